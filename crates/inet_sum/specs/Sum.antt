@@ -1,0 +1,26 @@
+-- The one's complement sum of the Internet protocols (RFC 791 section 3.1, RFC 1071 section 1).
+use Rattle.std.specs.Prelude.{ℕ, ◌+◌, ◌-◌, ◌*◌, ◌%◌, ◌==◌, if◌then◌else◌, List, [], ◌∷◌, ◌++◌}
+use Rattle.inet_sum.specs.declared.Pseudo.{Pseudo}
+use Rattle.byteorder.specs.Endian.{big_bytes}
+
+-- the whole-number sum of the 16-bit words in network order, an odd last octet padded with zero
+abbrev pub word_sum : List ℕ → ℕ
+word_sum [] = 0
+word_sum (high ∷ []) = 256 * high
+word_sum (high ∷ low ∷ rest) = 256 * high + low + word_sum rest
+
+-- a whole number as a one's complement number of 16 bits: 0 stands for 0 alone
+abbrev pub ones_complement : ℕ → ℕ
+ones_complement total = if total == 0 then 0 else 1 + (total - 1) % 65535
+
+-- the one's complement sum of octets
+abbrev pub sum_of : List ℕ → ℕ
+sum_of octets = ones_complement (word_sum octets)
+
+-- the checksum that is sent: the one's complement of the sum
+abbrev pub checksum_of : List ℕ → ℕ
+checksum_of octets = 65535 - sum_of octets
+
+-- the octets of the pseudo header (RFC 9293 section 3.1, RFC 768): source, destination, zero, protocol, length
+abbrev pub pseudo_octets : Pseudo → List ℕ
+pseudo_octets pseudo = pseudo.src ++ pseudo.dst ++ 0 ∷ pseudo.protocol ∷ [] ++ big_bytes 2 pseudo.length
