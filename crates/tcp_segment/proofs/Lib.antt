@@ -1,0 +1,10 @@
+pub mod Bits
+pub mod Results
+pub mod Walk
+pub mod OptionLists
+pub mod Form
+pub mod Sending
+pub mod Checksum
+pub mod Pairs
+pub mod StreamPositions
+pub mod Answering

@@ -1,0 +1,9 @@
+use Rattle.std.proofs.Common.{◌∙◌, refl}
+use Rattle.tcp_segment.specs.Reading.{options_behind}
+use Rattle.tcp_segment.proofs.OptionLists.{known_list}
+use Rattle.tcp_segment.proofs.view.TcpView.told.Goals as goal
+
+pub returns : goal.returns
+returns c =
+    let known = known_list (options_behind c.self.inside.options.now 0) c.self.invariant.0 in
+    rw (← c.self.view_is) (c.unwrap_or.ensures ∙ rw (c.told_mss.ensures, known) refl)

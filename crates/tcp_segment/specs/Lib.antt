@@ -1,0 +1,6 @@
+pub mod Wire
+pub mod Addresses
+pub mod Options
+pub mod Segment
+pub mod Sent
+pub mod Reading

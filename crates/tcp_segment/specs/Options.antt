@@ -1,0 +1,42 @@
+-- The options of a TCP header (RFC 9293 section 3.2).
+use Rattle.std.specs.Prelude.{◌≡◌, ℕ, ◌+◌, ◌≤◌, ◌<◌, ◌^◌, List, [], ◌∷◌, length, Option, Some}
+use Rattle.std.specs.List.{flat_map}
+use Rattle.byteorder.specs.Endian.{big_bytes}
+
+-- one option: the end of the list, no operation, the maximum segment size, or another kind with its octets
+pub data HeaderOption : Type 0 where
+  EndOfOptions : HeaderOption
+  NoOperation : HeaderOption
+  MaximumSegmentSize : ℕ → HeaderOption
+  Other : ℕ → List ℕ → HeaderOption
+
+-- the octets of an option: its kind, and but for the first two its length, itself included
+abbrev pub option_octets : HeaderOption → List ℕ
+option_octets EndOfOptions = 0 ∷ []
+option_octets NoOperation = 1 ∷ []
+option_octets (MaximumSegmentSize size) = 2 ∷ 4 ∷ big_bytes 2 size
+option_octets (Other kind octets) = kind ∷ (2 + length octets) ∷ octets
+
+-- the octets of options, one after another
+abbrev pub joined : List HeaderOption → List ℕ
+joined options = flat_map option_octets options
+
+-- an option that has octets of its own
+abbrev pub IsOption : HeaderOption → Type 0
+IsOption EndOfOptions = Unit {0}
+IsOption NoOperation = Unit {0}
+IsOption (MaximumSegmentSize size) = size < 2 ^ 16
+IsOption (Other kind octets) = 3 ≤ kind
+
+-- What may stand between a list of options and the end of the header: nothing, or anything behind the
+-- end of the list, behind which no option stands.
+abbrev pub AreOptions : List HeaderOption → List ℕ → Type 0
+AreOptions [] padding = padding ≡ []
+AreOptions (EndOfOptions ∷ rest) padding = rest ≡ []
+AreOptions (option ∷ rest) padding = IsOption option × AreOptions rest padding
+
+-- the maximum segment size that the last such option of a list tells, or else the one told before
+abbrev pub last_told : Option ℕ → List HeaderOption → Option ℕ
+last_told told [] = told
+last_told told (MaximumSegmentSize size ∷ rest) = last_told (Some size) rest
+last_told told (option ∷ rest) = last_told told rest

@@ -1,0 +1,71 @@
+-- The segment that octets spell, as the plain reading of them from left to right. The contract of `TcpView::parse`
+-- does not rest on this page: it says what is read by the spelling alone.
+use Rattle.std.specs.Prelude.{ℕ, zero, suc, ◌-◌, ◌*◌, ◌/◌, ◌%◌, ◌==◌, nat_lt, ◌||◌, if◌then◌else◌, List, [], ◌∷◌, length, take, drop, slice_index, Option, Some, None}
+use Rattle.std.specs.Option.{option_map}
+use Rattle.byteorder.specs.Endian.{big_number}
+use Rattle.tcp_segment.specs.declared.flags.Flags.{Flags}
+use Rattle.tcp_segment.specs.Options.{HeaderOption, EndOfOptions, NoOperation, MaximumSegmentSize, Other}
+use Rattle.tcp_segment.specs.Segment.{Segment}
+
+-- the option, and those behind it where they are well-formed
+abbrev pub with_first : HeaderOption → Option (List HeaderOption) → Option (List HeaderOption)
+with_first first rest = option_map (λ options. first ∷ options) rest
+
+-- of the octets of an option from its length on: those behind its length, and what stands behind the option
+abbrev pub body_in : List ℕ → Option (List ℕ × List ℕ)
+body_in [] = None
+body_in (len ∷ xs) = if nat_lt len 2 || nat_lt (length xs) (len - 2) then None else Some (take (len - 2) xs, drop (len - 2) xs)
+
+-- the size that the body of an option tells
+abbrev pub mss_in : List ℕ → Option ℕ
+mss_in body = if length body == 2 then Some (big_number 2 body) else None
+
+-- the options that stand behind so many octets, if they are well-formed
+abbrev pub options_behind : List ℕ → ℕ → Option (List HeaderOption)
+options_behind [] zero = Some []
+options_behind [] (suc n) = None
+options_behind (x ∷ xs) (suc n) = options_behind xs n
+options_behind (kind ∷ []) zero =
+    if kind == 0 then Some (EndOfOptions ∷ []) else if kind == 1 then Some (NoOperation ∷ []) else None
+options_behind (kind ∷ len ∷ xs) zero =
+    if kind == 0 then Some (EndOfOptions ∷ [])
+    else if kind == 1 then with_first NoOperation (options_behind (len ∷ xs) zero)
+    else if kind == 2 then (if len == 4 then with_first (MaximumSegmentSize (big_number 2 xs)) (options_behind xs 2) else None)
+    else if nat_lt len 2 then None
+    else with_first (Other kind (take (len - 2) xs)) (options_behind xs (len - 2))
+
+-- the control bits in the low six bits of an octet
+abbrev pub flags_in : ℕ → Flags
+flags_in octet = record {
+  fin = octet % 2 == 1;
+  syn = octet / 2 % 2 == 1;
+  rst = octet / 4 % 2 == 1;
+  psh = octet / 8 % 2 == 1;
+  ack = octet / 16 % 2 == 1;
+  urg = octet / 32 % 2 == 1;
+}
+
+-- the segment whose header has so many octets, and these options
+abbrev pub segment_with : List ℕ → ℕ → List HeaderOption → Segment
+segment_with octets header options = record {
+  source = big_number 2 octets;
+  destination = big_number 2 (drop 2 octets);
+  number = big_number 4 (drop 4 octets);
+  acknowledgement = big_number 4 (drop 8 octets);
+  flags = flags_in (slice_index octets 13);
+  window = big_number 2 (drop 14 octets);
+  urgent = big_number 2 (drop 18 octets);
+  options = options;
+  octets = drop header octets;
+}
+
+-- the length of the header in octets
+abbrev pub header_len : List ℕ → ℕ
+header_len octets = 4 * (slice_index octets 12 / 16)
+
+-- the length of the header, if the octets have room for it and it for the fixed fields
+abbrev pub header_in : List ℕ → Option ℕ
+header_in octets =
+    if nat_lt (length octets) 20 || nat_lt 65535 (length octets) then None
+    else if nat_lt (header_len octets) 20 || nat_lt (length octets) (header_len octets) then None
+    else Some (header_len octets)

@@ -1,0 +1,49 @@
+//! Laws of the definitions that the contracts of this crate cite: each is the contract of a function
+//! that does nothing.
+
+ghost use Rattle.std.specs.Prelude.{◌≡◌, ℕ, ◌+◌, ◌-◌, ◌*◌, ◌<◌, ◌≤◌, ◌%◌, ◌^◌, ◌↔◌, pos, ◌-ℤ◌, List, length, Result, Ok};
+ghost use Rattle.tcp_segment.specs.declared.addr.Addr.{Addr};
+ghost use Rattle.tcp_segment.specs.declared.addr.Endpoint.{Endpoint};
+ghost use Rattle.tcp_segment.specs.declared.fault.SegmentFault.{SegmentFault};
+ghost use Rattle.tcp_segment.specs.declared.head.Head.{Head};
+ghost use Rattle.tcp_segment.specs.Addresses.{pair_of};
+ghost use Rattle.tcp_segment.specs.Segment.{Segment, IsParsed, Spells};
+ghost use Rattle.tcp_segment.specs.Sent.{CanBeSent, sent, sent_offset, sent_octets};
+ghost use Rattle.tcp_segment.specs.Wire.{wire, past, difference, IsBefore, IsAtMost};
+
+/// The sequence numbers of stream positions (RFC 9293 section 3.4): how far one is past another, their
+/// difference and their order are those of the positions, as long as these are near enough.
+pub fn positions()
+    ensures past { (initial p q : ℕ) → p ≤ q → q - p < 2 ^ 32 → past (wire initial q) (wire initial p) ≡ q - p }
+    ensures reached { (initial p number : ℕ) → number < 2 ^ 32 → wire initial (p + past number (wire initial p)) ≡ number }
+    ensures one_position { (initial p q : ℕ) → p ≤ q → q - p < 2 ^ 32 → wire initial p ≡ wire initial q → p ≡ q }
+    ensures add { (initial p length : ℕ) → (wire initial p + length) % 2 ^ 32 ≡ wire initial (p + length) }
+    ensures difference { (initial p q : ℕ) → p < q + 2 ^ 31 → q < p + 2 ^ 31
+        → difference (wire initial q) (wire initial p) ≡ pos q -ℤ pos p }
+    ensures before { (initial p q : ℕ) → p < q + 2 ^ 31 → q < p + 2 ^ 31
+        → (IsBefore (wire initial p) (wire initial q) ↔ (p < q)) }
+    ensures at_most { (initial p q : ℕ) → p < q + 2 ^ 31 → q < p + 2 ^ 31
+        → (IsAtMost (wire initial p) (wire initial q) ↔ (p ≤ q)) }
+{}
+
+/// The two endpoints of a connection have one pair, in whichever order they are named.
+pub fn one_pair()
+    ensures { (a b : Endpoint) → pair_of a b ≡ pair_of b a }
+{}
+
+/// For all octets there is one answer that `TcpView::parse` may give.
+pub fn one_answer()
+    ensures { (src dst : Addr) (octets : List ℕ) (first second : Result Segment SegmentFault)
+        → IsParsed src dst octets first → IsParsed src dst octets second → first ≡ second }
+{}
+
+/// What `Head::emit` writes spells the segment that is meant, and so parses to it.
+pub fn emitted_parses()
+    ensures len { (src dst : Addr) (head : Head) (octets : List ℕ)
+        → length (sent_octets src dst head octets) ≡ 4 * sent_offset head + length octets }
+    ensures spelled { (src dst : Addr) (head : Head) (octets : List ℕ) → CanBeSent src dst head octets
+        → Spells src dst (sent head octets) (sent_octets src dst head octets) }
+    ensures parsed { (src dst : Addr) (head : Head) (octets : List ℕ) (answer : Result Segment SegmentFault)
+        → CanBeSent src dst head octets → IsParsed src dst (sent_octets src dst head octets) answer
+        → answer ≡ Ok (sent head octets) }
+{}

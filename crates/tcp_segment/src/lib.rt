@@ -1,0 +1,34 @@
+//! TCP's segments on the wire: addresses and endpoints, sequence numbers, the header and its
+//! options, both ways (RFC 9293 section 3.1).
+#![tactic(auto)]
+
+mod addr;
+mod fault;
+mod flags;
+mod head;
+mod laws;
+mod options;
+mod seq;
+mod sum;
+mod view;
+
+/// The length of a header without options, in octets (RFC 9293 section 3.1).
+const FIXED_LEN: usize = 20;
+
+/// The maximum segment size that this stack tells, in octets (RFC 9293 section 3.7.1).
+pub const MSS: u16 = 1460;
+/// The maximum segment size of a peer that tells none (RFC 9293 section 3.7.1).
+pub const DEFAULT_MSS: u16 = 536;
+/// A peer that tells less counts as telling this.
+pub const LEAST_MSS: u16 = 64;
+
+pub use addr::{Addr, Endpoint, Pair};
+pub use fault::SegmentFault;
+pub use flags::Flags;
+pub use head::Head;
+pub use laws::{emitted_parses, one_answer, one_pair, positions};
+pub use seq::Seq;
+pub use view::TcpView;
+
+#[cfg(test)]
+mod tests;

@@ -1,0 +1,210 @@
+//! A segment that was received (RFC 9293 section 3.1).
+
+ghost use Rattle.std.specs.Prelude.{◌≡◌, ◌+◌, ◌<◌, ◌≤◌, ◌^◌, IfOk, OnOk, IfErr, None, drop, length};
+ghost use Rattle.std.specs.Option.{ok_or};
+ghost use Rattle.byteorder.specs.Endian.{big_number};
+ghost use Rattle.tcp_segment.specs.declared.fault.SegmentFault.TheVariants.{UpperHeader};
+ghost use Rattle.tcp_segment.specs.Options.{last_told};
+ghost use Rattle.tcp_segment.specs.Segment.{Segment, HasForm, IsParsed, told_mss, smss_of, span_of};
+ghost use Rattle.tcp_segment.specs.Reading.{header_in};
+
+use crate::addr::Addr;
+use crate::fault::SegmentFault;
+use crate::flags::{Flags, flags_of};
+use crate::head::Head;
+use crate::seq::Seq;
+use crate::sum::sum_between;
+use crate::{DEFAULT_MSS, FIXED_LEN, LEAST_MSS, MSS, options};
+use byteorder::{BigEndian, ByteOrder};
+use std::marker::Model;
+
+/// A segment that was received and is well-formed, its octets lent from the frame.
+#[derive(Drop)]
+pub struct TcpView<'a> {
+    head: Head,
+    urgent: u16,
+    options: &'a [u8],
+    payload: &'a [u8],
+}
+
+impl<'a> Model for TcpView<'a> {
+    ghost use Rattle.std.specs.Prelude.{◌<◌, ◌^◌, [], length, unwrap_or, IsSome};
+    ghost use Rattle.tcp_segment.specs.Segment.{Segment};
+    ghost use Rattle.tcp_segment.specs.Reading.{options_behind};
+
+    ghost Value = { Segment };
+
+    ghost view = { λ v. record {
+      source = v.head.source;
+      destination = v.head.destination;
+      number = v.head.number.0;
+      acknowledgement = v.head.acknowledgement.0;
+      flags = v.head.flags;
+      window = v.head.window;
+      urgent = v.urgent;
+      options = unwrap_or (options_behind v.options.now 0) [];
+      octets = v.payload.now;
+    } };
+
+    ghost invariant = { λ v. IsSome (options_behind v.options.now 0) × (length v.payload.now < 2 ^ 16) };
+}
+
+impl<'a> TcpView<'a> {
+    /// The segment that these octets spell, which came from `src` for `dst`. Refuses octets that
+    /// spell none with the first fault: one of the header first, whatever the checksum is (RFC 9293
+    /// sections 3.1 and 3.2).
+    pub fn parse(src: Addr, dst: Addr, segment: &'a [u8]) -> Result<TcpView<'a>, SegmentFault>
+        ensures { IsParsed src dst segment.now result }
+    {
+        let view = TcpView::form(segment)?;
+        if sum_between(src, dst, segment) != u16::MAX {
+            return Err(SegmentFault::UpperSum);
+        }
+        Ok(view)
+    }
+
+    /// The segment whose form these octets have, whatever their checksum.
+    fn form(segment: &'a [u8]) -> Result<TcpView<'a>, SegmentFault>
+        ensures ok { IfOk result (λ view. HasForm view segment.now) }
+        ensures len { OnOk result (length segment.now < 2 ^ 16) }
+        ensures err { IfErr result (λ fault. (fault ≡ UpperHeader) × ((other : Segment) → HasForm other segment.now → ⊥)) }
+    {
+        let header = header_len(segment)?;
+        let options = &segment[FIXED_LEN..header];
+        options::told_mss(options)?;
+        let head = Head {
+            source: u16_at(segment, 0),
+            destination: u16_at(segment, 2),
+            number: Seq(u32_at(segment, 4)),
+            acknowledgement: Seq(u32_at(segment, 8)),
+            flags: flags_of(segment[13]),
+            window: u16_at(segment, 14),
+        };
+        Ok(TcpView {
+            head,
+            urgent: u16_at(segment, 18),
+            options,
+            payload: &segment[header..],
+        })
+    }
+
+    /// The port that it comes from.
+    pub fn source(&self) -> u16
+        ensures { result ≡ self.now.source }
+    {
+        self.head.source
+    }
+
+    /// The port that it goes to.
+    pub fn destination(&self) -> u16
+        ensures { result ≡ self.now.destination }
+    {
+        self.head.destination
+    }
+
+    /// The number of its first octet, or of its SYN.
+    pub fn number(&self) -> Seq
+        ensures { result.0 ≡ self.now.number }
+    {
+        self.head.number
+    }
+
+    /// The number that the sender expects next, where ACK is set.
+    pub fn acknowledgement(&self) -> Seq
+        ensures { result.0 ≡ self.now.acknowledgement }
+    {
+        self.head.acknowledgement
+    }
+
+    /// Its control bits.
+    pub fn flags(&self) -> Flags
+        ensures { result ≡ self.now.flags }
+    {
+        self.head.flags
+    }
+
+    /// How many octets the sender has room for.
+    pub fn window(&self) -> u16
+        ensures { result ≡ self.now.window }
+    {
+        self.head.window
+    }
+
+    /// The urgent pointer.
+    pub fn urgent(&self) -> u16
+        ensures { result ≡ self.now.urgent }
+    {
+        self.urgent
+    }
+
+    /// The maximum segment size that the peer told, in octets (RFC 9293 section 3.7.1): read where SYN is
+    /// set, 536 where none is told, and at least 64.
+    pub fn mss(&self) -> u16
+        ensures { result ≡ told_mss self.now }
+    {
+        if self.head.flags.syn {
+            self.told().unwrap_or(DEFAULT_MSS).max(LEAST_MSS)
+        } else {
+            DEFAULT_MSS
+        }
+    }
+
+    /// The maximum segment size that its last such option tells.
+    fn told(&self) -> Option<u16>
+        ensures { result ≡ last_told None self.now.options }
+    {
+        options::told_mss(self.options).unwrap_or(None)
+    }
+
+    /// The most octets to send in one segment: what the peer told, and at most 1460.
+    pub fn smss(&self) -> u16
+        ensures { result ≡ smss_of self.now }
+    {
+        self.mss().min(MSS)
+    }
+
+    /// Its own octets, a part of the frame that was parsed.
+    pub fn payload(&self) -> &'a [u8]
+        ensures octets { result.now ≡ self.now.octets }
+        ensures bound { length result.now < 2 ^ 16 }
+    {
+        self.payload
+    }
+
+    /// Its length in sequence numbers: its octets, and one each for SYN and FIN (RFC 9293 section
+    /// 3.4).
+    pub fn span(&self) -> u32
+        ensures value { result ≡ span_of self.now }
+        ensures bound { result < 2 ^ 16 + 2 }
+    {
+        self.payload.len() as u32 + u32::from(self.head.flags.syn) + u32::from(self.head.flags.fin)
+    }
+}
+
+/// The length of the header, in octets, if it and its fixed fields are there.
+fn header_len(segment: &[u8]) -> Result<usize, SegmentFault>
+    ensures { result ≡ ok_or (header_in segment.now) UpperHeader }
+{
+    if segment.len() < FIXED_LEN || segment.len() > usize::from(u16::MAX) {
+        return Err(SegmentFault::UpperHeader);
+    }
+    let header = 4 * usize::from(segment[12] >> 4);
+    if header < FIXED_LEN || segment.len() < header {
+        return Err(SegmentFault::UpperHeader);
+    }
+    Ok(header)
+}
+
+fn u16_at(segment: &[u8], at: usize) -> u16
+    requires { at + 2 ≤ length segment.now }
+    ensures { result ≡ big_number 2 (drop at segment.now) }
+{
+    BigEndian::read_u16(&segment[at..])
+}
+
+fn u32_at(segment: &[u8], at: usize) -> u32
+    requires { at + 4 ≤ length segment.now }
+    ensures { result ≡ big_number 4 (drop at segment.now) }
+{
+    BigEndian::read_u32(&segment[at..])
+}

@@ -1,0 +1,18 @@
+use Rattle.std.proofs.Common.{◌≡◌, ◌+◌, ◌-◌, ◌*◌, ◌++◌, length, drop, arith, rules, sym, ◌∙◌, ap}
+use Rattle.tcp_state.specs.Due.{head_of, octets_of, emitted}
+use Rattle.tcp_state.specs.Inside.{view_of}
+use Rattle.tcp_state.proofs.Framing.{framed}
+use Rattle.tcp_state.proofs.connection.Connection.write.Goals as goal
+
+pub returns-clause-frame : goal.returns-clause-frame
+returns-clause-frame c =
+    let octets = c.copy_from_slice.new.self in
+    let start = c.len-start.result in
+    let v = view_of c.self.inside in
+    let same : octets ≡ c.octets-octets.result.now = c.copy_from_slice.ensures.after in
+    let count : length octets ≡ length c.octets-octets.result.now = ap length same in
+    c.emit.ensures.octets
+    ∙ (framed v.local.addr v.peer.addr c.head-head.result (head_of v c.args.due) start c.emit.result (start + length c.octets-octets.result.now - start)
+    (4 * Rattle.tcp_segment.specs.Sent.sent_offset c.head-head.result) c.args.out.now octets (octets_of v c.args.due) (sym c.len-start.ensures)
+    (omega (arith, c.emit.ensures.len, c.len-start.ensures, count)) (omega (arith, c.emit.ensures.len, c.len-start.ensures)) (search rules) (search rules) (same ∙ search rules)
+    ∙ ap (λ w. emitted w c.args.due ++ drop c.emit.result c.args.out.now) c.self.view_is)

@@ -1,0 +1,105 @@
+-- What an arriving segment makes of a connection, step by step (RFC 9293 section 3.10.7). A segment with RST or FIN
+-- changes nothing yet.
+use Rattle.std.specs.Prelude.{ℕ, ◌==◌, ◌&&◌, ◌||◌, not, Bool, true, false, if◌then◌else◌, length}
+use Rattle.tcp_segment.specs.declared.addr.Endpoint.{Endpoint}
+use Rattle.tcp_segment.specs.Segment.{Segment, smss_of, span_of}
+use Rattle.tcp_state.specs.Numbers.{is_before}
+use Rattle.tcp_state.specs.declared.connection.Fate.{Fate}
+use Rattle.tcp_state.specs.declared.connection.Fate.TheVariants.{Stays, Removed}
+use Rattle.tcp_state.specs.declared.connection.Resend.TheVariants.{Idle}
+use Rattle.tcp_state.specs.declared.state.State.TheVariants.{SynReceived, Established}
+use Rattle.tcp_state.specs.Halves.{outstanding, is_new_ack, sending_from, receiving_nothing, after_syn_heard, after_syn_acknowledged, after_acknowledged, after_window_told, is_acceptable, synchronised, after_octets}
+use Rattle.tcp_state.specs.View.{View, is_syn_sent, is_syn_received}
+
+abbrev pub owing_ack : View → View
+owing_ack v = record v { owes_ack = true }
+
+-- a connection that a SYN opens at a listener (section 3.10.7.2): nothing is told to the peer yet
+abbrev pub opened_passively : Endpoint → Endpoint → ℕ → Segment → View
+opened_passively local peer isn syn = record {
+  local = local;
+  peer = peer;
+  state = SynReceived;
+  passive = true;
+  sending = after_syn_heard (sending_from isn) syn.number syn.window (smss_of syn);
+  receiving = synchronised receiving_nothing syn.number 0;
+  owes_ack = false;
+  resend = Idle;
+}
+
+-- in SYN-SENT only a SYN that acknowledges ours is taken (section 3.10.7.3); our SYN told a window of 65,535
+abbrev pub is_right_syn_ack : View → Segment → Bool
+is_right_syn_ack v s = s.flags.syn && s.flags.ack && is_new_ack v.sending s.acknowledgement
+
+abbrev pub after_syn_ack : View → Segment → View
+after_syn_ack v s =
+    if is_right_syn_ack v s then record v {
+      state = Established;
+      sending = after_syn_acknowledged (after_syn_heard v.sending s.number s.window (smss_of s));
+      receiving = synchronised v.receiving s.number 65535;
+      owes_ack = true;
+      resend = Idle;
+    } else v
+
+-- the acceptability test, in every state but SYN-SENT (section 3.10.7.4, first)
+abbrev pub is_accepted : View → Segment → Bool
+is_accepted v s = is_acceptable v.receiving s.number (span_of s)
+
+-- a SYN in the window ends what a listener opened and is not established (section 3.10.7.4, fourth)
+abbrev pub ends_by_syn : View → Segment → Bool
+ends_by_syn v s = is_accepted v s && s.flags.syn && v.passive && is_syn_received v.state
+
+-- the acknowledgement is of numbers that were never sent
+abbrev pub is_beyond_sent : View → ℕ → Bool
+is_beyond_sent v ack = not (is_new_ack v.sending ack) && is_before v.sending.nxt ack
+
+-- our SYN is acknowledged
+abbrev pub established : View → View
+established v = record v { state = Established; sending = after_syn_acknowledged v.sending; resend = Idle }
+
+-- the acknowledgement field (section 3.10.7.4, fifth): what it makes of the connection ..
+abbrev pub after_ack : View → ℕ → View
+after_ack v ack =
+    if is_syn_received v.state then (if is_new_ack v.sending ack then established v else v)
+    else if is_new_ack v.sending ack then record v {
+      sending = after_acknowledged v.sending ack;
+      resend = if outstanding (after_acknowledged v.sending ack) == 0 then Idle else v.resend;
+    }
+    else if is_before v.sending.nxt ack then owing_ack v
+    else v
+
+-- .. and whether the rest of the segment is read
+abbrev pub is_read_on : View → ℕ → Bool
+is_read_on v ack = if is_syn_received v.state then is_new_ack v.sending ack else is_new_ack v.sending ack || not (is_before v.sending.nxt ack)
+
+abbrev pub after_window : View → Segment → View
+after_window v s = record v { sending = after_window_told v.sending s.number s.acknowledgement s.window }
+
+-- the octets (section 3.10.7.4, seventh); those ahead of a gap are not kept yet
+abbrev pub after_text : View → Segment → View
+after_text v s =
+    if length s.octets == 0 then v
+    else record v { receiving = after_octets v.receiving s.number s.octets; owes_ack = true }
+
+-- an acceptable segment with ACK and without SYN
+abbrev pub after_acceptable : View → Segment → View
+after_acceptable v s =
+    if is_read_on v s.acknowledgement then after_text (after_window (after_ack v s.acknowledgement) s) s
+    else after_ack v s.acknowledgement
+
+-- an acceptable segment: a SYN draws an acknowledgement, and what acknowledges nothing is dropped
+abbrev pub after_accepted : View → Segment → View
+after_accepted v s =
+    if s.flags.syn then (if ends_by_syn v s then v else owing_ack v)
+    else if s.flags.ack then after_acceptable v s
+    else v
+
+abbrev pub after_segment : View → Segment → View
+after_segment v s =
+    if s.flags.rst || s.flags.fin then v
+    else if is_syn_sent v.state then after_syn_ack v s
+    else if is_accepted v s then after_accepted v s
+    else owing_ack v
+
+abbrev pub fate : View → Segment → Fate
+fate v s = if not (s.flags.rst || s.flags.fin) && not (is_syn_sent v.state) && ends_by_syn v s then Removed else Stays

@@ -1,0 +1,15 @@
+-- How a connection's fields are seen.
+use Rattle.tcp_state.specs.declared.connection.Connection.TheInside.{Inside}
+use Rattle.tcp_state.specs.View.{View}
+
+abbrev pub view_of : Inside → View
+view_of c = record {
+  local = c.local;
+  peer = c.peer;
+  state = c.state;
+  passive = c.is_passive;
+  sending = c.sender;
+  receiving = c.receiver;
+  owes_ack = c.owes_ack;
+  resend = c.resend;
+}

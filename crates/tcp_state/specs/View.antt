@@ -1,0 +1,88 @@
+-- A connection as its callers see it (RFC 9293 section 3.3).
+use Rattle.std.specs.Prelude.{◌≡◌, ℕ, ◌≤◌, ◌^◌, ◌==◌, ◌&&◌, ◌<◌, nat_le, min, Bool, true, false, if◌then◌else◌, length, Option, Some, None}
+use Rattle.tcp_segment.specs.declared.addr.Endpoint.{Endpoint}
+use Rattle.tcp_state.specs.declared.buffers.TheConstants.{CAPACITY}
+use Rattle.tcp_state.specs.declared.state.State.{State}
+use Rattle.tcp_state.specs.declared.state.State.TheVariants.{SynSent, SynReceived}
+use Rattle.tcp_state.specs.declared.moment.Moment.{Moment}
+use Rattle.tcp_state.specs.declared.connection.Resend.{Resend}
+use Rattle.tcp_state.specs.declared.connection.Resend.TheVariants.{Idle, At, Due}
+use Rattle.tcp_state.specs.Halves.{Sending, Receiving, outstanding, sending_from, receiving_nothing, ReceivingFits}
+
+pub record View : Type 0 where
+  pub local : Endpoint
+  pub peer : Endpoint
+  pub state : State
+  -- a listener opened it, and not its caller
+  pub passive : Bool
+  pub sending : Sending
+  pub receiving : Receiving
+  -- an acknowledgement is owed
+  pub owes_ack : Bool
+  -- whether and when what is outstanding goes out again
+  pub resend : Resend
+
+-- SYN-SENT or SYN-RECEIVED
+abbrev pub is_opening : State → Bool
+is_opening SynSent = true
+is_opening SynReceived = true
+is_opening _ = false
+
+abbrev pub is_syn_sent : State → Bool
+is_syn_sent SynSent = true
+is_syn_sent _ = false
+
+abbrev pub is_syn_received : State → Bool
+is_syn_received SynReceived = true
+is_syn_received _ = false
+
+abbrev pub is_due : Resend → Bool
+is_due Due = true
+is_due _ = false
+
+abbrev pub is_idle : Resend → Bool
+is_idle Idle = true
+is_idle _ = false
+
+-- the timer of what goes out again acts at a tick whose moment has come
+abbrev pub after_tick : View → Moment → View
+after_tick v now = record v { resend = resend_after v.resend now }
+  where
+    resend_after : Resend → Moment → Resend
+    resend_after (At moment) now = if nat_le moment.0 now.0 then Due else At moment
+    resend_after other now = other
+
+-- the moment at which a tick makes something due
+abbrev pub deadline : View → Option Moment
+deadline v = of_resend v.resend
+  where
+    of_resend : Resend → Option Moment
+    of_resend (At moment) = Some moment
+    of_resend _ = None
+
+-- a connection that its caller opens (RFC 9293 section 3.10.1)
+abbrev pub opened_actively : Endpoint → Endpoint → ℕ → View
+opened_actively local peer isn = record {
+  local = local;
+  peer = peer;
+  state = SynSent;
+  passive = false;
+  sending = sending_from isn;
+  receiving = receiving_nothing;
+  owes_ack = false;
+  resend = Idle;
+}
+
+-- What holds of every connection. While it opens, nothing is held or readable. At most one segment is outstanding:
+-- the SYN, or octets that are held; its timer runs exactly while it is. An acknowledgement is owed once a SYN came.
+pub record IsSound (v : View) : Type 0 where
+  pub una : v.sending.una < 2 ^ 32
+  pub nxt : v.sending.nxt < 2 ^ 32
+  pub rnext : v.receiving.rnext < 2 ^ 32
+  pub held : length v.sending.held ≤ (if is_opening v.state then 0 else CAPACITY)
+  pub readable : length v.receiving.readable ≤ (if is_opening v.state then 0 else CAPACITY)
+  pub window : ReceivingFits v.receiving
+  pub flight : outstanding v.sending ≤ (if is_opening v.state then 1 else min (length v.sending.held) 1460)
+  pub timer : is_idle v.resend ≡ (outstanding v.sending == 0)
+  pub segment : v.sending.smss ≤ 1460
+  pub ack : (is_syn_sent v.state && v.owes_ack) ≡ false

@@ -1,0 +1,40 @@
+ghost use Rattle.std.specs.Prelude.{◌≡◌, IfOk};
+ghost use Rattle.tcp_state.specs.declared.buffers.TheConstants.{CAPACITY};
+
+use std::alloc::{AllocError, Global};
+use std::marker::Model;
+
+/// The octets that each of a connection's two buffers holds at most.
+pub const CAPACITY: usize = 65_535;
+
+/// The empty buffers of one connection, made before it opens, so that an open one takes no memory.
+///
+/// A clause sees them as the octets that each has room for.
+#[derive(Drop)]
+pub struct Buffers {
+    pub(crate) send: Vec<u8>,
+    pub(crate) receive: Vec<u8>,
+}
+
+impl Model for Buffers {
+    ghost use Rattle.std.specs.Prelude.{◌≡◌, ◌≤◌, ℕ, []};
+    ghost use Rattle.std.specs.Vec.{vec_capacity};
+    ghost use Rattle.tcp_state.specs.declared.buffers.TheConstants.{CAPACITY};
+
+    ghost Value = { ℕ };
+
+    ghost view = { λ _. CAPACITY };
+
+    ghost invariant = { λ b. (b.send.items ≡ []) × (CAPACITY ≤ vec_capacity b.send) × (b.receive.items ≡ []) × (CAPACITY ≤ vec_capacity b.receive) };
+}
+
+impl Buffers {
+    /// Two empty buffers of `CAPACITY` octets each. Fails only where memory is refused.
+    pub fn new(alloc: Global) -> Result<Buffers, AllocError>
+        ensures { IfOk result (λ buffers. buffers ≡ CAPACITY) }
+    {
+        let send = Vec::with_capacity(alloc, CAPACITY)?;
+        let receive = Vec::with_capacity(alloc, CAPACITY)?;
+        Ok(Buffers { send, receive })
+    }
+}

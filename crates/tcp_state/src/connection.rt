@@ -1,0 +1,145 @@
+ghost use Rattle.std.specs.Prelude.{◌≡◌};
+ghost use Rattle.tcp_state.specs.View.{View, IsSound, opened_actively, after_tick, deadline};
+ghost use Rattle.tcp_state.specs.Arrival.{opened_passively};
+
+use crate::buffers::Buffers;
+use crate::moment::Moment;
+use crate::receiver::Receiver;
+use crate::sender::Sender;
+use crate::state::State;
+use std::marker::Model;
+use tcp_segment::{Endpoint, Seq, TcpView};
+
+/// What becomes of a connection's place in the table.
+#[derive(Clone, Copy, Debug, PartialEq, Eq)]
+pub enum Fate {
+    /// The connection goes on.
+    Stays,
+    /// A passive connection that was not established is gone (RFC 9293 section 3.10.7.4).
+    Removed,
+}
+
+/// Whether and when what is outstanding goes out again.
+#[derive(Clone, Copy, Debug, PartialEq, Eq)]
+pub enum Resend {
+    /// Nothing is outstanding.
+    Idle,
+    /// At the first tick at this moment or later.
+    At(Moment),
+    /// Now.
+    Due,
+}
+
+/// One TCP connection.
+#[derive(Drop)]
+pub struct Connection {
+    pub(crate) local: Endpoint,
+    pub(crate) peer: Endpoint,
+    pub(crate) state: State,
+    pub(crate) is_passive: bool,
+    pub(crate) sender: Sender,
+    pub(crate) receiver: Receiver,
+    pub(crate) owes_ack: bool,
+    pub(crate) resend: Resend,
+}
+
+impl Model for Connection {
+    ghost use Rattle.tcp_state.specs.View.{View, IsSound};
+
+    ghost Value = { View };
+
+    ghost use Rattle.tcp_state.specs.Inside.{view_of};
+
+    ghost view = { view_of };
+
+    ghost invariant = { λ c. IsSound (view_of c) };
+}
+
+impl Connection {
+    /// A connection that its caller opens: a SYN with the number `isn` is due (RFC 9293 section 3.5).
+    pub fn active(buffers: Buffers, local: Endpoint, peer: Endpoint, isn: Seq) -> Connection
+        ensures { result ≡ opened_actively local peer isn.0 }
+    {
+        let Buffers { send, receive } = buffers;
+        Connection {
+            local,
+            peer,
+            state: State::SynSent,
+            is_passive: false,
+            sender: Sender::new(send, isn),
+            receiver: Receiver::new(receive),
+            owes_ack: false,
+            resend: Resend::Idle,
+        }
+    }
+
+    /// A connection that the peer's `syn` opens at a listener: a SYN-ACK with the number `isn` is due.
+    pub fn passive(
+        buffers: Buffers,
+        local: Endpoint,
+        peer: Endpoint,
+        isn: Seq,
+        syn: &TcpView<'_>,
+    ) -> Connection
+        ensures { result ≡ opened_passively local peer isn.0 syn.now }
+    {
+        let Buffers { send, receive } = buffers;
+        let mut sender = Sender::new(send, isn);
+        let mut receiver = Receiver::new(receive);
+        sender.hear_syn(syn.number(), syn.window(), syn.smss());
+        receiver.hear_syn(syn.number(), 0);
+        Connection {
+            local,
+            peer,
+            state: State::SynReceived,
+            is_passive: true,
+            sender,
+            receiver,
+            owes_ack: false,
+            resend: Resend::Idle,
+        }
+    }
+
+    /// The state that the connection is in.
+    pub fn state(&self) -> State
+        ensures value { result ≡ self.now.state }
+        ensures sound { IsSound self.now }
+    {
+        self.state
+    }
+
+    /// Our end.
+    pub fn local(&self) -> Endpoint
+        ensures { result ≡ self.now.local }
+    {
+        self.local
+    }
+
+    /// The other end.
+    pub fn peer(&self) -> Endpoint
+        ensures { result ≡ self.now.peer }
+    {
+        self.peer
+    }
+
+    /// Lets the timer act whose moment has come.
+    pub fn tick(&mut self, now: Moment)
+        ensures { self.new ≡ after_tick self.old now }
+    {
+        if let Resend::At(moment) = self.resend
+            && moment <= now
+        {
+            self.resend = Resend::Due;
+        }
+    }
+
+    /// The moment at which a tick would make something due.
+    pub fn deadline(&self) -> Option<Moment>
+        ensures { result ≡ deadline self.now }
+    {
+        match self.resend {
+            Resend::At(moment) => Some(moment),
+            Resend::Idle | Resend::Due => None,
+        }
+    }
+}

@@ -1,0 +1,167 @@
+//! What is due, and how it goes out (RFC 9293 section 3.8).
+
+ghost use Rattle.std.specs.Prelude.{◌≡◌, ◌+◌, ◌<◌, ◌≤◌, ◌++◌, length, drop, IfSome, MatchOption, option_map, min, if◌then◌else◌};
+ghost use Rattle.tcp_state.specs.View.{is_opening};
+ghost use Rattle.tcp_state.specs.Due.{MayGoOut, first_due, flags_of, number_of, octets_of, head_of, emitted, emitted_len, after_emitted, after_ack_paid, after_numbers};
+
+use crate::connection::{Connection, Resend};
+use crate::moment::Moment;
+use crate::state::State;
+use tcp_segment::{Flags, Head, Seq};
+
+/// The octets that a frame has at most.
+pub const FRAME: usize = 1_514;
+
+/// How long what is outstanding waits before it goes out again, in milliseconds.
+const RESEND_AFTER: u64 = 1_000;
+
+/// A segment that may go out.
+#[derive(Clone, Copy, Debug, PartialEq, Eq)]
+pub enum Due {
+    /// The SYN, or the SYN-ACK where a SYN came first.
+    Syn,
+    /// So many octets from the oldest unacknowledged number on.
+    Text(usize),
+    /// An acknowledgement alone.
+    Ack,
+}
+
+impl Connection {
+    /// The segment that is due first.
+    pub fn due(&self) -> Option<Due>
+        ensures first { result ≡ first_due self.now }
+        ensures may { IfSome result (MayGoOut self.now) }
+    {
+        let outstanding = self.sender.outstanding();
+        let goes_again = self.resend == Resend::Due;
+        if self.state.is_opening() {
+            if outstanding == 0 || goes_again {
+                return Some(Due::Syn);
+            }
+        } else if goes_again {
+            return Some(Due::Text(outstanding as usize));
+        } else if outstanding == 0 && self.sender.sendable() > 0 {
+            return Some(Due::Text(self.sender.sendable()));
+        }
+        if self.owes_ack { Some(Due::Ack) } else { None }
+    }
+
+    /// Writes the segment that is due first to the front of `out`, and answers its length in octets.
+    ///
+    /// None where nothing is due; then nothing changes.
+    pub fn emit(&mut self, now: Moment, out: &mut [u8; FRAME]) -> Option<usize>
+        ensures answer { result ≡ option_map (emitted_len self.old) (first_due self.old) }
+        ensures bound { IfSome result (λ len. len ≤ FRAME) }
+        ensures frame { MatchOption (first_due self.old) (out.new ≡ out.old) (λ due. out.new ≡ emitted self.old due ++ drop (emitted_len self.old due) out.old) }
+        ensures after { MatchOption (first_due self.old) (self.new ≡ self.old) (λ due. self.new ≡ after_emitted self.old due now) }
+    {
+        let due = self.due()?;
+        let len = self.write(due, out);
+        self.note_emitted(due, now);
+        Some(len)
+    }
+
+    /// Writes the segment for what is due to the front of `out`.
+    fn write(&self, due: Due, out: &mut [u8; FRAME]) -> usize
+        requires { MayGoOut self.now due }
+        ensures len { result ≡ emitted_len self.now due }
+        ensures bound { result ≤ FRAME }
+        ensures frame { out.new ≡ emitted self.now due ++ drop result out.old }
+    {
+        let head = self.head(due);
+        let octets = self.octets(due);
+        let start = head.len();
+        out[start..start + octets.len()].copy_from_slice(octets);
+        head.emit(self.local.addr, self.peer.addr, octets.len(), out)
+    }
+
+    /// The octets of the segment for what is due.
+    fn octets(&self, due: Due) -> &[u8]
+        requires { MayGoOut self.now due }
+        ensures { result.now ≡ octets_of self.now due }
+    {
+        match due {
+            Due::Text(count) => &self.sender.held()[..count],
+            Due::Syn | Due::Ack => &[],
+        }
+    }
+
+    /// The header of the segment for what is due.
+    fn head(&self, due: Due) -> Head
+        ensures { result ≡ head_of self.now due }
+    {
+        let flags = self.flags(due);
+        Head {
+            source: self.local.port,
+            destination: self.peer.port,
+            number: match due {
+                Due::Syn | Due::Text(_) => self.sender.una(),
+                Due::Ack => self.sender.nxt(),
+            },
+            acknowledgement: if flags.ack {
+                self.receiver.rnext()
+            } else {
+                Seq(0)
+            },
+            flags,
+            window: self.receiver.free(),
+        }
+    }
+
+    /// The control bits of the segment for what is due.
+    fn flags(&self, due: Due) -> Flags
+        ensures { result ≡ flags_of self.now due }
+    {
+        let mut flags = Flags::default();
+        match due {
+            Due::Syn => {
+                flags.syn = true;
+                flags.ack = self.state == State::SynReceived;
+            }
+            Due::Text(count) => {
+                flags.ack = true;
+                flags.psh = count == self.sender.held().len();
+            }
+            Due::Ack => flags.ack = true,
+        }
+        flags
+    }
+
+    /// The segment for what was due went out at this moment.
+    fn note_emitted(&mut self, due: Due, now: Moment)
+        requires { MayGoOut self.old due }
+        ensures { self.new ≡ after_emitted self.old due now }
+    {
+        match due {
+            Due::Syn => {
+                self.note_numbers(1, now);
+                if self.state == State::SynReceived {
+                    self.pay_ack();
+                }
+            }
+            Due::Text(count) => {
+                self.note_numbers(count, now);
+                self.pay_ack();
+            }
+            Due::Ack => self.pay_ack(),
+        }
+    }
+
+    /// So many numbers from the oldest unacknowledged one on went out at this moment.
+    fn note_numbers(&mut self, count: usize, now: Moment)
+        requires some { 0 < count }
+        requires fits { count ≤ (if is_opening self.old.state then 1 else min (length self.old.sending.held) 1460) }
+        ensures { self.new ≡ after_numbers self.old count now }
+    {
+        self.sender.sent(count as u32);
+        self.resend = Resend::At(now.after(RESEND_AFTER));
+    }
+
+    /// An acknowledgement went out, and told the whole free room.
+    fn pay_ack(&mut self)
+        ensures { self.new ≡ after_ack_paid self.old }
+    {
+        self.receiver.tell();
+        self.owes_ack = false;
+    }
+}

@@ -1,0 +1,23 @@
+//! One TCP connection (RFC 9293): what a caller's octets, an arriving segment, the clock and an emission
+//! make of it.
+#![tactic(auto)]
+
+mod arrival;
+mod buffers;
+mod calls;
+mod connection;
+mod emission;
+mod moment;
+mod receiver;
+mod sender;
+mod state;
+
+pub use buffers::{Buffers, CAPACITY};
+pub use calls::{Received, Refusal};
+pub use connection::{Connection, Fate, Resend};
+pub use emission::{Due, FRAME};
+pub use moment::Moment;
+pub use state::State;
+
+#[cfg(test)]
+mod tests;

@@ -1,0 +1,107 @@
+use super::*;
+use std::alloc::Global;
+use std::process::Abort;
+use std::test::Fail;
+use tcp_segment::{Addr, Endpoint, Seq, TcpView};
+
+const A: Endpoint = Endpoint {
+    addr: Addr([10, 0, 0, 1]),
+    port: 49_152,
+};
+
+const B: Endpoint = Endpoint {
+    addr: Addr([10, 0, 0, 2]),
+    port: 80,
+};
+
+/// The SYN of a connection from `A` to `B` with the initial number 4294967295, and the segment that then carries
+/// `hello` where the initial number at `B` is 7.
+const SYN: [u8; 24] = [
+    0xc0, 0x00, 0x00, 0x50, 0xff, 0xff, 0xff, 0xff, 0, 0, 0, 0, 0x60, 0x02, 0xff, 0xff, 0xc3, 0xd3,
+    0, 0, 0x02, 0x04, 0x05, 0xb4,
+];
+
+const HELLO: [u8; 25] = [
+    0xc0, 0x00, 0x00, 0x50, 0, 0, 0, 0, 0, 0, 0, 0x08, 0x50, 0x18, 0xff, 0xff, 0x97, 0x9a, 0, 0,
+    0x68, 0x65, 0x6c, 0x6c, 0x6f,
+];
+
+fn caller(alloc: Global) -> Result<Connection, Fail> {
+    Ok(Connection::active(Buffers::new(alloc)?, A, B, Seq(4_294_967_295)))
+}
+
+/// Hands the segment that is due at one end to the other.
+fn pass(rt: &impl Abort, from: &mut Connection, to: &mut Connection) {
+    let mut frame = [0; FRAME];
+    let len = from
+        .emit(Moment(0), &mut frame)
+        .expect(rt, "a segment is due");
+    let (src, dst) = (from.local().addr, to.local().addr);
+    let segment = TcpView::parse(src, dst, &frame[..len]).expect(rt, "it is well-formed");
+    assert!(rt; to.segment(&segment) == Fate::Stays);
+}
+
+#[test]
+fn hands_shake_and_octets_arrive(rt: HostRuntime) -> Result<(), Fail> {
+    let mut a = caller(rt.alloc())?;
+    let mut frame = [0; FRAME];
+    assert_eq!(rt; a.emit(Moment(0), &mut frame), Some(24));
+    assert!(rt; frame.starts_with(&SYN));
+
+    let syn = TcpView::parse(A.addr, B.addr, &SYN).expect(&rt, "it is well-formed");
+    let mut b = Connection::passive(Buffers::new(rt.alloc())?, B, A, Seq(7), &syn);
+    pass(&rt, &mut b, &mut a);
+    pass(&rt, &mut a, &mut b);
+    assert_eq!(rt; a.state(), State::Established);
+    assert_eq!(rt; b.state(), State::Established);
+
+    assert_eq!(rt; a.send(b"hello"), Ok(5));
+    assert_eq!(rt; a.emit(Moment(0), &mut frame), Some(25));
+    assert!(rt; frame.starts_with(&HELLO));
+    let hello = TcpView::parse(A.addr, B.addr, &HELLO).expect(&rt, "it is well-formed");
+    let mut buffer = [0; 9];
+    assert_eq!(rt; b.recv(&mut buffer), Err(Refusal::EAGAIN));
+    assert!(rt; b.segment(&hello) == Fate::Stays);
+    assert!(rt; b.segment(&hello) == Fate::Stays);
+    assert_eq!(rt; b.recv(&mut buffer), Ok(Received::Octets(5)));
+    assert!(rt; buffer.starts_with(b"hello"));
+    assert_eq!(rt; b.recv(&mut buffer), Err(Refusal::EAGAIN));
+    Ok(())
+}
+
+#[test]
+fn what_is_outstanding_goes_again_after_a_second(rt: HostRuntime) -> Result<(), Fail> {
+    let mut a = caller(rt.alloc())?;
+    let mut frame = [0; FRAME];
+    assert_eq!(rt; a.deadline(), None);
+    assert_eq!(rt; a.emit(Moment(500), &mut frame), Some(24));
+    assert_eq!(rt; a.deadline(), Some(Moment(1_500)));
+    a.tick(Moment(1_499));
+    assert_eq!(rt; a.emit(Moment(1_499), &mut frame), None);
+    a.tick(Moment(1_500));
+    assert_eq!(rt; a.emit(Moment(u64::MAX), &mut frame), Some(24));
+    assert!(rt; frame.starts_with(&SYN));
+    assert_eq!(rt; a.deadline(), Some(Moment(u64::MAX)));
+    Ok(())
+}
+
+#[test]
+fn states_have_the_names_of_the_rfc(rt: HostRuntime) -> Result<(), Fail> {
+    let rows = [
+        (State::Closed, "CLOSED"),
+        (State::Listen, "LISTEN"),
+        (State::SynSent, "SYN-SENT"),
+        (State::SynReceived, "SYN-RECEIVED"),
+        (State::Established, "ESTABLISHED"),
+        (State::FinWait1, "FIN-WAIT-1"),
+        (State::FinWait2, "FIN-WAIT-2"),
+        (State::CloseWait, "CLOSE-WAIT"),
+        (State::Closing, "CLOSING"),
+        (State::LastAck, "LAST-ACK"),
+        (State::TimeWait, "TIME-WAIT"),
+    ];
+    for (state, name) in rows {
+        assert_eq!(rt; state.to_string(rt.alloc())?.as_str(), name);
+    }
+    Ok(())
+}
