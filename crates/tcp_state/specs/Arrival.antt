@@ -8,7 +8,8 @@ use Rattle.tcp_state.specs.declared.connection.Fate.{Fate}
 use Rattle.tcp_state.specs.declared.connection.Fate.TheVariants.{Stays, Removed}
 use Rattle.tcp_state.specs.declared.connection.Resend.TheVariants.{Idle}
 use Rattle.tcp_state.specs.declared.state.State.TheVariants.{SynReceived, Established}
-use Rattle.tcp_state.specs.Halves.{outstanding, is_new_ack, sending_from, receiving_nothing, after_syn_heard, after_syn_acknowledged, after_acknowledged, after_window_told, is_acceptable, synchronised, after_octets}
+use Rattle.tcp_state.specs.Stream.{outstanding, is_new_ack, sending_from, receiving_nothing, after_syn_acknowledged, after_acknowledged, is_acceptable, synchronised, after_octets}
+use Rattle.tcp_state.specs.Windows.{after_syn_heard, after_window_told}
 use Rattle.tcp_state.specs.View.{View, is_syn_sent, is_syn_received}
 
 abbrev pub owing_ack : View → View

@@ -4,7 +4,7 @@ use Rattle.tcp_state.specs.declared.calls.Refusal.{Refusal}
 use Rattle.tcp_state.specs.declared.calls.Refusal.TheVariants.{EAGAIN}
 use Rattle.tcp_state.specs.declared.calls.Received.{Received}
 use Rattle.tcp_state.specs.declared.calls.Received.TheVariants.{Octets}
-use Rattle.tcp_state.specs.Halves.{send_room, receive_window, after_read}
+use Rattle.tcp_state.specs.Stream.{send_room, receive_window, after_read}
 use Rattle.tcp_state.specs.View.{View, is_opening}
 
 -- how many octets a send takes: all, or as many as there is room for

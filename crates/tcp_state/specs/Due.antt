@@ -7,7 +7,8 @@ use Rattle.tcp_state.specs.declared.emission.Due.{Due}
 use Rattle.tcp_state.specs.declared.emission.Due.TheVariants.{Syn, Text, Ack}
 use Rattle.tcp_state.specs.declared.moment.Moment.{Moment}
 use Rattle.tcp_state.specs.declared.connection.Resend.TheVariants.{At}
-use Rattle.tcp_state.specs.Halves.{outstanding, sendable, free, after_sent, after_told}
+use Rattle.tcp_state.specs.Stream.{outstanding, after_sent}
+use Rattle.tcp_state.specs.Windows.{sendable, free, after_told}
 use Rattle.tcp_state.specs.View.{View, is_opening, is_syn_sent, is_syn_received, is_due}
 
 -- The segment that goes out for each thing that may be due.

@@ -1,5 +1,7 @@
 pub mod Numbers
 pub mod Halves
+pub mod Stream
+pub mod Windows
 pub mod View
 pub mod Calls
 pub mod Arrival

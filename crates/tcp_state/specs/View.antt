@@ -7,7 +7,8 @@ use Rattle.tcp_state.specs.declared.state.State.TheVariants.{SynSent, SynReceive
 use Rattle.tcp_state.specs.declared.moment.Moment.{Moment}
 use Rattle.tcp_state.specs.declared.connection.Resend.{Resend}
 use Rattle.tcp_state.specs.declared.connection.Resend.TheVariants.{Idle, At, Due}
-use Rattle.tcp_state.specs.Halves.{Sending, Receiving, outstanding, sending_from, receiving_nothing, ReceivingFits}
+use Rattle.tcp_state.specs.Halves.{Sending, Receiving}
+use Rattle.tcp_state.specs.Stream.{outstanding, sending_from, receiving_nothing, ReceivingFits}
 
 pub record View : Type 0 where
   pub local : Endpoint

@@ -2,7 +2,9 @@
 
 ghost use Rattle.std.specs.Prelude.{◌≡◌, ◌+◌, ◌-◌, ◌≤◌, ◌<◌, ◌^◌, ◌++◌, ◌==◌, [], length, take, drop, min};
 ghost use Rattle.std.specs.Vec.{vec_capacity};
-ghost use Rattle.tcp_state.specs.Halves.{Receiving, free, receive_window, is_in_window, is_acceptable, receiving_nothing, synchronised, after_octets, after_read, after_told, ReceivingFits};
+ghost use Rattle.tcp_state.specs.Halves.{Receiving};
+ghost use Rattle.tcp_state.specs.Stream.{receive_window, is_in_window, is_acceptable, receiving_nothing, synchronised, after_octets, after_read, ReceivingFits};
+ghost use Rattle.tcp_state.specs.Windows.{free, after_told};
 
 use crate::buffers::CAPACITY;
 use std::marker::Model;
@@ -19,7 +21,8 @@ pub(crate) struct Receiver {
 impl Model for Receiver {
     ghost use Rattle.std.specs.Prelude.{◌≤◌};
     ghost use Rattle.std.specs.Vec.{vec_capacity};
-    ghost use Rattle.tcp_state.specs.Halves.{Receiving, ReceivingFits};
+    ghost use Rattle.tcp_state.specs.Halves.{Receiving};
+    ghost use Rattle.tcp_state.specs.Stream.{ReceivingFits};
     ghost use Rattle.tcp_state.specs.declared.buffers.TheConstants.{CAPACITY};
 
     ghost Value = { Receiving };

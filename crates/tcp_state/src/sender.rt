@@ -3,7 +3,9 @@
 ghost use Rattle.std.specs.Prelude.{◌≡◌, ◌≤◌, ◌++◌, [], length};
 ghost use Rattle.std.specs.Vec.{vec_capacity};
 ghost use Rattle.tcp_segment.specs.Wire.{past};
-ghost use Rattle.tcp_state.specs.Halves.{Sending, send_room, outstanding, is_new_ack, sending_from, after_syn_heard, after_syn_acknowledged, after_acknowledged, after_window_told, after_sent, sendable};
+ghost use Rattle.tcp_state.specs.Halves.{Sending};
+ghost use Rattle.tcp_state.specs.Stream.{send_room, outstanding, is_new_ack, sending_from, after_syn_acknowledged, after_acknowledged, after_sent};
+ghost use Rattle.tcp_state.specs.Windows.{after_syn_heard, after_window_told, sendable};
 
 use crate::buffers::CAPACITY;
 use std::marker::Model;

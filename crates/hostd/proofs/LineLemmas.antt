@@ -1,0 +1,63 @@
+-- clap's meaning of the program's command.
+use Rattle.std.proofs.Common.{◌≡◌, List, [], Option, Some, None, Bool, true, false, codes, option_map, if◌then◌else◌, Result, Ok, Err, IfErr, subst, refl, ap, sym, ◌∙◌}
+use Rattle.std.specs.Str.{bytes_eq}
+use Rattle.std.specs.Result.{IsErrAnd}
+use Rattle.std.proofs.lemmas.Slice.Eq.{bytes_eq-Decides}
+use Rattle.std.specs.Box.{box_value}
+use Rattle.clap.specs.Simple.{subcommand_rows}
+use Rattle.clap.specs.declared.parser.matches.ArgMatches.TheViews.{out-SubCommand}
+use Rattle.clap.specs.Words.{App, Row, Text, first_of, subcommand_name_of, subcommand_rows_of, is_simple}
+use Rattle.clap.specs.Faults.{fault_of, is_simple_and_free}
+use Rattle.clap.specs.Kinds.{HasKind}
+use Rattle.clap.specs.declared.error.Error.{Error}
+use Rattle.clap.proofs.OnLiterals.{clap_on_literals}
+use Rattle.clap.specs.declared.parser.matches.ArgMatches.{ArgMatches}
+use Rattle.clap.specs.declared.parser.matches.ArgMatches.TheViews.{out-ArgMatches}
+use Rattle.hostd.specs.Line.{hostd_command, file_of}
+
+pub simple : is_simple hostd_command ≡ true
+unfolding clap_on_literals
+simple = refl
+
+pub simple_and_free : is_simple_and_free hostd_command ≡ true
+unfolding clap_on_literals
+simple_and_free = refl
+
+-- the name of the command that was met
+pub name_of_rows : (m : ArgMatches) → option_map (λ p. p.0) (subcommand_rows_of m) ≡ subcommand_name_of m
+name_of_rows m =
+    elim ((out-ArgMatches m).subcommand)
+    as (λ o. option_map (λ p. p.0) (subcommand_rows o) ≡ option_map (λ b. (out-SubCommand (box_value b)).name.now) o)
+    [ None ↦ refl | Some b ↦ refl ]
+
+-- where it is `sim`, the file is that of its rows
+pub file_given : (met : Option (Text × List Row)) (rows : List Row) → option_map (λ p. p.0) met ≡ Some (codes "sim") →
+    option_map (λ p. p.1) met ≡ Some rows → file_of met ≡ first_of (codes "SCRIPT") rows
+file_given None rows named has = cc
+file_given (Some p) rows named has =
+    let name : p.0 ≡ codes "sim" = cc in
+    let given : p.1 ≡ rows = cc in
+    ap (λ n. file_of (Some (n, p.1))) name ∙ ap (first_of (codes "SCRIPT")) given
+
+unless : (b : Bool) (x : Option Text) → (b ≡ true → ⊥) → (if b then x else None) ≡ None
+unless true x never = absurd (never refl)
+unless false x never = refl
+
+-- where it isn't, there is none
+pub no_file : (met : Option (Text × List Row)) → (option_map (λ p. p.0) met ≡ Some (codes "sim") → ⊥) → file_of met ≡ None
+no_file None other = refl
+no_file (Some p) other =
+    unless (bytes_eq p.0 (codes "sim")) (first_of (codes "SCRIPT") p.1)
+    (λ same. other (ap Some ((bytes_eq-Decides p.0 (codes "sim")).0 same)))
+
+-- what holds of the error that a `?` passes on
+pub err_passed : {T E : Type 0} (P : E → Type 0) (r : Result T E) (f : E) → IsErrAnd r (λ e. e ≡ f) → P f → IfErr r P
+err_passed P (Ok x) f is holds = tt
+err_passed P (Err e) f is holds = subst P (sym is) holds
+
+-- what a command that is the program's says of its faults
+pub kind_along : (a b : App) (words : List Text) (e : Error) → a ≡ b → HasKind (fault_of a words) e → HasKind (fault_of b words) e
+kind_along a b words e same has = let P : App → Type 0 = λ x. HasKind (fault_of x words) e in subst P same has
+
+pub none_along : (a b : App) (words : List Text) → a ≡ b → fault_of a words ≡ [] → fault_of b words ≡ []
+none_along a b words same none = let P : App → Type 0 = λ x. fault_of x words ≡ [] in subst P same none

@@ -1,0 +1,15 @@
+use Rattle.std.proofs.Common.{inl, ap, ◌∙◌}
+use Rattle.clap.specs.Faults.{is_simple_and_free}
+use Rattle.hostd.proofs.LineLemmas.{simple_and_free, err_passed, kind_along, none_along}
+use Rattle.hostd.proofs.line.line.Goals as goal
+
+pub returns-in_err-matches-clause-err : goal.returns-in_err-matches-clause-err
+returns-in_err-matches-clause-err g c =
+    let is = c.in_ok-hostd.ensures in
+    err_passed _ c.from_residual-in_err-matches.result c.in_err-matches.field-0.0 c.from_residual-in_err-matches.ensures.1
+    (inl (kind_along _ _ _ c.in_err-matches.field-0.0 is (c.in_err-matches.ensures.kinds (ap is_simple_and_free is ∙ simple_and_free))))
+
+pub returns-in-Some-clause-sound : goal.returns-in-Some-clause-sound
+returns-in-Some-clause-sound g c =
+    let is = c.in_ok-hostd.ensures in
+    none_along _ _ _ is (c.in_ok-matches.ensures.kinds (ap is_simple_and_free is ∙ simple_and_free))

@@ -1,0 +1,30 @@
+use Rattle.std.proofs.Common.{refl}
+use Rattle.hostd.proofs.SimLemmas.{passed_on, due_bad, due_ran, bad_is_no_device, ran_is_no_read, not_silent}
+use Rattle.hostd.proofs.sim.sim.Goals as goal
+
+pub returns-in_err-octets-clause-due : goal.returns-in_err-octets-clause-due
+returns-in_err-octets-clause-due g c = rw (passed_on _ _ c.from_residual.ensures.1) c.in_err-octets.ensures.due
+
+pub returns-in_err-script-clause-read : goal.returns-in_err-script-clause-read
+returns-in_err-script-clause-read g c =
+    rw (passed_on _ _ c.from_residual-in_err-script.ensures.1)
+    (rw ((bad_is_no_device c.as_slice.result.now c.in_err-script.field-0.0 c.in_err-script.ensures.bad).0) c.in_ok-octets.ensures.read)
+
+pub returns-in_err-script-clause-written : goal.returns-in_err-script-clause-written
+returns-in_err-script-clause-written g c =
+    rw (passed_on _ _ c.from_residual-in_err-script.ensures.1)
+    (rw ((bad_is_no_device c.as_slice.result.now c.in_err-script.field-0.0 c.in_err-script.ensures.bad).1) refl)
+
+pub returns-in_err-script-clause-due : goal.returns-in_err-script-clause-due
+returns-in_err-script-clause-due g c =
+    rw (passed_on _ _ c.from_residual-in_err-script.ensures.1)
+    (due_bad _ c.in_ok-octets.octets.items _ c.in_ok-octets.ensures.all c.in_ok-octets.ensures.short (rw c.as_slice.ensures.value at c.in_err-script.ensures.bad))
+
+pub returns-clause-read : goal.returns-clause-read
+returns-clause-read g c = rw (ran_is_no_read c.run.result c.run.ensures.faults) c.in_ok-octets.ensures.read
+
+pub returns-clause-silent : goal.returns-clause-silent
+returns-clause-silent g c = not_silent _ c.run.result c.run.ensures.faults
+
+pub returns-clause-due : goal.returns-clause-due
+returns-clause-due g c = due_ran _ c.in_ok-octets.octets.items c.run.result c.in_ok-octets.ensures.all c.in_ok-octets.ensures.short (rw c.as_slice.ensures.value at c.in_ok-script.ensures.good) c.run.ensures.faults

@@ -1,0 +1,9 @@
+pub mod Streams
+pub mod Words
+pub mod Keywords
+pub mod Actions
+pub mod Script
+pub mod Text
+pub mod Sim
+pub mod Line
+pub mod Events

@@ -1,0 +1,40 @@
+-- When running a script ends in a fault, and in which.
+use Rattle.std.specs.Prelude.{◌≡◌, ℕ, List, Option, Some, None, Result, Ok, Err, Bool, true, false, ⊤, nat_lt, length, option_map, if◌then◌else◌}
+use Rattle.hostd.specs.Script.{first_bad_line}
+use Rattle.hostd.specs.declared.fault.TextFault.{TextFault}
+use Rattle.hostd.specs.declared.fault.TextFault.TheVariants.{Line, TooLong, Read, Write, NoMemory}
+
+-- whether the source failed
+abbrev pub read_fails : {A : Type 0} → Result A TextFault → Bool
+read_fails (Err Read) = true
+read_fails outcome = false
+
+-- whether the sink failed
+abbrev pub write_fails_in : {A : Type 0} → Result A TextFault → Bool
+write_fails_in (Err Write) = true
+write_fails_in outcome = false
+
+-- what speaks against running a script: that it has too many octets, or else its first bad line
+abbrev pub fault_of : List ℕ → Option TextFault
+fault_of octets = if nat_lt 1000000 (length octets) then Some TooLong else option_map Line (first_bad_line octets)
+
+-- the fault is what a script's octets ask for; a failing source and want of memory may come in its place
+abbrev pub IsFaultDue : List ℕ → TextFault → Type 0
+IsFaultDue octets (Line n) = fault_of octets ≡ Some (Line n)
+IsFaultDue octets TooLong = fault_of octets ≡ Some TooLong
+IsFaultDue octets Write = fault_of octets ≡ None
+IsFaultDue octets Read = ⊤
+IsFaultDue octets NoMemory = ⊤
+
+-- the outcome is what a script's octets ask for
+abbrev pub IsDue : {A : Type 0} → List ℕ → Result A TextFault → Type 0
+IsDue octets (Ok value) = fault_of octets ≡ None
+IsDue octets (Err fault) = IsFaultDue octets fault
+
+-- whether a fault comes before anything is run
+abbrev pub is_before_run : TextFault → Bool
+is_before_run (Line n) = true
+is_before_run TooLong = true
+is_before_run Read = true
+is_before_run Write = false
+is_before_run NoMemory = false

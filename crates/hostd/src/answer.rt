@@ -1,0 +1,84 @@
+//! How the answers of a world are printed.
+
+ghost use Rattle.std.specs.Prelude.{◌≡◌, ◌<◌, ◌++◌, [], ◌∷◌, OnOk, IfOk, IfSome, codes, length, string_bytes};
+ghost use Rattle.hostd.specs.Text.{hex_digit_of, escape_of, escaped_of, shown_of};
+ghost use Rattle.std.specs.Fmt.{decimal};
+
+use std::alloc::AllocError;
+use wire_sim::Answer;
+
+/// How the octets that a host read are printed.
+#[derive(Clone, Copy, Debug, PartialEq, Eq)]
+pub enum Style {
+    /// As a text.
+    Text,
+    /// As a number.
+    Count,
+}
+
+/// Adds `octets` to `line`: those of text as they are, but a backslash and every other octet as `\x` and two lower case
+/// hexadecimal digits.
+pub fn escape(octets: &[u8], line: &mut String) -> Result<(), AllocError>
+    ensures { OnOk result (string_bytes line.new ≡ string_bytes line.old ++ escaped_of octets.now) }
+{
+    for octet in octets {
+        escape_octet(*octet, line)?;
+    }
+    Ok(())
+}
+
+fn escape_octet(octet: u8, line: &mut String) -> Result<(), AllocError>
+    ensures { OnOk result (string_bytes line.new ≡ string_bytes line.old ++ escape_of octet) }
+{
+    if octet.is_ascii_graphic() && octet != b'\\' {
+        return line.push(char::from(octet));
+    }
+    line.push_str("\\x")?;
+    line.push(hex_digit(octet / 16))?;
+    line.push(hex_digit(octet % 16))
+}
+
+fn hex_digit(value: u8) -> char
+    requires { value < 16 }
+    ensures { result ≡ hex_digit_of value }
+{
+    if value < 10 {
+        char::from(b'0' + value)
+    } else {
+        char::from(b'a' + (value - 10))
+    }
+}
+
+/// Adds what is printed of `answer` to `line`.
+pub fn show(answer: &Answer, style: Style, line: &mut String) -> Result<(), AllocError>
+    ensures { OnOk result (IfSome (shown_of style answer.now) (λ text. string_bytes line.new ≡ string_bytes line.old ++ text)) }
+{
+    match answer {
+        Answer::Socket(id) => write!(line, "id {}", id.0),
+        Answer::Done => line.push_str("ok"),
+        Answer::Accepted(id, peer) => write!(line, "id {} {} {}", id.0, peer.addr, peer.port),
+        Answer::Started => line.push_str("started"),
+        Answer::Sent(count) => write!(line, "sent {count}"),
+        Answer::Octets(octets) => show_octets(octets.as_slice(), style, line),
+        Answer::EndOfStream => line.push_str("end"),
+        Answer::State(state) => write!(line, "{state}"),
+        Answer::Frame { index, len } => write!(line, "frame {index} {len}"),
+        Answer::NoFrame => line.push_str("none"),
+        Answer::Taken => line.push_str("taken"),
+        Answer::Dropped(cause) => write!(line, "drop F{}", cause.number()),
+        Answer::Refused(refusal) => write!(line, "{refusal}"),
+    }
+}
+
+fn show_octets(octets: &[u8], style: Style, line: &mut String) -> Result<(), AllocError>
+    ensures text { style ≡ Style.Text → OnOk result (string_bytes line.new ≡ string_bytes line.old ++ (codes "octets " ++ escaped_of octets.now)) }
+    ensures count { style ≡ Style.Count → OnOk result (string_bytes line.new ≡ string_bytes line.old ++ (codes "octets " ++ decimal (length octets.now))) }
+{
+    match style {
+        Style::Text => {
+            line.push_str("octets ")?;
+            escape(octets, line)
+        }
+        Style::Count => write!(line, "octets {}", octets.len()),
+    }
+}

@@ -1,0 +1,71 @@
+//! `hostd`: runs a script of socket calls, ticks and frames on a world of two hosts, and prints what they answer.
+#![tactic(auto)]
+
+mod answer;
+mod fault;
+mod line;
+mod output;
+mod request;
+mod script;
+mod sim;
+mod streams;
+
+use clap::error::ErrorKind;
+use fault::TextFault;
+use request::Line;
+use std::process::ExitCode;
+use std::{env, fmt, fs, io};
+use streams::{Reading, Writing};
+
+#[cfg(test)]
+mod tests;
+
+// The status after a usage fault, and after help.
+const USAGE: u8 = 2;
+
+fn main(rt: HostRuntime) -> ExitCode {
+    match words(&rt) {
+        Ok(words) => run(&rt, words.as_slice()),
+        Err(error) if error.kind() == io::ErrorKind::InvalidData => {
+            let _ = eprintln!(rt; "hostd: a word of the command line is no text");
+            ExitCode::from(USAGE)
+        }
+        Err(_) => told(&rt, TextFault::NoMemory),
+    }
+}
+
+// The words of the command line, the program's name first.
+fn words(rt: &HostRuntime) -> io::Result<Vec<String>> {
+    Ok(env::args(rt)?.collect(rt.alloc())?)
+}
+
+// Does what the words of the command line ask for.
+fn run(rt: &HostRuntime, words: &[String]) -> ExitCode {
+    match line::line(rt.alloc(), words) {
+        Ok(Line::Sim { script }) => run_script(rt, script),
+        Err(error) if error.kind() == ErrorKind::OutOfMemory => told(rt, TextFault::NoMemory),
+        Err(error) => {
+            let _ = eprint!(rt; "{error}");
+            ExitCode::from(USAGE)
+        }
+    }
+}
+
+// Runs the script in a file and prints what it prints.
+fn run_script(rt: &HostRuntime, path: &str) -> ExitCode {
+    let Ok(file) = fs::open(rt, path) else {
+        return told(rt, format_args!("cannot open {path}"));
+    };
+    let mut script = Reading::new(file);
+    let mut out = Writing::new(io::writer(rt));
+    match sim::sim(rt.alloc(), &mut script, &mut out) {
+        Ok(()) => ExitCode::SUCCESS,
+        Err(fault) => told(rt, fault),
+    }
+}
+
+// Tells a fault on standard error.
+fn told(rt: &HostRuntime, fault: impl fmt::Display + Drop) -> ExitCode {
+    let _ = eprintln!(rt; "hostd: {fault}");
+    ExitCode::FAILURE
+}

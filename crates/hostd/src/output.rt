@@ -1,0 +1,51 @@
+//! Printed text on its way to a sink.
+
+ghost use Rattle.std.specs.Prelude.{◌≡◌, [], OnOk, IfErr, string_bytes};
+ghost use Rattle.std.specs.Io.KnownBytes.{Appends};
+ghost use Rattle.hostd.specs.Streams.{counted, TakesFront};
+ghost use Rattle.hostd.specs.Sim.{write_fails_in};
+
+use crate::fault::TextFault;
+use crate::streams::Sink;
+
+/// Hands all of `octets` to `out`, in as many writes as it takes; `Write` where the sink fails, and then it took a part of
+/// the front.
+pub fn write_all<W: Sink>(out: &mut W, octets: &[u8]) -> Result<(), TextFault>
+    ensures failures { W.failures out.new ≡ counted (write_fails_in result) (W.failures out.old) }
+    ensures ok { OnOk result (Appends (W.taken out.old) (W.taken out.new) octets.now) }
+    ensures err { IfErr result (λ fault. (fault ≡ TextFault.Write) × TakesFront (W.taken out.old) (W.taken out.new) octets.now) }
+{
+    let mut rest = octets;
+    while !rest.is_empty() {
+        match out.write(rest) {
+            Ok(count) if count > 0 => (_, rest) = rest.split_at(count),
+            _ => return Err(TextFault::Write),
+        }
+    }
+    Ok(())
+}
+
+/// Hands `lines` to `out` and empties them; `Write` where the sink fails.
+pub fn hand_on<W: Sink>(lines: &mut String, out: &mut W) -> Result<(), TextFault>
+    ensures failures { W.failures out.new ≡ counted (write_fails_in result) (W.failures out.old) }
+    ensures taken { OnOk result (Appends (W.taken out.old) (W.taken out.new) (string_bytes lines.old)) }
+    ensures empty { OnOk result (string_bytes lines.new ≡ []) }
+    ensures faults { IfErr result (λ fault. fault ≡ TextFault.Write) }
+{
+    write_all(out, lines.as_bytes())?;
+    lines.clear();
+    Ok(())
+}
+
+/// Hands `lines` to `out` for good; `Write` where the sink fails.
+pub fn finish<W: Sink>(lines: &mut String, out: &mut W) -> Result<(), TextFault>
+    ensures failures { W.failures out.new ≡ counted (write_fails_in result) (W.failures out.old) }
+    ensures taken { OnOk result (Appends (W.taken out.old) (W.taken out.new) (string_bytes lines.old)) }
+    ensures faults { IfErr result (λ fault. fault ≡ TextFault.Write) }
+{
+    hand_on(lines, out)?;
+    match out.flush() {
+        Ok(()) => Ok(()),
+        Err(_) => Err(TextFault::Write),
+    }
+}

@@ -1,0 +1,8 @@
+//! What the user may ask for.
+
+/// What a command line asks for.
+#[derive(Clone, Copy, Debug, PartialEq, Eq)]
+pub enum Line<'a> {
+    /// To run the script in this file.
+    Sim { script: &'a str },
+}

@@ -1,0 +1,170 @@
+//! `hostd sim`: runs a script on a world of two hosts and prints what they answer.
+
+mod event;
+
+ghost use Rattle.std.specs.Prelude.{◌≡◌, ◌⊎◌, true, false, ◌≤◌, ◌<◌, ◌^◌, length, IfOk, IfErr, IfSome, OnErr};
+ghost use Rattle.std.specs.Option.{ForSome};
+ghost use Rattle.hostd.specs.Streams.{counted};
+ghost use Rattle.hostd.specs.Sim.{read_fails, write_fails_in, is_before_run, IsDue, IsFaultDue};
+ghost use Rattle.hostd.specs.Text.{style_of};
+
+use crate::answer::{Style, show};
+use crate::fault::TextFault;
+use crate::output::{finish, hand_on};
+use crate::script::action::Action;
+use crate::script::{Command, Script};
+use crate::streams::{Sink, Source};
+use event::{address, event, other};
+use std::alloc::{AllocError, Global};
+use tcp_segment::Seq;
+use wire_sim::{Answer, Config, Event, Side, World};
+
+/// The most octets of a script.
+pub const MOST_SCRIPT: usize = 1_000_000;
+
+// The octets of one read.
+const CHUNK: usize = 4096;
+
+// Where so many octets of printed lines wait, they are handed to the sink.
+const FULL: usize = 8192;
+
+// The most frames of one side that a `pass` moves.
+const MOST_FRAMES: usize = 64;
+
+/// Reads the whole script, then runs it and prints a line for each command. `Line` or `TooLong` where the script is bad,
+/// and then nothing is run; `Read` or `Write` where a device fails; `NoMemory` for want of memory. What was printed before
+/// a fault stays printed.
+pub fn sim<R: Source, W: Sink>(alloc: Global, script: &mut R, out: &mut W) -> Result<(), TextFault>
+    ensures read { R.failures script.new ≡ counted (read_fails result) (R.failures script.old) }
+    ensures written { W.failures out.new ≡ counted (write_fails_in result) (W.failures out.old) }
+    ensures silent { IfErr result (λ fault. is_before_run fault ≡ true → out.new ≡ out.old) }
+    ensures due { IfSome (R.remaining script.old) (λ octets. IsDue octets result) }
+{
+    let octets = whole(alloc, script)?;
+    let script = Script::parse(alloc, octets.as_slice())?;
+    run(alloc, &script, out)
+}
+
+// All octets of a script.
+fn whole<R: Source>(alloc: Global, script: &mut R) -> Result<Vec<u8>, TextFault>
+    ensures read { R.failures script.new ≡ counted (read_fails result) (R.failures script.old) }
+    ensures short { IfOk result (λ octets. length octets.items ≤ MOST_SCRIPT) }
+    ensures all { IfOk result (λ octets. IfSome (R.remaining script.old) (λ told. octets.items ≡ told)) }
+    ensures faults { IfErr result (λ fault. is_before_run fault ≡ true ⊎ fault ≡ TextFault.NoMemory) }
+    ensures due { IfErr result (λ fault. IfSome (R.remaining script.old) (λ told. IsFaultDue told fault)) }
+{
+    let mut octets = Vec::new(alloc);
+    let mut chunk = [0u8; CHUNK];
+    while octets.len() <= MOST_SCRIPT {
+        match script.read(&mut chunk) {
+            Ok(0) => return Ok(octets),
+            Ok(count) => octets.extend_from_slice(&chunk[..count])?,
+            Err(_) => return Err(TextFault::Read),
+        }
+    }
+    Err(TextFault::TooLong)
+}
+
+// Runs a script's commands, and hands on what they print, also where a fault ends the run.
+fn run<W: Sink>(alloc: Global, script: &Script<'_>, out: &mut W) -> Result<(), TextFault>
+    ensures written { W.failures out.new ≡ counted (write_fails_in result) (W.failures out.old) }
+    ensures faults { IfErr result (λ fault. is_before_run fault ≡ false) }
+{
+    let mut lines = String::new(alloc);
+    let outcome = play(alloc, script, &mut lines, out);
+    if outcome == Err(TextFault::Write) {
+        return outcome;
+    }
+    finish(&mut lines, out)?;
+    outcome
+}
+
+// Runs a script's commands and adds what they print to `lines`, which go to the sink whenever they are many.
+fn play<W: Sink>(
+    alloc: Global,
+    script: &Script<'_>,
+    lines: &mut String,
+    out: &mut W,
+) -> Result<(), TextFault>
+    ensures written { W.failures out.new ≡ counted (write_fails_in result) (W.failures out.old) }
+    ensures faults { IfErr result (λ fault. is_before_run fault ≡ false) }
+{
+    let mut world = new_world(alloc, script.limit)?;
+    if script.limit.is_some() {
+        lines.push_str("ok\n")?;
+    }
+    for command in &script.commands {
+        let line = execute(alloc, command, &mut world)?;
+        lines.push_str(line.as_str())?;
+        if lines.len() >= FULL {
+            hand_on(lines, out)?;
+        }
+    }
+    Ok(())
+}
+
+// A fresh world. The two addresses are those of single hosts and differ, so it is made unless there is no memory.
+fn new_world(alloc: Global, limit: Option<u64>) -> Result<World, TextFault>
+    requires { ForSome limit (λ n. (1 ≤ n) × (n ≤ 2 ^ 30)) }
+    ensures { IfErr result (λ fault. fault ≡ TextFault.NoMemory) }
+{
+    let (Ok(a), Ok(b)) = (Config::new(address(Side::A)), Config::new(address(Side::B))) else {
+        return Err(TextFault::NoMemory);
+    };
+    let made = match limit {
+        Some(limit) => World::with_limit(alloc, a, b, limit),
+        None => World::new(alloc, a, b),
+    };
+    made.map_err(|_| TextFault::NoMemory)
+}
+
+// Runs one command and answers the line that it prints.
+fn execute(alloc: Global, command: &Command<'_>, world: &mut World) -> Result<String, AllocError> {
+    let mut line = String::new(alloc);
+    match command {
+        Command::At(side, action) => match world.step(event(alloc, *side, action)?) {
+            Ok(answer) => show(&answer, style(action), &mut line)?,
+            Err(unfair) => write!(line, "{unfair}")?,
+        },
+        Command::Pass(isn) => {
+            let from_a = carry(world, Side::A, *isn);
+            let from_b = carry(world, Side::B, *isn);
+            write!(line, "a {from_a} b {from_b}")?;
+        }
+    }
+    line.push('\n')?;
+    Ok(line)
+}
+
+// How the octets that an action reads are printed.
+fn style(action: &Action<'_>) -> Style
+    ensures { result ≡ style_of action.now }
+{
+    match action {
+        Action::Count { .. } => Style::Count,
+        _ => Style::Text,
+    }
+}
+
+// One side emits until it has no frame, or has put 64 into the bag, and the other side takes them in order. A refusal is
+// passed over. Answers how many frames were emitted.
+fn carry(world: &mut World, from: Side, isn: Seq) -> usize
+    ensures { result ≤ MOST_FRAMES }
+{
+    let mut frames = [0usize; MOST_FRAMES];
+    let mut count = 0;
+    for _ in 0..MOST_FRAMES {
+        match world.step(Event::Emit(from)) {
+            Ok(Answer::Frame { index, .. }) => {
+                frames[count] = index;
+                count += 1;
+            }
+            Ok(_) => break,
+            Err(_) => {}
+        }
+    }
+    for index in &frames[..count] {
+        let _ = world.step(Event::Deliver(other(from), *index, isn));
+    }
+    count
+}

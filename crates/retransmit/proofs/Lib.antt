@@ -1,0 +1,2 @@
+pub mod Timeouts
+pub mod Earliest

@@ -1,0 +1,4 @@
+pub mod Timeout
+pub mod Events
+pub mod Deadlines
+pub mod Inside

@@ -1,0 +1,14 @@
+//! The retransmission timeout and the timers of a connection (RFC 6298), with no clock of their own.
+#![tactic(auto)]
+
+pub mod laws;
+mod moment;
+mod rto;
+mod timers;
+
+pub use moment::Moment;
+pub use rto::{Estimate, Rto};
+pub use timers::Timers;
+
+#[cfg(test)]
+mod tests;

@@ -1,0 +1,71 @@
+-- The stream part: what octets taken, sent, acknowledged, arrived and read make of the two halves. Nothing here knows of timers, of the
+-- peer's window, or of what goes out first; later rules for those leave this page as it is.
+use Rattle.std.specs.Prelude.{ℕ, zero, suc, ◌+◌, ◌-◌, ◌%◌, ◌^◌, ◌≤◌, ◌==◌, ◌&&◌, ◌||◌, nat_lt, nat_le, Bool, if◌then◌else◌, List, [], ◌++◌, length, take, drop}
+use Rattle.tcp_segment.specs.Wire.{past}
+use Rattle.tcp_state.specs.Numbers.{is_before}
+use Rattle.tcp_state.specs.declared.buffers.TheConstants.{CAPACITY}
+use Rattle.tcp_state.specs.Halves.{Sending, Receiving}
+
+-- nothing has come, and no window is told
+abbrev pub receiving_nothing : Receiving
+receiving_nothing = record { readable = []; rnext = 0; edge = 0 }
+
+-- the octets that are readable and those that the window told has room for never pass the buffer
+abbrev pub ReceivingFits : Receiving → Type 0
+ReceivingFits r = length r.readable + past r.edge r.rnext ≤ CAPACITY
+
+-- how many octets can still be taken from the caller
+abbrev pub send_room : Sending → ℕ
+send_room s = CAPACITY - length s.held
+
+-- how many numbers are sent and not acknowledged
+abbrev pub outstanding : Sending → ℕ
+outstanding s = past s.nxt s.una
+
+-- SND.UNA < SEG.ACK =< SND.NXT
+abbrev pub is_new_ack : Sending → ℕ → Bool
+is_new_ack s ack = nat_lt 0 (past ack s.una) && nat_le (past ack s.una) (outstanding s)
+
+-- nothing sent yet, and the SYN will have the number isn
+abbrev pub sending_from : ℕ → Sending
+sending_from isn = record { held = []; una = isn; nxt = isn; window = 0; wl1 = isn; wl2 = isn; smss = 536 }
+
+-- our SYN is acknowledged, the one number that is outstanding
+abbrev pub after_syn_acknowledged : Sending → Sending
+after_syn_acknowledged s = record s { una = s.nxt; wl2 = s.nxt }
+
+-- octets are acknowledged: they are held no longer
+abbrev pub after_acknowledged : Sending → ℕ → Sending
+after_acknowledged s ack = record s { held = drop (past ack s.una) s.held; una = ack }
+
+-- so many numbers went out from SND.UNA on
+abbrev pub after_sent : Sending → ℕ → Sending
+after_sent s count = record s { nxt = (s.una + count) % 2 ^ 32 }
+
+-- RCV.WND: what is told and not used up
+abbrev pub receive_window : Receiving → ℕ
+receive_window r = past r.edge r.rnext
+
+-- RCV.NXT =< number < RCV.NXT + RCV.WND
+abbrev pub is_in_window : Receiving → ℕ → Bool
+is_in_window r number = nat_lt (past number r.rnext) (receive_window r)
+
+-- whether a segment is acceptable, by its number and how many numbers it takes (RFC 9293 section 3.10.7.4, table 6)
+abbrev pub is_acceptable : Receiving → ℕ → ℕ → Bool
+is_acceptable r number zero = if receive_window r == 0 then number == r.rnext else is_in_window r number
+is_acceptable r number (suc more) = is_in_window r number || is_in_window r ((number + more) % 2 ^ 32)
+
+-- the peer's SYN has this number, and it was told this window
+abbrev pub synchronised : Receiving → ℕ → ℕ → Receiving
+synchronised r number told = let rnext = (number + 1) % 2 ^ 32 in record r { rnext = rnext; edge = (rnext + told) % 2 ^ 32 }
+
+-- the octets of a segment that stand next in order: what lies before RCV.NXT and past the window told is cut
+abbrev pub gained : Receiving → ℕ → List ℕ → List ℕ
+gained r number octets = if is_before r.rnext number then [] else take (receive_window r) (drop (past r.rnext number) octets)
+
+abbrev pub after_octets : Receiving → ℕ → List ℕ → Receiving
+after_octets r number octets = let new = gained r number octets in record r { readable = r.readable ++ new; rnext = (r.rnext + length new) % 2 ^ 32 }
+
+-- the caller read so many octets
+abbrev pub after_read : Receiving → ℕ → Receiving
+after_read r count = record r { readable = drop count r.readable }

@@ -1,0 +1,16 @@
+pub mod Lists
+pub mod Endpoints
+pub mod Entries
+pub mod HostView
+pub mod Ports
+pub mod Calls
+pub mod Dispatch
+pub mod Room
+pub mod Tallies
+pub mod WorldView
+pub mod Places
+pub mod Steps
+pub mod Channel
+pub mod ChannelSteps
+pub mod ChannelViews
+pub mod Pairing

@@ -1,0 +1,26 @@
+-- What each opening took from its caller.
+use Rattle.std.specs.Prelude.{ℕ, Bool, true, false, ◌==◌, ◌&&◌, if◌then◌else◌, List, [], ◌∷◌}
+use Rattle.tcp_segment.specs.declared.addr.Pair.{Pair}
+use Rattle.wire_sim.specs.declared.event.Side.{Side}
+use Rattle.wire_sim.specs.declared.event.Side.TheVariants.{A, B}
+use Rattle.wire_sim.specs.declared.event.Opening.{Opening}
+use Rattle.wire_sim.specs.Endpoints.{same_end}
+
+abbrev pub same_side : Side → Side → Bool
+same_side A A = true
+same_side A B = false
+same_side B A = false
+same_side B B = true
+
+abbrev pub same_pair : Pair → Pair → Bool
+same_pair a b = same_end a.first b.first && same_end a.second b.second
+
+-- the opening by which a side's host came to hold a pair in an epoch
+abbrev pub is_opening_of : Side → Pair → ℕ → Opening → Bool
+is_opening_of side pair epoch o = same_side o.side side && same_pair o.pair pair && (o.epoch == epoch)
+
+-- how many octets a side took for a pair in an epoch, where each opening stands beside its count
+abbrev pub written_by : List Opening → List ℕ → Side → Pair → ℕ → ℕ
+written_by [] ws side pair epoch = 0
+written_by (o ∷ os) [] side pair epoch = 0
+written_by (o ∷ os) (w ∷ ws) side pair epoch = if is_opening_of side pair epoch o then w else written_by os ws side pair epoch

@@ -1,0 +1,226 @@
+//! What happens in a world: events, and what the hosts answer to them.
+
+ghost use Rattle.std.specs.Prelude.{◌≡◌, ◌<◌, ◌≤◌, ◌==◌, ◌&&◌, vec_len, vec_capacity};
+
+use crate::host::{DropCause, Kind, Refusal, SocketId};
+use crate::room::filled;
+use tcp_segment::{Endpoint, Pair, Seq};
+use tcp_state::{Moment, State};
+use thiserror::Error;
+
+/// One of the two hosts.
+#[derive(Clone, Copy, PartialEq, Eq, Debug)]
+pub enum Side {
+    /// The first host.
+    A,
+    /// The second host.
+    B,
+}
+
+impl Side {
+    ghost use Rattle.wire_sim.specs.Tallies.{same_side};
+    ghost use Rattle.wire_sim.specs.Steps.{place_of, other_side};
+
+    /// The place of this side where both stand in a list.
+    pub(crate) fn index(self) -> usize
+        ensures within { result < 2 }
+        ensures place { result ≡ place_of self }
+    {
+        match self {
+            Side::A => 0,
+            Side::B => 1,
+        }
+    }
+
+    /// Whether this is that side.
+    pub(crate) fn is(self, other: Side) -> bool
+        ensures { result ≡ same_side self other }
+    {
+        matches!((self, other), (Side::A, Side::A) | (Side::B, Side::B))
+    }
+
+    /// The other host.
+    pub fn other(self) -> Side
+        ensures { result ≡ other_side self }
+    {
+        match self {
+            Side::A => Side::B,
+            Side::B => Side::A,
+        }
+    }
+}
+
+/// A socket call with its arguments, but for the moment, which is the side's clock.
+#[derive(Clone, PartialEq, Eq, Debug, Drop)]
+pub enum Call {
+    /// Makes a socket.
+    Socket(Kind),
+    /// Binds a socket to a local endpoint.
+    Bind {
+        id: SocketId,
+        local: Endpoint,
+    },
+    /// Lets a bound socket take connections.
+    Listen {
+        id: SocketId,
+        backlog: usize,
+    },
+    /// Takes a connection that waits at a listener.
+    Accept {
+        id: SocketId,
+    },
+    /// Opens a connection with this initial sequence number.
+    Connect {
+        isn: Seq,
+        id: SocketId,
+        peer: Endpoint,
+    },
+    /// Gives octets to a connection.
+    Send {
+        id: SocketId,
+        octets: Vec<u8>,
+    },
+    /// Reads octets of a connection into a buffer of `len` octets.
+    Recv {
+        id: SocketId,
+        len: usize,
+    },
+    /// Asks for a socket's state.
+    State {
+        id: SocketId,
+    },
+}
+
+/// One event: one call on one host.
+#[derive(Clone, PartialEq, Eq, Debug, Drop)]
+pub enum Event {
+    /// A socket call on a side's host.
+    Call(Side, Call),
+    /// A tick of a side's host at this moment.
+    Tick(Side, Moment),
+    /// A side's host may put a frame into the bag.
+    Emit(Side),
+    /// The host of a side takes the frame with this index in the bag, and the initial sequence number in case it opens a connection.
+    Deliver(Side, usize, Seq),
+}
+
+/// What a host answered to an event.
+#[derive(Clone, PartialEq, Eq, Debug, Drop)]
+pub enum Answer {
+    /// A socket was made.
+    Socket(SocketId),
+    /// The call or the tick is done.
+    Done,
+    /// A connection was accepted, with this peer.
+    Accepted(SocketId, Endpoint),
+    /// A connection is being opened.
+    Started,
+    /// So many octets were taken.
+    Sent(usize),
+    /// These octets were read.
+    Octets(Vec<u8>),
+    /// The peer has closed its side, and all that it wrote was read.
+    EndOfStream,
+    /// The state of a socket.
+    State(State),
+    /// A frame went into the bag: its index there, and its length in octets.
+    Frame { index: usize, len: usize },
+    /// No frame is due.
+    NoFrame,
+    /// The frame was taken.
+    Taken,
+    /// The frame was dropped.
+    Dropped(DropCause),
+    /// The call was refused.
+    Refused(Refusal),
+}
+
+impl Answer {
+    ghost use Rattle.wire_sim.specs.WorldView.{SameAnswer, octets_len};
+
+    /// A copy of the answer, whose octets go into `room`.
+    pub(crate) fn copied(&self, room: Vec<u8>) -> Answer
+        requires empty { vec_len room ≡ 0 }
+        requires fits { octets_len self.now ≤ vec_capacity room }
+        ensures { SameAnswer result self.now }
+    {
+        match self {
+            Answer::Socket(id) => Answer::Socket(*id),
+            Answer::Done => Answer::Done,
+            Answer::Accepted(id, peer) => Answer::Accepted(*id, *peer),
+            Answer::Started => Answer::Started,
+            Answer::Sent(taken) => Answer::Sent(*taken),
+            Answer::Octets(octets) => Answer::Octets(filled(room, octets.as_slice())),
+            Answer::EndOfStream => Answer::EndOfStream,
+            Answer::State(state) => Answer::State(*state),
+            Answer::Frame { index, len } => Answer::Frame {
+                index: *index,
+                len: *len,
+            },
+            Answer::NoFrame => Answer::NoFrame,
+            Answer::Taken => Answer::Taken,
+            Answer::Dropped(cause) => Answer::Dropped(*cause),
+            Answer::Refused(refusal) => Answer::Refused(*refusal),
+        }
+    }
+}
+
+/// Why `step` refuses an event. The world is then as it was.
+#[derive(Clone, Copy, PartialEq, Eq, Debug, Error)]
+pub enum Unfair {
+    /// There is no frame with this index, or the same side emitted it.
+    #[error("U1 NoSuchFrame")]
+    NoSuchFrame,
+    /// Since the frame was emitted, an end of its pair took the limit or more from its caller.
+    #[error("U2 Stale")]
+    Stale,
+    /// Memory ran out before a host was touched.
+    #[error("U5 NoMemory")]
+    NoMemory,
+}
+
+/// Why a world is not made, or a run not begun.
+#[derive(Clone, Copy, PartialEq, Eq, Debug, Error)]
+pub enum WorldFault {
+    /// Memory ran out.
+    #[error("N1 NoMemory")]
+    NoMemory,
+    /// Both hosts have the same address.
+    #[error("N2 SameAddress")]
+    SameAddress,
+}
+
+/// A host came to hold a pair.
+#[derive(Clone, Copy, PartialEq, Eq, Debug)]
+pub struct Opening {
+    /// Whose host.
+    pub side: Side,
+    /// The pair that it came to hold.
+    pub pair: Pair,
+    /// Which of the pair's connections in turn, counted from 1.
+    pub epoch: u64,
+    /// The id of the entry that it made.
+    pub id: SocketId,
+    /// The place in the trace of the event at which it did.
+    pub place: usize,
+}
+
+impl Opening {
+    ghost use Rattle.wire_sim.specs.Tallies.{is_opening_of};
+
+    /// Whether the host of `side` came to hold `pair` in `epoch` by this opening.
+    pub(crate) fn is_of(&self, side: Side, pair: Pair, epoch: u64) -> bool
+        ensures { result ≡ is_opening_of side pair epoch self.now }
+    {
+        self.side.is(side) && self.pair == pair && self.epoch == epoch
+    }
+}
+
+/// An event that a world took, with its answer.
+#[derive(Clone, PartialEq, Eq, Debug, Drop)]
+pub struct Happening {
+    /// The event.
+    pub event: Event,
+    /// What the host answered.
+    pub answer: Answer,
+}

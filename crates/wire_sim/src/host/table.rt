@@ -1,0 +1,147 @@
+//! What is looked up in the table, which stands in order of id.
+
+ghost use Rattle.std.specs.Prelude.{◌≡◌, ◌<◌, ◌≤◌, ◌&&◌, not, length, position, count_by, map, fold, None, IfSome};
+ghost use Rattle.std.specs.List.{list_any};
+ghost use Rattle.wire_sim.specs.Entries.{is_socket, is_between, is_of_pair, has_port, is_bound_at, is_waiting_at, is_offered_at, is_due, is_listening_at, deadline_of, ticked, with_role};
+ghost use Rattle.wire_sim.specs.HostView.{earlier};
+ghost use Rattle.wire_sim.specs.Places.{kept_by};
+
+use super::entry::Entry;
+use super::{ENTRIES, SocketId};
+use arrayvec::ArrayVec;
+use tcp_segment::{Endpoint, Pair};
+use tcp_state::{Fate, Moment};
+
+/// The place of the socket `id`.
+pub(super) fn socket_of(entries: &[Entry], id: SocketId) -> Option<usize>
+    ensures { result ≡ position (is_socket id) entries.now }
+{
+    entries.iter().position(|entry| entry.is_socket(id))
+}
+
+/// The place of the entry `id`, be it a socket or a connection that is not accepted.
+pub(super) fn entry_of(entries: &[Entry], id: SocketId) -> Option<usize>
+    ensures { IfSome result (λ place. place < length entries.now) }
+{
+    entries.iter().position(|entry| entry.id == id)
+}
+
+/// The place of the connection from `local` to `peer`, in any state but CLOSED.
+pub(super) fn connection_between(
+    entries: &[Entry],
+    local: Endpoint,
+    peer: Endpoint,
+) -> Option<usize>
+    ensures { result ≡ position (is_between local peer) entries.now }
+{
+    entries
+        .iter()
+        .position(|entry| entry.is_live_between(local, peer))
+}
+
+/// The place of the connection of `pair`, in any state but CLOSED.
+pub(super) fn holder(entries: &[Entry], pair: Pair) -> Option<usize>
+    ensures { result ≡ position (is_of_pair pair) entries.now }
+{
+    entries.iter().position(|entry| entry.joins(pair))
+}
+
+/// Whether there is a connection from `local` to `peer`, in any state but CLOSED.
+pub(super) fn is_pair_held(entries: &[Entry], local: Endpoint, peer: Endpoint) -> bool
+    ensures { result ≡ list_any (is_between local peer) entries.now }
+{
+    entries
+        .iter()
+        .any(|entry| entry.is_live_between(local, peer))
+}
+
+/// Whether an entry has this local port.
+pub(super) fn is_port_taken(entries: &[Entry], port: u16) -> bool
+    ensures { result ≡ list_any (has_port port) entries.now }
+{
+    entries.iter().any(|entry| entry.uses_port(port))
+}
+
+/// Whether a socket has this local port; a connection that is not accepted is no socket.
+pub(super) fn is_port_bound(entries: &[Entry], port: u16) -> bool
+    ensures { result ≡ list_any (is_bound_at port) entries.now }
+{
+    entries
+        .iter()
+        .any(|entry| !entry.is_pending() && entry.uses_port(port))
+}
+
+/// The place of the listener at a local port.
+pub(super) fn listener_at(entries: &[Entry], port: u16) -> Option<usize>
+    ensures { result ≡ position (is_listening_at port) entries.now }
+{
+    entries.iter().position(|entry| entry.listens_at(port))
+}
+
+/// How many connections wait at a listener, in SYN-RECEIVED or past it.
+pub(super) fn waiting_at(entries: &[Entry], listener: SocketId) -> usize
+    ensures { result ≡ count_by (is_waiting_at listener) entries.now }
+{
+    entries
+        .iter()
+        .filter(|entry| entry.waits_at(listener))
+        .count()
+}
+
+/// The place of the connection that `listener` accepts next.
+pub(super) fn next_accepted(entries: &[Entry], listener: SocketId) -> Option<usize>
+    ensures { result ≡ position (is_offered_at listener) entries.now }
+{
+    entries
+        .iter()
+        .position(|entry| entry.offered_peer(listener).is_some())
+}
+
+/// The place of the first entry that has a segment due.
+pub(super) fn first_due(entries: &[Entry]) -> Option<usize>
+    ensures { result ≡ position is_due entries.now }
+{
+    entries.iter().position(|entry| entry.is_due())
+}
+
+/// Lets the timers of every entry act whose moment has come.
+pub(super) fn tick(entries: &mut [Entry], now: Moment)
+    ensures { entries.new ≡ map (with_role (ticked now)) entries.old }
+{
+    for entry in entries.iter_mut() {
+        entry.tick(now);
+    }
+}
+
+/// The least deadline of the entries.
+pub(super) fn least_deadline(entries: &[Entry]) -> Option<Moment>
+    ensures { result ≡ fold (λ least e. earlier least (deadline_of e.role)) None entries.now }
+{
+    entries
+        .iter()
+        .fold(None, |least, entry| earlier(least, entry.deadline()))
+}
+
+/// The earlier of two moments, as far as there are any.
+fn earlier(a: Option<Moment>, b: Option<Moment>) -> Option<Moment>
+    ensures { result ≡ earlier a b }
+{
+    match (a, b) {
+        (Some(a), Some(b)) => Some(if b < a { b } else { a }),
+        (Some(a), None) => Some(a),
+        (None, b) => b,
+    }
+}
+
+/// Takes an entry out of the table where its connection is gone.
+pub(super) fn settle(entries: &mut ArrayVec<Entry, ENTRIES>, place: usize, fate: Fate)
+    requires { place < length entries.old.items }
+    ensures { entries.new.items ≡ kept_by fate place entries.old.items }
+{
+    match fate {
+        Fate::Removed => {
+            entries.remove(place);
+        }
+        Fate::Stays => {}
+    }
+}

@@ -1,0 +1,14 @@
+//! A world of two hosts, joined by a bag of frames that may be lost, repeated and reordered, and the hosts themselves.
+#![tactic(auto)]
+
+mod event;
+mod host;
+pub mod laws;
+mod room;
+#[cfg(test)]
+mod tests;
+mod world;
+
+pub use event::{Answer, Call, Event, Happening, Opening, Side, Unfair, WorldFault};
+pub use host::{Config, DropCause, Host, Kind, Refusal, SocketId};
+pub use world::World;

@@ -1,0 +1,60 @@
+//! Memory that is taken before a host is touched.
+
+ghost use Rattle.std.specs.Prelude.{◌≡◌, ◌≤◌, length, vec_len, vec_capacity, IfOk};
+
+use crate::event::{Call, Event};
+use std::alloc::{AllocError, Global};
+
+/// The octets that one `recv` answers at most.
+pub(crate) const MOST_READ: usize = 65_535;
+
+/// The octets of a frame at most (RFC 894).
+pub(crate) const MOST_FRAME: usize = 1_514;
+
+/// The memory that an event may need beside the world's own lists.
+#[derive(Drop)]
+pub(crate) struct Room {
+    /// What the host reads octets into, or room for the frame that it emits.
+    pub(crate) octets: Vec<u8>,
+    /// Room for a second copy of the octets that are read.
+    pub(crate) copy: Vec<u8>,
+    ghost empty: { vec_len copy ≡ 0 },
+    ghost enough: { vec_len octets ≤ vec_capacity copy },
+}
+
+impl Room {
+    ghost use Rattle.wire_sim.specs.Room.{RoomFor};
+
+    /// What `event` needs.
+    pub(crate) fn for_event(alloc: Global, event: &Event) -> Result<Room, AllocError>
+        ensures { IfOk result (λ room. RoomFor event.now room.octets) }
+    {
+        match event {
+            Event::Call(_, Call::Recv { len, .. }) => {
+                let len = (*len).min(MOST_READ);
+                Ok(Room {
+                    octets: vec![in alloc; 0; len]?,
+                    copy: Vec::with_capacity(alloc, len)?,
+                })
+            }
+            Event::Emit(_) => Ok(Room {
+                octets: Vec::with_capacity(alloc, MOST_FRAME)?,
+                copy: Vec::new(alloc),
+            }),
+            _ => Ok(Room {
+                octets: Vec::new(alloc),
+                copy: Vec::new(alloc),
+            }),
+        }
+    }
+}
+
+/// These octets, in room that holds nothing yet and is large enough.
+pub(crate) fn filled(mut room: Vec<u8>, octets: &[u8]) -> Vec<u8>
+    requires empty { vec_len room ≡ 0 }
+    requires fits { length octets.now ≤ vec_capacity room }
+    ensures { result.items ≡ octets.now }
+{
+    let _ = room.extend_from_slice(octets);
+    room
+}

@@ -1,0 +1,149 @@
+//! A world: two hosts and all that happened to them.
+
+ghost use Rattle.std.specs.Prelude.{◌≡◌, ◌<◌, ◌≤◌, ◌+◌, [], ◌∷◌, ◌++◌, length, take, ◌^◌, ◌↔◌, vec_len, vec_capacity, OnOk, OnErr, IfOk, IfErr, MatchOption};
+ghost use Rattle.wire_sim.specs.declared.event.Answer.{Answer};
+ghost use Rattle.wire_sim.specs.Room.{HasRoom, CanOpen, RoomFor};
+ghost use Rattle.wire_sim.specs.WorldView.{network_view};
+
+mod bag;
+mod ledger;
+mod network;
+mod station;
+
+use crate::event::{Answer, Event, Happening, Opening, Unfair, WorldFault};
+use crate::host::Config;
+use crate::room::Room;
+use network::Network;
+use std::alloc::{AllocError, Global};
+use std::marker::Model;
+
+/// By how many octets an end's writing has grown when a frame that went out before is stale.
+const LIMIT: u64 = 1 << 30;
+
+/// Two hosts, each the other's neighbour, the frames that they emitted, and all that happened.
+#[derive(Drop)]
+pub struct World {
+    alloc: Global,
+    network: Network,
+    trace: Vec<Happening>,
+}
+
+impl Model for World {
+    ghost use Rattle.wire_sim.specs.WorldView.{WorldView, network_view};
+
+    ghost Value = { WorldView };
+
+    ghost view = { λ w. record { network = network_view w.network; trace = w.trace.items } };
+}
+
+impl World {
+    ghost use Rattle.wire_sim.specs.Steps.{other_side, side_of, IsKept, FramesAfter, TickAfter};
+    ghost use Rattle.wire_sim.specs.WorldView.{WorldView, SameAnswer, unfair, fresh_world};
+
+    /// Two hosts that know each other, no frames, and nothing happened. SameAddress where both have one address; NoMemory.
+    pub fn new(alloc: Global, a: Config, b: Config) -> Result<World, WorldFault>
+        ensures same { (result ≡ Err WorldFault.SameAddress) ↔ (a ≡ b) }
+        ensures fresh { IfOk result (λ world. world ≡ fresh_world a b (2 ^ 30)) }
+    {
+        World::with_limit(alloc, a, b, LIMIT)
+    }
+
+    /// As `new`, where a frame is stale once an end has written `limit` octets or more since it went out.
+    pub fn with_limit(alloc: Global, a: Config, b: Config, limit: u64) -> Result<World, WorldFault>
+        requires { (1 ≤ limit) × (limit ≤ 2 ^ 30) }
+        ensures same { (result ≡ Err WorldFault.SameAddress) ↔ (a ≡ b) }
+        ensures fresh { IfOk result (λ world. world ≡ fresh_world a b limit) }
+    {
+        if a.addr() == b.addr() {
+            return Err(WorldFault::SameAddress);
+        }
+        Ok(World {
+            alloc,
+            network: Network::new(alloc, a, b, limit)?,
+            trace: Vec::new(alloc),
+        })
+    }
+
+    /// Gives one event to the host that it names, and answers what the host answers.
+    ///
+    /// NoSuchFrame, Stale, NoMemory, tested in this order; the world is then as it was.
+    pub fn step(&mut self, event: Event) -> Result<Answer, Unfair>
+        ensures unfair { MatchOption (unfair self.old.network event)
+            (IfErr result (λ refusal. refusal ≡ Unfair.NoMemory)) (λ refusal. result ≡ Err refusal) }
+        ensures refused { OnErr result (self.new ≡ self.old) }
+        ensures other { IsKept (other_side (side_of event)) self.old.network.stations self.new.network.stations }
+        ensures frames { IfOk result (λ told. FramesAfter event told self.old.network self.new.network) }
+        ensures tick { OnOk result (TickAfter event self.old.network self.new.network) }
+        ensures limit { self.new.network.limit ≡ self.old.network.limit }
+        ensures traced { IfOk result (λ told. (answer : Answer) × SameAnswer told answer
+            × (self.new.trace ≡ self.old.trace ++ record { event = event; answer = answer } ∷ [])) }
+    {
+        self.network.admits(&event)?;
+        let Ok(room) = reserve(self.alloc, &mut self.network, &mut self.trace, &event) else {
+            return Err(Unfair::NoMemory);
+        };
+        let Room { octets, copy } = room;
+        let answer = self.network.perform(&event, self.trace.len(), octets);
+        let told = answer.copied(copy);
+        self.trace.push_reserved(Happening { event, answer });
+        Ok(told)
+    }
+
+    /// Gives each event in turn to `step`, and appends its result. NoMemory, with nothing done, where `results` cannot grow.
+    pub fn run(
+        &mut self,
+        events: &[Event],
+        results: &mut Vec<Result<Answer, Unfair>>,
+    ) -> Result<(), WorldFault>
+        ensures kept { take (length results.old.items) results.new.items ≡ results.old.items }
+        ensures one_each { OnOk result (length results.new.items ≡ length results.old.items + length events.now) }
+        ensures limit { self.new.network.limit ≡ self.old.network.limit }
+        ensures err { OnErr result ((self.new ≡ self.old) × (results.new.items ≡ results.old.items)) }
+        ensures fault { IfErr result (λ fault. fault ≡ WorldFault.NoMemory) }
+    {
+        if results.reserve(events.len()).is_err() {
+            return Err(WorldFault::NoMemory);
+        }
+        for event in events {
+            let outcome = match event.clone() {
+                Ok(event) => self.step(event),
+                Err(_) => Err(Unfair::NoMemory),
+            };
+            results.push_reserved(outcome);
+        }
+        Ok(())
+    }
+
+    /// When a host came to hold a pair, in order.
+    pub fn openings(&self) -> &[Opening]
+        ensures { result.now ≡ self.now.network.openings }
+    {
+        self.network.openings()
+    }
+
+    /// The events that were taken, with their answers, in order.
+    pub fn trace(&self) -> &[Happening]
+        ensures { result.now ≡ self.now.trace }
+    {
+        self.trace.as_slice()
+    }
+}
+
+/// Takes all memory that `event` may need.
+fn reserve(
+    alloc: Global,
+    network: &mut Network,
+    trace: &mut Vec<Happening>,
+    event: &Event,
+) -> Result<Room, AllocError>
+    ensures network { network_view network.new ≡ network_view network.old }
+    ensures trace { trace.new.items ≡ trace.old.items }
+    ensures bag { OnOk result (HasRoom network.new.bag) }
+    ensures ledger { OnOk result (CanOpen network.new.ledger) }
+    ensures happening { OnOk result (HasRoom trace.new) }
+    ensures room { IfOk result (λ room. RoomFor event.now room.octets) }
+{
+    network.reserve()?;
+    trace.reserve(1)?;
+    Room::for_event(alloc, event)
+}
