@@ -1,5 +1,5 @@
 -- The call table: for each socket call its refusal, by the tests in their order, and what it makes of the host.
-use Rattle.std.specs.Prelude.{ℕ, ◌+◌, ◌^◌, Bool, ◌==◌, ◌&&◌, ◌||◌, not, if◌then◌else◌, List, [], ◌∷◌, ◌++◌, length, Option, Some, None, find, Result, Ok, Err}
+use Rattle.std.specs.Prelude.{ℕ, ◌+◌, ◌^◌, Bool, ◌==◌, ◌&&◌, ◌||◌, not, if◌then◌else◌, List, [], ◌∷◌, ◌++◌, length, take, drop, Option, Some, None, find, Result, Ok, Err}
 use Rattle.std.specs.List.{list_any}
 use Rattle.tcp_segment.specs.declared.addr.Addr.{Addr}
 use Rattle.tcp_segment.specs.declared.addr.Endpoint.{Endpoint}
@@ -128,6 +128,21 @@ abbrev pub received_answer : Role → ℕ → Result Received Refusal
 received_answer (Listener bound backlog) len = Err EOPNOTSUPP
 received_answer (Idle buffers bound) len = if len == 0 then Err EINVAL else Err ENOTCONN
 received_answer (Connected c listener) len = if len == 0 then Err EINVAL else of_connection (connection_calls.recv_answer c len)
+
+-- what a receive leaves in a buffer: the first octets that are readable stand at its front, where it answers octets
+abbrev pub read_front : Role → List ℕ → List ℕ
+read_front (Connected c listener) buffer =
+    if (length buffer == 0) || (is_opening c.state || (length c.receiving.readable == 0)) then buffer
+    else take (connection_calls.moved c (length buffer)) c.receiving.readable ++ drop (connection_calls.moved c (length buffer)) buffer
+read_front (Listener bound backlog) buffer = buffer
+read_front (Idle buffers bound) buffer = buffer
+
+abbrev pub recv_front : HostView → SocketId → List ℕ → List ℕ
+recv_front h id buffer = of_role (role_of h id)
+  where
+    of_role : Option Role → List ℕ
+    of_role None = buffer
+    of_role (Some role) = read_front role buffer
 
 abbrev pub send_answer : HostView → SocketId → List ℕ → Result ℕ Refusal
 send_answer h id octets = of_role (role_of h id)

@@ -21,7 +21,7 @@ const BACKLOG: usize = 1;
 impl Host {
     ghost use Rattle.wire_sim.specs.HostView.{HostView, later};
     ghost use Rattle.wire_sim.specs.Entries.{is_socket};
-    ghost use Rattle.wire_sim.specs.Calls.{bind_refusal, after_bind, listen_refusal, after_listen, state_answer, after_socket, is_table_full, accept_answer, after_accept, send_answer, after_send, recv_answer, after_recv, connect_refusal, after_connect, reach_refusal, port_for, counted_port};
+    ghost use Rattle.wire_sim.specs.Calls.{bind_refusal, after_bind, listen_refusal, after_listen, state_answer, after_socket, is_table_full, accept_answer, after_accept, send_answer, after_send, recv_answer, recv_front, after_recv, connect_refusal, after_connect, reach_refusal, port_for, counted_port};
 
     /// Makes a socket, with the room for one connection. EMFILE where the table is full or the last id is given, ENOMEM.
     pub fn socket(&mut self, kind: Kind) -> Result<SocketId, Refusal>
@@ -227,6 +227,7 @@ impl Host {
     #[tactic(auto, using(crate::proofs::Firsts::firsts))]
     pub fn recv(&mut self, id: SocketId, buffer: &mut [u8]) -> Result<Received, Refusal>
         ensures answer { result ≡ recv_answer self.old id (length buffer.old) }
+        ensures octets { buffer.new ≡ recv_front self.old id buffer.old }
         ensures ok { OnOk result (self.new ≡ after_recv self.old id (length buffer.old)) }
         ensures err { OnErr result (self.new ≡ self.old) }
     {

@@ -118,7 +118,7 @@ impl Default for Entry {
 
 impl Entry {
     ghost use Rattle.wire_sim.specs.Entries.{new_socket, new_waiting, sent, received, emitted_at, due_len, framed, arrived, fate_of, listens_at, backlog_of};
-    ghost use Rattle.wire_sim.specs.Calls.{sent_answer, received_answer};
+    ghost use Rattle.wire_sim.specs.Calls.{sent_answer, received_answer, read_front};
 
     /// A new socket.
     pub(super) fn socket(id: SocketId, buffers: Buffers) -> Entry
@@ -200,6 +200,7 @@ impl Entry {
     pub(super) fn recv(&mut self, buffer: &mut [u8]) -> Result<Received, Refusal>
         ensures answer { result ≡ received_answer self.old.role (length buffer.old) }
         ensures after { self.new ≡ with_role (received (length buffer.old)) self.old }
+        ensures octets { buffer.new ≡ read_front self.old.role buffer.old }
     {
         match &mut self.role {
             Role::Listener { .. } => Err(Refusal::EOPNOTSUPP),
