@@ -1,7 +1,7 @@
 -- What happens in the world where a host does what a script's line says.
 use Rattle.std.specs.Prelude.{◌≡◌, ℕ, [], ◌∷◌, replicate}
-use Rattle.tcp_segment.specs.declared.addr.Addr.{Addr}
-use Rattle.tcp_segment.specs.declared.addr.Endpoint.{Endpoint}
+use Rattle.ipv4.specs.declared.addr.Addr.{Addr}
+use Rattle.ipv4.specs.declared.addr.Endpoint.{Endpoint}
 use Rattle.wire_sim.specs.declared.event.Side.{Side}
 use Rattle.wire_sim.specs.declared.event.Side.TheVariants.{A, B}
 use Rattle.wire_sim.specs.declared.event.Event.{Event}

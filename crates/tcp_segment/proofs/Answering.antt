@@ -1,6 +1,6 @@
 -- The laws of parsing and sending.
 use Rattle.std.proofs.Common.{◌≡◌, ℕ, List, Result, Ok, Err, refl, ap}
-use Rattle.tcp_segment.specs.declared.addr.Addr.{Addr}
+use Rattle.ipv4.specs.declared.addr.Addr.{Addr}
 use Rattle.tcp_segment.specs.declared.fault.SegmentFault.{SegmentFault}
 use Rattle.tcp_segment.specs.declared.fault.SegmentFault.TheVariants.{UpperHeader, UpperSum}
 use Rattle.tcp_segment.specs.Segment.{Segment, IsParsed}

@@ -5,6 +5,5 @@ pub mod OptionLists
 pub mod Form
 pub mod Sending
 pub mod Checksum
-pub mod Pairs
 pub mod StreamPositions
 pub mod Answering

@@ -3,7 +3,7 @@ use Rattle.std.proofs.Common.{◌≡◌, ℕ, ◌+◌, ◌-◌, ◌*◌, ◌≤�
 use Rattle.std.proofs.lemmas.List.{append-nil, take_at, drop_at, drop-drop, take-append-drop, length-take, length-drop}
 use borrow.Rule.Slice.PartMut.{put_mid}
 use Rattle.inet_sum.specs.Sum.{sum_of}
-use Rattle.tcp_segment.specs.declared.addr.Addr.{Addr}
+use Rattle.ipv4.specs.declared.addr.Addr.{Addr}
 use Rattle.tcp_segment.specs.declared.head.Head.{Head}
 use Rattle.tcp_segment.specs.Options.{joined, MaximumSegmentSize}
 use Rattle.tcp_segment.specs.Segment.{fixed_fields, summed}

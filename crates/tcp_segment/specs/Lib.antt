@@ -1,5 +1,4 @@
 pub mod Wire
-pub mod Addresses
 pub mod Options
 pub mod Segment
 pub mod Sent

@@ -1,7 +1,7 @@
 -- A segment as this stack sends it (RFC 9293 section 3.1).
 use Rattle.std.specs.Prelude.{◌≡◌, ℕ, ◌+◌, ◌*◌, ◌<◌, ◌^◌, List, [], ◌∷◌, length, if◌then◌else◌}
 use Rattle.inet_sum.specs.Sum.{checksum_of}
-use Rattle.tcp_segment.specs.declared.addr.Addr.{Addr}
+use Rattle.ipv4.specs.declared.addr.Addr.{Addr}
 use Rattle.tcp_segment.specs.declared.head.Head.{Head}
 use Rattle.tcp_segment.specs.Options.{MaximumSegmentSize}
 use Rattle.tcp_segment.specs.Segment.{Segment, FieldsFit, spelling, summed}

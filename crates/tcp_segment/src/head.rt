@@ -4,12 +4,12 @@ ghost use Rattle.std.specs.Prelude.{◌≡◌, ◌+◌, ◌*◌, ◌<◌, ◌≤
 ghost use Rattle.tcp_segment.specs.Segment.{FieldsFit, fixed_fields};
 ghost use Rattle.tcp_segment.specs.Sent.{CanBeSent, sent, sent_offset, sent_with, sent_octets};
 
-use crate::addr::Addr;
 use crate::flags::{Flags, octet_of};
 use crate::options::MAXIMUM_SEGMENT_SIZE;
 use crate::seq::Seq;
 use crate::sum::sum_between;
 use crate::{FIXED_LEN, MSS};
+use ipv4::Addr;
 
 /// The header of a segment that is sent, but for what the stack determines: the options, the
 /// checksum, and an urgent pointer of 0 (RFC 9293 section 3.1).

@@ -2,11 +2,9 @@
 //! that does nothing.
 
 ghost use Rattle.std.specs.Prelude.{◌≡◌, ℕ, ◌+◌, ◌-◌, ◌*◌, ◌<◌, ◌≤◌, ◌%◌, ◌^◌, ◌↔◌, pos, ◌-ℤ◌, List, length, Result, Ok};
-ghost use Rattle.tcp_segment.specs.declared.addr.Addr.{Addr};
-ghost use Rattle.tcp_segment.specs.declared.addr.Endpoint.{Endpoint};
+ghost use Rattle.ipv4.specs.declared.addr.Addr.{Addr};
 ghost use Rattle.tcp_segment.specs.declared.fault.SegmentFault.{SegmentFault};
 ghost use Rattle.tcp_segment.specs.declared.head.Head.{Head};
-ghost use Rattle.tcp_segment.specs.Addresses.{pair_of};
 ghost use Rattle.tcp_segment.specs.Segment.{Segment, IsParsed, Spells};
 ghost use Rattle.tcp_segment.specs.Sent.{CanBeSent, sent, sent_offset, sent_octets};
 ghost use Rattle.tcp_segment.specs.Wire.{wire, past, difference, IsBefore, IsAtMost};
@@ -24,11 +22,6 @@ pub fn positions()
         → (IsBefore (wire initial p) (wire initial q) ↔ (p < q)) }
     ensures at_most { (initial p q : ℕ) → p < q + 2 ^ 31 → q < p + 2 ^ 31
         → (IsAtMost (wire initial p) (wire initial q) ↔ (p ≤ q)) }
-{}
-
-/// The two endpoints of a connection have one pair, in whichever order they are named.
-pub fn one_pair()
-    ensures { (a b : Endpoint) → pair_of a b ≡ pair_of b a }
 {}
 
 /// For all octets there is one answer that `TcpView::parse` may give.

@@ -1,8 +1,7 @@
-//! TCP's segments on the wire: addresses and endpoints, sequence numbers, the header and its
-//! options, both ways (RFC 9293 section 3.1).
+//! TCP's segments on the wire: sequence numbers, the header and its options, both ways (RFC 9293
+//! section 3.1).
 #![tactic(auto)]
 
-mod addr;
 mod fault;
 mod flags;
 mod head;
@@ -22,11 +21,10 @@ pub const DEFAULT_MSS: u16 = 536;
 /// A peer that tells less counts as telling this.
 pub const LEAST_MSS: u16 = 64;
 
-pub use addr::{Addr, Endpoint, Pair};
 pub use fault::SegmentFault;
 pub use flags::Flags;
 pub use head::Head;
-pub use laws::{emitted_parses, one_answer, one_pair, positions};
+pub use laws::{emitted_parses, one_answer, positions};
 pub use seq::Seq;
 pub use view::TcpView;
 

@@ -4,8 +4,8 @@ ghost use Rattle.std.specs.Prelude.{◌≡◌, ◌<◌, ◌^◌, length};
 ghost use Rattle.inet_sum.specs.Sum.{sum_of};
 ghost use Rattle.tcp_segment.specs.Segment.{summed};
 
-use crate::addr::Addr;
 use inet_sum::Pseudo;
+use ipv4::Addr;
 
 /// TCP's number among the protocols above IPv4 (RFC 9293 section 3.1).
 const TCP: u8 = 6;

@@ -1,5 +1,6 @@
 use super::*;
 use inet_sum::Pseudo;
+use ipv4::Addr;
 use std::test::Fail;
 
 const A: Addr = Addr([10, 0, 0, 1]);
@@ -162,16 +163,6 @@ fn printed(rt: HostRuntime) -> Result<(), Fail> {
     let sum = SegmentFault::UpperSum;
     assert_eq!(rt; format!(in rt.alloc(); "{sum}")?.as_str(), "F8 UpperSum");
     Ok(())
-}
-
-#[test]
-fn pairs(rt: HostRuntime) {
-    let low = Endpoint { addr: A, port: 80 };
-    let high = Endpoint { addr: B, port: 7 };
-    let pair = Pair::new(high, low);
-    assert_eq!(rt; pair, Pair::new(low, high));
-    assert_eq!(rt; (pair.first(), pair.second()), (low, high));
-    assert!(rt; A.is_single_host() && !Addr([127, 0, 0, 1]).is_single_host());
 }
 
 #[test]

@@ -8,7 +8,6 @@ ghost use Rattle.tcp_segment.specs.Options.{last_told};
 ghost use Rattle.tcp_segment.specs.Segment.{Segment, HasForm, IsParsed, told_mss, smss_of, span_of};
 ghost use Rattle.tcp_segment.specs.Reading.{header_in};
 
-use crate::addr::Addr;
 use crate::fault::SegmentFault;
 use crate::flags::{Flags, flags_of};
 use crate::head::Head;
@@ -16,6 +15,7 @@ use crate::seq::Seq;
 use crate::sum::sum_between;
 use crate::{DEFAULT_MSS, FIXED_LEN, LEAST_MSS, MSS, options};
 use byteorder::{BigEndian, ByteOrder};
+use ipv4::Addr;
 use std::marker::Model;
 
 /// A segment that was received and is well-formed, its octets lent from the frame.

@@ -8,7 +8,8 @@ use crate::receiver::Receiver;
 use crate::sender::Sender;
 use crate::state::State;
 use std::marker::Model;
-use tcp_segment::{Endpoint, Seq, TcpView};
+use ipv4::Endpoint;
+use tcp_segment::{Seq, TcpView};
 
 /// What becomes of a connection's place in the table.
 #[derive(Clone, Copy, Debug, PartialEq, Eq)]

@@ -2,7 +2,8 @@ use super::*;
 use std::alloc::Global;
 use std::process::Abort;
 use std::test::Fail;
-use tcp_segment::{Addr, Endpoint, Seq, TcpView};
+use ipv4::{Addr, Endpoint};
+use tcp_segment::{Seq, TcpView};
 
 const A: Endpoint = Endpoint {
     addr: Addr([10, 0, 0, 1]),

@@ -2,7 +2,7 @@
 use Rattle.std.proofs.Common.{◌≡◌, ℕ, Option, Some, None, Ok}
 use Rattle.std.specs.Option.{ok_or}
 use Rattle.std.specs.List.{find}
-use Rattle.tcp_segment.specs.declared.addr.Endpoint.{Endpoint}
+use Rattle.ipv4.specs.declared.addr.Endpoint.{Endpoint}
 use Rattle.wire_sim.specs.declared.host.entry.SocketId.{SocketId}
 use Rattle.wire_sim.specs.declared.host.entry.Entry.{Entry}
 use Rattle.wire_sim.specs.Entries.{is_socket, connecting}

@@ -1,7 +1,7 @@
 -- Each move at an end is steps of the two channels: opening, octets from and to the caller, the clock.
 use Rattle.std.proofs.Common.{◌≡◌, ℕ, ◌+◌, ◌<◌, ◌≤◌, ◌^◌, ◌%◌, ◌||◌, ◌==◌, if◌then◌else◌, Bool, true, false, List, ◌++◌, length, take, drop, Some, None, arith, refl, ap}
 use Rattle.std.proofs.lemmas.Bool.{eqb-true}
-use Rattle.tcp_segment.specs.declared.addr.Endpoint.{Endpoint}
+use Rattle.ipv4.specs.declared.addr.Endpoint.{Endpoint}
 use Rattle.tcp_state.specs.declared.moment.Moment.{Moment}
 use Rattle.tcp_state.specs.View.{View, IsSound, is_opening, opened_actively, after_tick}
 use Rattle.tcp_state.specs.Stream.{after_read, receive_window}

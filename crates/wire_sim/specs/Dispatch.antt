@@ -1,6 +1,6 @@
 -- What a frame that arrives makes of a host (RFC 9293 section 3.10.7).
 use Rattle.std.specs.Prelude.{◌≡◌, ℕ, ◌+◌, Bool, ◌&&◌, ◌||◌, not, nat_le, if◌then◌else◌, List, [], ◌∷◌, ◌++◌, count_by, Option, Some, None, find, Result, Ok, Err, MatchResult}
-use Rattle.tcp_segment.specs.declared.addr.Endpoint.{Endpoint}
+use Rattle.ipv4.specs.declared.addr.Endpoint.{Endpoint}
 use Rattle.tcp_segment.specs.declared.flags.Flags.{Flags}
 use Rattle.tcp_segment.specs.declared.fault.SegmentFault.{SegmentFault}
 use Rattle.tcp_segment.specs.declared.fault.SegmentFault.TheVariants as fault

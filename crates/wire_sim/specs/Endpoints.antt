@@ -1,8 +1,8 @@
 -- Tests on addresses and endpoints.
 use Rattle.std.specs.Prelude.{Bool, ◌==◌, ◌&&◌, not, nat_eq, nat_le, slice_index}
 use Rattle.std.specs.Cmp.Lexicographic.{pointwise}
-use Rattle.tcp_segment.specs.declared.addr.Addr.{Addr}
-use Rattle.tcp_segment.specs.declared.addr.Endpoint.{Endpoint}
+use Rattle.ipv4.specs.declared.addr.Addr.{Addr}
+use Rattle.ipv4.specs.declared.addr.Endpoint.{Endpoint}
 
 -- octet by octet
 abbrev pub same_addr : Addr → Addr → Bool

@@ -1,7 +1,7 @@
 -- The entries of a host's table: sockets, and connections that nobody has accepted yet.
 use Rattle.std.specs.Prelude.{ℕ, Bool, true, false, ◌&&◌, ◌||◌, not, ◌==◌, [], if◌then◌else◌, List, ◌++◌, drop, Option, Some, None, option_map, is_some}
-use Rattle.tcp_segment.specs.declared.addr.Endpoint.{Endpoint}
-use Rattle.tcp_segment.specs.declared.addr.Pair.{Pair}
+use Rattle.ipv4.specs.declared.addr.Endpoint.{Endpoint}
+use Rattle.ipv4.specs.declared.addr.Pair.{Pair}
 use Rattle.tcp_state.specs.declared.state.State.{State}
 use Rattle.tcp_state.specs.declared.state.State.TheVariants.{Closed, Listen}
 use Rattle.tcp_state.specs.declared.moment.Moment.{Moment}

@@ -1,7 +1,7 @@
 -- What a reader sees of a host.
 use Rattle.std.specs.Prelude.{ℕ, nat_lt, if◌then◌else◌, List, [], fold, Option, Some, None, option_map, option_and_then, find, map}
-use Rattle.tcp_segment.specs.declared.addr.Addr.{Addr}
-use Rattle.tcp_segment.specs.declared.addr.Pair.{Pair}
+use Rattle.ipv4.specs.declared.addr.Addr.{Addr}
+use Rattle.ipv4.specs.declared.addr.Pair.{Pair}
 use Rattle.tcp_state.specs.declared.moment.Moment.{Moment}
 use Rattle.wire_sim.specs.declared.host.entry.SocketId.{SocketId}
 use Rattle.wire_sim.specs.declared.host.entry.Entry.{Entry}

@@ -1,8 +1,8 @@
 -- Dynamic ports (RFC 6335 section 6): 49152 to 65535, given in turn.
 use Rattle.std.specs.Prelude.{ℕ, suc, zero, ◌+◌, ◌-◌, ◌%◌, Bool, cond, List, Option, Some, None, ◌≡◌, ◌&&◌, not, refl}
 use Rattle.std.specs.List.{list_any}
-use Rattle.tcp_segment.specs.declared.addr.Addr.{Addr}
-use Rattle.tcp_segment.specs.declared.addr.Endpoint.{Endpoint}
+use Rattle.ipv4.specs.declared.addr.Addr.{Addr}
+use Rattle.ipv4.specs.declared.addr.Endpoint.{Endpoint}
 use Rattle.wire_sim.specs.declared.host.entry.Entry.{Entry}
 use Rattle.wire_sim.specs.Entries.{is_bound_at, is_between}
 

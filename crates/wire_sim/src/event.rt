@@ -4,7 +4,8 @@ ghost use Rattle.std.specs.Prelude.{◌≡◌, ◌<◌, ◌≤◌, ◌==◌, ◌
 
 use crate::host::{DropCause, Kind, Refusal, SocketId};
 use crate::room::filled;
-use tcp_segment::{Endpoint, Pair, Seq};
+use ipv4::{Endpoint, Pair};
+use tcp_segment::Seq;
 use tcp_state::{Moment, State};
 use thiserror::Error;
 

@@ -9,7 +9,8 @@ use crate::{
 use std::alloc::{AllocError, Global};
 use std::process::Abort;
 use std::test::Fail;
-use tcp_segment::{Addr, Endpoint, Pair, Seq};
+use ipv4::{Addr, Endpoint, Pair};
+use tcp_segment::Seq;
 use tcp_state::{Moment, State};
 
 const A: Addr = Addr([10, 0, 0, 1]);

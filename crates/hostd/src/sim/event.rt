@@ -5,7 +5,7 @@ ghost use Rattle.hostd.specs.Events.{IsEventOf, address_of, endpoint_of, other_s
 
 use crate::script::action::Action;
 use std::alloc::{AllocError, Global};
-use tcp_segment::{Addr, Endpoint};
+use ipv4::{Addr, Endpoint};
 use wire_sim::{Call, Event, Kind, Side};
 
 /// The address of a side's host.

@@ -9,7 +9,8 @@ ghost use Rattle.wire_sim.specs.Calls.{open_answer};
 
 use super::entry::{Entry, Role};
 use super::{Host, Kind, Refusal, SocketId, ports, table};
-use tcp_segment::{Addr, Endpoint, Seq};
+use ipv4::{Addr, Endpoint};
+use tcp_segment::Seq;
 use tcp_state::{Buffers, Moment, Received, State};
 
 /// The address that stands for every address of the host.

@@ -5,7 +5,8 @@ ghost use Rattle.wire_sim.specs.Entries.{is_pending, is_socket, is_live_between,
 
 use super::Refusal;
 use std::mem;
-use tcp_segment::{Addr, Endpoint, Pair, Seq, TcpView};
+use ipv4::{Addr, Endpoint, Pair};
+use tcp_segment::{Seq, TcpView};
 use tcp_state::{Buffers, Connection, Fate, Moment, Received, State};
 
 /// Names a socket of one host. Ids count from 1, and none is given twice.

@@ -15,7 +15,8 @@ pub use entry::SocketId;
 pub use refusal::{DropCause, Refusal};
 use std::alloc::Global;
 use std::marker::Model;
-use tcp_segment::{Addr, Endpoint, Flags, Pair, Seq, TcpView};
+use ipv4::{Addr, Endpoint, Pair};
+use tcp_segment::{Flags, Seq, TcpView};
 use tcp_state::{Buffers, Connection, Moment};
 
 /// How many entries the table of one host holds.
@@ -35,8 +36,8 @@ pub struct Config {
 }
 
 impl Model for Config {
-    ghost use Rattle.tcp_segment.specs.declared.addr.Addr.{Addr};
-    ghost use Rattle.tcp_segment.specs.Addresses.{IsSingleHost};
+    ghost use Rattle.ipv4.specs.declared.addr.Addr.{Addr};
+    ghost use Rattle.ipv4.specs.Addresses.{IsSingleHost};
 
     ghost Value = { Addr };
 
@@ -48,7 +49,7 @@ impl Model for Config {
 }
 
 impl Config {
-    ghost use Rattle.tcp_segment.specs.Addresses.{IsSingleHost};
+    ghost use Rattle.ipv4.specs.Addresses.{IsSingleHost};
 
     /// A host at `addr`. EINVAL where that is no single host's address.
     pub fn new(addr: Addr) -> Result<Config, Refusal>

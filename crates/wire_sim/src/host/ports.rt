@@ -5,7 +5,7 @@ ghost use Rattle.wire_sim.specs.Ports.{port_after, first_port, is_free_port};
 
 use super::entry::Entry;
 use super::table;
-use tcp_segment::{Addr, Endpoint};
+use ipv4::{Addr, Endpoint};
 
 /// The first dynamic port.
 pub(super) const FIRST: u16 = 49_152;

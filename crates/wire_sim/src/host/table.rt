@@ -9,7 +9,7 @@ ghost use Rattle.wire_sim.specs.Places.{kept_by};
 use super::entry::Entry;
 use super::{ENTRIES, SocketId};
 use arrayvec::ArrayVec;
-use tcp_segment::{Endpoint, Pair};
+use ipv4::{Endpoint, Pair};
 use tcp_state::{Fate, Moment};
 
 /// The place of the socket `id`.

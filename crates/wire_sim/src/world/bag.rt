@@ -3,7 +3,7 @@
 ghost use Rattle.std.specs.Prelude.{◌≡◌};
 
 use crate::event::Side;
-use tcp_segment::Pair;
+use ipv4::Pair;
 
 /// A frame that a host emitted.
 #[derive(Drop)]

@@ -6,7 +6,7 @@ ghost use Rattle.wire_sim.specs.Tallies.{written_by};
 use crate::event::{Opening, Side};
 use crate::host::SocketId;
 use std::alloc::{AllocError, Global};
-use tcp_segment::Pair;
+use ipv4::Pair;
 
 /// The openings in order, and beside each the octets that `send` accepted on its id.
 #[derive(Drop)]

@@ -11,7 +11,8 @@ use crate::event::{Answer, Call, Event, Opening, Side, Unfair, WorldFault};
 use crate::host::{Config, SocketId};
 use crate::room::{MOST_FRAME, filled};
 use std::alloc::{AllocError, Global};
-use tcp_segment::{Addr, Endpoint, Pair, Seq, TcpView};
+use ipv4::{Addr, Endpoint, Pair};
+use tcp_segment::{Seq, TcpView};
 use tcp_state::Moment;
 
 /// Two hosts, each the other's neighbour, the frames that they emitted, and the openings.

@@ -7,7 +7,8 @@ ghost use Rattle.std.specs.Result.{ForOk};
 use crate::event::{Answer, Call, WorldFault};
 use crate::host::{Config, Host, Refusal, SocketId};
 use std::alloc::Global;
-use tcp_segment::{Addr, Pair, Seq};
+use ipv4::{Addr, Pair};
+use tcp_segment::Seq;
 use tcp_state::{Moment, Received};
 
 /// A host, its address, and the greatest moment of its ticks.

@@ -1,7 +1,7 @@
 -- The write at the socket's place is the change of the first entry that the id names, from the port that is given.
 use Rattle.std.proofs.Common.{◌≡◌, ◌∙◌, ℕ, List, get_or, Some, Ok, ap, sym}
 use Rattle.std.specs.List.{find}
-use Rattle.tcp_segment.specs.declared.addr.Addr.{Addr}
+use Rattle.ipv4.specs.declared.addr.Addr.{Addr}
 use Rattle.wire_sim.specs.declared.host.entry.Entry.{Entry}
 use Rattle.wire_sim.specs.Entries.{is_socket, connecting, with_role}
 use Rattle.wire_sim.specs.HostView.{HostView, with_socket}

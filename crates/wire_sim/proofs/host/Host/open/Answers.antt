@@ -2,7 +2,7 @@
 use Rattle.std.proofs.Common.{◌≡◌, ◌∙◌, ℕ, length, count_by, List, get_or, Some, false, ap, sym, arith}
 use Rattle.std.proofs.lemmas.Grind.{common_steps}
 use Rattle.std.specs.List.{find, position}
-use Rattle.tcp_segment.specs.declared.addr.Endpoint.{Endpoint}
+use Rattle.ipv4.specs.declared.addr.Endpoint.{Endpoint}
 use Rattle.wire_sim.specs.declared.host.entry.Entry.{Entry}
 use Rattle.wire_sim.specs.Dispatch.{has_no_place}
 use Rattle.wire_sim.specs.Entries.{is_listening_at, is_waiting_at, backlog_of}

@@ -1,7 +1,7 @@
 -- The write at the place is the change, or the removal, of the segment's connection.
 use Rattle.std.proofs.Common.{◌≡◌, ◌∙◌, List, get_or, Bool, Some, ap, sym}
 use Rattle.std.specs.List.{find, position}
-use Rattle.tcp_segment.specs.declared.addr.Endpoint.{Endpoint}
+use Rattle.ipv4.specs.declared.addr.Endpoint.{Endpoint}
 use Rattle.tcp_segment.specs.Segment.{Segment}
 use Rattle.tcp_state.specs.declared.connection.Fate.{Fate}
 use Rattle.wire_sim.specs.declared.host.entry.Entry.{Entry}

@@ -1,7 +1,7 @@
 //! Addresses, endpoints, and the pair of endpoints of a connection.
 
 ghost use Rattle.std.specs.Prelude.{◌≡◌, ◌↔◌, IsTrue};
-ghost use Rattle.tcp_segment.specs.Addresses.{IsSingleHost, pair_of};
+ghost use Rattle.ipv4.specs.Addresses.{IsSingleHost, pair_of};
 
 use std::fmt::{Display, Error, Formatter, Write};
 

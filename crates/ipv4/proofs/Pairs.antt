@@ -7,9 +7,9 @@ use Rattle.std.specs.Cmp.{IsTotalOrder}
 use Rattle.std.specs.Cmp.Lexicographic.{slice_cmp, lists_total}
 use Rattle.std.specs.FinMap.{nat_cmp-IsAntisymmetric, slice_cmp-IsAntisymmetric}
 use Rattle.std.proofs.lemmas.Cmp.{nat_cmp_total, on_total, then_total}
-use Rattle.tcp_segment.specs.declared.addr.Endpoint.{Endpoint}
-use Rattle.tcp_segment.specs.declared.addr.Pair.{Pair}
-use Rattle.tcp_segment.specs.Addresses.{endpoint_cmp, pair_of}
+use Rattle.ipv4.specs.declared.addr.Endpoint.{Endpoint}
+use Rattle.ipv4.specs.declared.addr.Pair.{Pair}
+use Rattle.ipv4.specs.Addresses.{endpoint_cmp, pair_of}
 
 pub endpoints_total : IsTotalOrder endpoint_cmp
 endpoints_total = then_total (on_total (λ (e : Endpoint). e.addr.0) (lists_total nat_cmp_total)) (on_total (λ (e : Endpoint). e.port) nat_cmp_total)
