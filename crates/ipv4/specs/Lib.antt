@@ -1,1 +1,4 @@
 pub mod Addresses
+pub mod Datagram
+pub mod Sent
+pub mod Reading

@@ -1,10 +1,19 @@
-//! IPv4's addresses, and the endpoints of what stands on it (RFC 791).
+//! IPv4's addresses, its datagrams both ways, and the endpoints of what stands on it (RFC 791).
 #![tactic(auto)]
 
 mod addr;
+mod fault;
+mod fragment;
+mod head;
 pub mod laws;
+mod protocol;
+mod view;
 
 pub use addr::{Addr, Endpoint, Pair};
+pub use fault::Ipv4Fault;
+pub use head::{HEADER_LEN, Head};
+pub use protocol::Protocol;
+pub use view::Ipv4View;
 
 #[cfg(test)]
 mod tests;

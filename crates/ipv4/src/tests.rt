@@ -1,6 +1,8 @@
 use super::*;
 use std::test::Fail;
 
+mod datagram;
+
 const A: Addr = Addr([10, 0, 0, 1]);
 
 const B: Addr = Addr([10, 0, 0, 2]);

@@ -1,0 +1,46 @@
+-- The datagram that octets spell, as the plain reading of them from left to right (RFC 791 section 3.1). The contract of
+-- `Ipv4View::parse` does not rest on this page: it says what is read by the spelling alone.
+use Rattle.std.specs.Prelude.{◌≡◌, ℕ, ◌+◌, ◌*◌, ◌/◌, ◌%◌, ◌<◌, ◌≤◌, ◌^◌, ◌==◌, nat_lt, ◌||◌, if◌then◌else◌, List, length, take, drop, slice_index, Option, Some, None}
+use Rattle.byteorder.specs.Endian.{big_number}
+use Rattle.ipv4.specs.Datagram.{Datagram, IsDatagram, header_octets}
+
+-- the number of sixteen bits at a place
+abbrev pub word_at : List ℕ → ℕ → ℕ
+word_at octets at = big_number 2 (drop at octets)
+
+-- the datagram of this header and this payload
+abbrev pub datagram_of : List ℕ → List ℕ → Datagram
+datagram_of header payload = record {
+  service = slice_index header 1;
+  identification = word_at header 4;
+  reserved = word_at header 6 / 2 ^ 15 % 2 == 1;
+  dont_fragment = word_at header 6 / 2 ^ 14 % 2 == 1;
+  more_fragments = word_at header 6 / 2 ^ 13 % 2 == 1;
+  offset = word_at header 6 % 2 ^ 13;
+  ttl = slice_index header 8;
+  protocol = slice_index header 9;
+  checksum = word_at header 10;
+  source = record { 0 = take 4 (drop 12 header) };
+  destination = record { 0 = take 4 (drop 16 header) };
+  options = drop 20 header;
+  payload = payload;
+}
+
+-- this header and this payload are those of a datagram
+pub record AreParts (header payload : List ℕ) : Type 0 where
+  pub fields : IsDatagram (datagram_of header payload)
+  pub spelled : header ≡ header_octets (datagram_of header payload)
+  pub least : 20 ≤ length header
+  pub total : length header + length payload < 2 ^ 16
+
+-- the length of the header that octets tell, in octets
+abbrev pub told_header : List ℕ → ℕ
+told_header octets = 4 * (slice_index octets 0 % 16)
+
+-- the lengths of the header and of the whole that octets tell, where they have room for these and each for what it holds
+abbrev pub lengths_in : List ℕ → Option (ℕ × ℕ)
+lengths_in octets =
+    if nat_lt (length octets) 20 then None
+    else if nat_lt (told_header octets) 20 || nat_lt (word_at octets 2) (told_header octets) || nat_lt (length octets) (word_at octets 2) then None
+    else if slice_index octets 0 / 16 == 4 then Some (told_header octets, word_at octets 2)
+    else None

@@ -1,0 +1,14 @@
+//! Why octets are no datagram.
+
+use thiserror::Error;
+
+/// What is wrong with a datagram: the first fault in this order (RFC 791 section 3.1, RFC 1122 section 3.2.1).
+#[derive(Clone, Copy, Debug, PartialEq, Eq, Error)]
+pub enum Ipv4Fault {
+    /// The octets have not the form of a datagram.
+    #[error("F4 IpHeader")]
+    IpHeader,
+    /// They have the form of one, and the header's checksum is wrong.
+    #[error("F5 IpSum")]
+    IpSum,
+}

@@ -1,0 +1,26 @@
+//! Laws of datagrams and of the octets that spell them.
+
+ghost use Rattle.std.specs.Prelude.{◌≡◌, ℕ, ◌+◌, ◌≤◌, List, ◌++◌, length, take, Result, Ok};
+ghost use Rattle.ipv4.specs.declared.fault.Ipv4Fault.{Ipv4Fault};
+ghost use Rattle.ipv4.specs.declared.head.Head.{Head};
+ghost use Rattle.ipv4.specs.Datagram.{Datagram, IsDatagram, IsParsed, Spells, spelling, total_len};
+ghost use Rattle.ipv4.specs.Sent.{sent};
+
+/// For all octets there is one answer that `Ipv4View::parse` may give.
+pub fn one_answer()
+    ensures { (octets : List ℕ) (first second : Result Datagram Ipv4Fault) → IsParsed octets first → IsParsed octets second → first ≡ second }
+{}
+
+/// A datagram has one spelling, up to the padding behind it.
+pub fn one_spelling()
+    ensures { (d : Datagram) (octets : List ℕ) → Spells d octets → take (total_len d) octets ≡ spelling d }
+{}
+
+/// What `Head::emit` writes spells the datagram that is meant, whatever padding stands behind it, and so parses to it.
+pub fn emitted_parses()
+    ensures len { (head : Head) (payload : List ℕ) → IsDatagram (sent head payload) → length (spelling (sent head payload)) ≡ 20 + length payload }
+    ensures spelled { (head : Head) (payload padding : List ℕ) → IsDatagram (sent head payload)
+        → Spells (sent head payload) (spelling (sent head payload) ++ padding) }
+    ensures parsed { (head : Head) (payload padding : List ℕ) (answer : Result Datagram Ipv4Fault) → IsDatagram (sent head payload)
+        → IsParsed (spelling (sent head payload) ++ padding) answer → answer ≡ Ok (sent head payload) }
+{}
