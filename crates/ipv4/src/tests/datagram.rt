@@ -1,9 +1,6 @@
+use super::{A, B};
 use crate::*;
 use std::test::Fail;
-
-const A: Addr = Addr([10, 0, 0, 1]);
-
-const B: Addr = Addr([10, 0, 0, 2]);
 
 /// A datagram of UDP from 192.168.0.1 to 192.168.0.199.
 const UDP: [u8; 20] = [
