@@ -3,8 +3,10 @@
 
 mod addr;
 pub mod laws;
+mod prefix;
 
 pub use addr::{Addr, Endpoint, Pair};
+pub use prefix::{Prefix, PrefixFault};
 
 #[cfg(test)]
 mod tests;
