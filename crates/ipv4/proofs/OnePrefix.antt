@@ -1,9 +1,12 @@
 -- Prefixes of one length that one address has are the same.
-use Rattle.std.proofs.Common.{◌≡◌, ℕ, ◌^◌, ◌<◌, ⊎_elim, List, All, length, get_or, arith, refl, sym, ◌∙◌, ap, subst}
+use Rattle.std.proofs.Common.{bytes_eq, nat_eq, ◌&&◌, ◌≡◌, ℕ, ◌^◌, ◌<◌, ⊎_elim, List, All, length, get_or, arith, refl, sym, ◌∙◌, ap, subst}
 use Rattle.std.proofs.Props.{props}
 use Rattle.std.proofs.lemmas.Bool.{cases_lt}
+use Rattle.std.proofs.lemmas.Bool.Decides.{Decides-and, Decides-eqb, Decides-like}
 use Rattle.std.proofs.lemmas.List.{get_or_past}
 use Rattle.std.proofs.lemmas.Nat.{be_bytes_4}
+use Rattle.std.proofs.lemmas.Slice.Eq.{bytes_eq-Decides}
+use Rattle.std.specs.Bool.{Decides}
 use Rattle.ipv4.specs.declared.addr.Addr.{Addr}
 use Rattle.ipv4.specs.declared.prefix.Prefix.{Prefix}
 use Rattle.ipv4.specs.Prefixes.{IsPrefix, StartAlike, number, bit}
@@ -45,3 +48,15 @@ one_prefix p q addr e hp hq =
     each k l =
         ⊎_elim (λ inside. hp k inside ∙ sym (hq k (omega arith)))
         (λ past. p.form.no_bit_past k past l ∙ sym (q.form.no_bit_past k (omega arith) l)) (cases_lt k p.length)
+
+-- what `==` of two prefixes answers
+pub prefix_eq-Decides : (p q : Prefix) → Decides (bytes_eq p.addr.0 q.addr.0 && nat_eq p.length q.length) (p ≡ q)
+prefix_eq-Decides p q =
+    Decides-like (bytes_eq p.addr.0 q.addr.0 && nat_eq p.length q.length) forth (λ same. (ap (λ (x : Prefix). x.addr.0) same, ap (λ (x : Prefix). x.length) same))
+    (Decides-and (bytes_eq p.addr.0 q.addr.0) (nat_eq p.length q.length) (bytes_eq-Decides p.addr.0 q.addr.0) (Decides-eqb p.length q.length))
+  where
+    forth : (p.addr.0 ≡ q.addr.0) × (p.length ≡ q.length) → p ≡ q
+    forth both =
+        let octets : p.addr.0 ≡ q.addr.0 = both.0 in
+        let address : ◌≡◌ {A = Addr} (record { 0 = p.addr.0 }) (record { 0 = q.addr.0 }) = cc in
+        same_made p.addr q.addr p.length q.length p.form q.form address both.1

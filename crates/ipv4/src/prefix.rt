@@ -21,18 +21,14 @@ pub enum PrefixFault {
 /// The addresses whose first `length` bits are those of `addr`, in which no further bit is set (RFC 4632 section 3.1).
 #[derive(Clone, Copy, Debug, PartialEq, Eq, Hash)]
 pub struct Prefix {
-    addr: Addr,
-    length: u8,
+    /// Its first address: its bits, and then zeros.
+    pub addr: Addr,
+    /// How many bits it has.
+    pub length: u8,
     pub ghost form: { IsPrefix addr length },
 }
 
 impl Prefix {
-    /// The prefix of no bits, 0.0.0.0/0, which every address has (RFC 4632 section 5.1).
-    pub const DEFAULT: Prefix = Prefix {
-        addr: Addr([0; 4]),
-        length: 0,
-    };
-
     /// The prefix of the first `length` bits of `addr`. EINVAL where `length` is over 32, or a bit is set past it.
     pub fn new(addr: Addr, length: u8) -> Result<Prefix, PrefixFault>
         ensures made { IfOk result (λ prefix. (prefix.addr ≡ addr) × (prefix.length ≡ length)) }
@@ -63,6 +59,20 @@ impl Prefix {
         ensures { IsTrue result ↔ StartAlike self.length self.addr addr }
     {
         first_bits(addr, self.length) == to_bits(self.addr)
+    }
+}
+
+impl Default for Prefix {
+    ghost use Rattle.std.specs.Prelude.{◌≡◌, ◌∷◌, []};
+
+    ghost is_default = { λ prefix. (prefix.addr.0 ≡ 0 ∷ 0 ∷ 0 ∷ 0 ∷ []) × (prefix.length ≡ 0) };
+
+    /// The prefix of no bits, 0.0.0.0/0, which every address has: that of the default route (RFC 4632 section 3.1).
+    fn default() -> Prefix {
+        Prefix {
+            addr: Addr([0; 4]),
+            length: 0,
+        }
     }
 }
 

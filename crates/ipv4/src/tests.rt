@@ -27,7 +27,7 @@ fn prefixes(rt: HostRuntime) -> Result<(), Fail> {
     assert_eq!(rt; net.to_string(rt.alloc())?.as_str(), "10.0.0.0/8");
     assert_eq!(rt; (net.addr(), net.length()), (Addr([10, 0, 0, 0]), 8));
     assert!(rt; net.contains(Addr([10, 255, 0, 1])) && !net.contains(Addr([11, 0, 0, 1])));
-    assert!(rt; Prefix::new(Addr([10, 0, 0, 1]), 32)?.contains(A) && Prefix::DEFAULT.contains(B));
+    assert!(rt; Prefix::new(Addr([10, 0, 0, 1]), 32)?.contains(A) && Prefix::default().contains(B));
     Ok(())
 }
 
