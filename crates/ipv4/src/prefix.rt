@@ -31,8 +31,8 @@ pub struct Prefix {
 impl Prefix {
     /// The prefix of the first `length` bits of `addr`. EINVAL where `length` is over 32, or a bit is set past it.
     pub fn new(addr: Addr, length: u8) -> Result<Prefix, PrefixFault>
-        ensures made { IfOk result (λ prefix. (prefix.addr ≡ addr) × (prefix.length ≡ length)) }
-        ensures refused { IsOk result ↔ IsPrefix addr length }
+        ensures value { IfOk result (λ prefix. (prefix.addr ≡ addr) × (prefix.length ≡ length)) }
+        ensures valid { IsOk result ↔ IsPrefix addr length }
     {
         if length > BITS || first_bits(addr, length) != to_bits(addr) {
             return Err(PrefixFault::EINVAL);

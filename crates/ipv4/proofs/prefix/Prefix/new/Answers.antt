@@ -4,8 +4,8 @@ use Rattle.ipv4.proofs.Prefixes.{unmasked, still}
 use Rattle.ipv4.proofs.prefix.Prefix.new.Goals as goal
 use Rattle.ipv4.proofs.prefix.Prefix.new.Goals.{then-length-gt-BITS-via-then-length-gt-BITS, then-length-gt-BITS-via-else-length-gt-BITS+then-first_bits-to_bits}
 
-pub returns-then-length-gt-BITS-clause-refused : goal.returns-then-length-gt-BITS-clause-refused
-returns-then-length-gt-BITS-clause-refused c =
+pub returns-then-length-gt-BITS-clause-valid : goal.returns-then-length-gt-BITS-clause-valid
+returns-then-length-gt-BITS-clause-valid c =
     elim c.then-length-gt-BITS.branch [
       | then-length-gt-BITS-via-then-length-gt-BITS w ↦ (λ no. absurd cc, λ is. absurd (omega (arith, w.if-length-gt-BITS.true, is.at_most)))
       | then-length-gt-BITS-via-else-length-gt-BITS+then-first_bits-to_bits w ↦ (
