@@ -1,4 +1,5 @@
 pub mod Addresses
+pub mod Prefixes
 pub mod Datagram
 pub mod Sent
 pub mod Reading

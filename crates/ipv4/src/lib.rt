@@ -1,4 +1,4 @@
-//! IPv4's addresses, its datagrams both ways, and the endpoints of what stands on it (RFC 791).
+//! IPv4's addresses and prefixes, its datagrams both ways, and the endpoints of what stands on it (RFC 791).
 #![tactic(auto)]
 
 mod addr;
@@ -6,12 +6,14 @@ mod fault;
 mod fragment;
 mod head;
 pub mod laws;
+mod prefix;
 mod protocol;
 mod view;
 
 pub use addr::{Addr, Endpoint, Pair};
 pub use fault::Ipv4Fault;
 pub use head::{HEADER_LEN, Head};
+pub use prefix::{Prefix, PrefixFault};
 pub use protocol::Protocol;
 pub use view::Ipv4View;
 
