@@ -1,12 +1,11 @@
 -- What a request that may go out, or may not, makes of the cache.
-use Rattle.std.proofs.Common.{◌≡◌, ◌<◌, Bool, true, false, not, ◌&&◌, nat_lt, List, [], ◌∷◌, ◌++◌, length, filter, cond, refl, sym, ◌∙◌, ap, arith}
+use Rattle.std.proofs.Common.{◌≡◌, ◌<◌, Bool, true, false, not, ◌&&◌, nat_lt, List, [], ◌∷◌, ◌++◌, length, cond, refl, sym, ◌∙◌, ap, arith}
 use Rattle.std.specs.List.{list_any}
 use Rattle.std.proofs.lemmas.Bool.Decides.{nat_tests}
 use Rattle.ipv4.specs.declared.addr.Addr.{Addr}
 use Rattle.arp.specs.declared.entry.Asked.{Asked}
-use Rattle.arp.specs.declared.entry.Neighbour.{Neighbour}
 use Rattle.arp.specs.declared.moment.Moment.{Moment}
-use Rattle.arp.specs.Cache.{Cache, is_note_of, is_live_note, live_notes, may_ask, after_ask}
+use Rattle.arp.specs.Cache.{Cache, is_note_of, live_notes, may_ask, after_ask}
 
 -- a request that may go out has a place
 pub has_place : (addr : Addr) (notes : List Asked) → may_ask addr notes ≡ true → length notes < 64

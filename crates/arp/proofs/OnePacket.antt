@@ -1,6 +1,6 @@
 -- Octets spell one packet.
-use Rattle.std.proofs.Common.{◌≡◌, ℕ, ◌+◌, ◌/◌, ◌%◌, List, [], ◌∷◌, ◌++◌, length, take, drop, get_or, Result, Ok, Err, arith, refl, sym, ◌∙◌, ap, append_assoc, length-append}
-use Rattle.std.proofs.lemmas.List.{take_at, drop_at, drop-drop}
+use Rattle.std.proofs.Common.{◌≡◌, ℕ, ◌/◌, ◌%◌, List, [], ◌∷◌, ◌++◌, length, take, drop, get_or, Result, Ok, Err, arith, refl, sym, ◌∙◌, ap, append_assoc, length-append}
+use Rattle.std.proofs.lemmas.List.{take_at, drop_at}
 use Rattle.arp.specs.declared.packet.ArpFault.{ArpFault}
 use Rattle.arp.specs.declared.packet.ArpFault.TheVariants.{UpperHeader}
 use Rattle.arp.specs.declared.packet.ArpPacket.{ArpPacket}

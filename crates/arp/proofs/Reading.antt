@@ -1,11 +1,11 @@
 -- The packet that is read is the one that the octets spell.
-use Rattle.std.proofs.Common.{◌≡◌, ℕ, zero, suc, ◌+◌, ◌*◌, ◌/◌, ◌%◌, ◌<◌, ◌≤◌, Bool, true, List, [], ◌∷◌, ◌++◌, length, take, drop, nat_eq, get_or, arith, refl, sym, ◌∙◌, ap, append_assoc, length-append}
+use Rattle.std.proofs.Common.{◌≡◌, ℕ, ◌/◌, ◌%◌, ◌<◌, ◌≤◌, true, List, [], ◌∷◌, ◌++◌, length, take, drop, nat_eq, get_or, arith, sym, ◌∙◌, ap, append_assoc}
 use Rattle.std.specs.List.{starts_with}
-use Rattle.std.proofs.lemmas.List.{take-append-drop, length-take-le, length-drop, take_at, drop_at, drop-drop}
+use Rattle.std.proofs.lemmas.List.{take-append-drop, length-take-le, length-drop, drop-drop}
 use Rattle.std.proofs.lemmas.Slice.Eq.{bytes_eq-Decides}
 use Rattle.byteorder.specs.Endian.{big_bytes, big_number}
 use Rattle.arp.specs.declared.packet.ArpPacket.{ArpPacket}
-use Rattle.arp.specs.Packet.{ethernet_and_ipv4, operation_number, spelling, HasWidths, Spells}
+use Rattle.arp.specs.Packet.{ethernet_and_ipv4, operation_number, spelling, Spells}
 
 -- octets are their parts, one behind the other
 pub parts : (octets : List ℕ)

@@ -1,9 +1,13 @@
 //! Laws of the definitions that the contracts of this crate cite: each is the contract of a function
 //! that does nothing.
 
-ghost use Rattle.std.specs.Prelude.{◌≡◌, ℕ, List, ◌++◌, length, take, Result, Ok};
+ghost use Rattle.std.specs.Prelude.{◌≡◌, ℕ, List, ◌++◌, ◌≤◌, length, take, filter, false, IsTrue, Some, Result, Ok};
+ghost use Rattle.ipv4.specs.declared.addr.Addr.{Addr};
 ghost use Rattle.arp.specs.declared.packet.ArpFault.{ArpFault};
 ghost use Rattle.arp.specs.declared.packet.ArpPacket.{ArpPacket};
+ghost use Rattle.arp.specs.declared.moment.Moment.{Moment};
+ghost use Rattle.arp.specs.Cache.{Cache, same_addr, is_live, is_pair_of, after_hear, look, live_notes, may_ask, after_ask};
+ghost use Rattle.arp.specs.Events.{Event, cache_after};
 ghost use Rattle.arp.specs.Packet.{spelling, HasWidths, Spells, IsParsed};
 
 /// Octets spell at most one packet.
@@ -27,4 +31,29 @@ pub fn emitted_parses()
 pub fn one_spelling()
     ensures len { (packet : ArpPacket) → HasWidths packet → length (spelling packet) ≡ 28 }
     ensures spelled { (packet : ArpPacket) (octets : List ℕ) → Spells packet octets → take 28 octets ≡ spelling packet }
+{}
+
+/// Whatever a cache hears, no address has two pairs.
+pub fn one_pair_an_address()
+    ensures { (events : List Event) (addr : Addr) → length (filter (is_pair_of addr) (cache_after events).pairs) ≤ 1 }
+{}
+
+/// Whatever happens to a cache, it keeps at most 64 pairs and 64 notes.
+pub fn few_are_kept()
+    ensures pairs { (events : List Event) → length (cache_after events).pairs ≤ 64 }
+    ensures notes { (events : List Event) → length (cache_after events).asked ≤ 64 }
+{}
+
+/// The sender of a packet for us is found as long as it is live, however full the table was.
+pub fn heard_is_found()
+    ensures { (cache : Cache) (now later : Moment) (packet : ArpPacket) (ours : Addr)
+        → IsTrue (same_addr packet.target_addr ours) → IsTrue (is_live 1200000 later now)
+        → look later packet.sender_addr (after_hear now packet ours cache) ≡ Some packet.sender_mac }
+{}
+
+/// While the note of a request is live, no other request for its address may go out.
+pub fn asked_once_a_second()
+    ensures { (cache : Cache) (now later : Moment) (addr : Addr)
+        → IsTrue (may_ask addr (live_notes now cache)) → IsTrue (is_live 1000 later now)
+        → may_ask addr (live_notes later (after_ask now addr cache)) ≡ false }
 {}

@@ -1,7 +1,6 @@
-use Rattle.std.proofs.Common.{rules, List, ap, ◌∙◌}
+use Rattle.std.proofs.Common.{rules, ap, ◌∙◌}
 use Rattle.arrayvec.proofs.ArrayVecLemmas.{filter-from_retain}
-use Rattle.arp.specs.declared.entry.Neighbour.{Neighbour}
-use Rattle.arp.specs.Cache.{Cache, is_live_pair, after_age}
+use Rattle.arp.specs.Cache.{is_live_pair, after_age}
 use Rattle.arp.proofs.cache.ArpCache.age.Goals as goal
 
 pub returns : goal.returns

@@ -1,8 +1,7 @@
-use Rattle.std.proofs.Common.{rules, ◌≡◌, List, sym, ◌∙◌, ap, true}
+use Rattle.std.proofs.Common.{rules, ◌∙◌, ap}
 use Rattle.arrayvec.proofs.ArrayVecLemmas.{filter-from_retain}
-use Rattle.arp.specs.declared.entry.Asked.{Asked}
 use Rattle.arp.specs.Cache.{is_live_note, live_notes, may_ask, after_ask}
-use Rattle.arp.proofs.Asking.{has_place, noted, unnoted}
+use Rattle.arp.proofs.Asking.{noted, unnoted}
 use Rattle.arp.proofs.cache.ArpCache.ask.Goals as goal
 
 pub returns-then-may_go_out-clause-cache : goal.returns-then-may_go_out-clause-cache
