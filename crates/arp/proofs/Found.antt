@@ -6,7 +6,7 @@ use Rattle.arp.specs.declared.entry.Asked.{Asked}
 use Rattle.arp.specs.declared.entry.Neighbour.{Neighbour}
 use Rattle.arp.specs.declared.moment.Moment.{Moment}
 use Rattle.arp.specs.declared.packet.ArpPacket.{ArpPacket}
-use Rattle.arp.specs.Cache.{Cache, same_addr, is_live, is_pair_of, is_note_of, is_live_pair, is_live_note, updated, longest_unheard, added, pairs_after, sender_of, after_hear, look, live_notes, may_ask, after_ask}
+use Rattle.arp.specs.Cache.{Cache, same_addr, is_live, is_pair_of, is_note_of, is_live_pair, is_live_note, updated, longest_unheard, added, pairs_after, sender_of, after_hear, look, live_notes, has_place_for, may_ask, asked_after}
 use Rattle.arp.proofs.History.{same_addr-refl}
 
 -- the pair of an address that is live
@@ -56,6 +56,7 @@ none_removed p (x ∷ xs) (suc i) none = either (none_removed p xs i) (p x) none
 
 found_after : (later : Moment) (sender : Neighbour) → is_live_pair later sender ≡ true → (pairs : List Neighbour)
     → find (is_found later sender.addr) (pairs_after sender true pairs) ≡ Some sender
+unfolding pairs_after
 found_after later sender live pairs = known (list_any (is_pair_of sender.addr) pairs) refl
   where
     room : (b : Bool) → list_any (is_pair_of sender.addr) pairs ≡ false → list_any (is_pair_of sender.addr) (cond b pairs (remove pairs (longest_unheard pairs))) ≡ false
@@ -89,16 +90,17 @@ still_noted later note live (first ∷ notes) = either (still_noted later note l
     either rest true = behind (is_note_of note.addr first) _ rest
     either rest false = rest
 
-refused_where_noted : (addr : Addr) (notes : List Asked) → list_any (is_note_of addr) notes ≡ true → may_ask addr notes ≡ false
+refused_where_noted : (addr : Addr) (notes : List Asked) → list_any (is_note_of addr) notes ≡ true → has_place_for addr notes ≡ false
 refused_where_noted addr notes e = ap (λ b. nat_lt (length notes) 64 && not b) e ∙ never (nat_lt (length notes) 64)
   where
     never : (b : Bool) → (b && false) ≡ false
     never true = refl
     never false = refl
 
-pub asked_once : (cache : Cache) (now later : Moment) (addr : Addr) → may_ask addr (live_notes now cache) ≡ true → is_live 1000 later now ≡ true
-    → may_ask addr (live_notes later (after_ask now addr cache)) ≡ false
-asked_once cache now later addr may live =
+pub asked_once : (now later : Moment) (addr : Addr) (asked : List Asked) → may_ask now addr asked ≡ true → is_live 1000 later now ≡ true
+    → may_ask later addr (asked_after now addr asked) ≡ false
+unfolding may_ask asked_after
+asked_once now later addr asked may live =
     let note : Asked = record { addr = addr; at = now } in
-    ap (λ b. may_ask addr (filter (is_live_note later) (cond b (live_notes now cache ++ note ∷ []) (live_notes now cache)))) may
-    ∙ refused_where_noted addr (filter (is_live_note later) (live_notes now cache ++ note ∷ [])) (still_noted later note live (live_notes now cache))
+    ap (λ b. has_place_for addr (filter (is_live_note later) (cond b (live_notes now asked ++ note ∷ []) (live_notes now asked)))) may
+    ∙ refused_where_noted addr (filter (is_live_note later) (live_notes now asked ++ note ∷ [])) (still_noted later note live (live_notes now asked))

@@ -7,9 +7,10 @@ use Rattle.std.proofs.lemmas.List.{get_or_default, length-map}
 use Rattle.std.proofs.lemmas.List.Edits.{length-remove}
 use Rattle.std.proofs.lemmas.Slice.Eq.{bytes_eq-Decides}
 use Rattle.ipv4.specs.declared.addr.Addr.{Addr}
+use Rattle.arp.specs.declared.entry.Asked.{Asked}
 use Rattle.arp.specs.declared.entry.Neighbour.{Neighbour}
 use Rattle.arp.specs.declared.moment.Moment.{Moment}
-use Rattle.arp.specs.Cache.{Cache, empty, same_addr, is_pair_of, is_live_pair, is_live_note, after_sender, updated, longest_unheard, added, pairs_after, sender_of, live_notes, may_ask, after_ask}
+use Rattle.arp.specs.Cache.{Cache, empty, same_addr, is_pair_of, is_live_pair, is_live_note, after_sender, updated, longest_unheard, added, pairs_after, sender_of, live_notes, has_place_for, asked_after}
 use Rattle.arp.specs.Events.{Event, after_event, cache_after}
 use Rattle.arp.specs.Events.Event.{Hear, Ask, Age}
 use Rattle.arp.proofs.Asking.{has_place}
@@ -50,6 +51,7 @@ one_more pairs base sender unknown each fewer addr = either (is_pair_of addr sen
         omega (arith, passing-append (is_pair_of addr) base (sender ∷ []), passing-cons (is_pair_of addr) sender [], ap one_if e, fewer (is_pair_of addr), each addr)
 
 hearing_keeps_one : (sender : Neighbour) (is_for_us : Bool) (pairs : List Neighbour) → IsOnePairEach pairs → IsOnePairEach (pairs_after sender is_for_us pairs)
+unfolding pairs_after
 hearing_keeps_one sender is_for_us pairs each = known (list_any (is_pair_of sender.addr) pairs) refl
   where
     room : (b : Bool) → (p : Neighbour → Bool) → passing p (cond b pairs (remove pairs (longest_unheard pairs))) ≤ passing p pairs
@@ -101,6 +103,7 @@ longest_unheard-within pairs some =
 -- At most 64 pairs, and at most 64 notes.
 
 hearing_keeps_few : (sender : Neighbour) (is_for_us : Bool) (pairs : List Neighbour) → length pairs ≤ 64 → length (pairs_after sender is_for_us pairs) ≤ 64
+unfolding pairs_after
 hearing_keeps_few sender is_for_us pairs few = known (list_any (is_pair_of sender.addr) pairs)
   where
     room : (b : Bool) → nat_lt (length pairs) 64 ≡ b → length (cond b pairs (remove pairs (longest_unheard pairs))) < 64
@@ -125,15 +128,15 @@ length-filter-le p (x ∷ xs) = omega (arith, passing-cons p x xs, at_most_one (
     at_most_one true = omega arith
     at_most_one false = omega arith
 
-asking_keeps_few : (now : Moment) (addr : Addr) (cache : Cache) → length cache.asked ≤ 64 → length (after_ask now addr cache).asked ≤ 64
-asking_keeps_few now addr cache few = either (may_ask addr (live_notes now cache)) refl
+asking_keeps_few : (now : Moment) (addr : Addr) (asked : List Asked) → length asked ≤ 64 → length (asked_after now addr asked) ≤ 64
+unfolding asked_after
+asking_keeps_few now addr asked few = either (has_place_for addr (live_notes now asked)) refl
   where
-    live : length (live_notes now cache) ≤ 64
-    live = omega (arith, few, length-filter-le (is_live_note now) cache.asked)
+    live : length (live_notes now asked) ≤ 64
+    live = omega (arith, few, length-filter-le (is_live_note now) asked)
 
-    either : (b : Bool) → may_ask addr (live_notes now cache) ≡ b
-        → length (cond b (live_notes now cache ++ record { addr = addr; at = now } ∷ []) (live_notes now cache)) ≤ 64
-    either true e = omega (arith, has_place addr (live_notes now cache) e, length-append (live_notes now cache) (record { addr = addr; at = now } ∷ []))
+    either : (b : Bool) → has_place_for addr (live_notes now asked) ≡ b → length (cond b (live_notes now asked ++ record { addr = addr; at = now } ∷ []) (live_notes now asked)) ≤ 64
+    either true e = omega (arith, has_place addr (live_notes now asked) e, length-append (live_notes now asked) (record { addr = addr; at = now } ∷ []))
     either false e = live
 
 -- Over every list of events.
@@ -152,7 +155,7 @@ event_keeps cache (Hear now packet ours) lawful = record {
 event_keeps cache (Ask now addr) lawful = record {
   one_pair_each = lawful.one_pair_each;
   few_pairs = lawful.few_pairs;
-  few_notes = asking_keeps_few now addr cache lawful.few_notes;
+  few_notes = asking_keeps_few now addr cache.asked lawful.few_notes;
 }
 event_keeps cache (Age now) lawful = record {
   one_pair_each = λ addr. omega (arith, passing-filter (is_pair_of addr) (is_live_pair now) cache.pairs, lawful.one_pair_each addr);

@@ -20,7 +20,7 @@ pub record Cache : Type 0 where
 abbrev pub empty : Cache
 empty = record { pairs = []; asked = [] }
 
--- a moment is live for so many milliseconds; the sum ends with the clock
+-- a moment is live for so many milliseconds: until their sum, which the end of the clock bounds, is reached
 abbrev pub is_live : ℕ → Moment → Moment → Bool
 is_live milliseconds now t = nat_lt now.0 (min (t.0 + milliseconds) (2 ^ 64 - 1))
 
@@ -73,8 +73,9 @@ longest_unheard pairs = position_or_len (is_longest_unheard pairs) pairs
 abbrev pub added : Neighbour → List Neighbour → List Neighbour
 added sender pairs = (if nat_lt (length pairs) 64 then pairs else remove pairs (longest_unheard pairs)) ++ sender ∷ []
 
--- a known address is updated, whomever the packet is for; another is added where the packet is for us
-abbrev pub pairs_after : Neighbour → Bool → List Neighbour → List Neighbour
+-- A known address is updated, whomever the packet is for; another is added where the packet is for us. A pair is known
+-- until it is aged or gives way, also where it is no longer live.
+unfoldable pub pairs_after : Neighbour → Bool → List Neighbour → List Neighbour
 pairs_after sender is_for_us pairs =
     if list_any (is_pair_of sender.addr) pairs then updated sender pairs else if is_for_us then added sender pairs else pairs
 
@@ -91,15 +92,21 @@ after_age now cache = record cache { pairs = filter (is_live_pair now) cache.pai
 
 -- Asking for an address.
 
--- fewer than 64 requests went out in the last second, and none for this address
-abbrev pub may_ask : Addr → List Asked → Bool
-may_ask addr live = nat_lt (length live) 64 && not (list_any (is_note_of addr) live)
+-- the notes that are still live
+abbrev pub live_notes : Moment → List Asked → List Asked
+live_notes now asked = filter (is_live_note now) asked
 
-abbrev pub live_notes : Moment → Cache → List Asked
-live_notes now cache = filter (is_live_note now) cache.asked
+-- fewer than 64 requests are noted, and none for this address
+abbrev pub has_place_for : Addr → List Asked → Bool
+has_place_for addr notes = nat_lt (length notes) 64 && not (list_any (is_note_of addr) notes)
 
--- the notes that are no longer live are dropped, and a request that goes out is noted
+unfoldable pub may_ask : Moment → Addr → List Asked → Bool
+may_ask now addr asked = has_place_for addr (live_notes now asked)
+
+-- the notes that are no longer live are dropped, and a request that may go out is noted
+unfoldable pub asked_after : Moment → Addr → List Asked → List Asked
+asked_after now addr asked =
+    let live = live_notes now asked in if has_place_for addr live then live ++ record { addr = addr; at = now } ∷ [] else live
+
 abbrev pub after_ask : Moment → Addr → Cache → Cache
-after_ask now addr cache = let live = live_notes now cache in record cache {
-  asked = if may_ask addr live then live ++ record { addr = addr; at = now } ∷ [] else live;
-}
+after_ask now addr cache = record cache { asked = asked_after now addr cache.asked }

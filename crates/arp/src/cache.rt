@@ -2,7 +2,7 @@
 
 ghost use Rattle.std.specs.Prelude.{◌≡◌, ◌<◌, length};
 ghost use Rattle.std.specs.List.{list_any};
-ghost use Rattle.arp.specs.Cache.{empty, is_pair_of, is_note_of, updated, added, longest_unheard, pairs_after, is_request_for, after_hear, look, after_age, after_ask, may_ask, live_notes};
+ghost use Rattle.arp.specs.Cache.{empty, is_pair_of, is_note_of, updated, added, longest_unheard, pairs_after, is_request_for, after_hear, look, after_age, after_ask, may_ask, has_place_for};
 
 use crate::entry::{Asked, Neighbour};
 use crate::moment::Moment;
@@ -44,9 +44,9 @@ impl ArpCache {
         }
     }
 
-    /// Hears a packet: an address that is kept takes the sender's MAC; where the packet is for `ours`, an
-    /// address that isn't kept is added, and of 64 pairs the longest unheard gives way (RFC 826). Whether a
-    /// reply is owed: the packet is a request for `ours`.
+    /// Learns from a packet (RFC 826): an address that is kept, live or not, takes the sender's MAC; one that
+    /// is not is added where the packet is for `ours`, and of 64 pairs the longest unheard, of equals the first
+    /// added, gives way. True where a reply is owed: the packet is a request for `ours`.
     pub fn hear(&mut self, now: Moment, packet: &ArpPacket, ours: Addr) -> bool
         ensures cache { self.new ≡ after_hear now packet.now ours self.old }
         ensures answer { result ≡ is_request_for ours packet.now }
@@ -57,7 +57,7 @@ impl ArpCache {
         is_for_us && matches!(packet.operation, Operation::Request)
     }
 
-    /// The MAC of an address, where it was heard in the last 20 minutes.
+    /// The MAC of an address, where it is kept and was heard in the last 20 minutes.
     pub fn look(&self, now: Moment, addr: Addr) -> Option<Mac>
         ensures { result ≡ look now addr self.now }
     {
@@ -67,14 +67,14 @@ impl ArpCache {
             .map(|pair| pair.mac)
     }
 
-    /// Whether a request for an address may go out now, and if so notes it: in a second one an address, and 64 in
-    /// all (RFC 1122 section 2.3.2.1).
+    /// Whether a request for an address may go out now; one that may is noted. In a second one may for each
+    /// address, and 64 in all (RFC 1122 section 2.3.2.1).
     pub fn ask(&mut self, now: Moment, addr: Addr) -> bool
         ensures cache { self.new ≡ after_ask now addr self.old }
-        ensures answer { result ≡ may_ask addr (live_notes now self.old) }
+        ensures answer { result ≡ may_ask now addr self.old.asked }
     {
         self.asked.retain(|note| note.is_live(now));
-        let may_go_out = may_ask(&self.asked, addr);
+        let may_go_out = has_place_for(&self.asked, addr);
         if may_go_out {
             self.asked.push(Asked { addr, at: now });
         }
@@ -90,6 +90,7 @@ impl ArpCache {
 }
 
 /// Learns the sender of a packet: a known address is updated, and another is added where the packet is for us.
+#[tactic(auto, unfolding(crate::specs::Cache::pairs_after))]
 fn learn(pairs: &mut ArrayVec<Neighbour, PAIRS>, sender: Neighbour, is_for_us: bool)
     ensures { pairs.new.items ≡ pairs_after sender is_for_us pairs.old.items }
 {
@@ -142,8 +143,8 @@ fn longest_unheard(pairs: &[Neighbour]) -> usize
 }
 
 /// Whether a request for an address may go out, where these went out in the last second.
-fn may_ask(asked: &[Asked], addr: Addr) -> bool
-    ensures { result ≡ may_ask addr asked.now }
+fn has_place_for(asked: &[Asked], addr: Addr) -> bool
+    ensures { result ≡ has_place_for addr asked.now }
 {
     asked.len() < REQUESTS && !was_asked(asked, addr)
 }

@@ -5,8 +5,9 @@ ghost use Rattle.std.specs.Prelude.{◌≡◌, ℕ, List, ◌++◌, ◌≤◌, l
 ghost use Rattle.ipv4.specs.declared.addr.Addr.{Addr};
 ghost use Rattle.arp.specs.declared.packet.ArpFault.{ArpFault};
 ghost use Rattle.arp.specs.declared.packet.ArpPacket.{ArpPacket};
+ghost use Rattle.arp.specs.declared.entry.Asked.{Asked};
 ghost use Rattle.arp.specs.declared.moment.Moment.{Moment};
-ghost use Rattle.arp.specs.Cache.{Cache, same_addr, is_live, is_pair_of, after_hear, look, live_notes, may_ask, after_ask};
+ghost use Rattle.arp.specs.Cache.{Cache, same_addr, is_live, is_pair_of, after_hear, look, may_ask, asked_after};
 ghost use Rattle.arp.specs.Events.{Event, cache_after};
 ghost use Rattle.arp.specs.Packet.{spelling, HasWidths, Spells, IsParsed};
 
@@ -53,7 +54,7 @@ pub fn heard_is_found()
 
 /// While the note of a request is live, no other request for its address may go out.
 pub fn asked_once_a_second()
-    ensures { (cache : Cache) (now later : Moment) (addr : Addr)
-        → IsTrue (may_ask addr (live_notes now cache)) → IsTrue (is_live 1000 later now)
-        → may_ask addr (live_notes later (after_ask now addr cache)) ≡ false }
+    ensures { (now later : Moment) (addr : Addr) (asked : List Asked)
+        → IsTrue (may_ask now addr asked) → IsTrue (is_live 1000 later now)
+        → may_ask later addr (asked_after now addr asked) ≡ false }
 {}

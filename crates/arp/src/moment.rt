@@ -1,3 +1,5 @@
+//! Moments of a clock, and how long they are live.
+
 ghost use Rattle.std.specs.Prelude.{◌≡◌};
 ghost use Rattle.arp.specs.Cache.{is_live};
 
