@@ -1,0 +1,9 @@
+pub mod Asking
+pub mod Counts
+pub mod Found
+pub mod Fronts
+pub mod History
+pub mod OnePacket
+pub mod Reading
+pub mod Spelling
+pub mod Unheard

@@ -1,0 +1,9 @@
+use Rattle.std.proofs.Common.{rules, ap, ◌∙◌}
+use Rattle.arrayvec.proofs.ArrayVecLemmas.{filter-from_retain}
+use Rattle.arp.specs.Cache.{is_live_pair, after_age}
+use Rattle.arp.proofs.cache.ArpCache.age.Goals as goal
+
+pub returns : goal.returns
+returns c =
+    ap (λ pairs. record { pairs = pairs; asked = c.self.inside.asked.items }) (filter-from_retain _ (is_live_pair c.args.now) _ (λ x b f' y called. search rules) _ _ c.retain.ensures.filtered)
+    ∙ ap (after_age c.args.now) c.self.view_is

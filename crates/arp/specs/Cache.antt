@@ -1,0 +1,112 @@
+-- What a host keeps of the packets that it heard, and of the requests that it sent (RFC 826, RFC 1122 section 2.3.2).
+use Rattle.std.specs.Prelude.{ℕ, ◌+◌, ◌-◌, ◌^◌, min, Bool, true, false, not, ◌&&◌, nat_eq, nat_lt, nat_le, if◌then◌else◌, List, [], ◌∷◌, ◌++◌, length, map, filter, find, remove, Option, option_map}
+use Rattle.std.specs.List.{list_any, list_all, position_or_len}
+use Rattle.std.specs.Cmp.Lexicographic.{pointwise}
+use Rattle.ether.specs.declared.mac.Mac.{Mac}
+use Rattle.ipv4.specs.declared.addr.Addr.{Addr}
+use Rattle.arp.specs.declared.entry.Asked.{Asked}
+use Rattle.arp.specs.declared.entry.Neighbour.{Neighbour}
+use Rattle.arp.specs.declared.moment.Moment.{Moment}
+use Rattle.arp.specs.declared.packet.ArpPacket.{ArpPacket}
+use Rattle.arp.specs.declared.packet.Operation.{Operation}
+use Rattle.arp.specs.declared.packet.Operation.TheVariants.{Request, Reply}
+
+-- the pairs of an address and a MAC, in the order in which they were added, and the addresses that were asked for
+pub record Cache : Type 0 where
+  pub pairs : List Neighbour
+  pub asked : List Asked
+
+-- nothing was heard, and nothing was asked
+abbrev pub empty : Cache
+empty = record { pairs = []; asked = [] }
+
+-- a moment is live for so many milliseconds: until their sum, which the end of the clock bounds, is reached
+abbrev pub is_live : ℕ → Moment → Moment → Bool
+is_live milliseconds now t = nat_lt now.0 (min (t.0 + milliseconds) (2 ^ 64 - 1))
+
+-- octet by octet
+abbrev pub same_addr : Addr → Addr → Bool
+same_addr a b = pointwise nat_eq a.0 b.0
+
+-- a pair is live for twenty minutes after it was heard, and a note for a second after the request
+abbrev pub is_live_pair : Moment → Neighbour → Bool
+is_live_pair now pair = is_live 1200000 now pair.heard
+
+abbrev pub is_live_note : Moment → Asked → Bool
+is_live_note now note = is_live 1000 now note.at
+
+abbrev pub is_pair_of : Addr → Neighbour → Bool
+is_pair_of addr pair = same_addr pair.addr addr
+
+abbrev pub is_note_of : Addr → Asked → Bool
+is_note_of addr note = same_addr note.addr addr
+
+-- Hearing a packet.
+
+abbrev pub is_request : Operation → Bool
+is_request Request = true
+is_request Reply = false
+
+abbrev pub is_request_for : Addr → ArpPacket → Bool
+is_request_for ours p = same_addr p.target_addr ours && is_request p.operation
+
+-- the sender's pair, heard now
+abbrev pub sender_of : Moment → ArpPacket → Neighbour
+sender_of now p = record { addr = p.sender_addr; mac = p.sender_mac; heard = now }
+
+-- the pair of the sender's address becomes the one that was heard now; every other pair stays
+abbrev pub after_sender : Neighbour → Neighbour → Neighbour
+after_sender sender pair = if is_pair_of sender.addr pair then sender else pair
+
+abbrev pub updated : Neighbour → List Neighbour → List Neighbour
+updated sender pairs = map (after_sender sender) pairs
+
+-- no pair was heard before this one
+abbrev pub is_longest_unheard : List Neighbour → Neighbour → Bool
+is_longest_unheard pairs pair = list_all (λ other. nat_le pair.heard.0 other.heard.0) pairs
+
+-- the place of the longest unheard pair; of equals, of the one that was added first
+abbrev pub longest_unheard : List Neighbour → ℕ
+longest_unheard pairs = position_or_len (is_longest_unheard pairs) pairs
+
+-- the last place is the new pair's; where 64 are kept, the longest unheard gives way
+abbrev pub added : Neighbour → List Neighbour → List Neighbour
+added sender pairs = (if nat_lt (length pairs) 64 then pairs else remove pairs (longest_unheard pairs)) ++ sender ∷ []
+
+-- A known address is updated, whomever the packet is for; another is added where the packet is for us. A pair is known
+-- until it is aged or gives way, also where it is no longer live.
+unfoldable pub pairs_after : Neighbour → Bool → List Neighbour → List Neighbour
+pairs_after sender is_for_us pairs =
+    if list_any (is_pair_of sender.addr) pairs then updated sender pairs else if is_for_us then added sender pairs else pairs
+
+abbrev pub after_hear : Moment → ArpPacket → Addr → Cache → Cache
+after_hear now p ours cache = record cache { pairs = pairs_after (sender_of now p) (same_addr p.target_addr ours) cache.pairs }
+
+-- Looking an address up, and forgetting what is no longer live.
+
+abbrev pub look : Moment → Addr → Cache → Option Mac
+look now addr cache = option_map (λ pair. pair.mac) (find (λ pair. is_pair_of addr pair && is_live_pair now pair) cache.pairs)
+
+abbrev pub after_age : Moment → Cache → Cache
+after_age now cache = record cache { pairs = filter (is_live_pair now) cache.pairs }
+
+-- Asking for an address.
+
+-- the notes that are still live
+abbrev pub live_notes : Moment → List Asked → List Asked
+live_notes now asked = filter (is_live_note now) asked
+
+-- fewer than 64 requests are noted, and none for this address
+abbrev pub has_place_for : Addr → List Asked → Bool
+has_place_for addr notes = nat_lt (length notes) 64 && not (list_any (is_note_of addr) notes)
+
+unfoldable pub may_ask : Moment → Addr → List Asked → Bool
+may_ask now addr asked = has_place_for addr (live_notes now asked)
+
+-- the notes that are no longer live are dropped, and a request that may go out is noted
+unfoldable pub asked_after : Moment → Addr → List Asked → List Asked
+asked_after now addr asked =
+    let live = live_notes now asked in if has_place_for addr live then live ++ record { addr = addr; at = now } ∷ [] else live
+
+abbrev pub after_ask : Moment → Addr → Cache → Cache
+after_ask now addr cache = record cache { asked = asked_after now addr cache.asked }

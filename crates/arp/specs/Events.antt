@@ -1,0 +1,23 @@
+-- What happens to a cache, and what is left of it.
+use Rattle.std.specs.Prelude.{List, fold}
+use Rattle.ipv4.specs.declared.addr.Addr.{Addr}
+use Rattle.arp.specs.declared.moment.Moment.{Moment}
+use Rattle.arp.specs.declared.packet.ArpPacket.{ArpPacket}
+use Rattle.arp.specs.Cache.{Cache, empty, after_hear, after_age, after_ask}
+
+pub data Event : Type 0 where
+  -- a packet was heard by a host with this address
+  Hear : Moment → ArpPacket → Addr → Event
+  -- a request for this address was asked for
+  Ask : Moment → Addr → Event
+  -- the table was aged
+  Age : Moment → Event
+
+abbrev pub after_event : Cache → Event → Cache
+after_event cache (Hear now packet ours) = after_hear now packet ours cache
+after_event cache (Ask now addr) = after_ask now addr cache
+after_event cache (Age now) = after_age now cache
+
+-- the cache of a host to which these events came, the first one first
+abbrev pub cache_after : List Event → Cache
+cache_after events = fold after_event empty events

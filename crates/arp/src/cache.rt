@@ -1,0 +1,157 @@
+//! What a host knows of its neighbours.
+
+ghost use Rattle.std.specs.Prelude.{◌≡◌, ◌<◌, length};
+ghost use Rattle.std.specs.List.{list_any};
+ghost use Rattle.arp.specs.Cache.{empty, is_pair_of, is_note_of, updated, added, longest_unheard, pairs_after, is_request_for, after_hear, look, after_age, after_ask, may_ask, has_place_for};
+
+use crate::entry::{Asked, Neighbour};
+use crate::moment::Moment;
+use crate::packet::{ArpPacket, Operation};
+use arrayvec::ArrayVec;
+use ether::Mac;
+use ipv4::Addr;
+use std::marker::Model;
+
+/// How many pairs are kept at most.
+const PAIRS: usize = 64;
+
+/// How many requests go out in a second at most.
+const REQUESTS: usize = 64;
+
+/// The MACs that were heard for addresses, and the addresses that were asked for. No call takes memory.
+#[derive(Drop)]
+pub struct ArpCache {
+    pairs: ArrayVec<Neighbour, PAIRS>,
+    asked: ArrayVec<Asked, REQUESTS>,
+}
+
+impl Model for ArpCache {
+    ghost use Rattle.arp.specs.Cache.{Cache};
+
+    ghost Value = { Cache };
+
+    ghost view = { λ c. record { pairs = c.pairs.items; asked = c.asked.items } };
+}
+
+impl ArpCache {
+    /// A cache of a host that heard nothing, and asked for nothing.
+    pub fn new() -> ArpCache
+        ensures { result ≡ empty }
+    {
+        ArpCache {
+            pairs: ArrayVec::new(),
+            asked: ArrayVec::new(),
+        }
+    }
+
+    /// Learns from a packet (RFC 826): an address that is kept, live or not, takes the sender's MAC; one that
+    /// is not is added where the packet is for `ours`, and of 64 pairs the longest unheard, of equals the first
+    /// added, gives way. True where a reply is owed: the packet is a request for `ours`.
+    pub fn hear(&mut self, now: Moment, packet: &ArpPacket, ours: Addr) -> bool
+        ensures cache { self.new ≡ after_hear now packet.now ours self.old }
+        ensures answer { result ≡ is_request_for ours packet.now }
+    {
+        let sender = Neighbour::sender_of(now, packet);
+        let is_for_us = packet.target_addr == ours;
+        learn(&mut self.pairs, sender, is_for_us);
+        is_for_us && matches!(packet.operation, Operation::Request)
+    }
+
+    /// The MAC of an address, where it is kept and was heard in the last 20 minutes.
+    pub fn look(&self, now: Moment, addr: Addr) -> Option<Mac>
+        ensures { result ≡ look now addr self.now }
+    {
+        self.pairs
+            .iter()
+            .find(|pair| pair.addr == addr && pair.is_live(now))
+            .map(|pair| pair.mac)
+    }
+
+    /// Whether a request for an address may go out now; one that may is noted. In a second one may for each
+    /// address, and 64 in all (RFC 1122 section 2.3.2.1).
+    pub fn ask(&mut self, now: Moment, addr: Addr) -> bool
+        ensures cache { self.new ≡ after_ask now addr self.old }
+        ensures answer { result ≡ may_ask now addr self.old.asked }
+    {
+        self.asked.retain(|note| note.is_live(now));
+        let may_go_out = has_place_for(&self.asked, addr);
+        if may_go_out {
+            self.asked.push(Asked { addr, at: now });
+        }
+        may_go_out
+    }
+
+    /// Forgets the pairs that were not heard in the last 20 minutes (RFC 1122 section 2.3.2.1).
+    pub fn age(&mut self, now: Moment)
+        ensures { self.new ≡ after_age now self.old }
+    {
+        self.pairs.retain(|pair| pair.is_live(now));
+    }
+}
+
+/// Learns the sender of a packet: a known address is updated, and another is added where the packet is for us.
+#[tactic(auto, unfolding(crate::specs::Cache::pairs_after))]
+fn learn(pairs: &mut ArrayVec<Neighbour, PAIRS>, sender: Neighbour, is_for_us: bool)
+    ensures { pairs.new.items ≡ pairs_after sender is_for_us pairs.old.items }
+{
+    if is_known(pairs, sender.addr) {
+        update(pairs, sender);
+    } else if is_for_us {
+        add(pairs, sender);
+    }
+}
+
+/// Whether there is a pair of an address.
+fn is_known(pairs: &[Neighbour], addr: Addr) -> bool
+    ensures { result ≡ list_any (is_pair_of addr) pairs.now }
+{
+    pairs.iter().any(|pair| pair.addr == addr)
+}
+
+/// Puts the sender in the place of the pair with its address.
+fn update(pairs: &mut [Neighbour], sender: Neighbour)
+    ensures { pairs.new ≡ updated sender pairs.old }
+{
+    for pair in pairs.iter_mut() {
+        pair.hear(sender);
+    }
+}
+
+/// Adds the sender's pair. In a full table the longest unheard pair gives way.
+fn add(pairs: &mut ArrayVec<Neighbour, PAIRS>, sender: Neighbour)
+    ensures { pairs.new.items ≡ added sender pairs.old.items }
+{
+    if pairs.is_full() {
+        pairs.remove(longest_unheard(pairs));
+    }
+    pairs.push(sender);
+}
+
+/// The place of the pair that was not heard for the longest time; of equals, of the one that was added first.
+fn longest_unheard(pairs: &[Neighbour]) -> usize
+    requires { 0 < length pairs.now }
+    ensures place { result ≡ longest_unheard pairs.now }
+    ensures within { result < length pairs.now }
+{
+    let mut longest = 0;
+    for (place, pair) in pairs.iter().enumerate() {
+        if pair.heard < pairs[longest].heard {
+            longest = place;
+        }
+    }
+    longest
+}
+
+/// Whether a request for an address may go out, where these went out in the last second.
+fn has_place_for(asked: &[Asked], addr: Addr) -> bool
+    ensures { result ≡ has_place_for addr asked.now }
+{
+    asked.len() < REQUESTS && !was_asked(asked, addr)
+}
+
+/// Whether one of these requests was for an address.
+fn was_asked(asked: &[Asked], addr: Addr) -> bool
+    ensures { result ≡ list_any (is_note_of addr) asked.now }
+{
+    asked.iter().any(|note| note.addr == addr)
+}

@@ -1,0 +1,89 @@
+//! What a cache keeps.
+
+ghost use Rattle.std.specs.Prelude.{◌≡◌};
+ghost use Rattle.arp.specs.Cache.{is_live_pair, is_live_note, sender_of, after_sender};
+
+use crate::moment::Moment;
+use crate::packet::ArpPacket;
+use ether::Mac;
+use ipv4::Addr;
+
+/// How long a pair is live after it was heard, in milliseconds (RFC 1122 section 2.3.2.1).
+const PAIR_LIFE: u64 = 1_200_000;
+
+/// How long no second request for an address goes out, in milliseconds (RFC 1122 section 2.3.2.1).
+const NOTE_LIFE: u64 = 1_000;
+
+/// An address, the MAC that was heard for it, and when it was heard last.
+#[derive(Clone, Copy, Debug, PartialEq, Eq)]
+pub(crate) struct Neighbour {
+    pub(crate) addr: Addr,
+    pub(crate) mac: Mac,
+    pub(crate) heard: Moment,
+}
+
+impl Neighbour {
+    /// The sender of a packet, heard now.
+    pub(crate) fn sender_of(now: Moment, packet: &ArpPacket) -> Neighbour
+        ensures { result ≡ sender_of now packet.now }
+    {
+        Neighbour {
+            addr: packet.sender_addr,
+            mac: packet.sender_mac,
+            heard: now,
+        }
+    }
+
+    /// Becomes the sender where it has the sender's address, and else stays.
+    pub(crate) fn hear(&mut self, sender: Neighbour)
+        ensures { self.new ≡ after_sender sender self.old }
+    {
+        if self.addr == sender.addr {
+            *self = sender;
+        }
+    }
+
+    /// Whether it was heard in the last 20 minutes.
+    pub(crate) fn is_live(&self, now: Moment) -> bool
+        ensures { result ≡ is_live_pair now self.now }
+    {
+        self.heard.is_live(PAIR_LIFE, now)
+    }
+}
+
+impl Default for Neighbour {
+    /// What stands in a place that is not in use.
+    fn default() -> Neighbour {
+        Neighbour {
+            addr: Addr([0; 4]),
+            mac: Mac([0; 6]),
+            heard: Moment(0),
+        }
+    }
+}
+
+/// An address that a request went out for, and when.
+#[derive(Clone, Copy, Debug, PartialEq, Eq)]
+pub(crate) struct Asked {
+    pub(crate) addr: Addr,
+    pub(crate) at: Moment,
+}
+
+impl Asked {
+    /// Whether the request went out in the last second.
+    pub(crate) fn is_live(&self, now: Moment) -> bool
+        ensures { result ≡ is_live_note now self.now }
+    {
+        self.at.is_live(NOTE_LIFE, now)
+    }
+}
+
+impl Default for Asked {
+    /// What stands in a place that is not in use.
+    fn default() -> Asked {
+        Asked {
+            addr: Addr([0; 4]),
+            at: Moment(0),
+        }
+    }
+}

@@ -1,0 +1,60 @@
+//! Laws of the definitions that the contracts of this crate cite: each is the contract of a function
+//! that does nothing.
+
+ghost use Rattle.std.specs.Prelude.{◌≡◌, ℕ, List, ◌++◌, ◌≤◌, length, take, filter, false, IsTrue, Some, Result, Ok};
+ghost use Rattle.ipv4.specs.declared.addr.Addr.{Addr};
+ghost use Rattle.arp.specs.declared.packet.ArpFault.{ArpFault};
+ghost use Rattle.arp.specs.declared.packet.ArpPacket.{ArpPacket};
+ghost use Rattle.arp.specs.declared.entry.Asked.{Asked};
+ghost use Rattle.arp.specs.declared.moment.Moment.{Moment};
+ghost use Rattle.arp.specs.Cache.{Cache, same_addr, is_live, is_pair_of, after_hear, look, may_ask, asked_after};
+ghost use Rattle.arp.specs.Events.{Event, cache_after};
+ghost use Rattle.arp.specs.Packet.{spelling, HasWidths, Spells, IsParsed};
+
+/// Octets spell at most one packet.
+pub fn one_packet()
+    ensures { (first second : ArpPacket) (octets : List ℕ) → Spells first octets → Spells second octets → first ≡ second }
+{}
+
+/// For all octets there is one answer that `ArpPacket::parse` may give.
+pub fn one_answer()
+    ensures { (octets : List ℕ) (first second : Result ArpPacket ArpFault)
+        → IsParsed octets first → IsParsed octets second → first ≡ second }
+{}
+
+/// What `ArpPacket::emit` writes parses to its packet, whatever stands behind it.
+pub fn emitted_parses()
+    ensures { (packet : ArpPacket) (padding : List ℕ) (answer : Result ArpPacket ArpFault)
+        → HasWidths packet → IsParsed (spelling packet ++ padding) answer → answer ≡ Ok packet }
+{}
+
+/// A packet has one spelling, of 28 octets: octets that spell it begin with that, and the rest is padding.
+pub fn one_spelling()
+    ensures len { (packet : ArpPacket) → HasWidths packet → length (spelling packet) ≡ 28 }
+    ensures spelled { (packet : ArpPacket) (octets : List ℕ) → Spells packet octets → take 28 octets ≡ spelling packet }
+{}
+
+/// Whatever a cache hears, no address has two pairs.
+pub fn one_pair_an_address()
+    ensures { (events : List Event) (addr : Addr) → length (filter (is_pair_of addr) (cache_after events).pairs) ≤ 1 }
+{}
+
+/// Whatever happens to a cache, it keeps at most 64 pairs and 64 notes.
+pub fn few_are_kept()
+    ensures pairs { (events : List Event) → length (cache_after events).pairs ≤ 64 }
+    ensures notes { (events : List Event) → length (cache_after events).asked ≤ 64 }
+{}
+
+/// The sender of a packet for us is found as long as it is live, however full the table was.
+pub fn heard_is_found()
+    ensures { (cache : Cache) (now later : Moment) (packet : ArpPacket) (ours : Addr)
+        → IsTrue (same_addr packet.target_addr ours) → IsTrue (is_live 1200000 later now)
+        → look later packet.sender_addr (after_hear now packet ours cache) ≡ Some packet.sender_mac }
+{}
+
+/// While the note of a request is live, no other request for its address may go out.
+pub fn asked_once_a_second()
+    ensures { (now later : Moment) (addr : Addr) (asked : List Asked)
+        → IsTrue (may_ask now addr asked) → IsTrue (is_live 1000 later now)
+        → may_ask later addr (asked_after now addr asked) ≡ false }
+{}
