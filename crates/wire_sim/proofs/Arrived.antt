@@ -10,16 +10,22 @@ use Rattle.wire_sim.specs.Dispatch.{Arrival, Becomes, Opens, local_end, peer_end
 use Rattle.wire_sim.specs.Entries.{is_between, is_listening_at, is_waiting_at, backlog_of, arrived, fate_of, with_role}
 use Rattle.wire_sim.specs.HostView.{HostView}
 use Rattle.wire_sim.specs.Lists.{remove_first}
-use Rattle.wire_sim.specs.Places.{kept_by}
 use Rattle.wire_sim.proofs.Firsts.{refill_set, remove_first-position, remove-set}
 use Rattle.wire_sim.proofs.Written.{entry_written}
 
 -- the entry of the segment's connection was written, and taken out where its connection is gone
-pub entry_settled : (v h : HostView) (p : Entry → Bool) (s : Segment) (zs : List Entry) (i : ℕ) (x y : Entry) (r : Fate) → v ≡ h → position p h.entries ≡ Some i → zs ≡ v.entries → x ≡ get_or zs i x → y ≡ with_role (arrived s) (get_or zs i x) → record v { entries = kept_by r i (refill (length v.entries) v.entries (set zs i y)) } ≡ record h { entries = settled r p s h.entries }
-entry_settled v h p s zs i x y Stays same place lent at written = entry_written v h p (with_role (arrived s)) zs i x y same place lent at written
-entry_settled v h p s zs i x y Removed same place lent at written =
-    let kept : remove (refill (length v.entries) v.entries (set zs i y)) i ≡ remove_first p h.entries =
-    ap (λ ws. remove ws i) (refill_set v.entries zs i y lent)
+-- the table is as it was where the connection stays, and lacks the entry at the place where it is gone
+pub record IsSettled (r : Fate) (i : ℕ) (old new : List Entry) : Type 0 where
+  pub stays : r ≡ Stays → new ≡ old
+  pub removed : r ≡ Removed → new ≡ remove old i
+
+pub entry_settled : (v h : HostView) (p : Entry → Bool) (s : Segment) (zs ws : List Entry) (i : ℕ) (x y : Entry) (r : Fate) → v ≡ h → position p h.entries ≡ Some i → zs ≡ v.entries → x ≡ get_or zs i x → y ≡ with_role (arrived s) (get_or zs i x)
+    → IsSettled r i (refill (length v.entries) v.entries (set zs i y)) ws → record v { entries = ws } ≡ record h { entries = settled r p s h.entries }
+entry_settled v h p s zs ws i x y Stays same place lent at written is = ap (λ l. let w : HostView = record v { entries = l } in w) (is.stays refl) ∙ entry_written v h p (with_role (arrived s)) zs i x y same place lent at written
+entry_settled v h p s zs ws i x y Removed same place lent at written is =
+    let kept : ws ≡ remove_first p h.entries =
+    is.removed refl
+    ∙ ap (λ ws. remove ws i) (refill_set v.entries zs i y lent)
     ∙ remove-set v.entries i y
     ∙ ap (λ (w : HostView). remove w.entries i) same
     ∙ sym (remove_first-position p h.entries i x place)

@@ -56,6 +56,30 @@ or_none_right : (a b : Bool) → (a || b) ≡ false → b ≡ false
 or_none_right true b e = cc
 or_none_right false b e = e
 
+-- A segment that came in time from the other end never takes a connection out: the SYN that would is far behind what was received.
+pub fate-stays : (cap limit : ℕ) → Near cap limit → (p : Pairing) (v : View) (e : Emission) → p.own.connection ≡ Some v → IsSound v → IsAmong e p.received → IsTimely limit p e → Shown cap limit p → fate v e.segment ≡ Stays
+fate-stays cap limit small p v e is sound among timely h =
+    let s = e.segment in
+    let k = connected p.own.connection v h.into h.from is h.own.connection in
+    let q = h.received e among in
+    let recent = subst (λ l. length l < e.own_written + limit) (sym h.other.written) timely.other in
+    stays_by (not (s.flags.rst || s.flags.fin) && not (is_syn_sent v.state) && ends_by_syn v s) (λ t.
+    let both = and_left (not (s.flags.rst || s.flags.fin)) (not (is_syn_sent v.state)) (and_left (not (s.flags.rst || s.flags.fin) && not (is_syn_sent v.state)) (ends_by_syn v s) t) in
+    let other = and_right (not (s.flags.rst || s.flags.fin)) (not (is_syn_sent v.state)) (and_left (not (s.flags.rst || s.flags.fin) && not (is_syn_sent v.state)) (ends_by_syn v s) t) in
+    let ends = and_right (not (s.flags.rst || s.flags.fin) && not (is_syn_sent v.state)) (ends_by_syn v s) t in
+    let fin = or_none_right s.flags.rst s.flags.fin (not_true (s.flags.rst || s.flags.fin) both) in
+    let past_syn = not_true (is_syn_sent v.state) other in
+    let three = and_left (is_accepted v s && s.flags.syn && v.passive) (is_syn_received v.state) ends in
+    let two = and_left (is_accepted v s && s.flags.syn) v.passive three in
+    let accepted = and_left (is_accepted v s) s.flags.syn two in
+    let syn = and_right (is_accepted v s) s.flags.syn two in
+    let refused = syn_refused cap limit small v s h.from e.own_written sound past_syn syn fin (holds cap limit small h.from h.runs_from) k.receives q.frame recent in
+    let bad : true ≡ false = sym accepted ∙ refused in cc)
+  where
+    stays_by : (ends : Bool) → (ends ≡ true → ⊥) → (if ends then Removed else Stays) ≡ Stays
+    stays_by true never = absurd (never refl)
+    stays_by false never = refl
+
 pub moves-hears : (cap limit : ℕ) → Near cap limit → (p : Pairing) (v : View) (e : Emission) → p.own.connection ≡ Some v → IsSound v → IsAmong e p.received → IsTimely limit p e → Shown cap limit p
     → Shown cap limit (record p { own = record p.own { connection = remains (fate v e.segment) (after_segment v e.segment) } })
 moves-hears cap limit small p v e is sound among timely h =
@@ -73,19 +97,7 @@ moves-hears cap limit small p v e is sound among timely h =
     let f = arrives cap limit v s h.into h.from sound q.width k.sends k.receives came in
     let into' : Channel = record h.into { sending = f.into } in
     let from' : Channel = record h.from { readable = f.readable; receiving = f.from } in
-    let stays : fate v s ≡ Stays =
-    stays_by (not (s.flags.rst || s.flags.fin) && not (is_syn_sent v.state) && ends_by_syn v s) (λ t.
-    let both = and_left (not (s.flags.rst || s.flags.fin)) (not (is_syn_sent v.state)) (and_left (not (s.flags.rst || s.flags.fin) && not (is_syn_sent v.state)) (ends_by_syn v s) t) in
-    let other = and_right (not (s.flags.rst || s.flags.fin)) (not (is_syn_sent v.state)) (and_left (not (s.flags.rst || s.flags.fin) && not (is_syn_sent v.state)) (ends_by_syn v s) t) in
-    let ends = and_right (not (s.flags.rst || s.flags.fin) && not (is_syn_sent v.state)) (ends_by_syn v s) t in
-    let fin = or_none_right s.flags.rst s.flags.fin (not_true (s.flags.rst || s.flags.fin) both) in
-    let past_syn = not_true (is_syn_sent v.state) other in
-    let three = and_left (is_accepted v s && s.flags.syn && v.passive) (is_syn_received v.state) ends in
-    let two = and_left (is_accepted v s && s.flags.syn) v.passive three in
-    let accepted = and_left (is_accepted v s) s.flags.syn two in
-    let syn = and_right (is_accepted v s) s.flags.syn two in
-    let refused = syn_refused cap limit small v s h.from e.own_written sound past_syn syn fin (holds cap limit small h.from h.runs_from) k.receives q.frame came.frame_recent in
-    let bad : true ≡ false = sym accepted ∙ refused in cc) in
+    let stays = fate-stays cap limit small p v e is sound among timely h in
     record {
       into = into';
       from = from';
@@ -104,7 +116,3 @@ moves-hears cap limit small p v e is sound among timely h =
       sent = λ e among. let r = h.sent e among in record { frame = r.frame; ack = r.ack; width = r.width };
       received = λ e among. let r = h.received e among in record { frame = r.frame; ack = r.ack; width = r.width };
     }
-  where
-    stays_by : (ends : Bool) → (ends ≡ true → ⊥) → (if ends then Removed else Stays) ≡ Stays
-    stays_by true never = absurd (never refl)
-    stays_by false never = refl

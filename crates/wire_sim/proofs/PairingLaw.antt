@@ -1,6 +1,7 @@
 -- Two connections and a network between them are lawful.
 use Rattle.std.proofs.Common.{ℕ, ◌≤◌, ◌^◌, ◌++◌, arith, sym, ◌∙◌, ap}
-use Rattle.wire_sim.specs.Pairing.{Pairing, Move, connects, accepts, takes, gives, ticks, emits, hears, Meets, begins, here_moves, there_moves, Begins, from_other}
+use Rattle.wire_sim.specs.Pairing.{Pairing, Move, connects, accepts, takes, gives, ticks, emits, hears, Meets, begins, here_moves, there_moves, from_other}
+use Rattle.wire_sim.specs.Lists.{Begins}
 use Rattle.wire_sim.proofs.KeepingOctets.{Near}
 use Rattle.wire_sim.proofs.ChannelLaw.{lawful}
 use Rattle.wire_sim.proofs.PairingInvariant.{Shown, shown-apart, shown-from_other}
@@ -9,10 +10,10 @@ use Rattle.wire_sim.proofs.PairingEmission.{moves-emits}
 use Rattle.wire_sim.proofs.PairingArrival.{moves-hears}
 
 -- the room of a connection's buffers
-abbrev room : ℕ
+abbrev pub room : ℕ
 room = 65535
 
-near : (limit : ℕ) → limit ≤ 2 ^ 30 → Near room limit
+pub near : (limit : ℕ) → limit ≤ 2 ^ 30 → Near room limit
 near limit recency = record { buffer = omega arith; recency = recency }
 
 moves : (limit : ℕ) → limit ≤ 2 ^ 30 → (p q : Pairing) → Move limit p q → Shown room limit p → Shown room limit q
@@ -24,7 +25,7 @@ moves limit small _ _ (ticks p v now is) h = moves-ticks room limit p v now is h
 moves limit small _ _ (emits p v due now is sound first may width) h = moves-emits room limit p v due now is sound first may width h
 moves limit small _ _ (hears p v e is sound among timely) h = moves-hears room limit (near limit small) p v e is sound among timely h
 
-shown : (limit : ℕ) → limit ≤ 2 ^ 30 → (p : Pairing) → Meets limit p → Shown room limit p
+pub shown : (limit : ℕ) → limit ≤ 2 ^ 30 → (p : Pairing) → Meets limit p → Shown room limit p
 shown limit small _ begins = shown-apart room limit
 shown limit small _ (here_moves p q met move) = moves limit small p q move (shown limit small p met)
 shown limit small _ (there_moves p q met move) = shown-from_other room limit q (moves limit small (from_other p) q move (shown-from_other room limit p (shown limit small p met)))

@@ -5,11 +5,14 @@ pub mod HostView
 pub mod Ports
 pub mod Calls
 pub mod Dispatch
-pub mod Room
+pub mod Sides
 pub mod Tallies
+pub mod Openings
+pub mod Fairness
 pub mod WorldView
-pub mod Places
 pub mod Steps
+pub mod Trace
+pub mod Runs
 pub mod Channel
 pub mod ChannelSteps
 pub mod ChannelViews

@@ -1,5 +1,5 @@
--- The first element of a list that passes a test.
-use Rattle.std.specs.Prelude.{Bool, cond, List, [], ◌∷◌}
+-- The first element of a list that passes a test, and what begins a list.
+use Rattle.std.specs.Prelude.{◌≡◌, ℕ, Bool, cond, List, [], ◌∷◌, ◌++◌}
 
 -- the first element that passes the test is changed, and the others stay
 abbrev pub change_first : {X : Type 0} → (X → Bool) → (X → X) → List X → List X
@@ -10,3 +10,8 @@ change_first test change (x ∷ xs) = cond (test x) (change x ∷ xs) (x ∷ cha
 abbrev pub remove_first : {X : Type 0} → (X → Bool) → List X → List X
 remove_first test [] = []
 remove_first test (x ∷ xs) = cond (test x) xs (x ∷ remove_first test xs)
+
+-- what was read begins what was written
+pub record Begins (read written : List ℕ) : Type 0 where
+  pub rest : List ℕ
+  pub begins : written ≡ read ++ rest

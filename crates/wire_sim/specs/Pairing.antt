@@ -14,6 +14,7 @@ use Rattle.tcp_state.specs.Arrival.{opened_passively, after_segment, fate}
 use Rattle.tcp_state.specs.Due.{MayGoOut, first_due, head_of, octets_of, after_emitted}
 use Rattle.wire_sim.specs.Channel.{IsAmong}
 use Rattle.wire_sim.specs.ChannelViews.{IsOfWidth}
+use Rattle.wire_sim.specs.Lists.{Begins}
 
 -- one end: its connection, if it has one, what its caller gave to it, and what it gave to its caller
 pub record End : Type 0 where
@@ -88,11 +89,6 @@ pub data Meets (limit : ℕ) : Pairing → Type 0 where
   begins : Meets limit apart
   here_moves : (p q : Pairing) → Meets limit p → Move limit p q → Meets limit q
   there_moves : (p q : Pairing) → Meets limit p → Move limit (from_other p) q → Meets limit (from_other q)
-
--- what was read at one end begins what was written at the other
-pub record Begins (read written : List ℕ) : Type 0 where
-  pub rest : List ℕ
-  pub begins : written ≡ read ++ rest
 
 -- over every run, in both directions
 abbrev pub EveryPairingIsLawful : Type 0

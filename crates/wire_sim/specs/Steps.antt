@@ -1,55 +1,104 @@
--- What an event makes of the network: the host that it names takes its step, and everything else stays or grows by what is said here.
-use Rattle.std.specs.Prelude.{◌≡◌, ℕ, nat_lt, if◌then◌else◌, List, [], ◌∷◌, ◌++◌, length, slice_index_or, slice_set, Some}
+-- What an event makes of the network: the host that it names takes its step, as its own table says, and everything else stays or grows by
+-- what is said here.
+use Rattle.std.specs.Prelude.{◌≡◌, ℕ, ◌+◌, min, nat_lt, Bool, true, false, if◌then◌else◌, List, [], ◌∷◌, ◌++◌, length, take, Option, Some, None, option_map, slice_get, Result, Ok, Err}
+use Rattle.ipv4.specs.declared.addr.Pair.{Pair}
 use Rattle.tcp_state.specs.declared.moment.Moment.{Moment}
+use Rattle.tcp_state.specs.declared.buffers.Buffers.{Buffers}
+use Rattle.tcp_state.specs.declared.calls.Received.{Received}
+use Rattle.tcp_state.specs.declared.calls.Received.TheVariants as received
+use Rattle.wire_sim.specs.declared.host.entry.SocketId.{SocketId}
+use Rattle.wire_sim.specs.declared.host.entry.Role.{Role}
+use Rattle.wire_sim.specs.declared.host.entry.Role.TheVariants.{Connected}
+use Rattle.wire_sim.specs.declared.host.refusal.Refusal.{Refusal}
+use Rattle.wire_sim.specs.declared.host.refusal.Refusal.TheVariants.{EMFILE, ENOMEM}
 use Rattle.wire_sim.specs.declared.event.Side.{Side}
 use Rattle.wire_sim.specs.declared.event.Side.TheVariants.{A, B}
+use Rattle.wire_sim.specs.declared.event.Call.{Call}
+use Rattle.wire_sim.specs.declared.event.Call.TheVariants as call
 use Rattle.wire_sim.specs.declared.event.Event.{Event}
 use Rattle.wire_sim.specs.declared.event.Event.TheVariants as event
 use Rattle.wire_sim.specs.declared.event.Answer.{Answer}
-use Rattle.wire_sim.specs.declared.event.Answer.TheVariants as answer
+use Rattle.wire_sim.specs.declared.event.Answer.TheVariants as reply
+use Rattle.wire_sim.specs.declared.event.Opening.{Opening}
 use Rattle.wire_sim.specs.declared.world.bag.Frame.{Frame}
+use Rattle.wire_sim.specs.declared.world.bag.Note.{Note}
 use Rattle.wire_sim.specs.declared.world.station.Station.{Station}
-use Rattle.wire_sim.specs.HostView.{after_tick, emission_len, emission_octets}
-use Rattle.wire_sim.specs.WorldView.{NetworkView}
+use Rattle.wire_sim.specs.Calls.{unless_refused, is_table_full, after_socket, bind_refusal, after_bind, listen_refusal, after_listen, accept_answer, after_accept, connect_refusal, after_connect, send_answer, after_send, recv_answer, after_recv, state_answer}
+use Rattle.wire_sim.specs.Dispatch.{IsDelivered}
+use Rattle.wire_sim.specs.HostView.{HostView, role_of, after_tick, after_emission, emission_len, emission_octets}
+use Rattle.wire_sim.specs.Sides.{other_side}
+use Rattle.wire_sim.specs.Tallies.{counted}
+use Rattle.wire_sim.specs.Openings.{epoch_of, due_pair, opened_by_connect, opened_by_frame}
+use Rattle.wire_sim.specs.WorldView.{NetworkView, written_at}
 
--- the host a comes first
-abbrev pub place_of : Side → ℕ
-place_of A = 0
-place_of B = 1
+abbrev pub station_of : NetworkView → Side → Station
+station_of n A = n.a
+station_of n B = n.b
 
-abbrev pub other_side : Side → Side
-other_side A = B
-other_side B = A
+abbrev pub host_of : NetworkView → Side → HostView
+host_of n side = let s = station_of n side in s.host
 
--- the side whose host an event names
-abbrev pub side_of : Event → Side
-side_of (event.Call side call) = side
-side_of (event.Tick side moment) = side
-side_of (event.Emit side) = side
-side_of (event.Deliver side index isn) = side
+-- a side's host and clock are these, and all else is as it was
+abbrev pub with_station : NetworkView → Side → Station → NetworkView
+with_station n A s = record n { a = s }
+with_station n B s = record n { b = s }
 
--- a side's host and its clock are as they were
-abbrev pub IsKept : Side → List Station → List Station → Type 0
-IsKept side old new = (s : Station) → slice_index_or new (place_of side) s ≡ slice_index_or old (place_of side) s
+abbrev pub with_host : NetworkView → Side → HostView → NetworkView
+with_host n side h = let s = station_of n side in with_station n side (record s { host = h })
 
--- The first segment that is due at a side's host went out: its very octets stand at the end of the frames.
-pub record EmitsFrame (side : Side) (index len : ℕ) (old new : NetworkView) : Type 0 where
-  pub host : Station
-  pub at : host ≡ slice_index_or old.stations (place_of side) host
-  pub due : emission_len host.host ≡ Some len
-  pub place : index ≡ length old.frames
-  pub frame : Frame
-  pub sender : frame.sender ≡ side
-  pub octets : frame.octets.items ≡ emission_octets host.host
-  pub added : new.frames ≡ old.frames ++ frame ∷ []
+-- a value is told and the host becomes the next one, or a refusal is told and it is as it was
+abbrev pub Answers : {T : Type 0} → Result T Refusal → (T → Answer) → HostView → HostView → Answer → HostView → Type 0
+Answers (Ok value) told next old answer new = (answer ≡ told value) × (new ≡ next)
+Answers (Err refusal) told next old answer new = (answer ≡ reply.Refused refusal) × (new ≡ old)
 
--- only an emission that answers a frame adds one
-abbrev pub FramesAfter : Event → Answer → NetworkView → NetworkView → Type 0
-FramesAfter (event.Emit side) (answer.Frame index len) old new = EmitsFrame side index len old new
-FramesAfter (event.Emit side) _ old new = new.frames ≡ old.frames
-FramesAfter (event.Call side call) _ old new = new.frames ≡ old.frames
-FramesAfter (event.Tick side moment) _ old new = new.frames ≡ old.frames
-FramesAfter (event.Deliver side index isn) _ old new = new.frames ≡ old.frames
+-- a new socket, but where the table is full or memory is refused
+abbrev pub MeetsSocket : HostView → Answer → HostView → Type 0
+MeetsSocket h (reply.Socket id) new = (is_table_full h ≡ false) × (id.0 ≡ h.last_id + 1) × ((buffers : Buffers) × (new ≡ after_socket h buffers))
+MeetsSocket h (reply.Refused EMFILE) new = (is_table_full h ≡ true) × (new ≡ h)
+MeetsSocket h (reply.Refused ENOMEM) new = (is_table_full h ≡ false) × (new ≡ h)
+MeetsSocket h _ new = ⊥
+
+-- how many octets one receive asks for at most
+abbrev pub asked : ℕ → ℕ
+asked len = min len 65535
+
+-- the first octets that are readable on a socket
+abbrev pub readable_on : HostView → SocketId → ℕ → List ℕ
+readable_on h id count = of_role (role_of h id)
+  where
+    of_role : Option Role → List ℕ
+    of_role (Some (Connected c listener)) = take count c.receiving.readable
+    of_role _ = []
+
+-- the octets that a receive answers are the first that were readable
+abbrev pub MeetsReceived : HostView → SocketId → ℕ → Result Received Refusal → Answer → HostView → Type 0
+MeetsReceived h id len (Ok (received.Octets count)) (reply.Octets octets) new = (octets.items ≡ readable_on h id count) × (new ≡ after_recv h id len)
+MeetsReceived h id len (Ok received.EndOfStream) reply.EndOfStream new = new ≡ after_recv h id len
+MeetsReceived h id len (Err refusal) (reply.Refused told) new = (told ≡ refusal) × (new ≡ h)
+MeetsReceived h id len _ _ new = ⊥
+
+-- what a host answers to a call, and what it becomes
+abbrev pub MeetsCall : Call → HostView → Answer → HostView → Type 0
+MeetsCall (call.Socket kind) h answer new = MeetsSocket h answer new
+MeetsCall (call.Bind id local) h answer new = Answers (unless_refused (bind_refusal h id local) (tt {0})) (λ _. reply.Done) (after_bind h id local) h answer new
+MeetsCall (call.Listen id backlog) h answer new = Answers (unless_refused (listen_refusal h id backlog) (tt {0})) (λ _. reply.Done) (after_listen h id backlog) h answer new
+MeetsCall (call.Accept id) h answer new = Answers (accept_answer h id) (λ p. reply.Accepted p.0 p.1) (after_accept h id) h answer new
+MeetsCall (call.Connect isn id peer) h answer new = Answers (unless_refused (connect_refusal h id peer) (tt {0})) (λ _. reply.Started) (after_connect h isn.0 id peer) h answer new
+MeetsCall (call.Send id octets) h answer new = Answers (send_answer h id octets.items) (λ count. reply.Sent count) (after_send h id octets.items) h answer new
+MeetsCall (call.Recv id len) h answer new = MeetsReceived h id (asked len) (recv_answer h id (asked len)) answer new
+MeetsCall (call.State id) h answer new = Answers (state_answer h id) (λ state. reply.State state) h h answer new
+
+-- openings are added, each with nothing counted yet
+abbrev pub with_openings : NetworkView → List Opening → NetworkView
+with_openings n [] = n
+with_openings n (o ∷ os) = with_openings (record n { openings = n.openings ++ o ∷ []; written = n.written ++ 0 ∷ [] }) os
+
+-- the network once a call on a side was answered and its host became another: a connect that was started opens a pair, and octets
+-- that were taken are counted
+abbrev pub called : Side → Call → Answer → ℕ → NetworkView → HostView → NetworkView
+called side (call.Connect isn id peer) reply.Started place n host = with_openings (with_host n side host) (opened_by_connect n.openings side id place host (host_of n (other_side side)))
+called side (call.Send id octets) (reply.Sent count) place n host = record (with_host n side host) { written = counted n.openings n.written side id count }
+called side _ _ place n host = with_host n side host
 
 -- a tick moves the clock forward, and ticks the host
 abbrev pub ticked_station : Station → Moment → Station
@@ -58,15 +107,64 @@ ticked_station s moment = record s {
   clock = if nat_lt s.clock.0 moment.0 then moment else s.clock;
 }
 
--- a tick does nothing else
-abbrev pub IsTicked : Side → Moment → NetworkView → NetworkView → Type 0
-IsTicked side moment old new =
-    (s : Station) × (s ≡ slice_index_or old.stations (place_of side) s)
-    × (new ≡ record old { stations = slice_set old.stations (place_of side) (ticked_station s moment) })
+-- what is noted of a frame of a pair that goes out: the pair's epoch, and how much was written at both ends
+abbrev pub noted : NetworkView → Pair → Note
+noted n pair = let epoch = epoch_of n.openings pair in record { pair = pair; epoch = epoch; at_a = written_at n A pair epoch; at_b = written_at n B pair epoch }
 
--- of a tick alone
-abbrev pub TickAfter : Event → NetworkView → NetworkView → Type 0
-TickAfter (event.Tick side moment) old new = IsTicked side moment old new
-TickAfter (event.Call side call) old new = Unit {0}
-TickAfter (event.Emit side) old new = Unit {0}
-TickAfter (event.Deliver side index isn) old new = Unit {0}
+-- The first segment that is due at a side's host went out, and its very octets stand at the end of the frames.
+pub record EmitsFrame (side : Side) (index len : ℕ) (old new : NetworkView) : Type 0 where
+  pub due : emission_len (host_of old side) ≡ Some len
+  pub place : index ≡ length old.frames
+  pub frame : Frame
+  pub sender : frame.sender ≡ side
+  pub octets : frame.octets.items ≡ emission_octets (host_of old side)
+  pub note : frame.note ≡ option_map (noted old) (due_pair (host_of old side))
+  pub after : new ≡ record (with_host old side (after_emission (host_of old side) (let s = station_of old side in s.clock))) { frames = old.frames ++ frame ∷ [] }
+
+-- nothing is due, and then nothing changes
+pub record EmitsNothing (side : Side) (old new : NetworkView) : Type 0 where
+  pub due : emission_len (host_of old side) ≡ None
+  pub after : new ≡ old
+
+-- what a frame made of its host, and the opening of its pair where the host holds it anew
+abbrev pub delivered : Side → ℕ → Option Note → NetworkView → HostView → NetworkView
+delivered side place None n host = with_host n side host
+delivered side place (Some note) n host = with_openings (with_host n side host) (opened_by_frame n.openings side place note.pair (host_of n side) host)
+
+-- the host takes the frame's octets, or drops them with a cause
+abbrev pub MeetsFrame : HostView → ℕ → List ℕ → Answer → HostView → Type 0
+MeetsFrame h isn octets reply.Taken new = IsDelivered h isn octets (Ok tt) new
+MeetsFrame h isn octets (reply.Dropped cause) new = IsDelivered h isn octets (Err cause) new
+MeetsFrame h isn octets _ new = ⊥
+
+-- the frame reaches the host just as it was emitted
+abbrev pub DeliversFrame : Side → ℕ → ℕ → Answer → NetworkView → NetworkView → Option Frame → Type 0
+DeliversFrame side isn place answer old new None = ⊥
+DeliversFrame side isn place answer old new (Some f) = MeetsFrame (host_of old side) isn f.octets.items answer (host_of new side) × (new ≡ delivered side place f.note old (host_of new side))
+
+-- the frame that is due goes out, or none is
+abbrev pub MeetsEmission : Side → Answer → NetworkView → NetworkView → Type 0
+MeetsEmission side (reply.Frame index len) old new = EmitsFrame side index len old new
+MeetsEmission side reply.NoFrame old new = EmitsNothing side old new
+MeetsEmission side _ old new = ⊥
+
+-- what an event, answered so, makes of the network; its place in the trace is given
+abbrev pub Steps : Event → ℕ → Answer → NetworkView → NetworkView → Type 0
+Steps (event.Call side c) place answer old new = MeetsCall c (host_of old side) answer (host_of new side) × (new ≡ called side c answer place old (host_of new side))
+Steps (event.Tick side moment) place answer old new = (answer ≡ reply.Done) × (new ≡ with_station old side (ticked_station (station_of old side) moment))
+Steps (event.Emit side) place answer old new = MeetsEmission side answer old new
+Steps (event.Deliver side index isn) place answer old new = DeliversFrame side isn.0 place answer old new (slice_get old.frames index)
+
+-- how many octets the host that an event names may read for it
+abbrev pub asked_of : Call → ℕ
+asked_of (call.Recv id len) = asked len
+asked_of _ = 0
+
+abbrev pub asked_by : Event → ℕ
+asked_by (event.Call side c) = asked_of c
+asked_by _ = 0
+
+-- the event may put a frame into the network
+abbrev pub is_emission : Event → Bool
+is_emission (event.Emit side) = true
+is_emission _ = false

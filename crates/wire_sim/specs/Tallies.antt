@@ -1,16 +1,11 @@
 -- What each opening took from its caller.
-use Rattle.std.specs.Prelude.{ℕ, Bool, true, false, ◌==◌, ◌&&◌, if◌then◌else◌, List, [], ◌∷◌}
+use Rattle.std.specs.Prelude.{ℕ, ◌+◌, Bool, ◌==◌, ◌&&◌, if◌then◌else◌, List, [], ◌∷◌}
 use Rattle.ipv4.specs.declared.addr.Pair.{Pair}
 use Rattle.wire_sim.specs.declared.event.Side.{Side}
-use Rattle.wire_sim.specs.declared.event.Side.TheVariants.{A, B}
 use Rattle.wire_sim.specs.declared.event.Opening.{Opening}
+use Rattle.wire_sim.specs.declared.host.entry.SocketId.{SocketId}
 use Rattle.wire_sim.specs.Endpoints.{same_end}
-
-abbrev pub same_side : Side → Side → Bool
-same_side A A = true
-same_side A B = false
-same_side B A = false
-same_side B B = true
+use Rattle.wire_sim.specs.Sides.{same_side}
 
 abbrev pub same_pair : Pair → Pair → Bool
 same_pair a b = same_end a.first b.first && same_end a.second b.second
@@ -24,3 +19,13 @@ abbrev pub written_by : List Opening → List ℕ → Side → Pair → ℕ → 
 written_by [] ws side pair epoch = 0
 written_by (o ∷ os) [] side pair epoch = 0
 written_by (o ∷ os) (w ∷ ws) side pair epoch = if is_opening_of side pair epoch o then w else written_by os ws side pair epoch
+
+-- the opening by which a side's host made the entry
+abbrev pub is_opening_at : Side → SocketId → Opening → Bool
+is_opening_at side id o = same_side o.side side && (o.id.0 == id.0)
+
+-- the counts once the caller of a socket gave so many octets more
+abbrev pub counted : List Opening → List ℕ → Side → SocketId → ℕ → List ℕ
+counted [] ws side id more = ws
+counted (o ∷ os) [] side id more = []
+counted (o ∷ os) (w ∷ ws) side id more = (if is_opening_at side id o then w + more else w) ∷ counted os ws side id more

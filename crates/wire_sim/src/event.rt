@@ -19,19 +19,7 @@ pub enum Side {
 }
 
 impl Side {
-    ghost use Rattle.wire_sim.specs.Tallies.{same_side};
-    ghost use Rattle.wire_sim.specs.Steps.{place_of, other_side};
-
-    /// The place of this side where both stand in a list.
-    pub(crate) fn index(self) -> usize
-        ensures within { result < 2 }
-        ensures place { result ≡ place_of self }
-    {
-        match self {
-            Side::A => 0,
-            Side::B => 1,
-        }
-    }
+    ghost use Rattle.wire_sim.specs.Sides.{same_side, other_side};
 
     /// Whether this is that side.
     pub(crate) fn is(self, other: Side) -> bool
@@ -207,13 +195,20 @@ pub struct Opening {
 }
 
 impl Opening {
-    ghost use Rattle.wire_sim.specs.Tallies.{is_opening_of};
+    ghost use Rattle.wire_sim.specs.Tallies.{is_opening_of, is_opening_at};
 
     /// Whether the host of `side` came to hold `pair` in `epoch` by this opening.
     pub(crate) fn is_of(&self, side: Side, pair: Pair, epoch: u64) -> bool
         ensures { result ≡ is_opening_of side pair epoch self.now }
     {
         self.side.is(side) && self.pair == pair && self.epoch == epoch
+    }
+
+    /// Whether the host of `side` made the entry `id` by this opening.
+    pub(crate) fn is_at(&self, side: Side, id: SocketId) -> bool
+        ensures { result ≡ is_opening_at side id self.now }
+    {
+        self.side.is(side) && self.id == id
     }
 }
 

@@ -1,6 +1,6 @@
 //! Memory that is taken before a host is touched.
 
-ghost use Rattle.std.specs.Prelude.{◌≡◌, ◌≤◌, length, vec_len, vec_capacity, IfOk};
+ghost use Rattle.std.specs.Prelude.{◌≡◌, ◌≤◌, true, length, vec_len, vec_capacity, IfOk};
 
 use crate::event::{Call, Event};
 use std::alloc::{AllocError, Global};
@@ -23,11 +23,12 @@ pub(crate) struct Room {
 }
 
 impl Room {
-    ghost use Rattle.wire_sim.specs.Room.{RoomFor};
+    ghost use Rattle.wire_sim.specs.Steps.{asked_by, is_emission};
 
     /// What `event` needs.
     pub(crate) fn for_event(alloc: Global, event: &Event) -> Result<Room, AllocError>
-        ensures { IfOk result (λ room. RoomFor event.now room.octets) }
+        ensures read { IfOk result (λ room. vec_len room.octets ≡ asked_by event.now) }
+        ensures room { IfOk result (λ room. is_emission event.now ≡ true → 1514 ≤ vec_capacity room.octets) }
     {
         match event {
             Event::Call(_, Call::Recv { len, .. }) => {

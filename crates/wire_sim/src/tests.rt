@@ -6,10 +6,10 @@ use crate::{
     Answer, Call, Config, DropCause, Event, Host, Kind, Refusal, Side, SocketId, Unfair, World,
     WorldFault,
 };
+use ipv4::{Addr, Endpoint, Pair};
 use std::alloc::{AllocError, Global};
 use std::process::Abort;
 use std::test::Fail;
-use ipv4::{Addr, Endpoint, Pair};
 use tcp_segment::Seq;
 use tcp_state::{Moment, State};
 

@@ -1,6 +1,6 @@
 //! The socket calls (POSIX.1-2017), each with its refusals in the order in which they are tested.
 
-ghost use Rattle.std.specs.Prelude.{◌≡◌, ◌<◌, ◌≤◌, ◌↔◌, length, IfOk, IfErr, OnOk, OnErr, IfSome, IsTrue, ◌⊎◌, ◌+◌, find, position, None};
+ghost use Rattle.std.specs.Prelude.{◌≡◌, ◌^◌, ◌<◌, ◌≤◌, ◌↔◌, length, IfOk, IfErr, OnOk, OnErr, IfSome, IsTrue, ◌⊎◌, ◌+◌, find, position, None};
 ghost use Rattle.tcp_state.specs.declared.buffers.Buffers.{Buffers};
 ghost use Rattle.std.specs.Result.{result_err};
 ghost use Rattle.std.specs.Option.{ok_or};
@@ -151,6 +151,7 @@ impl Host {
     ) -> Result<(), Refusal>
         ensures refused { result_err result ≡ connect_refusal self.old id peer }
         ensures ok { OnOk result (self.new ≡ after_connect self.old isn.0 id peer) }
+        ensures numbered { isn.0 < 2 ^ 32 }
         ensures err { OnErr result (self.new ≡ self.old) }
     {
         let place = self.socket_place(id)?;

@@ -4,8 +4,8 @@ ghost use Rattle.std.specs.Prelude.{◌≡◌, ◌≤◌, ◌<◌, length, IfSom
 ghost use Rattle.wire_sim.specs.Entries.{is_pending, is_socket, is_live_between, joins, uses_port, waits_at, offered_peer, shown_state, deadline_of, has_due, bound_to, listening, connecting, accepted, ticked, with_role};
 
 use super::Refusal;
-use std::mem;
 use ipv4::{Addr, Endpoint, Pair};
+use std::mem;
 use tcp_segment::{Seq, TcpView};
 use tcp_state::{Buffers, Connection, Fate, Moment, Received, State};
 
@@ -120,6 +120,8 @@ impl Default for Entry {
 impl Entry {
     ghost use Rattle.wire_sim.specs.Entries.{new_socket, new_waiting, sent, received, emitted_at, due_len, framed, arrived, fate_of, listens_at, backlog_of};
     ghost use Rattle.wire_sim.specs.Calls.{sent_answer, received_answer, read_front};
+    ghost use Rattle.wire_sim.specs.Openings.{pair_in};
+    ghost use Rattle.wire_sim.specs.Runs.{IsSoundRole};
 
     /// A new socket.
     pub(super) fn socket(id: SocketId, buffers: Buffers) -> Entry
@@ -320,7 +322,9 @@ impl Entry {
     }
 
     /// The pair of a connection.
-    pub(super) fn pair(&self) -> Option<Pair> {
+    pub(super) fn pair(&self) -> Option<Pair>
+        ensures { result ≡ pair_in self.now.role }
+    {
         match &self.role {
             Role::Connected { connection, .. } => {
                 Some(Pair::new(connection.local(), connection.peer()))
@@ -337,6 +341,17 @@ impl Entry {
             Role::Idle { .. } => State::Closed,
             Role::Listener { .. } => State::Listen,
             Role::Connected { connection, .. } => connection.state(),
+        }
+    }
+
+    /// What a connection keeps of itself, for the contracts above; it changes nothing.
+    pub(super) fn sound(&self)
+        ensures { IsSoundRole self.now.role }
+    {
+        if let Role::Connected { connection, .. } = &self.role {
+            let _ = connection.state();
+            let _ = connection.local();
+            let _ = connection.peer();
         }
     }
 

@@ -12,10 +12,10 @@ mod table;
 use arrayvec::ArrayVec;
 use entry::Entry;
 pub use entry::SocketId;
+use ipv4::{Addr, Endpoint, Pair};
 pub use refusal::{DropCause, Refusal};
 use std::alloc::Global;
 use std::marker::Model;
-use ipv4::{Addr, Endpoint, Pair};
 use tcp_segment::{Flags, Seq, TcpView};
 use tcp_state::{Buffers, Connection, Moment};
 
@@ -105,6 +105,8 @@ impl Model for Host {
 
 impl Host {
     ghost use Rattle.wire_sim.specs.Dispatch.{local_end, peer_end, arrival, opening, Meets, IsDelivered};
+    ghost use Rattle.wire_sim.specs.Openings.{socket_pair, due_pair};
+    ghost use Rattle.wire_sim.specs.Runs.{IsSoundHost};
     ghost use Rattle.wire_sim.specs.HostView.{HostView, later, holder_id, fresh, emission_len, after_emission, emission_front, after_tick, least_deadline};
 
     /// A host with no sockets, whose kept moment is 0. ENOMEM is left for a table that takes memory.
@@ -175,10 +177,29 @@ impl Host {
         Some(self.entries[place].id)
     }
 
-    /// The pair of the connection of the entry `id`, in any state but CLOSED.
-    pub(crate) fn pair_of(&self, id: SocketId) -> Option<Pair> {
-        let place = table::entry_of(&self.entries, id)?;
+    /// The pair of the connection of the socket `id`.
+    #[tactic(auto, using(crate::proofs::Firsts::firsts))]
+    pub(crate) fn pair_of(&self, id: SocketId) -> Option<Pair>
+        ensures { result ≡ socket_pair self.now id }
+    {
+        let place = table::socket_of(&self.entries, id)?;
         self.entries[place].pair()
+    }
+
+    /// The pair of the first connection, in order of id, that has a segment due.
+    #[tactic(auto, using(crate::proofs::Firsts::firsts))]
+    pub(crate) fn due_pair(&self) -> Option<Pair>
+        ensures { result ≡ due_pair self.now }
+    {
+        let place = table::first_due(&self.entries)?;
+        self.entries[place].pair()
+    }
+
+    /// What each connection keeps of itself, for the contracts above; it changes nothing.
+    pub(crate) fn sound(&self)
+        ensures { IsSoundHost self.now }
+    {
+        table::sound(&self.entries);
     }
 
     /// The later of `now` and the kept moment.

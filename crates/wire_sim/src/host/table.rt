@@ -1,10 +1,10 @@
 //! What is looked up in the table, which stands in order of id.
 
-ghost use Rattle.std.specs.Prelude.{◌≡◌, ◌<◌, ◌≤◌, ◌&&◌, not, length, position, count_by, map, fold, None, IfSome};
-ghost use Rattle.std.specs.List.{list_any};
+ghost use Rattle.std.specs.Prelude.{◌≡◌, ◌<◌, ◌≤◌, ◌&&◌, not, length, remove, position, count_by, map, fold, None, IfSome};
+ghost use Rattle.std.specs.List.{list_any, AllByRecursion};
 ghost use Rattle.wire_sim.specs.Entries.{is_socket, is_between, is_of_pair, has_port, is_bound_at, is_waiting_at, is_offered_at, is_due, is_listening_at, deadline_of, ticked, with_role};
 ghost use Rattle.wire_sim.specs.HostView.{earlier};
-ghost use Rattle.wire_sim.specs.Places.{kept_by};
+ghost use Rattle.wire_sim.specs.Runs.{IsSoundRole};
 
 use super::entry::Entry;
 use super::{ENTRIES, SocketId};
@@ -17,13 +17,6 @@ pub(super) fn socket_of(entries: &[Entry], id: SocketId) -> Option<usize>
     ensures { result ≡ position (is_socket id) entries.now }
 {
     entries.iter().position(|entry| entry.is_socket(id))
-}
-
-/// The place of the entry `id`, be it a socket or a connection that is not accepted.
-pub(super) fn entry_of(entries: &[Entry], id: SocketId) -> Option<usize>
-    ensures { IfSome result (λ place. place < length entries.now) }
-{
-    entries.iter().position(|entry| entry.id == id)
 }
 
 /// The place of the connection from `local` to `peer`, in any state but CLOSED.
@@ -133,10 +126,20 @@ fn earlier(a: Option<Moment>, b: Option<Moment>) -> Option<Moment>
     }
 }
 
+/// What each connection keeps of itself, for the contracts above; it changes nothing.
+pub(super) fn sound(entries: &[Entry])
+    ensures { AllByRecursion (λ e. IsSoundRole e.role) entries.now }
+{
+    for entry in entries {
+        entry.sound();
+    }
+}
+
 /// Takes an entry out of the table where its connection is gone.
 pub(super) fn settle(entries: &mut ArrayVec<Entry, ENTRIES>, place: usize, fate: Fate)
     requires { place < length entries.old.items }
-    ensures { entries.new.items ≡ kept_by fate place entries.old.items }
+    ensures stays { fate ≡ Fate.Stays → entries.new.items ≡ entries.old.items }
+    ensures removed { fate ≡ Fate.Removed → entries.new.items ≡ remove entries.old.items place }
 {
     match fate {
         Fate::Removed => {

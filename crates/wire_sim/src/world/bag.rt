@@ -16,18 +16,11 @@ pub(super) struct Frame {
     pub(super) note: Option<Note>,
 }
 
-impl Frame {
-    /// The pair of the connection that it belongs to.
-    pub(super) fn pair(&self) -> Option<Pair> {
-        self.note.map(|note| note.pair)
-    }
-}
-
 /// The connection that a frame belongs to, and how many octets its two ends had taken from their callers as the frame went out.
 #[derive(Clone, Copy)]
 pub(super) struct Note {
     pub(super) pair: Pair,
     pub(super) epoch: u64,
-    pub(super) at_a: u64,
-    pub(super) at_b: u64,
+    pub(super) at_a: u128,
+    pub(super) at_b: u128,
 }

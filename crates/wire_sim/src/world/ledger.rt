@@ -1,23 +1,24 @@
 //! The openings so far, and how many octets each took from its caller.
 
-ghost use Rattle.std.specs.Prelude.{◌≡◌, ◌<◌, ◌≤◌, [], vec_len, vec_capacity, OnOk};
-ghost use Rattle.wire_sim.specs.Tallies.{written_by};
+ghost use Rattle.std.specs.Prelude.{◌≡◌, ℕ, ◌+◌, ◌<◌, ◌≤◌, ◌^◌, [], ◌∷◌, ◌++◌, vec_len, vec_capacity, slice_index_or, OnOk};
+ghost use Rattle.ipv4.specs.declared.addr.Pair.{Pair};
+ghost use Rattle.wire_sim.specs.Tallies.{written_by, counted};
+ghost use Rattle.wire_sim.specs.Openings.{epoch_of};
 
 use crate::event::{Opening, Side};
 use crate::host::SocketId;
-use std::alloc::{AllocError, Global};
 use ipv4::Pair;
+use std::alloc::{AllocError, Global};
 
 /// The openings in order, and beside each the octets that `send` accepted on its id.
 #[derive(Drop)]
 pub(super) struct Ledger {
     openings: Vec<Opening>,
-    written: Vec<u64>,
+    written: Vec<u128>,
+    ghost epochs: { (pair : Pair) → epoch_of openings.items pair ≤ vec_len openings },
 }
 
 impl Ledger {
-    ghost use Rattle.wire_sim.specs.Room.{CanOpen};
-
     /// No openings.
     pub(super) fn new(alloc: Global) -> Ledger
         ensures openings { result.openings.items ≡ [] }
@@ -31,7 +32,8 @@ impl Ledger {
 
     /// Makes room for one more opening.
     pub(super) fn reserve(&mut self) -> Result<(), AllocError>
-        ensures room { OnOk result (CanOpen self.new) }
+        ensures openings_room { OnOk result (vec_len self.new.openings < vec_capacity self.new.openings) }
+        ensures written_room { OnOk result (vec_len self.new.written < vec_capacity self.new.written) }
         ensures openings { self.new.openings.items ≡ self.old.openings.items }
         ensures written { self.new.written.items ≡ self.old.written.items }
     {
@@ -48,35 +50,48 @@ impl Ledger {
 
     /// Adds an opening, for which there is room.
     pub(super) fn open(&mut self, opening: Opening)
-        requires { CanOpen self.old }
+        requires openings { vec_len self.old.openings < vec_capacity self.old.openings }
+        requires written { vec_len self.old.written < vec_capacity self.old.written }
+        requires epoch { opening.epoch ≤ vec_len self.old.openings + 1 }
+        ensures openings { self.new.openings.items ≡ self.old.openings.items ++ opening ∷ [] }
+        ensures written { self.new.written.items ≡ self.old.written.items ++ 0 ∷ [] }
     {
         self.openings.push_reserved(opening);
         self.written.push_reserved(0);
     }
 
     /// The present epoch of a pair: that of its last opening, or 0 where it has none.
-    pub(super) fn epoch(&self, pair: Pair) -> u64 {
-        let mut epoch = 0;
-        for opening in &self.openings {
-            if opening.pair == pair {
-                epoch = opening.epoch;
-            }
-        }
-        epoch
+    pub(super) fn epoch(&self, pair: Pair) -> u64
+        ensures epoch { result ≡ epoch_of self.now.openings.items pair }
+        ensures bound { result ≤ vec_len self.now.openings }
+    {
+        self.openings.iter().fold(
+            0,
+            |epoch, opening| if opening.pair == pair {
+                opening.epoch
+            } else {
+                epoch
+            },
+        )
     }
 
     /// Counts octets that a side's host took from the caller of `id`.
-    pub(super) fn wrote(&mut self, side: Side, id: SocketId, octets: usize) {
-        for place in 0..self.openings.len() {
-            let opening = self.openings[place];
-            if opening.side == side && opening.id == id && place < self.written.len() {
-                self.written[place] = self.written[place].saturating_add(octets as u64);
-            }
-        }
+    pub(super) fn wrote(&mut self, side: Side, id: SocketId, octets: usize)
+        requires { (i : ℕ) → slice_index_or self.old.written.items i 0 < 2 ^ 127 }
+        ensures openings { self.new.openings.items ≡ self.old.openings.items }
+        ensures written { self.new.written.items ≡ counted self.old.openings.items self.old.written.items side id octets }
+    {
+        count(
+            self.openings.as_slice(),
+            self.written.as_mut_slice(),
+            side,
+            id,
+            octets,
+        );
     }
 
     /// How many octets a side's host took for this pair in this epoch.
-    pub(super) fn written(&self, side: Side, pair: Pair, epoch: u64) -> u64
+    pub(super) fn written(&self, side: Side, pair: Pair, epoch: u64) -> u128
         ensures { result ≡ written_by self.now.openings.items self.now.written.items side pair epoch }
     {
         written_by(
@@ -91,7 +106,7 @@ impl Ledger {
 
 /// The count beside the opening by which the host of `side` came to hold `pair` in `epoch`; 0 where there is none.
 #[tactic(auto, using(crate::proofs::Counts::counts))]
-fn written_by(openings: &[Opening], written: &[u64], side: Side, pair: Pair, epoch: u64) -> u64
+fn written_by(openings: &[Opening], written: &[u128], side: Side, pair: Pair, epoch: u64) -> u128
     ensures { result ≡ written_by openings.now written.now side pair epoch }
 {
     for place in 0..openings.len().min(written.len()) {
@@ -100,4 +115,16 @@ fn written_by(openings: &[Opening], written: &[u64], side: Side, pair: Pair, epo
         }
     }
     0
+}
+
+/// Counts octets beside each opening by which the host of `side` made the entry `id`.
+fn count(openings: &[Opening], written: &mut [u128], side: Side, id: SocketId, octets: usize)
+    requires { (i : ℕ) → slice_index_or written.old i 0 < 2 ^ 127 }
+    ensures { written.new ≡ counted openings.now written.old side id octets }
+{
+    for place in 0..openings.len().min(written.len()) {
+        if openings[place].is_at(side, id) {
+            written[place] += octets as u128;
+        }
+    }
 }

@@ -1,8 +1,8 @@
 //! A world: two hosts and all that happened to them.
 
-ghost use Rattle.std.specs.Prelude.{◌≡◌, ◌<◌, ◌≤◌, ◌+◌, [], ◌∷◌, ◌++◌, length, take, ◌^◌, ◌↔◌, vec_len, vec_capacity, OnOk, OnErr, IfOk, IfErr, MatchOption};
+ghost use Rattle.std.specs.Prelude.{◌≡◌, ◌<◌, ◌≤◌, ◌+◌, true, length, take, drop, ◌^◌, ◌↔◌, vec_len, vec_capacity, OnOk, OnErr, IfOk, IfErr, MatchOption};
 ghost use Rattle.wire_sim.specs.declared.event.Answer.{Answer};
-ghost use Rattle.wire_sim.specs.Room.{HasRoom, CanOpen, RoomFor};
+ghost use Rattle.wire_sim.specs.Steps.{asked_by, is_emission};
 ghost use Rattle.wire_sim.specs.WorldView.{network_view};
 
 mod bag;
@@ -29,21 +29,30 @@ pub struct World {
 }
 
 impl Model for World {
+    ghost use Rattle.std.specs.Prelude.{ℕ, ◌*◌, ◌≤◌, length, slice_index_or};
     ghost use Rattle.wire_sim.specs.WorldView.{WorldView, network_view};
+    ghost use Rattle.wire_sim.specs.Runs.{IsReached};
 
     ghost Value = { WorldView };
 
     ghost view = { λ w. record { network = network_view w.network; trace = w.trace.items } };
+
+    // One event adds at most 65,535 octets to a count, which is what a connection's buffer holds. What stands in the fields is what
+    // a run of the definitions leads to.
+    ghost invariant = { λ w. ((i : ℕ) → slice_index_or w.network.ledger.written.items i 0 ≤ 65535 * length w.trace.items)
+        × IsReached w.network.limit (record { network = network_view w.network; trace = w.trace.items }) };
 }
 
 impl World {
-    ghost use Rattle.wire_sim.specs.Steps.{other_side, side_of, IsKept, FramesAfter, TickAfter};
-    ghost use Rattle.wire_sim.specs.WorldView.{WorldView, SameAnswer, unfair, fresh_world};
+    ghost use Rattle.wire_sim.specs.Runs.{unfair, IsStep, RunsTo};
+    ghost use Rattle.wire_sim.specs.Trace.{StreamLaw};
+    ghost use Rattle.wire_sim.specs.WorldView.{WorldView, SameAnswer, fresh_world};
 
     /// Two hosts that know each other, no frames, and nothing happened. SameAddress where both have one address; NoMemory.
     pub fn new(alloc: Global, a: Config, b: Config) -> Result<World, WorldFault>
         ensures same { (result ≡ Err WorldFault.SameAddress) ↔ (a ≡ b) }
         ensures fresh { IfOk result (λ world. world ≡ fresh_world a b (2 ^ 30)) }
+        ensures lawful { IfOk result (λ world. StreamLaw world.trace world.network.openings) }
     {
         World::with_limit(alloc, a, b, LIMIT)
     }
@@ -53,6 +62,7 @@ impl World {
         requires { (1 ≤ limit) × (limit ≤ 2 ^ 30) }
         ensures same { (result ≡ Err WorldFault.SameAddress) ↔ (a ≡ b) }
         ensures fresh { IfOk result (λ world. world ≡ fresh_world a b limit) }
+        ensures lawful { IfOk result (λ world. StreamLaw world.trace world.network.openings) }
     {
         if a.addr() == b.addr() {
             return Err(WorldFault::SameAddress);
@@ -68,16 +78,13 @@ impl World {
     ///
     /// NoSuchFrame, Stale, NoMemory, tested in this order; the world is then as it was.
     pub fn step(&mut self, event: Event) -> Result<Answer, Unfair>
-        ensures unfair { MatchOption (unfair self.old.network event)
+        ensures unfair { MatchOption (unfair self.old event)
             (IfErr result (λ refusal. refusal ≡ Unfair.NoMemory)) (λ refusal. result ≡ Err refusal) }
         ensures refused { OnErr result (self.new ≡ self.old) }
-        ensures other { IsKept (other_side (side_of event)) self.old.network.stations self.new.network.stations }
-        ensures frames { IfOk result (λ told. FramesAfter event told self.old.network self.new.network) }
-        ensures tick { OnOk result (TickAfter event self.old.network self.new.network) }
-        ensures limit { self.new.network.limit ≡ self.old.network.limit }
-        ensures traced { IfOk result (λ told. (answer : Answer) × SameAnswer told answer
-            × (self.new.trace ≡ self.old.trace ++ record { event = event; answer = answer } ∷ [])) }
+        ensures taken { IfOk result (λ told. (answer : Answer) × SameAnswer told answer × IsStep event answer self.old self.new) }
+        ensures lawful { StreamLaw self.new.trace self.new.network.openings }
     {
+        self.network.sound();
         self.network.admits(&event)?;
         let Ok(room) = reserve(self.alloc, &mut self.network, &mut self.trace, &event) else {
             return Err(Unfair::NoMemory);
@@ -97,10 +104,12 @@ impl World {
     ) -> Result<(), WorldFault>
         ensures kept { take (length results.old.items) results.new.items ≡ results.old.items }
         ensures one_each { OnOk result (length results.new.items ≡ length results.old.items + length events.now) }
-        ensures limit { self.new.network.limit ≡ self.old.network.limit }
+        ensures steps { OnOk result (RunsTo events.now (drop (length results.old.items) results.new.items) self.old self.new) }
         ensures err { OnErr result ((self.new ≡ self.old) × (results.new.items ≡ results.old.items)) }
         ensures fault { IfErr result (λ fault. fault ≡ WorldFault.NoMemory) }
+        ensures lawful { StreamLaw self.new.trace self.new.network.openings }
     {
+        let _ = &self.alloc;
         if results.reserve(events.len()).is_err() {
             return Err(WorldFault::NoMemory);
         }
@@ -123,7 +132,8 @@ impl World {
 
     /// The events that were taken, with their answers, in order.
     pub fn trace(&self) -> &[Happening]
-        ensures { result.now ≡ self.now.trace }
+        ensures trace { result.now ≡ self.now.trace }
+        ensures lawful { StreamLaw result.now self.now.network.openings }
     {
         self.trace.as_slice()
     }
@@ -138,10 +148,12 @@ fn reserve(
 ) -> Result<Room, AllocError>
     ensures network { network_view network.new ≡ network_view network.old }
     ensures trace { trace.new.items ≡ trace.old.items }
-    ensures bag { OnOk result (HasRoom network.new.bag) }
-    ensures ledger { OnOk result (CanOpen network.new.ledger) }
-    ensures happening { OnOk result (HasRoom trace.new) }
-    ensures room { IfOk result (λ room. RoomFor event.now room.octets) }
+    ensures bag { OnOk result (vec_len network.new.bag < vec_capacity network.new.bag) }
+    ensures openings { OnOk result (vec_len network.new.ledger.openings < vec_capacity network.new.ledger.openings) }
+    ensures counts { OnOk result (vec_len network.new.ledger.written < vec_capacity network.new.ledger.written) }
+    ensures happening { OnOk result (vec_len trace.new < vec_capacity trace.new) }
+    ensures read { IfOk result (λ room. vec_len room.octets ≡ asked_by event.now) }
+    ensures room { IfOk result (λ room. is_emission event.now ≡ true → 1514 ≤ vec_capacity room.octets) }
 {
     network.reserve()?;
     trace.reserve(1)?;

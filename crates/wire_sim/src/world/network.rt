@@ -1,8 +1,7 @@
 //! Two hosts, the frames that they emitted, and the openings of their connections.
 
-ghost use Rattle.std.specs.Prelude.{◌≡◌, ◌<◌, ◌≤◌, vec_len, vec_capacity, OnOk, IfOk, IfErr};
+ghost use Rattle.std.specs.Prelude.{◌≡◌, ℕ, ◌<◌, ◌≤◌, ◌^◌, true, None, vec_len, vec_capacity, slice_index_or, option_map, option_and_then, OnOk, IfOk, IfErr};
 ghost use Rattle.std.specs.Result.{result_err};
-ghost use Rattle.wire_sim.specs.Room.{HasRoom, CanOpen, RoomFor};
 
 use super::bag::{Frame, Note};
 use super::ledger::Ledger;
@@ -10,23 +9,29 @@ use super::station::Station;
 use crate::event::{Answer, Call, Event, Opening, Side, Unfair, WorldFault};
 use crate::host::{Config, SocketId};
 use crate::room::{MOST_FRAME, filled};
+use ipv4::Pair;
 use std::alloc::{AllocError, Global};
-use ipv4::{Addr, Endpoint, Pair};
-use tcp_segment::{Seq, TcpView};
+use tcp_segment::Seq;
 use tcp_state::Moment;
 
 /// Two hosts, each the other's neighbour, the frames that they emitted, and the openings.
 #[derive(Drop)]
 pub(super) struct Network {
     limit: u64,
-    stations: [Station; 2],
+    a: Station,
+    b: Station,
     bag: Vec<Frame>,
     ledger: Ledger,
 }
 
 impl Network {
-    ghost use Rattle.wire_sim.specs.Steps.{other_side, side_of, IsKept, FramesAfter, IsTicked, TickAfter};
-    ghost use Rattle.wire_sim.specs.WorldView.{network_view, fresh_network, unfair, is_stale, octets_len};
+    ghost use Rattle.wire_sim.specs.Steps.{Steps, station_of, host_of, with_openings, noted, asked_of, asked_by, is_emission};
+    ghost use Rattle.wire_sim.specs.Sides.{other_side};
+    ghost use Rattle.wire_sim.specs.HostView.{holder_id};
+    ghost use Rattle.wire_sim.specs.Runs.{IsNumbered, IsNumberedCall};
+    ghost use Rattle.wire_sim.specs.Openings.{due_pair, opened_by_connect};
+    ghost use Rattle.wire_sim.specs.WorldView.{network_view, fresh_network, unfair_counted, is_stale, octets_len};
+    ghost use Rattle.wire_sim.specs.Runs.{IsSoundHost};
 
     /// Two hosts with no frames between them. NoMemory.
     pub(super) fn new(
@@ -40,10 +45,8 @@ impl Network {
     {
         Ok(Network {
             limit,
-            stations: [
-                Station::new(alloc, a, b.addr())?,
-                Station::new(alloc, b, a.addr())?,
-            ],
+            a: Station::new(alloc, a, b.addr())?,
+            b: Station::new(alloc, b, a.addr())?,
             bag: Vec::new(alloc),
             ledger: Ledger::new(alloc),
         })
@@ -56,9 +59,19 @@ impl Network {
         self.ledger.openings()
     }
 
+    /// The host of a side, with its clock.
+    fn station(&self, side: Side) -> &Station
+        ensures { result.now ≡ station_of (network_view self.now) side }
+    {
+        match side {
+            Side::A => &self.a,
+            Side::B => &self.b,
+        }
+    }
+
     /// Whether the host that an event names may take it.
     pub(super) fn admits(&self, event: &Event) -> Result<(), Unfair>
-        ensures { result_err result ≡ unfair (network_view self.now) event.now }
+        ensures { result_err result ≡ unfair_counted (network_view self.now) event.now }
     {
         match event {
             Event::Deliver(side, index, isn) => self.may_deliver(*side, *index, *isn),
@@ -68,7 +81,7 @@ impl Network {
 
     /// Whether the host of `side` may take the frame `index`.
     fn may_deliver(&self, side: Side, index: usize, isn: Seq) -> Result<(), Unfair>
-        ensures { result_err result ≡ unfair (network_view self.now) (Event.Deliver side index isn) }
+        ensures { result_err result ≡ unfair_counted (network_view self.now) (Event.Deliver side index isn) }
     {
         if index >= self.bag.len() {
             return Err(Unfair::NoSuchFrame);
@@ -87,16 +100,27 @@ impl Network {
     fn is_stale(&self, note: Note) -> bool
         ensures { result ≡ is_stale (network_view self.now) note }
     {
+        let limit = u128::from(self.limit);
         let at_a = self.ledger.written(Side::A, note.pair, note.epoch);
         let at_b = self.ledger.written(Side::B, note.pair, note.epoch);
-        at_a.saturating_sub(note.at_a) >= self.limit || at_b.saturating_sub(note.at_b) >= self.limit
+        at_a.saturating_sub(note.at_a) >= limit || at_b.saturating_sub(note.at_b) >= limit
+    }
+
+    /// What each connection keeps of itself, for the contracts above; it changes nothing.
+    pub(super) fn sound(&self)
+        ensures a { IsSoundHost self.now.a.host }
+        ensures b { IsSoundHost self.now.b.host }
+    {
+        self.a.sound();
+        self.b.sound();
     }
 
     /// Makes room for one more frame and one more opening.
     pub(super) fn reserve(&mut self) -> Result<(), AllocError>
         ensures kept { network_view self.new ≡ network_view self.old }
-        ensures bag { OnOk result (HasRoom self.new.bag) }
-        ensures ledger { OnOk result (CanOpen self.new.ledger) }
+        ensures bag { OnOk result (vec_len self.new.bag < vec_capacity self.new.bag) }
+        ensures openings { OnOk result (vec_len self.new.ledger.openings < vec_capacity self.new.ledger.openings) }
+        ensures written { OnOk result (vec_len self.new.ledger.written < vec_capacity self.new.ledger.written) }
     {
         self.bag.reserve(1)?;
         self.ledger.reserve()
@@ -104,14 +128,16 @@ impl Network {
 
     /// Gives an event, at this place in the trace, to its host. `octets` is what it reads into, or room for what it emits.
     pub(super) fn perform(&mut self, event: &Event, place: usize, octets: Vec<u8>) -> Answer
-        requires bag { HasRoom self.old.bag }
-        requires ledger { CanOpen self.old.ledger }
-        requires room { RoomFor event.now octets }
+        requires fair { unfair_counted (network_view self.old) event.now ≡ None }
+        requires bag { vec_len self.old.bag < vec_capacity self.old.bag }
+        requires openings { vec_len self.old.ledger.openings < vec_capacity self.old.ledger.openings }
+        requires written { vec_len self.old.ledger.written < vec_capacity self.old.ledger.written }
+        requires counts { (i : ℕ) → slice_index_or self.old.ledger.written.items i 0 < 2 ^ 127 }
+        requires read { vec_len octets ≡ asked_by event.now }
+        requires room { is_emission event.now ≡ true → 1514 ≤ vec_capacity octets }
         ensures octets { octets_len result ≤ vec_len octets }
-        ensures other { IsKept (other_side (side_of event.now)) self.old.stations self.new.stations }
-        ensures frames { FramesAfter event.now result (network_view self.old) (network_view self.new) }
-        ensures tick { TickAfter event.now (network_view self.old) (network_view self.new) }
-        ensures limit { self.new.limit ≡ self.old.limit }
+        ensures numbered { IsNumbered event.now }
+        ensures step { Steps event.now place result (network_view self.old) (network_view self.new) }
     {
         match event {
             Event::Call(side, call) => self.call(*side, call, place, octets),
@@ -122,25 +148,29 @@ impl Network {
     }
 
     /// Ticks a side's host.
-    #[tactic(auto, using(crate::proofs::Sides::sides))]
     fn tick(&mut self, side: Side, moment: Moment) -> Answer
-        ensures answer { result ≡ Answer.Done }
-        ensures other { IsKept (other_side side) self.old.stations self.new.stations }
-        ensures after { IsTicked side moment (network_view self.old) (network_view self.new) }
+        ensures { Steps (Event.Tick side moment) 0 result (network_view self.old) (network_view self.new) }
     {
-        self.stations[side.index()].tick(moment)
+        match side {
+            Side::A => self.a.tick(moment),
+            Side::B => self.b.tick(moment),
+        }
     }
 
     /// Makes a socket call, and notes what it opened or wrote.
-    #[tactic(auto, using(crate::proofs::Sides::sides))]
     fn call(&mut self, side: Side, call: &Call, place: usize, octets: Vec<u8>) -> Answer
-        requires { CanOpen self.old.ledger }
+        requires openings { vec_len self.old.ledger.openings < vec_capacity self.old.ledger.openings }
+        requires written { vec_len self.old.ledger.written < vec_capacity self.old.ledger.written }
+        requires counts { (i : ℕ) → slice_index_or self.old.ledger.written.items i 0 < 2 ^ 127 }
+        requires read { vec_len octets ≡ asked_of call.now }
         ensures octets { octets_len result ≤ vec_len octets }
-        ensures other { IsKept (other_side side) self.old.stations self.new.stations }
-        ensures frames { self.new.bag ≡ self.old.bag }
-        ensures limit { self.new.limit ≡ self.old.limit }
+        ensures numbered { IsNumberedCall call.now }
+        ensures step { Steps (Event.Call side call.now) place result (network_view self.old) (network_view self.new) }
     {
-        let answer = self.stations[side.index()].call(call, octets);
+        let answer = match side {
+            Side::A => self.a.call(call, octets),
+            Side::B => self.b.call(call, octets),
+        };
         match (call, &answer) {
             (Call::Connect { id, .. }, Answer::Started) => self.note_connect(side, *id, place),
             (Call::Send { id, .. }, Answer::Sent(taken)) => self.ledger.wrote(side, *id, *taken),
@@ -151,18 +181,18 @@ impl Network {
 
     /// Notes the opening by a connect: the pair's epoch rises where the other host does not hold the pair.
     fn note_connect(&mut self, side: Side, id: SocketId, place: usize)
-        requires { CanOpen self.old.ledger }
-        ensures stations { self.new.stations ≡ self.old.stations }
-        ensures frames { self.new.bag ≡ self.old.bag }
-        ensures limit { self.new.limit ≡ self.old.limit }
+        requires openings { vec_len self.old.ledger.openings < vec_capacity self.old.ledger.openings }
+        requires written { vec_len self.old.ledger.written < vec_capacity self.old.ledger.written }
+        ensures { network_view self.new ≡ with_openings (network_view self.old)
+            (opened_by_connect self.old.ledger.openings.items side id place (host_of (network_view self.old) side) (host_of (network_view self.old) (other_side side))) }
     {
-        let Some(pair) = self.stations[side.index()].pair_of(id) else {
+        let Some(pair) = self.station(side).pair_of(id) else {
             return;
         };
         let epoch = self.ledger.epoch(pair);
-        let epoch = match self.stations[side.other().index()].holder(Some(pair)) {
+        let epoch = match self.station(side.other()).holder(pair) {
             Some(_) => epoch,
-            None => epoch.saturating_add(1),
+            None => epoch + 1,
         };
         self.ledger.open(Opening {
             side,
@@ -174,24 +204,24 @@ impl Network {
     }
 
     /// Takes the frame that is due at a host, if there is one, and puts it into the bag.
-    #[tactic(auto, using(crate::proofs::Sides::sides))]
     fn emit(&mut self, side: Side, octets: Vec<u8>) -> Answer
-        requires bag { HasRoom self.old.bag }
+        requires bag { vec_len self.old.bag < vec_capacity self.old.bag }
         requires empty { vec_len octets ≡ 0 }
         requires room { 1514 ≤ vec_capacity octets }
         ensures octets { octets_len result ≡ 0 }
-        ensures other { IsKept (other_side side) self.old.stations self.new.stations }
-        ensures frames { FramesAfter (Event.Emit side) result (network_view self.old) (network_view self.new) }
-        ensures ledger { self.new.ledger ≡ self.old.ledger }
-        ensures limit { self.new.limit ≡ self.old.limit }
+        ensures step { Steps (Event.Emit side) 0 result (network_view self.old) (network_view self.new) }
     {
+        let note = self.noted(side);
         let mut out = [0; MOST_FRAME];
-        let Some(len) = self.stations[side.index()].next_frame(&mut out) else {
+        let emitted = match side {
+            Side::A => self.a.next_frame(&mut out),
+            Side::B => self.b.next_frame(&mut out),
+        };
+        let Some(len) = emitted else {
             return Answer::NoFrame;
         };
         let mut octets = filled(octets, &out[..len]);
         octets.shrink_to_fit();
-        let note = self.noted(side, octets.as_slice());
         let index = self.bag.len();
         self.bag.push_reserved(Frame {
             sender: side,
@@ -201,14 +231,11 @@ impl Network {
         Answer::Frame { index, len }
     }
 
-    /// What is noted of a frame that `sender` emits now.
-    fn noted(&self, sender: Side, octets: &[u8]) -> Option<Note> {
-        let src = self.stations[sender.index()].addr;
-        let dst = self.stations[sender.other().index()].addr;
-        let Ok(segment) = TcpView::parse(src, dst, octets) else {
-            return None;
-        };
-        let pair = pair_of_segment(src, dst, &segment);
+    /// What is noted of the frame that `sender` emits now.
+    fn noted(&self, sender: Side) -> Option<Note>
+        ensures { result ≡ option_map (noted (network_view self.now)) (due_pair (host_of (network_view self.now) sender)) }
+    {
+        let pair = self.station(sender).due_pair()?;
         let epoch = self.ledger.epoch(pair);
         Some(Note {
             pair,
@@ -218,24 +245,24 @@ impl Network {
         })
     }
 
-    /// Hands the frame `index` to the host of `side`, and notes the opening where the host then holds a pair anew.
-    #[tactic(auto, using(crate::proofs::Sides::sides))]
+    /// Hands the frame `index` to the host of `side`, and notes the opening where the host then holds its pair anew.
     fn deliver(&mut self, side: Side, index: usize, isn: Seq, place: usize) -> Answer
-        requires { CanOpen self.old.ledger }
+        requires openings { vec_len self.old.ledger.openings < vec_capacity self.old.ledger.openings }
+        requires written { vec_len self.old.ledger.written < vec_capacity self.old.ledger.written }
+        requires frame { index < vec_len self.old.bag }
         ensures octets { octets_len result ≡ 0 }
-        ensures other { IsKept (other_side side) self.old.stations self.new.stations }
-        ensures frames { self.new.bag ≡ self.old.bag }
-        ensures limit { self.new.limit ≡ self.old.limit }
+        ensures numbered { isn.0 < 2 ^ 32 }
+        ensures step { Steps (Event.Deliver side index isn) place result (network_view self.old) (network_view self.new) }
     {
-        if index >= self.bag.len() {
-            return Answer::Taken;
-        }
-        let pair = self.bag[index].pair();
-        let station = &mut self.stations[side.index()];
-        let held = station.holder(pair);
-        let answer = station.deliver(isn, self.bag[index].octets.as_slice());
-        let holder = station.holder(pair);
-        if let (Some(pair), None, Some(id)) = (pair, held, holder) {
+        let note = self.bag[index].note;
+        let held = self.holder(side, note);
+        let octets = self.bag[index].octets.as_slice();
+        let answer = match side {
+            Side::A => self.a.deliver(isn, octets),
+            Side::B => self.b.deliver(isn, octets),
+        };
+        let holder = self.holder(side, note);
+        if let (Some(Note { pair, .. }), None, Some(id)) = (note, held, holder) {
             let epoch = self.ledger.epoch(pair);
             self.ledger.open(Opening {
                 side,
@@ -247,18 +274,11 @@ impl Network {
         }
         answer
     }
-}
 
-/// The pair of the connection of a segment from `src` to `dst`.
-fn pair_of_segment(src: Addr, dst: Addr, segment: &TcpView<'_>) -> Pair {
-    Pair::new(
-        Endpoint {
-            addr: src,
-            port: segment.source(),
-        },
-        Endpoint {
-            addr: dst,
-            port: segment.destination(),
-        },
-    )
+    /// The entry by which a side's host holds the pair of a frame.
+    fn holder(&self, side: Side, note: Option<Note>) -> Option<SocketId>
+        ensures { result ≡ option_and_then (λ note. holder_id (host_of (network_view self.now) side) note.pair) note }
+    {
+        self.station(side).holder(note?.pair)
+    }
 }

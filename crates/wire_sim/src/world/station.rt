@@ -3,26 +3,29 @@
 ghost use Rattle.std.specs.Prelude.{◌≡◌, ◌<◌, ◌≤◌, IfSome, OnSome, IfNone, IfOk, IfErr, vec_len, MatchResult};
 ghost use Rattle.wire_sim.specs.WorldView.{octets_len};
 ghost use Rattle.std.specs.Result.{ForOk};
+ghost use Rattle.wire_sim.specs.Calls.{recv_answer};
+ghost use Rattle.wire_sim.specs.Steps.{MeetsReceived};
 
 use crate::event::{Answer, Call, WorldFault};
 use crate::host::{Config, Host, Refusal, SocketId};
-use std::alloc::Global;
 use ipv4::{Addr, Pair};
+use std::alloc::Global;
 use tcp_segment::Seq;
 use tcp_state::{Moment, Received};
 
-/// A host, its address, and the greatest moment of its ticks.
+/// A host, and the greatest moment of its ticks.
 #[derive(Drop)]
 pub(super) struct Station {
     host: Host,
-    pub(super) addr: Addr,
     clock: Moment,
 }
 
 impl Station {
-    ghost use Rattle.wire_sim.specs.HostView.{emission_len, emission_front, after_emission};
+    ghost use Rattle.wire_sim.specs.HostView.{emission_len, emission_front, after_emission, holder_id};
     ghost use Rattle.wire_sim.specs.WorldView.{fresh_station};
-    ghost use Rattle.wire_sim.specs.Steps.{ticked_station};
+    ghost use Rattle.wire_sim.specs.Steps.{ticked_station, asked_of, MeetsCall, MeetsFrame};
+    ghost use Rattle.wire_sim.specs.Openings.{socket_pair, due_pair};
+    ghost use Rattle.wire_sim.specs.Runs.{IsSoundHost, IsNumberedCall};
 
     /// A host whose clock stands at 0.
     pub(super) fn new(alloc: Global, config: Config, neighbour: Addr) -> Result<Station, WorldFault>
@@ -32,7 +35,6 @@ impl Station {
         match Host::new(alloc, config, neighbour) {
             Ok(host) => Ok(Station {
                 host,
-                addr: config.addr(),
                 clock: Moment(0),
             }),
             Err(_) => Err(WorldFault::NoMemory),
@@ -41,7 +43,11 @@ impl Station {
 
     /// Makes a socket call, which reads octets into `buffer`.
     pub(super) fn call(&mut self, call: &Call, buffer: Vec<u8>) -> Answer
-        ensures { octets_len result ≤ vec_len buffer }
+        requires { vec_len buffer ≡ asked_of call.now }
+        ensures octets { octets_len result ≤ vec_len buffer }
+        ensures answer { MeetsCall call.now self.old.host result self.new.host }
+        ensures numbered { IsNumberedCall call.now }
+        ensures clock { self.new.clock ≡ self.old.clock }
     {
         let host = &mut self.host;
         match call {
@@ -87,19 +93,39 @@ impl Station {
         self.host.next_frame(self.clock, out)
     }
 
-    /// The entry that holds a pair, where there is a pair.
-    pub(super) fn holder(&self, pair: Option<Pair>) -> Option<SocketId> {
-        self.host.holds(pair?)
+    /// The entry that holds a pair.
+    pub(super) fn holder(&self, pair: Pair) -> Option<SocketId>
+        ensures { result ≡ holder_id self.now.host pair }
+    {
+        self.host.holds(pair)
     }
 
-    /// The pair of the connection of the entry `id`.
-    pub(super) fn pair_of(&self, id: SocketId) -> Option<Pair> {
+    /// The pair of the connection of the socket `id`.
+    pub(super) fn pair_of(&self, id: SocketId) -> Option<Pair>
+        ensures { result ≡ socket_pair self.now.host id }
+    {
         self.host.pair_of(id)
+    }
+
+    /// The pair of the connection whose segment is due.
+    pub(super) fn due_pair(&self) -> Option<Pair>
+        ensures { result ≡ due_pair self.now.host }
+    {
+        self.host.due_pair()
+    }
+
+    /// What each connection keeps of itself, for the contracts above; it changes nothing.
+    pub(super) fn sound(&self)
+        ensures { IsSoundHost self.now.host }
+    {
+        self.host.sound();
     }
 
     /// Hands a frame's octets to the host.
     pub(super) fn deliver(&mut self, isn: Seq, octets: &[u8]) -> Answer
-        ensures { octets_len result ≡ 0 }
+        ensures octets { octets_len result ≡ 0 }
+        ensures answer { MeetsFrame self.old.host isn.0 octets.now result self.new.host }
+        ensures clock { self.new.clock ≡ self.old.clock }
     {
         match self.host.deliver(self.clock, isn, octets) {
             Ok(()) => Answer::Taken,
@@ -121,7 +147,8 @@ fn answered<T, F: FnOnce(T) -> Answer>(outcome: Result<T, Refusal>, answer: F) -
 
 /// Reads octets of the socket `id` into `buffer`.
 fn received(host: &mut Host, id: SocketId, mut buffer: Vec<u8>) -> Answer
-    ensures { octets_len result ≤ vec_len buffer }
+    ensures octets { octets_len result ≤ vec_len buffer }
+    ensures answer { MeetsReceived host.old id (vec_len buffer) (recv_answer host.old id (vec_len buffer)) result host.new }
 {
     match host.recv(id, buffer.as_mut_slice()) {
         Ok(Received::Octets(len)) => {

@@ -31,7 +31,6 @@ returns-in-Some c =
     let found : find test h.entries ≡ Some x = find-position test h.entries c.in-Some.place x place at in
     let fates : c.segment-fate.result ≡ fate_of s x.role = c.segment-fate.ensures.fate ∙ ap (λ (e : Entry). fate_of s e.role) (sym c.index-deref_mut-place.is) in
     meets_becomes _ _ _ _ (arrival-found h c.args.isn.0 s x found) (
-    ap (λ (ws : List Entry). let r : HostView = record { addr = c.self.inside.addr; neighbour = c.self.inside.neighbour; kept = c.self.inside.kept; last_port = c.self.inside.last_port; last_id = c.self.inside.last_id; entries = ws } in r) c.settle.ensures
-    ∙ entry_settled _ _ test s _ _ _ _ c.segment-fate.result c.self.view_is place c.deref_mut.ensures.value c.index-deref_mut-place.is c.segment-fate.ensures.after
+    entry_settled _ _ test s _ _ _ _ _ c.segment-fate.result c.self.view_is place c.deref_mut.ensures.value c.index-deref_mut-place.is c.segment-fate.ensures.after (record { stays = c.settle.ensures.stays; removed = c.settle.ensures.removed })
     ∙ ap (λ (r : Fate). let w : HostView = record h { entries = settled r test s h.entries } in w) fates
     )

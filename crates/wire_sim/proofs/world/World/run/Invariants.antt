@@ -1,5 +1,7 @@
--- There is room for the results that are still to come; those before stay, and each event has one.
-use Rattle.std.proofs.Common.{◌≡◌, ◌+◌, ◌≤◌, length, take, vec_len, vec_capacity}
+-- There is room for the results that are still to come; those before stay, each event has one, and they are those of the steps so far.
+use Rattle.std.proofs.Common.{◌≡◌, ◌+◌, ◌≤◌, length, take, drop, vec_len, vec_capacity}
+use Rattle.wire_sim.specs.Runs.{RunsTo}
+use Rattle.wire_sim.specs.Trace.{StreamLaw}
 use Rattle.wire_sim.proofs.world.World.run.Given as goal
 
 abbrev pub invariant-loop-event : goal.invariant-loop-event
@@ -7,4 +9,5 @@ invariant-loop-event l =
     (vec_len l.results + length l.events ≤ vec_capacity l.results + l.event-index)
     × (length l.results.items ≡ length l.initial.results.items + l.event-index)
     × (take (length l.initial.results.items) l.results.items ≡ l.initial.results.items)
-    × (l.self.network.limit ≡ l.initial.self.network.limit)
+    × StreamLaw l.self.trace l.self.network.openings
+    × RunsTo (take l.event-index l.events) (drop (length l.initial.results.items) l.results.items) l.initial.self l.self

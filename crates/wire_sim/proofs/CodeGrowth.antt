@@ -1,0 +1,143 @@
+-- No step counts more octets at an opening than one send takes.
+use Rattle.std.proofs.Common.{◌≡◌, ℕ, zero, suc, ◌+◌, ◌≤◌, Bool, true, false, List, [], ◌∷◌, ◌++◌, get_or, Option, Some, None, Result, Ok, Err, refl, sym, ap, subst, arith, Vec, Global}
+use Rattle.std.specs.Prelude.{if◌then◌else◌}
+use Rattle.std.specs.List.{slice_get}
+use Rattle.ipv4.specs.declared.addr.Endpoint.{Endpoint}
+use Rattle.tcp_segment.specs.declared.seq.Seq.{Seq}
+use Rattle.tcp_state.specs.declared.calls.Refusal.TheVariants as connection
+use Rattle.tcp_state.specs.Calls.{taken}
+use Rattle.wire_sim.specs.declared.host.entry.SocketId.{SocketId}
+use Rattle.wire_sim.specs.declared.host.entry.Role.{Role}
+use Rattle.wire_sim.specs.declared.host.entry.Role.TheVariants.{Idle, Listener, Connected}
+use Rattle.wire_sim.specs.declared.host.refusal.Refusal.{Refusal}
+use Rattle.wire_sim.specs.declared.event.Side.{Side}
+use Rattle.wire_sim.specs.declared.event.Side.TheVariants.{A, B}
+use Rattle.wire_sim.specs.declared.event.Call.{Call}
+use Rattle.wire_sim.specs.declared.event.Call.TheVariants as call
+use Rattle.wire_sim.specs.declared.event.Event.{Event}
+use Rattle.wire_sim.specs.declared.event.Event.TheVariants as event
+use Rattle.wire_sim.specs.declared.event.Answer.{Answer}
+use Rattle.wire_sim.specs.declared.event.Answer.TheVariants as reply
+use Rattle.wire_sim.specs.declared.event.Opening.{Opening}
+use Rattle.wire_sim.specs.declared.world.bag.Frame.{Frame}
+use Rattle.wire_sim.specs.declared.world.bag.Note.{Note}
+use Rattle.wire_sim.specs.declared.world.station.Station.{Station}
+use Rattle.wire_sim.specs.Calls.{of_connection, sent_answer, send_answer}
+use Rattle.wire_sim.specs.HostView.{HostView, role_of, after_emission}
+use Rattle.wire_sim.specs.Openings.{opened_by_connect, opened_by_frame}
+use Rattle.wire_sim.specs.Sides.{other_side}
+use Rattle.wire_sim.specs.Steps.{station_of, ticked_station, with_station, with_host, with_openings, Answers, MeetsCall, called, delivered, host_of, Steps}
+use Rattle.wire_sim.specs.Tallies.{is_opening_at, counted}
+use Rattle.wire_sim.specs.WorldView.{NetworkView}
+
+-- a count beside an opening that may be one of the socket
+counted_or_kept : (b : Bool) (w n : ℕ) → (if b then w + n else w) ≤ w + n
+counted_or_kept true w n = omega arith
+counted_or_kept false w n = omega arith
+
+pub counted-grows : (os : List Opening) (ws : List ℕ) (side : Side) (id : SocketId) (n i : ℕ) → get_or (counted os ws side id n) i 0 ≤ get_or ws i 0 + n
+counted-grows [] ws side id n i = omega arith
+counted-grows (o ∷ os) [] side id n i = omega arith
+counted-grows (o ∷ os) (w ∷ ws) side id n zero = counted_or_kept (is_opening_at side id o) w n
+counted-grows (o ∷ os) (w ∷ ws) side id n (suc i) = counted-grows os ws side id n i
+
+push-grows : (ws : List ℕ) (i : ℕ) → get_or (ws ++ 0 ∷ []) i 0 ≤ get_or ws i 0
+push-grows [] zero = omega arith
+push-grows [] (suc i) = omega arith
+push-grows (w ∷ ws) zero = omega arith
+push-grows (w ∷ ws) (suc i) = push-grows ws i
+
+with_station-written : (n : NetworkView) (side : Side) (s : Station) (i : ℕ) → get_or (with_station n side s).written i 0 ≡ get_or n.written i 0
+with_station-written n A s i = refl
+with_station-written n B s i = refl
+
+kept-grows : (n : NetworkView) (side : Side) (h : HostView) (i : ℕ) → get_or (with_host n side h).written i 0 ≤ get_or n.written i 0 + 65535
+kept-grows n side h i = omega (arith, with_station-written n side (let s = station_of n side in record s { host = h }) i)
+
+with_openings-grows : (n : NetworkView) (os : List Opening) (i : ℕ) → get_or (with_openings n os).written i 0 ≤ get_or n.written i 0
+with_openings-grows n [] i = omega arith
+with_openings-grows n (o ∷ os) i =
+    let more : NetworkView = record n { openings = n.openings ++ o ∷ []; written = n.written ++ 0 ∷ [] } in
+    omega (arith, with_openings-grows more os i, push-grows n.written i)
+
+-- what a connection answers to a send, by its two tests
+connection_took : (opening full : Bool) (n v : ℕ) → of_connection (if opening then Err connection.EAGAIN else if full then Err connection.EAGAIN else Ok n) ≡ Ok v → n ≡ v
+connection_took true full n v e = cc
+connection_took false true n v e = cc
+connection_took false false n v e = cc
+
+role_took : (role : Role) (octets : List ℕ) (v : ℕ) → sent_answer role octets ≡ Ok v → v ≤ 65535
+role_took (Idle buffers bound) octets v e = cc
+role_took (Listener bound backlog) octets v e = cc
+role_took (Connected c listener) octets v e = let same : taken c octets ≡ v = connection_took _ _ _ v e in omega (arith, same)
+
+-- one send takes at most what a buffer holds
+took : (h : HostView) (id : SocketId) (octets : List ℕ) (v : ℕ) (r : Option Role) → role_of h id ≡ r → send_answer h id octets ≡ Ok v → v ≤ 65535
+took h id octets v None is e = let f = rw is at e in cc
+took h id octets v (Some role) is e = role_took role octets v (rw is at e)
+
+-- the count of a network
+abbrev pub count_at : NetworkView → ℕ → ℕ
+count_at n i = get_or n.written i 0
+
+send-grows : (side : Side) (id : SocketId) (octets : Vec ℕ Global) (place i : ℕ) (n : NetworkView) (answer : Answer) (next old new : HostView) (r : Result ℕ Refusal) → ((v : ℕ) → r ≡ Ok v → v ≤ 65535) → Answers r (λ v. reply.Sent v) next old answer new → count_at (called side (call.Send id octets) answer place n new) i ≤ count_at n i + 65535
+send-grows side id octets place i n answer next old new (Ok v) bound meets =
+    let few : v ≤ 65535 = bound v refl in
+    subst (λ a. count_at (called side (call.Send id octets) a place n new) i ≤ count_at n i + 65535) (sym meets.0) (omega (arith, counted-grows n.openings n.written side id v i, few))
+send-grows side id octets place i n answer next old new (Err e) bound meets =
+    subst (λ a. count_at (called side (call.Send id octets) a place n new) i ≤ count_at n i + 65535) (sym meets.0) (kept-grows n side new i)
+
+connect-grows : (side : Side) (isn : Seq) (id : SocketId) (peer : Endpoint) (place i : ℕ) (n : NetworkView) (answer : Answer) (next old new : HostView) (r : Result (Unit {0}) Refusal) → Answers r (λ v. reply.Started) next old answer new → count_at (called side (call.Connect isn id peer) answer place n new) i ≤ count_at n i + 65535
+connect-grows side isn id peer place i n answer next old new (Ok v) meets =
+    subst (λ a. count_at (called side (call.Connect isn id peer) a place n new) i ≤ count_at n i + 65535) (sym meets.0)
+    (omega (arith, with_openings-grows (with_host n side new) (opened_by_connect n.openings side id place new (host_of n (other_side side))) i, kept-grows n side new i))
+connect-grows side isn id peer place i n answer next old new (Err e) meets =
+    subst (λ a. count_at (called side (call.Connect isn id peer) a place n new) i ≤ count_at n i + 65535) (sym meets.0) (kept-grows n side new i)
+
+-- what a call makes of the counts
+called-grows : (side : Side) (c : Call) (place i : ℕ) (n : NetworkView) (answer : Answer) (new : HostView) → MeetsCall c (host_of n side) answer new → count_at (called side c answer place n new) i ≤ count_at n i + 65535
+called-grows side (call.Socket kind) place i n answer new meets = kept-grows n side new i
+called-grows side (call.Bind id local) place i n answer new meets = kept-grows n side new i
+called-grows side (call.Listen id backlog) place i n answer new meets = kept-grows n side new i
+called-grows side (call.Accept id) place i n answer new meets = kept-grows n side new i
+called-grows side (call.Connect isn id peer) place i n answer new meets = connect-grows side isn id peer place i n answer _ _ new _ meets
+called-grows side (call.Send id octets) place i n answer new meets =
+    send-grows side id octets place i n answer _ _ new _ (λ v. took (host_of n side) id octets.items v _ refl) meets
+called-grows side (call.Recv id len) place i n answer new meets = kept-grows n side new i
+called-grows side (call.State id) place i n answer new meets = kept-grows n side new i
+
+-- what a frame makes of them
+delivered-grows : (side : Side) (place i : ℕ) (o : Option Note) (n : NetworkView) (new : HostView) → count_at (delivered side place o n new) i ≤ count_at n i + 65535
+delivered-grows side place i None n new = kept-grows n side new i
+delivered-grows side place i (Some note) n new =
+    omega (arith, with_openings-grows (with_host n side new) (opened_by_frame n.openings side place note.pair (host_of n side) new) i, kept-grows n side new i)
+
+frame-grows : (side : Side) (index : ℕ) (isn : Seq) (place i : ℕ) (answer : Answer) (old new : NetworkView) (o : Option Frame) → slice_get old.frames index ≡ o → Steps (event.Deliver side index isn) place answer old new → count_at new i ≤ count_at old i + 65535
+frame-grows side index isn place i answer old new None is steps = absurd (rw is at steps)
+frame-grows side index isn place i answer old new (Some f) is steps =
+    let after : new ≡ delivered side place f.note old (host_of new side) = (rw is at steps).1 in
+    omega (arith, ap (λ m. count_at m i) after, delivered-grows side place i f.note old (host_of new side))
+
+emitted-grows : (side : Side) (place i : ℕ) (answer : Answer) (old new : NetworkView) → Steps (event.Emit side) place answer old new → count_at new i ≤ count_at old i + 65535
+emitted-grows side place i (reply.Frame index len) old new steps =
+    omega (arith, ap (λ m. count_at m i) steps.after, kept-grows old side (after_emission (host_of old side) (let s = station_of old side in s.clock)) i)
+emitted-grows side place i reply.NoFrame old new steps = omega (arith, ap (λ m. count_at m i) steps.after)
+emitted-grows side place i (reply.Socket id) old new steps = absurd steps
+emitted-grows side place i reply.Done old new steps = absurd steps
+emitted-grows side place i (reply.Accepted id peer) old new steps = absurd steps
+emitted-grows side place i reply.Started old new steps = absurd steps
+emitted-grows side place i (reply.Sent count) old new steps = absurd steps
+emitted-grows side place i (reply.Octets octets) old new steps = absurd steps
+emitted-grows side place i reply.EndOfStream old new steps = absurd steps
+emitted-grows side place i (reply.State state) old new steps = absurd steps
+emitted-grows side place i reply.Taken old new steps = absurd steps
+emitted-grows side place i (reply.Dropped cause) old new steps = absurd steps
+emitted-grows side place i (reply.Refused refusal) old new steps = absurd steps
+
+pub Steps-grows : (event : Event) (place i : ℕ) (answer : Answer) (old new : NetworkView) → Steps event place answer old new → count_at new i ≤ count_at old i + 65535
+Steps-grows (event.Call side c) place i answer old new steps =
+    omega (arith, ap (λ m. count_at m i) steps.1, called-grows side c place i old answer (host_of new side) steps.0)
+Steps-grows (event.Tick side moment) place i answer old new steps =
+    omega (arith, ap (λ m. count_at m i) steps.1, with_station-written old side (ticked_station (station_of old side) moment) i)
+Steps-grows (event.Emit side) place i answer old new steps = emitted-grows side place i answer old new steps
+Steps-grows (event.Deliver side index isn) place i answer old new steps = frame-grows side index isn place i answer old new _ refl steps

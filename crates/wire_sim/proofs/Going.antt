@@ -1,0 +1,223 @@
+-- What goes out of a connection and of a host.
+use Rattle.std.proofs.Common.{◌≡◌, ◌⊎◌, inl, inr, ℕ, ◌<◌, ◌≤◌, ◌^◌, ◌==◌, ◌&&◌, ◌||◌, nat_lt, min, if◌then◌else◌, Bool, true, false, List, [], length, Ok, arith, refl, sym, ◌∙◌, ap, subst, length-take}
+use Rattle.std.proofs.Common.{Option, Some, None, option_map, option_and_then}
+use Rattle.std.specs.List.{find}
+use Rattle.std.proofs.lemmas.Bool.Decides.{nat_tests}
+use Rattle.ipv4.specs.Addresses.{pair_of}
+use Rattle.tcp_segment.specs.Segment.{Segment, FieldsFit, IsParsed}
+use Rattle.tcp_segment.specs.Sent.{CanBeSent, sent}
+use Rattle.tcp_segment.proofs.Answering.{one_answer}
+use Rattle.tcp_segment.proofs.Checksum.{sent_spelled}
+use Rattle.tcp_state.specs.declared.emission.Due.{Due}
+use Rattle.tcp_state.specs.declared.emission.Due.TheVariants.{Syn, Text, Ack}
+use Rattle.tcp_state.specs.declared.connection.Resend.{Resend}
+use Rattle.tcp_state.specs.declared.connection.Resend.TheVariants as resend
+use Rattle.tcp_state.specs.declared.moment.Moment.{Moment}
+use Rattle.tcp_state.specs.Stream.{outstanding}
+use Rattle.tcp_state.specs.Windows.{sendable}
+use Rattle.tcp_state.specs.View.{View, IsSound, is_opening, is_syn_sent, is_due as is_resend_due, is_idle}
+use Rattle.tcp_state.specs.Due.{MayGoOut, first_due, head_of, octets_of, number_of, flags_of, emitted, emitted_len, after_emitted}
+use Rattle.wire_sim.specs.declared.host.entry.SocketId.{SocketId}
+use Rattle.wire_sim.specs.declared.host.entry.Entry.{Entry}
+use Rattle.wire_sim.specs.declared.host.entry.Role.{Role}
+use Rattle.wire_sim.specs.declared.host.entry.Role.TheVariants.{Idle, Listener, Connected}
+use Rattle.wire_sim.specs.ChannelViews.{IsOfWidth}
+use Rattle.wire_sim.specs.Entries.{is_due, due_len, due_octets, emitted_at}
+use Rattle.wire_sim.specs.HostView.{HostView, emission_len, emission_octets}
+use Rattle.wire_sim.specs.Openings.{due_pair, pair_in}
+use Rattle.wire_sim.specs.Runs.{IsSoundConnection}
+
+-- What is due is a segment that may go out.
+
+-- what the tests of what goes out first come to
+abbrev Tested : Bool → Bool → Bool → Bool → Bool → Bool → ℕ → ℕ → Option Due
+Tested opening unsent again none more owes o few =
+    if opening then (if unsent then Some Syn else (if owes then Some Ack else None)) else if again then Some (Text o) else if none && more then Some (Text few) else (if owes then Some Ack else None)
+
+-- why the first segment goes out
+abbrev Reason : Bool → Bool → Bool → Bool → ℕ → ℕ → Due → Type 0
+Reason opening again more owes o few Syn = opening ≡ true
+Reason opening again more owes o few (Text count) = (opening ≡ false) × (((again ≡ true) × (count ≡ o)) ⊎ ((more ≡ true) × (count ≡ few)))
+Reason opening again more owes o few Ack = owes ≡ true
+
+reason : (opening unsent again none more owes : Bool) (o few : ℕ) (due : Due) → Tested opening unsent again none more owes o few ≡ Some due → Reason opening again more owes o few due
+reason true true again none more owes o few due e = let same : Syn ≡ due = cc in subst (λ d. Reason true again more owes o few d) same refl
+reason true false again none more true o few due e = let same : Ack ≡ due = cc in subst (λ d. Reason true again more true o few d) same refl
+reason true false again none more false o few due e = cc
+reason false unsent true none more owes o few due e = let same : Text o ≡ due = cc in subst (λ d. Reason false true more owes o few d) same (refl, inl (refl, refl))
+reason false unsent false true true owes o few due e = let same : Text few ≡ due = cc in subst (λ d. Reason false false true owes o few d) same (refl, inr (refl, refl))
+reason false unsent false true false true o few due e = let same : Ack ≡ due = cc in subst (λ d. Reason false false false true o few d) same refl
+reason false unsent false true false false o few due e = cc
+reason false unsent false false more true o few due e = let same : Ack ≡ due = cc in subst (λ d. Reason false false more true o few d) same refl
+reason false unsent false false more false o few due e = cc
+
+reason_of : (v : View) (due : Due) → first_due v ≡ Some due
+    → Reason (is_opening v.state) (is_resend_due v.resend) (nat_lt 0 (sendable v.sending)) v.owes_ack (outstanding v.sending) (sendable v.sending) due
+reason_of v due first =
+    let again = is_resend_due v.resend in
+    let none = outstanding v.sending == 0 in
+    reason (is_opening v.state) (none || again) again none (nat_lt 0 (sendable v.sending)) v.owes_ack (outstanding v.sending) (sendable v.sending) due first
+
+-- a timer that came due is not idle
+due_runs : (r : Resend) → is_resend_due r ≡ true → is_idle r ≡ false
+due_runs resend.Due e = refl
+due_runs resend.Idle e = cc
+due_runs (resend.At moment) e = cc
+
+unequal : (n : ℕ) → (n == 0) ≡ false → 0 < n
+unequal n e = grind (arith, nat_tests)
+
+above : (n : ℕ) → nat_lt 0 n ≡ true → 0 < n
+above n e = grind (arith, nat_tests)
+
+owing : (b owes : Bool) → (b && owes) ≡ false → owes ≡ true → b ≡ false
+owing true owes none e = let bad : true ≡ false = sym e ∙ none in cc
+owing false owes none e = refl
+
+-- what goes out first may go out
+pub due-may : (v : View) (due : Due) → IsSound v → first_due v ≡ Some due → MayGoOut v due
+due-may v Syn sound first = reason_of v Syn first
+due-may v (Text count) sound first =
+    let why = reason_of v (Text count) first in
+    let most : outstanding v.sending ≤ min (length v.sending.held) 1460 = subst (λ b. outstanding v.sending ≤ (if b then 1 else min (length v.sending.held) 1460)) why.0 sound.flight in
+    step why.0 most why.1
+  where
+    step : is_opening v.state ≡ false → outstanding v.sending ≤ min (length v.sending.held) 1460
+        → (((is_resend_due v.resend ≡ true) × (count ≡ outstanding v.sending)) ⊎ ((nat_lt 0 (sendable v.sending) ≡ true) × (count ≡ sendable v.sending))) → MayGoOut v (Text count)
+    step opened most (inl (again, same)) =
+        let some : 0 < outstanding v.sending = unequal (outstanding v.sending) (sym sound.timer ∙ due_runs v.resend again) in
+        (opened, omega (arith, some, same), omega (arith, most, same), omega (arith, most, same))
+    step opened most (inr (more, same)) =
+        let some : 0 < sendable v.sending = above (sendable v.sending) more in
+        let few : sendable v.sending ≤ v.sending.smss = omega arith in
+        let held : sendable v.sending ≤ length v.sending.held = omega arith in
+        (opened, omega (arith, some, same), omega (arith, held, same), omega (arith, few, same, sound.segment))
+due-may v Ack sound first = owing (is_syn_sent v.state) v.owes_ack sound.ack (reason_of v Ack first)
+
+-- Its fields are of their width.
+
+number_fits : (v : View) (due : Due) → IsSound v → number_of v due < 2 ^ 32
+number_fits v Syn sound = sound.una
+number_fits v (Text count) sound = sound.una
+number_fits v Ack sound = sound.nxt
+
+acknowledgement_fits : (b : Bool) (n : ℕ) → n < 2 ^ 32 → (if b then n else 0) < 2 ^ 32
+acknowledgement_fits true n fits = fits
+acknowledgement_fits false n fits = omega arith
+
+text_fits : (v : View) (due : Due) → MayGoOut v due → length (octets_of v due) ≤ 1460
+text_fits v Syn may = omega arith
+text_fits v (Text count) may = omega (arith, length-take count v.sending.held, may.3)
+text_fits v Ack may = omega arith
+
+offset_fits : (b : Bool) → (if b then 6 else 5) ≤ 6
+offset_fits true = omega arith
+offset_fits false = omega arith
+
+fields_fit : (v : View) (due : Due) → IsSoundConnection v → FieldsFit (sent (head_of v due) (octets_of v due))
+fields_fit v due k = record {
+  source = k.local.port;
+  destination = k.peer.port;
+  number = number_fits v due k.sound;
+  acknowledgement = acknowledgement_fits (flags_of v due).ack v.receiving.rnext k.sound.rnext;
+  window = omega arith;
+  urgent = omega arith;
+}
+
+-- what may go out can be sent
+pub due-can : (v : View) (due : Due) → IsSoundConnection v → MayGoOut v due → CanBeSent v.local.addr v.peer.addr (head_of v due) (octets_of v due)
+due-can v due k may = record {
+  src_octets = k.local.addr;
+  dst_octets = k.peer.addr;
+  fields = fields_fit v due k;
+  len = omega (arith, text_fits v due may, offset_fits (head_of v due).flags.syn);
+}
+
+-- what may go out is of its width
+pub due-width : (v : View) (due : Due) → IsSoundConnection v → MayGoOut v due → IsOfWidth (sent (head_of v due) (octets_of v due))
+due-width v due k may = record {
+  number = number_fits v due k.sound;
+  acknowledgement = acknowledgement_fits (flags_of v due).ack v.receiving.rnext k.sound.rnext;
+  octets = omega (arith, text_fits v due may);
+}
+
+-- its octets are parsed as itself
+pub emitted-parses : (v : View) (due : Due) (s : Segment) → IsSoundConnection v → MayGoOut v due → IsParsed v.local.addr v.peer.addr (emitted v due) (Ok s)
+    → s ≡ sent (head_of v due) (octets_of v due)
+emitted-parses v due s k may parsed =
+    let one = one_answer v.local.addr v.peer.addr (emitted v due) (Ok s) (Ok (sent (head_of v due) (octets_of v due))) parsed
+    (sent_spelled v.local.addr v.peer.addr (head_of v due) (octets_of v due) (due-can v due k may)) in
+    cc
+
+-- a segment that goes out is between the ports of its connection
+pub emitted-ports : (v : View) (due : Due) → ((sent (head_of v due) (octets_of v due)).source ≡ v.local.port) × ((sent (head_of v due) (octets_of v due)).destination ≡ v.peer.port)
+emitted-ports v due = (refl, refl)
+
+-- What a host emits.
+
+-- the first entry with a segment due is this connection, and its segment goes out
+pub record Emits (h : HostView) (e : Entry) (c : View) (listener : Option SocketId) (due : Due) : Type 0 where
+  pub found : find is_due h.entries ≡ Some e
+  pub role : e.role ≡ Connected c listener
+  pub first : first_due c ≡ Some due
+  pub octets : emission_octets h ≡ emitted c due
+  pub pair : due_pair h ≡ Some (pair_of c.local c.peer)
+
+-- a role with a segment due is a connection
+record Goes (r : Role) (c : View) (listener : Option SocketId) (due : Due) : Type 0 where
+  pub role : r ≡ Connected c listener
+  pub first : first_due c ≡ Some due
+
+goes : (r : Role) (len : ℕ) → due_len r ≡ Some len → (c : View) × (listener : Option SocketId) × (due : Due) × Goes r c listener due
+goes (Connected c listener) len e = of_due (first_due c) refl e
+  where
+    of_due : (o : Option Due) → first_due c ≡ o → option_map (emitted_len c) o ≡ Some len → (d : View) × (l : Option SocketId) × (due : Due) × Goes (Connected c listener) d l due
+    of_due None is e = cc
+    of_due (Some due) is e = (c, listener, due, record { role = refl; first = is })
+goes (Listener local backlog) len e = cc
+goes (Idle buffers bound) len e = cc
+
+octets_due : (c : View) (listener : Option SocketId) (due : Due) → first_due c ≡ Some due → due_octets (Connected c listener) ≡ emitted c due
+octets_due c listener due first =
+    elim (first_due c) as (λ o. o ≡ Some due → elim o as (λ x. List ℕ) [ None ↦ [] | Some d ↦ emitted c d ] ≡ emitted c due) [
+      | None ↦ λ e. cc
+      | Some d ↦ λ e. let same : d ≡ due = cc in ap (λ d. emitted c d) same
+    ] first
+
+octets_found : (h : HostView) (e : Entry) → find is_due h.entries ≡ Some e → emission_octets h ≡ due_octets e.role
+octets_found h e found =
+    elim (find is_due h.entries) as (λ o. o ≡ Some e → elim o as (λ x. List ℕ) [ None ↦ [] | Some d ↦ due_octets d.role ] ≡ due_octets e.role) [
+      | None ↦ λ is. cc
+      | Some d ↦ λ is. let same : d ≡ e = cc in ap (λ (d : Entry). due_octets d.role) same
+    ] found
+
+-- where a host has a segment due, it is that of a connection
+pub emits-some : (h : HostView) (len : ℕ) → emission_len h ≡ Some len → (e : Entry) × (c : View) × (listener : Option SocketId) × (due : Due) × Emits h e c listener due
+emits-some h len due = of_entry (find is_due h.entries) refl due
+  where
+    of_entry : (o : Option Entry) → find is_due h.entries ≡ o → option_and_then (λ e. due_len e.role) o ≡ Some len
+        → (e : Entry) × (c : View) × (listener : Option SocketId) × (due : Due) × Emits h e c listener due
+    of_entry None found is = cc
+    of_entry (Some e) found is =
+        let g = goes e.role len is in
+        let k = g.3 in
+        let emits : Emits h e g.0 g.1 g.2 = record {
+          found = found;
+          role = k.role;
+          first = k.first;
+          octets = octets_found h e found ∙ (ap due_octets k.role ∙ octets_due g.0 g.1 g.2 k.first);
+          pair = ap (λ o. option_and_then (λ (e : Entry). pair_in e.role) o) found ∙ ap pair_in k.role;
+        } in
+        (e, g.0, g.1, g.2, emits)
+
+-- the emission makes of a connection what its segment makes of it
+pub emitted_at-connected : (now : Moment) (c : View) (listener : Option SocketId) (due : Due) → first_due c ≡ Some due
+    → emitted_at now (Connected c listener) ≡ Connected (after_emitted c due now) listener
+emitted_at-connected now c listener due first = ap (λ w. Connected w listener) made
+  where
+    made : elim (first_due c) as (λ x. View) [ None ↦ c | Some d ↦ after_emitted c d now ] ≡ after_emitted c due now
+    made =
+        elim (first_due c) as (λ o. o ≡ Some due → elim o as (λ x. View) [ None ↦ c | Some d ↦ after_emitted c d now ] ≡ after_emitted c due now) [
+          | None ↦ λ e. cc
+          | Some d ↦ λ e. let same : d ≡ due = cc in ap (λ d. after_emitted c d now) same
+        ] first

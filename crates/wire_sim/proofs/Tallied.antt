@@ -1,0 +1,254 @@
+-- What the trace tells of a socket after one happening more, and the counts beside the openings.
+use Rattle.std.proofs.Common.{◌≡◌, ℕ, ◌+◌, ◌<◌, ◌≤◌, ◌-◌, ◌==◌, ◌&&◌, nat_le, cond, Bool, true, false, List, [], ◌∷◌, ◌++◌, map, length, take, Option, Some, arith, refl, sym, ◌∙◌, ap, append_assoc, length-append}
+use Rattle.std.specs.List.{find}
+use Rattle.std.specs.Global.{Vec}
+use Rattle.std.proofs.lemmas.Bool.{eqb-true, eq-eqb, leb-false, and_parts, or_parts}
+use Rattle.std.proofs.lemmas.List.{append-nil, length-take-le}
+use Rattle.ipv4.specs.declared.addr.Endpoint.{Endpoint}
+use Rattle.ipv4.specs.declared.addr.Pair.{Pair}
+use Rattle.tcp_segment.specs.declared.seq.Seq.{Seq}
+use Rattle.tcp_state.specs.declared.moment.Moment.{Moment}
+use Rattle.wire_sim.specs.declared.host.Kind.{Kind}
+use Rattle.wire_sim.specs.declared.host.entry.SocketId.{SocketId}
+use Rattle.wire_sim.specs.declared.host.refusal.Refusal.{Refusal}
+use Rattle.wire_sim.specs.declared.event.Side.{Side}
+use Rattle.wire_sim.specs.declared.event.Side.TheVariants.{A, B}
+use Rattle.wire_sim.specs.declared.event.Call.{Call}
+use Rattle.wire_sim.specs.declared.event.Call.TheVariants as call
+use Rattle.wire_sim.specs.declared.event.Event.TheVariants as event
+use Rattle.wire_sim.specs.declared.event.Answer.{Answer}
+use Rattle.wire_sim.specs.declared.event.Answer.TheVariants as answer
+use Rattle.wire_sim.specs.declared.event.Opening.{Opening}
+use Rattle.wire_sim.specs.declared.event.Happening.{Happening}
+use Rattle.wire_sim.specs.declared.world.bag.Note.{Note}
+use Rattle.wire_sim.specs.Sides.{same_side, other_side}
+use Rattle.wire_sim.specs.Tallies.{is_opening_of, is_opening_at, same_pair, written_by, counted}
+use Rattle.wire_sim.specs.Trace.{same_socket, sent_by_call, sent_by, read_by_call, read_by, sent_on, read_on, of_opening, written}
+use Rattle.wire_sim.specs.WorldView.{NetworkView, written_at, is_stale}
+
+-- how many octets the trace tells that each opening took from its caller
+abbrev pub tallies : List Happening → List Opening → List ℕ
+tallies trace openings = map (λ (o : Opening). length (sent_on o.side o.id trace)) openings
+
+-- a call on a side, and its answer
+abbrev pub answered : Side → Call → Answer → Happening
+answered side c a = record { event = event.Call side c; answer = a }
+
+-- nothing is told of a socket
+abbrev pub IsQuiet : Side → SocketId → Happening → Type 0
+IsQuiet side i h = (sent_by side i h ≡ []) × (read_by side i h ≡ [])
+
+-- Tests.
+
+-- a side is itself
+pub same_side-same : (s : Side) → same_side s s ≡ true
+same_side-same A = refl
+same_side-same B = refl
+
+-- a side is not the other one
+pub same_side-other : (s : Side) → same_side s (other_side s) ≡ false
+same_side-other A = refl
+same_side-other B = refl
+
+-- sides that the test finds the same are
+pub same_side-true : (a b : Side) → same_side a b ≡ true → a ≡ b
+same_side-true A A e = refl
+same_side-true A B e = cc
+same_side-true B A e = cc
+same_side-true B B e = refl
+
+-- the test of two sides does not ask for their order
+pub same_side-swap : (a b : Side) → same_side a b ≡ same_side b a
+same_side-swap A A = refl
+same_side-swap A B = refl
+same_side-swap B A = refl
+same_side-swap B B = refl
+
+-- nor does that of two numbers
+pub eqb-swap : (a b : ℕ) → (a == b) ≡ (b == a)
+eqb-swap a b = step (a == b) (b == a) refl refl
+  where
+    step : (x y : Bool) → (a == b) ≡ x → (b == a) ≡ y → x ≡ y
+    step true true e f = refl
+    step true false e f = let bad : true ≡ false = sym (eq-eqb b a (sym (eqb-true a b e))) ∙ f in cc
+    step false true e f = let bad : true ≡ false = sym (eq-eqb a b (sym (eqb-true b a f))) ∙ e in cc
+    step false false e f = refl
+
+-- One happening more.
+
+-- what was sent on a socket is what was sent before, and then what the last happening tells
+pub sent_on-added : (side : Side) (id : SocketId) (trace : List Happening) (h : Happening) → sent_on side id (trace ++ h ∷ []) ≡ sent_on side id trace ++ sent_by side id h
+sent_on-added side id [] h = append-nil (sent_by side id h)
+sent_on-added side id (x ∷ xs) h = ap (λ octets. sent_by side id x ++ octets) (sent_on-added side id xs h) ∙ sym (append_assoc (sent_by side id x) (sent_on side id xs) (sent_by side id h))
+
+-- and likewise what was read on it
+pub read_on-added : (side : Side) (id : SocketId) (trace : List Happening) (h : Happening) → read_on side id (trace ++ h ∷ []) ≡ read_on side id trace ++ read_by side id h
+read_on-added side id [] h = append-nil (read_by side id h)
+read_on-added side id (x ∷ xs) h = ap (λ octets. read_by side id x ++ octets) (read_on-added side id xs h) ∙ sym (append_assoc (read_by side id x) (read_on side id xs) (read_by side id h))
+
+-- The counts.
+
+-- the count that is looked up is the length of what was written
+pub written_by-tallies : (trace : List Happening) (openings : List Opening) (side : Side) (pair : Pair) (epoch : ℕ)
+    → written_by openings (tallies trace openings) side pair epoch ≡ length (written trace openings side pair epoch)
+written_by-tallies trace openings side pair epoch = go openings
+  where
+    step : (o : Opening) (count : ℕ) (found : Option Opening) → count ≡ length (of_opening (λ o. sent_on side o.id trace) found) → (b : Bool) → (b ≡ true → o.side ≡ side)
+        → cond b (length (sent_on o.side o.id trace)) count ≡ length (of_opening (λ o. sent_on side o.id trace) (cond b (Some o) found))
+    step o count found e true is = ap (λ s. length (sent_on s o.id trace)) (is refl)
+    step o count found e false is = e
+
+    its_side : (o : Opening) → is_opening_of side pair epoch o ≡ true → o.side ≡ side
+    its_side o e = same_side-true o.side side (and_parts (same_side o.side side) (same_pair o.pair pair) (and_parts (same_side o.side side && same_pair o.pair pair) (o.epoch == epoch) e).0).0
+
+    go : (os : List Opening) → written_by os (tallies trace os) side pair epoch ≡ length (written trace os side pair epoch)
+    go [] = refl
+    go (o ∷ os) = step o (written_by os (tallies trace os) side pair epoch) (find (is_opening_of side pair epoch) os) (go os) (is_opening_of side pair epoch o) (its_side o)
+
+-- octets that a send took are counted
+pub tallies-counted : (trace : List Happening) (openings : List Opening) (side : Side) (id : SocketId) (octets : Vec ℕ) (count : ℕ) → count ≤ length octets.items
+    → counted openings (tallies trace openings) side id count ≡ tallies (trace ++ record { event = event.Call side (call.Send id octets); answer = answer.Sent count } ∷ []) openings
+tallies-counted trace openings side id octets count within = go openings
+  where
+    h : Happening
+    h = answered side (call.Send id octets) (answer.Sent count)
+
+    step : (w : ℕ) (b : Bool) → cond b (w + count) w ≡ w + length (cond b (take count octets.items) [])
+    step w true = ap (λ n. w + n) (sym (length-take-le count octets.items within))
+    step w false = omega arith
+
+    test : (o : Opening) → is_opening_at side id o ≡ same_socket o.side o.id side id
+    test o = ap (λ b. b && (o.id.0 == id.0)) (same_side-swap o.side side) ∙ ap (λ b. same_side side o.side && b) (eqb-swap o.id.0 id.0)
+
+    one : (o : Opening) → cond (is_opening_at side id o) (length (sent_on o.side o.id trace) + count) (length (sent_on o.side o.id trace)) ≡ length (sent_on o.side o.id (trace ++ h ∷ []))
+    one o =
+        let w = length (sent_on o.side o.id trace) in
+        ap (λ b. cond b (w + count) w) (test o)
+        ∙ (step w (same_socket o.side o.id side id)
+        ∙ sym (ap length (sent_on-added o.side o.id trace h) ∙ length-append (sent_on o.side o.id trace) (sent_by o.side o.id h)))
+
+    go : (os : List Opening) → counted os (tallies trace os) side id count ≡ tallies (trace ++ h ∷ []) os
+    go [] = refl
+    go (o ∷ os) = ap (λ w. w ∷ counted os (tallies trace os) side id count) (one o) ∙ ap (λ ws. length (sent_on o.side o.id (trace ++ h ∷ [])) ∷ ws) (go os)
+
+-- a happening that tells of no octets leaves the counts
+pub tallies-quiet : (trace : List Happening) (openings : List Opening) (h : Happening) → ((side : Side) (id : SocketId) → sent_by side id h ≡ [])
+    → tallies (trace ++ h ∷ []) openings ≡ tallies trace openings
+tallies-quiet trace openings h quiet = go openings
+  where
+    one : (o : Opening) → sent_on o.side o.id (trace ++ h ∷ []) ≡ sent_on o.side o.id trace
+    one o = sent_on-added o.side o.id trace h ∙ (ap (λ octets. sent_on o.side o.id trace ++ octets) (quiet o.side o.id) ∙ append-nil (sent_on o.side o.id trace))
+
+    go : (os : List Opening) → tallies (trace ++ h ∷ []) os ≡ tallies trace os
+    go [] = refl
+    go (o ∷ os) = ap (λ octets. length octets ∷ tallies (trace ++ h ∷ []) os) (one o) ∙ ap (λ ws. length (sent_on o.side o.id trace) ∷ ws) (go os)
+
+-- an opening of a socket on which nothing was sent has the count 0
+pub tallies-opened : (trace : List Happening) (openings : List Opening) (o : Opening) → sent_on o.side o.id trace ≡ [] → tallies trace (openings ++ o ∷ []) ≡ tallies trace openings ++ 0 ∷ []
+tallies-opened trace [] o none = ap (λ octets. length octets ∷ []) none
+tallies-opened trace (x ∷ xs) o none = ap (λ ws. length (sent_on x.side x.id trace) ∷ ws) (tallies-opened trace xs o none)
+
+-- of a frame that is not stale, both ends took less than the limit from their callers since it went out
+pub timely : (n : NetworkView) (note : Note) → is_stale n note ≡ false → (written_at n A note.pair note.epoch < note.at_a + n.limit) × (written_at n B note.pair note.epoch < note.at_b + n.limit)
+timely n note fresh = (within (written_at n A note.pair note.epoch) note.at_a both.0, within (written_at n B note.pair note.epoch) note.at_b both.1)
+  where
+    both : (nat_le n.limit (written_at n A note.pair note.epoch - note.at_a) ≡ false) × (nat_le n.limit (written_at n B note.pair note.epoch - note.at_b) ≡ false)
+    both = or_parts (nat_le n.limit (written_at n A note.pair note.epoch - note.at_a)) (nat_le n.limit (written_at n B note.pair note.epoch - note.at_b)) fresh
+
+    within : (w at : ℕ) → nat_le n.limit (w - at) ≡ false → w < at + n.limit
+    within w at e = let less : w - at < n.limit = leb-false n.limit (w - at) e in omega arith
+
+-- What a happening tells of a socket.
+
+-- a tick tells of none
+pub quiet-tick : (s : Side) (moment : Moment) (a : Answer) (side : Side) (id : SocketId) → IsQuiet side id (record { event = event.Tick s moment; answer = a })
+quiet-tick s moment a side id = (refl, refl)
+
+-- nor does the going out of a frame
+pub quiet-emit : (s : Side) (a : Answer) (side : Side) (id : SocketId) → IsQuiet side id (record { event = event.Emit s; answer = a })
+quiet-emit s a side id = (refl, refl)
+
+-- nor does its arrival
+pub quiet-deliver : (s : Side) (index : ℕ) (isn : Seq) (a : Answer) (side : Side) (id : SocketId) → IsQuiet side id (record { event = event.Deliver s index isn; answer = a })
+quiet-deliver s index isn a side id = (refl, refl)
+
+-- the test of a call's own side
+own_socket : (side : Side) (id i : SocketId) → same_socket side i side id ≡ (i.0 == id.0)
+own_socket side id i = ap (λ b. b && (id.0 == i.0)) (same_side-same side) ∙ eqb-swap id.0 i.0
+
+-- octets that were sent are told of the socket that sent them, and of no other
+pub sent_by-send : (side : Side) (id i : SocketId) (octets : Vec ℕ) (count : ℕ)
+    → ((i.0 == id.0) ≡ true → sent_by side i (answered side (call.Send id octets) (answer.Sent count)) ≡ take count octets.items)
+    × ((i.0 == id.0) ≡ false → sent_by side i (answered side (call.Send id octets) (answer.Sent count)) ≡ [])
+    × (read_by side i (answered side (call.Send id octets) (answer.Sent count)) ≡ [])
+sent_by-send side id i octets count = (told true, told false, refl)
+  where
+    told : (b : Bool) → (i.0 == id.0) ≡ b → cond (same_socket side i side id) (take count octets.items) [] ≡ cond b (take count octets.items) []
+    told b is = ap (λ b. cond b (take count octets.items) []) (own_socket side id i ∙ is)
+
+-- octets that were read are told of the socket that read them, and of no other
+pub read_by-recv : (side : Side) (id i : SocketId) (len : ℕ) (octets : Vec ℕ)
+    → ((i.0 == id.0) ≡ true → read_by side i (answered side (call.Recv id len) (answer.Octets octets)) ≡ octets.items)
+    × ((i.0 == id.0) ≡ false → read_by side i (answered side (call.Recv id len) (answer.Octets octets)) ≡ [])
+    × (sent_by side i (answered side (call.Recv id len) (answer.Octets octets)) ≡ [])
+read_by-recv side id i len octets = (told true, told false, refl)
+  where
+    told : (b : Bool) → (i.0 == id.0) ≡ b → cond (same_socket side i side id) octets.items [] ≡ cond b octets.items []
+    told b is = ap (λ b. cond b octets.items []) (own_socket side id i ∙ is)
+
+sent_by-elsewhere : (side s : Side) (i : SocketId) (c : Call) (a : Answer) → same_side s side ≡ false → sent_by_call side i s c a ≡ []
+sent_by-elsewhere side s i (call.Send id octets) (answer.Sent count) e = ap (λ b. cond (b && (id.0 == i.0)) (take count octets.items) []) e
+sent_by-elsewhere side s i _ _ e = refl
+
+read_by-elsewhere : (side s : Side) (i : SocketId) (c : Call) (a : Answer) → same_side s side ≡ false → read_by_call side i s c a ≡ []
+read_by-elsewhere side s i (call.Recv id len) (answer.Octets octets) e = ap (λ b. cond (b && (id.0 == i.0)) octets.items []) e
+read_by-elsewhere side s i _ _ e = refl
+
+-- a call tells of no socket of the other side
+pub other-quiet : (side : Side) (c : Call) (a : Answer) (i : SocketId) → IsQuiet (other_side side) i (answered side c a)
+other-quiet side c a i = (sent_by-elsewhere (other_side side) side i c a (same_side-other side), read_by-elsewhere (other_side side) side i c a (same_side-other side))
+
+-- a call that tells of no socket of its own side tells of none
+pub quiet-everywhere : (side : Side) (c : Call) (a : Answer) → ((i : SocketId) → IsQuiet side i (answered side c a)) → (s : Side) (i : SocketId) → IsQuiet s i (answered side c a)
+quiet-everywhere A c a here A i = here i
+quiet-everywhere A c a here B i = other-quiet A c a i
+quiet-everywhere B c a here A i = other-quiet B c a i
+quiet-everywhere B c a here B i = here i
+
+-- Calls that tell of no socket.
+
+-- the making of a socket, whatever is answered
+pub quiet-socket : (side : Side) (kind : Kind) (a : Answer) (i : SocketId) → IsQuiet side i (answered side (call.Socket kind) a)
+quiet-socket side kind a i = (refl, refl)
+
+-- a bind, whatever is answered
+pub quiet-bind : (side : Side) (id : SocketId) (local : Endpoint) (a : Answer) (i : SocketId) → IsQuiet side i (answered side (call.Bind id local) a)
+quiet-bind side id local a i = (refl, refl)
+
+-- a listen, whatever is answered
+pub quiet-listen : (side : Side) (id : SocketId) (backlog : ℕ) (a : Answer) (i : SocketId) → IsQuiet side i (answered side (call.Listen id backlog) a)
+quiet-listen side id backlog a i = (refl, refl)
+
+-- an accept, whatever is answered
+pub quiet-accept : (side : Side) (id : SocketId) (a : Answer) (i : SocketId) → IsQuiet side i (answered side (call.Accept id) a)
+quiet-accept side id a i = (refl, refl)
+
+-- a connect, whatever is answered
+pub quiet-connect : (side : Side) (isn : Seq) (id : SocketId) (peer : Endpoint) (a : Answer) (i : SocketId) → IsQuiet side i (answered side (call.Connect isn id peer) a)
+quiet-connect side isn id peer a i = (refl, refl)
+
+-- a question for the state, whatever is answered
+pub quiet-state : (side : Side) (id : SocketId) (a : Answer) (i : SocketId) → IsQuiet side i (answered side (call.State id) a)
+quiet-state side id a i = (refl, refl)
+
+-- a send that is refused
+pub quiet-send_refused : (side : Side) (id : SocketId) (octets : Vec ℕ) (e : Refusal) (i : SocketId) → IsQuiet side i (answered side (call.Send id octets) (answer.Refused e))
+quiet-send_refused side id octets e i = (refl, refl)
+
+-- a receive that is refused
+pub quiet-recv_refused : (side : Side) (id : SocketId) (len : ℕ) (e : Refusal) (i : SocketId) → IsQuiet side i (answered side (call.Recv id len) (answer.Refused e))
+quiet-recv_refused side id len e i = (refl, refl)
+
+-- a receive at the end of the stream
+pub quiet-recv_end : (side : Side) (id : SocketId) (len : ℕ) (i : SocketId) → IsQuiet side i (answered side (call.Recv id len) answer.EndOfStream)
+quiet-recv_end side id len i = (refl, refl)

@@ -1,0 +1,5 @@
+use Rattle.wire_sim.proofs.WorldLaw.{run_tallied}
+use Rattle.wire_sim.proofs.laws.every_run_is_tallied.Goals as goal
+
+pub returns : goal.returns
+returns c = run_tallied

@@ -1,0 +1,54 @@
+-- Which events open a pair, and in which of its epochs.
+use Rattle.std.specs.Prelude.{ℕ, ◌+◌, if◌then◌else◌, List, [], ◌∷◌, fold, Option, Some, None, is_some, option_and_then, find}
+use Rattle.ipv4.specs.declared.addr.Pair.{Pair}
+use Rattle.ipv4.specs.Addresses.{pair_of}
+use Rattle.wire_sim.specs.declared.host.entry.SocketId.{SocketId}
+use Rattle.wire_sim.specs.declared.host.entry.Role.{Role}
+use Rattle.wire_sim.specs.declared.host.entry.Role.TheVariants.{Idle, Listener, Connected}
+use Rattle.wire_sim.specs.declared.event.Side.{Side}
+use Rattle.wire_sim.specs.declared.event.Opening.{Opening}
+use Rattle.wire_sim.specs.Entries.{is_due}
+use Rattle.wire_sim.specs.HostView.{HostView, role_of, holder_id}
+use Rattle.wire_sim.specs.Tallies.{same_pair}
+
+-- the pair of a connection
+abbrev pub pair_in : Role → Option Pair
+pair_in (Connected c listener) = Some (pair_of c.local c.peer)
+pair_in (Listener local backlog) = None
+pair_in (Idle buffers bound) = None
+
+-- the pair of the connection that a socket has
+abbrev pub socket_pair : HostView → SocketId → Option Pair
+socket_pair h id = option_and_then pair_in (role_of h id)
+
+-- the pair of the first connection, in order of id, that has a segment due
+abbrev pub due_pair : HostView → Option Pair
+due_pair h = option_and_then (λ e. pair_in e.role) (find is_due h.entries)
+
+-- the epoch of a pair: that of its last opening, and 0 before the first
+abbrev pub epoch_of : List Opening → Pair → ℕ
+epoch_of openings pair = fold (λ epoch o. if same_pair o.pair pair then o.epoch else epoch) 0 openings
+
+-- A connect that was started opens the pair that its socket then has. The pair's epoch rises, but where the other host
+-- holds the pair already.
+abbrev pub opened_as : List Opening → Side → SocketId → ℕ → HostView → Option Pair → List Opening
+opened_as openings side id place other None = []
+opened_as openings side id place other (Some pair) = record {
+  side = side;
+  pair = pair;
+  epoch = if is_some (holder_id other pair) then epoch_of openings pair else epoch_of openings pair + 1;
+  id = id;
+  place = place;
+} ∷ []
+
+abbrev pub opened_by_connect : List Opening → Side → SocketId → ℕ → HostView → HostView → List Opening
+opened_by_connect openings side id place new other = opened_as openings side id place other (socket_pair new id)
+
+-- A frame of a pair opens it where the host does not hold the pair before and holds it then, in the pair's present epoch.
+abbrev pub held_anew : List Opening → Side → ℕ → Pair → Option SocketId → Option SocketId → List Opening
+held_anew openings side place pair None (Some id) = record { side = side; pair = pair; epoch = epoch_of openings pair; id = id; place = place } ∷ []
+held_anew openings side place pair None None = []
+held_anew openings side place pair (Some held) after = []
+
+abbrev pub opened_by_frame : List Opening → Side → ℕ → Pair → HostView → HostView → List Opening
+opened_by_frame openings side place pair old new = held_anew openings side place pair (holder_id old pair) (holder_id new pair)

@@ -1,0 +1,105 @@
+-- Every run of a world: one fair event after another, in any order and of any kind, each answered by its host as the host's own
+-- definitions say. A frame may be delivered never, once or often, in any order.
+use Rattle.std.specs.Prelude.{◌≡◌, ℕ, ◌<◌, ◌≤◌, ◌^◌, false, List, [], ◌∷◌, ◌++◌, length, Option, None, Some, ◌⊎◌, Result, Ok, Err}
+use Rattle.std.specs.List.{AllByRecursion}
+use Rattle.ipv4.specs.declared.addr.Addr.{Addr}
+use Rattle.ipv4.specs.declared.addr.Endpoint.{Endpoint}
+use Rattle.ipv4.specs.declared.addr.Pair.{Pair}
+use Rattle.tcp_state.specs.View.{View, IsSound}
+use Rattle.wire_sim.specs.declared.host.entry.Entry.{Entry}
+use Rattle.wire_sim.specs.declared.host.entry.Role.{Role}
+use Rattle.wire_sim.specs.declared.host.entry.Role.TheVariants.{Idle, Listener, Connected}
+use Rattle.wire_sim.specs.declared.event.Side.{Side}
+use Rattle.wire_sim.specs.declared.event.Call.{Call}
+use Rattle.wire_sim.specs.declared.event.Call.TheVariants as call
+use Rattle.wire_sim.specs.declared.event.Event.{Event}
+use Rattle.wire_sim.specs.declared.event.Event.TheVariants as event
+use Rattle.wire_sim.specs.declared.event.Answer.{Answer}
+use Rattle.wire_sim.specs.declared.event.Unfair.{Unfair}
+use Rattle.wire_sim.specs.declared.event.Unfair.TheVariants.{NoMemory}
+use Rattle.wire_sim.specs.Endpoints.{same_addr}
+use Rattle.wire_sim.specs.HostView.{HostView}
+use Rattle.wire_sim.specs.Fairness.{Amount, unfair_event}
+use Rattle.wire_sim.specs.WorldView.{WorldView, SameAnswer, written_at, fresh_world}
+use Rattle.wire_sim.specs.Steps.{Steps}
+use Rattle.wire_sim.specs.Trace.{written, StreamLaw}
+
+-- an endpoint's fields are of their width
+pub record IsEndpoint (e : Endpoint) : Type 0 where
+  pub addr : length e.addr.0 ≡ 4
+  pub port : e.port < 2 ^ 16
+
+-- what every connection keeps of itself
+pub record IsSoundConnection (c : View) : Type 0 where
+  pub sound : IsSound c
+  pub local : IsEndpoint c.local
+  pub peer : IsEndpoint c.peer
+
+abbrev pub IsSoundRole : Role → Type 0
+IsSoundRole (Connected c listener) = IsSoundConnection c
+IsSoundRole (Listener local backlog) = Unit {0}
+IsSoundRole (Idle buffers bound) = Unit {0}
+
+abbrev pub IsSoundHost : HostView → Type 0
+IsSoundHost h = AllByRecursion (λ (e : Entry). IsSoundRole e.role) h.entries
+
+-- an initial sequence number that is handed in has 32 bits
+abbrev pub IsNumberedCall : Call → Type 0
+IsNumberedCall (call.Connect isn id peer) = isn.0 < 2 ^ 32
+IsNumberedCall _ = Unit {0}
+
+abbrev pub IsNumbered : Event → Type 0
+IsNumbered (event.Call side c) = IsNumberedCall c
+IsNumbered (event.Deliver side index isn) = isn.0 < 2 ^ 32
+IsNumbered _ = Unit {0}
+
+-- how much was written at each side, read off the trace
+abbrev pub written_len : WorldView → Amount
+written_len w side pair epoch = length (written w.trace w.network.openings side pair epoch)
+
+-- why an event is refused, but for want of memory
+abbrev pub unfair : WorldView → Event → Option Unfair
+unfair w happens = unfair_event w.network.limit (written_len w) w.network.frames happens
+
+-- one event that is fair, and its answer, in the trace
+pub record IsStep (happens : Event) (answer : Answer) (old new : WorldView) : Type 0 where
+  pub fair : unfair old happens ≡ None
+  pub numbered : IsNumbered happens
+  pub sound_a : IsSoundHost old.network.a.host
+  pub sound_b : IsSoundHost old.network.b.host
+  pub network : Steps happens (length old.trace) answer old.network new.network
+  pub trace : new.trace ≡ old.trace ++ record { event = happens; answer = answer } ∷ []
+
+-- what a world of two hosts at different addresses may come to
+pub data IsReached (limit : ℕ) : WorldView → Type 0 where
+  begins : (a b : Addr) → same_addr a b ≡ false → limit ≤ 2 ^ 30 → IsReached limit (fresh_world a b limit)
+  goes_on : (w v : WorldView) (happens : Event) (answer : Answer) → IsReached limit w → IsStep happens answer w v → IsReached limit v
+
+-- the law of the stream, over every run
+abbrev pub EveryRunIsLawful : Type 0
+EveryRunIsLawful = (limit : ℕ) (w : WorldView) → IsReached limit w → StreamLaw w.trace w.network.openings
+
+-- What is counted beside the openings is how much was written, read off the trace.
+abbrev pub EveryRunIsTallied : Type 0
+EveryRunIsTallied = (limit : ℕ) (w : WorldView) → IsReached limit w → (side : Side) (pair : Pair) (epoch : ℕ) → written_at w.network side pair epoch ≡ written_len w side pair epoch
+
+-- the same call or event, whose octets may stand elsewhere in memory
+abbrev pub SameCall : Call → Call → Type 0
+SameCall (call.Send i octets) (call.Send j others) = (i ≡ j) × (octets.items ≡ others.items)
+SameCall a b = a ≡ b
+
+abbrev pub SameEvent : Event → Event → Type 0
+SameEvent (event.Call s a) (event.Call t b) = (s ≡ t) × SameCall a b
+SameEvent a b = a ≡ b
+
+-- What is told of an event that was given to a world: it was taken with that answer, or it was refused and the world is as it was.
+abbrev pub IsOutcome : Event → Result Answer Unfair → WorldView → WorldView → Type 0
+IsOutcome happens (Ok told) old new = (answer : Answer) × SameAnswer told answer × IsStep happens answer old new
+IsOutcome happens (Err refusal) old new = (new ≡ old) × ((unfair old happens ≡ Some refusal) ⊎ (refusal ≡ NoMemory))
+
+-- a list of events was given in turn, each with its outcome
+abbrev pub RunsTo : List Event → List (Result Answer Unfair) → WorldView → WorldView → Type 0
+RunsTo [] [] old new = new ≡ old
+RunsTo (happens ∷ more) (outcome ∷ outcomes) old new =
+    (given : Event) × (between : WorldView) × SameEvent given happens × IsOutcome given outcome old between × RunsTo more outcomes between new
+RunsTo _ _ old new = ⊥

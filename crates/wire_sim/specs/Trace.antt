@@ -1,0 +1,72 @@
+-- What the callers gave to the hosts and got from them, read off the trace, and the law of the stream.
+use Rattle.std.specs.Prelude.{ℕ, Bool, ◌==◌, ◌&&◌, if◌then◌else◌, List, [], ◌∷◌, ◌++◌, take, Option, Some, None, find}
+use Rattle.ipv4.specs.declared.addr.Pair.{Pair}
+use Rattle.wire_sim.specs.declared.host.entry.SocketId.{SocketId}
+use Rattle.wire_sim.specs.declared.event.Side.{Side}
+use Rattle.wire_sim.specs.declared.event.Call.{Call}
+use Rattle.wire_sim.specs.declared.event.Call.TheVariants as call
+use Rattle.wire_sim.specs.declared.event.Event.{Event}
+use Rattle.wire_sim.specs.declared.event.Event.TheVariants as event
+use Rattle.wire_sim.specs.declared.event.Answer.{Answer}
+use Rattle.wire_sim.specs.declared.event.Answer.TheVariants as answer
+use Rattle.wire_sim.specs.declared.event.Opening.{Opening}
+use Rattle.wire_sim.specs.declared.event.Happening.{Happening}
+use Rattle.wire_sim.specs.Lists.{Begins}
+use Rattle.wire_sim.specs.Sides.{same_side, other_side}
+use Rattle.wire_sim.specs.Tallies.{is_opening_of}
+
+-- the same socket of the same host
+abbrev pub same_socket : Side → SocketId → Side → SocketId → Bool
+same_socket side id s i = same_side s side && (i.0 == id.0)
+
+-- what a call's answer tells that the host took of its octets from the caller of a socket
+abbrev pub sent_by_call : Side → SocketId → Side → Call → Answer → List ℕ
+sent_by_call side id s (call.Send i octets) (answer.Sent count) = if same_socket side id s i then take count octets.items else []
+sent_by_call side id s _ _ = []
+
+abbrev pub sent_by : Side → SocketId → Happening → List ℕ
+sent_by side id h = of_event h.event
+  where
+    of_event : Event → List ℕ
+    of_event (event.Call s c) = sent_by_call side id s c h.answer
+    of_event _ = []
+
+-- what it gave to that caller
+abbrev pub read_by_call : Side → SocketId → Side → Call → Answer → List ℕ
+read_by_call side id s (call.Recv i len) (answer.Octets octets) = if same_socket side id s i then octets.items else []
+read_by_call side id s _ _ = []
+
+abbrev pub read_by : Side → SocketId → Happening → List ℕ
+read_by side id h = of_event h.event
+  where
+    of_event : Event → List ℕ
+    of_event (event.Call s c) = read_by_call side id s c h.answer
+    of_event _ = []
+
+-- all octets that were accepted of `send` on a socket, joined in the order of the trace
+abbrev pub sent_on : Side → SocketId → List Happening → List ℕ
+sent_on side id [] = []
+sent_on side id (h ∷ hs) = sent_by side id h ++ sent_on side id hs
+
+-- all octets that `recv` answered on it
+abbrev pub read_on : Side → SocketId → List Happening → List ℕ
+read_on side id [] = []
+read_on side id (h ∷ hs) = read_by side id h ++ read_on side id hs
+
+-- of the opening by which a side's host came to hold a pair in an epoch; nothing where there is none
+abbrev pub of_opening : (Opening → List ℕ) → Option Opening → List ℕ
+of_opening octets None = []
+of_opening octets (Some o) = octets o
+
+-- what was written at a side for a pair in an epoch
+abbrev pub written : List Happening → List Opening → Side → Pair → ℕ → List ℕ
+written trace openings side pair epoch = of_opening (λ o. sent_on side o.id trace) (find (is_opening_of side pair epoch) openings)
+
+-- what was read there
+abbrev pub read : List Happening → List Opening → Side → Pair → ℕ → List ℕ
+read trace openings side pair epoch = of_opening (λ o. read_on side o.id trace) (find (is_opening_of side pair epoch) openings)
+
+-- The law of the stream: for every pair of endpoints, every epoch and both directions, what was read at one end begins
+-- what was written at the other.
+abbrev pub StreamLaw : List Happening → List Opening → Type 0
+StreamLaw trace openings = (writer : Side) (pair : Pair) (epoch : ℕ) → Begins (read trace openings (other_side writer) pair epoch) (written trace openings writer pair epoch)
