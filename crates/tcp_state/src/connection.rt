@@ -7,8 +7,8 @@ use crate::moment::Moment;
 use crate::receiver::Receiver;
 use crate::sender::Sender;
 use crate::state::State;
-use std::marker::Model;
 use ipv4::Endpoint;
+use std::marker::Model;
 use tcp_segment::{Seq, TcpView};
 
 /// What becomes of a connection's place in the table.

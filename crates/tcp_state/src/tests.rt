@@ -1,8 +1,8 @@
 use super::*;
+use ipv4::{Addr, Endpoint};
 use std::alloc::Global;
 use std::process::Abort;
 use std::test::Fail;
-use ipv4::{Addr, Endpoint};
 use tcp_segment::{Seq, TcpView};
 
 const A: Endpoint = Endpoint {

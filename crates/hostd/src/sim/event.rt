@@ -4,8 +4,8 @@ ghost use Rattle.std.specs.Prelude.{◌≡◌, IfOk};
 ghost use Rattle.hostd.specs.Events.{IsEventOf, address_of, endpoint_of, other_side};
 
 use crate::script::action::Action;
-use std::alloc::{AllocError, Global};
 use ipv4::{Addr, Endpoint};
+use std::alloc::{AllocError, Global};
 use wire_sim::{Call, Event, Kind, Side};
 
 /// The address of a side's host.
