@@ -3,7 +3,7 @@ use Rattle.std.specs.Prelude.{ℕ, ◌-◌, ◌^◌, List, [], ◌∷◌, Option
 use Rattle.std.specs.Str.{bytes_eq}
 use Rattle.tcp_segment.specs.declared.seq.Seq.{Seq}
 use Rattle.tcp_state.specs.declared.moment.Moment.{Moment}
-use Rattle.wire_sim.specs.declared.host.entry.SocketId.{SocketId}
+use Rattle.host.specs.declared.entry.SocketId.{SocketId}
 use Rattle.hostd.specs.Words.{number_of, text_of}
 use Rattle.hostd.specs.Keywords.{keyword_of}
 use Rattle.hostd.specs.declared.script.action.Keyword.{Keyword}

@@ -7,7 +7,7 @@ use Rattle.wire_sim.specs.declared.event.Side.TheVariants.{A, B}
 use Rattle.wire_sim.specs.declared.event.Event.{Event}
 use Rattle.wire_sim.specs.declared.event.Event.TheVariants as event
 use Rattle.wire_sim.specs.declared.event.Call.TheVariants as call
-use Rattle.wire_sim.specs.declared.host.Kind.TheVariants.{Tcp}
+use Rattle.host.specs.declared.Kind.TheVariants.{Tcp}
 use Rattle.hostd.specs.declared.script.action.Action.{Action}
 use Rattle.hostd.specs.declared.script.action.Action.TheVariants.{Socket, Bind, Listen, Accept, Connect, Send, Fill, Recv, Count, State, Tick, Emit, Deliver}
 

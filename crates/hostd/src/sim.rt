@@ -15,9 +15,10 @@ use crate::script::action::Action;
 use crate::script::{Command, Script};
 use crate::streams::{Sink, Source};
 use event::{address, event, other};
+use host::Config;
 use std::alloc::{AllocError, Global};
 use tcp_segment::Seq;
-use wire_sim::{Answer, Config, Event, Side, World};
+use wire_sim::{Answer, Event, Side, World};
 
 /// The most octets of a script.
 pub const MOST_SCRIPT: usize = 1_000_000;

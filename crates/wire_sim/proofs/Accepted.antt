@@ -13,25 +13,25 @@ use Rattle.tcp_state.specs.declared.calls.Refusal.TheVariants as connection_vari
 use Rattle.tcp_state.specs.Calls.{taken, moved, after_recv}
 use Rattle.tcp_state.specs.Stream.{send_room}
 use Rattle.tcp_state.specs.View.{View, is_opening, opened_actively}
-use Rattle.wire_sim.specs.declared.host.entry.SocketId.{SocketId}
-use Rattle.wire_sim.specs.declared.host.entry.Entry.{Entry}
-use Rattle.wire_sim.specs.declared.host.entry.Role.{Role}
-use Rattle.wire_sim.specs.declared.host.entry.Role.TheVariants.{Idle, Listener, Connected}
-use Rattle.wire_sim.specs.declared.host.refusal.Refusal.{Refusal}
-use Rattle.wire_sim.specs.declared.host.refusal.Refusal.TheVariants.{EBADF, EINVAL, EADDRINUSE, EADDRNOTAVAIL, EISCONN, ENOTCONN, EALREADY, ENETUNREACH}
+use Rattle.host.specs.declared.entry.SocketId.{SocketId}
+use Rattle.host.specs.declared.entry.Entry.{Entry}
+use Rattle.host.specs.declared.entry.Role.{Role}
+use Rattle.host.specs.declared.entry.Role.TheVariants.{Idle, Listener, Connected}
+use Rattle.host.specs.declared.refusal.Refusal.{Refusal}
+use Rattle.host.specs.declared.refusal.Refusal.TheVariants.{EBADF, EINVAL, EADDRINUSE, EADDRNOTAVAIL, EISCONN, ENOTCONN, EALREADY, ENETUNREACH}
 use Rattle.wire_sim.specs.declared.event.Answer.{Answer}
 use Rattle.wire_sim.specs.declared.event.Answer.TheVariants.{Refused}
-use Rattle.wire_sim.specs.Endpoints.{same_addr, is_single_host}
-use Rattle.wire_sim.specs.Ports.{port_after, first_port, first_port-step, first_port-zero, is_free_port}
-use Rattle.wire_sim.specs.Entries.{is_pending, is_socket, is_bound_at, is_between, connecting, received, with_role}
-use Rattle.wire_sim.specs.HostView.{HostView, with_socket}
-use Rattle.wire_sim.specs.Lists.{change_first}
-use Rattle.wire_sim.specs.Calls.{unless_refused, of_connection, sent_answer, received_answer, send_answer, recv_answer, is_pair_held, port_for, reach_refusal, open_answer, connect_refusal, counted_port, after_connect}
+use Rattle.host.specs.Endpoints.{same_addr, is_single_host}
+use Rattle.host.specs.Ports.{port_after, first_port, first_port-step, first_port-zero, is_free_port}
+use Rattle.host.specs.Entries.{is_pending, is_socket, is_bound_at, is_between, connecting, received, with_role}
+use Rattle.host.specs.HostView.{HostView, with_socket}
+use Rattle.host.specs.Lists.{change_first}
+use Rattle.host.specs.Calls.{unless_refused, of_connection, sent_answer, received_answer, send_answer, recv_answer, is_pair_held, port_for, reach_refusal, open_answer, connect_refusal, counted_port, after_connect}
 use Rattle.wire_sim.specs.Steps.{Answers, readable_on}
-use Rattle.wire_sim.specs.Openings.{socket_pair}
+use Rattle.host.specs.Pairs.{socket_pair}
 use Rattle.wire_sim.proofs.Finding.{find-passes}
 use Rattle.wire_sim.proofs.Tables.{entry_with}
-use Rattle.wire_sim.proofs.Connected.{after_connect-accepted}
+use Rattle.host.proofs.Connected.{after_connect-accepted}
 
 -- Tests.
 

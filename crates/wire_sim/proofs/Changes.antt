@@ -5,13 +5,13 @@ use Rattle.std.proofs.lemmas.Bool.{eqb-true, eq-eqb}
 use Rattle.ipv4.specs.declared.addr.Addr.{Addr}
 use Rattle.ipv4.specs.declared.addr.Endpoint.{Endpoint}
 use Rattle.tcp_state.specs.View.{View}
-use Rattle.wire_sim.specs.declared.host.entry.SocketId.{SocketId}
-use Rattle.wire_sim.specs.declared.host.entry.Entry.{Entry}
-use Rattle.wire_sim.specs.declared.host.entry.Role.{Role}
-use Rattle.wire_sim.specs.declared.host.entry.Role.TheVariants.{Connected}
-use Rattle.wire_sim.specs.Entries.{with_role}
-use Rattle.wire_sim.specs.Lists.{change_first}
-use Rattle.wire_sim.specs.Pairing.{End}
+use Rattle.host.specs.declared.entry.SocketId.{SocketId}
+use Rattle.host.specs.declared.entry.Entry.{Entry}
+use Rattle.host.specs.declared.entry.Role.{Role}
+use Rattle.host.specs.declared.entry.Role.TheVariants.{Connected}
+use Rattle.host.specs.Entries.{with_role}
+use Rattle.host.specs.Lists.{change_first}
+use Rattle.stream_law.specs.Pairing.{End}
 use Rattle.wire_sim.proofs.Finding.{All-find, find-passes, found-sole, found-changed, found-other, IsSole-found, none-before, not-missed, All-changed}
 use Rattle.wire_sim.proofs.KeepsPorts.{KeepsEnds}
 use Rattle.wire_sim.proofs.Tables.{Told, has_id, is_connected_at, joins_ports, IsOurs, IsOurRole, IsTable, Slot, slot, connection_in, slot_of, end_of_slot, end_of, eqb-same, ports_of}

@@ -6,10 +6,10 @@ use Rattle.ipv4.specs.declared.addr.Endpoint.{Endpoint}
 use Rattle.tcp_segment.specs.declared.seq.Seq.{Seq}
 use Rattle.tcp_state.specs.declared.calls.Refusal.TheVariants as connection
 use Rattle.tcp_state.specs.Calls.{taken}
-use Rattle.wire_sim.specs.declared.host.entry.SocketId.{SocketId}
-use Rattle.wire_sim.specs.declared.host.entry.Role.{Role}
-use Rattle.wire_sim.specs.declared.host.entry.Role.TheVariants.{Idle, Listener, Connected}
-use Rattle.wire_sim.specs.declared.host.refusal.Refusal.{Refusal}
+use Rattle.host.specs.declared.entry.SocketId.{SocketId}
+use Rattle.host.specs.declared.entry.Role.{Role}
+use Rattle.host.specs.declared.entry.Role.TheVariants.{Idle, Listener, Connected}
+use Rattle.host.specs.declared.refusal.Refusal.{Refusal}
 use Rattle.wire_sim.specs.declared.event.Side.{Side}
 use Rattle.wire_sim.specs.declared.event.Side.TheVariants.{A, B}
 use Rattle.wire_sim.specs.declared.event.Call.{Call}
@@ -22,8 +22,8 @@ use Rattle.wire_sim.specs.declared.event.Opening.{Opening}
 use Rattle.wire_sim.specs.declared.world.bag.Frame.{Frame}
 use Rattle.wire_sim.specs.declared.world.bag.Note.{Note}
 use Rattle.wire_sim.specs.declared.world.station.Station.{Station}
-use Rattle.wire_sim.specs.Calls.{of_connection, sent_answer, send_answer}
-use Rattle.wire_sim.specs.HostView.{HostView, role_of, after_emission}
+use Rattle.host.specs.Calls.{of_connection, sent_answer, send_answer}
+use Rattle.host.specs.HostView.{HostView, role_of, after_emission}
 use Rattle.wire_sim.specs.Openings.{opened_by_connect, opened_by_frame}
 use Rattle.wire_sim.specs.Sides.{other_side}
 use Rattle.wire_sim.specs.Steps.{station_of, ticked_station, with_station, with_host, with_openings, Answers, MeetsCall, called, delivered, host_of, Steps}

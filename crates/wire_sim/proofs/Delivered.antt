@@ -5,20 +5,20 @@ use Rattle.tcp_segment.specs.declared.fault.SegmentFault.{SegmentFault}
 use Rattle.tcp_segment.specs.Segment.{Segment, IsParsed}
 use Rattle.tcp_state.specs.Arrival.{fate}
 use Rattle.tcp_state.specs.View.{View}
-use Rattle.wire_sim.specs.declared.host.entry.SocketId.{SocketId}
-use Rattle.wire_sim.specs.declared.host.entry.Entry.{Entry}
-use Rattle.wire_sim.specs.declared.host.entry.Role.{Role}
-use Rattle.wire_sim.specs.declared.host.entry.Role.TheVariants.{Idle, Listener, Connected}
-use Rattle.wire_sim.specs.declared.host.refusal.DropCause.{DropCause}
+use Rattle.host.specs.declared.entry.SocketId.{SocketId}
+use Rattle.host.specs.declared.entry.Entry.{Entry}
+use Rattle.host.specs.declared.entry.Role.{Role}
+use Rattle.host.specs.declared.entry.Role.TheVariants.{Idle, Listener, Connected}
+use Rattle.host.specs.declared.refusal.DropCause.{DropCause}
 use Rattle.wire_sim.specs.declared.event.Answer.{Answer}
 use Rattle.wire_sim.specs.declared.event.Answer.TheVariants as reply
-use Rattle.wire_sim.specs.Dispatch.{Becomes, Opens, NoPlace, local_end, peer_end, settled, is_opening, has_no_place, after_opening, opening, arrival, Meets, MeetsParsed, IsDelivered}
-use Rattle.wire_sim.specs.Entries.{is_live_between, is_between, is_listening_at, fate_of}
-use Rattle.wire_sim.specs.HostView.{HostView}
+use Rattle.host.specs.Dispatch.{Becomes, Opens, NoPlace, local_end, peer_end, settled, is_opening, has_no_place, after_opening, opening, arrival, Meets, MeetsParsed, IsDelivered}
+use Rattle.host.specs.Entries.{is_live_between, is_between, is_listening_at, fate_of}
+use Rattle.host.specs.HostView.{HostView}
 use Rattle.wire_sim.specs.Steps.{MeetsFrame}
 use Rattle.wire_sim.proofs.Finding.{find-passes}
 use Rattle.wire_sim.proofs.Tables.{entry_with}
-use Rattle.wire_sim.proofs.Arrived.{arrival-found}
+use Rattle.host.proofs.Arrived.{arrival-found}
 
 -- A frame changes nothing, or its segment is heard by the connection of its two ends, or it opens one where there is none.
 pub data Delivery (h : HostView) (isn : ℕ) (octets : List ℕ) (new : HostView) : Type 0 where

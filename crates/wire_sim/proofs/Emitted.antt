@@ -3,10 +3,10 @@ use Rattle.std.proofs.Common.{◌≡◌, ℕ, ◌≤◌, List, [], ◌++◌, len
 use Rattle.std.proofs.lemmas.Grind.{common_steps}
 use Rattle.std.specs.List.{find}
 use Rattle.tcp_state.specs.Due.{first_due, emitted_len, emitted}
-use Rattle.wire_sim.specs.declared.host.entry.Role.{Role}
-use Rattle.wire_sim.specs.declared.host.entry.Role.TheVariants.{Idle, Listener, Connected}
-use Rattle.wire_sim.specs.Entries.{is_due, due_len, due_octets, framed}
-use Rattle.wire_sim.specs.HostView.{HostView, emission_len, emission_octets, emission_front}
+use Rattle.host.specs.declared.entry.Role.{Role}
+use Rattle.host.specs.declared.entry.Role.TheVariants.{Idle, Listener, Connected}
+use Rattle.host.specs.Entries.{is_due, due_len, due_octets, framed}
+use Rattle.host.specs.HostView.{HostView, emission_len, emission_octets, emission_front}
 
 -- the front of a buffer into which so many octets were written
 pub take_written : (xs zs : List ℕ) (n : ℕ) → n ≤ length zs → length (xs ++ drop n zs) ≡ length zs → take n (xs ++ drop n zs) ≡ xs

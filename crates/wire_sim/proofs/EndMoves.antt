@@ -4,7 +4,7 @@ use Rattle.ipv4.specs.declared.addr.Endpoint.{Endpoint}
 use Rattle.tcp_state.specs.declared.moment.Moment.{Moment}
 use Rattle.tcp_state.specs.View.{View, IsSound, is_opening, opened_actively, after_tick}
 use Rattle.tcp_state.specs.Calls.{taken, after_send, moved, after_recv}
-use Rattle.wire_sim.specs.Pairing.{End, Emission, Pairing, Move, connects, takes, gives, ticks, Meets, here_moves}
+use Rattle.stream_law.specs.Pairing.{End, Emission, Pairing, Move, connects, takes, gives, ticks, Meets, here_moves}
 
 abbrev pub pairing : End → End → List Emission → List Emission → Pairing
 pairing own other out arrived = record { own = own; other = other; sent = out; received = arrived }

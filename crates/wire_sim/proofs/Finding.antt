@@ -1,7 +1,7 @@
 -- What a search finds in a list of which the first element that passes another test was changed.
 use Rattle.std.proofs.Common.{◌≡◌, Bool, true, false, cond, List, [], ◌∷◌, ◌++◌, map, Option, Some, None, option_map, refl, sym, ◌∙◌, ap, subst}
 use Rattle.std.specs.List.{find, AllByRecursion}
-use Rattle.wire_sim.specs.Lists.{change_first}
+use Rattle.host.specs.Lists.{change_first}
 
 -- at most one element passes
 abbrev pub IsSole : {X : Type 0} → (X → Bool) → List X → Type 0

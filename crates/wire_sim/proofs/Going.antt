@@ -17,15 +17,15 @@ use Rattle.tcp_state.specs.Stream.{outstanding}
 use Rattle.tcp_state.specs.Windows.{sendable}
 use Rattle.tcp_state.specs.View.{View, IsSound, is_opening, is_syn_sent, is_due as is_resend_due, is_idle}
 use Rattle.tcp_state.specs.Due.{MayGoOut, first_due, head_of, octets_of, number_of, flags_of, emitted, emitted_len, after_emitted}
-use Rattle.wire_sim.specs.declared.host.entry.SocketId.{SocketId}
-use Rattle.wire_sim.specs.declared.host.entry.Entry.{Entry}
-use Rattle.wire_sim.specs.declared.host.entry.Role.{Role}
-use Rattle.wire_sim.specs.declared.host.entry.Role.TheVariants.{Idle, Listener, Connected}
-use Rattle.wire_sim.specs.ChannelViews.{IsOfWidth}
-use Rattle.wire_sim.specs.Entries.{is_due, due_len, due_octets, emitted_at}
-use Rattle.wire_sim.specs.HostView.{HostView, emission_len, emission_octets}
-use Rattle.wire_sim.specs.Openings.{due_pair, pair_in}
-use Rattle.wire_sim.specs.Runs.{IsSoundConnection}
+use Rattle.host.specs.declared.entry.SocketId.{SocketId}
+use Rattle.host.specs.declared.entry.Entry.{Entry}
+use Rattle.host.specs.declared.entry.Role.{Role}
+use Rattle.host.specs.declared.entry.Role.TheVariants.{Idle, Listener, Connected}
+use Rattle.stream_law.specs.ChannelViews.{IsOfWidth}
+use Rattle.host.specs.Entries.{is_due, due_len, due_octets, emitted_at}
+use Rattle.host.specs.HostView.{HostView, emission_len, emission_octets}
+use Rattle.host.specs.Pairs.{due_pair, pair_in}
+use Rattle.host.specs.Sound.{IsSoundConnection}
 
 -- What is due is a segment that may go out.
 

@@ -10,7 +10,7 @@ use Rattle.tcp_state.specs.View.{View, is_opening, is_syn_sent, is_syn_received,
 use Rattle.tcp_state.specs.Calls.{after_send, after_recv}
 use Rattle.tcp_state.specs.Due.{after_emitted, after_ack_paid, after_numbers}
 use Rattle.tcp_state.specs.Arrival.{after_segment, after_syn_ack, is_right_syn_ack, is_accepted, after_accepted, after_acceptable, after_ack, is_read_on, after_window, after_text, owing_ack, established, ends_by_syn}
-use Rattle.wire_sim.specs.Entries.{is_closed}
+use Rattle.host.specs.Entries.{is_closed}
 
 -- the endpoints stay, and what is not CLOSED does not become it
 pub record KeepsEnds (v w : View) : Type 0 where

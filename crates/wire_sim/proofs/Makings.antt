@@ -6,12 +6,12 @@ use Rattle.ipv4.specs.declared.addr.Addr.{Addr}
 use Rattle.ipv4.specs.declared.addr.Endpoint.{Endpoint}
 use Rattle.tcp_state.specs.View.{View}
 use Rattle.tcp_state.specs.declared.buffers.Buffers.{Buffers}
-use Rattle.wire_sim.specs.declared.host.entry.SocketId.{SocketId}
-use Rattle.wire_sim.specs.declared.host.entry.Entry.{Entry}
-use Rattle.wire_sim.specs.declared.host.entry.Role.{Role}
-use Rattle.wire_sim.specs.declared.host.entry.Role.TheVariants.{Idle, Connected}
-use Rattle.wire_sim.specs.Entries.{is_live_between, with_role}
-use Rattle.wire_sim.specs.Lists.{change_first}
+use Rattle.host.specs.declared.entry.SocketId.{SocketId}
+use Rattle.host.specs.declared.entry.Entry.{Entry}
+use Rattle.host.specs.declared.entry.Role.{Role}
+use Rattle.host.specs.declared.entry.Role.TheVariants.{Idle, Connected}
+use Rattle.host.specs.Entries.{is_live_between, with_role}
+use Rattle.host.specs.Lists.{change_first}
 use Rattle.wire_sim.proofs.Finding.{IsSole, All-find, shown-change_first, found-made, found-other, find-added_none, find-added, IsSole-found, IsSole-change_first, IsSole-made, IsSole-other, IsSole-added, IsSole-added_other, All-change_first, All-changed, All-added, All-weaker, find-none, none-before, none-sole, none-added, none-change_first}
 use Rattle.wire_sim.proofs.Tables.{Told, has_id, is_connected, is_connected_at, joins_ports, IsOurs, IsOurRole, IsTable, Slot, slot, connection_in, slot_of, eqb-same, ports_of}
 use Rattle.wire_sim.proofs.Changes.{by_test}

@@ -8,12 +8,12 @@ use Rattle.wire_sim.specs.declared.event.Side.{Side}
 use Rattle.wire_sim.specs.declared.event.Side.TheVariants.{A, B}
 use Rattle.wire_sim.specs.declared.event.Opening.{Opening}
 use Rattle.wire_sim.specs.declared.event.Happening.{Happening}
-use Rattle.wire_sim.specs.declared.host.entry.SocketId.{SocketId}
-use Rattle.wire_sim.specs.declared.host.entry.Entry.{Entry}
-use Rattle.wire_sim.specs.Endpoints.{same_addr}
-use Rattle.wire_sim.specs.Lists.{Begins}
+use Rattle.host.specs.declared.entry.SocketId.{SocketId}
+use Rattle.host.specs.declared.entry.Entry.{Entry}
+use Rattle.host.specs.Endpoints.{same_addr}
+use Rattle.stream_law.specs.Begins.{Begins}
 use Rattle.wire_sim.specs.Openings.{epoch_of}
-use Rattle.wire_sim.specs.Pairing.{End}
+use Rattle.stream_law.specs.Pairing.{End}
 use Rattle.wire_sim.specs.Sides.{same_side, other_side}
 use Rattle.wire_sim.specs.Tallies.{same_pair, is_opening_of}
 use Rattle.wire_sim.specs.Trace.{sent_on, read_on, of_opening, written, read, StreamLaw}

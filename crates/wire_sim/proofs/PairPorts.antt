@@ -9,12 +9,12 @@ use Rattle.ipv4.specs.declared.addr.Endpoint.{Endpoint}
 use Rattle.ipv4.specs.declared.addr.Pair.{Pair}
 use Rattle.ipv4.specs.Addresses.{endpoint_cmp, pair_of}
 use Rattle.ipv4.proofs.Pairs.{pair_of-swapped}
-use Rattle.wire_sim.specs.declared.host.entry.Entry.{Entry}
-use Rattle.wire_sim.specs.declared.host.entry.Role.{Role}
-use Rattle.wire_sim.specs.declared.host.entry.Role.TheVariants.{Idle, Listener, Connected}
-use Rattle.wire_sim.specs.Endpoints.{same_addr, same_end}
-use Rattle.wire_sim.specs.Entries.{is_closed, is_live_between, joins, is_of_pair}
-use Rattle.wire_sim.specs.HostView.{HostView, holder_id}
+use Rattle.host.specs.declared.entry.Entry.{Entry}
+use Rattle.host.specs.declared.entry.Role.{Role}
+use Rattle.host.specs.declared.entry.Role.TheVariants.{Idle, Listener, Connected}
+use Rattle.host.specs.Endpoints.{same_addr, same_end}
+use Rattle.host.specs.Entries.{is_closed, is_live_between, joins, is_of_pair}
+use Rattle.host.specs.HostView.{HostView, holder_id}
 use Rattle.wire_sim.specs.Tallies.{same_pair}
 use Rattle.wire_sim.proofs.Tables.{IsOurRole, Slot, slot, slot_of, joins_ports, eqb-same, same_addr-same}
 

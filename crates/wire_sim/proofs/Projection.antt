@@ -7,14 +7,14 @@ use Rattle.wire_sim.specs.declared.event.Side.{Side}
 use Rattle.wire_sim.specs.declared.event.Side.TheVariants.{A, B}
 use Rattle.wire_sim.specs.declared.event.Opening.{Opening}
 use Rattle.wire_sim.specs.declared.event.Happening.{Happening}
-use Rattle.wire_sim.specs.declared.host.entry.SocketId.{SocketId}
-use Rattle.wire_sim.specs.declared.host.entry.Entry.{Entry}
+use Rattle.host.specs.declared.entry.SocketId.{SocketId}
+use Rattle.host.specs.declared.entry.Entry.{Entry}
 use Rattle.wire_sim.specs.declared.world.bag.Frame.{Frame}
 use Rattle.wire_sim.specs.declared.world.bag.Note.{Note}
-use Rattle.wire_sim.specs.Channel.{IsAmong}
-use Rattle.wire_sim.specs.Endpoints.{same_addr}
-use Rattle.wire_sim.specs.HostView.{HostView}
-use Rattle.wire_sim.specs.Pairing.{End, Emission, Pairing, Meets, begins, here_moves, there_moves, from_other}
+use Rattle.stream_law.specs.Channel.{IsAmong}
+use Rattle.host.specs.Endpoints.{same_addr}
+use Rattle.host.specs.HostView.{HostView}
+use Rattle.stream_law.specs.Pairing.{End, Emission, Pairing, Meets, begins, here_moves, there_moves, from_other}
 use Rattle.wire_sim.specs.Sides.{other_side}
 use Rattle.wire_sim.specs.Trace.{sent_on, read_on}
 use Rattle.wire_sim.proofs.EndMoves.{pairing}

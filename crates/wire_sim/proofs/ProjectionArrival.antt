@@ -11,20 +11,20 @@ use Rattle.wire_sim.specs.declared.event.Side.{Side}
 use Rattle.wire_sim.specs.declared.event.Side.TheVariants.{A, B}
 use Rattle.wire_sim.specs.declared.event.Opening.{Opening}
 use Rattle.wire_sim.specs.declared.event.Happening.{Happening}
-use Rattle.wire_sim.specs.declared.host.entry.SocketId.{SocketId}
-use Rattle.wire_sim.specs.declared.host.entry.Entry.{Entry}
-use Rattle.wire_sim.specs.declared.host.entry.Role.TheVariants.{Connected}
+use Rattle.host.specs.declared.entry.SocketId.{SocketId}
+use Rattle.host.specs.declared.entry.Entry.{Entry}
+use Rattle.host.specs.declared.entry.Role.TheVariants.{Connected}
 use Rattle.wire_sim.specs.declared.world.bag.Frame.{Frame}
 use Rattle.wire_sim.specs.declared.world.bag.Note.{Note}
-use Rattle.wire_sim.specs.Channel.{IsAmong}
-use Rattle.wire_sim.specs.Dispatch.{local_end, peer_end, settled, after_opening}
-use Rattle.wire_sim.specs.Endpoints.{same_addr}
-use Rattle.wire_sim.specs.Entries.{is_between, arrived, with_role}
-use Rattle.wire_sim.specs.HostView.{HostView, holder_id}
-use Rattle.wire_sim.specs.Lists.{change_first}
+use Rattle.stream_law.specs.Channel.{IsAmong}
+use Rattle.host.specs.Dispatch.{local_end, peer_end, settled, after_opening}
+use Rattle.host.specs.Endpoints.{same_addr}
+use Rattle.host.specs.Entries.{is_between, arrived, with_role}
+use Rattle.host.specs.HostView.{HostView, holder_id}
+use Rattle.host.specs.Lists.{change_first}
 use Rattle.wire_sim.specs.Openings.{epoch_of, held_anew, opened_by_frame}
-use Rattle.wire_sim.specs.Pairing.{End, IsTimely, Meets, accepts, hears, here_moves, remains, nothing_yet}
-use Rattle.wire_sim.specs.Runs.{IsSoundConnection, IsSoundRole, IsSoundHost}
+use Rattle.stream_law.specs.Pairing.{End, IsTimely, Meets, accepts, hears, here_moves, remains, nothing_yet}
+use Rattle.host.specs.Sound.{IsSoundConnection, IsSoundRole, IsSoundHost}
 use Rattle.wire_sim.specs.Tallies.{is_opening_of}
 use Rattle.wire_sim.specs.Trace.{sent_on, written}
 use Rattle.wire_sim.specs.WorldView.{NetworkView, is_stale, written_at}
@@ -36,8 +36,8 @@ use Rattle.wire_sim.proofs.KeepsPorts.{keeps-segment}
 use Rattle.wire_sim.proofs.Makings.{Made, added, both_ports}
 use Rattle.wire_sim.proofs.Opened.{opening_id, id_of, IsNoted, opened-kept, opened-added, epoch-some, written-end}
 use Rattle.wire_sim.proofs.PairPorts.{pair_at, pair_at-swapped, holder-slot}
-use Rattle.wire_sim.proofs.PairingArrival.{fate-stays}
-use Rattle.wire_sim.proofs.PairingLaw.{room, near, shown}
+use Rattle.stream_law.proofs.PairingArrival.{fate-stays}
+use Rattle.stream_law.proofs.PairingLaw.{room, near, shown}
 use Rattle.wire_sim.proofs.Projection.{gave, got, end_at, at_side, Carries, Projects, projects-turned}
 use Rattle.wire_sim.proofs.ProjectionEmission.{IsTallied, both_same}
 use Rattle.wire_sim.proofs.Tables.{joins_ports, IsOurs, IsOurRole, slot_of, end_of_slot, ports_of}

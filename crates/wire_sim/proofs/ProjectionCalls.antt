@@ -15,19 +15,19 @@ use Rattle.wire_sim.specs.declared.event.Answer.{Answer}
 use Rattle.wire_sim.specs.declared.event.Answer.TheVariants as reply
 use Rattle.wire_sim.specs.declared.event.Opening.{Opening}
 use Rattle.wire_sim.specs.declared.event.Happening.{Happening}
-use Rattle.wire_sim.specs.declared.host.entry.SocketId.{SocketId}
-use Rattle.wire_sim.specs.declared.host.entry.Entry.{Entry}
-use Rattle.wire_sim.specs.declared.host.entry.Role.{Role}
-use Rattle.wire_sim.specs.declared.host.entry.Role.TheVariants.{Connected}
-use Rattle.wire_sim.specs.declared.host.refusal.Refusal.{Refusal}
-use Rattle.wire_sim.specs.declared.host.refusal.Refusal.TheVariants as refusal
+use Rattle.host.specs.declared.entry.SocketId.{SocketId}
+use Rattle.host.specs.declared.entry.Entry.{Entry}
+use Rattle.host.specs.declared.entry.Role.{Role}
+use Rattle.host.specs.declared.entry.Role.TheVariants.{Connected}
+use Rattle.host.specs.declared.refusal.Refusal.{Refusal}
+use Rattle.host.specs.declared.refusal.Refusal.TheVariants as refusal
 use Rattle.wire_sim.specs.declared.world.bag.Frame.{Frame}
-use Rattle.wire_sim.specs.Calls.{after_socket, send_answer, after_send, recv_answer, after_recv}
-use Rattle.wire_sim.specs.Entries.{is_socket, sent, received as received_role, with_role}
-use Rattle.wire_sim.specs.HostView.{HostView}
-use Rattle.wire_sim.specs.Lists.{change_first}
-use Rattle.wire_sim.specs.Pairing.{Meets}
-use Rattle.wire_sim.specs.Runs.{IsSoundConnection, IsSoundRole, IsSoundHost}
+use Rattle.host.specs.Calls.{after_socket, send_answer, after_send, recv_answer, after_recv}
+use Rattle.host.specs.Entries.{is_socket, sent, received as received_role, with_role}
+use Rattle.host.specs.HostView.{HostView}
+use Rattle.host.specs.Lists.{change_first}
+use Rattle.stream_law.specs.Pairing.{Meets}
+use Rattle.host.specs.Sound.{IsSoundConnection, IsSoundRole, IsSoundHost}
 use Rattle.wire_sim.specs.Sides.{other_side}
 use Rattle.wire_sim.specs.Steps.{MeetsSocket, MeetsReceived, called, with_host, with_openings}
 use Rattle.wire_sim.specs.Tallies.{counted}

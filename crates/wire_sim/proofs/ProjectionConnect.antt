@@ -14,15 +14,17 @@ use Rattle.wire_sim.specs.declared.event.Answer.{Answer}
 use Rattle.wire_sim.specs.declared.event.Answer.TheVariants as reply
 use Rattle.wire_sim.specs.declared.event.Opening.{Opening}
 use Rattle.wire_sim.specs.declared.event.Happening.{Happening}
-use Rattle.wire_sim.specs.declared.host.entry.SocketId.{SocketId}
-use Rattle.wire_sim.specs.declared.host.entry.Role.TheVariants.{Idle}
-use Rattle.wire_sim.specs.Calls.{unless_refused, after_socket, bind_refusal, after_bind, listen_refusal, after_listen, accept_answer, after_accept, connect_refusal, after_connect, send_answer, after_send, recv_answer, after_recv, state_answer}
-use Rattle.wire_sim.specs.Entries.{is_socket, is_between, bound_to, listening, accepted, connecting, sent, received as received_role, with_role}
-use Rattle.wire_sim.specs.HostView.{HostView, holder_id}
-use Rattle.wire_sim.specs.Lists.{change_first}
-use Rattle.wire_sim.specs.Openings.{epoch_of, socket_pair, opened_as, opened_by_connect}
-use Rattle.wire_sim.specs.Pairing.{End, Meets, here_moves, connects, nothing_yet}
-use Rattle.wire_sim.specs.Runs.{IsNumberedCall, IsSoundHost}
+use Rattle.host.specs.declared.entry.SocketId.{SocketId}
+use Rattle.host.specs.declared.entry.Role.TheVariants.{Idle}
+use Rattle.host.specs.Calls.{unless_refused, after_socket, bind_refusal, after_bind, listen_refusal, after_listen, accept_answer, after_accept, connect_refusal, after_connect, send_answer, after_send, recv_answer, after_recv, state_answer}
+use Rattle.host.specs.Entries.{is_socket, is_between, bound_to, listening, accepted, connecting, sent, received as received_role, with_role}
+use Rattle.host.specs.HostView.{HostView, holder_id}
+use Rattle.host.specs.Lists.{change_first}
+use Rattle.wire_sim.specs.Openings.{epoch_of, opened_as, opened_by_connect}
+use Rattle.host.specs.Pairs.{socket_pair}
+use Rattle.stream_law.specs.Pairing.{End, Meets, here_moves, connects, nothing_yet}
+use Rattle.wire_sim.specs.Runs.{IsNumberedCall}
+use Rattle.host.specs.Sound.{IsSoundHost}
 use Rattle.wire_sim.specs.Sides.{other_side}
 use Rattle.wire_sim.specs.Steps.{MeetsCall, asked, with_host, with_openings, host_of}
 use Rattle.wire_sim.specs.WorldView.{NetworkView}
@@ -73,7 +75,7 @@ call-connects limit hs ts a b own other n place trace isn id peer fits is_other 
     let c = opened_actively local peer isn.0 in
     let g = connecting local peer isn.0 in
     let ys = change_first (is_socket id) (with_role g) own.entries in
-    let base : HostView = record own { last_port = Rattle.wire_sim.specs.Calls.counted_port own k.bound k.port } in
+    let base : HostView = record own { last_port = Rattle.host.specs.Calls.counted_port own k.bound k.port } in
     let next : HostView = record base { entries = ys } in
     let is_next : after_connect own isn.0 id peer ≡ next = k.becomes isn.0 in
     let ours : IsOurs a b c = record { local = h.own_addr; peer = k.reached ∙ h.own_neighbour; live = refl } in
@@ -151,7 +153,7 @@ projects-called limit hs ts a b own own' other n place trace (call.Listen id bac
     ]
 projects-called limit hs ts a b own own' other n place trace (call.Accept id) answer sound opposite is_other numbered m h =
     elim (outcome (accept_answer own id) (λ p. reply.Accepted p.0 p.1) (after_accept own id) own answer own' m) [
-      | inl x ↦ plain limit hs ts a b own' other n (call.Accept id) answer place trace refl (λ i. quiet-accept hs id answer i) (changed limit hs ts a b own own' other n trace (Rattle.wire_sim.specs.Entries.is_offered_at id) accepted quiet_accepted x.3 h)
+      | inl x ↦ plain limit hs ts a b own' other n (call.Accept id) answer place trace refl (λ i. quiet-accept hs id answer i) (changed limit hs ts a b own own' other n trace (Rattle.host.specs.Entries.is_offered_at id) accepted quiet_accepted x.3 h)
       | inr x ↦ plain limit hs ts a b own' other n (call.Accept id) answer place trace refl (λ i. quiet-accept hs id answer i) (kept limit hs ts a b own own' other n trace x.3 h)
     ]
 projects-called limit hs ts a b own own' other n place trace (call.Connect isn id peer) answer sound opposite is_other numbered m h =

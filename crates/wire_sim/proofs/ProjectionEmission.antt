@@ -12,16 +12,17 @@ use Rattle.tcp_state.specs.Due.{head_of, octets_of, after_emitted}
 use Rattle.wire_sim.specs.declared.event.Side.{Side}
 use Rattle.wire_sim.specs.declared.event.Side.TheVariants.{A, B}
 use Rattle.wire_sim.specs.declared.event.Happening.{Happening}
-use Rattle.wire_sim.specs.declared.host.entry.Entry.{Entry}
-use Rattle.wire_sim.specs.declared.host.entry.Role.TheVariants.{Connected}
+use Rattle.host.specs.declared.entry.Entry.{Entry}
+use Rattle.host.specs.declared.entry.Role.TheVariants.{Connected}
 use Rattle.wire_sim.specs.declared.world.bag.Frame.{Frame}
-use Rattle.wire_sim.specs.Channel.{IsAmong, here, there}
-use Rattle.wire_sim.specs.Entries.{is_due, emitted_at, with_role}
-use Rattle.wire_sim.specs.HostView.{HostView, emission_len, emission_octets}
-use Rattle.wire_sim.specs.Lists.{change_first}
-use Rattle.wire_sim.specs.Openings.{due_pair, epoch_of}
-use Rattle.wire_sim.specs.Pairing.{Emission, emits, Meets, here_moves}
-use Rattle.wire_sim.specs.Runs.{IsSoundConnection, IsSoundRole, IsSoundHost}
+use Rattle.stream_law.specs.Channel.{IsAmong, here, there}
+use Rattle.host.specs.Entries.{is_due, emitted_at, with_role}
+use Rattle.host.specs.HostView.{HostView, emission_len, emission_octets}
+use Rattle.host.specs.Lists.{change_first}
+use Rattle.host.specs.Pairs.{due_pair}
+use Rattle.wire_sim.specs.Openings.{epoch_of}
+use Rattle.stream_law.specs.Pairing.{Emission, emits, Meets, here_moves}
+use Rattle.host.specs.Sound.{IsSoundConnection, IsSoundRole, IsSoundHost}
 use Rattle.wire_sim.specs.Steps.{noted}
 use Rattle.wire_sim.specs.Trace.{written}
 use Rattle.wire_sim.specs.WorldView.{NetworkView, written_at}
@@ -98,7 +99,7 @@ projects-emitted limit hs ts a b own other n trace now len f tallied sound some 
     let told : (s : Side) → at_side s (noted n pair) ≡ length (written trace n.openings s (pair_at a b p0 q0) 1) =
     λ s. at_side-noted n pair s ∙ (tallied s pair (epoch_of n.openings pair) ∙ (ap (λ r. length (written trace n.openings s r (epoch_of n.openings pair))) is_pair ∙ ap (λ i. length (written trace n.openings s (pair_at a b p0 q0) i)) one)) in
     let own_told : at_side hs (noted n pair) ≡ length (gave hs trace e.id) =
-    told hs ∙ (ap length (written-end hs a b own.entries trace n.openings (got hs trace) p0 q0 h.opened.here_noted) ∙ ap (λ (v : Rattle.wire_sim.specs.Pairing.End). length v.written) (k.before p0 q0 (both_same p0 q0))) in
+    told hs ∙ (ap length (written-end hs a b own.entries trace n.openings (got hs trace) p0 q0 h.opened.here_noted) ∙ ap (λ (v : Rattle.stream_law.specs.Pairing.End). length v.written) (k.before p0 q0 (both_same p0 q0))) in
     let other_told : at_side ts (noted n pair) ≡ length there_end.written =
     told ts ∙ (ap (λ r. length (written trace n.openings ts r 1)) (pair_at-swapped a b p0 q0)
     ∙ ap length (written-end ts b a other.entries trace n.openings (got ts trace) q0 p0 (subst (λ s. Rattle.wire_sim.proofs.Opened.IsNoted s b a other.entries n.openings) (sym h.opposite) h.opened.there_noted))) in

@@ -7,9 +7,9 @@ use Rattle.wire_sim.specs.declared.event.Side.{Side}
 use Rattle.wire_sim.specs.declared.event.Opening.{Opening}
 use Rattle.wire_sim.specs.declared.event.Happening.{Happening}
 use Rattle.wire_sim.specs.declared.world.bag.Frame.{Frame}
-use Rattle.wire_sim.specs.HostView as host_view
-use Rattle.wire_sim.specs.HostView.{HostView, later}
-use Rattle.wire_sim.specs.Pairing.{Meets}
+use Rattle.host.specs.HostView as host_view
+use Rattle.host.specs.HostView.{HostView, later}
+use Rattle.stream_law.specs.Pairing.{Meets}
 use Rattle.wire_sim.proofs.EndMoves.{pairing, EndGoes, meets-goes, end-stays, end-ticks}
 use Rattle.wire_sim.proofs.Opened.{id_of, opened-kept}
 use Rattle.wire_sim.proofs.Projection.{gave, got, end_at, Projects, projects-turned}

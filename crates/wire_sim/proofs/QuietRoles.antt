@@ -2,9 +2,9 @@
 use Rattle.std.proofs.Common.{◌≡◌, ℕ, Some, None, refl}
 use Rattle.ipv4.specs.declared.addr.Addr.{Addr}
 use Rattle.ipv4.specs.declared.addr.Endpoint.{Endpoint}
-use Rattle.wire_sim.specs.declared.host.entry.Role.{Role}
-use Rattle.wire_sim.specs.declared.host.entry.Role.TheVariants.{Idle, Listener, Connected}
-use Rattle.wire_sim.specs.Entries.{is_live_between, bound_to, listening, accepted}
+use Rattle.host.specs.declared.entry.Role.{Role}
+use Rattle.host.specs.declared.entry.Role.TheVariants.{Idle, Listener, Connected}
+use Rattle.host.specs.Entries.{is_live_between, bound_to, listening, accepted}
 use Rattle.wire_sim.proofs.Makings.{IsQuiet}
 use Rattle.wire_sim.proofs.Tables.{is_connected, connection_in, IsOurRole}
 

@@ -6,13 +6,13 @@ use Rattle.std.specs.Cmp.Lexicographic.{pointwise}
 use Rattle.std.proofs.lemmas.Bool.{eq-eqb}
 use Rattle.ipv4.specs.declared.addr.Addr.{Addr}
 use Rattle.tcp_state.specs.View.{View}
-use Rattle.wire_sim.specs.declared.host.entry.SocketId.{SocketId}
-use Rattle.wire_sim.specs.declared.host.entry.Entry.{Entry}
-use Rattle.wire_sim.specs.declared.host.entry.Role.{Role}
-use Rattle.wire_sim.specs.declared.host.entry.Role.TheVariants.{Idle, Listener, Connected}
-use Rattle.wire_sim.specs.Endpoints.{same_addr}
-use Rattle.wire_sim.specs.Entries.{is_closed, is_between}
-use Rattle.wire_sim.specs.Pairing.{End, nothing_yet}
+use Rattle.host.specs.declared.entry.SocketId.{SocketId}
+use Rattle.host.specs.declared.entry.Entry.{Entry}
+use Rattle.host.specs.declared.entry.Role.{Role}
+use Rattle.host.specs.declared.entry.Role.TheVariants.{Idle, Listener, Connected}
+use Rattle.host.specs.Endpoints.{same_addr}
+use Rattle.host.specs.Entries.{is_closed, is_between}
+use Rattle.stream_law.specs.Pairing.{End, nothing_yet}
 use Rattle.wire_sim.proofs.Finding.{IsSole}
 
 -- what a caller of each socket gave, or got

@@ -5,12 +5,12 @@ use Rattle.ipv4.specs.declared.addr.Addr.{Addr}
 use Rattle.ipv4.specs.declared.addr.Endpoint.{Endpoint}
 use Rattle.tcp_state.specs.declared.moment.Moment.{Moment}
 use Rattle.tcp_state.specs.View.{after_tick}
-use Rattle.wire_sim.specs.declared.host.entry.SocketId.{SocketId}
-use Rattle.wire_sim.specs.declared.host.entry.Entry.{Entry}
-use Rattle.wire_sim.specs.declared.host.entry.Role.{Role}
-use Rattle.wire_sim.specs.declared.host.entry.Role.TheVariants.{Idle, Listener, Connected}
-use Rattle.wire_sim.specs.Entries.{is_live_between, ticked, with_role}
-use Rattle.wire_sim.specs.Pairing.{End}
+use Rattle.host.specs.declared.entry.SocketId.{SocketId}
+use Rattle.host.specs.declared.entry.Entry.{Entry}
+use Rattle.host.specs.declared.entry.Role.{Role}
+use Rattle.host.specs.declared.entry.Role.TheVariants.{Idle, Listener, Connected}
+use Rattle.host.specs.Entries.{is_live_between, ticked, with_role}
+use Rattle.stream_law.specs.Pairing.{End}
 use Rattle.wire_sim.proofs.Finding.{find-map, none-map, IsSole-map, All-map}
 use Rattle.wire_sim.proofs.Tables.{Told, has_id, is_connected, is_connected_at, joins_ports, IsOurRole, IsTable, Slot, slot, connection_in, slot_of, end_of_slot}
 

@@ -17,12 +17,13 @@ use Rattle.wire_sim.specs.declared.event.Unfair.TheVariants.{NoSuchFrame, Stale}
 use Rattle.wire_sim.specs.declared.world.bag.Frame.{Frame}
 use Rattle.wire_sim.specs.declared.world.bag.Note.{Note}
 use Rattle.wire_sim.specs.declared.world.station.Station.{Station}
-use Rattle.wire_sim.specs.Endpoints.{same_addr}
+use Rattle.host.specs.Endpoints.{same_addr}
 use Rattle.wire_sim.specs.Fairness.{late_note, unfair_frame}
-use Rattle.wire_sim.specs.HostView.{HostView, later}
-use Rattle.wire_sim.specs.HostView as host_view
-use Rattle.wire_sim.specs.Pairing.{begins}
-use Rattle.wire_sim.specs.Runs.{IsNumbered, IsSoundHost, IsStep, IsReached}
+use Rattle.host.specs.HostView.{HostView, later}
+use Rattle.host.specs.HostView as host_view
+use Rattle.stream_law.specs.Pairing.{begins}
+use Rattle.wire_sim.specs.Runs.{IsNumbered, IsStep, IsReached}
+use Rattle.host.specs.Sound.{IsSoundHost}
 use Rattle.wire_sim.specs.Runs as runs
 use Rattle.wire_sim.specs.Sides.{same_side, other_side}
 use Rattle.wire_sim.specs.Steps.{station_of, host_of, with_station, with_host, with_openings, ticked_station, delivered, MeetsFrame, DeliversFrame, Steps}
@@ -33,7 +34,7 @@ use Rattle.wire_sim.specs.WorldView.{NetworkView, WorldView, written_at, is_stal
 use Rattle.wire_sim.proofs.Delivered.{frame-delivered}
 use Rattle.wire_sim.proofs.Opened.{stream_law}
 use Rattle.wire_sim.proofs.PairPorts.{same_addr-other}
-use Rattle.wire_sim.proofs.PairingLaw.{pairing_lawful}
+use Rattle.stream_law.proofs.PairingLaw.{pairing_lawful}
 use Rattle.wire_sim.proofs.EndMoves.{pairing}
 use Rattle.wire_sim.proofs.Fair.{same_unfair}
 use Rattle.wire_sim.proofs.Projection.{end_at, Carried, Projects, projects-swapped}

@@ -1,10 +1,3 @@
-pub mod Lists
-pub mod Endpoints
-pub mod Entries
-pub mod HostView
-pub mod Ports
-pub mod Calls
-pub mod Dispatch
 pub mod Sides
 pub mod Tallies
 pub mod Openings
@@ -13,7 +6,3 @@ pub mod WorldView
 pub mod Steps
 pub mod Trace
 pub mod Runs
-pub mod Channel
-pub mod ChannelSteps
-pub mod ChannelViews
-pub mod Pairing

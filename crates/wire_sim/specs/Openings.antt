@@ -1,29 +1,12 @@
 -- Which events open a pair, and in which of its epochs.
-use Rattle.std.specs.Prelude.{ℕ, ◌+◌, if◌then◌else◌, List, [], ◌∷◌, fold, Option, Some, None, is_some, option_and_then, find}
+use Rattle.std.specs.Prelude.{ℕ, ◌+◌, if◌then◌else◌, List, [], ◌∷◌, fold, Option, Some, None, is_some}
 use Rattle.ipv4.specs.declared.addr.Pair.{Pair}
-use Rattle.ipv4.specs.Addresses.{pair_of}
-use Rattle.wire_sim.specs.declared.host.entry.SocketId.{SocketId}
-use Rattle.wire_sim.specs.declared.host.entry.Role.{Role}
-use Rattle.wire_sim.specs.declared.host.entry.Role.TheVariants.{Idle, Listener, Connected}
+use Rattle.host.specs.declared.entry.SocketId.{SocketId}
 use Rattle.wire_sim.specs.declared.event.Side.{Side}
 use Rattle.wire_sim.specs.declared.event.Opening.{Opening}
-use Rattle.wire_sim.specs.Entries.{is_due}
-use Rattle.wire_sim.specs.HostView.{HostView, role_of, holder_id}
+use Rattle.host.specs.HostView.{HostView, holder_id}
+use Rattle.host.specs.Pairs.{socket_pair}
 use Rattle.wire_sim.specs.Tallies.{same_pair}
-
--- the pair of a connection
-abbrev pub pair_in : Role → Option Pair
-pair_in (Connected c listener) = Some (pair_of c.local c.peer)
-pair_in (Listener local backlog) = None
-pair_in (Idle buffers bound) = None
-
--- the pair of the connection that a socket has
-abbrev pub socket_pair : HostView → SocketId → Option Pair
-socket_pair h id = option_and_then pair_in (role_of h id)
-
--- the pair of the first connection, in order of id, that has a segment due
-abbrev pub due_pair : HostView → Option Pair
-due_pair h = option_and_then (λ e. pair_in e.role) (find is_due h.entries)
 
 -- the epoch of a pair: that of its last opening, and 0 before the first
 abbrev pub epoch_of : List Opening → Pair → ℕ

@@ -1,14 +1,8 @@
 -- Every run of a world: one fair event after another, in any order and of any kind, each answered by its host as the host's own
 -- definitions say. A frame may be delivered never, once or often, in any order.
 use Rattle.std.specs.Prelude.{◌≡◌, ℕ, ◌<◌, ◌≤◌, ◌^◌, false, List, [], ◌∷◌, ◌++◌, length, Option, None, Some, ◌⊎◌, Result, Ok, Err}
-use Rattle.std.specs.List.{AllByRecursion}
 use Rattle.ipv4.specs.declared.addr.Addr.{Addr}
-use Rattle.ipv4.specs.declared.addr.Endpoint.{Endpoint}
 use Rattle.ipv4.specs.declared.addr.Pair.{Pair}
-use Rattle.tcp_state.specs.View.{View, IsSound}
-use Rattle.wire_sim.specs.declared.host.entry.Entry.{Entry}
-use Rattle.wire_sim.specs.declared.host.entry.Role.{Role}
-use Rattle.wire_sim.specs.declared.host.entry.Role.TheVariants.{Idle, Listener, Connected}
 use Rattle.wire_sim.specs.declared.event.Side.{Side}
 use Rattle.wire_sim.specs.declared.event.Call.{Call}
 use Rattle.wire_sim.specs.declared.event.Call.TheVariants as call
@@ -17,31 +11,12 @@ use Rattle.wire_sim.specs.declared.event.Event.TheVariants as event
 use Rattle.wire_sim.specs.declared.event.Answer.{Answer}
 use Rattle.wire_sim.specs.declared.event.Unfair.{Unfair}
 use Rattle.wire_sim.specs.declared.event.Unfair.TheVariants.{NoMemory}
-use Rattle.wire_sim.specs.Endpoints.{same_addr}
-use Rattle.wire_sim.specs.HostView.{HostView}
+use Rattle.host.specs.Endpoints.{same_addr}
+use Rattle.host.specs.Sound.{IsSoundHost}
 use Rattle.wire_sim.specs.Fairness.{Amount, unfair_event}
 use Rattle.wire_sim.specs.WorldView.{WorldView, SameAnswer, written_at, fresh_world}
 use Rattle.wire_sim.specs.Steps.{Steps}
 use Rattle.wire_sim.specs.Trace.{written, StreamLaw}
-
--- an endpoint's fields are of their width
-pub record IsEndpoint (e : Endpoint) : Type 0 where
-  pub addr : length e.addr.0 ≡ 4
-  pub port : e.port < 2 ^ 16
-
--- what every connection keeps of itself
-pub record IsSoundConnection (c : View) : Type 0 where
-  pub sound : IsSound c
-  pub local : IsEndpoint c.local
-  pub peer : IsEndpoint c.peer
-
-abbrev pub IsSoundRole : Role → Type 0
-IsSoundRole (Connected c listener) = IsSoundConnection c
-IsSoundRole (Listener local backlog) = Unit {0}
-IsSoundRole (Idle buffers bound) = Unit {0}
-
-abbrev pub IsSoundHost : HostView → Type 0
-IsSoundHost h = AllByRecursion (λ (e : Entry). IsSoundRole e.role) h.entries
 
 -- an initial sequence number that is handed in has 32 bits
 abbrev pub IsNumberedCall : Call → Type 0

@@ -6,11 +6,11 @@ use Rattle.tcp_state.specs.declared.moment.Moment.{Moment}
 use Rattle.tcp_state.specs.declared.buffers.Buffers.{Buffers}
 use Rattle.tcp_state.specs.declared.calls.Received.{Received}
 use Rattle.tcp_state.specs.declared.calls.Received.TheVariants as received
-use Rattle.wire_sim.specs.declared.host.entry.SocketId.{SocketId}
-use Rattle.wire_sim.specs.declared.host.entry.Role.{Role}
-use Rattle.wire_sim.specs.declared.host.entry.Role.TheVariants.{Connected}
-use Rattle.wire_sim.specs.declared.host.refusal.Refusal.{Refusal}
-use Rattle.wire_sim.specs.declared.host.refusal.Refusal.TheVariants.{EMFILE, ENOMEM}
+use Rattle.host.specs.declared.entry.SocketId.{SocketId}
+use Rattle.host.specs.declared.entry.Role.{Role}
+use Rattle.host.specs.declared.entry.Role.TheVariants.{Connected}
+use Rattle.host.specs.declared.refusal.Refusal.{Refusal}
+use Rattle.host.specs.declared.refusal.Refusal.TheVariants.{EMFILE, ENOMEM}
 use Rattle.wire_sim.specs.declared.event.Side.{Side}
 use Rattle.wire_sim.specs.declared.event.Side.TheVariants.{A, B}
 use Rattle.wire_sim.specs.declared.event.Call.{Call}
@@ -23,12 +23,13 @@ use Rattle.wire_sim.specs.declared.event.Opening.{Opening}
 use Rattle.wire_sim.specs.declared.world.bag.Frame.{Frame}
 use Rattle.wire_sim.specs.declared.world.bag.Note.{Note}
 use Rattle.wire_sim.specs.declared.world.station.Station.{Station}
-use Rattle.wire_sim.specs.Calls.{unless_refused, is_table_full, after_socket, bind_refusal, after_bind, listen_refusal, after_listen, accept_answer, after_accept, connect_refusal, after_connect, send_answer, after_send, recv_answer, after_recv, state_answer}
-use Rattle.wire_sim.specs.Dispatch.{IsDelivered}
-use Rattle.wire_sim.specs.HostView.{HostView, role_of, after_tick, after_emission, emission_len, emission_octets}
+use Rattle.host.specs.Calls.{unless_refused, is_table_full, after_socket, bind_refusal, after_bind, listen_refusal, after_listen, accept_answer, after_accept, connect_refusal, after_connect, send_answer, after_send, recv_answer, after_recv, state_answer}
+use Rattle.host.specs.Dispatch.{IsDelivered}
+use Rattle.host.specs.HostView.{HostView, role_of, after_tick, after_emission, emission_len, emission_octets}
 use Rattle.wire_sim.specs.Sides.{other_side}
 use Rattle.wire_sim.specs.Tallies.{counted}
-use Rattle.wire_sim.specs.Openings.{epoch_of, due_pair, opened_by_connect, opened_by_frame}
+use Rattle.wire_sim.specs.Openings.{epoch_of, opened_by_connect, opened_by_frame}
+use Rattle.host.specs.Pairs.{due_pair}
 use Rattle.wire_sim.specs.WorldView.{NetworkView, written_at}
 
 abbrev pub station_of : NetworkView → Side → Station

@@ -3,8 +3,8 @@ use Rattle.std.specs.Prelude.{ℕ, ◌+◌, Bool, ◌==◌, ◌&&◌, if◌then�
 use Rattle.ipv4.specs.declared.addr.Pair.{Pair}
 use Rattle.wire_sim.specs.declared.event.Side.{Side}
 use Rattle.wire_sim.specs.declared.event.Opening.{Opening}
-use Rattle.wire_sim.specs.declared.host.entry.SocketId.{SocketId}
-use Rattle.wire_sim.specs.Endpoints.{same_end}
+use Rattle.host.specs.declared.entry.SocketId.{SocketId}
+use Rattle.host.specs.Endpoints.{same_end}
 use Rattle.wire_sim.specs.Sides.{same_side}
 
 abbrev pub same_pair : Pair → Pair → Bool

@@ -1,7 +1,7 @@
 -- What the callers gave to the hosts and got from them, read off the trace, and the law of the stream.
 use Rattle.std.specs.Prelude.{ℕ, Bool, ◌==◌, ◌&&◌, if◌then◌else◌, List, [], ◌∷◌, ◌++◌, take, Option, Some, None, find}
 use Rattle.ipv4.specs.declared.addr.Pair.{Pair}
-use Rattle.wire_sim.specs.declared.host.entry.SocketId.{SocketId}
+use Rattle.host.specs.declared.entry.SocketId.{SocketId}
 use Rattle.wire_sim.specs.declared.event.Side.{Side}
 use Rattle.wire_sim.specs.declared.event.Call.{Call}
 use Rattle.wire_sim.specs.declared.event.Call.TheVariants as call
@@ -11,7 +11,7 @@ use Rattle.wire_sim.specs.declared.event.Answer.{Answer}
 use Rattle.wire_sim.specs.declared.event.Answer.TheVariants as answer
 use Rattle.wire_sim.specs.declared.event.Opening.{Opening}
 use Rattle.wire_sim.specs.declared.event.Happening.{Happening}
-use Rattle.wire_sim.specs.Lists.{Begins}
+use Rattle.stream_law.specs.Begins.{Begins}
 use Rattle.wire_sim.specs.Sides.{same_side, other_side}
 use Rattle.wire_sim.specs.Tallies.{is_opening_of}
 

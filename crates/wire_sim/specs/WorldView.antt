@@ -13,7 +13,7 @@ use Rattle.wire_sim.specs.declared.world.bag.Frame.{Frame}
 use Rattle.wire_sim.specs.declared.world.bag.Note.{Note}
 use Rattle.wire_sim.specs.declared.world.station.Station.{Station}
 use Rattle.wire_sim.specs.declared.world.network.Network.{Network}
-use Rattle.wire_sim.specs.HostView.{fresh}
+use Rattle.host.specs.HostView.{fresh}
 use Rattle.wire_sim.specs.Tallies.{written_by}
 use Rattle.wire_sim.specs.Fairness.{is_late, unfair_event}
 

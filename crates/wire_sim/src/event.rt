@@ -2,8 +2,8 @@
 
 ghost use Rattle.std.specs.Prelude.{◌≡◌, ◌<◌, ◌≤◌, ◌==◌, ◌&&◌, vec_len, vec_capacity};
 
-use crate::host::{DropCause, Kind, Refusal, SocketId};
 use crate::room::filled;
+use host::{DropCause, Kind, Refusal, SocketId};
 use ipv4::{Endpoint, Pair};
 use tcp_segment::Seq;
 use tcp_state::{Moment, State};

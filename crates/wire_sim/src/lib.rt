@@ -2,7 +2,6 @@
 #![tactic(auto)]
 
 mod event;
-mod host;
 pub mod laws;
 mod room;
 #[cfg(test)]
@@ -10,5 +9,4 @@ mod tests;
 mod world;
 
 pub use event::{Answer, Call, Event, Happening, Opening, Side, Unfair, WorldFault};
-pub use host::{Config, DropCause, Host, Kind, Refusal, SocketId};
 pub use world::World;

@@ -1,11 +1,9 @@
-//! Whole scripts on a world, and its hosts by their calls.
+//! Whole scripts on a world.
 
 ghost use Rattle.std.specs.Prelude.{◌≤◌, ◌^◌};
 
-use crate::{
-    Answer, Call, Config, DropCause, Event, Host, Kind, Refusal, Side, SocketId, Unfair, World,
-    WorldFault,
-};
+use crate::{Answer, Call, Event, Side, Unfair, World, WorldFault};
+use host::{Config, Kind, Refusal, SocketId};
 use ipv4::{Addr, Endpoint, Pair};
 use std::alloc::{AllocError, Global};
 use std::process::Abort;
@@ -35,10 +33,6 @@ fn world(alloc: Global, limit: u64) -> Result<World, Fail>
 {
     let world = World::with_limit(alloc, Config::new(A)?, Config::new(B)?, limit)?;
     Ok(world)
-}
-
-fn host(alloc: Global) -> Result<Host, Fail> {
-    Ok(Host::new(alloc, Config::new(A)?, B)?)
 }
 
 fn send(alloc: Global, side: Side, id: SocketId, text: &str) -> Result<Event, AllocError> {
@@ -361,16 +355,6 @@ fn calls_of_other_sockets(rt: HostRuntime) -> Result<(), Fail> {
 }
 
 #[test]
-fn the_table_has_eight_places(rt: HostRuntime) -> Result<(), Fail> {
-    let mut host = host(rt.alloc())?;
-    for id in 1..9 {
-        assert_eq!(rt; host.socket(Kind::Tcp), Ok(SocketId(id)));
-    }
-    assert_eq!(rt; host.socket(Kind::Tcp), Err(Refusal::EMFILE));
-    Ok(())
-}
-
-#[test]
 fn ports_are_given_in_turn(rt: HostRuntime) -> Result<(), Fail> {
     let alloc = rt.alloc();
     let taken = Endpoint {
@@ -442,68 +426,6 @@ fn ports_are_given_in_turn(rt: HostRuntime) -> Result<(), Fail> {
     for (opening, pair) in world.openings().iter().zip(pairs.iter()) {
         assert_eq!(rt; opening.pair, *pair);
     }
-    Ok(())
-}
-
-/// The frame that is due at a host.
-fn frame(alloc: Global, host: &mut Host) -> Result<Vec<u8>, Fail> {
-    let mut out = [0; 1514];
-    match host.next_frame(Moment(0), &mut out) {
-        Some(len) => Ok(Vec::from_slice(alloc, &out[..len])?),
-        None => Ok(Vec::new(alloc)),
-    }
-}
-
-#[test]
-fn segments_are_those_of_the_standard(rt: HostRuntime) -> Result<(), Fail> {
-    let alloc = rt.alloc();
-    let mut a = host(alloc)?;
-    let mut b = Host::new(alloc, Config::new(B)?, A)?;
-    assert_eq!(rt; b.socket(Kind::Tcp), Ok(ONE));
-    assert_eq!(rt; b.bind(ONE, SERVER), Ok(()));
-    assert_eq!(rt; b.listen(ONE, 1), Ok(()));
-    assert_eq!(rt; a.socket(Kind::Tcp), Ok(ONE));
-    assert_eq!(rt;
-        a.connect(Moment(0), Seq(4_294_967_295), ONE, SERVER),
-        Ok(())
-    );
-    let mut syn = frame(alloc, &mut a)?;
-    assert_eq!(rt;
-        syn.as_slice(),
-        b"\xc0\x00\x00\x50\xff\xff\xff\xff\x00\x00\x00\x00\x60\x02\xff\xff\xc3\xd3\x00\x00\x02\x04\x05\xb4".as_slice()
-    );
-    assert_eq!(rt; b.deliver(Moment(0), Seq(7), syn.as_slice()), Ok(()));
-    let syn_ack = frame(alloc, &mut b)?;
-    assert_eq!(rt; a.deliver(Moment(0), Seq(7), syn_ack.as_slice()), Ok(()));
-    assert_eq!(rt; a.send(ONE, b"hello"), Ok(5));
-    let text = frame(alloc, &mut a)?;
-    assert_eq!(rt;
-        text.as_slice(),
-        b"\xc0\x00\x00\x50\x00\x00\x00\x00\x00\x00\x00\x08\x50\x18\xff\xff\x97\x9a\x00\x00hello".as_slice()
-    );
-    syn.truncate(20);
-    assert_eq!(rt;
-        b.deliver(Moment(0), Seq(7), syn.as_slice()),
-        Err(DropCause::UpperHeader)
-    );
-    Ok(())
-}
-
-#[test]
-fn damaged_segments_are_dropped(rt: HostRuntime) -> Result<(), Fail> {
-    let alloc = rt.alloc();
-    let mut a = host(alloc)?;
-    let mut b = Host::new(alloc, Config::new(B)?, A)?;
-    assert_eq!(rt; a.socket(Kind::Tcp), Ok(ONE));
-    assert_eq!(rt; a.connect(Moment(0), Seq(0), ONE, SERVER), Ok(()));
-    let mut syn = frame(alloc, &mut a)?;
-    if let Some(last) = syn.last_mut() {
-        *last ^= 1;
-    }
-    assert_eq!(rt;
-        b.deliver(Moment(0), Seq(7), syn.as_slice()),
-        Err(DropCause::UpperSum)
-    );
     Ok(())
 }
 
@@ -635,10 +557,6 @@ fn worlds_have_two_addresses(rt: HostRuntime) -> Result<(), Fail> {
         Some(WorldFault::SameAddress)
     );
     assert!(rt; World::new(alloc, a, Config::new(B)?).is_ok());
-    assert_eq!(rt;
-        Config::new(Addr([127, 0, 0, 1])).err(),
-        Some(Refusal::EINVAL)
-    );
     Ok(())
 }
 
@@ -647,18 +565,10 @@ fn refusals_have_their_numbers(rt: HostRuntime) -> Result<(), Fail> {
     let alloc = rt.alloc();
     let text = format!(in alloc;
         "{} {} {}",
-        Refusal::EAGAIN,
-        Refusal::EDESTADDRREQ,
-        DropCause::NoRoom
-    )?;
-    assert_eq!(rt; text.as_str(), "E8 EAGAIN E18 EDESTADDRREQ F9 NoRoom");
-    let text = format!(in alloc;
-        "{} {} {}",
         Unfair::NoSuchFrame,
         Unfair::Stale,
         Unfair::NoMemory
     )?;
     assert_eq!(rt; text.as_str(), "U1 NoSuchFrame U2 Stale U5 NoMemory");
-    assert_eq!(rt; DropCause::NoRoom.number(), 9);
     Ok(())
 }

@@ -5,9 +5,9 @@ ghost use Rattle.hostd.specs.Keywords.{keyword_of};
 ghost use Rattle.hostd.specs.Actions.{action_of, said_by, id_of, moment_of, isn_of, port_of, octets_of};
 
 use super::words::{Text, number};
+use host::SocketId;
 use tcp_segment::Seq;
 use tcp_state::Moment;
-use wire_sim::SocketId;
 
 /// The greatest count of octets, and the greatest MAX, of a line.
 pub const MOST_OCTETS: u64 = 2_000_000;

@@ -4,9 +4,10 @@ ghost use Rattle.std.specs.Prelude.{◌≡◌, IfOk};
 ghost use Rattle.hostd.specs.Events.{IsEventOf, address_of, endpoint_of, other_side};
 
 use crate::script::action::Action;
+use host::Kind;
 use ipv4::{Addr, Endpoint};
 use std::alloc::{AllocError, Global};
-use wire_sim::{Call, Event, Kind, Side};
+use wire_sim::{Call, Event, Side};
 
 /// The address of a side's host.
 pub fn address(side: Side) -> Addr

@@ -6,7 +6,7 @@ ghost use Rattle.wire_sim.specs.Tallies.{written_by, counted};
 ghost use Rattle.wire_sim.specs.Openings.{epoch_of};
 
 use crate::event::{Opening, Side};
-use crate::host::SocketId;
+use host::SocketId;
 use ipv4::Pair;
 use std::alloc::{AllocError, Global};
 

@@ -11,8 +11,8 @@ mod network;
 mod station;
 
 use crate::event::{Answer, Event, Happening, Opening, Unfair, WorldFault};
-use crate::host::Config;
 use crate::room::Room;
+use host::Config;
 use network::Network;
 use std::alloc::{AllocError, Global};
 use std::marker::Model;

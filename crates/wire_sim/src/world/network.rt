@@ -7,8 +7,8 @@ use super::bag::{Frame, Note};
 use super::ledger::Ledger;
 use super::station::Station;
 use crate::event::{Answer, Call, Event, Opening, Side, Unfair, WorldFault};
-use crate::host::{Config, SocketId};
 use crate::room::{MOST_FRAME, filled};
+use host::{Config, SocketId};
 use ipv4::Pair;
 use std::alloc::{AllocError, Global};
 use tcp_segment::Seq;
@@ -27,11 +27,12 @@ pub(super) struct Network {
 impl Network {
     ghost use Rattle.wire_sim.specs.Steps.{Steps, station_of, host_of, with_openings, noted, asked_of, asked_by, is_emission};
     ghost use Rattle.wire_sim.specs.Sides.{other_side};
-    ghost use Rattle.wire_sim.specs.HostView.{holder_id};
+    ghost use Rattle.host.specs.HostView.{holder_id};
     ghost use Rattle.wire_sim.specs.Runs.{IsNumbered, IsNumberedCall};
-    ghost use Rattle.wire_sim.specs.Openings.{due_pair, opened_by_connect};
+    ghost use Rattle.host.specs.Pairs.{due_pair};
+    ghost use Rattle.wire_sim.specs.Openings.{opened_by_connect};
     ghost use Rattle.wire_sim.specs.WorldView.{network_view, fresh_network, unfair_counted, is_stale, octets_len};
-    ghost use Rattle.wire_sim.specs.Runs.{IsSoundHost};
+    ghost use Rattle.host.specs.Sound.{IsSoundHost};
 
     /// Two hosts with no frames between them. NoMemory.
     pub(super) fn new(

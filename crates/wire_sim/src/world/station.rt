@@ -3,11 +3,11 @@
 ghost use Rattle.std.specs.Prelude.{◌≡◌, ◌<◌, ◌≤◌, IfSome, OnSome, IfNone, IfOk, IfErr, vec_len, MatchResult};
 ghost use Rattle.wire_sim.specs.WorldView.{octets_len};
 ghost use Rattle.std.specs.Result.{ForOk};
-ghost use Rattle.wire_sim.specs.Calls.{recv_answer};
+ghost use Rattle.host.specs.Calls.{recv_answer};
 ghost use Rattle.wire_sim.specs.Steps.{MeetsReceived};
 
 use crate::event::{Answer, Call, WorldFault};
-use crate::host::{Config, Host, Refusal, SocketId};
+use host::{Config, Host, Refusal, SocketId};
 use ipv4::{Addr, Pair};
 use std::alloc::Global;
 use tcp_segment::Seq;
@@ -21,11 +21,12 @@ pub(super) struct Station {
 }
 
 impl Station {
-    ghost use Rattle.wire_sim.specs.HostView.{emission_len, emission_front, after_emission, holder_id};
+    ghost use Rattle.host.specs.HostView.{emission_len, emission_front, after_emission, holder_id};
     ghost use Rattle.wire_sim.specs.WorldView.{fresh_station};
     ghost use Rattle.wire_sim.specs.Steps.{ticked_station, asked_of, MeetsCall, MeetsFrame};
-    ghost use Rattle.wire_sim.specs.Openings.{socket_pair, due_pair};
-    ghost use Rattle.wire_sim.specs.Runs.{IsSoundHost, IsNumberedCall};
+    ghost use Rattle.host.specs.Pairs.{socket_pair, due_pair};
+    ghost use Rattle.host.specs.Sound.{IsSoundHost};
+    ghost use Rattle.wire_sim.specs.Runs.{IsNumberedCall};
 
     /// A host whose clock stands at 0.
     pub(super) fn new(alloc: Global, config: Config, neighbour: Addr) -> Result<Station, WorldFault>

@@ -1,7 +1,7 @@
 -- What was asked for is what the buffer holds.
 use Rattle.std.proofs.Common.{◌≡◌, ℕ, ap, sym, ◌∙◌, vec_len, subst}
 use Rattle.wire_sim.specs.declared.event.Call.{Call}
-use Rattle.wire_sim.specs.Calls.{recv_answer}
+use Rattle.host.specs.Calls.{recv_answer}
 use Rattle.wire_sim.specs.Steps.{asked, asked_of, MeetsCall, MeetsReceived}
 use Rattle.wire_sim.proofs.world.station.Station.call.Goals as goal
 

@@ -1,0 +1,34 @@
+-- The write at the socket's place is the change of the first entry that the id names, from the port that is given.
+use Rattle.std.proofs.Common.{◌≡◌, ◌∙◌, ℕ, List, get_or, Some, Ok, ap, sym}
+use Rattle.std.specs.List.{find}
+use Rattle.ipv4.specs.declared.addr.Addr.{Addr}
+use Rattle.host.specs.declared.entry.Entry.{Entry}
+use Rattle.host.specs.Entries.{is_socket, connecting, with_role}
+use Rattle.host.specs.HostView.{HostView, with_socket}
+use Rattle.host.specs.Calls.{open_answer, port_for, counted_port}
+use Rattle.host.proofs.Connected.{after_connect-accepted, some_from_ok}
+use Rattle.host.proofs.Firsts.{find-position}
+use Rattle.host.proofs.Written.{entry_written}
+use Rattle.host.proofs.Host.connect.Goals as goal
+
+pub returns-clause-ok : goal.returns-clause-ok
+returns-clause-ok c =
+    let h : HostView = c.args.self.now in
+    let place = c.in_ok-place.ensures.place in
+    let entries = ap (λ (w : HostView). w.entries) c.self.view_is in
+    let addr = ap (λ (w : HostView). w.addr) c.self.view_is in
+    let x : Entry = c.index-deref-place.result in
+    let at : x ≡ get_or h.entries c.in_ok-place.place x =
+    c.index-deref-place.is ∙ ap (λ (es : List Entry). get_or es c.in_ok-place.place x) (c.deref.ensures.0 ∙ entries)
+    in
+    let found : find (is_socket c.args.id) h.entries ≡ Some x = find-position (is_socket c.args.id) h.entries c.in_ok-place.place x place at in
+    let opens : open_answer x.role ≡ Ok c.in_ok-bound.bound = ap (λ (e : Entry). open_answer e.role) c.index-deref-place.is ∙ sym c.in_ok-bound.ensures in
+    let given : port_for h c.in_ok-bound.bound c.args.peer ≡ Some c.in_ok-port.port = some_from_ok _ _ _ c.in_ok-port.ensures.value in
+    let counted : c.counted_port-self-inside.result ≡ counted_port h c.in_ok-bound.bound c.in_ok-port.port = c.counted_port-self-inside.ensures.value in
+    let moved =
+    ap (λ (w : HostView). let r : HostView = record w { last_port = c.counted_port-self-inside.result } in r) c.self.view_is
+    ∙ ap (λ (p : ℕ). let r : HostView = record h { last_port = p } in r) counted
+    in
+    entry_written _ _ (is_socket c.args.id) (with_role (connecting (record { addr = c.self.inside.addr; port = c.in_ok-port.port }) c.args.peer c.args.isn.0)) _ _ _ _ moved place c.deref_mut.ensures.value c.index-deref_mut-place.is c.connect.ensures
+    ∙ ap (λ (a : Addr). with_socket (record h { last_port = counted_port h c.in_ok-bound.bound c.in_ok-port.port }) c.args.id (connecting (record { addr = a; port = c.in_ok-port.port }) c.args.peer c.args.isn.0)) addr
+    ∙ sym (after_connect-accepted h c.args.isn.0 c.args.id c.args.peer x c.in_ok-bound.bound c.in_ok-port.port found opens given)

@@ -1,0 +1,7 @@
+pub mod Firsts
+pub mod Written
+pub mod Refused
+pub mod Turns
+pub mod Connected
+pub mod Fronts
+pub mod Arrived

@@ -1,0 +1,29 @@
+-- A call that is refused leaves the entry as it was.
+use Rattle.std.proofs.Common.{◌≡◌, ℕ, List, Result, Ok, Err, arith, refl, ap}
+use Rattle.std.proofs.lemmas.Grind.{common_steps}
+use Rattle.tcp_state.specs.declared.calls.Refusal.{Refusal as ConnectionRefusal}
+use Rattle.tcp_state.specs.View.{View}
+use Rattle.tcp_state.specs.Calls.{send_answer, after_send}
+use Rattle.host.specs.declared.entry.Entry.{Entry}
+use Rattle.host.specs.declared.entry.Role.{Role}
+use Rattle.host.specs.declared.entry.Role.TheVariants.{Idle, Listener, Connected}
+use Rattle.host.specs.declared.refusal.Refusal.{Refusal}
+use Rattle.host.specs.Entries.{sent, with_role}
+use Rattle.host.specs.Calls.{sent_answer, of_connection}
+
+-- what a connection takes is nothing where it refuses
+pub after_send_refused : (v : View) (octets : List ℕ) (e : ConnectionRefusal) → send_answer v octets ≡ Err e → after_send v octets ≡ v
+after_send_refused v octets e refused = grind (arith, common_steps)
+
+refused_by_connection : (c : View) (octets : List ℕ) (e : Refusal) (r : Result ℕ ConnectionRefusal) → send_answer c octets ≡ r → of_connection r ≡ Err e → after_send c octets ≡ c
+refused_by_connection c octets e (Ok n) same refused = cc
+refused_by_connection c octets e (Err x) same refused = after_send_refused c octets x same
+
+pub sent_refused : (role : Role) (octets : List ℕ) (e : Refusal) → sent_answer role octets ≡ Err e → sent octets role ≡ role
+sent_refused (Idle buffers bound) octets e refused = refl
+sent_refused (Listener bound backlog) octets e refused = refl
+sent_refused (Connected c listener) octets e refused =
+    ap (λ (v : View). Connected v listener) (refused_by_connection c octets e (send_answer c octets) refl refused)
+
+pub entry_refused : (e : Entry) (octets : List ℕ) (r : Refusal) → sent_answer e.role octets ≡ Err r → with_role (sent octets) e ≡ e
+entry_refused e octets r refused = ap (λ role. let y : Entry = record e { role = role } in y) (sent_refused e.role octets r refused)

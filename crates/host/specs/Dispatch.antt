@@ -1,0 +1,91 @@
+-- What a frame that arrives makes of a host (RFC 9293 section 3.10.7).
+use Rattle.std.specs.Prelude.{◌≡◌, ℕ, ◌+◌, Bool, ◌&&◌, ◌||◌, not, nat_le, if◌then◌else◌, List, [], ◌∷◌, ◌++◌, count_by, Option, Some, None, find, Result, Ok, Err, MatchResult}
+use Rattle.ipv4.specs.declared.addr.Endpoint.{Endpoint}
+use Rattle.tcp_segment.specs.declared.flags.Flags.{Flags}
+use Rattle.tcp_segment.specs.declared.fault.SegmentFault.{SegmentFault}
+use Rattle.tcp_segment.specs.declared.fault.SegmentFault.TheVariants as fault
+use Rattle.tcp_segment.specs.Segment.{Segment, IsParsed}
+use Rattle.tcp_state.specs.declared.connection.Fate.{Fate}
+use Rattle.tcp_state.specs.declared.connection.Fate.TheVariants.{Stays, Removed}
+use Rattle.tcp_state.specs.Arrival.{opened_passively}
+use Rattle.host.specs.declared.entry.Entry.{Entry}
+use Rattle.host.specs.declared.refusal.DropCause.{DropCause}
+use Rattle.host.specs.declared.refusal.DropCause.TheVariants.{UpperHeader, UpperSum, NoRoom}
+use Rattle.host.specs.Entries.{is_between, is_listening_at, is_waiting_at, backlog_of, arrived, fate_of, new_waiting, with_role}
+use Rattle.host.specs.HostView.{HostView}
+use Rattle.host.specs.Calls.{is_table_full}
+use Rattle.host.specs.Lists.{change_first, remove_first}
+
+-- our end and the neighbour's of a segment that arrived
+abbrev pub local_end : HostView → Segment → Endpoint
+local_end h s = record { addr = h.addr; port = s.destination }
+
+abbrev pub peer_end : HostView → Segment → Endpoint
+peer_end h s = record { addr = h.neighbour; port = s.source }
+
+-- the entry of a connection after a segment for it: it may be gone
+abbrev pub settled : Fate → (Entry → Bool) → Segment → List Entry → List Entry
+settled Stays test s entries = change_first test (with_role (arrived s)) entries
+settled Removed test s entries = remove_first test entries
+
+-- a segment with SYN and none of RST, ACK and FIN opens a connection at a listener, at this stage
+abbrev pub is_opening : Flags → Bool
+is_opening flags = flags.syn && not flags.rst && not flags.ack && not flags.fin
+
+-- no place at this listener: as many wait as its backlog allows, or the table is full, or the last id is given
+abbrev pub has_no_place : HostView → Entry → Bool
+has_no_place h listener = nat_le (backlog_of listener.role) (count_by (is_waiting_at listener.id) h.entries) || is_table_full h
+
+-- a connection in SYN-RECEIVED at the end of the table, which waits at the listener
+abbrev pub after_opening : HostView → ℕ → Entry → Segment → HostView
+after_opening h isn listener s = record h {
+  last_id = h.last_id + 1;
+  entries = h.entries ++ new_waiting (record { 0 = h.last_id + 1 }) listener.id (opened_passively (local_end h s) (peer_end h s) isn s) ∷ [];
+}
+
+-- What a segment leads to: the host becomes this, or it does where memory is there, or there is no place.
+pub data Arrival : Type 0 where
+  Becomes : HostView → Arrival
+  Opens : HostView → Arrival
+  NoPlace : Arrival
+
+-- a segment that opens a connection, at the listener of its destination port
+abbrev pub opening : HostView → ℕ → Segment → Arrival
+opening h isn s = of_listener (find (is_listening_at s.destination) h.entries)
+  where
+    of_listener : Option Entry → Arrival
+    of_listener None = Becomes h
+    of_listener (Some listener) = if has_no_place h listener then NoPlace else Opens (after_opening h isn listener s)
+
+-- a segment goes to the connection of its two ends; else it may open one; every other one changes nothing
+abbrev pub arrival : HostView → ℕ → Segment → Arrival
+arrival h isn s = of_entry (find (is_between (local_end h s) (peer_end h s)) h.entries)
+  where
+    of_entry : Option Entry → Arrival
+    of_entry (Some e) = Becomes (record h { entries = settled (fate_of s e.role) (is_between (local_end h s) (peer_end h s)) s h.entries })
+    of_entry None = if is_opening s.flags then opening h isn s else Becomes h
+
+-- the answer and the new host are those that a segment leads to
+abbrev pub Meets : Arrival → HostView → Result (Unit {0}) DropCause → HostView → Type 0
+Meets (Becomes next) h answer new = (answer ≡ Ok tt) × (new ≡ next)
+Meets (Opens next) h answer new = MatchResult answer (λ _. new ≡ next) (λ cause. (cause ≡ NoRoom) × (new ≡ h))
+Meets NoPlace h answer new = (answer ≡ Err NoRoom) × (new ≡ h)
+
+-- a fault of the segment by its name as a cause
+abbrev pub cause_of : SegmentFault → DropCause
+cause_of fault.UpperHeader = UpperHeader
+cause_of fault.UpperSum = UpperSum
+
+-- a frame: the octets of a segment from the neighbour to us, or dropped by their first fault, and then nothing changes
+abbrev pub MeetsParsed : Result Segment SegmentFault → HostView → ℕ → Result (Unit {0}) DropCause → HostView → Type 0
+MeetsParsed (Ok s) h isn answer new = Meets (arrival h isn s) h answer new
+MeetsParsed (Err f) h isn answer new = (answer ≡ Err (cause_of f)) × (new ≡ h)
+
+abbrev pub IsDelivered : HostView → ℕ → List ℕ → Result (Unit {0}) DropCause → HostView → Type 0
+IsDelivered h isn octets answer new = (parsed : Result Segment SegmentFault) × IsParsed h.neighbour h.addr octets parsed × MeetsParsed parsed h isn answer new
+
+-- the number of a cause among all that a host may name
+abbrev pub number_of : DropCause → ℕ
+number_of UpperHeader = 7
+number_of UpperSum = 8
+number_of NoRoom = 9

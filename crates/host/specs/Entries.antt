@@ -1,0 +1,223 @@
+-- The entries of a host's table: sockets, and connections that nobody has accepted yet.
+use Rattle.std.specs.Prelude.{ℕ, Bool, true, false, ◌&&◌, ◌||◌, not, ◌==◌, [], if◌then◌else◌, List, ◌++◌, drop, Option, Some, None, option_map, is_some}
+use Rattle.ipv4.specs.declared.addr.Endpoint.{Endpoint}
+use Rattle.ipv4.specs.declared.addr.Pair.{Pair}
+use Rattle.tcp_state.specs.declared.state.State.{State}
+use Rattle.tcp_state.specs.declared.state.State.TheVariants.{Closed, Listen}
+use Rattle.tcp_state.specs.declared.moment.Moment.{Moment}
+use Rattle.tcp_state.specs.View.{View, is_syn_received, opened_actively, after_tick, deadline}
+use Rattle.tcp_segment.specs.Segment.{Segment}
+use Rattle.tcp_state.specs.declared.connection.Fate.{Fate}
+use Rattle.tcp_state.specs.declared.connection.Fate.TheVariants.{Stays}
+use Rattle.tcp_state.specs.Arrival.{after_segment, fate}
+use Rattle.tcp_state.specs.Calls.{after_send, after_recv}
+use Rattle.tcp_state.specs.declared.emission.Due.{Due}
+use Rattle.tcp_state.specs.Due.{first_due, after_emitted, emitted_len, emitted}
+use Rattle.tcp_state.specs.declared.buffers.Buffers.{Buffers}
+use Rattle.host.specs.declared.entry.SocketId.{SocketId}
+use Rattle.host.specs.declared.entry.Entry.{Entry}
+use Rattle.host.specs.declared.entry.Role.{Role}
+use Rattle.host.specs.declared.entry.Role.TheVariants.{Idle, Listener, Connected}
+use Rattle.host.specs.Endpoints.{same_end}
+
+-- a connection that nobody has accepted yet
+abbrev pub is_pending : Role → Bool
+is_pending (Connected connection (Some listener)) = true
+is_pending (Connected connection None) = false
+is_pending (Listener local backlog) = false
+is_pending (Idle buffers bound) = false
+
+-- the socket that the id names; a connection that is not accepted is no socket
+abbrev pub is_socket : SocketId → Entry → Bool
+is_socket id e = (e.id.0 == id.0) && not (is_pending e.role)
+
+abbrev pub is_closed : State → Bool
+is_closed Closed = true
+is_closed _ = false
+
+-- a connection from a local to a foreign endpoint, in any state but CLOSED
+abbrev pub is_live_between : Endpoint → Endpoint → Role → Bool
+is_live_between local peer (Connected c listener) = not (is_closed c.state) && (same_end c.local local && same_end c.peer peer)
+is_live_between local peer (Listener bound backlog) = false
+is_live_between local peer (Idle buffers bound) = false
+
+-- a connection of this pair of endpoints, in any state but CLOSED
+abbrev pub joins : Pair → Role → Bool
+joins pair role = is_live_between pair.first pair.second role || is_live_between pair.second pair.first role
+
+-- the local port is this one
+abbrev pub uses_port : ℕ → Role → Bool
+uses_port port (Connected c listener) = c.local.port == port
+uses_port port (Listener local backlog) = local.port == port
+uses_port port (Idle buffers (Some local)) = local.port == port
+uses_port port (Idle buffers None) = false
+
+-- a connection that waits at this listener to be accepted, in SYN-RECEIVED or past it
+abbrev pub waits_at : SocketId → Role → Bool
+waits_at id (Connected c (Some listener)) = listener.0 == id.0
+waits_at id (Connected c None) = false
+waits_at id (Listener local backlog) = false
+waits_at id (Idle buffers bound) = false
+
+-- the peer of a connection that waits at this listener and has passed SYN-RECEIVED
+abbrev pub offered_peer : SocketId → Role → Option Endpoint
+offered_peer id (Connected c (Some listener)) = if (listener.0 == id.0) && not (is_syn_received c.state) then Some c.peer else None
+offered_peer id (Connected c None) = None
+offered_peer id (Listener local backlog) = None
+offered_peer id (Idle buffers bound) = None
+
+-- the state that a socket shows (RFC 9293 section 3.3.2)
+abbrev pub shown_state : Role → State
+shown_state (Connected c listener) = c.state
+shown_state (Listener local backlog) = Listen
+shown_state (Idle buffers bound) = Closed
+
+abbrev pub deadline_of : Role → Option Moment
+deadline_of (Connected c listener) = deadline c
+deadline_of (Listener local backlog) = None
+deadline_of (Idle buffers bound) = None
+
+-- a segment is due
+abbrev pub has_due : Role → Bool
+has_due (Connected c listener) = is_some (first_due c)
+has_due (Listener local backlog) = false
+has_due (Idle buffers bound) = false
+
+-- how many connections may wait at a listener
+abbrev pub backlog_of : Role → ℕ
+backlog_of (Listener local backlog) = backlog
+backlog_of (Connected c listener) = 0
+backlog_of (Idle buffers bound) = 0
+
+abbrev pub listens_at : ℕ → Role → Bool
+listens_at port (Listener local backlog) = local.port == port
+listens_at port (Connected c listener) = false
+listens_at port (Idle buffers bound) = false
+
+-- Tests of an entry by its role.
+
+abbrev pub is_listening_at : ℕ → Entry → Bool
+is_listening_at port e = listens_at port e.role
+
+abbrev pub is_between : Endpoint → Endpoint → Entry → Bool
+is_between local peer e = is_live_between local peer e.role
+
+abbrev pub is_of_pair : Pair → Entry → Bool
+is_of_pair pair e = joins pair e.role
+
+abbrev pub has_port : ℕ → Entry → Bool
+has_port port e = uses_port port e.role
+
+-- bound to this port as a socket; a connection that is not accepted is no socket
+abbrev pub is_bound_at : ℕ → Entry → Bool
+is_bound_at port e = not (is_pending e.role) && uses_port port e.role
+
+abbrev pub is_waiting_at : SocketId → Entry → Bool
+is_waiting_at id e = waits_at id e.role
+
+abbrev pub is_offered_at : SocketId → Entry → Bool
+is_offered_at id e = is_some (offered_peer id e.role)
+
+abbrev pub is_due : Entry → Bool
+is_due e = has_due e.role
+
+-- an idle socket with empty buffers, not bound
+abbrev pub new_socket : SocketId → Buffers → Entry
+new_socket id buffers = record { id = id; role = Idle buffers None }
+
+-- a connection that waits at a listener
+abbrev pub new_waiting : SocketId → SocketId → View → Entry
+new_waiting id listener c = record { id = id; role = Connected c (Some listener) }
+
+-- What the calls make of an entry's role. Each names the role that it is for, and leaves any other.
+
+abbrev pub bound_to : Endpoint → Role → Role
+bound_to local (Idle buffers bound) = Idle buffers (Some local)
+bound_to local (Listener l b) = Listener l b
+bound_to local (Connected c l) = Connected c l
+
+abbrev pub listening : ℕ → Role → Role
+listening backlog (Idle buffers (Some local)) = Listener local backlog
+listening backlog (Idle buffers None) = Idle buffers None
+listening backlog (Listener l b) = Listener l b
+listening backlog (Connected c l) = Connected c l
+
+-- a connection in SYN-SENT (RFC 9293 section 3.10.1)
+abbrev pub connecting : Endpoint → Endpoint → ℕ → Role → Role
+connecting local peer isn (Idle buffers bound) = Connected (opened_actively local peer isn) None
+connecting local peer isn (Listener l b) = Listener l b
+connecting local peer isn (Connected c l) = Connected c l
+
+abbrev pub accepted : Role → Role
+accepted (Connected c listener) = Connected c None
+accepted (Listener l b) = Listener l b
+accepted (Idle buffers bound) = Idle buffers bound
+
+abbrev pub ticked : Moment → Role → Role
+ticked now (Connected c listener) = Connected (after_tick c now) listener
+ticked now (Listener l b) = Listener l b
+ticked now (Idle buffers bound) = Idle buffers bound
+
+-- a segment arrives at the entry's connection
+abbrev pub arrived : Segment → Role → Role
+arrived s (Connected c listener) = Connected (after_segment c s) listener
+arrived s (Listener l b) = Listener l b
+arrived s (Idle buffers bound) = Idle buffers bound
+
+-- what the segment makes of the entry's place
+abbrev pub fate_of : Segment → Role → Fate
+fate_of s (Connected c listener) = fate c s
+fate_of s (Listener l b) = Stays
+fate_of s (Idle buffers bound) = Stays
+
+-- octets are given to the entry's connection, and as many are taken as there is room for
+abbrev pub sent : List ℕ → Role → Role
+sent octets (Connected c listener) = Connected (after_send c octets) listener
+sent octets (Listener l b) = Listener l b
+sent octets (Idle buffers bound) = Idle buffers bound
+
+-- octets of the entry's connection are read into a buffer of this length, and none into an empty one
+abbrev pub received : ℕ → Role → Role
+received len (Connected c listener) = Connected (if len == 0 then c else after_recv c len) listener
+received len (Listener l b) = Listener l b
+received len (Idle buffers bound) = Idle buffers bound
+
+-- the segment that is due goes out
+abbrev pub emitted_at : Moment → Role → Role
+emitted_at now (Connected c listener) = Connected (of_due (first_due c)) listener
+  where
+    of_due : Option Due → View
+    of_due None = c
+    of_due (Some due) = after_emitted c due now
+emitted_at now (Listener l b) = Listener l b
+emitted_at now (Idle buffers bound) = Idle buffers bound
+
+-- its length in octets
+abbrev pub due_len : Role → Option ℕ
+due_len (Connected c listener) = option_map (emitted_len c) (first_due c)
+due_len (Listener l b) = None
+due_len (Idle buffers bound) = None
+
+-- its octets
+abbrev pub due_octets : Role → List ℕ
+due_octets (Connected c listener) = of_due (first_due c)
+  where
+    of_due : Option Due → List ℕ
+    of_due None = []
+    of_due (Some due) = emitted c due
+due_octets (Listener l b) = []
+due_octets (Idle buffers bound) = []
+
+-- its octets stand at the front of what was there
+abbrev pub framed : Role → List ℕ → List ℕ
+framed (Connected c listener) out = of_due (first_due c)
+  where
+    of_due : Option Due → List ℕ
+    of_due None = out
+    of_due (Some due) = emitted c due ++ drop (emitted_len c due) out
+framed (Listener l b) out = out
+framed (Idle buffers bound) out = out
+
+-- the entry with its role changed
+abbrev pub with_role : (Role → Role) → Entry → Entry
+with_role change e = record e { role = change e.role }

@@ -1,0 +1,85 @@
+-- What a reader sees of a host.
+use Rattle.std.specs.Prelude.{ℕ, nat_lt, if◌then◌else◌, List, [], fold, Option, Some, None, option_map, option_and_then, find, map}
+use Rattle.ipv4.specs.declared.addr.Addr.{Addr}
+use Rattle.ipv4.specs.declared.addr.Pair.{Pair}
+use Rattle.tcp_state.specs.declared.moment.Moment.{Moment}
+use Rattle.host.specs.declared.entry.SocketId.{SocketId}
+use Rattle.host.specs.declared.entry.Entry.{Entry}
+use Rattle.host.specs.declared.entry.Role.{Role}
+use Rattle.host.specs.Lists.{change_first}
+use Rattle.host.specs.Entries.{is_socket, is_of_pair, is_due, due_len, due_octets, framed, deadline_of, emitted_at, ticked, with_role}
+
+-- its address and that of its neighbour, the kept moment, the dynamic port given last (65,535 before the first), the id
+-- given last (0 before the first), and the table in order of id
+pub record HostView : Type 0 where
+  pub addr : Addr
+  pub neighbour : Addr
+  pub kept : Moment
+  pub last_port : ℕ
+  pub last_id : ℕ
+  pub entries : List Entry
+
+-- what the socket that the id names is
+abbrev pub role_of : HostView → SocketId → Option Role
+role_of h id = option_map (λ e. e.role) (find (is_socket id) h.entries)
+
+-- that socket changed, and everything else as it was
+abbrev pub with_socket : HostView → SocketId → (Role → Role) → HostView
+with_socket h id change = record h { entries = change_first (is_socket id) (with_role change) h.entries }
+
+-- the later of a moment and the kept one
+abbrev pub later : HostView → Moment → Moment
+later h now = if nat_lt h.kept.0 now.0 then now else h.kept
+
+-- a host on which nothing happened
+abbrev pub fresh : Addr → Addr → HostView
+fresh addr neighbour = record {
+  addr = addr;
+  neighbour = neighbour;
+  kept = record { 0 = 0 };
+  last_port = 65535;
+  last_id = 0;
+  entries = [];
+}
+
+-- the entry with a connection of the pair, in any state but CLOSED
+abbrev pub holder_id : HostView → Pair → Option SocketId
+holder_id h pair = option_map (λ e. e.id) (find (is_of_pair pair) h.entries)
+
+-- what the first entry that has a segment due makes of itself, and nothing else changes
+abbrev pub after_emission : HostView → Moment → HostView
+after_emission h now = record h { entries = change_first is_due (with_role (emitted_at (later h now))) h.entries }
+
+-- the length of the first segment that is due, in order of id, in octets
+abbrev pub emission_len : HostView → Option ℕ
+emission_len h = option_and_then (λ e. due_len e.role) (find is_due h.entries)
+
+-- each timer acts whose moment has come, at the later of the moment and the kept one, which is then kept
+abbrev pub after_tick : HostView → Moment → HostView
+after_tick h now = record h { kept = later h now; entries = map (with_role (ticked (later h now))) h.entries }
+
+-- the octets of that segment stand at the front of what was there
+abbrev pub emission_front : HostView → List ℕ → List ℕ
+emission_front h out = of_entry (find is_due h.entries)
+  where
+    of_entry : Option Entry → List ℕ
+    of_entry None = out
+    of_entry (Some e) = framed e.role out
+
+-- the earlier of two moments, as far as there are any
+abbrev pub earlier : Option Moment → Option Moment → Option Moment
+earlier (Some a) (Some b) = Some (if nat_lt b.0 a.0 then b else a)
+earlier (Some a) None = Some a
+earlier None b = b
+
+-- the least deadline of all entries
+abbrev pub least_deadline : HostView → Option Moment
+least_deadline h = fold (λ least e. earlier least (deadline_of e.role)) None h.entries
+
+-- the octets of the first segment that is due
+abbrev pub emission_octets : HostView → List ℕ
+emission_octets h = of_entry (find is_due h.entries)
+  where
+    of_entry : Option Entry → List ℕ
+    of_entry None = []
+    of_entry (Some e) = due_octets e.role

@@ -1,0 +1,9 @@
+pub mod Lists
+pub mod Endpoints
+pub mod Entries
+pub mod HostView
+pub mod Ports
+pub mod Calls
+pub mod Dispatch
+pub mod Pairs
+pub mod Sound

@@ -1,0 +1,289 @@
+//! One host: a table of sockets and connections over one address, and one neighbour.
+#![tactic(auto)]
+
+ghost use Rattle.std.specs.Prelude.{◌≡◌, ◌≤◌, ◌<◌, ◌↔◌, length, IfSome, OnSome, IfNone, IfOk, IfErr, IsOk, Ok};
+ghost use Rattle.host.specs.Dispatch.{is_opening};
+
+mod calls;
+mod entry;
+mod ports;
+mod refusal;
+mod table;
+#[cfg(test)]
+mod tests;
+
+use arrayvec::ArrayVec;
+use entry::Entry;
+pub use entry::SocketId;
+use ipv4::{Addr, Endpoint, Pair};
+pub use refusal::{DropCause, Refusal};
+use std::alloc::Global;
+use std::marker::Model;
+use tcp_segment::{Flags, Seq, TcpView};
+use tcp_state::{Buffers, Connection, Moment};
+
+/// How many entries the table of one host holds.
+pub(crate) const ENTRIES: usize = 8;
+
+/// The kind of a socket.
+#[derive(Clone, Copy, PartialEq, Eq, Debug)]
+pub enum Kind {
+    /// A stream socket over TCP (RFC 9293).
+    Tcp,
+}
+
+/// How a host is set up: its address.
+#[derive(Clone, Copy, PartialEq, Eq, Debug)]
+pub struct Config {
+    addr: Addr,
+}
+
+impl Model for Config {
+    ghost use Rattle.ipv4.specs.declared.addr.Addr.{Addr};
+    ghost use Rattle.ipv4.specs.Addresses.{IsSingleHost};
+
+    ghost Value = { Addr };
+
+    ghost view = { λ c. c.addr };
+
+    ghost invariant = { λ c. IsSingleHost c.addr };
+
+    ghost inverse = { λ addr. record { addr = addr } };
+}
+
+impl Config {
+    ghost use Rattle.ipv4.specs.Addresses.{IsSingleHost};
+
+    /// A host at `addr`. EINVAL where that is no single host's address.
+    pub fn new(addr: Addr) -> Result<Config, Refusal>
+        ensures valid { IsOk result ↔ IsSingleHost addr }
+        ensures value { IfOk result (λ config. config ≡ addr) }
+        ensures refusal { IfErr result (λ refusal. refusal ≡ Refusal.EINVAL) }
+    {
+        if addr.is_single_host() {
+            Ok(Config { addr })
+        } else {
+            Err(Refusal::EINVAL)
+        }
+    }
+
+    /// The host's address.
+    pub fn addr(self) -> Addr
+        ensures value { result ≡ self }
+        ensures single { IsSingleHost self }
+    {
+        self.addr
+    }
+}
+
+/// A host with one address, whose one route leads to its neighbour.
+#[derive(Drop)]
+pub struct Host {
+    alloc: Global,
+    addr: Addr,
+    neighbour: Addr,
+    kept: Moment,
+    last_port: u16,
+    last_id: u64,
+    entries: ArrayVec<Entry, ENTRIES>,
+}
+
+impl Model for Host {
+    ghost use Rattle.std.specs.Prelude.{◌≤◌};
+    ghost use Rattle.host.specs.HostView.{HostView};
+
+    ghost Value = { HostView };
+
+    ghost view = { λ h. record {
+      addr = h.addr;
+      neighbour = h.neighbour;
+      kept = h.kept;
+      last_port = h.last_port;
+      last_id = h.last_id;
+      entries = h.entries.items;
+    } };
+
+    ghost invariant = { λ h. 49152 ≤ h.last_port };
+}
+
+impl Host {
+    ghost use Rattle.host.specs.Dispatch.{local_end, peer_end, arrival, opening, Meets, IsDelivered};
+    ghost use Rattle.host.specs.Pairs.{socket_pair, due_pair};
+    ghost use Rattle.host.specs.Sound.{IsSoundHost};
+    ghost use Rattle.host.specs.HostView.{HostView, later, holder_id, fresh, emission_len, after_emission, emission_front, after_tick, least_deadline};
+
+    /// A host with no sockets, whose kept moment is 0. ENOMEM is left for a table that takes memory.
+    pub fn new(alloc: Global, config: Config, neighbour: Addr) -> Result<Host, Refusal>
+        ensures { result ≡ Ok (fresh config neighbour) }
+    {
+        Ok(Host {
+            alloc,
+            addr: config.addr,
+            neighbour,
+            kept: Moment(0),
+            last_port: ports::LAST,
+            last_id: 0,
+            entries: ArrayVec::new(),
+        })
+    }
+
+    /// Moves the kept moment forward to `now`, and lets each timer act whose moment has come. It never goes back.
+    pub fn tick(&mut self, now: Moment)
+        ensures { self.new ≡ after_tick self.old now }
+    {
+        let now = self.later(now);
+        self.kept = now;
+        table::tick(&mut self.entries, now);
+    }
+
+    /// The least moment at which a tick does something.
+    pub fn next_deadline(&self) -> Option<Moment>
+        ensures { result ≡ least_deadline self.now }
+    {
+        table::least_deadline(&self.entries)
+    }
+
+    /// Takes a frame: the octets of one TCP segment from the neighbour. `isn` is used only where it opens a connection.
+    ///
+    /// UpperHeader where it is malformed, UpperSum where its checksum is wrong, NoRoom where it would open a
+    /// connection and there is no place in the backlog or the table, no id or no memory.
+    #[tactic(auto, using(crate::proofs::Firsts::firsts))]
+    pub fn deliver(&mut self, _now: Moment, isn: Seq, frame: &[u8]) -> Result<(), DropCause>
+        ensures { IsDelivered self.old isn.0 frame.now result self.new }
+    {
+        match TcpView::parse(self.neighbour, self.addr, frame) {
+            Ok(segment) => self.take(isn, &segment),
+            Err(fault) => Err(DropCause::from(fault)),
+        }
+    }
+
+    /// Writes the first frame that is due, in order of id, from `out[0]` on, and answers its length in octets.
+    #[tactic(auto, using(crate::proofs::Firsts::firsts))]
+    pub fn next_frame(&mut self, now: Moment, out: &mut [u8; 1514]) -> Option<usize>
+        ensures answer { result ≡ emission_len self.old }
+        ensures bound { IfSome result (λ len. len ≤ 1514) }
+        ensures after { OnSome result (self.new ≡ after_emission self.old now) }
+        ensures none { IfNone result (self.new ≡ self.old) }
+        ensures frame { out.new ≡ emission_front self.old out.old }
+    {
+        let now = self.later(now);
+        let place = table::first_due(&self.entries)?;
+        self.entries[place].emit(now, out)
+    }
+
+    /// The entry with a connection of this pair in any state but CLOSED.
+    #[tactic(auto, using(crate::proofs::Firsts::firsts))]
+    pub fn holds(&self, pair: Pair) -> Option<SocketId>
+        ensures { result ≡ holder_id self.now pair }
+    {
+        let place = table::holder(&self.entries, pair)?;
+        Some(self.entries[place].id)
+    }
+
+    /// The pair of the connection of the socket `id`.
+    #[tactic(auto, using(crate::proofs::Firsts::firsts))]
+    pub fn pair_of(&self, id: SocketId) -> Option<Pair>
+        ensures { result ≡ socket_pair self.now id }
+    {
+        let place = table::socket_of(&self.entries, id)?;
+        self.entries[place].pair()
+    }
+
+    /// The pair of the first connection, in order of id, that has a segment due.
+    #[tactic(auto, using(crate::proofs::Firsts::firsts))]
+    pub fn due_pair(&self) -> Option<Pair>
+        ensures { result ≡ due_pair self.now }
+    {
+        let place = table::first_due(&self.entries)?;
+        self.entries[place].pair()
+    }
+
+    /// What each connection keeps of itself, for the contracts above; it changes nothing.
+    pub fn sound(&self)
+        ensures { IsSoundHost self.now }
+    {
+        table::sound(&self.entries);
+    }
+
+    /// The later of `now` and the kept moment.
+    fn later(&self, now: Moment) -> Moment
+        ensures { result ≡ later self.now now }
+    {
+        if now > self.kept { now } else { self.kept }
+    }
+
+    /// The local and the foreign end of a segment that arrived.
+    fn ends(&self, segment: &TcpView<'_>) -> (Endpoint, Endpoint)
+        ensures local { result.0 ≡ local_end self.now segment.now }
+        ensures peer { result.1 ≡ peer_end self.now segment.now }
+    {
+        let local = Endpoint {
+            addr: self.addr,
+            port: segment.destination(),
+        };
+        let peer = Endpoint {
+            addr: self.neighbour,
+            port: segment.source(),
+        };
+        (local, peer)
+    }
+
+    /// Takes a segment: it goes to the connection of its two ends, or opens one, or changes nothing.
+    #[tactic(auto, using(crate::proofs::Firsts::firsts))]
+    fn take(&mut self, isn: Seq, segment: &TcpView<'_>) -> Result<(), DropCause>
+        ensures { Meets (arrival self.old isn.0 segment.now) self.old result self.new }
+    {
+        let (local, peer) = self.ends(segment);
+        match table::connection_between(&self.entries, local, peer) {
+            Some(place) => {
+                let fate = self.entries[place].segment(segment);
+                table::settle(&mut self.entries, place, fate);
+                Ok(())
+            }
+            None if is_opening(segment.flags()) => self.open(isn, local, peer, segment),
+            None => Ok(()),
+        }
+    }
+
+    /// Opens a connection for `syn` where a listener is bound to its destination port (RFC 9293 section 3.10.7.2).
+    #[tactic(auto, using(crate::proofs::Firsts::firsts))]
+    fn open(
+        &mut self,
+        isn: Seq,
+        local: Endpoint,
+        peer: Endpoint,
+        syn: &TcpView<'_>,
+    ) -> Result<(), DropCause>
+        requires local { local ≡ local_end self.old syn.now }
+        requires peer { peer ≡ peer_end self.old syn.now }
+        ensures { Meets (opening self.old isn.0 syn.now) self.old result self.new }
+    {
+        let Some(place) = table::listener_at(&self.entries, local.port) else {
+            return Ok(());
+        };
+        let entry = &self.entries[place];
+        let listener = entry.id;
+        let backlog = entry.backlog();
+        if table::waiting_at(&self.entries, listener) >= backlog || self.entries.is_full() {
+            return Err(DropCause::NoRoom);
+        }
+        let Some(id) = self.last_id.checked_add(1) else {
+            return Err(DropCause::NoRoom);
+        };
+        let Ok(buffers) = Buffers::new(self.alloc) else {
+            return Err(DropCause::NoRoom);
+        };
+        let connection = Connection::passive(buffers, local, peer, isn, syn);
+        self.last_id = id;
+        self.entries
+            .push(Entry::passive(SocketId(id), listener, connection));
+        Ok(())
+    }
+}
+
+/// Whether a segment with these flags opens a connection at a listener at this stage: SYN with none of RST, ACK and FIN.
+fn is_opening(flags: Flags) -> bool
+    ensures { result ≡ is_opening flags }
+{
+    flags.syn && !flags.rst && !flags.ack && !flags.fin
+}

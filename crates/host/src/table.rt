@@ -1,0 +1,150 @@
+//! What is looked up in the table, which stands in order of id.
+
+ghost use Rattle.std.specs.Prelude.{◌≡◌, ◌<◌, ◌≤◌, ◌&&◌, not, length, remove, position, count_by, map, fold, None, IfSome};
+ghost use Rattle.std.specs.List.{list_any, AllByRecursion};
+ghost use Rattle.host.specs.Entries.{is_socket, is_between, is_of_pair, has_port, is_bound_at, is_waiting_at, is_offered_at, is_due, is_listening_at, deadline_of, ticked, with_role};
+ghost use Rattle.host.specs.HostView.{earlier};
+ghost use Rattle.host.specs.Sound.{IsSoundRole};
+
+use crate::entry::Entry;
+use crate::{ENTRIES, SocketId};
+use arrayvec::ArrayVec;
+use ipv4::{Endpoint, Pair};
+use tcp_state::{Fate, Moment};
+
+/// The place of the socket `id`.
+pub(crate) fn socket_of(entries: &[Entry], id: SocketId) -> Option<usize>
+    ensures { result ≡ position (is_socket id) entries.now }
+{
+    entries.iter().position(|entry| entry.is_socket(id))
+}
+
+/// The place of the connection from `local` to `peer`, in any state but CLOSED.
+pub(crate) fn connection_between(
+    entries: &[Entry],
+    local: Endpoint,
+    peer: Endpoint,
+) -> Option<usize>
+    ensures { result ≡ position (is_between local peer) entries.now }
+{
+    entries
+        .iter()
+        .position(|entry| entry.is_live_between(local, peer))
+}
+
+/// The place of the connection of `pair`, in any state but CLOSED.
+pub(crate) fn holder(entries: &[Entry], pair: Pair) -> Option<usize>
+    ensures { result ≡ position (is_of_pair pair) entries.now }
+{
+    entries.iter().position(|entry| entry.joins(pair))
+}
+
+/// Whether there is a connection from `local` to `peer`, in any state but CLOSED.
+pub(crate) fn is_pair_held(entries: &[Entry], local: Endpoint, peer: Endpoint) -> bool
+    ensures { result ≡ list_any (is_between local peer) entries.now }
+{
+    entries
+        .iter()
+        .any(|entry| entry.is_live_between(local, peer))
+}
+
+/// Whether an entry has this local port.
+pub(crate) fn is_port_taken(entries: &[Entry], port: u16) -> bool
+    ensures { result ≡ list_any (has_port port) entries.now }
+{
+    entries.iter().any(|entry| entry.uses_port(port))
+}
+
+/// Whether a socket has this local port; a connection that is not accepted is no socket.
+pub(crate) fn is_port_bound(entries: &[Entry], port: u16) -> bool
+    ensures { result ≡ list_any (is_bound_at port) entries.now }
+{
+    entries
+        .iter()
+        .any(|entry| !entry.is_pending() && entry.uses_port(port))
+}
+
+/// The place of the listener at a local port.
+pub(crate) fn listener_at(entries: &[Entry], port: u16) -> Option<usize>
+    ensures { result ≡ position (is_listening_at port) entries.now }
+{
+    entries.iter().position(|entry| entry.listens_at(port))
+}
+
+/// How many connections wait at a listener, in SYN-RECEIVED or past it.
+pub(crate) fn waiting_at(entries: &[Entry], listener: SocketId) -> usize
+    ensures { result ≡ count_by (is_waiting_at listener) entries.now }
+{
+    entries
+        .iter()
+        .filter(|entry| entry.waits_at(listener))
+        .count()
+}
+
+/// The place of the connection that `listener` accepts next.
+pub(crate) fn next_accepted(entries: &[Entry], listener: SocketId) -> Option<usize>
+    ensures { result ≡ position (is_offered_at listener) entries.now }
+{
+    entries
+        .iter()
+        .position(|entry| entry.offered_peer(listener).is_some())
+}
+
+/// The place of the first entry that has a segment due.
+pub(crate) fn first_due(entries: &[Entry]) -> Option<usize>
+    ensures { result ≡ position is_due entries.now }
+{
+    entries.iter().position(|entry| entry.is_due())
+}
+
+/// Lets the timers of every entry act whose moment has come.
+pub(crate) fn tick(entries: &mut [Entry], now: Moment)
+    ensures { entries.new ≡ map (with_role (ticked now)) entries.old }
+{
+    for entry in entries.iter_mut() {
+        entry.tick(now);
+    }
+}
+
+/// The least deadline of the entries.
+pub(crate) fn least_deadline(entries: &[Entry]) -> Option<Moment>
+    ensures { result ≡ fold (λ least e. earlier least (deadline_of e.role)) None entries.now }
+{
+    entries
+        .iter()
+        .fold(None, |least, entry| earlier(least, entry.deadline()))
+}
+
+/// The earlier of two moments, as far as there are any.
+fn earlier(a: Option<Moment>, b: Option<Moment>) -> Option<Moment>
+    ensures { result ≡ earlier a b }
+{
+    match (a, b) {
+        (Some(a), Some(b)) => Some(if b < a { b } else { a }),
+        (Some(a), None) => Some(a),
+        (None, b) => b,
+    }
+}
+
+/// What each connection keeps of itself, for the contracts above; it changes nothing.
+pub(crate) fn sound(entries: &[Entry])
+    ensures { AllByRecursion (λ e. IsSoundRole e.role) entries.now }
+{
+    for entry in entries {
+        entry.sound();
+    }
+}
+
+/// Takes an entry out of the table where its connection is gone.
+pub(crate) fn settle(entries: &mut ArrayVec<Entry, ENTRIES>, place: usize, fate: Fate)
+    requires { place < length entries.old.items }
+    ensures stays { fate ≡ Fate.Stays → entries.new.items ≡ entries.old.items }
+    ensures removed { fate ≡ Fate.Removed → entries.new.items ≡ remove entries.old.items place }
+{
+    match fate {
+        Fate::Removed => {
+            entries.remove(place);
+        }
+        Fate::Stays => {}
+    }
+}

@@ -1,0 +1,85 @@
+-- What a connection takes from its caller, and what it sends, is a step of each of its two channels.
+use Rattle.std.proofs.Common.{◌≡◌, ℕ, ◌+◌, ◌<◌, ◌≤◌, ◌^◌, ◌%◌, min, if◌then◌else◌, not, Bool, true, false, List, [], ◌∷◌, ◌++◌, length, take, drop, arith, refl, sym, ◌∙◌, ap, subst, length-append}
+use Rattle.std.proofs.lemmas.List.{length-take, take-append-drop}
+use Rattle.tcp_segment.specs.Wire.{past}
+use Rattle.tcp_segment.specs.Sent.{sent}
+use Rattle.tcp_state.specs.declared.moment.Moment.{Moment}
+use Rattle.tcp_state.specs.declared.emission.Due.TheVariants.{Syn, Text}
+use Rattle.tcp_state.specs.View.{View, is_opening, is_syn_sent, is_syn_received}
+use Rattle.tcp_state.specs.Stream.{outstanding}
+use Rattle.tcp_state.specs.Calls.{taken, after_send}
+use Rattle.tcp_state.specs.Due.{head_of, octets_of, after_emitted, after_ack_paid, after_numbers}
+use Rattle.stream_law.specs.Channel.{Open, Waiting, Synchronised, Channel, later}
+use Rattle.stream_law.specs.ChannelSteps.{Step, writes, emits_syn, emits_text, emits_ack, span, nothing_kept}
+use Rattle.stream_law.specs.ChannelViews.{sender_of, SendsInto, ReceivesFrom, frame_of}
+use Rattle.stream_law.proofs.KeepingText.{chosen}
+
+-- octets that the caller gives are written
+pub sends : (cap limit : ℕ) (v : View) (c : Channel) (octets : List ℕ) → 65535 ≤ cap → is_opening v.state ≡ false → length v.sending.held ≤ 65535 → SendsInto v c
+    → Step cap limit c (record c { written = c.written ++ take (taken v octets) octets; sending = Open (sender_of (after_send v octets)) })
+sends cap limit v c octets room opened held shows =
+    let more = take (taken v octets) octets in
+    let s = sender_of v in
+    let len : length more ≡ min (taken v octets) (length octets) = length-take (taken v octets) octets in
+    let fits : length (s.held ++ more) ≤ cap = omega (arith, length-append s.held more, len, room, held) in
+    subst (λ w. Step cap limit c (record c { written = c.written ++ more; sending = Open w })) (same (is_opening v.state) opened)
+    (writes c s more shows.sending shows.unclosed fits)
+  where
+    with_more : View
+    with_more = record v { sending = record v.sending { held = v.sending.held ++ take (taken v octets) octets } }
+
+    same : (opening : Bool) → opening ≡ false → record (sender_of v) { held = v.sending.held ++ take (taken v octets) octets } ≡ sender_of (if opening then v else with_more)
+    same true e = let bad : true ≡ false = e in cc
+    same false e = refl
+
+-- the SYN goes out
+pub emits-syn : (cap limit : ℕ) (v : View) (c : Channel) (now : Moment) → is_opening v.state ≡ true → SendsInto v c
+    → Step cap limit c (record c {
+      sending = Open (sender_of (after_emitted v Syn now));
+      frames = frame_of (sent (head_of v Syn) (octets_of v Syn)) (length c.written) ∷ c.frames;
+    })
+emits-syn cap limit v c now opening shows =
+    let s = sender_of v in
+    let unacked : s.syn_acked ≡ false = ap not opening in
+    subst (λ w. Step cap limit c (record c { sending = Open w; frames = frame_of (sent (head_of v Syn) (octets_of v Syn)) (length c.written) ∷ c.frames })) (same (is_syn_received v.state))
+    (emits_syn c s shows.sending unacked)
+  where
+    same : (reply : Bool) → record (sender_of v) { nxt = (v.sending.una + 1) % 2 ^ 32 } ≡ sender_of (if reply then after_ack_paid (after_numbers v 1 now) else after_numbers v 1 now)
+    same true = refl
+    same false = refl
+
+-- what is outstanding, or where nothing is the next octets, go out
+pub emits-text : (cap limit : ℕ) (v : View) (c : Channel) (now : Moment) (count : ℕ) → is_opening v.state ≡ false → v.sending.una < 2 ^ 32 → outstanding v.sending ≤ count → count ≤ length v.sending.held
+    → count ≤ 1460 → SendsInto v c
+    → Step cap limit c (record c {
+      sending = Open (sender_of (after_emitted v (Text count) now));
+      frames = frame_of (sent (head_of v (Text count)) (octets_of v (Text count))) (length c.written) ∷ c.frames;
+    })
+emits-text cap limit v c now count opened una whole held small shows =
+    let s = sender_of v in
+    let octets = take count s.held in
+    let none : List ℕ = [] in
+    let acked : s.syn_acked ≡ true = ap not opened in
+    let len : length octets ≡ count = length-take count s.held ∙ omega (arith, held) in
+    let cut : s.held ≡ (none ++ octets) ++ drop count s.held = sym (take-append-drop count s.held) in
+    let first : (s.una + length none) % 2 ^ 32 ≡ s.una = omega (arith, una) in
+    let end : (s.una + (length none + span octets false)) % 2 ^ 32 ≡ (s.una + count) % 2 ^ 32 = ap (λ n. (s.una + n) % 2 ^ 32) (omega (arith, len)) in
+    let next : later s.una s.nxt ((s.una + (length none + span octets false)) % 2 ^ 32) ≡ (s.una + count) % 2 ^ 32 =
+    ap (later s.una s.nxt) end
+    ∙ chosen (past s.nxt s.una) (past ((s.una + count) % 2 ^ 32) s.una) s.nxt ((s.una + count) % 2 ^ 32) ((s.una + count) % 2 ^ 32) (λ le. refl)
+    (λ lt. let reach : past ((s.una + count) % 2 ^ 32) s.una ≡ count = omega (arith, una, small) in absurd (omega (arith, lt, reach, whole))) in
+    let step = emits_text c s none octets (drop count s.held) false shows.sending acked refl cut (λ e. let bad : false ≡ true = e in cc) in
+    subst (λ n. Step cap limit c (record c {
+      sending = Open (record s { nxt = n });
+      frames = frame_of (sent (head_of v (Text count)) (octets_of v (Text count))) (length c.written) ∷ c.frames;
+    })) next
+    (subst (λ n. Step cap limit c (record c {
+      sending = Open (record s { nxt = later s.una s.nxt ((s.una + (length none + span octets false)) % 2 ^ 32) });
+      frames = record { number = n; octets = octets; syn = false; fin = false; written_at = length c.written } ∷ c.frames;
+    })) first step)
+
+-- a segment with ACK acknowledges
+pub emits-ack : (cap limit : ℕ) (v : View) (d : Channel) → is_syn_sent v.state ≡ false → ReceivesFrom v d
+    → Step cap limit d (record d { acks = record { number = v.receiving.rnext; written_at = length d.written } ∷ d.acks })
+emits-ack cap limit v d synchronised shows =
+    emits_ack d (record { rnext = v.receiving.rnext; kept = nothing_kept }) (shows.receiving ∙ ap (λ b. if b then Waiting else Synchronised (record { rnext = v.receiving.rnext; kept = nothing_kept })) synchronised)

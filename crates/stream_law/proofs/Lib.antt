@@ -1,0 +1,15 @@
+pub mod Lists
+pub mod Invariant
+pub mod Keeping
+pub mod KeepingText
+pub mod KeepingArrival
+pub mod KeepingOctets
+pub mod ChannelLaw
+pub mod ConnectionSends
+pub mod ConnectionHears
+pub mod ConnectionArrival
+pub mod PairingInvariant
+pub mod PairingMoves
+pub mod PairingEmission
+pub mod PairingArrival
+pub mod PairingLaw

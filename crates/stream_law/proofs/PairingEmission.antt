@@ -1,0 +1,173 @@
+-- A segment that goes out is steps of the two channels.
+use Rattle.std.proofs.Common.{◌≡◌, ℕ, ◌≤◌, ◌||◌, ◌&&◌, ◌==◌, nat_lt, if◌then◌else◌, Bool, true, false, List, [], ◌∷◌, length, Option, Some, None, arith, refl, sym, ◌∙◌, ap, subst}
+use Rattle.std.proofs.lemmas.Bool.{eqb-true}
+use Rattle.tcp_segment.specs.Segment.{Segment}
+use Rattle.tcp_segment.specs.Sent.{sent}
+use Rattle.tcp_state.specs.declared.emission.Due.{Due}
+use Rattle.tcp_state.specs.declared.emission.Due.TheVariants.{Syn, Text, Ack as AckAlone}
+use Rattle.tcp_state.specs.declared.moment.Moment.{Moment}
+use Rattle.tcp_state.specs.declared.state.State.{State}
+use Rattle.tcp_state.specs.declared.state.State.TheVariants.{SynSent, SynReceived}
+use Rattle.tcp_state.specs.View.{View, IsSound, is_opening, is_syn_sent, is_syn_received, is_due}
+use Rattle.tcp_state.specs.Stream.{outstanding}
+use Rattle.tcp_state.specs.Windows.{sendable}
+use Rattle.tcp_state.specs.Due.{MayGoOut, first_due, head_of, octets_of, after_emitted, after_ack_paid, after_numbers}
+use Rattle.stream_law.specs.Channel.{Channel, Ack, Open, IsAmong, here, there}
+use Rattle.stream_law.specs.ChannelSteps.{Step, steps, emits_bare}
+use Rattle.stream_law.specs.ChannelViews.{Leads, stays, goes, sender_of, receiving_of, SendsInto, ReceivesFrom, IsOfWidth, frame_of, ack_of}
+use Rattle.stream_law.specs.Pairing.{Emission, Pairing, with_connection}
+use Rattle.stream_law.proofs.ConnectionSends.{emits-syn, emits-text, emits-ack}
+use Rattle.stream_law.proofs.PairingInvariant.{Shown, runs_on, other_stays, connected}
+
+-- the acknowledgement that a segment carries joins those of the channel from which the end receives
+record Paid (cap limit : ℕ) (v : View) (from : Channel) (carries : Bool) (a : Ack) : Type 0 where
+  pub acks : List Ack
+  pub leads : Leads cap limit from (record from { acks = acks })
+  pub among : carries ≡ true → IsAmong a acks
+  pub more : (b : Ack) → IsAmong b from.acks → IsAmong b acks
+
+pays : (cap limit : ℕ) (v : View) (from : Channel) (carries : Bool) (a : Ack) → (carries ≡ true → (is_syn_sent v.state ≡ false) × (a ≡ record { number = v.receiving.rnext; written_at = length from.written }))
+    → ReceivesFrom v from → Paid cap limit v from carries a
+pays cap limit v from true a can r =
+    let k = can refl in
+    let own : Ack = record { number = v.receiving.rnext; written_at = length from.written } in
+    let from' : Channel = record from { acks = own ∷ from.acks } in
+    record {
+      acks = own ∷ from.acks;
+      leads = goes from from' from' (emits-ack cap limit v from k.0 r) (stays from');
+      among = λ e. subst (λ b. IsAmong b (own ∷ from.acks)) (sym k.1) (here own from.acks);
+      more = λ b among. there b own from.acks among;
+    }
+pays cap limit v from false a can r = record {
+  acks = from.acks;
+  leads = stays from;
+  among = λ e. let bad : false ≡ true = e in cc;
+  more = λ b among. among;
+}
+
+syn_received_past : (t : State) → is_syn_received t ≡ true → is_syn_sent t ≡ false
+syn_received_past SynSent e = cc
+syn_received_past SynReceived e = refl
+syn_received_past _ e = cc
+
+opened_past : (t : State) → is_opening t ≡ false → is_syn_sent t ≡ false
+opened_past SynSent e = cc
+opened_past SynReceived e = cc
+opened_past _ e = refl
+
+-- what goes out first covers all that is outstanding
+text_covers : (opening again none more owes unsent : Bool) (o few count : ℕ) → (none ≡ true → o ≡ 0)
+    → (if opening then (if unsent then Some Syn else (if owes then Some AckAlone else None)) else if again then Some (Text o) else if none && more then Some (Text few) else (if owes then Some AckAlone else None)) ≡ Some (Text count)
+    → o ≤ count
+text_covers true again none more owes true o few count empty e = let bad : Some Syn ≡ Some (Text count) = e in cc
+text_covers true again none more true false o few count empty e = let bad : Some AckAlone ≡ Some (Text count) = e in cc
+text_covers true again none more false false o few count empty e = let nothing : Option Due = None in let bad : nothing ≡ Some (Text count) = e in cc
+text_covers false true none more owes unsent o few count empty e = let same : Some (Text o) ≡ Some (Text count) = e in let is : o ≡ count = cc in omega (arith, is)
+text_covers false false true true owes unsent o few count empty e = let is = empty refl in omega (arith, is)
+text_covers false false true false true unsent o few count empty e = let bad : Some AckAlone ≡ Some (Text count) = e in cc
+text_covers false false true false false unsent o few count empty e = let nothing : Option Due = None in let bad : nothing ≡ Some (Text count) = e in cc
+text_covers false false false more true unsent o few count empty e = let bad : Some AckAlone ≡ Some (Text count) = e in cc
+text_covers false false false more false unsent o few count empty e = let nothing : Option Due = None in let bad : nothing ≡ Some (Text count) = e in cc
+
+-- what became of the sending half, when this view became that one and a segment went out
+record Went (cap limit : ℕ) (v w : View) (into : Channel) (s : Segment) : Type 0 where
+  pub step : Step cap limit into (record into { sending = Open (sender_of w); frames = frame_of s (length into.written) ∷ into.frames })
+  pub receiving : receiving_of w ≡ receiving_of v
+  pub readable : w.receiving.readable ≡ v.receiving.readable
+  pub acknowledges : s.flags.ack ≡ true → (is_syn_sent v.state ≡ false) × (s.acknowledgement ≡ v.receiving.rnext)
+
+-- the same seen from both ends
+assembled : (cap limit : ℕ) (p : Pairing) (v w : View) (s : Segment) → IsOfWidth s → p.own.connection ≡ Some v → (h : Shown cap limit p) → Went cap limit v w h.into s
+    → Shown cap limit (record (with_connection p w) { sent = record { segment = s; own_written = length p.own.written; other_written = length p.other.written } ∷ p.sent })
+assembled cap limit p v w s width is h went =
+    let k = connected p.own.connection v h.into h.from is h.own.connection in
+    let new : Emission = record { segment = s; own_written = length p.own.written; other_written = length p.other.written } in
+    let own_at : length h.into.written ≡ length p.own.written = ap length h.own.written in
+    let other_at : length p.other.written ≡ length h.from.written = sym (ap length h.other.written) in
+    let f = frame_of s (length p.own.written) in
+    let a = ack_of s (length p.other.written) in
+    let into' : Channel = record h.into { sending = Open (sender_of w); frames = f ∷ h.into.frames } in
+    let step : Step cap limit h.into into' =
+    subst (λ n. Step cap limit h.into (record h.into { sending = Open (sender_of w); frames = frame_of s n ∷ h.into.frames })) own_at went.step in
+    let paid = pays cap limit v h.from s.flags.ack a
+    (λ e. let q = went.acknowledges e in (q.0, ap (λ n. record { number = n; written_at = length p.other.written }) q.1 ∙ ap (λ n. record { number = v.receiving.rnext; written_at = n }) other_at)) k.receives in
+    let from' : Channel = record h.from { acks = paid.acks } in
+    record {
+      into = into';
+      from = from';
+      runs_into = steps h.into into' h.runs_into step;
+      runs_from = runs_on cap limit h.from from' h.runs_from paid.leads;
+      own = record {
+        written = h.own.written;
+        read = h.own.read;
+        connection = record {
+          sends = record { sending = refl; unclosed = k.sends.unclosed };
+          receives = record { receiving = k.receives.receiving ∙ sym went.receiving; readable = k.receives.readable ∙ sym went.readable; unended = k.receives.unended };
+        };
+      };
+      other = record {
+        written = h.other.written;
+        read = h.other.read;
+        connection = other_stays p.other.connection h.from h.into from' into' refl refl refl refl refl refl h.other.connection;
+      };
+      sent = emissions new p.sent (record { frame = here f h.into.frames; ack = paid.among; width = width })
+          (λ e among. let q = h.sent e among in record { frame = there (frame_of e.segment e.own_written) f h.into.frames q.frame; ack = λ t. paid.more (ack_of e.segment e.other_written) (q.ack t); width = q.width });
+      received = λ e among. let q = h.received e among in record { frame = q.frame; ack = q.ack; width = q.width };
+    }
+  where
+    emissions : {P : Emission → Type 0} (new : Emission) (old : List Emission) → P new → ((e : Emission) → IsAmong e old → P e) → (e : Emission) → IsAmong e (new ∷ old) → P e
+    emissions _ _ first rest _ (here _ _) = first
+    emissions _ _ first rest _ (there e _ _ among) = rest e among
+
+went-syn : (cap limit : ℕ) (v : View) (into : Channel) (now : Moment) → is_opening v.state ≡ true → SendsInto v into → Went cap limit v (after_emitted v Syn now) into (sent (head_of v Syn) (octets_of v Syn))
+went-syn cap limit v into now opening shows = record {
+  step = emits-syn cap limit v into now opening shows;
+  receiving = same_receiving (is_syn_received v.state);
+  readable = same_readable (is_syn_received v.state);
+  acknowledges = λ e. (syn_received_past v.state e, ap (λ b. if b then v.receiving.rnext else 0) e);
+}
+  where
+    same_receiving : (reply : Bool) → receiving_of (if reply then after_ack_paid (after_numbers v 1 now) else after_numbers v 1 now) ≡ receiving_of v
+    same_receiving true = refl
+    same_receiving false = refl
+
+    same_readable : (reply : Bool) → (if reply then after_ack_paid (after_numbers v 1 now) else after_numbers v 1 now).receiving.readable ≡ v.receiving.readable
+    same_readable true = refl
+    same_readable false = refl
+
+went-text : (cap limit : ℕ) (v : View) (into : Channel) (count : ℕ) (now : Moment) → IsSound v → first_due v ≡ Some (Text count) → MayGoOut v (Text count) → SendsInto v into
+    → Went cap limit v (after_emitted v (Text count) now) into (sent (head_of v (Text count)) (octets_of v (Text count)))
+went-text cap limit v into count now sound first may shows =
+    let whole : outstanding v.sending ≤ count =
+    text_covers (is_opening v.state) (is_due v.resend) (outstanding v.sending == 0) (nat_lt 0 (sendable v.sending)) v.owes_ack ((outstanding v.sending == 0) || is_due v.resend) (outstanding v.sending)
+    (sendable v.sending) count (eqb-true (outstanding v.sending) 0) first in
+    record {
+      step = emits-text cap limit v into now count may.0 sound.una whole may.2 may.3 shows;
+      receiving = refl;
+      readable = refl;
+      acknowledges = λ e. (opened_past v.state may.0, refl);
+    }
+
+went-ack : (cap limit : ℕ) (v : View) (into : Channel) (now : Moment) → is_syn_sent v.state ≡ false → SendsInto v into
+    → Went cap limit v (after_emitted v AckAlone now) into (sent (head_of v AckAlone) (octets_of v AckAlone))
+went-ack cap limit v into now past shows = record {
+  step = subst (λ x. Step cap limit into (record into { sending = x; frames = frame_of (sent (head_of v AckAlone) []) (length into.written) ∷ into.frames })) shows.sending (emits_bare into (sender_of v) shows.sending);
+  receiving = refl;
+  readable = refl;
+  acknowledges = λ e. (past, refl);
+}
+
+pub moves-emits : (cap limit : ℕ) (p : Pairing) (v : View) (due : Due) (now : Moment) → p.own.connection ≡ Some v → IsSound v → first_due v ≡ Some due → MayGoOut v due
+    → IsOfWidth (sent (head_of v due) (octets_of v due)) → Shown cap limit p
+    → Shown cap limit (record (with_connection p (after_emitted v due now)) {
+      sent = record { segment = sent (head_of v due) (octets_of v due); own_written = length p.own.written; other_written = length p.other.written } ∷ p.sent;
+    })
+moves-emits cap limit p v Syn now is sound first may width h =
+    let k = connected p.own.connection v h.into h.from is h.own.connection in
+    assembled cap limit p v (after_emitted v Syn now) (sent (head_of v Syn) (octets_of v Syn)) width is h (went-syn cap limit v h.into now may k.sends)
+moves-emits cap limit p v (Text count) now is sound first may width h =
+    let k = connected p.own.connection v h.into h.from is h.own.connection in
+    assembled cap limit p v (after_emitted v (Text count) now) (sent (head_of v (Text count)) (octets_of v (Text count))) width is h (went-text cap limit v h.into count now sound first may k.sends)
+moves-emits cap limit p v AckAlone now is sound first may width h =
+    let k = connected p.own.connection v h.into h.from is h.own.connection in
+    assembled cap limit p v (after_emitted v AckAlone now) (sent (head_of v AckAlone) (octets_of v AckAlone)) width is h (went-ack cap limit v h.into now may k.sends)

@@ -1,0 +1,184 @@
+-- Each move at an end is steps of the two channels: opening, octets from and to the caller, the clock.
+use Rattle.std.proofs.Common.{◌≡◌, ℕ, ◌+◌, ◌<◌, ◌≤◌, ◌^◌, ◌%◌, ◌||◌, ◌==◌, if◌then◌else◌, Bool, true, false, List, ◌++◌, length, take, drop, Some, None, arith, refl, ap}
+use Rattle.std.proofs.lemmas.Bool.{eqb-true}
+use Rattle.ipv4.specs.declared.addr.Endpoint.{Endpoint}
+use Rattle.tcp_state.specs.declared.moment.Moment.{Moment}
+use Rattle.tcp_state.specs.View.{View, IsSound, is_opening, opened_actively, after_tick}
+use Rattle.tcp_state.specs.Stream.{after_read, receive_window}
+use Rattle.tcp_state.specs.Calls.{taken, after_send, moved, after_recv}
+use Rattle.tcp_state.specs.Arrival.{opened_passively}
+use Rattle.stream_law.specs.Channel.{Channel, Open, Synchronised, IsAmong}
+use Rattle.stream_law.specs.ChannelSteps.{steps, opens, synchronises, nothing_kept}
+use Rattle.stream_law.specs.ChannelViews.{sender_of, SendsInto, ReceivesFrom, frame_of}
+use Rattle.stream_law.specs.Pairing.{Emission, Pairing, with_connection}
+use Rattle.stream_law.proofs.ConnectionSends.{sends}
+use Rattle.stream_law.proofs.ConnectionHears.{hands-over}
+use Rattle.stream_law.proofs.ConnectionArrival.{opened_held}
+use Rattle.stream_law.proofs.PairingInvariant.{Shown, other_stays, connected, unconnected}
+
+-- a caller opens
+pub moves-connects : (cap limit : ℕ) (p : Pairing) (local peer : Endpoint) (isn : ℕ) → p.own.connection ≡ None → isn < 2 ^ 32 → Shown cap limit p
+    → Shown cap limit (with_connection p (opened_actively local peer isn))
+moves-connects cap limit p local peer isn none fits h =
+    let k = unconnected p.own.connection h.into h.from none h.own.connection in
+    let v = opened_actively local peer isn in
+    let into' : Channel = record h.into { sending = Open (sender_of v) } in
+    record {
+      into = into';
+      from = h.from;
+      runs_into = steps h.into into' h.runs_into (opens h.into isn k.sending fits);
+      runs_from = h.runs_from;
+      own = record {
+        written = h.own.written;
+        read = h.own.read;
+        connection = record {
+          sends = record { sending = refl; unclosed = k.unclosed };
+          receives = record { receiving = k.receiving; readable = k.readable; unended = k.unended };
+        };
+      };
+      other = record {
+        written = h.other.written;
+        read = h.other.read;
+        connection = other_stays p.other.connection h.from h.into h.from into' refl refl refl refl refl refl h.other.connection;
+      };
+      sent = λ e among. let s = h.sent e among in record { frame = s.frame; ack = s.ack; width = s.width };
+      received = λ e among. let s = h.received e among in record { frame = s.frame; ack = s.ack; width = s.width };
+    }
+
+-- a SYN opens
+pub moves-accepts : (cap limit : ℕ) (p : Pairing) (local peer : Endpoint) (isn : ℕ) (e : Emission) → p.own.connection ≡ None → isn < 2 ^ 32 → IsAmong e p.received → e.segment.flags.syn ≡ true
+    → Shown cap limit p → Shown cap limit (with_connection p (opened_passively local peer isn e.segment))
+moves-accepts cap limit p local peer isn e none fits among syn h =
+    let k = unconnected p.own.connection h.into h.from none h.own.connection in
+    let v = opened_passively local peer isn e.segment in
+    let into' : Channel = record h.into { sending = Open (sender_of v) } in
+    let from' : Channel = record h.from { receiving = Synchronised (record { rnext = (e.segment.number + 1) % 2 ^ 32; kept = nothing_kept }) } in
+    record {
+      into = into';
+      from = from';
+      runs_into = steps h.into into' h.runs_into (opens h.into isn k.sending fits);
+      runs_from = steps h.from from' h.runs_from (synchronises h.from (frame_of e.segment e.own_written) k.receiving (h.received e among).frame syn);
+      own = record {
+        written = h.own.written;
+        read = h.own.read;
+        connection = record {
+          sends = record { sending = refl; unclosed = k.unclosed };
+          receives = record { receiving = refl; readable = k.readable; unended = k.unended };
+        };
+      };
+      other = record {
+        written = h.other.written;
+        read = h.other.read;
+        connection = other_stays p.other.connection h.from h.into from' into' refl refl refl refl refl refl h.other.connection;
+      };
+      sent = λ e among. let s = h.sent e among in record { frame = s.frame; ack = s.ack; width = s.width };
+      received = λ e among. let s = h.received e among in record { frame = s.frame; ack = s.ack; width = s.width };
+    }
+
+-- the clock is no part of a channel
+pub moves-ticks : (cap limit : ℕ) (p : Pairing) (v : View) (now : Moment) → p.own.connection ≡ Some v → Shown cap limit p → Shown cap limit (with_connection p (after_tick v now))
+moves-ticks cap limit p v now is h =
+    let k = connected p.own.connection v h.into h.from is h.own.connection in
+    record {
+      into = h.into;
+      from = h.from;
+      runs_into = h.runs_into;
+      runs_from = h.runs_from;
+      own = record {
+        written = h.own.written;
+        read = h.own.read;
+        connection = record {
+          sends = record { sending = k.sends.sending; unclosed = k.sends.unclosed };
+          receives = record { receiving = k.receives.receiving; readable = k.receives.readable; unended = k.receives.unended };
+        };
+      };
+      other = h.other;
+      sent = h.sent;
+      received = h.received;
+    }
+
+-- the caller gives octets
+pub moves-takes : (cap limit : ℕ) (p : Pairing) (v : View) (octets : List ℕ) → 65535 ≤ cap → p.own.connection ≡ Some v → IsSound v → is_opening v.state ≡ false → Shown cap limit p
+    → Shown cap limit (record p { own = record { connection = Some (after_send v octets); written = p.own.written ++ take (taken v octets) octets; read = p.own.read } })
+moves-takes cap limit p v octets room is sound opened h =
+    let k = connected p.own.connection v h.into h.from is h.own.connection in
+    let more = take (taken v octets) octets in
+    let into' : Channel = record h.into { written = h.into.written ++ more; sending = Open (sender_of (after_send v octets)) } in
+    record {
+      into = into';
+      from = h.from;
+      runs_into = steps h.into into' h.runs_into (sends cap limit v h.into octets room opened (opened_held v sound opened) k.sends);
+      runs_from = h.runs_from;
+      own = record {
+        written = ap (λ l. l ++ more) h.own.written;
+        read = h.own.read;
+        connection = record {
+          sends = record { sending = refl; unclosed = k.sends.unclosed };
+          receives = same (is_opening v.state) k.receives;
+        };
+      };
+      other = record {
+        written = h.other.written;
+        read = h.other.read;
+        connection = other_stays p.other.connection h.from h.into h.from into' refl refl refl refl refl refl h.other.connection;
+      };
+      sent = λ e among. let s = h.sent e among in record { frame = s.frame; ack = s.ack; width = s.width };
+      received = λ e among. let s = h.received e among in record { frame = s.frame; ack = s.ack; width = s.width };
+    }
+  where
+    same : (opening : Bool) → ReceivesFrom v h.from
+        → ReceivesFrom (if opening then v else record v { sending = record v.sending { held = v.sending.held ++ take (taken v octets) octets } }) h.from
+    same true r = r
+    same false r = record { receiving = r.receiving; readable = r.readable; unended = r.unended }
+
+-- the caller reads
+pub moves-gives : (cap limit : ℕ) (p : Pairing) (v : View) (len : ℕ) → p.own.connection ≡ Some v → is_opening v.state ≡ false → Shown cap limit p
+    → Shown cap limit (record p { own = record { connection = Some (after_recv v len); written = p.own.written; read = p.own.read ++ take (moved v len) v.receiving.readable } })
+moves-gives cap limit p v len is opened h =
+    let k = connected p.own.connection v h.into h.from is h.own.connection in
+    let some = take (moved v len) v.receiving.readable in
+    let rest = drop (moved v len) v.receiving.readable in
+    let from' : Channel = record h.from { read = h.from.read ++ some; readable = rest } in
+    record {
+      into = h.into;
+      from = from';
+      runs_into = h.runs_into;
+      runs_from = steps h.from from' h.runs_from (hands-over cap limit v h.from len k.receives);
+      own = record {
+        written = h.own.written;
+        read = ap (λ l. l ++ some) h.own.read;
+        connection = record {
+          sends = still_sends (is_opening v.state || (length v.receiving.readable == 0)) k.sends;
+          receives = still_receives (is_opening v.state || (length v.receiving.readable == 0)) (λ e. none_left (or_right (is_opening v.state) (length v.receiving.readable == 0) opened e)) k.receives;
+        };
+      };
+      other = record {
+        written = h.other.written;
+        read = h.other.read;
+        connection = other_stays p.other.connection h.from h.into from' h.into refl refl refl refl refl refl h.other.connection;
+      };
+      sent = λ e among. let s = h.sent e among in record { frame = s.frame; ack = s.ack; width = s.width };
+      received = λ e among. let s = h.received e among in record { frame = s.frame; ack = s.ack; width = s.width };
+    }
+  where
+    after : View
+    after = record v { receiving = after_read v.receiving (moved v len); owes_ack = v.owes_ack || (receive_window v.receiving == 0) }
+
+    or_right : (a b : Bool) → a ≡ false → (a || b) ≡ true → b ≡ true
+    or_right true b f e = let bad : true ≡ false = f in cc
+    or_right false b f e = e
+
+    none_left : (length v.receiving.readable == 0) ≡ true → drop (moved v len) v.receiving.readable ≡ v.receiving.readable
+    none_left e =
+        let empty : length v.receiving.readable ≡ 0 = eqb-true (length v.receiving.readable) 0 e in
+        let none : moved v len ≡ 0 = omega (arith, empty) in
+        ap (λ n. drop n v.receiving.readable) none
+
+    still_sends : (none : Bool) → SendsInto v h.into → SendsInto (if none then v else after) h.into
+    still_sends true s = s
+    still_sends false s = record { sending = s.sending; unclosed = s.unclosed }
+
+    still_receives : (none : Bool) → (none ≡ true → drop (moved v len) v.receiving.readable ≡ v.receiving.readable) → ReceivesFrom v h.from
+        → ReceivesFrom (if none then v else after) (record h.from { read = h.from.read ++ take (moved v len) v.receiving.readable; readable = drop (moved v len) v.receiving.readable })
+    still_receives true e r = record { receiving = r.receiving; readable = e refl; unended = r.unended }
+    still_receives false e r = record { receiving = r.receiving; readable = refl; unended = r.unended }

@@ -1,0 +1,69 @@
+-- What a connection shows of the two channels that it is an end of: it sends into one and receives from the other.
+use Rattle.std.specs.Prelude.{◌≡◌, ℕ, ◌<◌, ◌^◌, true, false, not, if◌then◌else◌, List, length}
+use Rattle.tcp_segment.specs.Segment.{Segment}
+use Rattle.tcp_state.specs.View.{View, is_opening, is_syn_sent}
+use Rattle.stream_law.specs.Channel.{Frame, Ack, Sender, Sending, Open, Receiving, Waiting, Synchronised, Channel, IsAmong, IsRecent}
+use Rattle.stream_law.specs.ChannelSteps.{Step, nothing_kept}
+
+-- any number of steps
+pub data Leads (cap limit : ℕ) : Channel → Channel → Type 0 where
+  stays : (c : Channel) → Leads cap limit c c
+  goes : (c d e : Channel) → Step cap limit c d → Leads cap limit d e → Leads cap limit c e
+
+-- the sending half: the SYN is acknowledged where the connection is past its opening
+abbrev pub sender_of : View → Sender
+sender_of v = record {
+  held = v.sending.held;
+  una = v.sending.una;
+  nxt = v.sending.nxt;
+  syn_acked = not (is_opening v.state);
+  fin_acked = false;
+}
+
+-- the receiving half: it waits for the peer's SYN in SYN-SENT alone
+abbrev pub receiving_of : View → Receiving
+receiving_of v = if is_syn_sent v.state then Waiting else Synchronised (record { rnext = v.receiving.rnext; kept = nothing_kept })
+
+-- the connection is the sending end of this channel
+pub record SendsInto (v : View) (c : Channel) : Type 0 where
+  pub sending : c.sending ≡ Open (sender_of v)
+  pub unclosed : c.closed ≡ false
+
+-- the connection is the receiving end of this channel
+pub record ReceivesFrom (v : View) (c : Channel) : Type 0 where
+  pub receiving : c.receiving ≡ receiving_of v
+  pub readable : c.readable ≡ v.receiving.readable
+  pub unended : c.end_seen ≡ false
+
+-- a segment as a frame of its direction, and as an acknowledgement of the other
+abbrev pub frame_of : Segment → ℕ → Frame
+frame_of s written_at = record { number = s.number; octets = s.octets; syn = s.flags.syn; fin = s.flags.fin; written_at = written_at }
+
+abbrev pub ack_of : Segment → ℕ → Ack
+ack_of s written_at = record { number = s.acknowledgement; written_at = written_at }
+
+-- what became of the two channels of a connection that is now seen so: any number of steps of each, which changed
+-- only what the connection is the end of
+pub record Follows (cap limit : ℕ) (v : View) (c d : Channel) : Type 0 where
+  pub into : Sending
+  pub readable : List ℕ
+  pub from : Receiving
+  pub leads_into : Leads cap limit c (record c { sending = into })
+  pub leads_from : Leads cap limit d (record d { readable = readable; receiving = from })
+  pub sends : SendsInto v (record c { sending = into })
+  pub receives : ReceivesFrom v (record d { readable = readable; receiving = from })
+
+-- the fields of a segment that was parsed are of their width
+pub record IsOfWidth (s : Segment) : Type 0 where
+  pub number : s.number < 2 ^ 32
+  pub acknowledgement : s.acknowledgement < 2 ^ 32
+  pub octets : length s.octets < 2 ^ 16
+
+-- the network has this segment as a frame of one channel and as an acknowledgement of the other, both recent
+pub record CameFrom (limit : ℕ) (s : Segment) (c d : Channel) : Type 0 where
+  pub sent_at : ℕ
+  pub acked_at : ℕ
+  pub frame : IsAmong (frame_of s sent_at) d.frames
+  pub frame_recent : IsRecent limit d.written sent_at
+  pub ack : s.flags.ack ≡ true → IsAmong (ack_of s acked_at) c.acks
+  pub ack_recent : IsRecent limit c.written acked_at

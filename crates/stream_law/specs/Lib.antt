@@ -1,0 +1,5 @@
+pub mod Begins
+pub mod Channel
+pub mod ChannelSteps
+pub mod ChannelViews
+pub mod Pairing

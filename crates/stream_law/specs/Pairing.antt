@@ -1,0 +1,95 @@
+-- One pair of endpoints: the connection at each end, what the two callers did, and every segment that ever went out between them.
+-- The network loses, repeats and reorders: any segment may arrive never, once or often, in any order.
+use Rattle.std.specs.Prelude.{◌≡◌, ℕ, ◌+◌, ◌<◌, ◌≤◌, ◌^◌, true, false, List, [], ◌∷◌, ◌++◌, length, take, Option, Some, None}
+use Rattle.ipv4.specs.declared.addr.Endpoint.{Endpoint}
+use Rattle.tcp_segment.specs.Segment.{Segment}
+use Rattle.tcp_segment.specs.Sent.{sent}
+use Rattle.tcp_state.specs.declared.connection.Fate.{Fate}
+use Rattle.tcp_state.specs.declared.connection.Fate.TheVariants.{Stays, Removed}
+use Rattle.tcp_state.specs.declared.emission.Due.{Due}
+use Rattle.tcp_state.specs.declared.moment.Moment.{Moment}
+use Rattle.tcp_state.specs.View.{View, IsSound, is_opening, opened_actively, after_tick}
+use Rattle.tcp_state.specs.Calls.{taken, after_send, moved, after_recv}
+use Rattle.tcp_state.specs.Arrival.{opened_passively, after_segment, fate}
+use Rattle.tcp_state.specs.Due.{MayGoOut, first_due, head_of, octets_of, after_emitted}
+use Rattle.stream_law.specs.Channel.{IsAmong}
+use Rattle.stream_law.specs.ChannelViews.{IsOfWidth}
+use Rattle.stream_law.specs.Begins.{Begins}
+
+-- one end: its connection, if it has one, what its caller gave to it, and what it gave to its caller
+pub record End : Type 0 where
+  pub connection : Option View
+  pub written : List ℕ
+  pub read : List ℕ
+
+-- a segment that went out, and how much was written at its own end and at the other when it did
+pub record Emission : Type 0 where
+  pub segment : Segment
+  pub own_written : ℕ
+  pub other_written : ℕ
+
+-- the two ends as one of them sees them, and what each sent
+pub record Pairing : Type 0 where
+  pub own : End
+  pub other : End
+  pub sent : List Emission
+  pub received : List Emission
+
+-- nothing has happened at either end
+abbrev pub nothing_yet : End
+nothing_yet = record { connection = None; written = []; read = [] }
+
+abbrev pub apart : Pairing
+apart = record { own = nothing_yet; other = nothing_yet; sent = []; received = [] }
+
+-- the same, as the other end sees it
+abbrev pub from_other : Pairing → Pairing
+from_other p = record { own = p.other; other = p.own; sent = p.received; received = p.sent }
+
+-- since it went out, less than the limit was written at either end
+pub record IsTimely (limit : ℕ) (p : Pairing) (e : Emission) : Type 0 where
+  pub own : length p.own.written < e.other_written + limit
+  pub other : length p.other.written < e.own_written + limit
+
+abbrev pub with_connection : Pairing → View → Pairing
+with_connection p v = record p { own = record p.own { connection = Some v } }
+
+-- what is left of a connection
+abbrev pub remains : Fate → View → Option View
+remains Stays v = Some v
+remains Removed v = None
+
+-- what may happen at one end
+pub data Move (limit : ℕ) : Pairing → Pairing → Type 0 where
+  -- its caller opens a connection, with any initial number
+  connects : (p : Pairing) (local peer : Endpoint) (isn : ℕ) → p.own.connection ≡ None → isn < 2 ^ 32 → Move limit p (with_connection p (opened_actively local peer isn))
+  -- a SYN of the other end opens one
+  accepts : (p : Pairing) (local peer : Endpoint) (isn : ℕ) (e : Emission) → p.own.connection ≡ None → isn < 2 ^ 32 → IsAmong e p.received → IsTimely limit p e → e.segment.flags.syn ≡ true
+      → Move limit p (with_connection p (opened_passively local peer isn e.segment))
+  -- its caller gives octets
+  takes : (p : Pairing) (v : View) (octets : List ℕ) → p.own.connection ≡ Some v → IsSound v → is_opening v.state ≡ false
+      → Move limit p (record p { own = record { connection = Some (after_send v octets); written = p.own.written ++ take (taken v octets) octets; read = p.own.read } })
+  -- its caller reads into a buffer of some length
+  gives : (p : Pairing) (v : View) (len : ℕ) → p.own.connection ≡ Some v → IsSound v → is_opening v.state ≡ false
+      → Move limit p (record p { own = record { connection = Some (after_recv v len); written = p.own.written; read = p.own.read ++ take (moved v len) v.receiving.readable } })
+  -- the clock moves
+  ticks : (p : Pairing) (v : View) (now : Moment) → p.own.connection ≡ Some v → Move limit p (with_connection p (after_tick v now))
+  -- the segment that is due first goes out
+  emits : (p : Pairing) (v : View) (due : Due) (now : Moment) → p.own.connection ≡ Some v → IsSound v → first_due v ≡ Some due → MayGoOut v due
+      → IsOfWidth (sent (head_of v due) (octets_of v due))
+      → Move limit p (record (with_connection p (after_emitted v due now)) {
+        sent = record { segment = sent (head_of v due) (octets_of v due); own_written = length p.own.written; other_written = length p.other.written } ∷ p.sent;
+      })
+  -- a segment that the other end ever sent arrives
+  hears : (p : Pairing) (v : View) (e : Emission) → p.own.connection ≡ Some v → IsSound v → IsAmong e p.received → IsTimely limit p e
+      → Move limit p (record p { own = record p.own { connection = remains (fate v e.segment) (after_segment v e.segment) } })
+
+-- what two ends may come to: one move after another, at either end
+pub data Meets (limit : ℕ) : Pairing → Type 0 where
+  begins : Meets limit apart
+  here_moves : (p q : Pairing) → Meets limit p → Move limit p q → Meets limit q
+  there_moves : (p q : Pairing) → Meets limit p → Move limit (from_other p) q → Meets limit (from_other q)
+
+-- over every run, in both directions
+abbrev pub EveryPairingIsLawful : Type 0
+EveryPairingIsLawful = (limit : ℕ) → limit ≤ 2 ^ 30 → (p : Pairing) → Meets limit p → Begins p.own.read p.other.written × Begins p.other.read p.own.written
