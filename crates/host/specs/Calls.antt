@@ -15,7 +15,7 @@ use Rattle.host.specs.declared.entry.Entry.{Entry}
 use Rattle.host.specs.declared.entry.Role.{Role}
 use Rattle.host.specs.declared.entry.Role.TheVariants.{Idle, Listener, Connected}
 use Rattle.host.specs.declared.refusal.Refusal.{Refusal}
-use Rattle.host.specs.declared.refusal.Refusal.TheVariants.{EBADF, EINVAL, EADDRINUSE, EADDRNOTAVAIL, EISCONN, ENOTCONN, EALREADY, EAGAIN, ENETUNREACH, EOPNOTSUPP, EDESTADDRREQ}
+use Rattle.host.specs.declared.refusal.Refusal.TheVariants.{EBADF, EINVAL, EADDRINUSE, EADDRNOTAVAIL, EISCONN, ENOTCONN, EALREADY, EAGAIN, ENETUNREACH, EOPNOTSUPP, EPIPE, EDESTADDRREQ}
 use Rattle.host.specs.Endpoints.{same_addr, is_single_host}
 use Rattle.host.specs.Ports.{first_port, is_free_port}
 use Rattle.host.specs.Entries.{has_port, is_between, is_offered_at, offered_peer, shown_state, new_socket, bound_to, listening, connecting, accepted, sent, received, with_role}
@@ -113,9 +113,14 @@ abbrev pub after_accept : HostView → SocketId → HostView
 after_accept h id = record h { entries = change_first (is_offered_at id) (with_role accepted) h.entries }
 
 -- what a connection refuses is refused by the same name
+abbrev pub refusal_of : connection_refusal.Refusal → Refusal
+refusal_of connection_variants.ENOTCONN = ENOTCONN
+refusal_of connection_variants.EAGAIN = EAGAIN
+refusal_of connection_variants.EPIPE = EPIPE
+
 abbrev pub of_connection : {T : Type 0} → Result T connection_refusal.Refusal → Result T Refusal
 of_connection (Ok value) = Ok value
-of_connection (Err connection_variants.EAGAIN) = Err EAGAIN
+of_connection (Err refusal) = Err (refusal_of refusal)
 
 -- what a send of octets answers
 abbrev pub sent_answer : Role → List ℕ → Result ℕ Refusal

@@ -28,9 +28,9 @@ abbrev pub settled : Fate → (Entry → Bool) → Segment → List Entry → Li
 settled Stays test s entries = change_first test (with_role (arrived s)) entries
 settled Removed test s entries = remove_first test entries
 
--- a segment with SYN and none of RST, ACK and FIN opens a connection at a listener, at this stage
+-- a segment with SYN and neither RST nor ACK opens a connection at a listener
 abbrev pub is_opening : Flags → Bool
-is_opening flags = flags.syn && not flags.rst && not flags.ack && not flags.fin
+is_opening flags = flags.syn && not flags.rst && not flags.ack
 
 -- no place at this listener: as many wait as its backlog allows, or the table is full, or the last id is given
 abbrev pub has_no_place : HostView → Entry → Bool

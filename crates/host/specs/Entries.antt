@@ -5,7 +5,7 @@ use Rattle.ipv4.specs.declared.addr.Pair.{Pair}
 use Rattle.tcp_state.specs.declared.state.State.{State}
 use Rattle.tcp_state.specs.declared.state.State.TheVariants.{Closed, Listen}
 use Rattle.tcp_state.specs.declared.moment.Moment.{Moment}
-use Rattle.tcp_state.specs.View.{View, is_syn_received, opened_actively, after_tick, deadline}
+use Rattle.tcp_state.specs.View.{View, is_closed, is_syn_received, opened_actively, after_tick, deadline}
 use Rattle.tcp_segment.specs.Segment.{Segment}
 use Rattle.tcp_state.specs.declared.connection.Fate.{Fate}
 use Rattle.tcp_state.specs.declared.connection.Fate.TheVariants.{Stays}
@@ -30,10 +30,6 @@ is_pending (Idle buffers bound) = false
 -- the socket that the id names; a connection that is not accepted is no socket
 abbrev pub is_socket : SocketId → Entry → Bool
 is_socket id e = (e.id.0 == id.0) && not (is_pending e.role)
-
-abbrev pub is_closed : State → Bool
-is_closed Closed = true
-is_closed _ = false
 
 -- a connection from a local to a foreign endpoint, in any state but CLOSED
 abbrev pub is_live_between : Endpoint → Endpoint → Role → Bool

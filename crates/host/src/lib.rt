@@ -281,9 +281,9 @@ impl Host {
     }
 }
 
-/// Whether a segment with these flags opens a connection at a listener at this stage: SYN with none of RST, ACK and FIN.
+/// Whether a segment with these flags opens a connection at a listener (RFC 9293 section 3.10.7.2): SYN with neither RST nor ACK.
 fn is_opening(flags: Flags) -> bool
     ensures { result ≡ is_opening flags }
 {
-    flags.syn && !flags.rst && !flags.ack && !flags.fin
+    flags.syn && !flags.rst && !flags.ack
 }

@@ -30,6 +30,9 @@ pub enum Refusal {
     /// Nothing to do now; the same call may succeed later.
     #[error("E8 EAGAIN")]
     EAGAIN,
+    /// Our side of the connection is closed.
+    #[error("E12 EPIPE")]
+    EPIPE,
     /// No route leads to the address.
     #[error("E14 ENETUNREACH")]
     ENETUNREACH,
@@ -49,13 +52,15 @@ pub enum Refusal {
 
 impl From<tcp_state::Refusal> for Refusal {
     ghost use Rattle.std.specs.Prelude.{◌≡◌};
-    ghost use Rattle.host.specs.declared.refusal.Refusal.TheVariants.{EAGAIN};
+    ghost use Rattle.host.specs.Calls.{refusal_of};
 
-    ghost from_gives = { λ _ refusal. refusal ≡ EAGAIN };
+    ghost from_gives = { λ told refusal. refusal ≡ refusal_of told };
 
     fn from(refusal: tcp_state::Refusal) -> Refusal {
         match refusal {
+            tcp_state::Refusal::ENOTCONN => Refusal::ENOTCONN,
             tcp_state::Refusal::EAGAIN => Refusal::EAGAIN,
+            tcp_state::Refusal::EPIPE => Refusal::EPIPE,
         }
     }
 }

@@ -1,33 +1,35 @@
 -- An arriving segment is steps of the two channels of the connection that takes it.
-use Rattle.std.proofs.Common.{◌≡◌, ℕ, ◌+◌, ◌<◌, ◌≤◌, ◌^◌, ◌%◌, ◌||◌, ◌&&◌, ◌==◌, min, if◌then◌else◌, Bool, true, false, List, length, arith, refl, sym, ◌∙◌, ap, subst}
+use Rattle.std.proofs.Common.{◌≡◌, ℕ, ◌+◌, ◌<◌, ◌≤◌, ◌^◌, ◌%◌, ◌||◌, ◌&&◌, ◌==◌, min, not, if◌then◌else◌, Bool, true, false, List, length, arith, refl, sym, ◌∙◌, ap, subst}
+use Rattle.std.proofs.lemmas.Bool.{eqb-true}
 use Rattle.tcp_segment.specs.Segment.{Segment}
 use Rattle.tcp_state.specs.declared.state.State.{State}
-use Rattle.tcp_state.specs.declared.state.State.TheVariants.{SynSent, SynReceived}
+use Rattle.tcp_state.specs.declared.state.State.TheVariants.{SynSent, SynReceived, Established, FinWait1, FinWait2, Closing, LastAck}
 use Rattle.tcp_state.specs.Numbers.{is_before}
-use Rattle.tcp_state.specs.View.{View, IsSound, is_opening, is_syn_sent, is_syn_received}
+use Rattle.tcp_state.specs.View.{View, IsSound, is_opening, is_syn_sent, is_syn_received, is_closed, is_write_closed, is_end_seen, is_fin_acknowledged, awaits_fin_ack}
 use Rattle.tcp_state.specs.Halves.{Receiving as ReceivingHalf}
-use Rattle.tcp_state.specs.Stream.{outstanding, is_new_ack, after_acknowledged, after_octets}
+use Rattle.tcp_state.specs.Stream.{outstanding, is_new_ack, after_acknowledged, after_octets, stands_next, after_end}
 use Rattle.tcp_state.specs.Windows.{tells_window}
-use Rattle.tcp_state.specs.Arrival.{after_segment, after_syn_ack, is_right_syn_ack, is_accepted, after_accepted, after_acceptable, after_ack, is_read_on, after_window, after_text, owing_ack, established, ends_by_syn}
-use Rattle.stream_law.specs.Channel.{Channel, Sending, Open, Receiving, Waiting, Synchronised}
+use Rattle.tcp_state.specs.Arrival.{after_segment, after_syn_ack, is_right_syn_ack, is_accepted, after_accepted, after_acceptable, after_ack, is_read_on, after_window, after_text, owing_ack, established, ends_by_syn, is_fin_next, fin_acknowledged, after_new_ack, beyond_fin, beyond_end, is_receiving, counts_fin, after_fin}
+use Rattle.stream_law.specs.Channel.{Channel, Sending, Open, Receiving, Waiting, Synchronised, IsAmong, IsRecent}
 use Rattle.stream_law.specs.ChannelSteps.{Step, nothing_kept}
-use Rattle.stream_law.specs.ChannelViews.{Leads, stays, goes, sender_of, receiving_of, SendsInto, ReceivesFrom, Follows, IsOfWidth, CameFrom}
-use Rattle.stream_law.proofs.ConnectionHears.{hears-octets, hears-ack, hears-syn_ack, hears-syn}
+use Rattle.stream_law.specs.ChannelViews.{frame_of, Leads, stays, goes, sender_of, receiving_of, SendsInto, ReceivesFrom, Follows, IsOfWidth, CameFrom}
+use Rattle.stream_law.proofs.ConnectionHears.{hears-octets, hears-fin, hears-ack, hears-fin_ack, hears-syn_ack, hears-syn}
 
 one_step : (cap limit : ℕ) (c d : Channel) → Step cap limit c d → Leads cap limit c d
 one_step cap limit c d step = goes c d d step (stays d)
 
 -- nothing happened to either stream
-nothing : (cap limit : ℕ) (v w : View) (c d : Channel) → sender_of w ≡ sender_of v → receiving_of w ≡ receiving_of v → w.receiving.readable ≡ v.receiving.readable
+nothing : (cap limit : ℕ) (v w : View) (c d : Channel) → w.state ≡ v.state → sender_of w ≡ sender_of v → receiving_of w ≡ receiving_of v → w.receiving.readable ≡ v.receiving.readable
     → SendsInto v c → ReceivesFrom v d → Follows cap limit w c d
-nothing cap limit v w c d same_sender same_receiving same_readable into from = record {
+nothing cap limit v w c d same_state same_sender same_receiving same_readable into from = record {
   into = c.sending;
   readable = d.readable;
+  end_seen = d.end_seen;
   from = d.receiving;
   leads_into = stays c;
   leads_from = stays d;
-  sends = record { sending = into.sending ∙ ap (λ s. Open s) (sym same_sender); unclosed = into.unclosed };
-  receives = record { receiving = from.receiving ∙ sym same_receiving; readable = from.readable ∙ sym same_readable; unended = from.unended };
+  sends = record { sending = into.sending ∙ ap (λ s. Open s) (sym same_sender); closed = into.closed ∙ ap is_write_closed (sym same_state) };
+  receives = record { receiving = from.receiving ∙ sym same_receiving; readable = from.readable ∙ sym same_readable; end_seen = from.end_seen ∙ ap is_end_seen (sym same_state) };
 }
 
 -- one of two views by a test
@@ -58,17 +60,66 @@ past_opening SynSent a b = cc
 past_opening SynReceived a b = cc
 past_opening _ a b = refl
 
+opening_unfinished : (t : State) → is_opening t ≡ true → is_fin_acknowledged t ≡ false
+opening_unfinished SynSent e = refl
+opening_unfinished SynReceived e = refl
+opening_unfinished _ e = cc
+
+-- nothing is closed before the connection is opened
+opening_plain : (t : State) → is_opening t ≡ true → (is_write_closed t ≡ false) × (is_end_seen t ≡ false)
+opening_plain SynSent e = (refl, refl)
+opening_plain SynReceived e = (refl, refl)
+opening_plain _ e = cc
+
+-- our FIN's acknowledgement leaves both sides as closed as they were
+beyond_fin_closed : (t : State) → awaits_fin_ack t ≡ true → (is_write_closed (beyond_fin t) ≡ is_write_closed t) × (is_end_seen (beyond_fin t) ≡ is_end_seen t)
+beyond_fin_closed FinWait1 e = (refl, refl)
+beyond_fin_closed Closing e = (refl, refl)
+beyond_fin_closed LastAck e = (refl, refl)
+beyond_fin_closed _ e = cc
+
+beyond_fin_acked : (t : State) → awaits_fin_ack t ≡ true → (is_fin_acknowledged (beyond_fin t) ≡ true) × (is_opening (beyond_fin t) ≡ is_opening t) × (is_syn_sent (beyond_fin t) ≡ false)
+beyond_fin_acked FinWait1 e = (refl, refl, refl)
+beyond_fin_acked Closing e = (refl, refl, refl)
+beyond_fin_acked LastAck e = (refl, refl, refl)
+beyond_fin_acked _ e = cc
+
+-- the peer's FIN closes its side and leaves ours
+beyond_end_closed : (t : State) → is_receiving t ≡ true → (is_write_closed (beyond_end t) ≡ is_write_closed t) × (is_end_seen (beyond_end t) ≡ true) × (is_end_seen t ≡ false) × (is_syn_sent (beyond_end t) ≡ false)
+beyond_end_closed Established e = (refl, refl, refl, refl)
+beyond_end_closed FinWait1 e = (refl, refl, refl, refl)
+beyond_end_closed FinWait2 e = (refl, refl, refl, refl)
+beyond_end_closed _ e = cc
+
+beyond_end_acked : (t : State) → is_receiving t ≡ true → (is_fin_acknowledged (beyond_end t) ≡ is_fin_acknowledged t) × (is_opening (beyond_end t) ≡ is_opening t)
+beyond_end_acked Established e = (refl, refl)
+beyond_end_acked FinWait1 e = (refl, refl)
+beyond_end_acked FinWait2 e = (refl, refl)
+beyond_end_acked _ e = cc
+
 -- in its opening a connection has at most its SYN outstanding, and past it no more than it holds
 opening_flight : (v : View) → IsSound v → is_opening v.state ≡ true → outstanding v.sending ≤ 1
-opening_flight v sound opening = subst (λ b. outstanding v.sending ≤ (if b then 1 else min (length v.sending.held) 1460)) opening sound.flight
+opening_flight v sound opening = subst (λ b. outstanding v.sending ≤ (if b || (awaits_fin_ack v.state && (length v.sending.held == 0)) then 1 else min (length v.sending.held) 1460)) opening sound.flight
 
-opened_flight : (v : View) → IsSound v → is_opening v.state ≡ false → outstanding v.sending ≤ length v.sending.held
-opened_flight v sound opened =
-    let most : outstanding v.sending ≤ min (length v.sending.held) 1460 = subst (λ b. outstanding v.sending ≤ (if b then 1 else min (length v.sending.held) 1460)) opened sound.flight in
+opened_flight : (v : View) → IsSound v → is_opening v.state ≡ false → is_fin_next v ≡ false → outstanding v.sending ≤ length v.sending.held
+opened_flight v sound opened none =
+    let some : outstanding v.sending ≤ (if is_fin_next v then 1 else min (length v.sending.held) 1460) = subst (λ b. outstanding v.sending ≤ (if b || is_fin_next v then 1 else min (length v.sending.held) 1460)) opened sound.flight in
+    let most : outstanding v.sending ≤ min (length v.sending.held) 1460 = subst (λ b. outstanding v.sending ≤ (if b then 1 else min (length v.sending.held) 1460)) none some in
     omega (arith, most)
 
+pub fin_flight : (v : View) → IsSound v → is_opening v.state ≡ false → is_fin_next v ≡ true → outstanding v.sending ≤ 1
+fin_flight v sound opened fin =
+    let some : outstanding v.sending ≤ (if is_fin_next v then 1 else min (length v.sending.held) 1460) = subst (λ b. outstanding v.sending ≤ (if b || is_fin_next v then 1 else min (length v.sending.held) 1460)) opened sound.flight in
+    subst (λ b. outstanding v.sending ≤ (if b then 1 else min (length v.sending.held) 1460)) fin some
+
 pub opened_held : (v : View) → IsSound v → is_opening v.state ≡ false → length v.sending.held ≤ 65535
-opened_held v sound opened = subst (λ b. length v.sending.held ≤ (if b then 0 else 65535)) opened sound.held
+opened_held v sound opened =
+    let some : length v.sending.held ≤ (if is_fin_acknowledged v.state then 0 else 65535) = subst (λ b. length v.sending.held ≤ (if b || is_fin_acknowledged v.state then 0 else 65535)) opened sound.held in
+    at_most (is_fin_acknowledged v.state) (length v.sending.held) some
+  where
+    at_most : (b : Bool) (n : ℕ) → n ≤ (if b then 0 else 65535) → n ≤ 65535
+    at_most true n e = omega (arith, e)
+    at_most false n e = e
 
 -- a SYN that acknowledges ours, in SYN-SENT
 arrives-syn_ack : (cap limit : ℕ) (v : View) (s : Segment) (c d : Channel) → IsSound v → IsOfWidth s → is_syn_sent v.state ≡ true → SendsInto v c → ReceivesFrom v d → CameFrom limit s c d
@@ -82,17 +133,18 @@ arrives-syn_ack cap limit v s c d sound fits waiting into from came =
     let new = and_right (s.flags.syn && s.flags.ack) (is_new_ack v.sending s.acknowledgement) right in
     let opening = syn_sent_opens v.state waiting in
     record {
-      into = Open (record (sender_of v) { una = v.sending.nxt; syn_acked = true });
+      into = Open (record (sender_of v) { una = v.sending.nxt; syn_acked = true; fin_acked = false });
       readable = d.readable;
+      end_seen = d.end_seen;
       from = Synchronised (record { rnext = (s.number + 1) % 2 ^ 32; kept = nothing_kept });
-      leads_into = one_step cap limit c (record c { sending = Open (record (sender_of v) { una = v.sending.nxt; syn_acked = true }) })
-          (hears-syn_ack cap limit v c s came.acked_at opening (opening_flight v sound opening) sound.una sound.nxt fits.acknowledgement new into (came.ack ack) came.ack_recent);
+      leads_into = one_step cap limit c (record c { sending = Open (record (sender_of v) { una = v.sending.nxt; syn_acked = true; fin_acked = false }) })
+          (hears-syn_ack cap limit v c s came.acked_at opening (opening_unfinished v.state opening) (opening_flight v sound opening) sound.una sound.nxt fits.acknowledgement new into (came.ack ack) came.ack_recent);
       leads_from = one_step cap limit d (record d { receiving = Synchronised (record { rnext = (s.number + 1) % 2 ^ 32; kept = nothing_kept }) })
           (hears-syn cap limit v d s came.sent_at waiting syn from came.frame);
-      sends = record { sending = refl; unclosed = into.unclosed };
-      receives = record { receiving = refl; readable = from.readable; unended = from.unended };
+      sends = record { sending = refl; closed = into.closed ∙ (opening_plain v.state opening).0 };
+      receives = record { receiving = refl; readable = from.readable; end_seen = from.end_seen ∙ (opening_plain v.state opening).1 };
     })
-    (λ wrong. nothing cap limit v v c d refl refl refl into from)
+    (λ wrong. nothing cap limit v v c d refl refl refl refl into from)
 
 -- the sending side of a connection after an acknowledgement
 record Acknowledged (cap limit : ℕ) (v w : View) (c : Channel) : Type 0 where
@@ -101,70 +153,161 @@ record Acknowledged (cap limit : ℕ) (v w : View) (c : Channel) : Type 0 where
   pub sends : SendsInto w (record c { sending = into })
   pub receiving : w.receiving ≡ v.receiving
   pub synchronised : is_syn_sent w.state ≡ false
+  pub end_seen : is_end_seen w.state ≡ is_end_seen v.state
 
-unacknowledged : (cap limit : ℕ) (v w : View) (c : Channel) → sender_of w ≡ sender_of v → w.receiving ≡ v.receiving → is_syn_sent w.state ≡ false → SendsInto v c → Acknowledged cap limit v w c
-unacknowledged cap limit v w c same_sender same_receiving synchronised into = record {
+unacknowledged : (cap limit : ℕ) (v w : View) (c : Channel) → w.state ≡ v.state → sender_of w ≡ sender_of v → w.receiving ≡ v.receiving → is_syn_sent w.state ≡ false → SendsInto v c → Acknowledged cap limit v w c
+unacknowledged cap limit v w c same_state same_sender same_receiving synchronised into = record {
   into = c.sending;
   leads = stays c;
-  sends = record { sending = into.sending ∙ ap (λ s. Open s) (sym same_sender); unclosed = into.unclosed };
+  sends = record { sending = into.sending ∙ ap (λ s. Open s) (sym same_sender); closed = into.closed ∙ ap is_write_closed (sym same_state) };
   receiving = same_receiving;
   synchronised = synchronised;
+  end_seen = ap is_end_seen same_state;
 }
 
 arrives-ack : (cap limit : ℕ) (v : View) (s : Segment) (c d : Channel) → IsSound v → IsOfWidth s → is_syn_sent v.state ≡ false → s.flags.ack ≡ true → SendsInto v c → CameFrom limit s c d
     → Acknowledged cap limit v (after_ack v s.acknowledgement) c
 arrives-ack cap limit v s c d sound fits past_syn ack into came =
     let P : View → Type 0 = λ w. Acknowledged cap limit v w c in
-    let same = unacknowledged cap limit v v c refl refl past_syn into in
-    let owes = unacknowledged cap limit v (owing_ack v) c refl refl past_syn into in
+    let same = unacknowledged cap limit v v c refl refl refl past_syn into in
+    let owes = unacknowledged cap limit v (owing_ack v) c refl refl refl past_syn into in
     either P (is_syn_received v.state) _ _
     (λ received. either P (is_new_ack v.sending s.acknowledgement) (established v) v
     (λ new. let opening = syn_received_opens v.state received in record {
-      into = Open (record (sender_of v) { una = v.sending.nxt; syn_acked = true });
-      leads = one_step cap limit c (record c { sending = Open (record (sender_of v) { una = v.sending.nxt; syn_acked = true }) })
-          (hears-syn_ack cap limit v c s came.acked_at opening (opening_flight v sound opening) sound.una sound.nxt fits.acknowledgement new into (came.ack ack) came.ack_recent);
-      sends = record { sending = refl; unclosed = into.unclosed };
+      into = Open (record (sender_of v) { una = v.sending.nxt; syn_acked = true; fin_acked = false });
+      leads = one_step cap limit c (record c { sending = Open (record (sender_of v) { una = v.sending.nxt; syn_acked = true; fin_acked = false }) })
+          (hears-syn_ack cap limit v c s came.acked_at opening (opening_unfinished v.state opening) (opening_flight v sound opening) sound.una sound.nxt fits.acknowledgement new into (came.ack ack) came.ack_recent);
+      sends = record { sending = refl; closed = into.closed ∙ (opening_plain v.state opening).0 };
       receiving = refl;
       synchronised = refl;
+      end_seen = sym (opening_plain v.state opening).1;
     })
     (λ old. same))
     (λ unreceived. either P (is_new_ack v.sending s.acknowledgement) _ _
-    (λ new. let opened = past_opening v.state past_syn unreceived in record {
+    (λ new. let opened = past_opening v.state past_syn unreceived in either P (is_fin_next v) (fin_acknowledged (after_new_ack v s.acknowledgement)) (after_new_ack v s.acknowledgement)
+    (λ fin.
+    let waits = and_left (awaits_fin_ack v.state) (length v.sending.held == 0) fin in
+    let none = eqb-true (length v.sending.held) 0 (and_right (awaits_fin_ack v.state) (length v.sending.held == 0) fin) in
+    let beyond = beyond_fin_acked v.state waits in
+    let plain = record (sender_of v) { held = (after_acknowledged v.sending s.acknowledgement).held; una = (after_acknowledged v.sending s.acknowledgement).una; fin_acked = true } in
+    record {
+      into = Open plain;
+      leads = one_step cap limit c (record c { sending = Open plain })
+          (hears-fin_ack cap limit v c s came.acked_at opened none (fin_flight v sound opened fin) new into (came.ack ack) came.ack_recent);
+      sends = record {
+        sending = ap (λ b. Open (record plain { syn_acked = not b })) (sym beyond.1) ∙ ap (λ b. Open (record plain { syn_acked = not (is_opening (beyond_fin v.state)); fin_acked = b })) (sym beyond.0);
+        closed = into.closed ∙ sym (beyond_fin_closed v.state waits).0;
+      };
+      receiving = refl;
+      synchronised = beyond.2;
+      end_seen = (beyond_fin_closed v.state waits).1;
+    })
+    (λ octets. record {
       into = Open (record (sender_of v) { held = (after_acknowledged v.sending s.acknowledgement).held; una = (after_acknowledged v.sending s.acknowledgement).una });
       leads = one_step cap limit c (record c { sending = Open (record (sender_of v) { held = (after_acknowledged v.sending s.acknowledgement).held; una = (after_acknowledged v.sending s.acknowledgement).una }) })
-          (hears-ack cap limit v c s came.acked_at opened (opened_flight v sound opened) (opened_held v sound opened) new into (came.ack ack) came.ack_recent);
-      sends = record { sending = refl; unclosed = into.unclosed };
+          (hears-ack cap limit v c s came.acked_at opened (opened_flight v sound opened octets) (opened_held v sound opened) new into (came.ack ack) came.ack_recent);
+      sends = record { sending = refl; closed = into.closed };
       receiving = refl;
       synchronised = past_syn;
-    })
+      end_seen = refl;
+    }))
     (λ old. either P (is_before v.sending.nxt s.acknowledgement) (owing_ack v) v (λ beyond. owes) (λ within. same)))
 
--- the receiving side of a connection after octets
-record Texted (cap limit : ℕ) (v w : View) (d : Channel) : Type 0 where
+-- the receiving side of a connection after octets or the FIN
+record Heard (cap limit : ℕ) (v w : View) (d : Channel) : Type 0 where
   pub readable : List ℕ
+  pub end_seen : Bool
   pub from : Receiving
-  pub leads : Leads cap limit d (record d { readable = readable; receiving = from })
-  pub receives : ReceivesFrom w (record d { readable = readable; receiving = from })
+  pub leads : Leads cap limit d (record d { readable = readable; end_seen = end_seen; receiving = from })
+  pub receives : ReceivesFrom w (record d { readable = readable; end_seen = end_seen; receiving = from })
   pub sender : sender_of w ≡ sender_of v
+  pub closed : is_write_closed w.state ≡ is_write_closed v.state
+  pub synchronised : is_syn_sent w.state ≡ false
 
 pub receiving_past : (v : View) → is_syn_sent v.state ≡ false → receiving_of v ≡ Synchronised (record { rnext = v.receiving.rnext; kept = nothing_kept })
 receiving_past v past_syn = ap (λ b. if b then Waiting else Synchronised (record { rnext = v.receiving.rnext; kept = nothing_kept })) past_syn
 
+unheard : (cap limit : ℕ) (v : View) (d : Channel) → is_syn_sent v.state ≡ false → ReceivesFrom v d → Heard cap limit v v d
+unheard cap limit v d past_syn from = record {
+  readable = d.readable;
+  end_seen = d.end_seen;
+  from = d.receiving;
+  leads = stays d;
+  receives = from;
+  sender = refl;
+  closed = refl;
+  synchronised = past_syn;
+}
+
 arrives-text : (cap limit : ℕ) (v : View) (s : Segment) (c d : Channel) → v.receiving.rnext < 2 ^ 32 → IsOfWidth s → is_syn_sent v.state ≡ false → ReceivesFrom v d → CameFrom limit s c d
-    → Texted cap limit v (after_text v s) d
+    → Heard cap limit v (after_text v s) d
 arrives-text cap limit v s c d rnext fits past_syn from came =
     let heard = after_octets v.receiving s.number s.octets in
     let w = record v { receiving = heard; owes_ack = true } in
-    either (λ w. Texted cap limit v w d) (length s.octets == 0) v w
-    (λ empty. record { readable = d.readable; from = d.receiving; leads = stays d; receives = from; sender = refl })
+    either (λ w. Heard cap limit v w d) ((length s.octets == 0) || not (is_receiving v.state)) v w
+    (λ none. unheard cap limit v d past_syn from)
     (λ some. record {
       readable = heard.readable;
+      end_seen = d.end_seen;
       from = Synchronised (record { rnext = heard.rnext; kept = nothing_kept });
       leads = one_step cap limit d (record d { readable = heard.readable; receiving = Synchronised (record { rnext = heard.rnext; kept = nothing_kept }) })
           (hears-octets cap limit v d s came.sent_at past_syn (omega (arith, fits.octets)) fits.number rnext from came.frame came.frame_recent);
-      receives = record { receiving = sym (receiving_past w past_syn); readable = refl; unended = from.unended };
+      receives = record { receiving = sym (receiving_past w past_syn); readable = refl; end_seen = from.end_seen };
       sender = refl;
+      closed = refl;
+      synchronised = past_syn;
     })
+
+arrives-fin : (cap limit : ℕ) (v : View) (s : Segment) (d : Channel) (sent_at : ℕ) → v.receiving.rnext < 2 ^ 32 → IsOfWidth s → is_syn_sent v.state ≡ false → ReceivesFrom v d
+    → IsAmong (frame_of s sent_at) d.frames → IsRecent limit d.written sent_at → Heard cap limit v (after_fin v s) d
+arrives-fin cap limit v s d sent_at rnext fits past_syn from among recent =
+    let w = record v { state = beyond_end v.state; receiving = after_end v.receiving; owes_ack = true } in
+    either (λ w. Heard cap limit v w d) (counts_fin v s) w v
+    (λ counts.
+    let first = and_left (s.flags.fin && is_receiving v.state) (stands_next v.receiving ((s.number + length s.octets) % 2 ^ 32)) counts in
+    let next = and_right (s.flags.fin && is_receiving v.state) (stands_next v.receiving ((s.number + length s.octets) % 2 ^ 32)) counts in
+    let fin = and_left s.flags.fin (is_receiving v.state) first in
+    let takes = and_right s.flags.fin (is_receiving v.state) first in
+    let closes = beyond_end_closed v.state takes in
+    let acked = beyond_end_acked v.state takes in
+    record {
+      readable = d.readable;
+      end_seen = true;
+      from = Synchronised (record { rnext = (v.receiving.rnext + 1) % 2 ^ 32; kept = nothing_kept });
+      leads = one_step cap limit d (record d { end_seen = true; receiving = Synchronised (record { rnext = (v.receiving.rnext + 1) % 2 ^ 32; kept = nothing_kept }) })
+          (hears-fin cap limit v d s sent_at past_syn fin next fits.number rnext (from.end_seen ∙ closes.2) from among recent);
+      receives = record { receiving = sym (receiving_past w closes.3); readable = from.readable; end_seen = sym closes.1 };
+      sender = ap (λ b. record (sender_of v) { syn_acked = not b; fin_acked = is_fin_acknowledged (beyond_end v.state) }) acked.1 ∙ ap (λ b. record (sender_of v) { fin_acked = b }) acked.0;
+      closed = closes.0;
+      synchronised = closes.3;
+    })
+    (λ none. unheard cap limit v d past_syn from)
+
+leads_on : (cap limit : ℕ) (c d e : Channel) → Leads cap limit c d → Leads cap limit d e → Leads cap limit c e
+leads_on cap limit _ _ e (stays c) more = more
+leads_on cap limit _ _ e (goes c b d step first) more = goes c b e step (leads_on cap limit b d e first more)
+
+-- the octets, and then the FIN
+arrives-stream : (cap limit : ℕ) (v : View) (s : Segment) (c d : Channel) → v.receiving.rnext < 2 ^ 32 → IsOfWidth s → is_syn_sent v.state ≡ false → ReceivesFrom v d → CameFrom limit s c d
+    → Heard cap limit v (after_fin (after_text v s) s) d
+arrives-stream cap limit v s c d rnext fits past_syn from came =
+    let t = arrives-text cap limit v s c d rnext fits past_syn from came in
+    let e = record d { readable = t.readable; end_seen = t.end_seen; receiving = t.from } in
+    let f = arrives-fin cap limit (after_text v s) s e came.sent_at (text_fits ((length s.octets == 0) || not (is_receiving v.state))) fits t.synchronised t.receives came.frame came.frame_recent in
+    record {
+      readable = f.readable;
+      end_seen = f.end_seen;
+      from = f.from;
+      leads = leads_on cap limit d e (record d { readable = f.readable; end_seen = f.end_seen; receiving = f.from }) t.leads f.leads;
+      receives = record { receiving = f.receives.receiving; readable = f.receives.readable; end_seen = f.receives.end_seen };
+      sender = f.sender ∙ t.sender;
+      closed = f.closed ∙ t.closed;
+      synchronised = f.synchronised;
+    }
+  where
+    text_fits : (none : Bool) → (if none then v else record v { receiving = after_octets v.receiving s.number s.octets; owes_ack = true }).receiving.rnext < 2 ^ 32
+    text_fits true = rnext
+    text_fits false = omega arith
 
 -- the window that is told is no part of a channel
 window_told : (v : View) (s : Segment) → sender_of v ≡ sender_of (after_window v s)
@@ -184,38 +327,37 @@ arrives-acceptable cap limit v s c d sound fits past_syn ack into from came =
     let same_receiving : receiving_of acked ≡ receiving_of v =
     receiving_past acked a.synchronised ∙ (ap (λ (y : ReceivingHalf). Synchronised (record { rnext = y.rnext; kept = nothing_kept })) a.receiving ∙ sym (receiving_past v past_syn)) in
     let same_readable : acked.receiving.readable ≡ v.receiving.readable = ap (λ (y : ReceivingHalf). y.readable) a.receiving in
-    let from' : ReceivesFrom told d = record { receiving = from.receiving ∙ sym same_receiving; readable = from.readable ∙ sym same_readable; unended = from.unended } in
+    let from' : ReceivesFrom told d = record { receiving = from.receiving ∙ sym same_receiving; readable = from.readable ∙ sym same_readable; end_seen = from.end_seen ∙ sym a.end_seen } in
     let rnext : told.receiving.rnext < 2 ^ 32 = subst (λ (y : ReceivingHalf). y.rnext < 2 ^ 32) (sym a.receiving) sound.rnext in
-    either (λ w. Follows cap limit w c d) (is_read_on v s.acknowledgement) (after_text told s) acked
-    (λ on. let t = arrives-text cap limit told s c d rnext fits a.synchronised from' came in record {
+    either (λ w. Follows cap limit w c d) (is_read_on v s.acknowledgement) (after_fin (after_text told s) s) acked
+    (λ on. let t = arrives-stream cap limit told s c d rnext fits a.synchronised from' came in record {
       into = a.into;
       readable = t.readable;
+      end_seen = t.end_seen;
       from = t.from;
       leads_into = a.leads;
       leads_from = t.leads;
-      sends = record { sending = a.sends.sending ∙ told_sender acked s t.sender; unclosed = a.sends.unclosed };
+      sends = record { sending = a.sends.sending ∙ ap (λ x. Open x) (window_told acked s ∙ sym t.sender); closed = a.sends.closed ∙ sym t.closed };
       receives = t.receives;
     })
     (λ off. record {
       into = a.into;
       readable = d.readable;
+      end_seen = d.end_seen;
       from = d.receiving;
       leads_into = a.leads;
       leads_from = stays d;
       sends = a.sends;
-      receives = record { receiving = from.receiving ∙ sym same_receiving; readable = from.readable ∙ sym same_readable; unended = from.unended };
+      receives = record { receiving = from.receiving ∙ sym same_receiving; readable = from.readable ∙ sym same_readable; end_seen = from.end_seen ∙ sym a.end_seen };
     })
-  where
-    told_sender : (w : View) (s : Segment) → sender_of (after_text (after_window w s) s) ≡ sender_of (after_window w s) → Open (sender_of w) ≡ Open (sender_of (after_text (after_window w s) s))
-    told_sender w s e = ap (λ x. Open x) (window_told w s ∙ sym e)
 
 -- a segment, whatever it is
 pub arrives : (cap limit : ℕ) (v : View) (s : Segment) (c d : Channel) → IsSound v → IsOfWidth s → SendsInto v c → ReceivesFrom v d → CameFrom limit s c d → Follows cap limit (after_segment v s) c d
 arrives cap limit v s c d sound fits into from came =
     let P : View → Type 0 = λ w. Follows cap limit w c d in
-    let same = nothing cap limit v v c d refl refl refl into from in
-    let owes = nothing cap limit v (owing_ack v) c d refl refl refl into from in
-    either P (s.flags.rst || s.flags.fin) v _
+    let same = nothing cap limit v v c d refl refl refl refl into from in
+    let owes = nothing cap limit v (owing_ack v) c d refl refl refl refl into from in
+    either P (s.flags.rst || is_closed v.state) v _
     (λ ignored. same)
     (λ read. either P (is_syn_sent v.state) (after_syn_ack v s) _
     (λ waiting. arrives-syn_ack cap limit v s c d sound fits waiting into from came)

@@ -1,17 +1,17 @@
 -- What a connection hears, and what its caller reads, is a step of each of its two channels.
-use Rattle.std.proofs.Common.{◌≡◌, ℕ, zero, suc, ◌+◌, ◌-◌, ◌<◌, ◌≤◌, ◌^◌, ◌%◌, ◌||◌, ◌&&◌, nat_lt, nat_le, if◌then◌else◌, not, Bool, true, false, List, [], ◌∷◌, ◌++◌, length, take, drop, Option, Some, None, inl, inr, arith, refl, sym, ◌∙◌, ap, subst}
+use Rattle.std.proofs.Common.{◌≡◌, ℕ, zero, suc, ◌+◌, ◌-◌, ◌<◌, ◌≤◌, ◌^◌, ◌%◌, ◌||◌, ◌&&◌, ◌==◌, nat_lt, nat_le, if◌then◌else◌, not, Bool, true, false, List, [], ◌∷◌, ◌++◌, length, take, drop, Option, Some, None, inl, inr, arith, refl, sym, ◌∙◌, ap, subst, append-nil}
 use Rattle.std.specs.List.{slice_get}
 use Rattle.std.proofs.lemmas.List.{take-append-drop}
 use Rattle.std.proofs.lemmas.Option.{slice_get_within}
-use Rattle.std.proofs.lemmas.Bool.{leb-true}
+use Rattle.std.proofs.lemmas.Bool.{leb-true, eqb-true}
 use Rattle.std.proofs.lemmas.Bool.Decides.{leb_tells}
 use Rattle.tcp_segment.specs.Wire.{past}
 use Rattle.tcp_segment.specs.Segment.{Segment}
 use Rattle.ipv4.specs.declared.addr.Endpoint.{Endpoint}
 use Rattle.tcp_state.specs.Numbers.{is_before}
-use Rattle.tcp_state.specs.View.{View, is_opening, is_syn_sent, opened_actively}
+use Rattle.tcp_state.specs.View.{View, is_opening, is_syn_sent, is_fin_acknowledged, opened_actively}
 use Rattle.tcp_state.specs.Halves.{Sending as SendingHalf, Receiving as ReceivingHalf}
-use Rattle.tcp_state.specs.Stream.{outstanding, is_new_ack, after_acknowledged, gained, after_octets, receive_window}
+use Rattle.tcp_state.specs.Stream.{outstanding, is_new_ack, after_acknowledged, gained, after_octets, receive_window, stands_next}
 use Rattle.tcp_state.specs.Calls.{moved}
 use Rattle.stream_law.specs.Channel.{Receiver, Unopened, Open, Waiting, Synchronised, Channel, IsAmong, number_of, IsKnown, IsRecent}
 use Rattle.stream_law.specs.ChannelSteps.{Step, opens, synchronises, delivers, acknowledges, octets_up_to, reads, nothing_kept}
@@ -83,6 +83,43 @@ hears-octets cap limit v d s written_at synchronised short number rnext shows am
     or-false true = refl
     or-false false = refl
 
+as_it_was : {a : Bool} (b : Bool) → a ≡ false → (b || a) ≡ b
+as_it_was true e = refl
+as_it_was false e = e
+
+or_true : {a : Bool} (b : Bool) → a ≡ true → (b || a) ≡ true
+or_true true e = refl
+or_true false e = e
+
+is_past : (a b : ℕ) → a < b → nat_lt a b ≡ true
+is_past a b lt = elim (leb_tells (suc a) b) [ inl t ↦ t.0 | inr t ↦ absurd (omega (arith, t.1, lt)) ]
+
+-- the peer's FIN, which stands next in order
+pub hears-fin : (cap limit : ℕ) (v : View) (d : Channel) (s : Segment) (written_at : ℕ) → is_syn_sent v.state ≡ false → s.flags.fin ≡ true → stands_next v.receiving ((s.number + length s.octets) % 2 ^ 32) ≡ true
+    → s.number < 2 ^ 32 → v.receiving.rnext < 2 ^ 32 → d.end_seen ≡ false
+    → ReceivesFrom v d → IsAmong (frame_of s written_at) d.frames → IsRecent limit d.written written_at
+    → Step cap limit d (record d { end_seen = true; receiving = Synchronised (record { rnext = (v.receiving.rnext + 1) % 2 ^ 32; kept = nothing_kept }) })
+hears-fin cap limit v d s written_at synchronised fin next number rnext unseen shows among recent =
+    let y : Receiver = record { rnext = v.receiving.rnext; kept = nothing_kept } in
+    let none : List ℕ = [] in
+    let is : d.receiving ≡ Synchronised y = shows.receiving ∙ ap (λ b. if b then Waiting else Synchronised y) synchronised in
+    let place : (s.number + length s.octets) % 2 ^ 32 ≡ v.receiving.rnext = eqb-true ((s.number + length s.octets) % 2 ^ 32) v.receiving.rnext (first_of ((s.number + length s.octets) % 2 ^ 32 == v.receiving.rnext) (nat_lt 0 (receive_window v.receiving)) next) in
+    let reach : past (s.number + length s.octets) y.rnext ≡ 0 = at_hand s.number (length s.octets) v.receiving.rnext place rnext in
+    let same_end : (d.end_seen || true) ≡ true = or_true d.end_seen refl in
+    let step = delivers d y (frame_of s written_at) none nothing_kept true is among recent
+    (λ i o e. let bad : slice_get none i ≡ Some o = e in cc)
+    (λ i o e. let nothing : Option ℕ = None in let bad : nothing ≡ Some o = e in cc)
+    (λ e. (fin, unseen, reach)) in
+    subst (λ l. Step cap limit d (record d { readable = l; end_seen = true; receiving = Synchronised (record { rnext = (v.receiving.rnext + 1) % 2 ^ 32; kept = nothing_kept }) })) (append-nil d.readable)
+    (subst (λ b. Step cap limit d (record d { readable = d.readable ++ none; end_seen = b; receiving = Synchronised (record { rnext = (v.receiving.rnext + 1) % 2 ^ 32; kept = nothing_kept }) })) same_end step)
+  where
+    first_of : (a b : Bool) → (a && b) ≡ true → a ≡ true
+    first_of true b e = refl
+    first_of false b e = e
+
+    at_hand : (number len rnext : ℕ) → (number + len) % 2 ^ 32 ≡ rnext → rnext < 2 ^ 32 → past (number + len) rnext ≡ 0
+    at_hand number len rnext e fits = omega (arith, e, fits)
+
 not_past : (a b : ℕ) → b ≤ a → nat_lt a b ≡ false
 not_past a b le = elim (leb_tells (suc a) b) [ inl t ↦ absurd (omega (arith, t.1, le)) | inr t ↦ t.0 ]
 
@@ -104,18 +141,35 @@ hears-ack cap limit v c s written_at opened flight held new shows among recent =
     let bounds = bounds_of v.sending ack new in
     let count : octets_up_to w ack ≡ past ack v.sending.una = ap (λ b. past ack v.sending.una - number_of (if b then false else true)) acked ∙ omega arith in
     let held' : drop (octets_up_to w ack) w.held ≡ drop (past ack v.sending.una) v.sending.held = ap (λ n. drop n w.held) count in
-    let no_fin : (false || nat_lt (length w.held) (octets_up_to w ack)) ≡ false = not_past (length w.held) (octets_up_to w ack) (omega (arith, count, bounds.1, flight)) in
+    let no_fin : (w.fin_acked || nat_lt (length w.held) (octets_up_to w ack)) ≡ w.fin_acked = as_it_was w.fin_acked (not_past (length w.held) (octets_up_to w ack) (omega (arith, count, bounds.1, flight))) in
     let step = acknowledges c w (ack_of s written_at) shows.sending among recent bounds.0 (omega (arith, bounds.1, flight, held)) in
     subst (λ l. Step cap limit c (record c { sending = Open (record w { held = l; una = ack }) })) held'
     (subst (λ b. Step cap limit c (record c { sending = Open (record w { held = drop (octets_up_to w ack) w.held; una = ack; syn_acked = b }) })) (sym acked)
     (subst (λ b. Step cap limit c (record c { sending = Open (record w { held = drop (octets_up_to w ack) w.held; una = ack; syn_acked = true; fin_acked = b }) })) no_fin step))
 
+-- an acknowledgement of our FIN, the one number that is outstanding
+pub hears-fin_ack : (cap limit : ℕ) (v : View) (c : Channel) (s : Segment) (written_at : ℕ) → is_opening v.state ≡ false → length v.sending.held ≡ 0 → outstanding v.sending ≤ 1
+    → is_new_ack v.sending s.acknowledgement ≡ true → SendsInto v c → IsAmong (ack_of s written_at) c.acks → IsRecent limit c.written written_at
+    → Step cap limit c (record c { sending = Open (record (sender_of v) { held = (after_acknowledged v.sending s.acknowledgement).held; una = (after_acknowledged v.sending s.acknowledgement).una; fin_acked = true }) })
+hears-fin_ack cap limit v c s written_at opened empty flight new shows among recent =
+    let w = sender_of v in
+    let ack = s.acknowledgement in
+    let acked : w.syn_acked ≡ true = ap not opened in
+    let bounds = bounds_of v.sending ack new in
+    let count : octets_up_to w ack ≡ past ack v.sending.una = ap (λ b. past ack v.sending.una - number_of (if b then false else true)) acked ∙ omega arith in
+    let held' : drop (octets_up_to w ack) w.held ≡ drop (past ack v.sending.una) v.sending.held = ap (λ n. drop n w.held) count in
+    let fin : (w.fin_acked || nat_lt (length w.held) (octets_up_to w ack)) ≡ true = or_true w.fin_acked (is_past (length w.held) (octets_up_to w ack) (omega (arith, count, bounds.0, empty))) in
+    let step = acknowledges c w (ack_of s written_at) shows.sending among recent bounds.0 (omega (arith, bounds.1, flight)) in
+    subst (λ l. Step cap limit c (record c { sending = Open (record w { held = l; una = ack; fin_acked = true }) })) held'
+    (subst (λ b. Step cap limit c (record c { sending = Open (record w { held = drop (octets_up_to w ack) w.held; una = ack; syn_acked = b; fin_acked = true }) })) (sym acked)
+    (subst (λ b. Step cap limit c (record c { sending = Open (record w { held = drop (octets_up_to w ack) w.held; una = ack; syn_acked = true; fin_acked = b }) })) fin step))
+
 -- our SYN is acknowledged, the one number that is outstanding
-pub hears-syn_ack : (cap limit : ℕ) (v : View) (c : Channel) (s : Segment) (written_at : ℕ) → is_opening v.state ≡ true → outstanding v.sending ≤ 1
+pub hears-syn_ack : (cap limit : ℕ) (v : View) (c : Channel) (s : Segment) (written_at : ℕ) → is_opening v.state ≡ true → is_fin_acknowledged v.state ≡ false → outstanding v.sending ≤ 1
     → v.sending.una < 2 ^ 32 → v.sending.nxt < 2 ^ 32 → s.acknowledgement < 2 ^ 32
     → is_new_ack v.sending s.acknowledgement ≡ true → SendsInto v c → IsAmong (ack_of s written_at) c.acks → IsRecent limit c.written written_at
-    → Step cap limit c (record c { sending = Open (record (sender_of v) { una = v.sending.nxt; syn_acked = true }) })
-hears-syn_ack cap limit v c s written_at opening flight una nxt ack_fits new shows among recent =
+    → Step cap limit c (record c { sending = Open (record (sender_of v) { una = v.sending.nxt; syn_acked = true; fin_acked = false }) })
+hears-syn_ack cap limit v c s written_at opening unfinished flight una nxt ack_fits new shows among recent =
     let w = sender_of v in
     let ack = s.acknowledgement in
     let unacked : w.syn_acked ≡ false = ap not opening in
@@ -123,10 +177,10 @@ hears-syn_ack cap limit v c s written_at opening flight una nxt ack_fits new sho
     let count : octets_up_to w ack ≡ 0 = ap (λ b. past ack v.sending.una - number_of (if b then false else true)) unacked ∙ omega (arith, bounds.1, flight) in
     let held' : drop (octets_up_to w ack) w.held ≡ v.sending.held = ap (λ n. drop n w.held) count in
     let una' : ack ≡ v.sending.nxt = omega (arith, bounds.0, bounds.1, flight, una, nxt, ack_fits) in
-    let no_fin : (false || nat_lt (length w.held) (octets_up_to w ack)) ≡ false = not_past (length w.held) (octets_up_to w ack) (omega (arith, count)) in
+    let no_fin : (w.fin_acked || nat_lt (length w.held) (octets_up_to w ack)) ≡ false = as_it_was w.fin_acked (not_past (length w.held) (octets_up_to w ack) (omega (arith, count))) ∙ unfinished in
     let step = acknowledges c w (ack_of s written_at) shows.sending among recent bounds.0 (omega (arith, bounds.1, flight)) in
-    subst (λ n. Step cap limit c (record c { sending = Open (record w { una = n; syn_acked = true }) })) una'
-    (subst (λ l. Step cap limit c (record c { sending = Open (record w { held = l; una = ack; syn_acked = true }) })) held'
+    subst (λ n. Step cap limit c (record c { sending = Open (record w { una = n; syn_acked = true; fin_acked = false }) })) una'
+    (subst (λ l. Step cap limit c (record c { sending = Open (record w { held = l; una = ack; syn_acked = true; fin_acked = false }) })) held'
     (subst (λ b. Step cap limit c (record c { sending = Open (record w { held = drop (octets_up_to w ack) w.held; una = ack; syn_acked = true; fin_acked = b }) })) no_fin step))
 
 -- the peer's SYN arrives where it is waited for

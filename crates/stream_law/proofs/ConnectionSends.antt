@@ -1,11 +1,11 @@
 -- What a connection takes from its caller, and what it sends, is a step of each of its two channels.
-use Rattle.std.proofs.Common.{◌≡◌, ℕ, ◌+◌, ◌<◌, ◌≤◌, ◌^◌, ◌%◌, min, if◌then◌else◌, not, Bool, true, false, List, [], ◌∷◌, ◌++◌, length, take, drop, arith, refl, sym, ◌∙◌, ap, subst, length-append}
+use Rattle.std.proofs.Common.{◌≡◌, ℕ, ◌+◌, ◌<◌, ◌≤◌, ◌^◌, ◌%◌, ◌||◌, ◌&&◌, ◌==◌, min, if◌then◌else◌, not, Bool, true, false, List, [], ◌∷◌, ◌++◌, length, take, drop, arith, refl, sym, ◌∙◌, ap, subst, length-append}
 use Rattle.std.proofs.lemmas.List.{length-take, take-append-drop}
 use Rattle.tcp_segment.specs.Wire.{past}
 use Rattle.tcp_segment.specs.Sent.{sent}
 use Rattle.tcp_state.specs.declared.moment.Moment.{Moment}
-use Rattle.tcp_state.specs.declared.emission.Due.TheVariants.{Syn, Text}
-use Rattle.tcp_state.specs.View.{View, is_opening, is_syn_sent, is_syn_received}
+use Rattle.tcp_state.specs.declared.emission.Due.TheVariants.{Syn, Text, Fin}
+use Rattle.tcp_state.specs.View.{View, is_opening, is_syn_sent, is_syn_received, is_fin_acknowledged, is_write_closed, awaits_fin_ack}
 use Rattle.tcp_state.specs.Stream.{outstanding}
 use Rattle.tcp_state.specs.Calls.{taken, after_send}
 use Rattle.tcp_state.specs.Due.{head_of, octets_of, after_emitted, after_ack_paid, after_numbers}
@@ -15,18 +15,22 @@ use Rattle.stream_law.specs.ChannelViews.{sender_of, SendsInto, ReceivesFrom, fr
 use Rattle.stream_law.proofs.KeepingText.{chosen}
 
 -- octets that the caller gives are written
-pub sends : (cap limit : ℕ) (v : View) (c : Channel) (octets : List ℕ) → 65535 ≤ cap → is_opening v.state ≡ false → length v.sending.held ≤ 65535 → SendsInto v c
+pub sends : (cap limit : ℕ) (v : View) (c : Channel) (octets : List ℕ) → 65535 ≤ cap → is_opening v.state ≡ false → is_write_closed v.state ≡ false → length v.sending.held ≤ 65535 → SendsInto v c
     → Step cap limit c (record c { written = c.written ++ take (taken v octets) octets; sending = Open (sender_of (after_send v octets)) })
-sends cap limit v c octets room opened held shows =
+sends cap limit v c octets room opened unclosed held shows =
     let more = take (taken v octets) octets in
     let s = sender_of v in
     let len : length more ≡ min (taken v octets) (length octets) = length-take (taken v octets) octets in
     let fits : length (s.held ++ more) ≤ cap = omega (arith, length-append s.held more, len, room, held) in
-    subst (λ w. Step cap limit c (record c { written = c.written ++ more; sending = Open w })) (same (is_opening v.state) opened)
-    (writes c s more shows.sending shows.unclosed fits)
+    subst (λ w. Step cap limit c (record c { written = c.written ++ more; sending = Open w })) (same (is_opening v.state || is_write_closed v.state) (neither (is_opening v.state) (is_write_closed v.state) opened unclosed))
+    (writes c s more shows.sending (shows.closed ∙ unclosed) fits)
   where
     with_more : View
     with_more = record v { sending = record v.sending { held = v.sending.held ++ take (taken v octets) octets } }
+
+    neither : (a b : Bool) → a ≡ false → b ≡ false → (a || b) ≡ false
+    neither true b e f = e
+    neither false b e f = f
 
     same : (opening : Bool) → opening ≡ false → record (sender_of v) { held = v.sending.held ++ take (taken v octets) octets } ≡ sender_of (if opening then v else with_more)
     same true e = let bad : true ≡ false = e in cc
@@ -49,13 +53,13 @@ emits-syn cap limit v c now opening shows =
     same false = refl
 
 -- what is outstanding, or where nothing is the next octets, go out
-pub emits-text : (cap limit : ℕ) (v : View) (c : Channel) (now : Moment) (count : ℕ) → is_opening v.state ≡ false → v.sending.una < 2 ^ 32 → outstanding v.sending ≤ count → count ≤ length v.sending.held
+pub emits-text : (cap limit : ℕ) (v : View) (c : Channel) (now : Moment) (count : ℕ) → is_opening v.state ≡ false → is_fin_acknowledged v.state ≡ false → v.sending.una < 2 ^ 32 → outstanding v.sending ≤ count → count ≤ length v.sending.held
     → count ≤ 1460 → SendsInto v c
     → Step cap limit c (record c {
       sending = Open (sender_of (after_emitted v (Text count) now));
       frames = frame_of (sent (head_of v (Text count)) (octets_of v (Text count))) (length c.written) ∷ c.frames;
     })
-emits-text cap limit v c now count opened una whole held small shows =
+emits-text cap limit v c now count opened unfinished una whole held small shows =
     let s = sender_of v in
     let octets = take count s.held in
     let none : List ℕ = [] in
@@ -68,7 +72,7 @@ emits-text cap limit v c now count opened una whole held small shows =
     ap (later s.una s.nxt) end
     ∙ chosen (past s.nxt s.una) (past ((s.una + count) % 2 ^ 32) s.una) s.nxt ((s.una + count) % 2 ^ 32) ((s.una + count) % 2 ^ 32) (λ le. refl)
     (λ lt. let reach : past ((s.una + count) % 2 ^ 32) s.una ≡ count = omega (arith, una, small) in absurd (omega (arith, lt, reach, whole))) in
-    let step = emits_text c s none octets (drop count s.held) false shows.sending acked refl cut (λ e. let bad : false ≡ true = e in cc) in
+    let step = emits_text c s none octets (drop count s.held) false shows.sending acked unfinished cut (λ e. let bad : false ≡ true = e in cc) in
     subst (λ n. Step cap limit c (record c {
       sending = Open (record s { nxt = n });
       frames = frame_of (sent (head_of v (Text count)) (octets_of v (Text count))) (length c.written) ∷ c.frames;
@@ -76,6 +80,33 @@ emits-text cap limit v c now count opened una whole held small shows =
     (subst (λ n. Step cap limit c (record c {
       sending = Open (record s { nxt = later s.una s.nxt ((s.una + (length none + span octets false)) % 2 ^ 32) });
       frames = record { number = n; octets = octets; syn = false; fin = false; written_at = length c.written } ∷ c.frames;
+    })) first step)
+
+-- the FIN goes out behind all octets, first or again
+pub emits-fin : (cap limit : ℕ) (v : View) (c : Channel) (now : Moment) → is_opening v.state ≡ false → is_fin_acknowledged v.state ≡ false → is_write_closed v.state ≡ true → v.sending.held ≡ []
+    → v.sending.una < 2 ^ 32 → outstanding v.sending ≤ 1 → SendsInto v c
+    → Step cap limit c (record c {
+      sending = Open (sender_of (after_emitted v Fin now));
+      frames = frame_of (sent (head_of v Fin) (octets_of v Fin)) (length c.written) ∷ c.frames;
+    })
+emits-fin cap limit v c now opened unfinished closed empty una whole shows =
+    let s = sender_of v in
+    let none : List ℕ = [] in
+    let acked : s.syn_acked ≡ true = ap not opened in
+    let first : (s.una + length none) % 2 ^ 32 ≡ s.una = omega (arith, una) in
+    let end : (s.una + (length none + span none true)) % 2 ^ 32 ≡ (s.una + 1) % 2 ^ 32 = refl in
+    let next : later s.una s.nxt ((s.una + (length none + span none true)) % 2 ^ 32) ≡ (s.una + 1) % 2 ^ 32 =
+    ap (later s.una s.nxt) end
+    ∙ chosen (past s.nxt s.una) (past ((s.una + 1) % 2 ^ 32) s.una) s.nxt ((s.una + 1) % 2 ^ 32) ((s.una + 1) % 2 ^ 32) (λ le. refl)
+    (λ lt. let reach : past ((s.una + 1) % 2 ^ 32) s.una ≡ 1 = omega (arith, una) in absurd (omega (arith, lt, reach, whole))) in
+    let step = emits_text c s none none none true shows.sending acked unfinished empty (λ e. (shows.closed ∙ closed, refl)) in
+    subst (λ n. Step cap limit c (record c {
+      sending = Open (record s { nxt = n });
+      frames = frame_of (sent (head_of v Fin) (octets_of v Fin)) (length c.written) ∷ c.frames;
+    })) next
+    (subst (λ n. Step cap limit c (record c {
+      sending = Open (record s { nxt = later s.una s.nxt ((s.una + (length none + span none true)) % 2 ^ 32) });
+      frames = record { number = n; octets = none; syn = false; fin = true; written_at = length c.written } ∷ c.frames;
     })) first step)
 
 -- a segment with ACK acknowledges

@@ -24,9 +24,9 @@ behind_window : (y : ReceivingHalf) (number : ℕ) → ReceivingFits y → 65535
 behind_window y number fits far = elim (leb_tells (suc (past number y.rnext)) (receive_window y)) [ inl t ↦ absurd (omega (arith, t.1, fits, far)) | inr t ↦ t.0 ]
 
 -- the SYN of a synchronised peer is not acceptable
-syn_refused : (cap limit : ℕ) → Near cap limit → (v : View) (s : Segment) (d : Channel) (sent_at : ℕ) → IsSound v → is_syn_sent v.state ≡ false → s.flags.syn ≡ true → s.flags.fin ≡ false → Holds cap d
+syn_refused : (cap limit : ℕ) → Near cap limit → (v : View) (s : Segment) (d : Channel) (sent_at : ℕ) → IsSound v → is_syn_sent v.state ≡ false → s.flags.syn ≡ true → Holds cap d
     → ReceivesFrom v d → IsAmong (frame_of s sent_at) d.frames → IsRecent limit d.written sent_at → is_accepted v s ≡ false
-syn_refused cap limit small v s d sent_at sound past_syn syn fin h shows among recent =
+syn_refused cap limit small v s d sent_at sound past_syn syn h shows among recent =
     let y : Receiver = record { rnext = v.receiving.rnext; kept = nothing_kept } in
     let is : d.receiving ≡ Synchronised y = shows.receiving ∙ receiving_past v past_syn in
     let w : ReceiverFits h.isn d.written (d.read ++ d.readable) d.end_seen y h.r h.n = subst (λ x. HalfFits h.isn d.written (d.read ++ d.readable) d.end_seen x h.r h.n) is h.receiving in
@@ -35,6 +35,7 @@ syn_refused cap limit small v s d sent_at sound past_syn syn fin h shows among r
     let one = number_of-le d.closed in
     let first = k.syn syn in
     let none : length s.octets ≡ 0 = ap length first.1 in
+    let fin : s.flags.fin ≡ false = never s.flags.fin (λ e. let last = (k.fin e).1 in omega (arith, last, first.0, none)) in
     let span : span_of s ≡ suc 0 = omega (arith, none, ap (λ b. bit b 1) syn, ap (λ b. bit b 1) fin) in
     let far : 65535 < past s.number v.receiving.rnext = far_behind h.isn h.r s.number v.receiving.rnext
     (omega (arith, w.position)) (omega (arith, o.sent, o.written_first, recent, k.within, first.0, small.buffer, small.recency, one)) (k.number ∙ ap (wire h.isn) first.0) w.rnext in
@@ -42,6 +43,10 @@ syn_refused cap limit small v s d sent_at sound past_syn syn fin h shows among r
     let same : (s.number + 0) % 2 ^ 32 ≡ s.number = small_number h.isn k.at s.number k.number in
     ap (is_acceptable v.receiving s.number) span ∙ (ap (λ b. b || is_in_window v.receiving ((s.number + 0) % 2 ^ 32)) out ∙ (ap (is_in_window v.receiving) same ∙ out))
   where
+    never : (b : Bool) → (b ≡ true → ⊥) → b ≡ false
+    never true bad = absurd (bad refl)
+    never false bad = refl
+
     far_behind : (isn r number rnext : ℕ) → 1 ≤ r → r < 2 ^ 31 → number ≡ wire isn 0 → rnext ≡ wire isn r → 65535 < past number rnext
     far_behind isn r number rnext some near is_number is_rnext = omega (arith, some, near, is_number, is_rnext)
 
@@ -52,10 +57,6 @@ not_true : (b : Bool) → not b ≡ true → b ≡ false
 not_true true e = cc
 not_true false e = refl
 
-or_none_right : (a b : Bool) → (a || b) ≡ false → b ≡ false
-or_none_right true b e = cc
-or_none_right false b e = e
-
 -- A segment that came in time from the other end never takes a connection out: the SYN that would is far behind what was received.
 pub fate-stays : (cap limit : ℕ) → Near cap limit → (p : Pairing) (v : View) (e : Emission) → p.own.connection ≡ Some v → IsSound v → IsAmong e p.received → IsTimely limit p e → Shown cap limit p → fate v e.segment ≡ Stays
 fate-stays cap limit small p v e is sound among timely h =
@@ -63,17 +64,15 @@ fate-stays cap limit small p v e is sound among timely h =
     let k = connected p.own.connection v h.into h.from is h.own.connection in
     let q = h.received e among in
     let recent = subst (λ l. length l < e.own_written + limit) (sym h.other.written) timely.other in
-    stays_by (not (s.flags.rst || s.flags.fin) && not (is_syn_sent v.state) && ends_by_syn v s) (λ t.
-    let both = and_left (not (s.flags.rst || s.flags.fin)) (not (is_syn_sent v.state)) (and_left (not (s.flags.rst || s.flags.fin) && not (is_syn_sent v.state)) (ends_by_syn v s) t) in
-    let other = and_right (not (s.flags.rst || s.flags.fin)) (not (is_syn_sent v.state)) (and_left (not (s.flags.rst || s.flags.fin) && not (is_syn_sent v.state)) (ends_by_syn v s) t) in
-    let ends = and_right (not (s.flags.rst || s.flags.fin) && not (is_syn_sent v.state)) (ends_by_syn v s) t in
-    let fin = or_none_right s.flags.rst s.flags.fin (not_true (s.flags.rst || s.flags.fin) both) in
+    stays_by (not s.flags.rst && not (is_syn_sent v.state) && ends_by_syn v s) (λ t.
+    let other = and_right (not s.flags.rst) (not (is_syn_sent v.state)) (and_left (not s.flags.rst && not (is_syn_sent v.state)) (ends_by_syn v s) t) in
+    let ends = and_right (not s.flags.rst && not (is_syn_sent v.state)) (ends_by_syn v s) t in
     let past_syn = not_true (is_syn_sent v.state) other in
     let three = and_left (is_accepted v s && s.flags.syn && v.passive) (is_syn_received v.state) ends in
     let two = and_left (is_accepted v s && s.flags.syn) v.passive three in
     let accepted = and_left (is_accepted v s) s.flags.syn two in
     let syn = and_right (is_accepted v s) s.flags.syn two in
-    let refused = syn_refused cap limit small v s h.from e.own_written sound past_syn syn fin (holds cap limit small h.from h.runs_from) k.receives q.frame recent in
+    let refused = syn_refused cap limit small v s h.from e.own_written sound past_syn syn (holds cap limit small h.from h.runs_from) k.receives q.frame recent in
     let bad : true ≡ false = sym accepted ∙ refused in cc)
   where
     stays_by : (ends : Bool) → (ends ≡ true → ⊥) → (if ends then Removed else Stays) ≡ Stays
@@ -96,7 +95,7 @@ moves-hears cap limit small p v e is sound among timely h =
     } in
     let f = arrives cap limit v s h.into h.from sound q.width k.sends k.receives came in
     let into' : Channel = record h.into { sending = f.into } in
-    let from' : Channel = record h.from { readable = f.readable; receiving = f.from } in
+    let from' : Channel = record h.from { readable = f.readable; end_seen = f.end_seen; receiving = f.from } in
     let stays = fate-stays cap limit small p v e is sound among timely h in
     record {
       into = into';
@@ -105,12 +104,16 @@ moves-hears cap limit small p v e is sound among timely h =
       runs_from = runs_on cap limit h.from from' h.runs_from f.leads_from;
       own = record {
         written = h.own.written;
+        closed = h.own.closed;
         read = h.own.read;
+        ended = h.own.ended;
         connection = subst (λ x. ConnectionFits (remains x (after_segment v s)) into' from') (sym stays) (record { sends = f.sends; receives = f.receives });
       };
       other = record {
         written = h.other.written;
+        closed = h.other.closed;
         read = h.other.read;
+        ended = h.other.ended;
         connection = other_stays p.other.connection h.from h.into from' into' refl refl refl refl refl refl h.other.connection;
       };
       sent = λ e among. let r = h.sent e among in record { frame = r.frame; ack = r.ack; width = r.width };

@@ -1,22 +1,24 @@
 -- A segment that goes out is steps of the two channels.
-use Rattle.std.proofs.Common.{◌≡◌, ℕ, ◌≤◌, ◌||◌, ◌&&◌, ◌==◌, nat_lt, if◌then◌else◌, Bool, true, false, List, [], ◌∷◌, length, Option, Some, None, arith, refl, sym, ◌∙◌, ap, subst}
+use Rattle.std.proofs.Common.{◌≡◌, ℕ, ◌<◌, ◌≤◌, not, ◌||◌, ◌&&◌, ◌==◌, nat_lt, if◌then◌else◌, Bool, true, false, List, [], ◌∷◌, length, Option, Some, None, arith, refl, sym, ◌∙◌, ap, subst}
 use Rattle.std.proofs.lemmas.Bool.{eqb-true}
 use Rattle.tcp_segment.specs.Segment.{Segment}
 use Rattle.tcp_segment.specs.Sent.{sent}
 use Rattle.tcp_state.specs.declared.emission.Due.{Due}
-use Rattle.tcp_state.specs.declared.emission.Due.TheVariants.{Syn, Text, Ack as AckAlone}
+use Rattle.tcp_state.specs.declared.emission.Due.TheVariants.{Syn, Text, Fin, Ack as AckAlone}
 use Rattle.tcp_state.specs.declared.moment.Moment.{Moment}
 use Rattle.tcp_state.specs.declared.state.State.{State}
-use Rattle.tcp_state.specs.declared.state.State.TheVariants.{SynSent, SynReceived}
-use Rattle.tcp_state.specs.View.{View, IsSound, is_opening, is_syn_sent, is_syn_received, is_due}
+use Rattle.tcp_state.specs.declared.state.State.TheVariants.{SynSent, SynReceived, FinWait1, Closing, LastAck}
+use Rattle.tcp_state.specs.View.{View, IsSound, is_opening, is_syn_sent, is_syn_received, is_closed, is_write_closed, is_end_seen, is_fin_acknowledged, awaits_fin_ack, is_due}
 use Rattle.tcp_state.specs.Stream.{outstanding}
 use Rattle.tcp_state.specs.Windows.{sendable}
 use Rattle.tcp_state.specs.Due.{MayGoOut, first_due, head_of, octets_of, after_emitted, after_ack_paid, after_numbers}
+use Rattle.tcp_state.specs.Arrival.{is_fin_next}
 use Rattle.stream_law.specs.Channel.{Channel, Ack, Open, IsAmong, here, there}
 use Rattle.stream_law.specs.ChannelSteps.{Step, steps, emits_bare}
 use Rattle.stream_law.specs.ChannelViews.{Leads, stays, goes, sender_of, receiving_of, SendsInto, ReceivesFrom, IsOfWidth, frame_of, ack_of}
 use Rattle.stream_law.specs.Pairing.{Emission, Pairing, with_connection}
-use Rattle.stream_law.proofs.ConnectionSends.{emits-syn, emits-text, emits-ack}
+use Rattle.stream_law.proofs.ConnectionSends.{emits-syn, emits-text, emits-fin, emits-ack}
+use Rattle.stream_law.proofs.ConnectionArrival.{and_left, and_right, fin_flight}
 use Rattle.stream_law.proofs.PairingInvariant.{Shown, runs_on, other_stays, connected}
 
 -- the acknowledgement that a segment carries joins those of the channel from which the end receives
@@ -55,25 +57,29 @@ opened_past SynSent e = cc
 opened_past SynReceived e = cc
 opened_past _ e = refl
 
--- what goes out first covers all that is outstanding
-text_covers : (opening again none more owes unsent : Bool) (o few count : ℕ) → (none ≡ true → o ≡ 0)
-    → (if opening then (if unsent then Some Syn else (if owes then Some AckAlone else None)) else if again then Some (Text o) else if none && more then Some (Text few) else (if owes then Some AckAlone else None)) ≡ Some (Text count)
+-- where a segment of octets goes out first, it covers all that is outstanding
+text_covers : (opening repeats none more owes unsent fin : Bool) (o few count : ℕ) → (none ≡ true → o ≡ 0)
+    → (if opening then (if unsent then Some Syn else (if owes then Some AckAlone else None)) else if repeats then Some (if fin then Fin else Text o)
+    else if not none then (if owes then Some AckAlone else None) else if more then Some (Text few) else if fin then Some Fin else (if owes then Some AckAlone else None)) ≡ Some (Text count)
     → o ≤ count
-text_covers true again none more owes true o few count empty e = let bad : Some Syn ≡ Some (Text count) = e in cc
-text_covers true again none more true false o few count empty e = let bad : Some AckAlone ≡ Some (Text count) = e in cc
-text_covers true again none more false false o few count empty e = let nothing : Option Due = None in let bad : nothing ≡ Some (Text count) = e in cc
-text_covers false true none more owes unsent o few count empty e = let same : Some (Text o) ≡ Some (Text count) = e in let is : o ≡ count = cc in omega (arith, is)
-text_covers false false true true owes unsent o few count empty e = let is = empty refl in omega (arith, is)
-text_covers false false true false true unsent o few count empty e = let bad : Some AckAlone ≡ Some (Text count) = e in cc
-text_covers false false true false false unsent o few count empty e = let nothing : Option Due = None in let bad : nothing ≡ Some (Text count) = e in cc
-text_covers false false false more true unsent o few count empty e = let bad : Some AckAlone ≡ Some (Text count) = e in cc
-text_covers false false false more false unsent o few count empty e = let nothing : Option Due = None in let bad : nothing ≡ Some (Text count) = e in cc
+text_covers true repeats none more owes true fin o few count empty e = let bad : Some Syn ≡ Some (Text count) = e in cc
+text_covers true repeats none more true false fin o few count empty e = let bad : Some AckAlone ≡ Some (Text count) = e in cc
+text_covers true repeats none more false false fin o few count empty e = let nothing : Option Due = None in let bad : nothing ≡ Some (Text count) = e in cc
+text_covers false true none more owes unsent true o few count empty e = let bad : Some Fin ≡ Some (Text count) = e in cc
+text_covers false true none more owes unsent false o few count empty e = let same : Some (Text o) ≡ Some (Text count) = e in let is : o ≡ count = cc in omega (arith, is)
+text_covers false false true true owes unsent fin o few count empty e = let is = empty refl in omega (arith, is)
+text_covers false false true false owes unsent true o few count empty e = let bad : Some Fin ≡ Some (Text count) = e in cc
+text_covers false false true false true unsent false o few count empty e = let bad : Some AckAlone ≡ Some (Text count) = e in cc
+text_covers false false true false false unsent false o few count empty e = let nothing : Option Due = None in let bad : nothing ≡ Some (Text count) = e in cc
+text_covers false false false more true unsent fin o few count empty e = let bad : Some AckAlone ≡ Some (Text count) = e in cc
+text_covers false false false more false unsent fin o few count empty e = let nothing : Option Due = None in let bad : nothing ≡ Some (Text count) = e in cc
 
 -- what became of the sending half, when this view became that one and a segment went out
 record Went (cap limit : ℕ) (v w : View) (into : Channel) (s : Segment) : Type 0 where
   pub step : Step cap limit into (record into { sending = Open (sender_of w); frames = frame_of s (length into.written) ∷ into.frames })
   pub receiving : receiving_of w ≡ receiving_of v
   pub readable : w.receiving.readable ≡ v.receiving.readable
+  pub state : w.state ≡ v.state
   pub acknowledges : s.flags.ack ≡ true → (is_syn_sent v.state ≡ false) × (s.acknowledgement ≡ v.receiving.rnext)
 
 -- the same seen from both ends
@@ -99,15 +105,19 @@ assembled cap limit p v w s width is h went =
       runs_from = runs_on cap limit h.from from' h.runs_from paid.leads;
       own = record {
         written = h.own.written;
+        closed = h.own.closed;
         read = h.own.read;
+        ended = h.own.ended;
         connection = record {
-          sends = record { sending = refl; unclosed = k.sends.unclosed };
-          receives = record { receiving = k.receives.receiving ∙ sym went.receiving; readable = k.receives.readable ∙ sym went.readable; unended = k.receives.unended };
+          sends = record { sending = refl; closed = k.sends.closed ∙ ap is_write_closed (sym went.state) };
+          receives = record { receiving = k.receives.receiving ∙ sym went.receiving; readable = k.receives.readable ∙ sym went.readable; end_seen = k.receives.end_seen ∙ ap is_end_seen (sym went.state) };
         };
       };
       other = record {
         written = h.other.written;
+        closed = h.other.closed;
         read = h.other.read;
+        ended = h.other.ended;
         connection = other_stays p.other.connection h.from h.into from' into' refl refl refl refl refl refl h.other.connection;
       };
       sent = emissions new p.sent (record { frame = here f h.into.frames; ack = paid.among; width = width })
@@ -124,6 +134,7 @@ went-syn cap limit v into now opening shows = record {
   step = emits-syn cap limit v into now opening shows;
   receiving = same_receiving (is_syn_received v.state);
   readable = same_readable (is_syn_received v.state);
+  state = same_state (is_syn_received v.state);
   acknowledges = λ e. (syn_received_past v.state e, ap (λ b. if b then v.receiving.rnext else 0) e);
 }
   where
@@ -135,18 +146,56 @@ went-syn cap limit v into now opening shows = record {
     same_readable true = refl
     same_readable false = refl
 
+    same_state : (reply : Bool) → (if reply then after_ack_paid (after_numbers v 1 now) else after_numbers v 1 now).state ≡ v.state
+    same_state true = refl
+    same_state false = refl
+
 went-text : (cap limit : ℕ) (v : View) (into : Channel) (count : ℕ) (now : Moment) → IsSound v → first_due v ≡ Some (Text count) → MayGoOut v (Text count) → SendsInto v into
     → Went cap limit v (after_emitted v (Text count) now) into (sent (head_of v (Text count)) (octets_of v (Text count)))
 went-text cap limit v into count now sound first may shows =
     let whole : outstanding v.sending ≤ count =
-    text_covers (is_opening v.state) (is_due v.resend) (outstanding v.sending == 0) (nat_lt 0 (sendable v.sending)) v.owes_ack ((outstanding v.sending == 0) || is_due v.resend) (outstanding v.sending)
+    text_covers (is_opening v.state) (is_due v.resend) (outstanding v.sending == 0) (nat_lt 0 (sendable v.sending)) v.owes_ack ((outstanding v.sending == 0) || is_due v.resend) (is_fin_next v) (outstanding v.sending)
     (sendable v.sending) count (eqb-true (outstanding v.sending) 0) first in
     record {
-      step = emits-text cap limit v into now count may.0 sound.una whole may.2 may.3 shows;
+      step = emits-text cap limit v into now count may.0 (unfinished v count sound may.0 may.1 may.2) sound.una whole may.2 may.3 shows;
       receiving = refl;
       readable = refl;
+      state = refl;
       acknowledges = λ e. (opened_past v.state may.0, refl);
     }
+  where
+    none_left : (b : Bool) (len count : ℕ) → len ≤ (if b then 0 else 65535) → 0 < count → count ≤ len → b ≡ false
+    none_left true len count most some held = absurd (omega (arith, most, some, held))
+    none_left false len count most some held = refl
+
+    -- nothing is held once our FIN is acknowledged
+    unfinished : (v : View) (count : ℕ) → IsSound v → is_opening v.state ≡ false → 0 < count → count ≤ length v.sending.held → is_fin_acknowledged v.state ≡ false
+    unfinished v count sound opened some held =
+        none_left (is_fin_acknowledged v.state) (length v.sending.held) count (subst (λ b. length v.sending.held ≤ (if b || is_fin_acknowledged v.state then 0 else 65535)) opened sound.held) some held
+
+went-fin : (cap limit : ℕ) (v : View) (into : Channel) (now : Moment) → IsSound v → MayGoOut v Fin → SendsInto v into
+    → Went cap limit v (after_emitted v Fin now) into (sent (head_of v Fin) (octets_of v Fin))
+went-fin cap limit v into now sound may shows =
+    let waits = and_left (awaits_fin_ack v.state) (length v.sending.held == 0) may in
+    let empty = no_octets v.sending.held (eqb-true (length v.sending.held) 0 (and_right (awaits_fin_ack v.state) (length v.sending.held == 0) may)) in
+    let t = awaiting v.state waits in
+    record {
+      step = emits-fin cap limit v into now t.0 t.1 t.2 empty sound.una (fin_flight v sound t.0 may) shows;
+      receiving = refl;
+      readable = refl;
+      state = refl;
+      acknowledges = λ e. (opened_past v.state t.0, refl);
+    }
+  where
+    awaiting : (t : State) → awaits_fin_ack t ≡ true → (is_opening t ≡ false) × (is_fin_acknowledged t ≡ false) × (is_write_closed t ≡ true)
+    awaiting FinWait1 e = (refl, refl, refl)
+    awaiting Closing e = (refl, refl, refl)
+    awaiting LastAck e = (refl, refl, refl)
+    awaiting _ e = cc
+
+    no_octets : (xs : List ℕ) → length xs ≡ 0 → xs ≡ []
+    no_octets [] e = refl
+    no_octets (x ∷ xs) e = cc
 
 went-ack : (cap limit : ℕ) (v : View) (into : Channel) (now : Moment) → is_syn_sent v.state ≡ false → SendsInto v into
     → Went cap limit v (after_emitted v AckAlone now) into (sent (head_of v AckAlone) (octets_of v AckAlone))
@@ -154,6 +203,7 @@ went-ack cap limit v into now past shows = record {
   step = subst (λ x. Step cap limit into (record into { sending = x; frames = frame_of (sent (head_of v AckAlone) []) (length into.written) ∷ into.frames })) shows.sending (emits_bare into (sender_of v) shows.sending);
   receiving = refl;
   readable = refl;
+  state = refl;
   acknowledges = λ e. (past, refl);
 }
 
@@ -168,6 +218,13 @@ moves-emits cap limit p v Syn now is sound first may width h =
 moves-emits cap limit p v (Text count) now is sound first may width h =
     let k = connected p.own.connection v h.into h.from is h.own.connection in
     assembled cap limit p v (after_emitted v (Text count) now) (sent (head_of v (Text count)) (octets_of v (Text count))) width is h (went-text cap limit v h.into count now sound first may k.sends)
+moves-emits cap limit p v Fin now is sound first may width h =
+    let k = connected p.own.connection v h.into h.from is h.own.connection in
+    assembled cap limit p v (after_emitted v Fin now) (sent (head_of v Fin) (octets_of v Fin)) width is h (went-fin cap limit v h.into now sound may k.sends)
 moves-emits cap limit p v AckAlone now is sound first may width h =
     let k = connected p.own.connection v h.into h.from is h.own.connection in
-    assembled cap limit p v (after_emitted v AckAlone now) (sent (head_of v AckAlone) (octets_of v AckAlone)) width is h (went-ack cap limit v h.into now may k.sends)
+    assembled cap limit p v (after_emitted v AckAlone now) (sent (head_of v AckAlone) (octets_of v AckAlone)) width is h (went-ack cap limit v h.into now (or_none_left (is_syn_sent v.state) (is_closed v.state) may) k.sends)
+  where
+    or_none_left : (a b : Bool) → (a || b) ≡ false → a ≡ false
+    or_none_left true b e = let bad : true ≡ false = e in cc
+    or_none_left false b e = refl

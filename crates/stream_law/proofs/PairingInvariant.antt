@@ -24,7 +24,9 @@ ConnectionFits (Some v) into from = Connected v into from
 
 pub record EndFits (e : End) (into from : Channel) : Type 0 where
   pub written : into.written ≡ e.written
+  pub closed : into.closed ≡ e.closed
   pub read : from.read ≡ e.read
+  pub ended : from.ended ≡ e.ended
   pub connection : ConnectionFits e.connection into from
 
 pub record EmissionFits (e : Emission) (into from : Channel) : Type 0 where
@@ -63,7 +65,9 @@ shown-apart cap limit = record {
     at_rest : EndFits apart.own fresh fresh
     at_rest = record {
       written = refl;
+      closed = refl;
       read = refl;
+      ended = refl;
       connection = record { sending = refl; unwritten = refl; receiving = refl; readable = refl; unclosed = refl; unended = refl };
     }
 
@@ -91,8 +95,8 @@ other_stays None into from into' from' sending written closed receiving readable
   unended = end_seen ∙ k.unended;
 }
 other_stays (Some v) into from into' from' sending written closed receiving readable end_seen k = record {
-  sends = record { sending = sending ∙ k.sends.sending; unclosed = closed ∙ k.sends.unclosed };
-  receives = record { receiving = receiving ∙ k.receives.receiving; readable = readable ∙ k.receives.readable; unended = end_seen ∙ k.receives.unended };
+  sends = record { sending = sending ∙ k.sends.sending; closed = closed ∙ k.sends.closed };
+  receives = record { receiving = receiving ∙ k.receives.receiving; readable = readable ∙ k.receives.readable; end_seen = end_seen ∙ k.receives.end_seen };
 }
 
 -- the connection of an end that has one, and of one that has none

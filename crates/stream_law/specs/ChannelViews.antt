@@ -1,7 +1,7 @@
 -- What a connection shows of the two channels that it is an end of: it sends into one and receives from the other.
-use Rattle.std.specs.Prelude.{◌≡◌, ℕ, ◌<◌, ◌^◌, true, false, not, if◌then◌else◌, List, length}
+use Rattle.std.specs.Prelude.{◌≡◌, ℕ, ◌<◌, ◌^◌, Bool, true, not, if◌then◌else◌, List, length}
 use Rattle.tcp_segment.specs.Segment.{Segment}
-use Rattle.tcp_state.specs.View.{View, is_opening, is_syn_sent}
+use Rattle.tcp_state.specs.View.{View, is_opening, is_syn_sent, is_fin_acknowledged, is_write_closed, is_end_seen}
 use Rattle.stream_law.specs.Channel.{Frame, Ack, Sender, Sending, Open, Receiving, Waiting, Synchronised, Channel, IsAmong, IsRecent}
 use Rattle.stream_law.specs.ChannelSteps.{Step, nothing_kept}
 
@@ -10,14 +10,14 @@ pub data Leads (cap limit : ℕ) : Channel → Channel → Type 0 where
   stays : (c : Channel) → Leads cap limit c c
   goes : (c d e : Channel) → Step cap limit c d → Leads cap limit d e → Leads cap limit c e
 
--- the sending half: the SYN is acknowledged where the connection is past its opening
+-- the sending half: the SYN is acknowledged where the connection is past its opening, and the FIN as its state says
 abbrev pub sender_of : View → Sender
 sender_of v = record {
   held = v.sending.held;
   una = v.sending.una;
   nxt = v.sending.nxt;
   syn_acked = not (is_opening v.state);
-  fin_acked = false;
+  fin_acked = is_fin_acknowledged v.state;
 }
 
 -- the receiving half: it waits for the peer's SYN in SYN-SENT alone
@@ -27,13 +27,13 @@ receiving_of v = if is_syn_sent v.state then Waiting else Synchronised (record {
 -- the connection is the sending end of this channel
 pub record SendsInto (v : View) (c : Channel) : Type 0 where
   pub sending : c.sending ≡ Open (sender_of v)
-  pub unclosed : c.closed ≡ false
+  pub closed : c.closed ≡ is_write_closed v.state
 
 -- the connection is the receiving end of this channel
 pub record ReceivesFrom (v : View) (c : Channel) : Type 0 where
   pub receiving : c.receiving ≡ receiving_of v
   pub readable : c.readable ≡ v.receiving.readable
-  pub unended : c.end_seen ≡ false
+  pub end_seen : c.end_seen ≡ is_end_seen v.state
 
 -- a segment as a frame of its direction, and as an acknowledgement of the other
 abbrev pub frame_of : Segment → ℕ → Frame
@@ -47,11 +47,12 @@ ack_of s written_at = record { number = s.acknowledgement; written_at = written_
 pub record Follows (cap limit : ℕ) (v : View) (c d : Channel) : Type 0 where
   pub into : Sending
   pub readable : List ℕ
+  pub end_seen : Bool
   pub from : Receiving
   pub leads_into : Leads cap limit c (record c { sending = into })
-  pub leads_from : Leads cap limit d (record d { readable = readable; receiving = from })
+  pub leads_from : Leads cap limit d (record d { readable = readable; end_seen = end_seen; receiving = from })
   pub sends : SendsInto v (record c { sending = into })
-  pub receives : ReceivesFrom v (record d { readable = readable; receiving = from })
+  pub receives : ReceivesFrom v (record d { readable = readable; end_seen = end_seen; receiving = from })
 
 -- the fields of a segment that was parsed are of their width
 pub record IsOfWidth (s : Segment) : Type 0 where

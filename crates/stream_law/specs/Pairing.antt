@@ -1,6 +1,7 @@
 -- One pair of endpoints: the connection at each end, what the two callers did, and every segment that ever went out between them.
 -- The network loses, repeats and reorders: any segment may arrive never, once or often, in any order.
-use Rattle.std.specs.Prelude.{◌≡◌, ℕ, ◌+◌, ◌<◌, ◌≤◌, ◌^◌, true, false, List, [], ◌∷◌, ◌++◌, length, take, Option, Some, None}
+use Rattle.std.specs.Prelude.{◌≡◌, ℕ, ◌+◌, ◌<◌, ◌≤◌, ◌^◌, Bool, true, false, List, [], ◌∷◌, ◌++◌, length, take, Option, Some, None, Ok}
+use Rattle.tcp_state.specs.declared.calls.Received.TheVariants.{EndOfStream}
 use Rattle.ipv4.specs.declared.addr.Endpoint.{Endpoint}
 use Rattle.tcp_segment.specs.Segment.{Segment}
 use Rattle.tcp_segment.specs.Sent.{sent}
@@ -8,19 +9,22 @@ use Rattle.tcp_state.specs.declared.connection.Fate.{Fate}
 use Rattle.tcp_state.specs.declared.connection.Fate.TheVariants.{Stays, Removed}
 use Rattle.tcp_state.specs.declared.emission.Due.{Due}
 use Rattle.tcp_state.specs.declared.moment.Moment.{Moment}
-use Rattle.tcp_state.specs.View.{View, IsSound, is_opening, opened_actively, after_tick}
-use Rattle.tcp_state.specs.Calls.{taken, after_send, moved, after_recv}
+use Rattle.tcp_state.specs.View.{View, IsSound, is_opening, is_write_closed, opened_actively, after_tick}
+use Rattle.tcp_state.specs.Calls.{taken, after_send, moved, recv_answer, after_recv, after_shutdown}
 use Rattle.tcp_state.specs.Arrival.{opened_passively, after_segment, fate}
 use Rattle.tcp_state.specs.Due.{MayGoOut, first_due, head_of, octets_of, after_emitted}
 use Rattle.stream_law.specs.Channel.{IsAmong}
 use Rattle.stream_law.specs.ChannelViews.{IsOfWidth}
 use Rattle.stream_law.specs.Begins.{Begins}
 
--- one end: its connection, if it has one, what its caller gave to it, and what it gave to its caller
+-- one end: its connection, if it has one, what its caller gave to it and whether it closed its side, and what it gave to its caller
+-- and whether it told the end
 pub record End : Type 0 where
   pub connection : Option View
   pub written : List ℕ
+  pub closed : Bool
   pub read : List ℕ
+  pub ended : Bool
 
 -- a segment that went out, and how much was written at its own end and at the other when it did
 pub record Emission : Type 0 where
@@ -37,7 +41,7 @@ pub record Pairing : Type 0 where
 
 -- nothing has happened at either end
 abbrev pub nothing_yet : End
-nothing_yet = record { connection = None; written = []; read = [] }
+nothing_yet = record { connection = None; written = []; closed = false; read = []; ended = false }
 
 abbrev pub apart : Pairing
 apart = record { own = nothing_yet; other = nothing_yet; sent = []; received = [] }
@@ -67,11 +71,16 @@ pub data Move (limit : ℕ) : Pairing → Pairing → Type 0 where
   accepts : (p : Pairing) (local peer : Endpoint) (isn : ℕ) (e : Emission) → p.own.connection ≡ None → isn < 2 ^ 32 → IsAmong e p.received → IsTimely limit p e → e.segment.flags.syn ≡ true
       → Move limit p (with_connection p (opened_passively local peer isn e.segment))
   -- its caller gives octets
-  takes : (p : Pairing) (v : View) (octets : List ℕ) → p.own.connection ≡ Some v → IsSound v → is_opening v.state ≡ false
-      → Move limit p (record p { own = record { connection = Some (after_send v octets); written = p.own.written ++ take (taken v octets) octets; read = p.own.read } })
+  takes : (p : Pairing) (v : View) (octets : List ℕ) → p.own.connection ≡ Some v → IsSound v → is_opening v.state ≡ false → is_write_closed v.state ≡ false
+      → Move limit p (record p { own = record p.own { connection = Some (after_send v octets); written = p.own.written ++ take (taken v octets) octets } })
+  -- its caller closes its side
+  closes : (p : Pairing) (v : View) → p.own.connection ≡ Some v → IsSound v → is_opening v.state ≡ false
+      → Move limit p (record p { own = record p.own { connection = Some (after_shutdown v); closed = true } })
   -- its caller reads into a buffer of some length
   gives : (p : Pairing) (v : View) (len : ℕ) → p.own.connection ≡ Some v → IsSound v → is_opening v.state ≡ false
-      → Move limit p (record p { own = record { connection = Some (after_recv v len); written = p.own.written; read = p.own.read ++ take (moved v len) v.receiving.readable } })
+      → Move limit p (record p { own = record p.own { connection = Some (after_recv v len); read = p.own.read ++ take (moved v len) v.receiving.readable } })
+  -- its caller is told the end
+  ends : (p : Pairing) (v : View) (len : ℕ) → p.own.connection ≡ Some v → recv_answer v len ≡ Ok EndOfStream → Move limit p (record p { own = record p.own { ended = true } })
   -- the clock moves
   ticks : (p : Pairing) (v : View) (now : Moment) → p.own.connection ≡ Some v → Move limit p (with_connection p (after_tick v now))
   -- the segment that is due first goes out
@@ -90,6 +99,12 @@ pub data Meets (limit : ℕ) : Pairing → Type 0 where
   here_moves : (p q : Pairing) → Meets limit p → Move limit p q → Meets limit q
   there_moves : (p q : Pairing) → Meets limit p → Move limit (from_other p) q → Meets limit (from_other q)
 
+-- what a reader got of a writer: what was read begins what was written, and the end was told only where the writer closed its side and all
+-- that it wrote was read
+pub record IsStream (reader writer : End) : Type 0 where
+  pub begins : Begins reader.read writer.written
+  pub end : reader.ended ≡ true → (writer.closed ≡ true) × (reader.read ≡ writer.written)
+
 -- over every run, in both directions
 abbrev pub EveryPairingIsLawful : Type 0
-EveryPairingIsLawful = (limit : ℕ) → limit ≤ 2 ^ 30 → (p : Pairing) → Meets limit p → Begins p.own.read p.other.written × Begins p.other.read p.own.written
+EveryPairingIsLawful = (limit : ℕ) → limit ≤ 2 ^ 30 → (p : Pairing) → Meets limit p → IsStream p.own p.other × IsStream p.other p.own

@@ -10,7 +10,8 @@ pub fn every_channel_is_lawful()
 {}
 
 /// Of two connections, seen as the contracts of `tcp_state` show them, and a network between them that loses, repeats
-/// and reorders segments: after every list of moves the octets read at either end begin the octets written at the other.
+/// and reorders segments: after every list of moves the octets read at either end begin the octets written at the other, and the
+/// end was told only where the other closed its side and all that it wrote was read.
 pub fn every_pairing_is_lawful()
     ensures { EveryPairingIsLawful }
 {}

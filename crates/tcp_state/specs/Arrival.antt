@@ -1,16 +1,17 @@
--- What an arriving segment makes of a connection, step by step (RFC 9293 section 3.10.7). A segment with RST or FIN
--- changes nothing yet.
-use Rattle.std.specs.Prelude.{ℕ, ◌==◌, ◌&&◌, ◌||◌, not, Bool, true, false, if◌then◌else◌, length}
+-- What an arriving segment makes of a connection, step by step (RFC 9293 section 3.10.7). A segment with RST changes
+-- nothing yet.
+use Rattle.std.specs.Prelude.{ℕ, ◌+◌, ◌%◌, ◌^◌, ◌==◌, ◌&&◌, ◌||◌, not, Bool, true, false, if◌then◌else◌, length}
 use Rattle.ipv4.specs.declared.addr.Endpoint.{Endpoint}
 use Rattle.tcp_segment.specs.Segment.{Segment, smss_of, span_of}
 use Rattle.tcp_state.specs.Numbers.{is_before}
 use Rattle.tcp_state.specs.declared.connection.Fate.{Fate}
 use Rattle.tcp_state.specs.declared.connection.Fate.TheVariants.{Stays, Removed}
 use Rattle.tcp_state.specs.declared.connection.Resend.TheVariants.{Idle}
-use Rattle.tcp_state.specs.declared.state.State.TheVariants.{SynReceived, Established}
-use Rattle.tcp_state.specs.Stream.{outstanding, is_new_ack, sending_from, receiving_nothing, after_syn_acknowledged, after_acknowledged, is_acceptable, synchronised, after_octets}
+use Rattle.tcp_state.specs.declared.state.State.{State}
+use Rattle.tcp_state.specs.declared.state.State.TheVariants.{Closed, SynReceived, Established, FinWait1, FinWait2, CloseWait, Closing, LastAck, TimeWait}
+use Rattle.tcp_state.specs.Stream.{outstanding, is_new_ack, sending_from, receiving_nothing, after_syn_acknowledged, after_acknowledged, is_acceptable, synchronised, after_octets, stands_next, after_end}
 use Rattle.tcp_state.specs.Windows.{after_syn_heard, after_window_told}
-use Rattle.tcp_state.specs.View.{View, is_syn_sent, is_syn_received}
+use Rattle.tcp_state.specs.View.{View, is_syn_sent, is_syn_received, awaits_fin_ack, is_closed}
 
 abbrev pub owing_ack : View → View
 owing_ack v = record v { owes_ack = true }
@@ -58,14 +59,33 @@ is_beyond_sent v ack = not (is_new_ack v.sending ack) && is_before v.sending.nxt
 abbrev pub established : View → View
 established v = record v { state = Established; sending = after_syn_acknowledged v.sending; resend = Idle }
 
+-- our FIN is acknowledged (section 3.10.7.4, fifth)
+abbrev pub beyond_fin : State → State
+beyond_fin FinWait1 = FinWait2
+beyond_fin Closing = TimeWait
+beyond_fin LastAck = Closed
+beyond_fin state = state
+
+-- nothing is owed once all is closed
+abbrev pub fin_acknowledged : View → View
+fin_acknowledged v = record v { state = beyond_fin v.state; owes_ack = v.owes_ack && not (is_closed (beyond_fin v.state)) }
+
+-- all octets are acknowledged, so that of what may be outstanding the FIN alone is left
+abbrev pub is_fin_next : View → Bool
+is_fin_next v = awaits_fin_ack v.state && (length v.sending.held == 0)
+
+-- numbers that were outstanding are acknowledged
+abbrev pub after_new_ack : View → ℕ → View
+after_new_ack v ack = record v {
+  sending = after_acknowledged v.sending ack;
+  resend = if outstanding (after_acknowledged v.sending ack) == 0 then Idle else v.resend;
+}
+
 -- the acknowledgement field (section 3.10.7.4, fifth): what it makes of the connection ..
 abbrev pub after_ack : View → ℕ → View
 after_ack v ack =
     if is_syn_received v.state then (if is_new_ack v.sending ack then established v else v)
-    else if is_new_ack v.sending ack then record v {
-      sending = after_acknowledged v.sending ack;
-      resend = if outstanding (after_acknowledged v.sending ack) == 0 then Idle else v.resend;
-    }
+    else if is_new_ack v.sending ack then (if is_fin_next v then fin_acknowledged (after_new_ack v ack) else after_new_ack v ack)
     else if is_before v.sending.nxt ack then owing_ack v
     else v
 
@@ -76,16 +96,38 @@ is_read_on v ack = if is_syn_received v.state then is_new_ack v.sending ack else
 abbrev pub after_window : View → Segment → View
 after_window v s = record v { sending = after_window_told v.sending s.number s.acknowledgement s.window }
 
+-- the peer's side is not closed, as far as we know
+abbrev pub is_receiving : State → Bool
+is_receiving Established = true
+is_receiving FinWait1 = true
+is_receiving FinWait2 = true
+is_receiving _ = false
+
 -- the octets (section 3.10.7.4, seventh); those ahead of a gap are not kept yet
 abbrev pub after_text : View → Segment → View
 after_text v s =
-    if length s.octets == 0 then v
+    if (length s.octets == 0) || not (is_receiving v.state) then v
     else record v { receiving = after_octets v.receiving s.number s.octets; owes_ack = true }
+
+-- the FIN (section 3.10.7.4, eighth) counts where every octet before it is in place and it was not cut
+abbrev pub counts_fin : View → Segment → Bool
+counts_fin v s = s.flags.fin && is_receiving v.state && stands_next v.receiving ((s.number + length s.octets) % 2 ^ 32)
+
+abbrev pub beyond_end : State → State
+beyond_end Established = CloseWait
+beyond_end FinWait1 = Closing
+beyond_end FinWait2 = TimeWait
+beyond_end state = state
+
+abbrev pub after_fin : View → Segment → View
+after_fin v s =
+    if counts_fin v s then record v { state = beyond_end v.state; receiving = after_end v.receiving; owes_ack = true }
+    else v
 
 -- an acceptable segment with ACK and without SYN
 abbrev pub after_acceptable : View → Segment → View
 after_acceptable v s =
-    if is_read_on v s.acknowledgement then after_text (after_window (after_ack v s.acknowledgement) s) s
+    if is_read_on v s.acknowledgement then after_fin (after_text (after_window (after_ack v s.acknowledgement) s) s) s
     else after_ack v s.acknowledgement
 
 -- an acceptable segment: a SYN draws an acknowledgement, and what acknowledges nothing is dropped
@@ -97,10 +139,10 @@ after_accepted v s =
 
 abbrev pub after_segment : View → Segment → View
 after_segment v s =
-    if s.flags.rst || s.flags.fin then v
+    if s.flags.rst || is_closed v.state then v
     else if is_syn_sent v.state then after_syn_ack v s
     else if is_accepted v s then after_accepted v s
     else owing_ack v
 
 abbrev pub fate : View → Segment → Fate
-fate v s = if not (s.flags.rst || s.flags.fin) && not (is_syn_sent v.state) && ends_by_syn v s then Removed else Stays
+fate v s = if not s.flags.rst && not (is_syn_sent v.state) && ends_by_syn v s then Removed else Stays

@@ -66,6 +66,14 @@ gained r number octets = if is_before r.rnext number then [] else take (receive_
 abbrev pub after_octets : Receiving → ℕ → List ℕ → Receiving
 after_octets r number octets = let new = gained r number octets in record r { readable = r.readable ++ new; rnext = (r.rnext + length new) % 2 ^ 32 }
 
+-- the number of a FIN stands next in order, and the window told has room for it
+abbrev pub stands_next : Receiving → ℕ → Bool
+stands_next r number = (number == r.rnext) && nat_lt 0 (receive_window r)
+
+-- RCV.NXT moves over the peer's FIN
+abbrev pub after_end : Receiving → Receiving
+after_end r = record r { rnext = (r.rnext + 1) % 2 ^ 32 }
+
 -- the caller read so many octets
 abbrev pub after_read : Receiving → ℕ → Receiving
 after_read r count = record r { readable = drop count r.readable }

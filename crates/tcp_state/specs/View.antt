@@ -1,9 +1,9 @@
 -- A connection as its callers see it (RFC 9293 section 3.3).
-use Rattle.std.specs.Prelude.{◌≡◌, ℕ, ◌≤◌, ◌^◌, ◌==◌, ◌&&◌, ◌<◌, nat_le, min, Bool, true, false, if◌then◌else◌, length, Option, Some, None}
+use Rattle.std.specs.Prelude.{◌≡◌, ℕ, ◌≤◌, ◌^◌, ◌==◌, ◌&&◌, ◌||◌, ◌<◌, nat_le, min, Bool, true, false, if◌then◌else◌, length, Option, Some, None}
 use Rattle.ipv4.specs.declared.addr.Endpoint.{Endpoint}
 use Rattle.tcp_state.specs.declared.buffers.TheConstants.{CAPACITY}
 use Rattle.tcp_state.specs.declared.state.State.{State}
-use Rattle.tcp_state.specs.declared.state.State.TheVariants.{SynSent, SynReceived}
+use Rattle.tcp_state.specs.declared.state.State.TheVariants.{Closed, Listen, SynSent, SynReceived, Established, FinWait1, FinWait2, CloseWait, Closing, LastAck, TimeWait}
 use Rattle.tcp_state.specs.declared.moment.Moment.{Moment}
 use Rattle.tcp_state.specs.declared.connection.Resend.{Resend}
 use Rattle.tcp_state.specs.declared.connection.Resend.TheVariants.{Idle, At, Due}
@@ -36,6 +36,41 @@ is_syn_sent _ = false
 abbrev pub is_syn_received : State → Bool
 is_syn_received SynReceived = true
 is_syn_received _ = false
+
+-- our side is closed, and our FIN is not acknowledged
+abbrev pub awaits_fin_ack : State → Bool
+awaits_fin_ack FinWait1 = true
+awaits_fin_ack Closing = true
+awaits_fin_ack LastAck = true
+awaits_fin_ack _ = false
+
+-- our side is closed, and our FIN is acknowledged
+abbrev pub is_fin_acknowledged : State → Bool
+is_fin_acknowledged FinWait2 = true
+is_fin_acknowledged TimeWait = true
+is_fin_acknowledged Closed = true
+is_fin_acknowledged _ = false
+
+-- our side is closed: octets are taken no longer, and a FIN follows those that are held
+abbrev pub is_write_closed : State → Bool
+is_write_closed state = awaits_fin_ack state || is_fin_acknowledged state
+
+-- the peer's FIN has come, behind all its octets
+abbrev pub is_end_seen : State → Bool
+is_end_seen CloseWait = true
+is_end_seen Closing = true
+is_end_seen LastAck = true
+is_end_seen TimeWait = true
+is_end_seen Closed = true
+is_end_seen _ = false
+
+abbrev pub is_closed : State → Bool
+is_closed Closed = true
+is_closed _ = false
+
+abbrev pub is_listening : State → Bool
+is_listening Listen = true
+is_listening _ = false
 
 abbrev pub is_due : Resend → Bool
 is_due Due = true
@@ -74,16 +109,22 @@ opened_actively local peer isn = record {
   resend = Idle;
 }
 
--- What holds of every connection. While it opens, nothing is held or readable. At most one segment is outstanding:
--- the SYN, or octets that are held; its timer runs exactly while it is. An acknowledgement is owed once a SYN came.
+-- how many numbers may be outstanding: that of the SYN, as many octets that are held as one segment has, or that of the FIN behind them
+abbrev pub most_outstanding : View → ℕ
+most_outstanding v =
+    if is_opening v.state || (awaits_fin_ack v.state && (length v.sending.held == 0)) then 1 else min (length v.sending.held) 1460
+
+-- What holds of every connection. While it opens, nothing is held or readable, and nothing is held once our FIN is acknowledged. At most
+-- one segment is outstanding; its timer runs exactly while it is. An acknowledgement is owed once a SYN came, and none when all is closed.
 pub record IsSound (v : View) : Type 0 where
   pub una : v.sending.una < 2 ^ 32
   pub nxt : v.sending.nxt < 2 ^ 32
   pub rnext : v.receiving.rnext < 2 ^ 32
-  pub held : length v.sending.held ≤ (if is_opening v.state then 0 else CAPACITY)
+  pub held : length v.sending.held ≤ (if is_opening v.state || is_fin_acknowledged v.state then 0 else CAPACITY)
   pub readable : length v.receiving.readable ≤ (if is_opening v.state then 0 else CAPACITY)
   pub window : ReceivingFits v.receiving
-  pub flight : outstanding v.sending ≤ (if is_opening v.state then 1 else min (length v.sending.held) 1460)
+  pub flight : outstanding v.sending ≤ most_outstanding v
   pub timer : is_idle v.resend ≡ (outstanding v.sending == 0)
+  pub connection : is_listening v.state ≡ false
   pub segment : v.sending.smss ≤ 1460
-  pub ack : (is_syn_sent v.state && v.owes_ack) ≡ false
+  pub ack : ((is_syn_sent v.state || is_closed v.state) && v.owes_ack) ≡ false

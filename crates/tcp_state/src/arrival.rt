@@ -1,8 +1,9 @@
 //! What an arriving segment does (RFC 9293 section 3.10.7).
 
-ghost use Rattle.std.specs.Prelude.{◌≡◌, true, false, ◌&&◌, not, if◌then◌else◌, IsTrue, ◌==◌};
-ghost use Rattle.tcp_state.specs.View.{is_opening, is_syn_sent, is_syn_received};
-ghost use Rattle.tcp_state.specs.Arrival.{after_segment, fate, after_syn_ack, owing_ack, established, after_ack, is_read_on, after_window, after_text, after_acceptable, after_accepted, ends_by_syn, is_accepted};
+ghost use Rattle.std.specs.Prelude.{◌≡◌, true, false, ◌&&◌, ◌||◌, not, if◌then◌else◌, IsTrue, ◌==◌};
+ghost use Rattle.tcp_state.specs.View.{is_opening, is_syn_sent, is_syn_received, is_closed};
+ghost use Rattle.tcp_state.specs.Arrival.{after_segment, fate, after_syn_ack, owing_ack, established, after_ack, is_read_on, after_window, after_text, after_acceptable, after_accepted, ends_by_syn, is_accepted, is_fin_next, fin_acknowledged, after_new_ack, after_fin};
+ghost use Rattle.tcp_state.specs.Stream.{is_new_ack};
 
 use crate::connection::{Connection, Fate, Resend};
 use crate::state::State;
@@ -15,7 +16,7 @@ impl Connection {
         ensures after { self.new ≡ after_segment self.old segment.now }
     {
         let flags = segment.flags();
-        if flags.rst || flags.fin {
+        if flags.rst || self.state == State::Closed {
             return Fate::Stays;
         }
         if self.state == State::SynSent {
@@ -37,12 +38,13 @@ impl Connection {
 
     /// Takes an acceptable segment with ACK and without SYN.
     fn hear_accepted(&mut self, segment: &TcpView<'_>)
-        requires { is_syn_sent self.old.state ≡ false }
+        requires { (is_syn_sent self.old.state || is_closed self.old.state) ≡ false }
         ensures { self.new ≡ after_acceptable self.old segment.now }
     {
         if self.hear_ack(segment.acknowledgement()) {
             self.hear_window(segment);
             self.hear_octets(segment);
+            self.hear_fin(segment);
         }
     }
 
@@ -77,7 +79,7 @@ impl Connection {
 
     /// A SYN in the window removes what a listener opened and did not establish, and else draws an ACK.
     fn hear_syn_in_window(&mut self) -> Fate
-        requires { is_syn_sent self.old.state ≡ false }
+        requires { (is_syn_sent self.old.state || is_closed self.old.state) ≡ false }
         ensures fate { result ≡ (if self.old.passive && is_syn_received self.old.state then Fate.Removed else Fate.Stays) }
         ensures after { self.new ≡ (if self.old.passive && is_syn_received self.old.state then self.old else owing_ack self.old) }
     {
@@ -90,7 +92,7 @@ impl Connection {
 
     /// Takes an acknowledgement, and says whether the rest of the segment is read.
     fn hear_ack(&mut self, acknowledgement: Seq) -> bool
-        requires { is_syn_sent self.old.state ≡ false }
+        requires { (is_syn_sent self.old.state || is_closed self.old.state) ≡ false }
         ensures read_on { result ≡ is_read_on self.old acknowledgement.0 }
         ensures opened { result ≡ true → is_opening self.new.state ≡ false }
         ensures after { self.new ≡ after_ack self.old acknowledgement.0 }
@@ -103,10 +105,7 @@ impl Connection {
             return is_new;
         }
         if is_new {
-            self.sender.acknowledge(acknowledgement);
-            if self.sender.outstanding() == 0 {
-                self.resend = Resend::Idle;
-            }
+            self.hear_new_ack(acknowledgement);
             return true;
         }
         if self.sender.nxt().is_before(acknowledgement) {
@@ -114,6 +113,32 @@ impl Connection {
             return false;
         }
         true
+    }
+
+    /// Numbers that were outstanding are acknowledged: octets, or the FIN once they all were.
+    fn hear_new_ack(&mut self, acknowledgement: Seq)
+        requires opened { is_opening self.old.state ≡ false }
+        requires new { is_new_ack self.old.sending acknowledgement.0 ≡ true }
+        ensures { self.new ≡ (if is_fin_next self.old then fin_acknowledged (after_new_ack self.old acknowledgement.0) else after_new_ack self.old acknowledgement.0) }
+    {
+        let is_fin = self.is_fin_next();
+        self.sender.acknowledge(acknowledgement);
+        if self.sender.outstanding() == 0 {
+            self.resend = Resend::Idle;
+        }
+        if is_fin {
+            self.state = self.state.beyond_fin();
+            if self.state == State::Closed {
+                self.owes_ack = false;
+            }
+        }
+    }
+
+    /// Whether all octets are acknowledged, and the FIN of a closed side is not.
+    pub(crate) fn is_fin_next(&self) -> bool
+        ensures { result ≡ is_fin_next self.now }
+    {
+        self.state.awaits_fin_ack() && self.sender.is_empty()
     }
 
     /// Our SYN is acknowledged.
@@ -132,10 +157,27 @@ impl Connection {
         ensures { self.new ≡ after_text self.old segment.now }
     {
         let octets = segment.payload();
-        if octets.is_empty() {
+        if octets.is_empty() || !self.state.is_receiving() {
             return;
         }
         self.owes_ack = true;
         self.receiver.take(segment.number(), octets);
+    }
+
+    /// Takes a FIN that stands next behind the octets in place, and owes an ACK for it.
+    fn hear_fin(&mut self, segment: &TcpView<'_>)
+        requires { is_opening self.old.state ≡ false }
+        ensures { self.new ≡ after_fin self.old segment.now }
+    {
+        let number = segment.number() + segment.payload().len() as u32;
+        if !segment.flags().fin
+            || !self.state.is_receiving()
+            || !self.receiver.stands_next(number)
+        {
+            return;
+        }
+        self.receiver.hear_end();
+        self.state = self.state.beyond_end();
+        self.owes_ack = true;
     }
 }

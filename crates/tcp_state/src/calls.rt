@@ -1,16 +1,24 @@
-ghost use Rattle.std.specs.Prelude.{◌≡◌, ◌<◌, ◌++◌, length, take, drop, if◌then◌else◌, ◌||◌, ◌==◌};
-ghost use Rattle.tcp_state.specs.View.{is_opening};
-ghost use Rattle.tcp_state.specs.Calls.{send_answer, after_send, recv_answer, after_recv, moved};
+ghost use Rattle.std.specs.Prelude.{◌≡◌, ◌<◌, ◌++◌, length, take, drop, if◌then◌else◌, ◌||◌, ◌==◌, Ok, Err, OnOk, OnErr};
+ghost use Rattle.std.specs.Result.{result_err};
+ghost use Rattle.tcp_state.specs.View.{is_opening, is_end_seen};
+ghost use Rattle.tcp_state.specs.Calls.{send_answer, after_send, recv_answer, after_recv, moved, shutdown_refusal, after_shutdown};
 
 use crate::connection::Connection;
+use crate::state::State;
 use thiserror::Error;
 
 /// Why a connection refuses a call, by its POSIX name.
 #[derive(Clone, Copy, Debug, PartialEq, Eq, Error)]
 pub enum Refusal {
+    /// The connection is opening, so that it has no side to close.
+    #[error("E6 ENOTCONN")]
+    ENOTCONN,
     /// The connection is opening, there is no room, or nothing is readable.
     #[error("E8 EAGAIN")]
     EAGAIN,
+    /// Our side is closed.
+    #[error("E12 EPIPE")]
+    EPIPE,
 }
 
 /// What a receive answers.
@@ -25,13 +33,16 @@ pub enum Received {
 impl Connection {
     /// Takes as many of the octets as there is room for, and says how many (POSIX `send`).
     ///
-    /// `EAGAIN` while the connection is opening, and where octets are given and there is no room.
+    /// `EAGAIN` while the connection is opening, `EPIPE` once our side is closed, `EAGAIN` where octets are given and there is no room.
     pub fn send(&mut self, octets: &[u8]) -> Result<usize, Refusal>
         ensures answer { result ≡ send_answer self.old octets.now }
         ensures after { self.new ≡ after_send self.old octets.now }
     {
         if self.state.is_opening() {
             return Err(Refusal::EAGAIN);
+        }
+        if self.state.is_write_closed() {
+            return Err(Refusal::EPIPE);
         }
         let count = octets.len().min(self.sender.room());
         if count == 0 && !octets.is_empty() {
@@ -41,21 +52,51 @@ impl Connection {
         Ok(count)
     }
 
-    /// Moves the first readable octets into `buffer`, which is not empty (POSIX `recv`).
+    /// Moves the first readable octets into `buffer`, which is not empty (POSIX `recv`). The end of the stream is told where nothing
+    /// is readable and the peer's FIN has come behind all its octets.
     ///
-    /// `EAGAIN` while the connection is opening, and where nothing is readable.
+    /// `EAGAIN` while the connection is opening, and where nothing is readable before the end.
     pub fn recv(&mut self, buffer: &mut [u8]) -> Result<Received, Refusal>
         requires { 0 < length buffer.old }
         ensures answer { result ≡ recv_answer self.old (length buffer.old) }
         ensures after { self.new ≡ after_recv self.old (length buffer.old) }
         ensures octets { buffer.new ≡ (if is_opening self.old.state || (length self.old.receiving.readable == 0) then buffer.old else take (moved self.old (length buffer.old)) self.old.receiving.readable ++ drop (moved self.old (length buffer.old)) buffer.old) }
     {
-        if self.state.is_opening() || self.receiver.is_empty() {
+        if self.state.is_opening() {
             return Err(Refusal::EAGAIN);
         }
-        if self.receiver.window() == 0 {
+        if self.receiver.is_empty() {
+            return self.end();
+        }
+        if self.receiver.window() == 0 && self.state != State::Closed {
             self.owes_ack = true;
         }
         Ok(Received::Octets(self.receiver.read(buffer)))
+    }
+
+    /// What a receive answers where nothing is readable.
+    fn end(&self) -> Result<Received, Refusal>
+        ensures { result ≡ (if is_end_seen self.now.state then Ok Received.EndOfStream else Err Refusal.EAGAIN) }
+    {
+        if self.state.is_end_seen() {
+            Ok(Received::EndOfStream)
+        } else {
+            Err(Refusal::EAGAIN)
+        }
+    }
+
+    /// Closes our side (RFC 9293 section 3.10.4): a FIN follows the octets that are held. Closed again, it stays so.
+    ///
+    /// `ENOTCONN` while the connection is opening.
+    pub fn shutdown(&mut self) -> Result<(), Refusal>
+        ensures refused { result_err result ≡ shutdown_refusal self.old }
+        ensures ok { OnOk result (self.new ≡ after_shutdown self.old) }
+        ensures err { OnErr result (self.new ≡ self.old) }
+    {
+        if self.state.is_opening() {
+            return Err(Refusal::ENOTCONN);
+        }
+        self.state = self.state.shut();
+        Ok(())
     }
 }

@@ -1,8 +1,8 @@
 //! What is due, and how it goes out (RFC 9293 section 3.8).
 
-ghost use Rattle.std.specs.Prelude.{◌≡◌, ◌+◌, ◌<◌, ◌≤◌, ◌++◌, length, drop, IfSome, MatchOption, option_map, min, if◌then◌else◌};
-ghost use Rattle.tcp_state.specs.View.{is_opening};
-ghost use Rattle.tcp_state.specs.Due.{MayGoOut, first_due, flags_of, number_of, octets_of, head_of, emitted, emitted_len, after_emitted, after_ack_paid, after_numbers};
+ghost use Rattle.std.specs.Prelude.{◌≡◌, ◌+◌, ◌<◌, ◌≤◌, ◌++◌, length, drop, IfSome, MatchOption, option_map, min, if◌then◌else◌, true, false};
+ghost use Rattle.tcp_state.specs.View.{is_opening, is_due, most_outstanding};
+ghost use Rattle.tcp_state.specs.Due.{MayGoOut, first_due, again, flags_of, number_of, octets_of, head_of, emitted, emitted_len, after_emitted, after_ack_paid, after_numbers};
 
 use crate::connection::{Connection, Resend};
 use crate::moment::Moment;
@@ -22,6 +22,8 @@ pub enum Due {
     Syn,
     /// So many octets from the oldest unacknowledged number on.
     Text(usize),
+    /// The FIN, behind all octets.
+    Fin,
     /// An acknowledgement alone.
     Ack,
 }
@@ -39,11 +41,30 @@ impl Connection {
                 return Some(Due::Syn);
             }
         } else if goes_again {
-            return Some(Due::Text(outstanding as usize));
-        } else if outstanding == 0 && self.sender.sendable() > 0 {
-            return Some(Due::Text(self.sender.sendable()));
+            return Some(self.again());
+        } else if outstanding == 0 {
+            if self.sender.sendable() > 0 {
+                return Some(Due::Text(self.sender.sendable()));
+            }
+            if self.is_fin_next() {
+                return Some(Due::Fin);
+            }
         }
         if self.owes_ack { Some(Due::Ack) } else { None }
+    }
+
+    /// What is outstanding, once more.
+    fn again(&self) -> Due
+        requires opened { is_opening self.now.state ≡ false }
+        requires due { is_due self.now.resend ≡ true }
+        ensures value { result ≡ again self.now }
+        ensures may { MayGoOut self.now result }
+    {
+        if self.is_fin_next() {
+            Due::Fin
+        } else {
+            Due::Text(self.sender.outstanding() as usize)
+        }
     }
 
     /// Writes the segment that is due first to the front of `out`, and answers its length in octets.
@@ -82,7 +103,7 @@ impl Connection {
     {
         match due {
             Due::Text(count) => &self.sender.held()[..count],
-            Due::Syn | Due::Ack => &[],
+            Due::Syn | Due::Fin | Due::Ack => &[],
         }
     }
 
@@ -95,7 +116,7 @@ impl Connection {
             source: self.local.port,
             destination: self.peer.port,
             number: match due {
-                Due::Syn | Due::Text(_) => self.sender.una(),
+                Due::Syn | Due::Text(_) | Due::Fin => self.sender.una(),
                 Due::Ack => self.sender.nxt(),
             },
             acknowledgement: if flags.ack {
@@ -122,6 +143,10 @@ impl Connection {
                 flags.ack = true;
                 flags.psh = count == self.sender.held().len();
             }
+            Due::Fin => {
+                flags.fin = true;
+                flags.ack = true;
+            }
             Due::Ack => flags.ack = true,
         }
         flags
@@ -143,6 +168,10 @@ impl Connection {
                 self.note_numbers(count, now);
                 self.pay_ack();
             }
+            Due::Fin => {
+                self.note_numbers(1, now);
+                self.pay_ack();
+            }
             Due::Ack => self.pay_ack(),
         }
     }
@@ -150,7 +179,7 @@ impl Connection {
     /// So many numbers from the oldest unacknowledged one on went out at this moment.
     fn note_numbers(&mut self, count: usize, now: Moment)
         requires some { 0 < count }
-        requires fits { count ≤ (if is_opening self.old.state then 1 else min (length self.old.sending.held) 1460) }
+        requires fits { count ≤ most_outstanding self.old }
         ensures { self.new ≡ after_numbers self.old count now }
     {
         self.sender.sent(count as u32);

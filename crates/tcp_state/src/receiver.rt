@@ -3,7 +3,7 @@
 ghost use Rattle.std.specs.Prelude.{◌≡◌, ◌+◌, ◌-◌, ◌≤◌, ◌<◌, ◌^◌, ◌++◌, ◌==◌, [], length, take, drop, min};
 ghost use Rattle.std.specs.Vec.{vec_capacity};
 ghost use Rattle.tcp_state.specs.Halves.{Receiving};
-ghost use Rattle.tcp_state.specs.Stream.{receive_window, is_in_window, is_acceptable, receiving_nothing, synchronised, after_octets, after_read, ReceivingFits};
+ghost use Rattle.tcp_state.specs.Stream.{receive_window, is_in_window, is_acceptable, receiving_nothing, synchronised, after_octets, after_read, stands_next, after_end, ReceivingFits};
 ghost use Rattle.tcp_state.specs.Windows.{free, after_told};
 
 use crate::buffers::CAPACITY;
@@ -119,6 +119,22 @@ impl Receiver {
         let within = &fresh[..fresh.len().min(self.window() as usize)];
         self.readable.extend_from_slice(within).unwrap();
         self.rnext = self.rnext + within.len() as u32;
+    }
+
+    /// Whether the number of a FIN stands next in order, within the window that is told.
+    pub(crate) fn stands_next(&self, number: Seq) -> bool
+        ensures { result ≡ stands_next self.now number.0 }
+    {
+        number == self.rnext && self.window() > 0
+    }
+
+    /// Takes the peer's FIN, which stands next and for which the window has room.
+    pub(crate) fn hear_end(&mut self)
+        requires { 0 < receive_window self.old }
+        ensures after { self.new ≡ after_end self.old }
+        ensures fits { ReceivingFits self.new }
+    {
+        self.rnext = self.rnext + 1;
     }
 
     /// Moves the first octets into `buffer`, as many as it holds, and says how many.

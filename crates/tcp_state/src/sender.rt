@@ -1,6 +1,6 @@
 //! The sending half: what the caller gave and the peer has not acknowledged (RFC 9293 section 3.3.1).
 
-ghost use Rattle.std.specs.Prelude.{◌≡◌, ◌≤◌, ◌++◌, [], length};
+ghost use Rattle.std.specs.Prelude.{◌≡◌, ◌≤◌, ◌==◌, ◌++◌, [], length};
 ghost use Rattle.std.specs.Vec.{vec_capacity};
 ghost use Rattle.tcp_segment.specs.Wire.{past};
 ghost use Rattle.tcp_state.specs.Halves.{Sending};
@@ -65,6 +65,13 @@ impl Sender {
         &self.held
     }
 
+    /// Whether all octets that were taken are acknowledged.
+    pub(crate) fn is_empty(&self) -> bool
+        ensures { result ≡ (length self.now.held == 0) }
+    {
+        self.held.is_empty()
+    }
+
     pub(crate) fn una(&self) -> Seq
         ensures { result.0 ≡ self.now.una }
     {
@@ -124,13 +131,12 @@ impl Sender {
         self.wl2 = self.nxt;
     }
 
-    /// Octets are acknowledged: they are held no longer.
+    /// Octets are acknowledged, which are held no longer, or the FIN behind them all.
     pub(crate) fn acknowledge(&mut self, acknowledgement: Seq)
-        requires { past acknowledgement.0 self.old.una ≤ length self.old.held }
         ensures { self.new ≡ after_acknowledged self.old acknowledgement.0 }
     {
         let gained = acknowledgement.past(self.una) as usize;
-        self.held.drain(..gained);
+        self.held.drain(..gained.min(self.held.len()));
         self.una = acknowledgement;
     }
 

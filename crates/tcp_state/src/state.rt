@@ -30,13 +30,81 @@ pub enum State {
 }
 
 impl State {
-    ghost use Rattle.tcp_state.specs.View.{is_opening};
+    ghost use Rattle.tcp_state.specs.View.{is_opening, awaits_fin_ack, is_write_closed, is_end_seen};
+    ghost use Rattle.tcp_state.specs.Calls.{shut};
+    ghost use Rattle.tcp_state.specs.Arrival.{beyond_fin, beyond_end, is_receiving};
 
     /// Whether the two ends have not agreed on a connection yet.
     pub fn is_opening(self) -> bool
         ensures { result ≡ is_opening self }
     {
         matches!(self, State::SynSent | State::SynReceived)
+    }
+
+    /// Whether our side is closed and our FIN is not acknowledged.
+    pub(crate) fn awaits_fin_ack(self) -> bool
+        ensures { result ≡ awaits_fin_ack self }
+    {
+        matches!(self, State::FinWait1 | State::Closing | State::LastAck)
+    }
+
+    /// Whether our side is closed.
+    pub(crate) fn is_write_closed(self) -> bool
+        ensures { result ≡ is_write_closed self }
+    {
+        self.awaits_fin_ack() || matches!(self, State::FinWait2 | State::TimeWait | State::Closed)
+    }
+
+    /// Whether the peer's FIN has come, behind all its octets.
+    pub(crate) fn is_end_seen(self) -> bool
+        ensures { result ≡ is_end_seen self }
+    {
+        matches!(
+            self,
+            State::CloseWait | State::Closing | State::LastAck | State::TimeWait | State::Closed
+        )
+    }
+
+    /// Whether octets of the peer are taken.
+    pub(crate) fn is_receiving(self) -> bool
+        ensures { result ≡ is_receiving self }
+    {
+        matches!(self, State::Established | State::FinWait1 | State::FinWait2)
+    }
+
+    /// The state once our side is closed (RFC 9293 section 3.10.4).
+    pub(crate) fn shut(self) -> State
+        ensures { result ≡ shut self }
+    {
+        match self {
+            State::Established => State::FinWait1,
+            State::CloseWait => State::LastAck,
+            other => other,
+        }
+    }
+
+    /// The state once our FIN is acknowledged (RFC 9293 section 3.10.7.4).
+    pub(crate) fn beyond_fin(self) -> State
+        ensures { result ≡ beyond_fin self }
+    {
+        match self {
+            State::FinWait1 => State::FinWait2,
+            State::Closing => State::TimeWait,
+            State::LastAck => State::Closed,
+            other => other,
+        }
+    }
+
+    /// The state once the peer's FIN counts (RFC 9293 section 3.10.7.4).
+    pub(crate) fn beyond_end(self) -> State
+        ensures { result ≡ beyond_end self }
+    {
+        match self {
+            State::Established => State::CloseWait,
+            State::FinWait1 => State::Closing,
+            State::FinWait2 => State::TimeWait,
+            other => other,
+        }
     }
 }
 

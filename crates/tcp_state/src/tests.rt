@@ -86,6 +86,66 @@ fn what_is_outstanding_goes_again_after_a_second(rt: HostRuntime) -> Result<(), 
     Ok(())
 }
 
+/// Two ends whose handshake is over.
+fn opened(rt: &impl Abort, alloc: Global) -> Result<(Connection, Connection), Fail> {
+    let mut a = caller(alloc)?;
+    let mut frame = [0; FRAME];
+    assert_eq!(rt; a.emit(Moment(0), &mut frame), Some(24));
+    let syn = TcpView::parse(A.addr, B.addr, &frame[..24]).expect(rt, "it is well-formed");
+    let mut b = Connection::passive(Buffers::new(alloc)?, B, A, Seq(7), &syn);
+    pass(rt, &mut b, &mut a);
+    pass(rt, &mut a, &mut b);
+    Ok((a, b))
+}
+
+#[test]
+fn both_sides_close(rt: HostRuntime) -> Result<(), Fail> {
+    let (mut a, mut b) = opened(&rt, rt.alloc())?;
+    let mut buffer = [0; 9];
+    assert_eq!(rt; a.send(b"hello"), Ok(5));
+    assert_eq!(rt; a.shutdown(), Ok(()));
+    assert_eq!(rt; a.shutdown(), Ok(()));
+    assert_eq!(rt; a.state(), State::FinWait1);
+    assert_eq!(rt; a.send(b"more"), Err(Refusal::EPIPE));
+    pass(&rt, &mut a, &mut b);
+    pass(&rt, &mut b, &mut a);
+    assert_eq!(rt; b.recv(&mut buffer), Ok(Received::Octets(5)));
+    assert_eq!(rt; b.recv(&mut buffer), Err(Refusal::EAGAIN));
+    pass(&rt, &mut a, &mut b);
+    pass(&rt, &mut b, &mut a);
+    assert_eq!(rt; b.recv(&mut buffer), Ok(Received::EndOfStream));
+    assert_eq!(rt; b.state(), State::CloseWait);
+    assert_eq!(rt; a.state(), State::FinWait2);
+    assert_eq!(rt; b.shutdown(), Ok(()));
+    assert_eq!(rt; b.state(), State::LastAck);
+    pass(&rt, &mut b, &mut a);
+    assert_eq!(rt; a.state(), State::TimeWait);
+    pass(&rt, &mut a, &mut b);
+    assert_eq!(rt; b.state(), State::Closed);
+    assert_eq!(rt; b.due(), None);
+    assert_eq!(rt; a.recv(&mut buffer), Ok(Received::EndOfStream));
+    Ok(())
+}
+
+#[test]
+fn both_sides_close_at_once(rt: HostRuntime) -> Result<(), Fail> {
+    let (mut a, mut b) = opened(&rt, rt.alloc())?;
+    assert_eq!(rt; a.shutdown(), Ok(()));
+    assert_eq!(rt; b.shutdown(), Ok(()));
+    let mut frame = [0; FRAME];
+    assert_eq!(rt; a.emit(Moment(0), &mut frame), Some(20));
+    pass(&rt, &mut b, &mut a);
+    let fin = TcpView::parse(A.addr, B.addr, &frame[..20]).expect(&rt, "it is well-formed");
+    assert!(rt; b.segment(&fin) == Fate::Stays);
+    assert_eq!(rt; a.state(), State::Closing);
+    assert_eq!(rt; b.state(), State::Closing);
+    pass(&rt, &mut a, &mut b);
+    pass(&rt, &mut b, &mut a);
+    assert_eq!(rt; a.state(), State::TimeWait);
+    assert_eq!(rt; b.state(), State::TimeWait);
+    Ok(())
+}
+
 #[test]
 fn states_have_the_names_of_the_rfc(rt: HostRuntime) -> Result<(), Fail> {
     let rows = [

@@ -8,11 +8,13 @@ use Rattle.ipv4.specs.declared.addr.Endpoint.{Endpoint}
 use Rattle.ipv4.specs.Addresses.{pair_of}
 use Rattle.tcp_state.specs.declared.buffers.Buffers.{Buffers}
 use Rattle.tcp_state.specs.declared.calls.Received.{Received}
-use Rattle.tcp_state.specs.declared.calls.Received.TheVariants.{Octets}
+use Rattle.tcp_state.specs.declared.calls.Received.TheVariants.{Octets, EndOfStream}
+use Rattle.tcp_state.specs.declared.calls.Refusal.{Refusal as ConnectionRefusal}
 use Rattle.tcp_state.specs.declared.calls.Refusal.TheVariants as connection_variants
+use Rattle.tcp_state.specs.Calls as connection_calls
 use Rattle.tcp_state.specs.Calls.{taken, moved, after_recv}
 use Rattle.tcp_state.specs.Stream.{send_room}
-use Rattle.tcp_state.specs.View.{View, is_opening, opened_actively}
+use Rattle.tcp_state.specs.View.{View, is_opening, is_write_closed, is_end_seen, opened_actively}
 use Rattle.host.specs.declared.entry.SocketId.{SocketId}
 use Rattle.host.specs.declared.entry.Entry.{Entry}
 use Rattle.host.specs.declared.entry.Role.{Role}
@@ -91,22 +93,24 @@ pub record SendsOn (h : HostView) (id : SocketId) (octets : List ℕ) (count : �
   pub l : Option SocketId
   pub found : find (is_socket id) h.entries ≡ Some (record { id = id; role = Connected c l })
   pub opened : is_opening c.state ≡ false
+  pub unclosed : is_write_closed c.state ≡ false
   pub takes : count ≡ taken c octets
 
 -- a send that is answered with a count is one on an open connection
 pub sends-on : (h : HostView) (id : SocketId) (octets : List ℕ) (count : ℕ) → send_answer h id octets ≡ Ok count → SendsOn h id octets count
 sends-on h id octets count answered = by_entry (find (is_socket id) h.entries) refl
   where
-    by_tests : (c : View) (l : Option SocketId) → find (is_socket id) h.entries ≡ Some (record { id = id; role = Connected c l }) → (b full : Bool) → is_opening c.state ≡ b
-        → of_connection (if b then Err connection_variants.EAGAIN else if full then Err connection_variants.EAGAIN else Ok (taken c octets)) ≡ Ok count → SendsOn h id octets count
-    by_tests c l at true full is e = cc
-    by_tests c l at false true is e = cc
-    by_tests c l at false false is e = record { c = c; l = l; found = at; opened = is; takes = cc }
+    by_tests : (c : View) (l : Option SocketId) → find (is_socket id) h.entries ≡ Some (record { id = id; role = Connected c l }) → (b closed full : Bool) → is_opening c.state ≡ b → is_write_closed c.state ≡ closed
+        → of_connection (if b then Err connection_variants.EAGAIN else if closed then Err connection_variants.EPIPE else if full then Err connection_variants.EAGAIN else Ok (taken c octets)) ≡ Ok count → SendsOn h id octets count
+    by_tests c l at true closed full is was e = cc
+    by_tests c l at false true full is was e = cc
+    by_tests c l at false false true is was e = cc
+    by_tests c l at false false false is was e = record { c = c; l = l; found = at; opened = is; unclosed = was; takes = cc }
 
     by_role : (e : Entry) → find (is_socket id) h.entries ≡ Some e → (r : Role) → e.role ≡ r → sent_answer r octets ≡ Ok count → SendsOn h id octets count
     by_role e at (Idle buffers bound) is a = cc
     by_role e at (Listener bound backlog) is a = cc
-    by_role e at (Connected c l) is a = by_tests c l (found_socket h.entries id e (Connected c l) at is) (is_opening c.state) ((send_room c.sending == 0) && not (length octets == 0)) refl a
+    by_role e at (Connected c l) is a = by_tests c l (found_socket h.entries id e (Connected c l) at is) (is_opening c.state) (is_write_closed c.state) ((send_room c.sending == 0) && not (length octets == 0)) refl refl a
 
     by_entry : (o : Option Entry) → find (is_socket id) h.entries ≡ o → SendsOn h id octets count
     by_entry None at = let bad : Err EBADF ≡ Ok count = sym (rw at) ∙ answered in cc
@@ -116,26 +120,41 @@ sends-on h id octets count answered = by_entry (find (is_socket id) h.entries) r
 
 -- Receive.
 
--- The socket is a connection that is open and has octets to read, and the buffer has room.
+-- The socket is a connection that answers so, and the buffer has room.
 pub record ReadsOn (h : HostView) (id : SocketId) (len : ℕ) (got : Received) : Type 0 where
   pub c : View
   pub l : Option SocketId
   pub found : find (is_socket id) h.entries ≡ Some (record { id = id; role = Connected c l })
-  pub opened : is_opening c.state ≡ false
   pub some : (len == 0) ≡ false
-  pub got_is : got ≡ Octets (moved c len)
+  pub told : connection_calls.recv_answer c len ≡ Ok got
 
--- a receive that is answered with octets is one on an open connection
+-- octets are answered of an open connection that has some, and then as many as the buffer holds
+pub octets_told : (c : View) (len count : ℕ) → connection_calls.recv_answer c len ≡ Ok (Octets count) → (is_opening c.state ≡ false) × (count ≡ moved c len)
+octets_told c len count = by_tests (is_opening c.state) (length c.receiving.readable == 0) (is_end_seen c.state) refl
+  where
+    again : Result Received ConnectionRefusal
+    again = Err connection_variants.EAGAIN
+
+    ended : Result Received ConnectionRefusal
+    ended = Ok EndOfStream
+
+    by_tests : (opening none seen : Bool) → is_opening c.state ≡ opening → (if opening then again else if not none then Ok (Octets (moved c len)) else if seen then ended else again) ≡ Ok (Octets count)
+        → (is_opening c.state ≡ false) × (count ≡ moved c len)
+    by_tests true none seen is e = let bad : again ≡ Ok (Octets count) = e in cc
+    by_tests false false seen is e = let same : moved c len ≡ count = cc in (is, sym same)
+    by_tests false true true is e = let bad : ended ≡ Ok (Octets count) = e in cc
+    by_tests false true false is e = let bad : again ≡ Ok (Octets count) = e in cc
+
+-- a receive that is answered is one on a connection
 pub reads-on : (h : HostView) (id : SocketId) (len : ℕ) (got : Received) → recv_answer h id len ≡ Ok got → ReadsOn h id len got
 reads-on h id len got answered = by_entry (find (is_socket id) h.entries) refl
   where
-    by_tests : (c : View) (l : Option SocketId) → find (is_socket id) h.entries ≡ Some (record { id = id; role = Connected c l }) → (none b empty : Bool)
-        → (len == 0) ≡ none → is_opening c.state ≡ b → cond none (Err EINVAL) (of_connection (if b || empty then Err connection_variants.EAGAIN else Ok (Octets (moved c len)))) ≡ Ok got
+    by_tests : (c : View) (l : Option SocketId) → find (is_socket id) h.entries ≡ Some (record { id = id; role = Connected c l }) → (none : Bool) (r : Result Received ConnectionRefusal)
+        → (len == 0) ≡ none → connection_calls.recv_answer c len ≡ r → cond none (Err EINVAL) (of_connection r) ≡ Ok got
         → ReadsOn h id len got
-    by_tests c l at true b empty room is e = cc
-    by_tests c l at false true empty room is e = cc
-    by_tests c l at false false true room is e = cc
-    by_tests c l at false false false room is e = record { c = c; l = l; found = at; opened = is; some = room; got_is = cc }
+    by_tests c l at true r room is e = cc
+    by_tests c l at false (Ok x) room is e = let same : x ≡ got = cc in record { c = c; l = l; found = at; some = room; told = is ∙ ap Ok same }
+    by_tests c l at false (Err x) room is e = cc
 
     of_idle : (none : Bool) → cond none (Err EINVAL) (Err ENOTCONN) ≡ Ok got → ⊥
     of_idle true e = cc
@@ -144,7 +163,7 @@ reads-on h id len got answered = by_entry (find (is_socket id) h.entries) refl
     by_role : (e : Entry) → find (is_socket id) h.entries ≡ Some e → (r : Role) → e.role ≡ r → received_answer r len ≡ Ok got → ReadsOn h id len got
     by_role e at (Idle buffers bound) is a = absurd (of_idle (len == 0) a)
     by_role e at (Listener bound backlog) is a = cc
-    by_role e at (Connected c l) is a = by_tests c l (found_socket h.entries id e (Connected c l) at is) (len == 0) (is_opening c.state) (length c.receiving.readable == 0) refl refl a
+    by_role e at (Connected c l) is a = by_tests c l (found_socket h.entries id e (Connected c l) at is) (len == 0) (connection_calls.recv_answer c len) refl refl a
 
     by_entry : (o : Option Entry) → find (is_socket id) h.entries ≡ o → ReadsOn h id len got
     by_entry None at = let bad : Err EBADF ≡ Ok got = sym (rw at) ∙ answered in cc

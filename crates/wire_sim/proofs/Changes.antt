@@ -22,7 +22,7 @@ SameBut i told told' = (id : SocketId) → (id.0 == i) ≡ false → told' id �
 
 -- the end of a connection
 abbrev pub end_with : View → SocketId → Told → Told → End
-end_with c id sent read = record { connection = Some c; written = sent id; read = read id }
+end_with c id sent read = record { connection = Some c; written = sent id; closed = false; read = read id; ended = false }
 
 -- One connection of a table became another between the same ports.
 pub record Altered (own other : Addr) (last : ℕ) (xs ys : List Entry) (sent read sent' read' : Told) (id : SocketId) (c c' : View) : Type 0 where
@@ -119,6 +119,6 @@ altered own other last xs sent read sent' read' test g id c c' l l' found become
     other_end p q is (Some y) at =
         let apart = other_id p q y is at in
         ap (λ o. end_of_slot sent' read' (option_map slot o)) (stays p q is ∙ at)
-        ∙ (ap (λ w. let r : End = record { connection = connection_in y.role; written = w; read = read' y.id } in r) (same_sent y.id apart)
-        ∙ (ap (λ w. let r : End = record { connection = connection_in y.role; written = sent y.id; read = w } in r) (same_read y.id apart)
+        ∙ (ap (λ w. let r : End = record { connection = connection_in y.role; written = w; closed = false; read = read' y.id; ended = false } in r) (same_sent y.id apart)
+        ∙ (ap (λ w. let r : End = record { connection = connection_in y.role; written = sent y.id; closed = false; read = w; ended = false } in r) (same_read y.id apart)
         ∙ sym (ap (λ o. end_of_slot sent read (option_map slot o)) at)))

@@ -60,16 +60,17 @@ with_openings-grows n (o ∷ os) i =
     let more : NetworkView = record n { openings = n.openings ++ o ∷ []; written = n.written ++ 0 ∷ [] } in
     omega (arith, with_openings-grows more os i, push-grows n.written i)
 
--- what a connection answers to a send, by its two tests
-connection_took : (opening full : Bool) (n v : ℕ) → of_connection (if opening then Err connection.EAGAIN else if full then Err connection.EAGAIN else Ok n) ≡ Ok v → n ≡ v
-connection_took true full n v e = cc
-connection_took false true n v e = cc
-connection_took false false n v e = cc
+-- what a connection answers to a send, by its three tests
+connection_took : (opening closed full : Bool) (n v : ℕ) → of_connection (if opening then Err connection.EAGAIN else if closed then Err connection.EPIPE else if full then Err connection.EAGAIN else Ok n) ≡ Ok v → n ≡ v
+connection_took true closed full n v e = cc
+connection_took false true full n v e = cc
+connection_took false false true n v e = cc
+connection_took false false false n v e = cc
 
 role_took : (role : Role) (octets : List ℕ) (v : ℕ) → sent_answer role octets ≡ Ok v → v ≤ 65535
 role_took (Idle buffers bound) octets v e = cc
 role_took (Listener bound backlog) octets v e = cc
-role_took (Connected c listener) octets v e = let same : taken c octets ≡ v = connection_took _ _ _ v e in omega (arith, same)
+role_took (Connected c listener) octets v e = let same : taken c octets ≡ v = connection_took _ _ _ _ v e in omega (arith, same)
 
 -- one send takes at most what a buffer holds
 took : (h : HostView) (id : SocketId) (octets : List ℕ) (v : ℕ) (r : Option Role) → role_of h id ≡ r → send_answer h id octets ≡ Ok v → v ≤ 65535

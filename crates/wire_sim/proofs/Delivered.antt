@@ -34,9 +34,9 @@ pub arrival-unfound : (h : HostView) (isn : ℕ) (s : Segment) → find (is_betw
     → arrival h isn s ≡ cond (is_opening s.flags) (opening h isn s) (Becomes h)
 arrival-unfound h isn s none = rw none
 
-syn_first : (a b c d : Bool) → (a && b && c && d) ≡ true → a ≡ true
-syn_first true b c d e = refl
-syn_first false b c d e = cc
+syn_first : (a b c : Bool) → (a && b && c) ≡ true → a ≡ true
+syn_first true b c e = refl
+syn_first false b c e = cc
 
 -- what a frame that was delivered made of the host
 pub delivery : (h : HostView) (isn : ℕ) (octets : List ℕ) (outcome : Result (Unit {0}) DropCause) (new : HostView) → IsDelivered h isn octets outcome new → Delivery h isn octets new
@@ -77,7 +77,7 @@ delivery h isn octets outcome new is = by_parse is.0 is.1 is.2
         → (b : Bool) → is_opening s.flags ≡ b → Meets (cond b (opening h isn s) (Becomes h)) h outcome new → Delivery h isn octets new
     by_flags s parsed none false is meets = Ignored meets.1
     by_flags s parsed none true is meets =
-        by_listener s parsed none (syn_first s.flags.syn (not s.flags.rst) (not s.flags.ack) (not s.flags.fin) is) (find (is_listening_at s.destination) h.entries) refl meets
+        by_listener s parsed none (syn_first s.flags.syn (not s.flags.rst) (not s.flags.ack) is) (find (is_listening_at s.destination) h.entries) refl meets
 
     by_entry : (s : Segment) → IsParsed h.neighbour h.addr octets (Ok s) → (o : Option Entry) → find (is_between (local_end h s) (peer_end h s)) h.entries ≡ o
         → Meets (arrival h isn s) h outcome new → Delivery h isn octets new

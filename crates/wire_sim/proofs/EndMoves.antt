@@ -2,7 +2,7 @@
 use Rattle.std.proofs.Common.{◌≡◌, ℕ, ◌<◌, ◌^◌, ◌⊎◌, inl, inr, false, List, [], ◌++◌, take, Some, None, refl, sym, ap, subst}
 use Rattle.ipv4.specs.declared.addr.Endpoint.{Endpoint}
 use Rattle.tcp_state.specs.declared.moment.Moment.{Moment}
-use Rattle.tcp_state.specs.View.{View, IsSound, is_opening, opened_actively, after_tick}
+use Rattle.tcp_state.specs.View.{View, IsSound, is_opening, is_write_closed, opened_actively, after_tick}
 use Rattle.tcp_state.specs.Calls.{taken, after_send, moved, after_recv}
 use Rattle.stream_law.specs.Pairing.{End, Emission, Pairing, Move, connects, takes, gives, ticks, Meets, here_moves}
 
@@ -27,16 +27,16 @@ end-stays limit e e' same other out arrived = inl (ap (λ x. pairing x other out
 pub end-goes : (limit : ℕ) (d e d' e' : End) → d ≡ e → d' ≡ e' → EndGoes limit e e' → EndGoes limit d d'
 end-goes limit d e d' e' is is' goes other out arrived = subst (λ x. Goes limit (pairing x other out arrived) (pairing d' other out arrived)) (sym is) (subst (λ y. Goes limit (pairing e other out arrived) (pairing y other out arrived)) (sym is') (goes other out arrived))
 
-pub end-connects : (limit : ℕ) (local peer : Endpoint) (isn : ℕ) → isn < 2 ^ 32 → EndGoes limit (record { connection = None; written = []; read = [] }) (record { connection = Some (opened_actively local peer isn); written = []; read = [] })
-end-connects limit local peer isn fits other out arrived = inr (connects (pairing (record { connection = None; written = []; read = [] }) other out arrived) local peer isn refl fits)
+pub end-connects : (limit : ℕ) (local peer : Endpoint) (isn : ℕ) → isn < 2 ^ 32 → EndGoes limit (record { connection = None; written = []; closed = false; read = []; ended = false }) (record { connection = Some (opened_actively local peer isn); written = []; closed = false; read = []; ended = false })
+end-connects limit local peer isn fits other out arrived = inr (connects (pairing (record { connection = None; written = []; closed = false; read = []; ended = false }) other out arrived) local peer isn refl fits)
 
-pub end-takes : (limit : ℕ) (c : View) (octets w r : List ℕ) → IsSound c → is_opening c.state ≡ false
-    → EndGoes limit (record { connection = Some c; written = w; read = r }) (record { connection = Some (after_send c octets); written = w ++ take (taken c octets) octets; read = r })
-end-takes limit c octets w r sound opened other out arrived = inr (takes (pairing (record { connection = Some c; written = w; read = r }) other out arrived) c octets refl sound opened)
+pub end-takes : (limit : ℕ) (c : View) (octets w r : List ℕ) → IsSound c → is_opening c.state ≡ false → is_write_closed c.state ≡ false
+    → EndGoes limit (record { connection = Some c; written = w; closed = false; read = r; ended = false }) (record { connection = Some (after_send c octets); written = w ++ take (taken c octets) octets; closed = false; read = r; ended = false })
+end-takes limit c octets w r sound opened unclosed other out arrived = inr (takes (pairing (record { connection = Some c; written = w; closed = false; read = r; ended = false }) other out arrived) c octets refl sound opened unclosed)
 
 pub end-gives : (limit : ℕ) (c : View) (len : ℕ) (w r : List ℕ) → IsSound c → is_opening c.state ≡ false
-    → EndGoes limit (record { connection = Some c; written = w; read = r }) (record { connection = Some (after_recv c len); written = w; read = r ++ take (moved c len) c.receiving.readable })
-end-gives limit c len w r sound opened other out arrived = inr (gives (pairing (record { connection = Some c; written = w; read = r }) other out arrived) c len refl sound opened)
+    → EndGoes limit (record { connection = Some c; written = w; closed = false; read = r; ended = false }) (record { connection = Some (after_recv c len); written = w; closed = false; read = r ++ take (moved c len) c.receiving.readable; ended = false })
+end-gives limit c len w r sound opened other out arrived = inr (gives (pairing (record { connection = Some c; written = w; closed = false; read = r; ended = false }) other out arrived) c len refl sound opened)
 
-pub end-ticks : (limit : ℕ) (c : View) (now : Moment) (w r : List ℕ) → EndGoes limit (record { connection = Some c; written = w; read = r }) (record { connection = Some (after_tick c now); written = w; read = r })
-end-ticks limit c now w r other out arrived = inr (ticks (pairing (record { connection = Some c; written = w; read = r }) other out arrived) c now refl)
+pub end-ticks : (limit : ℕ) (c : View) (now : Moment) (w r : List ℕ) → EndGoes limit (record { connection = Some c; written = w; closed = false; read = r; ended = false }) (record { connection = Some (after_tick c now); written = w; closed = false; read = r; ended = false })
+end-ticks limit c now w r other out arrived = inr (ticks (pairing (record { connection = Some c; written = w; closed = false; read = r; ended = false }) other out arrived) c now refl)

@@ -1,5 +1,5 @@
 -- What goes out of a connection and of a host.
-use Rattle.std.proofs.Common.{◌≡◌, ◌⊎◌, inl, inr, ℕ, ◌<◌, ◌≤◌, ◌^◌, ◌==◌, ◌&&◌, ◌||◌, nat_lt, min, if◌then◌else◌, Bool, true, false, List, [], length, Ok, arith, refl, sym, ◌∙◌, ap, subst, length-take}
+use Rattle.std.proofs.Common.{◌≡◌, ◌⊎◌, inl, inr, ℕ, ◌<◌, ◌≤◌, ◌^◌, ◌==◌, ◌&&◌, ◌||◌, not, nat_lt, min, if◌then◌else◌, Bool, true, false, List, [], length, Ok, arith, refl, sym, ◌∙◌, ap, subst, length-take}
 use Rattle.std.proofs.Common.{Option, Some, None, option_map, option_and_then}
 use Rattle.std.specs.List.{find}
 use Rattle.std.proofs.lemmas.Bool.Decides.{nat_tests}
@@ -9,14 +9,15 @@ use Rattle.tcp_segment.specs.Sent.{CanBeSent, sent}
 use Rattle.tcp_segment.proofs.Answering.{one_answer}
 use Rattle.tcp_segment.proofs.Checksum.{sent_spelled}
 use Rattle.tcp_state.specs.declared.emission.Due.{Due}
-use Rattle.tcp_state.specs.declared.emission.Due.TheVariants.{Syn, Text, Ack}
+use Rattle.tcp_state.specs.declared.emission.Due.TheVariants.{Syn, Text, Fin, Ack}
 use Rattle.tcp_state.specs.declared.connection.Resend.{Resend}
 use Rattle.tcp_state.specs.declared.connection.Resend.TheVariants as resend
 use Rattle.tcp_state.specs.declared.moment.Moment.{Moment}
 use Rattle.tcp_state.specs.Stream.{outstanding}
 use Rattle.tcp_state.specs.Windows.{sendable}
-use Rattle.tcp_state.specs.View.{View, IsSound, is_opening, is_syn_sent, is_due as is_resend_due, is_idle}
+use Rattle.tcp_state.specs.View.{View, IsSound, is_opening, is_syn_sent, is_closed, is_due as is_resend_due, is_idle}
 use Rattle.tcp_state.specs.Due.{MayGoOut, first_due, head_of, octets_of, number_of, flags_of, emitted, emitted_len, after_emitted}
+use Rattle.tcp_state.specs.Arrival.{is_fin_next}
 use Rattle.host.specs.declared.entry.SocketId.{SocketId}
 use Rattle.host.specs.declared.entry.Entry.{Entry}
 use Rattle.host.specs.declared.entry.Role.{Role}
@@ -30,33 +31,41 @@ use Rattle.host.specs.Sound.{IsSoundConnection}
 -- What is due is a segment that may go out.
 
 -- what the tests of what goes out first come to
-abbrev Tested : Bool → Bool → Bool → Bool → Bool → Bool → ℕ → ℕ → Option Due
-Tested opening unsent again none more owes o few =
-    if opening then (if unsent then Some Syn else (if owes then Some Ack else None)) else if again then Some (Text o) else if none && more then Some (Text few) else (if owes then Some Ack else None)
+abbrev Tested : Bool → Bool → Bool → Bool → Bool → Bool → Bool → ℕ → ℕ → Option Due
+Tested opening unsent again none more fin owes o few =
+    if opening then (if unsent then Some Syn else (if owes then Some Ack else None))
+    else if again then Some (if fin then Fin else Text o)
+    else if not none then (if owes then Some Ack else None)
+    else if more then Some (Text few)
+    else if fin then Some Fin
+    else (if owes then Some Ack else None)
 
 -- why the first segment goes out
-abbrev Reason : Bool → Bool → Bool → Bool → ℕ → ℕ → Due → Type 0
-Reason opening again more owes o few Syn = opening ≡ true
-Reason opening again more owes o few (Text count) = (opening ≡ false) × (((again ≡ true) × (count ≡ o)) ⊎ ((more ≡ true) × (count ≡ few)))
-Reason opening again more owes o few Ack = owes ≡ true
+abbrev Reason : Bool → Bool → Bool → Bool → Bool → ℕ → ℕ → Due → Type 0
+Reason opening again more fin owes o few Syn = opening ≡ true
+Reason opening again more fin owes o few (Text count) = (opening ≡ false) × (((again ≡ true) × (fin ≡ false) × (count ≡ o)) ⊎ ((more ≡ true) × (count ≡ few)))
+Reason opening again more fin owes o few Fin = fin ≡ true
+Reason opening again more fin owes o few Ack = owes ≡ true
 
-reason : (opening unsent again none more owes : Bool) (o few : ℕ) (due : Due) → Tested opening unsent again none more owes o few ≡ Some due → Reason opening again more owes o few due
-reason true true again none more owes o few due e = let same : Syn ≡ due = cc in subst (λ d. Reason true again more owes o few d) same refl
-reason true false again none more true o few due e = let same : Ack ≡ due = cc in subst (λ d. Reason true again more true o few d) same refl
-reason true false again none more false o few due e = cc
-reason false unsent true none more owes o few due e = let same : Text o ≡ due = cc in subst (λ d. Reason false true more owes o few d) same (refl, inl (refl, refl))
-reason false unsent false true true owes o few due e = let same : Text few ≡ due = cc in subst (λ d. Reason false false true owes o few d) same (refl, inr (refl, refl))
-reason false unsent false true false true o few due e = let same : Ack ≡ due = cc in subst (λ d. Reason false false false true o few d) same refl
-reason false unsent false true false false o few due e = cc
-reason false unsent false false more true o few due e = let same : Ack ≡ due = cc in subst (λ d. Reason false false more true o few d) same refl
-reason false unsent false false more false o few due e = cc
+reason : (opening unsent again none more fin owes : Bool) (o few : ℕ) (due : Due) → Tested opening unsent again none more fin owes o few ≡ Some due → Reason opening again more fin owes o few due
+reason true true again none more fin owes o few due e = let same : Syn ≡ due = cc in subst (λ d. Reason true again more fin owes o few d) same refl
+reason true false again none more fin true o few due e = let same : Ack ≡ due = cc in subst (λ d. Reason true again more fin true o few d) same refl
+reason true false again none more fin false o few due e = cc
+reason false unsent true none more true owes o few due e = let same : Fin ≡ due = cc in subst (λ d. Reason false true more true owes o few d) same refl
+reason false unsent true none more false owes o few due e = let same : Text o ≡ due = cc in subst (λ d. Reason false true more false owes o few d) same (refl, inl (refl, refl, refl))
+reason false unsent false false more fin true o few due e = let same : Ack ≡ due = cc in subst (λ d. Reason false false more fin true o few d) same refl
+reason false unsent false false more fin false o few due e = cc
+reason false unsent false true true fin owes o few due e = let same : Text few ≡ due = cc in subst (λ d. Reason false false true fin owes o few d) same (refl, inr (refl, refl))
+reason false unsent false true false true owes o few due e = let same : Fin ≡ due = cc in subst (λ d. Reason false false false true owes o few d) same refl
+reason false unsent false true false false true o few due e = let same : Ack ≡ due = cc in subst (λ d. Reason false false false false true o few d) same refl
+reason false unsent false true false false false o few due e = cc
 
 reason_of : (v : View) (due : Due) → first_due v ≡ Some due
-    → Reason (is_opening v.state) (is_resend_due v.resend) (nat_lt 0 (sendable v.sending)) v.owes_ack (outstanding v.sending) (sendable v.sending) due
+    → Reason (is_opening v.state) (is_resend_due v.resend) (nat_lt 0 (sendable v.sending)) (is_fin_next v) v.owes_ack (outstanding v.sending) (sendable v.sending) due
 reason_of v due first =
     let again = is_resend_due v.resend in
     let none = outstanding v.sending == 0 in
-    reason (is_opening v.state) (none || again) again none (nat_lt 0 (sendable v.sending)) v.owes_ack (outstanding v.sending) (sendable v.sending) due first
+    reason (is_opening v.state) (none || again) again none (nat_lt 0 (sendable v.sending)) (is_fin_next v) v.owes_ack (outstanding v.sending) (sendable v.sending) due first
 
 -- a timer that came due is not idle
 due_runs : (r : Resend) → is_resend_due r ≡ true → is_idle r ≡ false
@@ -79,26 +88,29 @@ pub due-may : (v : View) (due : Due) → IsSound v → first_due v ≡ Some due 
 due-may v Syn sound first = reason_of v Syn first
 due-may v (Text count) sound first =
     let why = reason_of v (Text count) first in
-    let most : outstanding v.sending ≤ min (length v.sending.held) 1460 = subst (λ b. outstanding v.sending ≤ (if b then 1 else min (length v.sending.held) 1460)) why.0 sound.flight in
-    step why.0 most why.1
+    step why.0 why.1
   where
-    step : is_opening v.state ≡ false → outstanding v.sending ≤ min (length v.sending.held) 1460
-        → (((is_resend_due v.resend ≡ true) × (count ≡ outstanding v.sending)) ⊎ ((nat_lt 0 (sendable v.sending) ≡ true) × (count ≡ sendable v.sending))) → MayGoOut v (Text count)
-    step opened most (inl (again, same)) =
+    step : is_opening v.state ≡ false
+        → (((is_resend_due v.resend ≡ true) × (is_fin_next v ≡ false) × (count ≡ outstanding v.sending)) ⊎ ((nat_lt 0 (sendable v.sending) ≡ true) × (count ≡ sendable v.sending))) → MayGoOut v (Text count)
+    step opened (inl (again, octets, same)) =
+        let flight : outstanding v.sending ≤ (if is_fin_next v then 1 else min (length v.sending.held) 1460) = subst (λ b. outstanding v.sending ≤ (if b || is_fin_next v then 1 else min (length v.sending.held) 1460)) opened sound.flight in
+        let most : outstanding v.sending ≤ min (length v.sending.held) 1460 = subst (λ b. outstanding v.sending ≤ (if b then 1 else min (length v.sending.held) 1460)) octets flight in
         let some : 0 < outstanding v.sending = unequal (outstanding v.sending) (sym sound.timer ∙ due_runs v.resend again) in
         (opened, omega (arith, some, same), omega (arith, most, same), omega (arith, most, same))
-    step opened most (inr (more, same)) =
+    step opened (inr (more, same)) =
         let some : 0 < sendable v.sending = above (sendable v.sending) more in
         let few : sendable v.sending ≤ v.sending.smss = omega arith in
         let held : sendable v.sending ≤ length v.sending.held = omega arith in
         (opened, omega (arith, some, same), omega (arith, held, same), omega (arith, few, same, sound.segment))
-due-may v Ack sound first = owing (is_syn_sent v.state) v.owes_ack sound.ack (reason_of v Ack first)
+due-may v Fin sound first = reason_of v Fin first
+due-may v Ack sound first = owing (is_syn_sent v.state || is_closed v.state) v.owes_ack sound.ack (reason_of v Ack first)
 
 -- Its fields are of their width.
 
 number_fits : (v : View) (due : Due) → IsSound v → number_of v due < 2 ^ 32
 number_fits v Syn sound = sound.una
 number_fits v (Text count) sound = sound.una
+number_fits v Fin sound = sound.una
 number_fits v Ack sound = sound.nxt
 
 acknowledgement_fits : (b : Bool) (n : ℕ) → n < 2 ^ 32 → (if b then n else 0) < 2 ^ 32
@@ -108,6 +120,7 @@ acknowledgement_fits false n fits = omega arith
 text_fits : (v : View) (due : Due) → MayGoOut v due → length (octets_of v due) ≤ 1460
 text_fits v Syn may = omega arith
 text_fits v (Text count) may = omega (arith, length-take count v.sending.held, may.3)
+text_fits v Fin may = omega arith
 text_fits v Ack may = omega arith
 
 offset_fits : (b : Bool) → (if b then 6 else 5) ≤ 6

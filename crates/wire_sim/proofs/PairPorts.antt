@@ -13,7 +13,8 @@ use Rattle.host.specs.declared.entry.Entry.{Entry}
 use Rattle.host.specs.declared.entry.Role.{Role}
 use Rattle.host.specs.declared.entry.Role.TheVariants.{Idle, Listener, Connected}
 use Rattle.host.specs.Endpoints.{same_addr, same_end}
-use Rattle.host.specs.Entries.{is_closed, is_live_between, joins, is_of_pair}
+use Rattle.tcp_state.specs.View.{is_closed}
+use Rattle.host.specs.Entries.{is_live_between, joins, is_of_pair}
 use Rattle.host.specs.HostView.{HostView, holder_id}
 use Rattle.wire_sim.specs.Tallies.{same_pair}
 use Rattle.wire_sim.proofs.Tables.{IsOurRole, Slot, slot, slot_of, joins_ports, eqb-same, same_addr-same}

@@ -152,12 +152,12 @@ projects-began limit hs ts a b own own' other n trace isn place f small_isn h k 
     let p = pairing nothing_yet there_end (h.out p0 q0) (h.arrived p0 q0) in
     let met : Meets limit p = subst (λ v. Meets limit (pairing v there_end (h.out p0 q0) (h.arrived p0 q0))) blank (h.meets p0 q0) in
     let recent : IsTimely limit p k.emission = record { own = subst (λ (v : End). length v.written < k.emission.other_written + limit) blank r.ours; other = r.theirs } in
-    let now_end : end_at hs trace a b next.entries p0 q0 ≡ record { connection = Some c; written = []; read = [] } =
-    ap (end_of_slot (gave hs trace) (got hs trace)) (m.after p0 q0 (both_same p0 q0)) ∙ (ap (λ w. let e : End = record { connection = Some c; written = w; read = got hs trace id } in e) m.unsent ∙ ap (λ w. let e : End = record { connection = Some c; written = []; read = w } in e) m.unread) in
+    let now_end : end_at hs trace a b next.entries p0 q0 ≡ record { connection = Some c; written = []; closed = false; read = []; ended = false } =
+    ap (end_of_slot (gave hs trace) (got hs trace)) (m.after p0 q0 (both_same p0 q0)) ∙ (ap (λ w. let e : End = record { connection = Some c; written = w; closed = false; read = got hs trace id; ended = false } in e) m.unsent ∙ ap (λ w. let e : End = record { connection = Some c; written = []; closed = false; read = w; ended = false } in e) m.unread) in
     let first : Meets limit (pairing (end_at hs trace a b next.entries p0 q0) there_end (h.out p0 q0) (h.arrived p0 q0)) =
     subst (λ v. Meets limit (pairing v there_end (h.out p0 q0) (h.arrived p0 q0))) (sym now_end)
-    (subst (λ x. Meets limit (pairing (record { connection = Some (opened_passively (local_end own s) (peer_end own s) isn x); written = []; read = [] }) there_end (h.out p0 q0) (h.arrived p0 q0))) (sym r.segment)
-    (here_moves p (pairing (record { connection = Some (opened_passively (local_end own s) (peer_end own s) isn k.emission.segment); written = []; read = [] }) there_end (h.out p0 q0) (h.arrived p0 q0)) met
+    (subst (λ x. Meets limit (pairing (record { connection = Some (opened_passively (local_end own s) (peer_end own s) isn x); written = []; closed = false; read = []; ended = false }) there_end (h.out p0 q0) (h.arrived p0 q0))) (sym r.segment)
+    (here_moves p (pairing (record { connection = Some (opened_passively (local_end own s) (peer_end own s) isn k.emission.segment); written = []; closed = false; read = []; ended = false }) there_end (h.out p0 q0) (h.arrived p0 q0)) met
     (accepts p (local_end own s) (peer_end own s) isn k.emission refl small_isn r.among recent (ap (λ (x : Segment). x.flags.syn) (sym r.segment) ∙ syn)))) in
     let turned : Projects limit hs ts a b next other n.frames (n.openings ++ o ∷ []) trace =
     projects-turned limit hs ts a b own next other n.frames n.openings (n.openings ++ o ∷ []) trace trace h (record {
@@ -202,8 +202,8 @@ projects-delivered limit hs ts a b own own' other n trace isn place f is_limit t
     let stays : fate c k.emission.segment ≡ Stays = fate-stays room limit (near limit h.small) p c k.emission refl solid.sound r.among recent (shown limit h.small p met) in
     let heard : Meets limit (pairing (end_with (after_segment c s) id (gave hs trace) (got hs trace)) there_end (h.out s.destination s.source) (h.arrived s.destination s.source)) =
     subst (λ x. Meets limit (pairing (end_with (after_segment c x) id (gave hs trace) (got hs trace)) there_end (h.out s.destination s.source) (h.arrived s.destination s.source))) (sym r.segment)
-    (subst (λ o. Meets limit (pairing (record { connection = remains o (after_segment c k.emission.segment); written = gave hs trace id; read = got hs trace id }) there_end (h.out s.destination s.source) (h.arrived s.destination s.source))) stays
-    (here_moves p (pairing (record { connection = remains (fate c k.emission.segment) (after_segment c k.emission.segment); written = gave hs trace id; read = got hs trace id }) there_end (h.out s.destination s.source) (h.arrived s.destination s.source)) met
+    (subst (λ o. Meets limit (pairing (record { connection = remains o (after_segment c k.emission.segment); written = gave hs trace id; closed = false; read = got hs trace id; ended = false }) there_end (h.out s.destination s.source) (h.arrived s.destination s.source))) stays
+    (here_moves p (pairing (record { connection = remains (fate c k.emission.segment) (after_segment c k.emission.segment); written = gave hs trace id; closed = false; read = got hs trace id; ended = false }) there_end (h.out s.destination s.source) (h.arrived s.destination s.source)) met
     (hears p c k.emission refl solid.sound r.among recent))) in
     let next : HostView = record own { entries = ys } in
     let is_next : own' ≡ next =

@@ -1,5 +1,5 @@
 -- What each answered call makes of the pairings: a move of one of them, or of none.
-use Rattle.std.proofs.Common.{◌≡◌, ℕ, ◌+◌, ◌≤◌, ◌==◌, ◌&&◌, ◌⊎◌, inl, inr, Bool, false, List, [], ◌∷◌, ◌++◌, length, take, Option, Some, Result, Ok, Err, arith, refl, sym, ◌∙◌, ap, subst, append-nil}
+use Rattle.std.proofs.Common.{◌≡◌, ℕ, ◌+◌, ◌≤◌, ◌==◌, ◌&&◌, ◌⊎◌, inl, inr, Bool, true, false, List, [], ◌∷◌, ◌++◌, length, take, Option, Some, None, Result, Ok, Err, arith, refl, sym, ◌∙◌, ap, subst, append-nil}
 use Rattle.std.specs.List.{find}
 use Rattle.std.specs.Global.{Vec}
 use Rattle.ipv4.specs.declared.addr.Addr.{Addr}
@@ -26,20 +26,22 @@ use Rattle.host.specs.Calls.{after_socket, send_answer, after_send, recv_answer,
 use Rattle.host.specs.Entries.{is_socket, sent, received as received_role, with_role}
 use Rattle.host.specs.HostView.{HostView}
 use Rattle.host.specs.Lists.{change_first}
-use Rattle.stream_law.specs.Pairing.{Meets}
+use Rattle.stream_law.specs.Pairing.{Meets, here_moves, ends}
 use Rattle.host.specs.Sound.{IsSoundConnection, IsSoundRole, IsSoundHost}
 use Rattle.wire_sim.specs.Sides.{other_side}
 use Rattle.wire_sim.specs.Steps.{MeetsSocket, MeetsReceived, called, with_host, with_openings}
 use Rattle.wire_sim.specs.Tallies.{counted}
 use Rattle.wire_sim.specs.Trace.{sent_on, read_on, sent_by}
 use Rattle.wire_sim.specs.WorldView.{NetworkView}
-use Rattle.wire_sim.proofs.Accepted.{sends-on, reads-on, received-connected, readable_on-connected}
+use Rattle.wire_sim.proofs.Accepted.{sends-on, reads-on, octets_told, received-connected, readable_on-connected}
 use Rattle.wire_sim.proofs.Changes.{SameBut, Altered, altered, end_with, by_test}
 use Rattle.wire_sim.proofs.EndMoves.{pairing, EndGoes, meets-goes, end-takes, end-gives}
 use Rattle.wire_sim.proofs.Finding.{All-find}
-use Rattle.wire_sim.proofs.KeepsPorts.{keeps-send, keeps-recv}
+use Rattle.wire_sim.proofs.KeepsPorts.{keeps-nothing, keeps-send, keeps-recv}
 use Rattle.wire_sim.proofs.Makings.{Unseen, unseen, IsQuiet as IsQuietChange}
 use Rattle.wire_sim.proofs.Opened.{id_of, opened-kept}
+use Rattle.stream_law.proofs.PairingLaw.{pairing_lawful}
+use Rattle.wire_sim.proofs.ProjectionEmission.{both_same}
 use Rattle.wire_sim.proofs.Projection.{gave, got, end_at, Projects, projects-turned}
 use Rattle.wire_sim.proofs.Tables.{joins_ports, IsOurs, IsOurRole, Slot, slot_of, end_of_slot}
 use Rattle.wire_sim.proofs.Tallied.{tallies, answered, IsQuiet, sent_on-added, read_on-added, tallies-counted, tallies-quiet, sent_by-send, read_by-recv, other-quiet, quiet-everywhere}
@@ -117,6 +119,7 @@ socket_outcome h (reply.Refused refusal.ENOTCONN) new m = absurd m
 socket_outcome h (reply.Refused refusal.EALREADY) new m = absurd m
 socket_outcome h (reply.Refused refusal.EAGAIN) new m = absurd m
 socket_outcome h (reply.Refused refusal.ENETUNREACH) new m = absurd m
+socket_outcome h (reply.Refused refusal.EPIPE) new m = absurd m
 socket_outcome h (reply.Refused refusal.EMFILE) new m = inr m.1
 socket_outcome h (reply.Refused refusal.ENOMEM) new m = inr m.1
 socket_outcome h (reply.Refused refusal.EOPNOTSUPP) new m = absurd m
@@ -134,17 +137,19 @@ pub record ReadsOctets (h : HostView) (id : SocketId) (len : ℕ) (answer : Answ
   pub are_first : octets.items ≡ take (connection_calls.moved c len) c.receiving.readable
   pub becomes : new ≡ after_recv h id len
 
-pub recv_outcome : (h : HostView) (id : SocketId) (len : ℕ) (answer : Answer) (new : HostView) → MeetsReceived h id len (recv_answer h id len) answer new → ReadsOctets h id len answer new ⊎ ((e : Refusal) × (answer ≡ reply.Refused e) × (new ≡ h))
+-- What a receive shows that was told the end.
+pub record ReadsEnd (h : HostView) (id : SocketId) (len : ℕ) : Type 0 where
+  pub c : View
+  pub l : Option SocketId
+  pub found : find (is_socket id) h.entries ≡ Some (record { id = id; role = Connected c l })
+  pub told : connection_calls.recv_answer c len ≡ Ok received.EndOfStream
+
+pub recv_outcome : (h : HostView) (id : SocketId) (len : ℕ) (answer : Answer) (new : HostView) → MeetsReceived h id len (recv_answer h id len) answer new
+    → ReadsOctets h id len answer new ⊎ (ReadsEnd h id len ⊎ ((e : Refusal) × (answer ≡ reply.Refused e) × (new ≡ h)))
 recv_outcome h id len answer new = by_outcome (recv_answer h id len) refl answer
   where
-    count_of : Received → ℕ
-    count_of (received.Octets count) = count
-    count_of received.EndOfStream = 0
-
-    ended : received.EndOfStream ≡ received.Octets 0 → ⊥
-    ended e = cc
-
-    by_outcome : (r : Result Received Refusal) → recv_answer h id len ≡ r → (answer : Answer) → MeetsReceived h id len r answer new → ReadsOctets h id len answer new ⊎ ((e : Refusal) × (answer ≡ reply.Refused e) × (new ≡ h))
+    by_outcome : (r : Result Received Refusal) → recv_answer h id len ≡ r → (answer : Answer) → MeetsReceived h id len r answer new
+        → ReadsOctets h id len answer new ⊎ (ReadsEnd h id len ⊎ ((e : Refusal) × (answer ≡ reply.Refused e) × (new ≡ h)))
     by_outcome (Ok (received.Octets count)) is (reply.Socket id) m = absurd m
     by_outcome (Ok (received.Octets count)) is reply.Done m = absurd m
     by_outcome (Ok (received.Octets count)) is (reply.Accepted i p) m = absurd m
@@ -152,8 +157,9 @@ recv_outcome h id len answer new = by_outcome (recv_answer h id len) refl answer
     by_outcome (Ok (received.Octets count)) is (reply.Sent n) m = absurd m
     by_outcome (Ok (received.Octets count)) is (reply.Octets o) m =
         let r = reads-on h id len (received.Octets count) is in
-        let same : count ≡ connection_calls.moved r.c len = ap count_of r.got_is in
-        inl (record { c = r.c; l = r.l; found = r.found; opened = r.opened; some = r.some; octets = o; is_answer = refl; are_first = m.0 ∙ (readable_on-connected h id count r.c r.l r.found ∙ ap (λ i. take i r.c.receiving.readable) same); becomes = m.1 })
+        let t = octets_told r.c len count r.told in
+        let same : count ≡ connection_calls.moved r.c len = t.1 in
+        inl (record { c = r.c; l = r.l; found = r.found; opened = t.0; some = r.some; octets = o; is_answer = refl; are_first = m.0 ∙ (readable_on-connected h id count r.c r.l r.found ∙ ap (λ i. take i r.c.receiving.readable) same); becomes = m.1 })
     by_outcome (Ok (received.Octets count)) is reply.EndOfStream m = absurd m
     by_outcome (Ok (received.Octets count)) is (reply.State s) m = absurd m
     by_outcome (Ok (received.Octets count)) is (reply.Frame i l) m = absurd m
@@ -167,7 +173,7 @@ recv_outcome h id len answer new = by_outcome (recv_answer h id len) refl answer
     by_outcome (Ok received.EndOfStream) is reply.Started m = absurd m
     by_outcome (Ok received.EndOfStream) is (reply.Sent n) m = absurd m
     by_outcome (Ok received.EndOfStream) is (reply.Octets o) m = absurd m
-    by_outcome (Ok received.EndOfStream) is reply.EndOfStream m = let r = reads-on h id len received.EndOfStream is in let bad = r.got_is in cc
+    by_outcome (Ok received.EndOfStream) is reply.EndOfStream m = let r = reads-on h id len received.EndOfStream is in inr (inl (record { c = r.c; l = r.l; found = r.found; told = r.told }))
     by_outcome (Ok received.EndOfStream) is (reply.State s) m = absurd m
     by_outcome (Ok received.EndOfStream) is (reply.Frame i l) m = absurd m
     by_outcome (Ok received.EndOfStream) is reply.NoFrame m = absurd m
@@ -186,7 +192,7 @@ recv_outcome h id len answer new = by_outcome (recv_answer h id len) refl answer
     by_outcome (Err x) is reply.NoFrame m = absurd m
     by_outcome (Err x) is reply.Taken m = absurd m
     by_outcome (Err x) is (reply.Dropped c) m = absurd m
-    by_outcome (Err x) is (reply.Refused e) m = inr (e, refl, m.1)
+    by_outcome (Err x) is (reply.Refused e) m = inr (inr (e, refl, m.1))
 
 -- Calls that change no connection.
 
@@ -259,9 +265,9 @@ call-sends limit hs ts a b own other n place trace id octets count sound opposit
     let more : gave hs trace' id ≡ gave hs trace id ++ take (connection_calls.taken k.c octets.items) octets.items =
     sent_on-added hs id trace e ∙ ap (λ x. sent_on hs id trace ++ x) ((sent_by-send hs id id octets count).0 (Rattle.wire_sim.proofs.Tables.eqb-same id.0) ∙ ap (λ i. take i octets.items) k.takes) in
     let goes : EndGoes limit (end_with k.c id (gave hs trace) (got hs trace)) (end_with (connection_calls.after_send k.c octets.items) id (gave hs trace') (got hs trace')) =
-    subst (λ x. EndGoes limit (end_with k.c id (gave hs trace) (got hs trace)) (record { connection = Some (connection_calls.after_send k.c octets.items); written = x; read = got hs trace' id })) (sym more)
-    (subst (λ x. EndGoes limit (end_with k.c id (gave hs trace) (got hs trace)) (record { connection = Some (connection_calls.after_send k.c octets.items); written = gave hs trace id ++ take (connection_calls.taken k.c octets.items) octets.items; read = x })) (sym same_got)
-    (end-takes limit k.c octets.items (gave hs trace id) (got hs trace id) solid.sound k.opened)) in
+    subst (λ x. EndGoes limit (end_with k.c id (gave hs trace) (got hs trace)) (record { connection = Some (connection_calls.after_send k.c octets.items); written = x; closed = false; read = got hs trace' id; ended = false })) (sym more)
+    (subst (λ x. EndGoes limit (end_with k.c id (gave hs trace) (got hs trace)) (record { connection = Some (connection_calls.after_send k.c octets.items); written = gave hs trace id ++ take (connection_calls.taken k.c octets.items) octets.items; closed = false; read = x; ended = false })) (sym same_got)
+    (end-takes limit k.c octets.items (gave hs trace id) (got hs trace id) solid.sound k.opened k.unclosed)) in
     GoesCounted id count refl
     (projects-socket limit hs ts a b own other n trace (call.Send id octets) (reply.Sent count) id k.c (connection_calls.after_send k.c octets.items) k.l (sent octets.items) opposite k.found refl (keeps-send k.c octets.items)
     (λ i apart. sent_on-added hs i trace e ∙ (ap (λ x. sent_on hs i trace ++ x) ((sent_by-send hs id i octets count).1 apart) ∙ append-nil (sent_on hs i trace)))
@@ -281,8 +287,8 @@ call-receives limit hs ts a b own other n place trace id len octets m c l sound 
     let more : got hs trace' id ≡ got hs trace id ++ take (connection_calls.moved c m) c.receiving.readable =
     read_on-added hs id trace e ∙ ap (λ x. read_on hs id trace ++ x) ((told id len octets).0 (Rattle.wire_sim.proofs.Tables.eqb-same id.0) ∙ are_first) in
     let goes : EndGoes limit (end_with c id (gave hs trace) (got hs trace)) (end_with (connection_calls.after_recv c m) id (gave hs trace') (got hs trace')) =
-    subst (λ x. EndGoes limit (end_with c id (gave hs trace) (got hs trace)) (record { connection = Some (connection_calls.after_recv c m); written = gave hs trace' id; read = x })) (sym more)
-    (subst (λ x. EndGoes limit (end_with c id (gave hs trace) (got hs trace)) (record { connection = Some (connection_calls.after_recv c m); written = x; read = got hs trace id ++ take (connection_calls.moved c m) c.receiving.readable })) (sym same_gave)
+    subst (λ x. EndGoes limit (end_with c id (gave hs trace) (got hs trace)) (record { connection = Some (connection_calls.after_recv c m); written = gave hs trace' id; closed = false; read = x; ended = false })) (sym more)
+    (subst (λ x. EndGoes limit (end_with c id (gave hs trace) (got hs trace)) (record { connection = Some (connection_calls.after_recv c m); written = x; closed = false; read = got hs trace id ++ take (connection_calls.moved c m) c.receiving.readable; ended = false })) (sym same_gave)
     (end-gives limit c m (gave hs trace id) (got hs trace id) solid.sound opened)) in
     let quiet : (s : Side) (i : SocketId) → sent_by s i e ≡ [] = λ s i. refl in
     GoesPlain refl
@@ -291,3 +297,24 @@ call-receives limit hs ts a b own other n place trace id len octets m c l sound 
     (λ i apart. read_on-added hs i trace e ∙ (ap (λ x. read_on hs i trace ++ x) ((told i len octets).1 apart) ∙ append-nil (read_on hs i trace)))
     goes h)
     (tallies-quiet trace n.openings e quiet)
+
+-- No caller is told the end, since no caller can close its side yet.
+pub never-ends : (limit : ℕ) (hs ts : Side) (a b : Addr) (own other : HostView) (n : NetworkView) (trace : List Happening) (id : SocketId) (len : ℕ) → ReadsEnd own id len
+    → Projects limit hs ts a b own other n.frames n.openings trace → ⊥
+never-ends limit hs ts a b own other n trace id len r h =
+    let c = r.c in
+    let p = c.local.port in
+    let q = c.peer.port in
+    let m = altered a b own.last_id own.entries (gave hs trace) (got hs trace) (gave hs trace) (got hs trace) (is_socket id) (λ x. x) id c c r.l r.l r.found refl (keeps-nothing c) (λ i other. refl) (λ i other. refl) h.own_table in
+    let there_end = end_at ts trace b a other.entries q p in
+    let e = pairing (end_with c id (gave hs trace) (got hs trace)) there_end (h.out p q) (h.arrived p q) in
+    let met : Meets limit e = subst (λ x. Meets limit (pairing x there_end (h.out p q) (h.arrived p q))) (m.before p q (both_same p q)) (h.meets p q) in
+    let told = record e { own = record e.own { ended = true } } in
+    let law = pairing_lawful limit h.small told (here_moves e told met (ends e c len refl r.told)) in
+    let closed : there_end.closed ≡ true = (law.0.end refl).0 in
+    let bad : false ≡ true = sym (unclosed (slot_of b a other.entries q p)) ∙ closed in
+    cc
+  where
+    unclosed : (o : Option Slot) → (end_of_slot (gave ts trace) (got ts trace) o).closed ≡ false
+    unclosed None = refl
+    unclosed (Some s) = refl

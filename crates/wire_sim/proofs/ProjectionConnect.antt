@@ -1,5 +1,5 @@
 -- A connect that is started opens a pair, and every other call opens none.
-use Rattle.std.proofs.Common.{◌≡◌, ℕ, ◌+◌, ◌<◌, ◌^◌, ◌==◌, ◌&&◌, inl, inr, List, [], ◌∷◌, ◌++◌, if◌then◌else◌, Option, Some, None, is_some, refl, sym, ◌∙◌, ap, subst}
+use Rattle.std.proofs.Common.{◌≡◌, ℕ, ◌+◌, ◌<◌, ◌^◌, ◌==◌, ◌&&◌, inl, inr, false, List, [], ◌∷◌, ◌++◌, if◌then◌else◌, Option, Some, None, is_some, refl, sym, ◌∙◌, ap, subst}
 use Rattle.std.specs.List.{find}
 use Rattle.ipv4.specs.declared.addr.Addr.{Addr}
 use Rattle.ipv4.specs.declared.addr.Endpoint.{Endpoint}
@@ -39,7 +39,7 @@ use Rattle.wire_sim.proofs.ProjectionArrival.{opening_id-added, holder-at, turne
 use Rattle.wire_sim.proofs.ProjectionEmission.{both_same}
 use Rattle.wire_sim.proofs.Tables.{joins_ports, IsOurs, Slot, slot_of, end_of_slot}
 use Rattle.wire_sim.proofs.Tallied.{answered, tallies-quiet, tallies-opened, quiet-socket, quiet-bind, quiet-listen, quiet-accept, quiet-connect, quiet-state, quiet-send_refused, quiet-recv_refused, quiet-everywhere}
-use Rattle.wire_sim.proofs.ProjectionCalls.{CallGoes, GoesOpened, projects-silent, projects-unseen, socket_outcome, recv_outcome, plain, kept, changed, call-sends, call-receives}
+use Rattle.wire_sim.proofs.ProjectionCalls.{never-ends, CallGoes, GoesOpened, projects-silent, projects-unseen, socket_outcome, recv_outcome, plain, kept, changed, call-sends, call-receives}
 use Rattle.wire_sim.proofs.QuietRoles.{quiet_bound_to, quiet_listening, quiet_accepted}
 
 -- the epoch of a pair that neither side opened, or that the other side did, is the first
@@ -98,11 +98,11 @@ call-connects limit hs ts a b own other n place trace isn id peer fits is_other 
     let there_end = end_at ts trace b a other.entries q0 p0 in
     let p = pairing nothing_yet there_end (h.out p0 q0) (h.arrived p0 q0) in
     let met : Meets limit p = subst (λ v. Meets limit (pairing v there_end (h.out p0 q0) (h.arrived p0 q0))) (ap (end_of_slot (gave hs trace) (got hs trace)) none) (h.meets p0 q0) in
-    let now_end : end_at hs trace a b ys p0 q0 ≡ record { connection = Some c; written = []; read = [] } =
-    ap (end_of_slot (gave hs trace) (got hs trace)) (m.after p0 q0 (both_same p0 q0)) ∙ (ap (λ w. let e : End = record { connection = Some c; written = w; read = got hs trace id } in e) m.unsent ∙ ap (λ w. let e : End = record { connection = Some c; written = []; read = w } in e) m.unread) in
+    let now_end : end_at hs trace a b ys p0 q0 ≡ record { connection = Some c; written = []; closed = false; read = []; ended = false } =
+    ap (end_of_slot (gave hs trace) (got hs trace)) (m.after p0 q0 (both_same p0 q0)) ∙ (ap (λ w. let e : End = record { connection = Some c; written = w; closed = false; read = got hs trace id; ended = false } in e) m.unsent ∙ ap (λ w. let e : End = record { connection = Some c; written = []; closed = false; read = w; ended = false } in e) m.unread) in
     let first : Meets limit (pairing (end_at hs trace a b ys p0 q0) there_end (h.out p0 q0) (h.arrived p0 q0)) =
     subst (λ v. Meets limit (pairing v there_end (h.out p0 q0) (h.arrived p0 q0))) (sym now_end)
-    (here_moves p (pairing (record { connection = Some c; written = []; read = [] }) there_end (h.out p0 q0) (h.arrived p0 q0)) met (connects p local peer isn.0 refl fits)) in
+    (here_moves p (pairing (record { connection = Some c; written = []; closed = false; read = []; ended = false }) there_end (h.out p0 q0) (h.arrived p0 q0)) met (connects p local peer isn.0 refl fits)) in
     let turned : Projects limit hs ts a b next other n.frames (n.openings ++ o ∷ []) trace =
     projects-turned limit hs ts a b own next other n.frames n.openings (n.openings ++ o ∷ []) trace trace h (record {
       addr = refl;
@@ -179,9 +179,12 @@ projects-called limit hs ts a b own own' other n place trace (call.Recv id len) 
       | inl r ↦
           subst (λ x. CallGoes limit hs ts a b own' other n (call.Recv id len) x place trace) (sym r.is_answer)
           (subst (λ w. CallGoes limit hs ts a b w other n (call.Recv id len) (reply.Octets r.octets) place trace) (sym r.becomes) (call-receives limit hs ts a b own other n place trace id len r.octets (asked len) r.c r.l sound opposite r.found r.opened r.some r.are_first h))
-      | inr x ↦
-          subst (λ r. CallGoes limit hs ts a b own' other n (call.Recv id len) r place trace) (sym x.1)
-          (plain limit hs ts a b own' other n (call.Recv id len) (reply.Refused x.0) place trace refl (λ i. quiet-recv_refused hs id len x.0 i) (kept limit hs ts a b own own' other n trace x.2 h))
+      | inr y ↦ elim y [
+        | inl r ↦ absurd (never-ends limit hs ts a b own other n trace id (asked len) r h)
+        | inr x ↦
+            subst (λ r. CallGoes limit hs ts a b own' other n (call.Recv id len) r place trace) (sym x.1)
+            (plain limit hs ts a b own' other n (call.Recv id len) (reply.Refused x.0) place trace refl (λ i. quiet-recv_refused hs id len x.0 i) (kept limit hs ts a b own own' other n trace x.2 h))
+      ]
     ]
 projects-called limit hs ts a b own own' other n place trace (call.State id) answer sound opposite is_other numbered m h =
     elim (outcome (state_answer own id) (λ s. reply.State s) own own answer own' m) [

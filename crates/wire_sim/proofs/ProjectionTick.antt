@@ -1,5 +1,5 @@
 -- A tick is a move of every pairing whose end has a connection.
-use Rattle.std.proofs.Common.{◌≡◌, ℕ, List, Option, Some, None, option_map, refl, sym, ◌∙◌, ap, subst}
+use Rattle.std.proofs.Common.{◌≡◌, ℕ, false, List, Option, Some, None, option_map, refl, sym, ◌∙◌, ap, subst}
 use Rattle.ipv4.specs.declared.addr.Addr.{Addr}
 use Rattle.tcp_state.specs.declared.moment.Moment.{Moment}
 use Rattle.tcp_state.specs.View.{View, after_tick}
@@ -20,8 +20,8 @@ slot_goes : (limit : ℕ) (now : Moment) (sent read : Told) (o : Option Slot) �
 slot_goes limit now sent read None = end-stays limit (end_of_slot sent read None) (end_of_slot sent read None) refl
 slot_goes limit now sent read (Some s) = of_connection s.connection
   where
-    of_connection : (c : Option View) → EndGoes limit (record { connection = c; written = sent s.id; read = read s.id }) (record { connection = option_map (λ v. after_tick v now) c; written = sent s.id; read = read s.id })
-    of_connection None = end-stays limit (record { connection = None; written = sent s.id; read = read s.id }) (record { connection = None; written = sent s.id; read = read s.id }) refl
+    of_connection : (c : Option View) → EndGoes limit (record { connection = c; written = sent s.id; closed = false; read = read s.id; ended = false }) (record { connection = option_map (λ v. after_tick v now) c; written = sent s.id; closed = false; read = read s.id; ended = false })
+    of_connection None = end-stays limit (record { connection = None; written = sent s.id; closed = false; read = read s.id; ended = false }) (record { connection = None; written = sent s.id; closed = false; read = read s.id; ended = false }) refl
     of_connection (Some c) = end-ticks limit c now (sent s.id) (read s.id)
 
 same_id : (now : Moment) (o : Option Slot) → id_of (option_map (ticked_slot now) o) ≡ id_of o

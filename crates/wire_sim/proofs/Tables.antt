@@ -5,13 +5,16 @@ use Rattle.std.specs.Prelude.{nat_eq}
 use Rattle.std.specs.Cmp.Lexicographic.{pointwise}
 use Rattle.std.proofs.lemmas.Bool.{eq-eqb}
 use Rattle.ipv4.specs.declared.addr.Addr.{Addr}
+use Rattle.tcp_state.specs.declared.state.State.{State}
+use Rattle.tcp_state.specs.declared.state.State.TheVariants.{Closed}
 use Rattle.tcp_state.specs.View.{View}
 use Rattle.host.specs.declared.entry.SocketId.{SocketId}
 use Rattle.host.specs.declared.entry.Entry.{Entry}
 use Rattle.host.specs.declared.entry.Role.{Role}
 use Rattle.host.specs.declared.entry.Role.TheVariants.{Idle, Listener, Connected}
 use Rattle.host.specs.Endpoints.{same_addr}
-use Rattle.host.specs.Entries.{is_closed, is_between}
+use Rattle.tcp_state.specs.View.{is_closed, is_write_closed}
+use Rattle.host.specs.Entries.{is_between}
 use Rattle.stream_law.specs.Pairing.{End, nothing_yet}
 use Rattle.wire_sim.proofs.Finding.{IsSole}
 
@@ -34,11 +37,11 @@ is_connected_at i e = (e.id.0 == i) && is_connected e.role
 abbrev pub joins_ports : Addr → Addr → ℕ → ℕ → Entry → Bool
 joins_ports own other p q e = is_between (record { addr = own; port = p }) (record { addr = other; port = q }) e
 
--- a connection from our address to the neighbour's, and not CLOSED
+-- a connection from our address to the neighbour's, whose caller did not close our side
 pub record IsOurs (own other : Addr) (c : View) : Type 0 where
   pub local : c.local.addr ≡ own
   pub peer : c.peer.addr ≡ other
-  pub live : is_closed c.state ≡ false
+  pub live : is_write_closed c.state ≡ false
 
 abbrev pub IsOurRole : Addr → Addr → Role → Type 0
 IsOurRole own other (Connected c listener) = IsOurs own other c
@@ -71,7 +74,7 @@ slot_of own other entries p q = option_map slot (find (joins_ports own other p q
 
 abbrev pub end_of_slot : Told → Told → Option Slot → End
 end_of_slot sent read None = nothing_yet
-end_of_slot sent read (Some s) = record { connection = s.connection; written = sent s.id; read = read s.id }
+end_of_slot sent read (Some s) = record { connection = s.connection; written = sent s.id; closed = false; read = read s.id; ended = false }
 
 -- the end of the connection between two ports
 abbrev pub end_of : Addr → Addr → List Entry → Told → Told → ℕ → ℕ → End
@@ -89,11 +92,16 @@ pointwise-same (x ∷ xs) = ap (λ b. b && pointwise nat_eq xs xs) (eqb-same x) 
 pub same_addr-same : (a b : Addr) → a ≡ b → same_addr a b ≡ true
 same_addr-same a b same = ap (λ x. same_addr a x) (sym same) ∙ pointwise-same a.0
 
+-- what is CLOSED has its side closed
+pub open_lives : (t : State) → is_write_closed t ≡ false → is_closed t ≡ false
+open_lives Closed e = let bad : true ≡ false = e in cc
+open_lives _ e = refl
+
 -- a connection of ours joins just its two ports
 pub ports_of : (own other : Addr) (p q : ℕ) (c : View) (l : Option SocketId) (id : SocketId) → IsOurs own other c
     → joins_ports own other p q (record { id = id; role = Connected c l }) ≡ ((c.local.port == p) && (c.peer.port == q))
 ports_of own other p q c l id k =
-    ap (λ b. not b && ((same_addr c.local.addr own && (c.local.port == p)) && (same_addr c.peer.addr other && (c.peer.port == q)))) k.live
+    ap (λ b. not b && ((same_addr c.local.addr own && (c.local.port == p)) && (same_addr c.peer.addr other && (c.peer.port == q)))) (open_lives c.state k.live)
     ∙ ap (λ b. (b && (c.local.port == p)) && (same_addr c.peer.addr other && (c.peer.port == q))) (same_addr-same c.local.addr own k.local)
     ∙ ap (λ b. (c.local.port == p) && (b && (c.peer.port == q))) (same_addr-same c.peer.addr other k.peer)
 

@@ -1,5 +1,5 @@
 -- What a tick, and what is told of other sockets alone, make of the ends in a host's table.
-use Rattle.std.proofs.Common.{◌≡◌, ℕ, ◌≤◌, ◌==◌, ◌&&◌, List, map, Option, Some, None, option_map, refl, ◌∙◌, ap}
+use Rattle.std.proofs.Common.{◌≡◌, ℕ, ◌≤◌, ◌==◌, ◌&&◌, false, List, map, Option, Some, None, option_map, refl, ◌∙◌, ap}
 use Rattle.std.specs.List.{find}
 use Rattle.ipv4.specs.declared.addr.Addr.{Addr}
 use Rattle.ipv4.specs.declared.addr.Endpoint.{Endpoint}
@@ -78,4 +78,4 @@ same_told_table own other last xs sent read sent' read' same_sent same_read t = 
 pub same_told_end : (sent read sent' read' : Told) → SameTold sent sent' → SameTold read read' → (o : Option Slot) → end_of_slot sent' read' o ≡ end_of_slot sent read o
 same_told_end sent read sent' read' same_sent same_read None = refl
 same_told_end sent read sent' read' same_sent same_read (Some s) =
-    ap (λ w. let e : End = record { connection = s.connection; written = w; read = read' s.id } in e) (same_sent s.id) ∙ ap (λ w. let e : End = record { connection = s.connection; written = sent s.id; read = w } in e) (same_read s.id)
+    ap (λ w. let e : End = record { connection = s.connection; written = w; closed = false; read = read' s.id; ended = false } in e) (same_sent s.id) ∙ ap (λ w. let e : End = record { connection = s.connection; written = sent s.id; closed = false; read = w; ended = false } in e) (same_read s.id)

@@ -322,7 +322,9 @@ run_lawful limit w reached =
     let o = orderly limit w reached in
     let p = o.projects in
     stream_law o.a o.b w.trace w.network.openings w.network.a.host.entries w.network.b.host.entries p.distinct p.opened
-    (λ i j. pairing_lawful limit p.small (pairing (end_at A w.trace o.a o.b w.network.a.host.entries i j) (end_at B w.trace o.b o.a w.network.b.host.entries j i) (p.out i j) (p.arrived i j)) (p.meets i j))
+    (λ i j.
+    let both = pairing_lawful limit p.small (pairing (end_at A w.trace o.a o.b w.network.a.host.entries i j) (end_at B w.trace o.b o.a w.network.b.host.entries j i) (p.out i j) (p.arrived i j)) (p.meets i j) in
+    (both.0.begins, both.1.begins))
 
 -- its counts are those of the trace
 pub run_tallied : (limit : ℕ) (w : WorldView) → IsReached limit w → IsTallied w.network w.trace
