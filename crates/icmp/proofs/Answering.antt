@@ -1,0 +1,118 @@
+-- The laws of parsing and sending.
+use Rattle.std.proofs.Common.{◌≡◌, ◌↔◌, ℕ, zero, suc, ◌+◌, ◌-◌, ◌%◌, ◌^◌, ◌<◌, ◌≤◌, false, nat_eq, List, ◌++◌, length, take, All, Bool, Result, Ok, Err, refl, sym, ◌∙◌, ap, subst, inl, inr, ⊎_elim, arith}
+use Rattle.std.proofs.lemmas.Bool.{cases_lt}
+use Rattle.std.proofs.lemmas.Bool.Decides.{nat_tests}
+use Rattle.std.proofs.lemmas.List.{get_or_past}
+use Rattle.inet_sum.specs.Sum.{word_sum, ones_complement, checksum_of}
+use Rattle.ipv4.specs.Datagram.{Datagram, IsDatagram, header_octets}
+use Rattle.icmp.specs.declared.error.Reason.{Reason}
+use Rattle.icmp.specs.declared.error.Reason.TheVariants.{NetUnreachable, HostUnreachable, ProtocolUnreachable, PortUnreachable, FragmentationNeeded, SourceRouteFailed, TransitTimeExceeded, ReassemblyTimeExceeded}
+use Rattle.icmp.specs.declared.fault.IcmpFault.{IcmpFault}
+use Rattle.icmp.specs.declared.fault.IcmpFault.TheVariants.{UpperHeader, UpperSum}
+use Rattle.icmp.specs.declared.head.Head.{Head}
+use Rattle.icmp.specs.Errors.{IsErrorKind, kind_of, code_of}
+use Rattle.icmp.specs.MayAnswer.{MayAnswer, BeginsAsError}
+use Rattle.icmp.specs.Message.{Message, IsMessage, HasForm, SumIsRight, Spells, IsParsed, spelling}
+use Rattle.icmp.specs.Quotes.{Quotes, quote_of}
+use Rattle.icmp.specs.Reading.{message_of}
+use Rattle.icmp.specs.Sent.{with_fields, sent, reply_to, error_for}
+use Rattle.icmp.proofs.Form.{AreOctets, are_read, form_least, one_form}
+use Rattle.icmp.proofs.Quoting.{cause_quoted}
+
+-- the sum of the one form is right or not
+other_sum : (m n : Message) (octets : List ℕ) → HasForm m octets → HasForm n octets → SumIsRight m → (SumIsRight n → ⊥) → ⊥
+other_sum m n octets f g right wrong = wrong (subst SumIsRight (one_form m n octets f g) right)
+
+-- octets have one answer
+pub one_answer : (octets : List ℕ) (first second : Result Message IcmpFault) → IsParsed octets first → IsParsed octets second → first ≡ second
+one_answer octets (Ok m) (Ok n) p q = ap Ok (one_form m n octets p.form q.form)
+one_answer octets (Ok m) (Err UpperHeader) p q = absurd (q m p.form)
+one_answer octets (Ok m) (Err UpperSum) p q = absurd (other_sum m q.0 octets p.form q.1 p.sum q.2)
+one_answer octets (Err UpperHeader) (Ok n) p q = absurd (p n q.form)
+one_answer octets (Err UpperHeader) (Err UpperHeader) p q = refl
+one_answer octets (Err UpperHeader) (Err UpperSum) p q = absurd (p q.0 q.1)
+one_answer octets (Err UpperSum) (Ok n) p q = absurd (other_sum n p.0 octets q.form p.1 q.sum p.2)
+one_answer octets (Err UpperSum) (Err UpperHeader) p q = absurd (q p.0 p.1)
+one_answer octets (Err UpperSum) (Err UpperSum) p q = refl
+
+-- octets, one by one
+are_octets : (xs : List ℕ) → All (λ octet. octet < 256) xs → AreOctets xs
+are_octets xs each i = ⊎_elim (λ inside. each i 0 inside) (λ past. omega (arith, get_or_past xs i 0 past)) (cases_lt i (length xs))
+
+-- octets are refused as short exactly where there are fewer than eight
+pub short : (octets : List ℕ) → All (λ octet. octet < 256) octets → (IsParsed octets (Err UpperHeader) ↔ (length octets < 8))
+short octets each = (forth, λ few m form. absurd (omega (arith, form_least m octets form, few)))
+  where
+    forth : ((m : Message) → HasForm m octets → ⊥) → length octets < 8
+    forth none =
+        ⊎_elim (λ few. few) (λ enough. absurd (none (message_of octets) (are_read octets (are_octets octets each) enough).form)) (cases_lt (length octets) 8)
+
+-- a sum and its complement
+with_complement : (total : ℕ) → ones_complement (total + (65535 - ones_complement total)) ≡ 65535
+with_complement zero = refl
+with_complement (suc n) =
+    let total : ℕ = suc n in
+    let here : nat_eq total 0 ≡ false = grind (arith, nat_tests) in
+    let value : ones_complement total ≡ 1 + (total - 1) % 65535 = rw here refl in
+    let there : nat_eq (total + (65535 - ones_complement total)) 0 ≡ false = grind (arith, nat_tests, value) in
+    rw there (omega (arith, value))
+
+-- what the checksum adds to the sum of the words
+words : (head : Head) (payload : List ℕ) (checksum : ℕ) → checksum < 2 ^ 16
+    → word_sum (spelling (with_fields head checksum payload)) ≡ word_sum (spelling (with_fields head 0 payload)) + checksum
+words head payload checksum fits = omega (arith, fits)
+
+sum_right : (head : Head) (payload : List ℕ) → SumIsRight (sent head payload)
+sum_right head payload =
+    let before : ℕ = word_sum (spelling (with_fields head 0 payload)) in
+    let checksum : ℕ = checksum_of (spelling (with_fields head 0 payload)) in
+    let fits : checksum < 2 ^ 16 = omega arith in
+    ap ones_complement (words head payload checksum fits) ∙ with_complement before
+
+-- what is sent spells the message that is meant
+sent_spelled : (head : Head) (payload : List ℕ) → head.kind < 2 ^ 8 → head.code < 2 ^ 8 → head.identifier < 2 ^ 16 → head.number < 2 ^ 16
+    → Spells (sent head payload) (spelling (sent head payload))
+sent_spelled head payload kind code identifier number = record {
+  form = record {
+    fields = record {
+      kind = kind;
+      code = code;
+      checksum = omega arith;
+      identifier = identifier;
+      number = number;
+    };
+    spelled = refl;
+  };
+  sum = sum_right head payload;
+}
+
+pub reply_spelled : (request : Message) → IsMessage request → Spells (reply_to request) (spelling (reply_to request))
+reply_spelled request fits =
+    sent_spelled (record { kind = 0; code = 0; identifier = request.identifier; number = request.number }) request.payload (omega arith) (omega arith) fits.identifier fits.number
+
+-- the numbers of a reason are octets, and those of an error
+numbers : (reason : Reason) → (kind_of reason < 2 ^ 8) × (code_of reason < 2 ^ 8) × IsErrorKind (kind_of reason)
+numbers NetUnreachable = (omega arith, omega arith, inl refl)
+numbers HostUnreachable = (omega arith, omega arith, inl refl)
+numbers ProtocolUnreachable = (omega arith, omega arith, inl refl)
+numbers PortUnreachable = (omega arith, omega arith, inl refl)
+numbers FragmentationNeeded = (omega arith, omega arith, inl refl)
+numbers SourceRouteFailed = (omega arith, omega arith, inl refl)
+numbers TransitTimeExceeded = (omega arith, omega arith, inr (inr (inr (inl refl))))
+numbers ReassemblyTimeExceeded = (omega arith, omega arith, inr (inr (inr (inl refl))))
+
+pub error_spelled : (reason : Reason) (header payload : List ℕ) → Spells (error_for reason header payload) (spelling (error_for reason header payload))
+error_spelled reason header payload =
+    let are = numbers reason in
+    sent_spelled (record { kind = kind_of reason; code = code_of reason; identifier = 0; number = 0 }) (header ++ take 8 payload) are.0 are.1 (omega arith) (omega arith)
+
+-- what an error about a datagram carries begins with the quote of that datagram
+pub cause : (reason : Reason) (d : Datagram) → IsDatagram d → All (λ octet. octet < 256) d.payload → 8 ≤ length d.payload
+    → Quotes (quote_of d) (error_for reason (header_octets d) d.payload).payload
+cause reason d fields each least = cause_quoted d fields (are_octets d.payload each) least
+
+-- a datagram that carries an error of this stack may not be answered by another
+pub unanswered : (reason : Reason) (header payload : List ℕ) (d : Datagram) (link_broadcast : Bool) → d.protocol ≡ 1
+    → d.payload ≡ spelling (error_for reason header payload) → MayAnswer d link_broadcast → ⊥
+unanswered reason header payload d link_broadcast protocol is may =
+    may.no_error (record { protocol = protocol; kind = subst BeginsAsError (sym is) (numbers reason).2 })

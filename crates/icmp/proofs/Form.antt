@@ -1,0 +1,65 @@
+-- The message that is read is the one whose form the octets have.
+use Rattle.std.proofs.Common.{◌≡◌, ℕ, ◌<◌, ◌≤◌, List, ◌∷◌, length, drop, slice_index, arith, ap, sym, ◌∙◌}
+use Rattle.std.specs.Int.{byte_at}
+use Rattle.byteorder.specs.Endian.{big_number}
+use Rattle.icmp.specs.Message.{Message, IsMessage, HasForm, spelling}
+use Rattle.icmp.specs.Reading.{message_of, AreRead}
+
+-- each item is an octet
+abbrev pub AreOctets : List ℕ → Type 0
+AreOctets xs = (i : ℕ) → slice_index xs i < 256
+
+-- eight octets at least are those of a message
+pub are_read : (xs : List ℕ) → AreOctets xs → 8 ≤ length xs → AreRead xs
+are_read (x0 ∷ x1 ∷ x2 ∷ x3 ∷ x4 ∷ x5 ∷ x6 ∷ x7 ∷ rest) b least =
+    let b0 = b 0 in
+    let b1 = b 1 in
+    let b2 = b 2 in
+    let b3 = b 3 in
+    let b4 = b 4 in
+    let b5 = b 5 in
+    let b6 = b 6 in
+    let b7 = b 7 in
+    let octets : List ℕ = x0 ∷ x1 ∷ x2 ∷ x3 ∷ x4 ∷ x5 ∷ x6 ∷ x7 ∷ rest in
+    let e2 : x2 ≡ byte_at 1 (big_number 2 (drop 2 octets)) = omega arith in
+    let e3 : x3 ≡ byte_at 0 (big_number 2 (drop 2 octets)) = omega arith in
+    let e4 : x4 ≡ byte_at 1 (big_number 2 (drop 4 octets)) = omega arith in
+    let e5 : x5 ≡ byte_at 0 (big_number 2 (drop 4 octets)) = omega arith in
+    let e6 : x6 ≡ byte_at 1 (big_number 2 (drop 6 octets)) = omega arith in
+    let e7 : x7 ≡ byte_at 0 (big_number 2 (drop 6 octets)) = omega arith in
+    let spelled : octets ≡ spelling (message_of octets) = cc in
+    record {
+      least = omega arith;
+      form = record {
+        fields = record {
+          kind = omega arith;
+          code = omega arith;
+          checksum = omega arith;
+          identifier = omega arith;
+          number = omega arith;
+        };
+        spelled = spelled;
+      };
+    }
+are_read xs b least = absurd (omega (arith, least))
+
+-- fewer than eight octets have the form of no message
+pub form_least : (m : Message) (xs : List ℕ) → HasForm m xs → 8 ≤ length xs
+form_least m xs form = omega (arith, ap length form.spelled)
+
+spelled_read : (m : Message) → IsMessage m → message_of (spelling m) ≡ m
+spelled_read m fits =
+    let octets : List ℕ = spelling m in
+    let checksum : big_number 2 (drop 2 octets) ≡ m.checksum = omega (arith, fits.checksum) in
+    let identifier : big_number 2 (drop 4 octets) ≡ m.identifier = omega (arith, fits.identifier) in
+    let number : big_number 2 (drop 6 octets) ≡ m.number = omega (arith, fits.number) in
+    let whole : message_of octets ≡ record { kind = m.kind; code = m.code; checksum = m.checksum; identifier = m.identifier; number = m.number; payload = m.payload } = cc in
+    whole
+
+-- octets that have the form of a message are read as it
+pub form_read : (m : Message) (xs : List ℕ) → HasForm m xs → message_of xs ≡ m
+form_read m xs form = ap message_of form.spelled ∙ spelled_read m form.fields
+
+-- octets have the form of one message
+pub one_form : (first second : Message) (xs : List ℕ) → HasForm first xs → HasForm second xs → first ≡ second
+one_form first second xs f g = sym (form_read first xs f) ∙ form_read second xs g

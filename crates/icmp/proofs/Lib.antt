@@ -1,0 +1,4 @@
+pub mod Form
+pub mod Sending
+pub mod Quoting
+pub mod Answering

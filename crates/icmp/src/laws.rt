@@ -1,0 +1,48 @@
+//! Laws of the definitions that the contracts of this crate cite: each is the contract of a function that does nothing.
+
+ghost use Rattle.std.specs.Prelude.{◌≡◌, ◌↔◌, ℕ, ◌<◌, ◌≤◌, List, length, All, Bool, Result, Ok, Err};
+ghost use Rattle.ipv4.specs.Datagram.{Datagram, IsDatagram, header_octets};
+ghost use Rattle.icmp.specs.declared.error.Reason.{Reason};
+ghost use Rattle.icmp.specs.declared.fault.IcmpFault.{IcmpFault};
+ghost use Rattle.icmp.specs.declared.fault.IcmpFault.TheVariants.{UpperHeader};
+ghost use Rattle.icmp.specs.declared.quote.Quote.{Quote};
+ghost use Rattle.icmp.specs.MayAnswer.{MayAnswer};
+ghost use Rattle.icmp.specs.Message.{Message, IsMessage, IsParsed, Spells, spelling};
+ghost use Rattle.icmp.specs.Quotes.{Quotes, quote_of};
+ghost use Rattle.icmp.specs.Sent.{reply_to, RepliesTo, error_for};
+
+/// For all octets there is one answer that `IcmpView::parse` may give, and it is `UpperHeader` exactly for fewer than 8.
+pub fn one_answer()
+    ensures one { (octets : List ℕ) (first second : Result Message IcmpFault) → IsParsed octets first → IsParsed octets second → first ≡ second }
+    ensures short { (octets : List ℕ) → All (λ octet. octet < 256) octets → (IsParsed octets (Err UpperHeader) ↔ (length octets < 8)) }
+{}
+
+/// What `IcmpView::emit_reply` writes has exactly the request's identifier, number and data, and parses to the reply.
+pub fn reply_parses()
+    ensures carries { (request : Message) → RepliesTo (reply_to request) request }
+    ensures spelled { (request : Message) → IsMessage request → Spells (reply_to request) (spelling (reply_to request)) }
+    ensures parsed { (request : Message) (answer : Result Message IcmpFault) → IsMessage request
+        → IsParsed (spelling (reply_to request)) answer → answer ≡ Ok (reply_to request) }
+{}
+
+/// What `emit_error` writes parses to the error that is meant.
+pub fn error_parses()
+    ensures spelled { (reason : Reason) (header payload : List ℕ)
+        → Spells (error_for reason header payload) (spelling (error_for reason header payload)) }
+    ensures parsed { (reason : Reason) (header payload : List ℕ) (answer : Result Message IcmpFault)
+        → IsParsed (spelling (error_for reason header payload)) answer → answer ≡ Ok (error_for reason header payload) }
+{}
+
+/// Octets begin with one quote at most, and those of an error about a datagram with 8 octets of payload or more begin with that
+/// datagram's: so its sender finds what it was about.
+pub fn cause_is_quoted()
+    ensures one { (first second : Quote) (octets : List ℕ) → Quotes first octets → Quotes second octets → first ≡ second }
+    ensures cause { (reason : Reason) (d : Datagram) → IsDatagram d → All (λ octet. octet < 256) d.payload → 8 ≤ length d.payload
+        → Quotes (quote_of d) (error_for reason (header_octets d) d.payload).payload }
+{}
+
+/// No datagram that carries an error of this stack may be answered by another error.
+pub fn errors_are_unanswered()
+    ensures { (reason : Reason) (header payload : List ℕ) (d : Datagram) (link_broadcast : Bool) → d.protocol ≡ 1
+        → d.payload ≡ spelling (error_for reason header payload) → MayAnswer d link_broadcast → ⊥ }
+{}

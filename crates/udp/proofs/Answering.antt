@@ -1,0 +1,106 @@
+-- The laws of parsing and sending.
+use Rattle.std.proofs.Common.{◌≡◌, ℕ, ◌+◌, ◌-◌, ◌%◌, ◌^◌, ◌<◌, Bool, true, false, nat_eq, inr, List, [], ◌∷◌, ◌++◌, length, take, cond, Result, Ok, Err, refl, ◌∙◌, ap, subst, arith}
+use Rattle.std.proofs.lemmas.Bool.Decides.{nat_tests}
+use Rattle.byteorder.specs.Endian.{big_bytes}
+use Rattle.inet_sum.specs.Sum.{word_sum, ones_complement, sum_of, checksum_of}
+use Rattle.ipv4.specs.declared.addr.Addr.{Addr}
+use Rattle.udp.specs.declared.fault.UdpFault.{UdpFault}
+use Rattle.udp.specs.declared.fault.UdpFault.TheVariants.{UpperHeader, UpperSum}
+use Rattle.udp.specs.declared.head.Head.{Head}
+use Rattle.udp.specs.Datagram.{UserDatagram, IsParsed, HasForm, SumIsRight, Spells, datagram_len, spelling, summed}
+use Rattle.udp.specs.Sent.{CanBeSent, sent, sent_with, told_checksum}
+use Rattle.udp.proofs.Form.{form_read, one_form}
+
+-- the sum of the one form is right or not
+other_sum : (src dst : Addr) (s t : UserDatagram) (octets : List ℕ) → HasForm s octets → HasForm t octets
+    → SumIsRight src dst s → (SumIsRight src dst t → ⊥) → ⊥
+other_sum src dst s t octets f g right wrong = wrong (subst (SumIsRight src dst) (one_form s t octets f g) right)
+
+-- octets have one answer
+pub one_answer : (src dst : Addr) (octets : List ℕ) (first second : Result UserDatagram UdpFault)
+    → IsParsed src dst octets first → IsParsed src dst octets second → first ≡ second
+one_answer src dst octets (Ok s) (Ok t) p q = ap Ok (one_form s t octets p.form q.form)
+one_answer src dst octets (Ok s) (Err UpperHeader) p q = absurd (q s p.form)
+one_answer src dst octets (Ok s) (Err UpperSum) p q = absurd (other_sum src dst s q.0 octets p.form q.1 p.sum q.2)
+one_answer src dst octets (Err UpperHeader) (Ok t) p q = absurd (p t q.form)
+one_answer src dst octets (Err UpperHeader) (Err UpperHeader) p q = refl
+one_answer src dst octets (Err UpperHeader) (Err UpperSum) p q = absurd (p q.0 q.1)
+one_answer src dst octets (Err UpperSum) (Ok t) p q = absurd (other_sum src dst t p.0 octets q.form p.1 q.sum p.2)
+one_answer src dst octets (Err UpperSum) (Err UpperHeader) p q = absurd (q p.0 p.1)
+one_answer src dst octets (Err UpperSum) (Err UpperSum) p q = refl
+
+-- a user datagram has one spelling
+pub one_spelling : (src dst : Addr) (d : UserDatagram) (octets : List ℕ) → Spells src dst d octets → take (datagram_len d) octets ≡ spelling d
+one_spelling src dst d octets spells = (form_read d octets spells.form).spelled
+
+-- a sum and its complement, where 0xFFFF goes out for 0
+with_complement : (total : ℕ) → 0 < total → ones_complement (total + told_checksum (65535 - ones_complement total)) ≡ 65535
+with_complement total some =
+    let here : nat_eq total 0 ≡ false = grind (arith, nat_tests) in
+    let value : ones_complement total ≡ 1 + (total - 1) % 65535 = rw here refl in
+    of_told (65535 - ones_complement total) total some (omega (arith, value))
+  where
+    added : (c total : ℕ) → 0 < total → (1 + (total - 1) % 65535) + c ≡ 65535 → ones_complement (total + c) ≡ 65535
+    added c total some e =
+        let there : nat_eq (total + c) 0 ≡ false = grind (arith, nat_tests) in
+        rw there (omega (arith, e))
+
+    whole : (total : ℕ) → 0 < total → 1 + (total - 1) % 65535 ≡ 65535 → ones_complement (total + 65535) ≡ 65535
+    whole total some e =
+        let there : nat_eq (total + 65535) 0 ≡ false = grind (arith, nat_tests) in
+        rw there (omega (arith, e))
+
+    by_test : (b : Bool) (c total : ℕ) → 0 < total → (1 + (total - 1) % 65535) + c ≡ 65535 → (b ≡ true → c ≡ 0) → ones_complement (total + cond b 65535 c) ≡ 65535
+    by_test true c total some e zero_is = whole total some (omega (arith, e, zero_is refl))
+    by_test false c total some e zero_is = added c total some e
+
+    of_told : (c total : ℕ) → 0 < total → (1 + (total - 1) % 65535) + c ≡ 65535 → ones_complement (total + told_checksum c) ≡ 65535
+    of_told c total some e = by_test (nat_eq c 0) c total some e (λ is_zero. grind (arith, nat_tests, is_zero))
+
+-- what the checksum adds to the sum of the words
+abbrev pseudo_before : List ℕ → List ℕ → ℕ → List ℕ → List ℕ
+pseudo_before src dst len octets = (src ++ dst ++ 0 ∷ 17 ∷ [] ++ big_bytes 2 len) ++ octets
+
+words : (src dst : List ℕ) (len : ℕ) (head : Head) (payload : List ℕ) (checksum : ℕ) → length src ≡ 4 → length dst ≡ 4 → checksum < 2 ^ 16
+    → (word_sum (pseudo_before src dst len (spelling (sent_with head payload checksum))) ≡ word_sum (pseudo_before src dst len (spelling (sent_with head payload 0))) + checksum)
+    × (0 < word_sum (pseudo_before src dst len (spelling (sent_with head payload 0))))
+words (a ∷ b ∷ c ∷ d ∷ []) (e ∷ f ∷ g ∷ h ∷ []) len head payload checksum s t fits = (omega arith, omega arith)
+words _ _ len head payload checksum s t fits = absurd (omega arith)
+
+-- what is summed, by its length
+summed_is : (src dst : Addr) (head : Head) (payload : List ℕ) (checksum : ℕ)
+    → summed src dst (spelling (sent_with head payload checksum)) ≡ pseudo_before src.0 dst.0 (8 + length payload) (spelling (sent_with head payload checksum))
+summed_is src dst head payload checksum =
+    let len : length (spelling (sent_with head payload checksum)) ≡ 8 + length payload = omega arith in
+    ap (λ (n : ℕ). pseudo_before src.0 dst.0 n (spelling (sent_with head payload checksum))) len
+
+told_fits : (c : ℕ) → c < 2 ^ 16 → told_checksum c < 2 ^ 16
+told_fits c fits = by_test (nat_eq c 0) c fits
+  where
+    by_test : (b : Bool) (c : ℕ) → c < 2 ^ 16 → cond b 65535 c < 2 ^ 16
+    by_test true c fits = omega arith
+    by_test false c fits = fits
+
+sum_right : (src dst : Addr) (head : Head) (payload : List ℕ) → CanBeSent src dst head payload
+    → sum_of (summed src dst (spelling (sent src dst head payload))) ≡ 65535
+sum_right src dst head payload can =
+    let len : ℕ = 8 + length payload in
+    let before : ℕ = word_sum (pseudo_before src.0 dst.0 len (spelling (sent_with head payload 0))) in
+    let told : ℕ = told_checksum (65535 - ones_complement before) in
+    let are = words src.0 dst.0 len head payload told can.src_octets can.dst_octets (told_fits (65535 - ones_complement before) (omega arith)) in
+    let is_told : told_checksum (checksum_of (summed src dst (spelling (sent_with head payload 0)))) ≡ told =
+    ap (λ (octets : List ℕ). told_checksum (checksum_of octets)) (summed_is src dst head payload 0) in
+    ap (λ (c : ℕ). sum_of (summed src dst (spelling (sent_with head payload c)))) is_told
+    ∙ ap sum_of (summed_is src dst head payload told) ∙ ap ones_complement are.0 ∙ with_complement before are.1
+
+-- what is sent spells the user datagram that is meant
+pub sent_spelled : (src dst : Addr) (head : Head) (payload padding : List ℕ) → CanBeSent src dst head payload
+    → Spells src dst (sent src dst head payload) (spelling (sent src dst head payload) ++ padding)
+sent_spelled src dst head payload padding can = record {
+  form = record { padding = padding; fields = can.fields; spelled = refl };
+  sum = inr (sum_right src dst head payload can);
+}
+
+-- its length
+pub sent_len : (src dst : Addr) (head : Head) (payload : List ℕ) → length (spelling (sent src dst head payload)) ≡ 8 + length payload
+sent_len src dst head payload = omega arith

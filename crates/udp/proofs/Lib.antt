@@ -1,0 +1,6 @@
+pub mod Form
+pub mod Sending
+pub mod Answering
+pub mod Covering
+pub mod Copying
+pub mod Storing

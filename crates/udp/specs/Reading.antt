@@ -1,0 +1,32 @@
+-- The user datagram that octets spell, as the plain reading of them from left to right (RFC 768). The contract of
+-- `UdpView::parse` does not rest on this page: it says what is read by the spelling alone.
+use Rattle.std.specs.Prelude.{◌≡◌, ℕ, ◌<◌, ◌≤◌, ◌^◌, nat_lt, ◌||◌, if◌then◌else◌, List, length, drop, Option, Some, None}
+use Rattle.byteorder.specs.Endian.{big_number}
+use Rattle.udp.specs.Datagram.{UserDatagram, IsDatagram, spelling}
+
+-- the number of sixteen bits at a place
+abbrev pub word_at : List ℕ → ℕ → ℕ
+word_at octets at = big_number 2 (drop at octets)
+
+-- the user datagram of these octets, without padding
+abbrev pub datagram_of : List ℕ → UserDatagram
+datagram_of octets = record {
+  source = word_at octets 0;
+  destination = word_at octets 2;
+  checksum = word_at octets 6;
+  payload = drop 8 octets;
+}
+
+-- these octets are those of a user datagram, without padding
+pub record IsWhole (octets : List ℕ) : Type 0 where
+  pub fields : IsDatagram (datagram_of octets)
+  pub spelled : octets ≡ spelling (datagram_of octets)
+  pub least : 8 ≤ length octets
+  pub most : length octets < 2 ^ 16
+
+-- the length that octets tell, where they have room for it and it for a header
+abbrev pub len_in : List ℕ → Option ℕ
+len_in octets =
+    if nat_lt (length octets) 8 then None
+    else if nat_lt (word_at octets 4) 8 || nat_lt (length octets) (word_at octets 4) then None
+    else Some (word_at octets 4)

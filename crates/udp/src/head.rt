@@ -1,0 +1,67 @@
+//! What this stack puts into a header.
+
+ghost use Rattle.std.specs.Prelude.{◌≡◌, ℕ, List, ◌+◌, ◌-◌, ◌<◌, ◌≤◌, ◌^◌, ◌++◌, length, drop, slice_range};
+ghost use Rattle.udp.specs.Datagram.{header_octets, spelling};
+ghost use Rattle.udp.specs.Sent.{CanBeSent, sent, sent_with, told_checksum};
+
+use crate::sum::sum_between;
+use ipv4::Addr;
+
+/// The length of a header, in octets (RFC 768).
+pub const HEADER_LEN: usize = 8;
+
+/// The header of a user datagram that is sent, but for its length and the checksum (RFC 768).
+#[derive(Clone, Copy, Debug, PartialEq, Eq)]
+pub struct Head {
+    /// The sender's port.
+    pub source: u16,
+    /// The receiver's port.
+    pub destination: u16,
+}
+
+impl Head {
+    /// Writes the header before a payload of so many octets, which stands at `out[8..]` already, and answers the length of
+    /// the user datagram, in octets. There is always a checksum: one that is computed as 0 goes out as 0xFFFF. What stands
+    /// behind it in `out` stays.
+    pub fn emit(&self, src: Addr, dst: Addr, payload_len: usize, out: &mut [u8]) -> usize
+        requires room { 8 + payload_len ≤ length out.old }
+        requires len { 8 + payload_len < 2 ^ 16 }
+        ensures len { result ≡ 8 + payload_len }
+        ensures octets { out.new ≡ spelling (sent src dst self.now (slice_range out.old 8 result)) ++ drop result out.old }
+        ensures sendable { CanBeSent src dst self.now (slice_range out.old 8 result) }
+    {
+        let len = HEADER_LEN + payload_len;
+        out[..HEADER_LEN].copy_from_slice(&self.header(len as u16, 0));
+        let sum = sum_between(src, dst, &out[..len]);
+        let header = self.header(len as u16, told(u16::MAX - sum));
+        out[..HEADER_LEN].copy_from_slice(&header);
+        len
+    }
+
+    /// The header of a user datagram of this length, in octets, with this checksum.
+    fn header(&self, len: u16, checksum: u16) -> [u8; HEADER_LEN]
+        ensures { (payload : List ℕ) → 8 + length payload ≡ len → result ≡ header_octets (sent_with self.now payload checksum) }
+    {
+        let [source_high, source_low] = self.source.to_be_bytes();
+        let [destination_high, destination_low] = self.destination.to_be_bytes();
+        let [len_high, len_low] = len.to_be_bytes();
+        let [checksum_high, checksum_low] = checksum.to_be_bytes();
+        [
+            source_high,
+            source_low,
+            destination_high,
+            destination_low,
+            len_high,
+            len_low,
+            checksum_high,
+            checksum_low,
+        ]
+    }
+}
+
+/// A checksum as it goes out: 0 would say that there is none.
+fn told(checksum: u16) -> u16
+    ensures { result ≡ told_checksum checksum }
+{
+    if checksum == 0 { u16::MAX } else { checksum }
+}

@@ -1,0 +1,140 @@
+//! Datagrams that wait, for their reader or for their turn to go out.
+
+ghost use Rattle.std.specs.Prelude.{◌≡◌, ℕ, ◌+◌, ◌≤◌, ◌↔◌, [], ◌∷◌, ◌++◌, length, drop, IsOk, IfOk, OnOk, OnErr, IfSome, IfNone, slice_range};
+ghost use Rattle.udp.specs.Waiting.{IsWithin, HasRoom, first_entry, first_octets};
+
+use circular_buffer::HeapCircularBuffer;
+use ipv4::Endpoint;
+use std::alloc::{AllocError, Global};
+use std::marker::Model;
+use thiserror::Error;
+
+/// The octets that the datagrams of a queue of a socket count at most.
+pub const CAPACITY: usize = 65_535;
+
+/// The datagrams of a queue at most.
+pub const MOST_WAITING: usize = 64;
+
+/// The octets that a datagram counts beside its own.
+pub const COUNTED_BESIDE: usize = 8;
+
+/// Why a datagram is not taken into a queue.
+#[derive(Clone, Copy, Debug, PartialEq, Eq, Error)]
+pub enum QueueFault {
+    /// There are 64 datagrams, or it would count more octets than are left.
+    #[error("F9 NoRoom")]
+    NoRoom,
+}
+
+/// What is known of a datagram that waits, beside its octets.
+#[derive(Clone, Copy, Debug, PartialEq, Eq)]
+pub struct Entry {
+    /// The endpoint that it comes from, or that it is for.
+    pub endpoint: Endpoint,
+    /// How many octets it has.
+    pub len: usize,
+}
+
+/// Datagrams that wait, the first in first: 64 at most, which count no more octets than the capacity, where each counts 8
+/// beside its own. Only the making takes memory.
+#[derive(Drop)]
+pub struct Queue {
+    entries: HeapCircularBuffer<Entry>,
+    octets: HeapCircularBuffer<u8>,
+}
+
+impl Model for Queue {
+    ghost use Rattle.udp.specs.Waiting.{Line};
+    ghost use Rattle.udp.specs.Stored.{items_of, IsStored};
+
+    ghost Value = { Line };
+
+    ghost view = { λ q. record { items = items_of q.entries.items q.octets.items; capacity = q.octets.capacity } };
+
+    ghost invariant = { λ q. IsStored q.entries q.octets };
+}
+
+impl Queue {
+    /// A queue in which nothing waits, for so many octets. It takes its whole memory here, and an error only where that fails.
+    pub fn with_capacity(alloc: Global, capacity: usize) -> Result<Queue, AllocError>
+        ensures { IfOk result (λ queue. queue ≡ record { items = []; capacity = capacity }) }
+    {
+        let entries = HeapCircularBuffer::with_capacity(alloc, MOST_WAITING)?;
+        let octets = HeapCircularBuffer::with_capacity(alloc, capacity)?;
+        Ok(Queue { entries, octets })
+    }
+
+    /// Takes a datagram behind the others. NoRoom where it has none, and then nothing has changed. It takes no memory.
+    pub fn push(&mut self, endpoint: Endpoint, octets: &[u8]) -> Result<(), QueueFault>
+        ensures room { IsOk result ↔ HasRoom self.old (length octets.now) }
+        ensures ok { OnOk result (self.new ≡ record self.old { items = self.old.items ++ record { endpoint = endpoint; octets = octets.now } ∷ [] }) }
+        ensures err { OnErr result (self.new ≡ self.old) }
+    {
+        match self.room() {
+            Some(room) if octets.len() <= room => {
+                self.octets.fill_from_slice(octets);
+                self.entries.push_back(Entry {
+                    endpoint,
+                    len: octets.len(),
+                });
+                Ok(())
+            }
+            _ => Err(QueueFault::NoRoom),
+        }
+    }
+
+    /// The first datagram, which stays, beside its octets: its endpoint and how many octets it has. None where nothing waits.
+    pub fn first(&self) -> Option<Entry>
+        ensures first { result ≡ first_entry self.now.items }
+        ensures limits { IsWithin self.now }
+        ensures fits { IfSome result (λ entry. 8 + entry.len ≤ self.now.capacity) }
+    {
+        self.entries.front().copied()
+    }
+
+    /// Fills `out` with the octets of the first datagram from the place `at` on. The datagram stays.
+    pub fn copy_at(&self, at: usize, out: &mut [u8])
+        requires { at + length out.old ≤ length (first_octets self.now.items) }
+        ensures { out.new ≡ slice_range (first_octets self.now.items) at (at + length out.old) }
+    {
+        let (front, back) = self.octets.as_slices();
+        copy_of_two(front, back, at, out);
+    }
+
+    /// Takes the first datagram out, and answers what was known of it beside its octets. None where nothing waits, and then
+    /// nothing has changed. The octets of the others stay where they are.
+    pub fn pop(&mut self) -> Option<Entry>
+        ensures first { result ≡ first_entry self.old.items }
+        ensures items { self.new ≡ record self.old { items = drop 1 self.old.items } }
+    {
+        let entry = self.entries.pop_front()?;
+        self.octets.truncate_front(self.octets.len() - entry.len);
+        Some(entry)
+    }
+
+    /// How many octets a further datagram may have. None where none has room, not even an empty one.
+    pub fn room(&self) -> Option<usize>
+        ensures some { IfSome result (λ most. (len : ℕ) → HasRoom self.now len ↔ (len ≤ most)) }
+        ensures none { IfNone result ((len : ℕ) → HasRoom self.now len → ⊥) }
+    {
+        if self.entries.is_full() {
+            return None;
+        }
+        let counted = COUNTED_BESIDE * self.entries.len() + self.octets.len();
+        (self.octets.capacity() - counted).checked_sub(COUNTED_BESIDE)
+    }
+}
+
+/// Fills `out` with the octets from the place `at` on of two parts of which one follows the other.
+fn copy_of_two(front: &[u8], back: &[u8], at: usize, out: &mut [u8])
+    requires { at + length out.old ≤ length front.now + length back.now }
+    ensures { out.new ≡ slice_range (front.now ++ back.now) at (at + length out.old) }
+{
+    let skipped = at.min(front.len());
+    let beginning = &front[skipped..];
+    let from_front = beginning.len().min(out.len());
+    let behind = at - skipped;
+    let from_back = out.len() - from_front;
+    out[..from_front].copy_from_slice(&beginning[..from_front]);
+    out[from_front..].copy_from_slice(&back[behind..behind + from_back]);
+}
