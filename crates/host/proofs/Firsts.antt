@@ -60,6 +60,14 @@ position-lt-length p xs i e = (IsFirst-position p xs i e).within
 pub find-position : {X : Type 0} (p : X → Bool) (xs : List X) (i : ℕ) (x : X) → position p xs ≡ Some i → x ≡ get_or xs i x → find p xs ≡ Some x
 find-position p xs i x e same = (IsFirst-position p xs i e).found x same
 
+-- an element that has a place is found
+pub found_by_place : {X : Type 0} (p : X → Bool) (xs : List X) (i : ℕ) → position p xs ≡ Some i → (x : X) × (find p xs ≡ Some x)
+found_by_place p [] i e = cc
+found_by_place p (y ∷ ys) i e =
+    let within : i < length (y ∷ ys) = (position-Some p (y ∷ ys) i y e).0 in
+    let place : position_or_len p (y ∷ ys) ≡ i = (cond_some _ _ _ e).1 in
+    (get_or (y ∷ ys) i y, find_at p (y ∷ ys) ∙ ap (λ k. slice_get (y ∷ ys) k) place ∙ slice_get-get_or (y ∷ ys) i y within)
+
 -- a change of the first element that passes is a write at its place
 pub change_first-position : {X : Type 0} (p : X → Bool) (f : X → X) (xs : List X) (i : ℕ) (x : X) → position p xs ≡ Some i → x ≡ get_or xs i x → change_first p f xs ≡ set xs i (f x)
 change_first-position p f xs i x e same = (IsFirst-position p xs i e).changed x f same

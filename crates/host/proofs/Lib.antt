@@ -5,3 +5,4 @@ pub mod Turns
 pub mod Connected
 pub mod Fronts
 pub mod Arrived
+pub mod Foreseen

@@ -3,6 +3,8 @@ use Rattle.std.specs.Prelude.{ℕ, ◌+◌, ◌^◌, Bool, ◌==◌, ◌&&◌, �
 use Rattle.std.specs.List.{list_any}
 use Rattle.ipv4.specs.declared.addr.Addr.{Addr}
 use Rattle.ipv4.specs.declared.addr.Endpoint.{Endpoint}
+use Rattle.ipv4.specs.declared.addr.Pair.{Pair}
+use Rattle.ipv4.specs.Addresses.{pair_of}
 use Rattle.tcp_state.specs.declared.buffers.Buffers.{Buffers}
 use Rattle.tcp_state.specs.declared.state.State.{State}
 use Rattle.tcp_state.specs.declared.calls.Received.{Received}
@@ -230,4 +232,24 @@ after_connect h isn id peer = of_role (role_of h id)
 
     of_role : Option Role → HostView
     of_role None = h
+    of_role (Some role) = of_open (open_answer role)
+
+-- the pair that a connect would open, where it is not refused
+abbrev pub pair_connected : HostView → SocketId → Endpoint → Option Pair
+pair_connected h id peer = of_role (role_of h id)
+  where
+    of_port : Option ℕ → Option Pair
+    of_port None = None
+    of_port (Some port) = Some (pair_of (record { addr = h.addr; port = port }) peer)
+
+    of_reach : Option Endpoint → Option Refusal → Option Pair
+    of_reach bound (Some refusal) = None
+    of_reach bound None = of_port (port_for h bound peer)
+
+    of_open : Result (Option Endpoint) Refusal → Option Pair
+    of_open (Err refusal) = None
+    of_open (Ok bound) = of_reach bound (reach_refusal h peer)
+
+    of_role : Option Role → Option Pair
+    of_role None = None
     of_role (Some role) = of_open (open_answer role)

@@ -1,6 +1,8 @@
 -- What a frame that arrives makes of a host (RFC 9293 section 3.10.7).
 use Rattle.std.specs.Prelude.{◌≡◌, ℕ, ◌+◌, Bool, ◌&&◌, ◌||◌, not, nat_le, if◌then◌else◌, List, [], ◌∷◌, ◌++◌, count_by, Option, Some, None, find, Result, Ok, Err, MatchResult}
 use Rattle.ipv4.specs.declared.addr.Endpoint.{Endpoint}
+use Rattle.ipv4.specs.declared.addr.Pair.{Pair}
+use Rattle.ipv4.specs.Addresses.{pair_of}
 use Rattle.tcp_segment.specs.declared.flags.Flags.{Flags}
 use Rattle.tcp_segment.specs.declared.fault.SegmentFault.{SegmentFault}
 use Rattle.tcp_segment.specs.declared.fault.SegmentFault.TheVariants as fault
@@ -64,6 +66,35 @@ arrival h isn s = of_entry (find (is_between (local_end h s) (peer_end h s)) h.e
     of_entry : Option Entry → Arrival
     of_entry (Some e) = Becomes (record h { entries = settled (fate_of s e.role) (is_between (local_end h s) (peer_end h s)) s h.entries })
     of_entry None = if is_opening s.flags then opening h isn s else Becomes h
+
+-- the pair that a segment leads to the opening of
+abbrev pub opened_by : HostView → Segment → Arrival → Option Pair
+opened_by h s (Opens next) = Some (pair_of (local_end h s) (peer_end h s))
+opened_by h s (Becomes next) = None
+opened_by h s NoPlace = None
+
+-- the same by its tests: the pair of a segment that opens a connection where none is, at a listener that has a place
+abbrev pub pair_at_listener : HostView → Segment → Option Pair
+pair_at_listener h s = of_listener (find (is_listening_at s.destination) h.entries)
+  where
+    of_listener : Option Entry → Option Pair
+    of_listener None = None
+    of_listener (Some listener) = if has_no_place h listener then None else Some (pair_of (local_end h s) (peer_end h s))
+
+abbrev pub pair_opened : HostView → Segment → Option Pair
+pair_opened h s = of_entry (find (is_between (local_end h s) (peer_end h s)) h.entries)
+  where
+    of_entry : Option Entry → Option Pair
+    of_entry (Some e) = None
+    of_entry None = if is_opening s.flags then pair_at_listener h s else None
+
+-- what is foreseen of a frame: the pair that its segment opens, and none where the octets are no segment
+abbrev pub foreseen : HostView → Result Segment SegmentFault → Option Pair
+foreseen h (Ok s) = pair_opened h s
+foreseen h (Err fault) = None
+
+abbrev pub IsForeseen : HostView → List ℕ → Option Pair → Type 0
+IsForeseen h octets pair = (parsed : Result Segment SegmentFault) × IsParsed h.neighbour h.addr octets parsed × (pair ≡ foreseen h parsed)
 
 -- the answer and the new host are those that a segment leads to
 abbrev pub Meets : Arrival → HostView → Result (Unit {0}) DropCause → HostView → Type 0

@@ -9,7 +9,7 @@ ghost use Rattle.host.specs.Calls.{open_answer};
 
 use crate::entry::{Entry, Role};
 use crate::{Host, Kind, Refusal, SocketId, ports, table};
-use ipv4::{Addr, Endpoint};
+use ipv4::{Addr, Endpoint, Pair};
 use tcp_segment::Seq;
 use tcp_state::{Buffers, Moment, Received, State};
 
@@ -22,7 +22,7 @@ const BACKLOG: usize = 1;
 impl Host {
     ghost use Rattle.host.specs.HostView.{HostView, later};
     ghost use Rattle.host.specs.Entries.{is_socket};
-    ghost use Rattle.host.specs.Calls.{bind_refusal, after_bind, listen_refusal, after_listen, state_answer, after_socket, is_table_full, accept_answer, after_accept, send_answer, after_send, recv_answer, recv_front, after_recv, connect_refusal, after_connect, reach_refusal, port_for, counted_port};
+    ghost use Rattle.host.specs.Calls.{bind_refusal, after_bind, listen_refusal, after_listen, state_answer, after_socket, is_table_full, accept_answer, after_accept, send_answer, after_send, recv_answer, recv_front, after_recv, connect_refusal, after_connect, reach_refusal, port_for, counted_port, pair_connected};
 
     /// Makes a socket, with the room for one connection. EMFILE where the table is full or the last id is given, ENOMEM.
     pub fn socket(&mut self, kind: Kind) -> Result<SocketId, Refusal>
@@ -162,6 +162,19 @@ impl Host {
         self.last_port = self.counted_port(bound, port);
         self.entries[place].connect(Endpoint { addr, port }, peer, isn);
         Ok(())
+    }
+
+    /// The pair that `connect` would open; None where it would be refused.
+    #[tactic(auto, using(crate::proofs::Firsts::firsts))]
+    pub fn would_connect(&self, id: SocketId, peer: Endpoint) -> Option<Pair>
+        ensures { result ≡ pair_connected self.now id peer }
+    {
+        let place = table::socket_of(&self.entries, id)?;
+        let bound = may_open(&self.entries[place].role).ok()?;
+        self.may_reach(peer).ok()?;
+        let addr = self.addr;
+        let port = self.local_port(bound, peer).ok()?;
+        Some(Pair::new(Endpoint { addr, port }, peer))
     }
 
     /// Whether a route leads to a peer that a host may have.

@@ -6,6 +6,7 @@ ghost use Rattle.host.specs.Dispatch.{is_opening};
 
 mod calls;
 mod entry;
+pub mod laws;
 mod ports;
 mod refusal;
 mod table;
@@ -107,7 +108,7 @@ impl Model for Host {
 }
 
 impl Host {
-    ghost use Rattle.host.specs.Dispatch.{local_end, peer_end, arrival, opening, Meets, IsDelivered};
+    ghost use Rattle.host.specs.Dispatch.{local_end, peer_end, arrival, opening, Meets, IsDelivered, IsForeseen, pair_opened, pair_at_listener, has_no_place};
     ghost use Rattle.host.specs.Pairs.{socket_pair, due_pair};
     ghost use Rattle.host.specs.Sound.{IsSoundHost};
     ghost use Rattle.host.specs.HostView.{HostView, later, holder_id, fresh, emission_len, after_emission, emission_front, after_tick, least_deadline};
@@ -196,6 +197,52 @@ impl Host {
     {
         let place = table::first_due(&self.entries)?;
         self.entries[place].pair()
+    }
+
+    /// The pair that delivering this frame would open if memory were there (RFC 9293 section 3.10.7.2); None where it would open none.
+    pub fn would_open(&self, frame: &[u8]) -> Option<Pair>
+        ensures { IsForeseen self.now frame.now result }
+    {
+        match TcpView::parse(self.neighbour, self.addr, frame) {
+            Ok(segment) => self.pair_opened(&segment),
+            Err(_) => None,
+        }
+    }
+
+    /// The pair that this segment would open if memory were there.
+    #[tactic(auto, using(crate::proofs::Firsts::firsts))]
+    fn pair_opened(&self, segment: &TcpView<'_>) -> Option<Pair>
+        ensures { result ≡ pair_opened self.now segment.now }
+    {
+        let (local, peer) = self.ends(segment);
+        match table::connection_between(&self.entries, local, peer) {
+            Some(_) => None,
+            None if is_opening(segment.flags()) => self.pair_at_listener(local, peer, segment),
+            None => None,
+        }
+    }
+
+    /// The pair of these ends, where a listener at the local port has a place for the connection that `syn` opens.
+    #[tactic(auto, using(crate::proofs::Firsts::firsts))]
+    fn pair_at_listener(&self, local: Endpoint, peer: Endpoint, _syn: &TcpView<'_>) -> Option<Pair>
+        requires local { local ≡ local_end self.now _syn.now }
+        requires peer { peer ≡ peer_end self.now _syn.now }
+        ensures { result ≡ pair_at_listener self.now _syn.now }
+    {
+        let place = table::listener_at(&self.entries, local.port)?;
+        if self.has_no_place(&self.entries[place]) {
+            return None;
+        }
+        Some(Pair::new(local, peer))
+    }
+
+    /// Whether a further connection has no place at this listener.
+    fn has_no_place(&self, listener: &Entry) -> bool
+        ensures { result ≡ has_no_place self.now listener.now }
+    {
+        table::waiting_at(&self.entries, listener.id) >= listener.backlog()
+            || self.entries.is_full()
+            || self.last_id == u64::MAX
     }
 
     /// What each connection keeps of itself, for the contracts above; it changes nothing.

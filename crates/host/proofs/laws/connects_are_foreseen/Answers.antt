@@ -1,0 +1,5 @@
+use Rattle.host.proofs.Foreseen.{connect_foreseen}
+use Rattle.host.proofs.laws.connects_are_foreseen.Goals as goal
+
+pub returns : goal.returns
+returns c = connect_foreseen
