@@ -1,9 +1,9 @@
 pub mod Counts
 pub mod Emitted
-pub mod CodeCounts
-pub mod CodeEmitted
-pub mod CodeGrowth
-pub mod CodeFair
+pub mod LedgerCounts
+pub mod FrameEmitted
+pub mod CountGrowth
+pub mod FairCounted
 pub mod Finding
 pub mod Tables
 pub mod Changes
@@ -26,6 +26,6 @@ pub mod ProjectionConnect
 pub mod ProjectionTick
 pub mod Fair
 pub mod WorldLaw
-pub mod CodeReached
-pub mod CodeCloned
-pub mod CodeRun
+pub mod StepReached
+pub mod EventCopied
+pub mod RunGiven

@@ -7,9 +7,9 @@ use Rattle.wire_sim.specs.declared.event.Answer.{Answer}
 use Rattle.wire_sim.specs.declared.event.Unfair.{Unfair}
 use Rattle.wire_sim.specs.declared.event.Unfair.TheVariants.{NoMemory}
 use Rattle.wire_sim.specs.Runs.{SameEvent, IsOutcome, RunsTo}
-use Rattle.wire_sim.proofs.CodeCloned.{cloned}
-use Rattle.wire_sim.proofs.CodeReached.{lawful}
-use Rattle.wire_sim.proofs.CodeRun.{runs-next, runs-none, runs-all, step-outcome, same_event}
+use Rattle.wire_sim.proofs.EventCopied.{cloned}
+use Rattle.wire_sim.proofs.StepReached.{lawful}
+use Rattle.wire_sim.proofs.RunGiven.{runs-next, runs-none, runs-all, step-outcome, same_event}
 use Rattle.wire_sim.proofs.world.World.run.Goals.{in-Ok, in-Err}
 use Rattle.wire_sim.proofs.world.World.run.Goals as goal
 

@@ -6,8 +6,8 @@ use Rattle.wire_sim.specs.Runs.{unfair, IsStep}
 use Rattle.wire_sim.specs.WorldView.{NetworkView, WorldView, network_view, unfair_counted}
 use Rattle.wire_sim.proofs.Fair.{same_unfair}
 use Rattle.wire_sim.proofs.WorldLaw.{run_tallied}
-use Rattle.wire_sim.proofs.CodeReached.{reached-next, lawful, step_from}
-use Rattle.wire_sim.proofs.CodeGrowth.{Steps-grows}
+use Rattle.wire_sim.proofs.StepReached.{reached-next, lawful, step_from}
+use Rattle.wire_sim.proofs.CountGrowth.{Steps-grows}
 use Rattle.wire_sim.proofs.world.World.step.Goals as goal
 
 -- what stands in a world's fields

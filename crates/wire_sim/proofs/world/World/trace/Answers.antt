@@ -2,7 +2,7 @@
 use Rattle.std.proofs.Common.{◌∙◌, List, sym, ap}
 use Rattle.wire_sim.specs.declared.event.Happening.{Happening}
 use Rattle.wire_sim.specs.WorldView.{WorldView, network_view}
-use Rattle.wire_sim.proofs.CodeReached.{lawful}
+use Rattle.wire_sim.proofs.StepReached.{lawful}
 use Rattle.wire_sim.proofs.world.World.trace.Goals as goal
 
 pub returns-clause-lawful : goal.returns-clause-lawful
