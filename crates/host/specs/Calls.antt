@@ -20,7 +20,7 @@ use Rattle.host.specs.declared.refusal.Refusal.{Refusal}
 use Rattle.host.specs.declared.refusal.Refusal.TheVariants.{EBADF, EINVAL, EADDRINUSE, EADDRNOTAVAIL, EISCONN, ENOTCONN, EALREADY, EAGAIN, ENETUNREACH, EOPNOTSUPP, EPIPE, EDESTADDRREQ}
 use Rattle.host.specs.Endpoints.{same_addr, is_single_host}
 use Rattle.host.specs.Ports.{first_port, is_free_port}
-use Rattle.host.specs.Entries.{has_port, is_between, is_offered_at, offered_peer, shown_state, new_socket, bound_to, listening, connecting, accepted, sent, received, with_role}
+use Rattle.host.specs.Entries.{has_port, is_between, is_offered_at, offered_peer, shown_state, new_socket, bound_to, listening, connecting, accepted, sent, received, write_shut, with_role}
 use Rattle.host.specs.HostView.{HostView, role_of, with_socket}
 use Rattle.host.specs.Lists.{change_first}
 
@@ -170,6 +170,22 @@ recv_answer h id len = of_role (role_of h id)
 
 abbrev pub after_recv : HostView → SocketId → ℕ → HostView
 after_recv h id len = with_socket h id (received len)
+
+-- what closing our side is refused for: no connection, or one that is not opened yet
+abbrev pub shut_refusal : Role → Option Refusal
+shut_refusal (Idle buffers bound) = Some ENOTCONN
+shut_refusal (Listener bound backlog) = Some EOPNOTSUPP
+shut_refusal (Connected c listener) = if is_opening c.state then Some ENOTCONN else None
+
+abbrev pub shutdown_refusal : HostView → SocketId → Option Refusal
+shutdown_refusal h id = of_role (role_of h id)
+  where
+    of_role : Option Role → Option Refusal
+    of_role None = Some EBADF
+    of_role (Some role) = shut_refusal role
+
+abbrev pub after_shutdown : HostView → SocketId → HostView
+after_shutdown h id = with_socket h id write_shut
 
 -- a connection from our port to the peer is in the table, in any state but CLOSED
 abbrev pub is_pair_held : HostView → ℕ → Endpoint → Bool

@@ -5,12 +5,12 @@ use Rattle.ipv4.specs.declared.addr.Pair.{Pair}
 use Rattle.tcp_state.specs.declared.state.State.{State}
 use Rattle.tcp_state.specs.declared.state.State.TheVariants.{Closed, Listen}
 use Rattle.tcp_state.specs.declared.moment.Moment.{Moment}
-use Rattle.tcp_state.specs.View.{View, is_closed, is_syn_received, opened_actively, after_tick, deadline}
+use Rattle.tcp_state.specs.View.{View, is_opening, is_closed, is_syn_received, opened_actively, after_tick, deadline}
 use Rattle.tcp_segment.specs.Segment.{Segment}
 use Rattle.tcp_state.specs.declared.connection.Fate.{Fate}
 use Rattle.tcp_state.specs.declared.connection.Fate.TheVariants.{Stays}
 use Rattle.tcp_state.specs.Arrival.{after_segment, fate}
-use Rattle.tcp_state.specs.Calls.{after_send, after_recv}
+use Rattle.tcp_state.specs.Calls.{after_send, after_recv, after_shutdown}
 use Rattle.tcp_state.specs.declared.emission.Due.{Due}
 use Rattle.tcp_state.specs.Due.{first_due, after_emitted, emitted_len, emitted}
 use Rattle.tcp_state.specs.declared.buffers.Buffers.{Buffers}
@@ -171,6 +171,12 @@ abbrev pub sent : List ℕ → Role → Role
 sent octets (Connected c listener) = Connected (after_send c octets) listener
 sent octets (Listener l b) = Listener l b
 sent octets (Idle buffers bound) = Idle buffers bound
+
+-- our side of the entry's connection is closed, where it is past its opening
+abbrev pub write_shut : Role → Role
+write_shut (Connected c listener) = Connected (if is_opening c.state then c else after_shutdown c) listener
+write_shut (Listener l b) = Listener l b
+write_shut (Idle buffers bound) = Idle buffers bound
 
 -- octets of the entry's connection are read into a buffer of this length, and none into an empty one
 abbrev pub received : ℕ → Role → Role

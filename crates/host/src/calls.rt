@@ -22,7 +22,7 @@ const BACKLOG: usize = 1;
 impl Host {
     ghost use Rattle.host.specs.HostView.{HostView, later};
     ghost use Rattle.host.specs.Entries.{is_socket};
-    ghost use Rattle.host.specs.Calls.{bind_refusal, after_bind, listen_refusal, after_listen, state_answer, after_socket, is_table_full, accept_answer, after_accept, send_answer, after_send, recv_answer, recv_front, after_recv, connect_refusal, after_connect, reach_refusal, port_for, counted_port, pair_connected};
+    ghost use Rattle.host.specs.Calls.{bind_refusal, after_bind, listen_refusal, after_listen, state_answer, after_socket, is_table_full, accept_answer, after_accept, send_answer, after_send, recv_answer, recv_front, after_recv, connect_refusal, after_connect, reach_refusal, port_for, counted_port, pair_connected, shutdown_refusal, after_shutdown};
 
     /// Makes a socket, with the room for one connection. EMFILE where the table is full or the last id is given, ENOMEM.
     pub fn socket(&mut self, kind: Kind) -> Result<SocketId, Refusal>
@@ -248,6 +248,37 @@ impl Host {
     {
         let place = self.socket_place(id)?;
         self.entries[place].recv(buffer)
+    }
+
+    /// Closes our side of a connection (RFC 9293 section 3.10.4): a FIN follows the octets that were given. Closed again, it stays so.
+    ///
+    /// EBADF; EOPNOTSUPP where the socket listens; ENOTCONN where it has no connection or is opening one.
+    #[tactic(auto, using(crate::proofs::Firsts::firsts))]
+    pub fn shutdown_write(&mut self, id: SocketId) -> Result<(), Refusal>
+        ensures refused { result_err result ≡ shutdown_refusal self.old id }
+        ensures ok { OnOk result (self.new ≡ after_shutdown self.old id) }
+        ensures err { OnErr result (self.new ≡ self.old) }
+    {
+        let place = self.may_shut(id)?;
+        self.entries[place].shut();
+        Ok(())
+    }
+
+    /// The place of the socket whose side may be closed.
+    #[tactic(auto, using(crate::proofs::Firsts::firsts))]
+    fn may_shut(&self, id: SocketId) -> Result<usize, Refusal>
+        ensures refused { result_err result ≡ shutdown_refusal self.now id }
+        ensures place { IfOk result (λ place. position (is_socket id) self.now.entries ≡ Some place) }
+    {
+        let place = self.socket_place(id)?;
+        match &self.entries[place].role {
+            Role::Idle { .. } => Err(Refusal::ENOTCONN),
+            Role::Listener { .. } => Err(Refusal::EOPNOTSUPP),
+            Role::Connected { connection, .. } if connection.state().is_opening() => {
+                Err(Refusal::ENOTCONN)
+            }
+            Role::Connected { .. } => Ok(place),
+        }
     }
 
     /// The state of a socket (RFC 9293 section 3.3.2); CLOSED where it has had no connection. EBADF.

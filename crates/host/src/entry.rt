@@ -118,7 +118,7 @@ impl Default for Entry {
 }
 
 impl Entry {
-    ghost use Rattle.host.specs.Entries.{new_socket, new_waiting, sent, received, emitted_at, due_len, framed, arrived, fate_of, listens_at, backlog_of};
+    ghost use Rattle.host.specs.Entries.{new_socket, new_waiting, sent, received, emitted_at, due_len, framed, arrived, fate_of, listens_at, backlog_of, write_shut};
     ghost use Rattle.host.specs.Calls.{sent_answer, received_answer, read_front};
     ghost use Rattle.host.specs.Pairs.{pair_in};
     ghost use Rattle.host.specs.Sound.{IsSoundRole};
@@ -196,6 +196,15 @@ impl Entry {
                 Ok(taken) => Ok(taken),
                 Err(refusal) => Err(Refusal::from(refusal)),
             },
+        }
+    }
+
+    /// Closes our side of the connection, where it is past its opening.
+    pub(crate) fn shut(&mut self)
+        ensures { self.new ≡ with_role write_shut self.old }
+    {
+        if let Role::Connected { connection, .. } = &mut self.role {
+            let _ = connection.shutdown();
         }
     }
 

@@ -1,0 +1,9 @@
+pub mod Known
+pub mod Writes
+pub mod BufferSteps
+pub mod Outcomes
+pub mod Ageing
+pub mod Latest
+pub mod Wholes
+pub mod Together
+pub mod Contradictions

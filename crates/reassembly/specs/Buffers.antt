@@ -1,0 +1,23 @@
+-- How the fields of a data buffer are seen.
+use Rattle.std.specs.Prelude.{◌≡◌, ℕ, ◌≤◌, ◌+◌, Bool, if◌then◌else◌, List, [], ◌∷◌, ◌++◌, length, take, drop, count_by, Option, Some, None}
+
+-- the octets whose flags are set
+abbrev pub known : List ℕ → List Bool → List (Option ℕ)
+known [] present = []
+known (octet ∷ octets) [] = []
+known (octet ∷ octets) (is_present ∷ present) = (if is_present then Some octet else None) ∷ known octets present
+
+-- the flags that are set
+abbrev pub count_set : List Bool → ℕ
+count_set flags = count_by (λ flag. flag) flags
+
+-- a list in which these items stand from a place on
+abbrev pub over : {X : Type 0} → ℕ → List X → List X → List X
+over at new items = take at items ++ new ++ drop (at + length new) items
+
+-- room for the longest payload, the places that are in use, and how many of these have their octet
+pub record IsBuffer (octets : List ℕ) (present : List Bool) (reach covered : ℕ) : Type 0 where
+  pub octets_room : length octets ≡ 65515
+  pub flags_room : length present ≡ 65515
+  pub within : reach ≤ 65515
+  pub counted : covered ≡ count_set (take reach present)

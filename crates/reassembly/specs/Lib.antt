@@ -1,0 +1,7 @@
+pub mod Octets
+pub mod Buffers
+pub mod Fragments
+pub mod Reassembly
+pub mod Inside
+pub mod Keys
+pub mod Places

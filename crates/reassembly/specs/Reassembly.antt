@@ -1,0 +1,91 @@
+-- A datagram that is being put together, and one fragment more (RFC 791 section 3.2).
+use Rattle.std.specs.Prelude.{◌≡◌, ℕ, ◌+◌, ◌-◌, ◌^◌, ◌==◌, min, Bool, not, ◌&&◌, ◌||◌, nat_lt, nat_le, if◌then◌else◌, List, [], length, fold, Option, Some, None, unwrap_or}
+use Rattle.std.specs.Option.{option_or, option_map_or}
+use Rattle.ipv4.specs.Datagram.{Datagram}
+use Rattle.reassembly.specs.declared.key.Key.{Key}
+use Rattle.reassembly.specs.declared.moment.Moment.{Moment}
+use Rattle.reassembly.specs.declared.taken.Loss.TheVariants.{GivenUp}
+use Rattle.reassembly.specs.declared.taken.Taken.{Taken}
+use Rattle.reassembly.specs.declared.taken.Taken.TheVariants.{Waiting, Whole, Dropped}
+use Rattle.reassembly.specs.Fragments.{key_of, begin_of, end_of, is_last, quote_of}
+use Rattle.reassembly.specs.Octets.{laid, whole_of}
+
+pub record Reassembly : Type 0 where
+  -- what its fragments have in common
+  pub key : Key
+  -- when the first of them arrived
+  pub since : Moment
+  -- by its place the octet that came last, as far as any came
+  pub octets : List (Option ℕ)
+  -- where the payload ends, once a last fragment came
+  pub end : Option ℕ
+  -- what an error message quotes: that of the fragment zero that came last
+  pub quote : Option (List ℕ)
+
+-- the time for it runs out sixty seconds after its first fragment arrived, or at the end of the clock
+abbrev pub deadline_after : Moment → Moment
+deadline_after since = record { 0 = min (since.0 + 60000) (2 ^ 64 - 1) }
+
+abbrev pub deadline_of : Reassembly → Moment
+deadline_of r = deadline_after r.since
+
+-- it has run out
+abbrev pub is_over_after : Moment → Moment → Bool
+is_over_after since now = nat_le (deadline_after since).0 now.0
+
+-- before its first fragment, which arrives now
+abbrev pub begun : Moment → Datagram → Reassembly
+begun now d = record { key = key_of d; since = now; octets = []; end = None; quote = None }
+
+-- a fragment contradicts those that came before: it has an octet past the known end, or it tells another end, or one before
+-- an octet that came
+abbrev pub conflicts : Datagram → Option ℕ → ℕ → Bool
+conflicts d None reach = is_last d && nat_lt (end_of d) reach
+conflicts d (Some end) reach = nat_lt end (end_of d) || (is_last d && not (end_of d == end))
+
+-- the end that was told first
+abbrev pub end_after : Datagram → Option ℕ → Option ℕ
+end_after d end = option_or end (if is_last d then Some (end_of d) else None)
+
+abbrev pub quote_after : Datagram → Option (List ℕ) → Option (List ℕ)
+quote_after d quote = if d.offset == 0 then Some (quote_of d) else quote
+
+-- with this fragment laid over those that came before
+abbrev pub with_fragment : Reassembly → Datagram → Reassembly
+with_fragment r d = record r { octets = laid (begin_of d) d.payload r.octets; end = end_after d r.end; quote = quote_after d r.quote }
+
+-- what becomes of a reassembly
+pub data Outcome : Type 0 where
+  -- it waits for further fragments
+  Waits : Reassembly → Outcome
+  -- its payload is whole, and it ends
+  Completes : List ℕ → Outcome
+  -- it is given up
+  GivesUp : Outcome
+
+unfoldable pub outcome : Datagram → Reassembly → Outcome
+outcome d r =
+    if conflicts d r.end (length r.octets) then GivesUp
+    else let next = with_fragment r d in option_map_or (λ payload. Completes payload) (whole_of next.end next.octets) (Waits next)
+
+-- what stands in its place afterwards
+abbrev pub left : Outcome → Option Reassembly
+left (Waits r) = Some r
+left (Completes payload) = None
+left GivesUp = None
+
+-- what is answered
+abbrev pub Answers : Outcome → Taken → Type 0
+Answers (Waits r) taken = taken ≡ Waiting
+Answers (Completes payload) (Whole octets) = octets.now ≡ payload
+Answers (Completes payload) Waiting = ⊥
+Answers (Completes payload) (Dropped loss) = ⊥
+Answers GivesUp taken = taken ≡ Dropped GivenUp
+
+-- a reassembly that goes on, or else one that begins now
+abbrev pub continued : Moment → Datagram → Option Reassembly → Reassembly
+continued now d place = unwrap_or place (begun now d)
+
+-- after these fragments, none of which ended it
+abbrev pub after_fragments : Reassembly → List Datagram → Reassembly
+after_fragments r fragments = fold with_fragment r fragments

@@ -1,0 +1,40 @@
+//! Laws of the definitions that the contracts of this crate cite: each is the contract of a function that does nothing.
+
+ghost use Rattle.std.specs.Prelude.{◌≡◌, ◌++◌, ◌∷◌, [], ℕ, List, length, false, Some, None, slice_index_or};
+ghost use Rattle.ipv4.specs.Datagram.{Datagram};
+ghost use Rattle.reassembly.specs.declared.moment.Moment.{Moment};
+ghost use Rattle.reassembly.specs.Fragments.{latest, told_end, is_contradictory, IsPayload};
+ghost use Rattle.reassembly.specs.Octets.{whole_of};
+ghost use Rattle.reassembly.specs.Reassembly.{begun, after_fragments, conflicts};
+
+/// After some fragments the octet of each place is that of the last of them to arrive which covers it, and there is none where
+/// none does.
+pub fn latest_octets()
+    ensures { (now : Moment) (first : Datagram) (fragments : List Datagram) (i : ℕ)
+        → slice_index_or (after_fragments (begun now first) fragments).octets i None ≡ latest fragments i }
+{}
+
+/// The end of a payload is known once a last fragment is among them, and it is the one that this tells.
+pub fn known_end()
+    ensures { (now : Moment) (first : Datagram) (fragments : List Datagram)
+        → (after_fragments (begun now first) fragments).end ≡ told_end fragments }
+{}
+
+/// A datagram is whole exactly where its end is known and every octet below it came; its octets are then the latest of each place.
+pub fn whole_payload()
+    ensures whole { (now : Moment) (first : Datagram) (fragments : List Datagram) (payload : List ℕ)
+        → whole_of (after_fragments (begun now first) fragments).end (after_fragments (begun now first) fragments).octets ≡ Some payload
+        → IsPayload fragments payload }
+    ensures known { (now : Moment) (first : Datagram) (fragments : List Datagram) (payload : List ℕ)
+        → IsPayload fragments payload
+        → whole_of (after_fragments (begun now first) fragments).end (after_fragments (begun now first) fragments).octets ≡ Some payload }
+{}
+
+/// While no two fragments contradict each other, one more is given up with them exactly where it contradicts one of them: it has an
+/// octet past an end that was told, or it tells another end, or one before an octet that came.
+pub fn given_up()
+    ensures { (now : Moment) (first : Datagram) (fragments : List Datagram) (d : Datagram)
+        → is_contradictory fragments ≡ false
+        → conflicts d (after_fragments (begun now first) fragments).end (length (after_fragments (begun now first) fragments).octets)
+        ≡ is_contradictory (fragments ++ d ∷ []) }
+{}

@@ -1,0 +1,26 @@
+//! Datagrams put together from their fragments (RFC 791 section 3.2, RFC 815, RFC 1122 section 3.3.2).
+#![tactic(auto)]
+
+mod buffer;
+mod expired;
+mod fault;
+mod fragment;
+mod key;
+pub mod laws;
+mod moment;
+mod pending;
+mod place;
+mod pool;
+mod quote;
+mod taken;
+
+pub use expired::Expired;
+pub use fault::PoolFault;
+pub use key::Key;
+pub use moment::Moment;
+pub use pool::{PLACES, Pool};
+pub use quote::Quote;
+pub use taken::{Loss, Taken};
+
+#[cfg(test)]
+mod tests;

@@ -1,0 +1,66 @@
+//! What is known of a datagram that is being put together.
+
+ghost use Rattle.std.specs.Prelude.{◌≡◌, []};
+ghost use Rattle.reassembly.specs.Inside.{seen};
+ghost use Rattle.reassembly.specs.Reassembly.{begun, deadline_after, is_over_after, end_after, quote_after};
+
+use crate::fragment;
+use crate::key::Key;
+use crate::moment::Moment;
+use crate::quote::Quote;
+use ipv4::Ipv4View;
+
+/// How long the fragments of a datagram are waited for, in milliseconds (RFC 1122 section 3.3.2).
+const PATIENCE: u64 = 60_000;
+
+/// What is known of a datagram that is being put together, beside its octets.
+#[derive(Drop)]
+pub(crate) struct Pending {
+    pub(crate) key: Key,
+    /// When its first fragment arrived.
+    pub(crate) since: Moment,
+    /// Where its payload ends, once a last fragment came.
+    pub(crate) end: Option<usize>,
+    /// That of the fragment zero that came last.
+    pub(crate) quote: Option<Quote>,
+}
+
+impl Pending {
+    /// A datagram that begins now with a fragment, before that is noted.
+    pub(crate) fn new(now: Moment, fragment: &Ipv4View) -> Pending
+        ensures { seen [] result ≡ begun now fragment.now }
+    {
+        Pending {
+            key: Key::of(fragment),
+            since: now,
+            end: None,
+            quote: None,
+        }
+    }
+
+    /// When its time runs out.
+    pub(crate) fn deadline(&self) -> Moment
+        ensures { result ≡ deadline_after self.now.since }
+    {
+        self.since.after(PATIENCE)
+    }
+
+    /// Whether its time has run out.
+    pub(crate) fn is_over(&self, now: Moment) -> bool
+        ensures { result ≡ is_over_after self.now.since now }
+    {
+        self.deadline() <= now
+    }
+
+    /// Notes what a fragment tells: the end, where it is the first to tell it, and what is quoted of a fragment zero.
+    pub(crate) fn note(&mut self, fragment: &Ipv4View)
+        ensures { self.new ≡ record self.old { end = end_after fragment.now self.old.end; quote = quote_after fragment.now self.old.quote } }
+    {
+        if self.end.is_none() && !fragment.more_fragments() {
+            self.end = Some(fragment::end(fragment));
+        }
+        if fragment.offset() == 0 {
+            self.quote = Some(Quote::of(fragment));
+        }
+    }
+}

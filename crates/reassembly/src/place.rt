@@ -1,0 +1,144 @@
+//! A place for one datagram at a time.
+
+ghost use Rattle.std.specs.Prelude.{◌≡◌, ◌≤◌, None, IfOk, IfSome, IsTrue, is_none, length, option_map, Some};
+ghost use Rattle.std.specs.Bool.{OnTrue, OnFalse};
+ghost use Rattle.std.specs.Borrow.{sem};
+ghost use Rattle.std.specs.Io.BufRead.{Rests};
+ghost use Rattle.reassembly.specs.contracts.place.Place.{the_row};
+ghost use Rattle.reassembly.specs.Inside.{seen, place_seen};
+ghost use Rattle.reassembly.specs.Octets.{whole_of, is_covered, filled};
+ghost use Rattle.reassembly.specs.Places.{is_of, after_time, expired_of};
+ghost use Rattle.reassembly.specs.Reassembly.{Answers, begun, continued, deadline_of, end_after, left, outcome, quote_after};
+
+use crate::buffer::DataBuffer;
+use crate::expired::Expired;
+use crate::fragment;
+use crate::key::Key;
+use crate::moment::Moment;
+use crate::pending::Pending;
+use crate::taken::{Loss, Taken};
+use ipv4::Ipv4View;
+use std::alloc::{AllocError, Global};
+use std::marker::Model;
+
+/// A place for one datagram at a time. Where it is free, its buffer has what is left from before.
+#[derive(Drop)]
+pub(crate) struct Place {
+    pending: Option<Pending>,
+    octets: DataBuffer,
+}
+
+impl Model for Place {
+    ghost use Rattle.std.specs.Prelude.{Option};
+    ghost use Rattle.reassembly.specs.Reassembly.{Reassembly};
+    ghost use Rattle.reassembly.specs.Inside.{place_seen, EndsWithin};
+
+    ghost Value = { Option Reassembly };
+
+    ghost view = { λ p. place_seen p.pending p.octets };
+
+    ghost invariant = { λ p. EndsWithin (place_seen p.pending p.octets) };
+}
+
+impl Place {
+    /// A free place.
+    pub(crate) fn new(alloc: Global) -> Result<Place, AllocError>
+        ensures { IfOk result (λ place. place ≡ None) }
+    {
+        Ok(Place {
+            pending: None,
+            octets: DataBuffer::new(alloc)?,
+        })
+    }
+
+    /// Whether no datagram is put together there.
+    pub(crate) fn is_free(&self) -> bool
+        ensures { result ≡ is_none self.now }
+    {
+        self.pending.is_none()
+    }
+
+    /// Whether the datagram with this key is put together there.
+    pub(crate) fn is_of(&self, key: Key) -> bool
+        ensures { result ≡ is_of key self.now }
+    {
+        match &self.pending {
+            None => false,
+            Some(pending) => pending.key.is(key),
+        }
+    }
+
+    /// When the time of its datagram runs out.
+    pub(crate) fn deadline(&self) -> Option<Moment>
+        ensures { result ≡ option_map deadline_of self.now }
+    {
+        match &self.pending {
+            None => None,
+            Some(pending) => Some(pending.deadline()),
+        }
+    }
+
+    /// Lays a fragment over those of its datagram that came before, or begins with it.
+    pub(crate) fn take(&mut self, now: Moment, fragment: &Ipv4View) -> Taken<'_>
+        ensures answer { Answers (outcome fragment.now (continued now fragment.now self.old)) result }
+        ensures* place { sem 𝓛 (Rests the_row self.entry (λ place. place ≡ left (outcome fragment.now (continued now fragment.now self.old)))) }
+    {
+        let mut pending = resume(self.pending.take(), &mut self.octets, now, fragment);
+        if fragment::conflicts(fragment, pending.end, self.octets.reach()) {
+            return Taken::Dropped(Loss::GivenUp);
+        }
+        self.octets
+            .lay(fragment::begin(fragment), fragment.payload());
+        pending.note(fragment);
+        if is_whole(pending.end, &self.octets) {
+            return Taken::Whole(self.octets.octets());
+        }
+        self.pending = Some(pending);
+        Taken::Waiting
+    }
+
+    /// Ends a datagram whose time ran out, and tells what an error message quotes where a fragment zero came.
+    pub(crate) fn age(&mut self, now: Moment) -> Option<Expired>
+        ensures place { self.new ≡ after_time now self.old }
+        ensures expired { result ≡ expired_of now self.old }
+    {
+        let pending = self.pending.take()?;
+        if !pending.is_over(now) {
+            self.pending = Some(pending);
+            return None;
+        }
+        let key = pending.key;
+        pending.quote.map(|quote| Expired { key, quote })
+    }
+}
+
+/// What is known of a datagram that goes on, or else of one that begins now, with no octets.
+fn resume(
+    pending: Option<Pending>,
+    octets: &mut DataBuffer,
+    now: Moment,
+    fragment: &Ipv4View,
+) -> Pending
+    ensures { seen octets.new result ≡ continued now fragment.now (place_seen pending octets.old) }
+{
+    match pending {
+        Some(pending) => pending,
+        None => {
+            octets.clear();
+            Pending::new(now, fragment)
+        }
+    }
+}
+
+/// Whether the end is known and every octet below it came.
+fn is_whole(end: Option<usize>, octets: &DataBuffer) -> bool
+    requires { IfSome end (λ end. length octets.now ≤ end) }
+    ensures covered { OnTrue result (IsTrue (is_covered octets.now)) }
+    ensures whole { OnTrue result (whole_of end octets.now ≡ Some (filled octets.now)) }
+    ensures waits { OnFalse result (whole_of end octets.now ≡ None) }
+{
+    match end {
+        None => false,
+        Some(end) => octets.reach() == end && octets.is_covered(),
+    }
+}

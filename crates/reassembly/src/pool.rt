@@ -1,0 +1,134 @@
+//! The pool of the datagrams that are being put together.
+
+ghost use Rattle.std.specs.Prelude.{◌≡◌, ◌≤◌, ◌<◌, None, IfOk, IfSome, is_none, length, position, replicate};
+ghost use Rattle.std.specs.Borrow.{sem};
+ghost use Rattle.std.specs.Io.BufRead.{Rests};
+ghost use Rattle.reassembly.specs.contracts.pool.Pool.{the_row};
+ghost use Rattle.reassembly.specs.Places.{is_of, place_for, after_take, AnswersTake, after_age, expired, sooner, next_deadline};
+
+use crate::expired::Expired;
+use crate::fault::PoolFault;
+use crate::key::Key;
+use crate::moment::Moment;
+use crate::place::Place;
+use crate::taken::{Loss, Taken};
+use arrayvec::ArrayVec;
+use ipv4::Ipv4View;
+use std::alloc::Global;
+use std::marker::Model;
+
+/// How many datagrams are put together at once.
+pub const PLACES: usize = 4;
+
+/// Places for the datagrams that are being put together (RFC 791 section 3.2). The memory for the longest ones is taken where
+/// the pool is made; no other call takes any.
+#[derive(Drop)]
+pub struct Pool {
+    places: Vec<Place>,
+}
+
+impl Model for Pool {
+    ghost use Rattle.std.specs.Prelude.{◌≡◌, List, Option, length};
+    ghost use Rattle.reassembly.specs.Reassembly.{Reassembly};
+
+    ghost Value = { List (Option Reassembly) };
+
+    ghost view = { λ p. p.places.items };
+
+    ghost invariant = { λ p. length p.places.items ≡ 4 };
+}
+
+impl Pool {
+    /// Four free places. ENOMEM where there is no memory for them.
+    pub fn new(alloc: Global) -> Result<Pool, PoolFault>
+        ensures { IfOk result (λ pool. pool ≡ replicate 4 None) }
+    {
+        let mut places = Vec::new(alloc);
+        for _ in 0..PLACES {
+            let place = Place::new(alloc).map_err(|_| PoolFault::ENOMEM)?;
+            places.push(place).map_err(|_| PoolFault::ENOMEM)?;
+        }
+        Ok(Pool { places })
+    }
+
+    /// Takes a fragment: its octets are laid over those of its datagram that came before, each at its place (RFC 791 section
+    /// 3.2). The datagram is whole once its end is known and every octet below it came; its octets are then those that came
+    /// last. The places of other datagrams stay as they are. A datagram that was never cut is whole at once, where it has a
+    /// place. The time is not looked at: `age` ends what has waited too long.
+    pub fn take(&mut self, now: Moment, fragment: &Ipv4View) -> Taken<'_>
+        ensures answer { AnswersTake now fragment.now self.old result }
+        ensures* pool { sem 𝓛 (Rests the_row self.entry (λ pool. pool ≡ after_take now fragment.now self.old)) }
+    {
+        match place_for(&self.places, Key::of(fragment)) {
+            None => Taken::Dropped(Loss::NoPlace),
+            Some(i) => {
+                let place = &mut self.places[i];
+                place.take(now, fragment)
+            }
+        }
+    }
+
+    /// Ends each datagram whose first fragment arrived sixty seconds ago or earlier (RFC 1122 section 3.3.2), and tells those of
+    /// which a fragment zero came, in the order of their places.
+    pub fn age(&mut self, now: Moment) -> ArrayVec<Expired, PLACES>
+        ensures pool { self.new ≡ after_age now self.old }
+        ensures expired { result.items ≡ expired now self.old }
+    {
+        let mut expired = ArrayVec::new();
+        for place in self.places.iter_mut() {
+            if let Some(datagram) = place.age(now) {
+                expired.push(datagram);
+            }
+        }
+        expired
+    }
+
+    /// When the time of a datagram runs out next.
+    pub fn next_deadline(&self) -> Option<Moment>
+        ensures value { result ≡ next_deadline self.now }
+        ensures places { length self.now ≡ 4 }
+    {
+        let mut next = None;
+        for place in &self.places {
+            next = sooner(next, place.deadline());
+        }
+        next
+    }
+}
+
+/// The place for the fragments with a key.
+fn place_for(places: &[Place], key: Key) -> Option<usize>
+    ensures value { result ≡ place_for key places.now }
+    ensures within { IfSome result (λ i. i < length places.now) }
+{
+    match place_of(places, key) {
+        Some(i) => Some(i),
+        None => free_place(places),
+    }
+}
+
+/// The place where the datagram with a key is put together.
+fn place_of(places: &[Place], key: Key) -> Option<usize>
+    ensures value { result ≡ position (is_of key) places.now }
+    ensures within { IfSome result (λ i. i < length places.now) }
+{
+    places.iter().position(|place| place.is_of(key))
+}
+
+/// The first free place.
+fn free_place(places: &[Place]) -> Option<usize>
+    ensures value { result ≡ position is_none places.now }
+    ensures within { IfSome result (λ i. i < length places.now) }
+{
+    places.iter().position(|place| place.is_free())
+}
+
+/// The sooner of two deadlines.
+fn sooner(a: Option<Moment>, b: Option<Moment>) -> Option<Moment>
+    ensures { result ≡ sooner a b }
+{
+    match (a, b) {
+        (None, deadline) | (deadline, None) => deadline,
+        (Some(a), Some(b)) => Some(a.min(b)),
+    }
+}
