@@ -1,5 +1,5 @@
 -- The call table: for each socket call its refusal, by the tests in their order, and what it makes of the host.
-use Rattle.std.specs.Prelude.{ℕ, ◌+◌, ◌^◌, Bool, ◌==◌, ◌&&◌, ◌||◌, not, if◌then◌else◌, List, [], ◌∷◌, ◌++◌, length, take, drop, Option, Some, None, find, Result, Ok, Err}
+use Rattle.std.specs.Prelude.{ℕ, ◌+◌, ◌^◌, Bool, ◌==◌, ◌&&◌, ◌||◌, not, if◌then◌else◌, List, [], ◌∷◌, ◌++◌, length, take, drop, Option, Some, None, find, Result, Ok, Err, is_some, option_map}
 use Rattle.std.specs.List.{list_any}
 use Rattle.ipv4.specs.declared.addr.Addr.{Addr}
 use Rattle.ipv4.specs.declared.addr.Endpoint.{Endpoint}
@@ -17,7 +17,7 @@ use Rattle.host.specs.declared.entry.Entry.{Entry}
 use Rattle.host.specs.declared.entry.Role.{Role}
 use Rattle.host.specs.declared.entry.Role.TheVariants.{Idle, Listener, Connected}
 use Rattle.host.specs.declared.refusal.Refusal.{Refusal}
-use Rattle.host.specs.declared.refusal.Refusal.TheVariants.{EBADF, EINVAL, EADDRINUSE, EADDRNOTAVAIL, EISCONN, ENOTCONN, EALREADY, EAGAIN, ENETUNREACH, EOPNOTSUPP, EPIPE, EDESTADDRREQ}
+use Rattle.host.specs.declared.refusal.Refusal.TheVariants.{EBADF, EINVAL, EADDRINUSE, EADDRNOTAVAIL, EISCONN, ENOTCONN, EALREADY, EAGAIN, ENETUNREACH, EOPNOTSUPP, ECONNREFUSED, ECONNRESET, EPIPE, EDESTADDRREQ}
 use Rattle.host.specs.Endpoints.{same_addr, is_single_host}
 use Rattle.host.specs.Ports.{first_port, is_free_port}
 use Rattle.host.specs.Entries.{has_port, is_between, is_offered_at, offered_peer, shown_state, new_socket, bound_to, listening, connecting, accepted, sent, received, write_shut, with_role}
@@ -118,6 +118,8 @@ after_accept h id = record h { entries = change_first (is_offered_at id) (with_r
 abbrev pub refusal_of : connection_refusal.Refusal → Refusal
 refusal_of connection_variants.ENOTCONN = ENOTCONN
 refusal_of connection_variants.EAGAIN = EAGAIN
+refusal_of connection_variants.ECONNREFUSED = ECONNREFUSED
+refusal_of connection_variants.ECONNRESET = ECONNRESET
 refusal_of connection_variants.EPIPE = EPIPE
 
 abbrev pub of_connection : {T : Type 0} → Result T connection_refusal.Refusal → Result T Refusal
@@ -139,7 +141,7 @@ received_answer (Connected c listener) len = if len == 0 then Err EINVAL else of
 -- what a receive leaves in a buffer: the first octets that are readable stand at its front, where it answers octets
 abbrev pub read_front : Role → List ℕ → List ℕ
 read_front (Connected c listener) buffer =
-    if (length buffer == 0) || (is_opening c.state || (length c.receiving.readable == 0)) then buffer
+    if (length buffer == 0) || (is_some c.told || is_opening c.state || (length c.receiving.readable == 0)) then buffer
     else take (connection_calls.moved c (length buffer)) c.receiving.readable ++ drop (connection_calls.moved c (length buffer)) buffer
 read_front (Listener bound backlog) buffer = buffer
 read_front (Idle buffers bound) buffer = buffer
@@ -171,11 +173,11 @@ recv_answer h id len = of_role (role_of h id)
 abbrev pub after_recv : HostView → SocketId → ℕ → HostView
 after_recv h id len = with_socket h id (received len)
 
--- what closing our side is refused for: no connection, or one that is not opened yet
+-- what closing our side is refused for: no connection, one that is told an error, or one that is not opened yet
 abbrev pub shut_refusal : Role → Option Refusal
 shut_refusal (Idle buffers bound) = Some ENOTCONN
 shut_refusal (Listener bound backlog) = Some EOPNOTSUPP
-shut_refusal (Connected c listener) = if is_opening c.state then Some ENOTCONN else None
+shut_refusal (Connected c listener) = option_map refusal_of (connection_calls.shutdown_refusal c)
 
 abbrev pub shutdown_refusal : HostView → SocketId → Option Refusal
 shutdown_refusal h id = of_role (role_of h id)
@@ -204,11 +206,16 @@ reach_refusal h peer =
     else if same_addr peer.addr h.neighbour then None
     else Some ENETUNREACH
 
+-- why a socket that has had a connection opens none: the error that it is told, or by its state
+abbrev pub had_connection : State → Option connection_refusal.Refusal → Result (Option Endpoint) Refusal
+had_connection state (Some error) = Err (refusal_of error)
+had_connection state None = if is_opening state then Err EALREADY else Err EISCONN
+
 -- where a socket is bound that may open a connection, or why it may not
 abbrev pub open_answer : Role → Result (Option Endpoint) Refusal
 open_answer (Idle buffers bound) = Ok bound
 open_answer (Listener local backlog) = Err EOPNOTSUPP
-open_answer (Connected c listener) = if is_opening c.state then Err EALREADY else Err EISCONN
+open_answer (Connected c listener) = had_connection c.state c.told
 
 abbrev pub connect_refusal : HostView → SocketId → Endpoint → Option Refusal
 connect_refusal h id peer = of_role (role_of h id)

@@ -172,9 +172,9 @@ sent octets (Connected c listener) = Connected (after_send c octets) listener
 sent octets (Listener l b) = Listener l b
 sent octets (Idle buffers bound) = Idle buffers bound
 
--- our side of the entry's connection is closed, where it is past its opening
+-- our side of the entry's connection is closed, where it is past its opening and told no error
 abbrev pub write_shut : Role → Role
-write_shut (Connected c listener) = Connected (if is_opening c.state then c else after_shutdown c) listener
+write_shut (Connected c listener) = Connected (if is_some c.told || is_opening c.state then c else after_shutdown c) listener
 write_shut (Listener l b) = Listener l b
 write_shut (Idle buffers bound) = Idle buffers bound
 

@@ -138,7 +138,7 @@ impl Host {
 
     /// Opens a connection to `peer`, whose initial sequence number here is `isn` (RFC 9293 section 3.10.1).
     ///
-    /// EBADF; EOPNOTSUPP where the socket listens; EALREADY while it opens a connection; EISCONN where it has had
+    /// EBADF; EOPNOTSUPP where the socket listens; the error that its connection is told; EALREADY while it opens a connection; EISCONN where it has had
     /// one; EADDRNOTAVAIL for port 0, no single host or our own address; ENETUNREACH for any host but the neighbour;
     /// EADDRINUSE where the pair is held or no dynamic port is free.
     #[tactic(auto, using(crate::proofs::Firsts::firsts))]
@@ -252,7 +252,8 @@ impl Host {
 
     /// Closes our side of a connection (RFC 9293 section 3.10.4): a FIN follows the octets that were given. Closed again, it stays so.
     ///
-    /// EBADF; EOPNOTSUPP where the socket listens; ENOTCONN where it has no connection or is opening one.
+    /// EBADF; EOPNOTSUPP where the socket listens; the error that its connection is told; ENOTCONN where it has no connection or is opening
+    /// one.
     #[tactic(auto, using(crate::proofs::Firsts::firsts))]
     pub fn shutdown_write(&mut self, id: SocketId) -> Result<(), Refusal>
         ensures refused { result_err result ≡ shutdown_refusal self.old id }
@@ -274,10 +275,11 @@ impl Host {
         match &self.entries[place].role {
             Role::Idle { .. } => Err(Refusal::ENOTCONN),
             Role::Listener { .. } => Err(Refusal::EOPNOTSUPP),
-            Role::Connected { connection, .. } if connection.state().is_opening() => {
-                Err(Refusal::ENOTCONN)
-            }
-            Role::Connected { .. } => Ok(place),
+            Role::Connected { connection, .. } => match connection.error() {
+                Some(error) => Err(Refusal::from(error)),
+                None if connection.state().is_opening() => Err(Refusal::ENOTCONN),
+                None => Ok(place),
+            },
         }
     }
 
@@ -314,9 +316,10 @@ fn may_open(role: &Role) -> Result<Option<Endpoint>, Refusal>
     match role {
         Role::Idle { bound, .. } => Ok(*bound),
         Role::Listener { .. } => Err(Refusal::EOPNOTSUPP),
-        Role::Connected { connection, .. } => match connection.state() {
-            State::SynSent | State::SynReceived => Err(Refusal::EALREADY),
-            _ => Err(Refusal::EISCONN),
+        Role::Connected { connection, .. } => match (connection.error(), connection.state()) {
+            (Some(error), _) => Err(Refusal::from(error)),
+            (None, State::SynSent | State::SynReceived) => Err(Refusal::EALREADY),
+            (None, _) => Err(Refusal::EISCONN),
         },
     }
 }

@@ -30,6 +30,12 @@ pub enum Refusal {
     /// Nothing to do now; the same call may succeed later.
     #[error("E8 EAGAIN")]
     EAGAIN,
+    /// The peer refused the connection.
+    #[error("E9 ECONNREFUSED")]
+    ECONNREFUSED,
+    /// The peer reset the connection.
+    #[error("E10 ECONNRESET")]
+    ECONNRESET,
     /// Our side of the connection is closed.
     #[error("E12 EPIPE")]
     EPIPE,
@@ -60,6 +66,8 @@ impl From<tcp_state::Refusal> for Refusal {
         match refusal {
             tcp_state::Refusal::ENOTCONN => Refusal::ENOTCONN,
             tcp_state::Refusal::EAGAIN => Refusal::EAGAIN,
+            tcp_state::Refusal::ECONNREFUSED => Refusal::ECONNREFUSED,
+            tcp_state::Refusal::ECONNRESET => Refusal::ECONNRESET,
             tcp_state::Refusal::EPIPE => Refusal::EPIPE,
         }
     }

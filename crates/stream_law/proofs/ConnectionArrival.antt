@@ -37,6 +37,9 @@ either : (P : View → Type 0) (test : Bool) (v w : View) → (test ≡ true →
 either P true v w if_true if_false = if_true refl
 either P false v w if_true if_false = if_false refl
 
+true_is_not_false : true ≡ false → ⊥
+true_is_not_false e = cc
+
 pub and_left : (a b : Bool) → (a && b) ≡ true → a ≡ true
 and_left true b e = refl
 and_left false b e = cc
@@ -352,14 +355,16 @@ arrives-acceptable cap limit v s c d sound fits past_syn ack into from came =
     })
 
 -- a segment, whatever it is
-pub arrives : (cap limit : ℕ) (v : View) (s : Segment) (c d : Channel) → IsSound v → IsOfWidth s → SendsInto v c → ReceivesFrom v d → CameFrom limit s c d → Follows cap limit (after_segment v s) c d
-arrives cap limit v s c d sound fits into from came =
+pub arrives : (cap limit : ℕ) (v : View) (s : Segment) (c d : Channel) → IsSound v → IsOfWidth s → s.flags.rst ≡ false → SendsInto v c → ReceivesFrom v d → CameFrom limit s c d → Follows cap limit (after_segment v s) c d
+arrives cap limit v s c d sound fits unreset into from came =
     let P : View → Type 0 = λ w. Follows cap limit w c d in
     let same = nothing cap limit v v c d refl refl refl refl into from in
     let owes = nothing cap limit v (owing_ack v) c d refl refl refl refl into from in
-    either P (s.flags.rst || is_closed v.state) v _
+    either P (is_closed v.state) v _
     (λ ignored. same)
-    (λ read. either P (is_syn_sent v.state) (after_syn_ack v s) _
+    (λ read. either P s.flags.rst _ _
+    (λ rst. let bad : true ≡ false = sym rst ∙ unreset in absurd (true_is_not_false bad))
+    (λ no_rst. either P (is_syn_sent v.state) (after_syn_ack v s) _
     (λ waiting. arrives-syn_ack cap limit v s c d sound fits waiting into from came)
     (λ past_syn. either P (is_accepted v s) (after_accepted v s) (owing_ack v)
     (λ accepted. either P s.flags.syn _ _
@@ -367,4 +372,4 @@ arrives cap limit v s c d sound fits into from came =
     (λ no_syn. either P s.flags.ack (after_acceptable v s) v
     (λ ack. arrives-acceptable cap limit v s c d sound fits past_syn ack into from came)
     (λ no_ack. same)))
-    (λ refused. owes)))
+    (λ refused. owes))))

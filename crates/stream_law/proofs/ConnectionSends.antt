@@ -1,5 +1,5 @@
 -- What a connection takes from its caller, and what it sends, is a step of each of its two channels.
-use Rattle.std.proofs.Common.{◌≡◌, ℕ, ◌+◌, ◌<◌, ◌≤◌, ◌^◌, ◌%◌, ◌||◌, ◌&&◌, ◌==◌, min, if◌then◌else◌, not, Bool, true, false, List, [], ◌∷◌, ◌++◌, length, take, drop, arith, refl, sym, ◌∙◌, ap, subst, length-append}
+use Rattle.std.proofs.Common.{◌≡◌, ℕ, ◌+◌, ◌<◌, ◌≤◌, ◌^◌, ◌%◌, ◌||◌, ◌&&◌, ◌==◌, min, if◌then◌else◌, not, Bool, true, false, List, [], ◌∷◌, ◌++◌, length, take, drop, is_some, arith, refl, sym, ◌∙◌, ap, subst, length-append}
 use Rattle.std.proofs.lemmas.List.{length-take, take-append-drop}
 use Rattle.tcp_segment.specs.Wire.{past}
 use Rattle.tcp_segment.specs.Sent.{sent}
@@ -15,14 +15,14 @@ use Rattle.stream_law.specs.ChannelViews.{sender_of, SendsInto, ReceivesFrom, fr
 use Rattle.stream_law.proofs.KeepingText.{chosen}
 
 -- octets that the caller gives are written
-pub sends : (cap limit : ℕ) (v : View) (c : Channel) (octets : List ℕ) → 65535 ≤ cap → is_opening v.state ≡ false → is_write_closed v.state ≡ false → length v.sending.held ≤ 65535 → SendsInto v c
+pub sends : (cap limit : ℕ) (v : View) (c : Channel) (octets : List ℕ) → 65535 ≤ cap → is_some v.told ≡ false → is_opening v.state ≡ false → is_write_closed v.state ≡ false → length v.sending.held ≤ 65535 → SendsInto v c
     → Step cap limit c (record c { written = c.written ++ take (taken v octets) octets; sending = Open (sender_of (after_send v octets)) })
-sends cap limit v c octets room opened unclosed held shows =
+sends cap limit v c octets room untold opened unclosed held shows =
     let more = take (taken v octets) octets in
     let s = sender_of v in
     let len : length more ≡ min (taken v octets) (length octets) = length-take (taken v octets) octets in
     let fits : length (s.held ++ more) ≤ cap = omega (arith, length-append s.held more, len, room, held) in
-    subst (λ w. Step cap limit c (record c { written = c.written ++ more; sending = Open w })) (same (is_opening v.state || is_write_closed v.state) (neither (is_opening v.state) (is_write_closed v.state) opened unclosed))
+    subst (λ w. Step cap limit c (record c { written = c.written ++ more; sending = Open w })) (same (is_some v.told || is_opening v.state || is_write_closed v.state) (neither (is_some v.told || is_opening v.state) (is_write_closed v.state) (neither (is_some v.told) (is_opening v.state) untold opened) unclosed))
     (writes c s more shows.sending (shows.closed ∙ unclosed) fits)
   where
     with_more : View

@@ -7,7 +7,7 @@ use Rattle.tcp_state.specs.declared.connection.Fate.TheVariants.{Stays, Removed}
 use Rattle.tcp_state.specs.View.{View, IsSound, is_syn_sent, is_syn_received}
 use Rattle.tcp_state.specs.Halves.{Receiving as ReceivingHalf}
 use Rattle.tcp_state.specs.Stream.{ReceivingFits, receive_window, is_in_window, is_acceptable}
-use Rattle.tcp_state.specs.Arrival.{after_segment, fate, is_accepted, ends_by_syn}
+use Rattle.tcp_state.specs.Arrival.{after_segment, fate, is_accepted, ends_by_syn, ends_by_reset}
 use Rattle.stream_law.specs.Channel.{Channel, Receiver, Synchronised, IsAmong, IsRecent}
 use Rattle.stream_law.specs.ChannelSteps.{nothing_kept}
 use Rattle.stream_law.specs.ChannelViews.{ReceivesFrom, CameFrom, frame_of}
@@ -64,9 +64,10 @@ fate-stays cap limit small p v e is sound among timely h =
     let k = connected p.own.connection v h.into h.from is h.own.connection in
     let q = h.received e among in
     let recent = subst (λ l. length l < e.own_written + limit) (sym h.other.written) timely.other in
-    stays_by (not s.flags.rst && not (is_syn_sent v.state) && ends_by_syn v s) (λ t.
-    let other = and_right (not s.flags.rst) (not (is_syn_sent v.state)) (and_left (not s.flags.rst && not (is_syn_sent v.state)) (ends_by_syn v s) t) in
-    let ends = and_right (not s.flags.rst && not (is_syn_sent v.state)) (ends_by_syn v s) t in
+    stays_by (not (is_syn_sent v.state) && (if s.flags.rst then ends_by_reset v s else ends_by_syn v s)) (λ t.
+    let other = and_left (not (is_syn_sent v.state)) (if s.flags.rst then ends_by_reset v s else ends_by_syn v s) t in
+    let either_ends : (if s.flags.rst then ends_by_reset v s else ends_by_syn v s) ≡ true = and_right (not (is_syn_sent v.state)) (if s.flags.rst then ends_by_reset v s else ends_by_syn v s) t in
+    let ends : ends_by_syn v s ≡ true = sym (ap (λ b. if b then ends_by_reset v s else ends_by_syn v s) q.unreset) ∙ either_ends in
     let past_syn = not_true (is_syn_sent v.state) other in
     let three = and_left (is_accepted v s && s.flags.syn && v.passive) (is_syn_received v.state) ends in
     let two = and_left (is_accepted v s && s.flags.syn) v.passive three in
@@ -93,7 +94,7 @@ moves-hears cap limit small p v e is sound among timely h =
       ack = q.ack;
       ack_recent = subst (λ l. length l < e.other_written + limit) (sym h.own.written) timely.own;
     } in
-    let f = arrives cap limit v s h.into h.from sound q.width k.sends k.receives came in
+    let f = arrives cap limit v s h.into h.from sound q.width q.unreset k.sends k.receives came in
     let into' : Channel = record h.into { sending = f.into } in
     let from' : Channel = record h.from { readable = f.readable; end_seen = f.end_seen; receiving = f.from } in
     let stays = fate-stays cap limit small p v e is sound among timely h in
@@ -116,6 +117,6 @@ moves-hears cap limit small p v e is sound among timely h =
         ended = h.other.ended;
         connection = other_stays p.other.connection h.from h.into from' into' refl refl refl refl refl refl h.other.connection;
       };
-      sent = λ e among. let r = h.sent e among in record { frame = r.frame; ack = r.ack; width = r.width };
-      received = λ e among. let r = h.received e among in record { frame = r.frame; ack = r.ack; width = r.width };
+      sent = λ e among. let r = h.sent e among in record { frame = r.frame; ack = r.ack; width = r.width; unreset = r.unreset };
+      received = λ e among. let r = h.received e among in record { frame = r.frame; ack = r.ack; width = r.width; unreset = r.unreset };
     }

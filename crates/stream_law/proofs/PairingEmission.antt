@@ -80,6 +80,7 @@ record Went (cap limit : ℕ) (v w : View) (into : Channel) (s : Segment) : Type
   pub receiving : receiving_of w ≡ receiving_of v
   pub readable : w.receiving.readable ≡ v.receiving.readable
   pub state : w.state ≡ v.state
+  pub unreset : s.flags.rst ≡ false
   pub acknowledges : s.flags.ack ≡ true → (is_syn_sent v.state ≡ false) × (s.acknowledgement ≡ v.receiving.rnext)
 
 -- the same seen from both ends
@@ -120,9 +121,9 @@ assembled cap limit p v w s width is h went =
         ended = h.other.ended;
         connection = other_stays p.other.connection h.from h.into from' into' refl refl refl refl refl refl h.other.connection;
       };
-      sent = emissions new p.sent (record { frame = here f h.into.frames; ack = paid.among; width = width })
-          (λ e among. let q = h.sent e among in record { frame = there (frame_of e.segment e.own_written) f h.into.frames q.frame; ack = λ t. paid.more (ack_of e.segment e.other_written) (q.ack t); width = q.width });
-      received = λ e among. let q = h.received e among in record { frame = q.frame; ack = q.ack; width = q.width };
+      sent = emissions new p.sent (record { frame = here f h.into.frames; ack = paid.among; width = width; unreset = went.unreset })
+          (λ e among. let q = h.sent e among in record { frame = there (frame_of e.segment e.own_written) f h.into.frames q.frame; ack = λ t. paid.more (ack_of e.segment e.other_written) (q.ack t); width = q.width; unreset = q.unreset });
+      received = λ e among. let q = h.received e among in record { frame = q.frame; ack = q.ack; width = q.width; unreset = q.unreset };
     }
   where
     emissions : {P : Emission → Type 0} (new : Emission) (old : List Emission) → P new → ((e : Emission) → IsAmong e old → P e) → (e : Emission) → IsAmong e (new ∷ old) → P e
@@ -135,6 +136,7 @@ went-syn cap limit v into now opening shows = record {
   receiving = same_receiving (is_syn_received v.state);
   readable = same_readable (is_syn_received v.state);
   state = same_state (is_syn_received v.state);
+  unreset = refl;
   acknowledges = λ e. (syn_received_past v.state e, ap (λ b. if b then v.receiving.rnext else 0) e);
 }
   where
@@ -161,6 +163,7 @@ went-text cap limit v into count now sound first may shows =
       receiving = refl;
       readable = refl;
       state = refl;
+      unreset = refl;
       acknowledges = λ e. (opened_past v.state may.0, refl);
     }
   where
@@ -184,6 +187,7 @@ went-fin cap limit v into now sound may shows =
       receiving = refl;
       readable = refl;
       state = refl;
+      unreset = refl;
       acknowledges = λ e. (opened_past v.state t.0, refl);
     }
   where
@@ -204,6 +208,7 @@ went-ack cap limit v into now past shows = record {
   receiving = refl;
   readable = refl;
   state = refl;
+  unreset = refl;
   acknowledges = λ e. (past, refl);
 }
 

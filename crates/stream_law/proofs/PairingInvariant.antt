@@ -33,6 +33,7 @@ pub record EmissionFits (e : Emission) (into from : Channel) : Type 0 where
   pub frame : IsAmong (frame_of e.segment e.own_written) into.frames
   pub ack : e.segment.flags.ack ≡ true → IsAmong (ack_of e.segment e.other_written) from.acks
   pub width : IsOfWidth e.segment
+  pub unreset : e.segment.flags.rst ≡ false
 
 -- the channel into which the own end sends, and the one from which it receives
 pub record Shown (cap limit : ℕ) (p : Pairing) : Type 0 where

@@ -19,10 +19,10 @@ near limit recency = record { buffer = omega arith; recency = recency }
 moves : (limit : ℕ) → limit ≤ 2 ^ 30 → (p q : Pairing) → Move limit p q → Shown room limit p → Shown room limit q
 moves limit small _ _ (connects p local peer isn none fits) h = moves-connects room limit p local peer isn none fits h
 moves limit small _ _ (accepts p local peer isn e none fits among timely syn) h = moves-accepts room limit p local peer isn e none fits among syn h
-moves limit small _ _ (takes p v octets is sound opened unclosed) h = moves-takes room limit p v octets (omega arith) is sound opened unclosed h
+moves limit small _ _ (takes p v octets is sound untold opened unclosed) h = moves-takes room limit p v octets (omega arith) is sound untold opened unclosed h
 moves limit small _ _ (closes p v is sound opened) h = moves-closes room limit p v is sound opened h
 moves limit small _ _ (ends p v len is told) h = moves-ends room limit p v len is told h
-moves limit small _ _ (gives p v len is sound opened) h = moves-gives room limit p v len is opened h
+moves limit small _ _ (gives p v len is sound untold opened) h = moves-gives room limit p v len is untold opened h
 moves limit small _ _ (ticks p v now is) h = moves-ticks room limit p v now is h
 moves limit small _ _ (emits p v due now is sound first may width) h = moves-emits room limit p v due now is sound first may width h
 moves limit small _ _ (hears p v e is sound among timely) h = moves-hears room limit (near limit small) p v e is sound among timely h

@@ -1,5 +1,5 @@
 -- Each move at an end is steps of the two channels: opening, octets from and to the caller, the clock.
-use Rattle.std.proofs.Common.{◌≡◌, ℕ, ◌+◌, ◌<◌, ◌≤◌, ◌^◌, ◌%◌, ◌||◌, ◌&&◌, ◌==◌, not, if◌then◌else◌, Bool, true, false, List, [], ◌∷◌, ◌++◌, length, take, drop, Some, None, Result, Ok, Err, arith, refl, sym, ◌∙◌, ap}
+use Rattle.std.proofs.Common.{◌≡◌, ℕ, ◌+◌, ◌<◌, ◌≤◌, ◌^◌, ◌%◌, ◌||◌, ◌&&◌, ◌==◌, not, if◌then◌else◌, Bool, true, false, List, [], ◌∷◌, ◌++◌, length, take, drop, Option, Some, None, is_some, Result, Ok, Err, arith, refl, sym, ◌∙◌, ap}
 use Rattle.std.proofs.lemmas.Bool.{eqb-true}
 use Rattle.ipv4.specs.declared.addr.Endpoint.{Endpoint}
 use Rattle.tcp_state.specs.declared.moment.Moment.{Moment}
@@ -11,7 +11,7 @@ use Rattle.tcp_state.specs.declared.state.State.{State}
 use Rattle.tcp_state.specs.declared.state.State.TheVariants.{Closed, Listen, SynSent, SynReceived, Established, FinWait1, FinWait2, CloseWait, Closing, LastAck, TimeWait}
 use Rattle.tcp_state.specs.View.{View, IsSound, is_opening, is_syn_sent, is_closed, is_listening, is_write_closed, is_end_seen, is_fin_acknowledged, opened_actively, after_tick}
 use Rattle.tcp_state.specs.Stream.{after_read, receive_window}
-use Rattle.tcp_state.specs.Calls.{taken, after_send, moved, recv_answer, after_recv, shut, after_shutdown}
+use Rattle.tcp_state.specs.Calls.{taken, unless_told, after_send, moved, recv_answer, after_recv, shut, after_shutdown}
 use Rattle.tcp_state.specs.Arrival.{opened_passively}
 use Rattle.stream_law.specs.Channel.{Channel, Open, Waiting, Synchronised, IsAmong}
 use Rattle.stream_law.specs.ChannelSteps.{steps, opens, closes, reads_end, synchronises, nothing_kept}
@@ -51,8 +51,8 @@ moves-connects cap limit p local peer isn none fits h =
         ended = h.other.ended;
         connection = other_stays p.other.connection h.from h.into h.from into' refl refl refl refl refl refl h.other.connection;
       };
-      sent = λ e among. let s = h.sent e among in record { frame = s.frame; ack = s.ack; width = s.width };
-      received = λ e among. let s = h.received e among in record { frame = s.frame; ack = s.ack; width = s.width };
+      sent = λ e among. let s = h.sent e among in record { frame = s.frame; ack = s.ack; width = s.width; unreset = s.unreset };
+      received = λ e among. let s = h.received e among in record { frame = s.frame; ack = s.ack; width = s.width; unreset = s.unreset };
     }
 
 -- a SYN opens
@@ -85,8 +85,8 @@ moves-accepts cap limit p local peer isn e none fits among syn h =
         ended = h.other.ended;
         connection = other_stays p.other.connection h.from h.into from' into' refl refl refl refl refl refl h.other.connection;
       };
-      sent = λ e among. let s = h.sent e among in record { frame = s.frame; ack = s.ack; width = s.width };
-      received = λ e among. let s = h.received e among in record { frame = s.frame; ack = s.ack; width = s.width };
+      sent = λ e among. let s = h.sent e among in record { frame = s.frame; ack = s.ack; width = s.width; unreset = s.unreset };
+      received = λ e among. let s = h.received e among in record { frame = s.frame; ack = s.ack; width = s.width; unreset = s.unreset };
     }
 
 -- the clock is no part of a channel
@@ -114,16 +114,16 @@ moves-ticks cap limit p v now is h =
     }
 
 -- the caller gives octets
-pub moves-takes : (cap limit : ℕ) (p : Pairing) (v : View) (octets : List ℕ) → 65535 ≤ cap → p.own.connection ≡ Some v → IsSound v → is_opening v.state ≡ false → is_write_closed v.state ≡ false → Shown cap limit p
+pub moves-takes : (cap limit : ℕ) (p : Pairing) (v : View) (octets : List ℕ) → 65535 ≤ cap → p.own.connection ≡ Some v → IsSound v → is_some v.told ≡ false → is_opening v.state ≡ false → is_write_closed v.state ≡ false → Shown cap limit p
     → Shown cap limit (record p { own = record p.own { connection = Some (after_send v octets); written = p.own.written ++ take (taken v octets) octets } })
-moves-takes cap limit p v octets room is sound opened unclosed h =
+moves-takes cap limit p v octets room is sound untold opened unclosed h =
     let k = connected p.own.connection v h.into h.from is h.own.connection in
     let more = take (taken v octets) octets in
     let into' : Channel = record h.into { written = h.into.written ++ more; sending = Open (sender_of (after_send v octets)) } in
     record {
       into = into';
       from = h.from;
-      runs_into = steps h.into into' h.runs_into (sends cap limit v h.into octets room opened unclosed (opened_held v sound opened) k.sends);
+      runs_into = steps h.into into' h.runs_into (sends cap limit v h.into octets room untold opened unclosed (opened_held v sound opened) k.sends);
       runs_from = h.runs_from;
       own = record {
         written = ap (λ l. l ++ more) h.own.written;
@@ -131,8 +131,8 @@ moves-takes cap limit p v octets room is sound opened unclosed h =
         read = h.own.read;
         ended = h.own.ended;
         connection = record {
-          sends = record { sending = refl; closed = still_closed (is_opening v.state || is_write_closed v.state) k.sends.closed };
-          receives = same (is_opening v.state || is_write_closed v.state) k.receives;
+          sends = record { sending = refl; closed = still_closed (is_some v.told || is_opening v.state || is_write_closed v.state) k.sends.closed };
+          receives = same (is_some v.told || is_opening v.state || is_write_closed v.state) k.receives;
         };
       };
       other = record {
@@ -142,8 +142,8 @@ moves-takes cap limit p v octets room is sound opened unclosed h =
         ended = h.other.ended;
         connection = other_stays p.other.connection h.from h.into h.from into' refl refl refl refl refl refl h.other.connection;
       };
-      sent = λ e among. let s = h.sent e among in record { frame = s.frame; ack = s.ack; width = s.width };
-      received = λ e among. let s = h.received e among in record { frame = s.frame; ack = s.ack; width = s.width };
+      sent = λ e among. let s = h.sent e among in record { frame = s.frame; ack = s.ack; width = s.width; unreset = s.unreset };
+      received = λ e among. let s = h.received e among in record { frame = s.frame; ack = s.ack; width = s.width; unreset = s.unreset };
     }
   where
     same : (opening : Bool) → ReceivesFrom v h.from
@@ -185,8 +185,8 @@ moves-closes cap limit p v is sound opened h =
         ended = h.other.ended;
         connection = other_stays p.other.connection h.from h.into h.from into' refl refl refl refl refl refl h.other.connection;
       };
-      sent = λ e among. let s = h.sent e among in record { frame = s.frame; ack = s.ack; width = s.width };
-      received = λ e among. let s = h.received e among in record { frame = s.frame; ack = s.ack; width = s.width };
+      sent = λ e among. let s = h.sent e among in record { frame = s.frame; ack = s.ack; width = s.width; unreset = s.unreset };
+      received = λ e among. let s = h.received e among in record { frame = s.frame; ack = s.ack; width = s.width; unreset = s.unreset };
     }
   where
     shut_shows : (t : State) → is_opening t ≡ false → is_listening t ≡ false
@@ -208,7 +208,7 @@ pub moves-ends : (cap limit : ℕ) (p : Pairing) (v : View) (len : ℕ) → p.ow
     → Shown cap limit (record p { own = record p.own { ended = true } })
 moves-ends cap limit p v len is told h =
     let k = connected p.own.connection v h.into h.from is h.own.connection in
-    let why = end_told (is_opening v.state) (length v.receiving.readable == 0) (is_end_seen v.state) told in
+    let why = end_told v.told (is_opening v.state) (length v.receiving.readable == 0) (is_end_seen v.state) told in
     let from' : Channel = record h.from { ended = true } in
     record {
       into = h.into;
@@ -229,8 +229,8 @@ moves-ends cap limit p v len is told h =
         ended = h.other.ended;
         connection = other_stays p.other.connection h.from h.into from' h.into refl refl refl refl refl refl h.other.connection;
       };
-      sent = λ e among. let s = h.sent e among in record { frame = s.frame; ack = s.ack; width = s.width };
-      received = λ e among. let s = h.received e among in record { frame = s.frame; ack = s.ack; width = s.width };
+      sent = λ e among. let s = h.sent e among in record { frame = s.frame; ack = s.ack; width = s.width; unreset = s.unreset };
+      received = λ e among. let s = h.received e among in record { frame = s.frame; ack = s.ack; width = s.width; unreset = s.unreset };
     }
   where
     again : Result Received Refusal
@@ -239,20 +239,21 @@ moves-ends cap limit p v len is told h =
     some : Result Received Refusal
     some = Ok (Octets (moved v len))
 
-    end_told : (opening none seen : Bool) → (if opening then again else if not none then some else if seen then Ok EndOfStream else again) ≡ Ok EndOfStream → (none ≡ true) × (seen ≡ true)
-    end_told true none seen e = let bad : again ≡ Ok EndOfStream = e in cc
-    end_told false false seen e = let bad : some ≡ Ok EndOfStream = e in cc
-    end_told false true true e = (refl, refl)
-    end_told false true false e = let bad : again ≡ Ok EndOfStream = e in cc
+    end_told : (error : Option Refusal) (opening none seen : Bool) → unless_told error (if opening then again else if not none then some else if seen then Ok EndOfStream else again) ≡ Ok EndOfStream → (none ≡ true) × (seen ≡ true)
+    end_told (Some error) opening none seen e = cc
+    end_told None true none seen e = let bad : again ≡ Ok EndOfStream = e in cc
+    end_told None false false seen e = let bad : some ≡ Ok EndOfStream = e in cc
+    end_told None false true true e = (refl, refl)
+    end_told None false true false e = let bad : again ≡ Ok EndOfStream = e in cc
 
     no_octets : (xs : List ℕ) → length xs ≡ 0 → xs ≡ []
     no_octets [] e = refl
     no_octets (x ∷ xs) e = cc
 
 -- the caller reads
-pub moves-gives : (cap limit : ℕ) (p : Pairing) (v : View) (len : ℕ) → p.own.connection ≡ Some v → is_opening v.state ≡ false → Shown cap limit p
+pub moves-gives : (cap limit : ℕ) (p : Pairing) (v : View) (len : ℕ) → p.own.connection ≡ Some v → is_some v.told ≡ false → is_opening v.state ≡ false → Shown cap limit p
     → Shown cap limit (record p { own = record p.own { connection = Some (after_recv v len); read = p.own.read ++ take (moved v len) v.receiving.readable } })
-moves-gives cap limit p v len is opened h =
+moves-gives cap limit p v len is untold opened h =
     let k = connected p.own.connection v h.into h.from is h.own.connection in
     let some = take (moved v len) v.receiving.readable in
     let rest = drop (moved v len) v.receiving.readable in
@@ -268,8 +269,8 @@ moves-gives cap limit p v len is opened h =
         read = ap (λ l. l ++ some) h.own.read;
         ended = h.own.ended;
         connection = record {
-          sends = still_sends (is_opening v.state || (length v.receiving.readable == 0)) k.sends;
-          receives = still_receives (is_opening v.state || (length v.receiving.readable == 0)) (λ e. none_left (or_right (is_opening v.state) (length v.receiving.readable == 0) opened e)) k.receives;
+          sends = still_sends (is_some v.told || is_opening v.state || (length v.receiving.readable == 0)) k.sends;
+          receives = still_receives (is_some v.told || is_opening v.state || (length v.receiving.readable == 0)) (λ e. none_left (or_right (is_some v.told || is_opening v.state) (length v.receiving.readable == 0) (neither (is_some v.told) (is_opening v.state) untold opened) e)) k.receives;
         };
       };
       other = record {
@@ -279,12 +280,16 @@ moves-gives cap limit p v len is opened h =
         ended = h.other.ended;
         connection = other_stays p.other.connection h.from h.into from' h.into refl refl refl refl refl refl h.other.connection;
       };
-      sent = λ e among. let s = h.sent e among in record { frame = s.frame; ack = s.ack; width = s.width };
-      received = λ e among. let s = h.received e among in record { frame = s.frame; ack = s.ack; width = s.width };
+      sent = λ e among. let s = h.sent e among in record { frame = s.frame; ack = s.ack; width = s.width; unreset = s.unreset };
+      received = λ e among. let s = h.received e among in record { frame = s.frame; ack = s.ack; width = s.width; unreset = s.unreset };
     }
   where
     after : View
     after = record v { receiving = after_read v.receiving (moved v len); owes_ack = v.owes_ack || ((receive_window v.receiving == 0) && not (is_closed v.state)) }
+
+    neither : (a b : Bool) → a ≡ false → b ≡ false → (a || b) ≡ false
+    neither true b e f = e
+    neither false b e f = f
 
     or_right : (a b : Bool) → a ≡ false → (a || b) ≡ true → b ≡ true
     or_right true b f e = let bad : true ≡ false = f in cc

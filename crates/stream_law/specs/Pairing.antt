@@ -1,6 +1,6 @@
 -- One pair of endpoints: the connection at each end, what the two callers did, and every segment that ever went out between them.
 -- The network loses, repeats and reorders: any segment may arrive never, once or often, in any order.
-use Rattle.std.specs.Prelude.{◌≡◌, ℕ, ◌+◌, ◌<◌, ◌≤◌, ◌^◌, Bool, true, false, List, [], ◌∷◌, ◌++◌, length, take, Option, Some, None, Ok}
+use Rattle.std.specs.Prelude.{◌≡◌, ℕ, ◌+◌, ◌<◌, ◌≤◌, ◌^◌, Bool, true, false, List, [], ◌∷◌, ◌++◌, length, take, Option, Some, None, is_some, Ok}
 use Rattle.tcp_state.specs.declared.calls.Received.TheVariants.{EndOfStream}
 use Rattle.ipv4.specs.declared.addr.Endpoint.{Endpoint}
 use Rattle.tcp_segment.specs.Segment.{Segment}
@@ -71,13 +71,13 @@ pub data Move (limit : ℕ) : Pairing → Pairing → Type 0 where
   accepts : (p : Pairing) (local peer : Endpoint) (isn : ℕ) (e : Emission) → p.own.connection ≡ None → isn < 2 ^ 32 → IsAmong e p.received → IsTimely limit p e → e.segment.flags.syn ≡ true
       → Move limit p (with_connection p (opened_passively local peer isn e.segment))
   -- its caller gives octets
-  takes : (p : Pairing) (v : View) (octets : List ℕ) → p.own.connection ≡ Some v → IsSound v → is_opening v.state ≡ false → is_write_closed v.state ≡ false
+  takes : (p : Pairing) (v : View) (octets : List ℕ) → p.own.connection ≡ Some v → IsSound v → is_some v.told ≡ false → is_opening v.state ≡ false → is_write_closed v.state ≡ false
       → Move limit p (record p { own = record p.own { connection = Some (after_send v octets); written = p.own.written ++ take (taken v octets) octets } })
   -- its caller closes its side
   closes : (p : Pairing) (v : View) → p.own.connection ≡ Some v → IsSound v → is_opening v.state ≡ false
       → Move limit p (record p { own = record p.own { connection = Some (after_shutdown v); closed = true } })
   -- its caller reads into a buffer of some length
-  gives : (p : Pairing) (v : View) (len : ℕ) → p.own.connection ≡ Some v → IsSound v → is_opening v.state ≡ false
+  gives : (p : Pairing) (v : View) (len : ℕ) → p.own.connection ≡ Some v → IsSound v → is_some v.told ≡ false → is_opening v.state ≡ false
       → Move limit p (record p { own = record p.own { connection = Some (after_recv v len); read = p.own.read ++ take (moved v len) v.receiving.readable } })
   -- its caller is told the end
   ends : (p : Pairing) (v : View) (len : ℕ) → p.own.connection ≡ Some v → recv_answer v len ≡ Ok EndOfStream → Move limit p (record p { own = record p.own { ended = true } })

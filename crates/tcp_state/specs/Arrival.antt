@@ -1,6 +1,7 @@
--- What an arriving segment makes of a connection, step by step (RFC 9293 section 3.10.7). A segment with RST changes
--- nothing yet.
-use Rattle.std.specs.Prelude.{ℕ, ◌+◌, ◌%◌, ◌^◌, ◌==◌, ◌&&◌, ◌||◌, not, Bool, true, false, if◌then◌else◌, length}
+-- What an arriving segment makes of a connection, step by step (RFC 9293 section 3.10.7).
+use Rattle.std.specs.Prelude.{ℕ, ◌+◌, ◌%◌, ◌^◌, ◌==◌, ◌&&◌, ◌||◌, not, Bool, true, false, if◌then◌else◌, [], length, Option, Some, None}
+use Rattle.tcp_state.specs.declared.calls.Refusal.{Refusal}
+use Rattle.tcp_state.specs.declared.calls.Refusal.TheVariants.{ECONNREFUSED, ECONNRESET}
 use Rattle.ipv4.specs.declared.addr.Endpoint.{Endpoint}
 use Rattle.tcp_segment.specs.Segment.{Segment, smss_of, span_of}
 use Rattle.tcp_state.specs.Numbers.{is_before}
@@ -8,7 +9,7 @@ use Rattle.tcp_state.specs.declared.connection.Fate.{Fate}
 use Rattle.tcp_state.specs.declared.connection.Fate.TheVariants.{Stays, Removed}
 use Rattle.tcp_state.specs.declared.connection.Resend.TheVariants.{Idle}
 use Rattle.tcp_state.specs.declared.state.State.{State}
-use Rattle.tcp_state.specs.declared.state.State.TheVariants.{Closed, SynReceived, Established, FinWait1, FinWait2, CloseWait, Closing, LastAck, TimeWait}
+use Rattle.tcp_state.specs.declared.state.State.TheVariants.{Closed, SynSent, SynReceived, Established, FinWait1, FinWait2, CloseWait, Closing, LastAck, TimeWait}
 use Rattle.tcp_state.specs.Stream.{outstanding, is_new_ack, sending_from, receiving_nothing, after_syn_acknowledged, after_acknowledged, is_acceptable, synchronised, after_octets, stands_next, after_end}
 use Rattle.tcp_state.specs.Windows.{after_syn_heard, after_window_told}
 use Rattle.tcp_state.specs.View.{View, is_syn_sent, is_syn_received, awaits_fin_ack, is_closed}
@@ -27,7 +28,33 @@ opened_passively local peer isn syn = record {
   receiving = synchronised receiving_nothing syn.number 0;
   owes_ack = false;
   resend = Idle;
+  told = None;
 }
+
+-- A reset ends the connection: what is held goes out no more, nothing is owed, and every call is told why from now on.
+abbrev pub after_reset : View → Option Refusal → View
+after_reset v error = record v {
+  state = Closed;
+  sending = record v.sending { held = []; nxt = v.sending.una };
+  owes_ack = false;
+  resend = Idle;
+  told = error;
+}
+
+-- why, by the state that it ends: refused while it opens, reset while octets may still come or go; else both sides were closed
+abbrev pub reset_error : State → Option Refusal
+reset_error SynSent = Some ECONNREFUSED
+reset_error SynReceived = Some ECONNREFUSED
+reset_error Established = Some ECONNRESET
+reset_error FinWait1 = Some ECONNRESET
+reset_error FinWait2 = Some ECONNRESET
+reset_error CloseWait = Some ECONNRESET
+reset_error _ = None
+
+-- in SYN-SENT a reset acts that acknowledges our SYN, and any other is dropped (section 3.10.7.3, second)
+abbrev pub after_refusal : View → Segment → View
+after_refusal v s =
+    if s.flags.ack && is_new_ack v.sending s.acknowledgement then after_reset v (reset_error v.state) else v
 
 -- in SYN-SENT only a SYN that acknowledges ours is taken (section 3.10.7.3); our SYN told a window of 65,535
 abbrev pub is_right_syn_ack : View → Segment → Bool
@@ -50,6 +77,21 @@ is_accepted v s = is_acceptable v.receiving s.number (span_of s)
 -- a SYN in the window ends what a listener opened and is not established (section 3.10.7.4, fourth)
 abbrev pub ends_by_syn : View → Segment → Bool
 ends_by_syn v s = is_accepted v s && s.flags.syn && v.passive && is_syn_received v.state
+
+-- a reset at RCV.NXT acts (section 3.10.7.4, second) ..
+abbrev pub is_acting_reset : View → Segment → Bool
+is_acting_reset v s = is_accepted v s && (s.number == v.receiving.rnext)
+
+-- .. and ends what a listener opened and is not established
+abbrev pub ends_by_reset : View → Segment → Bool
+ends_by_reset v s = is_acting_reset v s && v.passive && is_syn_received v.state
+
+-- elsewhere in the window it draws an acknowledgement, and outside it is dropped
+abbrev pub after_rst : View → Segment → View
+after_rst v s =
+    if is_acting_reset v s then (if ends_by_reset v s then v else after_reset v (reset_error v.state))
+    else if is_accepted v s then record v { owes_ack = true }
+    else v
 
 -- the acknowledgement is of numbers that were never sent
 abbrev pub is_beyond_sent : View → ℕ → Bool
@@ -139,10 +181,11 @@ after_accepted v s =
 
 abbrev pub after_segment : View → Segment → View
 after_segment v s =
-    if s.flags.rst || is_closed v.state then v
+    if is_closed v.state then v
+    else if s.flags.rst then (if is_syn_sent v.state then after_refusal v s else after_rst v s)
     else if is_syn_sent v.state then after_syn_ack v s
     else if is_accepted v s then after_accepted v s
     else owing_ack v
 
 abbrev pub fate : View → Segment → Fate
-fate v s = if not s.flags.rst && not (is_syn_sent v.state) && ends_by_syn v s then Removed else Stays
+fate v s = if not (is_syn_sent v.state) && (if s.flags.rst then ends_by_reset v s else ends_by_syn v s) then Removed else Stays

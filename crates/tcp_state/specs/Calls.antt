@@ -1,5 +1,6 @@
 -- What a caller's octets, its reading and its closing make of a connection (RFC 9293 sections 3.10.2 to 3.10.4, POSIX send and recv).
-use Rattle.std.specs.Prelude.{ℕ, ◌==◌, ◌&&◌, ◌||◌, not, min, if◌then◌else◌, List, ◌++◌, length, take, Option, Some, None, Result, Ok, Err}
+use Rattle.std.specs.Prelude.{ℕ, ◌==◌, ◌&&◌, ◌||◌, not, min, if◌then◌else◌, List, ◌++◌, length, take, Option, Some, None, is_some, Result, Ok, Err}
+use Rattle.std.specs.Option.{option_or}
 use Rattle.tcp_state.specs.declared.state.State.{State}
 use Rattle.tcp_state.specs.declared.state.State.TheVariants.{Established, FinWait1, CloseWait, LastAck}
 use Rattle.tcp_state.specs.declared.calls.Refusal.{Refusal}
@@ -13,16 +14,23 @@ use Rattle.tcp_state.specs.View.{View, is_opening, is_write_closed, is_end_seen,
 abbrev pub taken : View → List ℕ → ℕ
 taken v octets = min (length octets) (send_room v.sending)
 
+-- a call that may be told an error: it is refused so, or it is what it is without one
+abbrev pub unless_told : {T : Type 0} → Option Refusal → Result T Refusal → Result T Refusal
+unless_told None answer = answer
+unless_told (Some error) answer = Err error
+
 abbrev pub send_answer : View → List ℕ → Result ℕ Refusal
 send_answer v octets =
+    unless_told v.told (
     if is_opening v.state then Err EAGAIN
     else if is_write_closed v.state then Err EPIPE
     else if (send_room v.sending == 0) && not (length octets == 0) then Err EAGAIN
     else Ok (taken v octets)
+    )
 
 abbrev pub after_send : View → List ℕ → View
 after_send v octets =
-    if is_opening v.state || is_write_closed v.state then v
+    if is_some v.told || is_opening v.state || is_write_closed v.state then v
     else record v { sending = record v.sending { held = v.sending.held ++ take (taken v octets) octets } }
 
 -- how many octets a receive into a buffer of this length moves
@@ -31,16 +39,18 @@ moved v len = min len (length v.receiving.readable)
 
 abbrev pub recv_answer : View → ℕ → Result Received Refusal
 recv_answer v len =
+    unless_told v.told (
     if is_opening v.state then Err EAGAIN
     else if not (length v.receiving.readable == 0) then Ok (Octets (moved v len))
     else if is_end_seen v.state then Ok EndOfStream
     else Err EAGAIN
+    )
 
 -- Octets that were read make room. Where the window that the peer knows is used up, it is told of the room at once, but not
 -- where all is closed.
 abbrev pub after_recv : View → ℕ → View
 after_recv v len =
-    if is_opening v.state || (length v.receiving.readable == 0) then v
+    if is_some v.told || is_opening v.state || (length v.receiving.readable == 0) then v
     else record v {
       receiving = after_read v.receiving (moved v len);
       owes_ack = v.owes_ack || ((receive_window v.receiving == 0) && not (is_closed v.state));
@@ -48,7 +58,7 @@ after_recv v len =
 
 -- closing our side: there is nothing to close while the connection opens
 abbrev pub shutdown_refusal : View → Option Refusal
-shutdown_refusal v = if is_opening v.state then Some ENOTCONN else None
+shutdown_refusal v = option_or v.told (if is_opening v.state then Some ENOTCONN else None)
 
 -- the state once our side is closed (section 3.10.4); closed again, it stays
 abbrev pub shut : State → State

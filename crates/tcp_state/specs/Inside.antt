@@ -12,4 +12,5 @@ view_of c = record {
   receiving = c.receiver;
   owes_ack = c.owes_ack;
   resend = c.resend;
+  told = c.told;
 }

@@ -5,6 +5,7 @@ use Rattle.tcp_state.specs.declared.buffers.TheConstants.{CAPACITY}
 use Rattle.tcp_state.specs.declared.state.State.{State}
 use Rattle.tcp_state.specs.declared.state.State.TheVariants.{Closed, Listen, SynSent, SynReceived, Established, FinWait1, FinWait2, CloseWait, Closing, LastAck, TimeWait}
 use Rattle.tcp_state.specs.declared.moment.Moment.{Moment}
+use Rattle.tcp_state.specs.declared.calls.Refusal.{Refusal}
 use Rattle.tcp_state.specs.declared.connection.Resend.{Resend}
 use Rattle.tcp_state.specs.declared.connection.Resend.TheVariants.{Idle, At, Due}
 use Rattle.tcp_state.specs.Halves.{Sending, Receiving}
@@ -22,6 +23,8 @@ pub record View : Type 0 where
   pub owes_ack : Bool
   -- whether and when what is outstanding goes out again
   pub resend : Resend
+  -- the error that every call is told from now on
+  pub told : Option Refusal
 
 -- SYN-SENT or SYN-RECEIVED
 abbrev pub is_opening : State → Bool
@@ -107,6 +110,7 @@ opened_actively local peer isn = record {
   receiving = receiving_nothing;
   owes_ack = false;
   resend = Idle;
+  told = None;
 }
 
 -- how many numbers may be outstanding: that of the SYN, as many octets that are held as one segment has, or that of the FIN behind them

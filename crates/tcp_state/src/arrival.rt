@@ -2,7 +2,7 @@
 
 ghost use Rattle.std.specs.Prelude.{◌≡◌, true, false, ◌&&◌, ◌||◌, not, if◌then◌else◌, IsTrue, ◌==◌};
 ghost use Rattle.tcp_state.specs.View.{is_opening, is_syn_sent, is_syn_received, is_closed};
-ghost use Rattle.tcp_state.specs.Arrival.{after_segment, fate, after_syn_ack, owing_ack, established, after_ack, is_read_on, after_window, after_text, after_acceptable, after_accepted, ends_by_syn, is_accepted, is_fin_next, fin_acknowledged, after_new_ack, after_fin};
+ghost use Rattle.tcp_state.specs.Arrival.{after_segment, fate, after_syn_ack, owing_ack, established, after_ack, is_read_on, after_window, after_text, after_acceptable, after_accepted, ends_by_syn, is_accepted, is_fin_next, fin_acknowledged, after_new_ack, after_fin, after_reset, reset_error, after_refusal, after_rst, ends_by_reset};
 ghost use Rattle.tcp_state.specs.Stream.{is_new_ack};
 
 use crate::connection::{Connection, Fate, Resend};
@@ -16,8 +16,11 @@ impl Connection {
         ensures after { self.new ≡ after_segment self.old segment.now }
     {
         let flags = segment.flags();
-        if flags.rst || self.state == State::Closed {
+        if self.state == State::Closed {
             return Fate::Stays;
+        }
+        if flags.rst {
+            return self.hear_reset(segment);
         }
         if self.state == State::SynSent {
             self.hear_syn_ack(segment);
@@ -34,6 +37,44 @@ impl Connection {
             self.hear_accepted(segment);
         }
         Fate::Stays
+    }
+
+    /// Takes a segment with RST.
+    fn hear_reset(&mut self, segment: &TcpView<'_>) -> Fate
+        requires { is_closed self.old.state ≡ false }
+        ensures fate { result ≡ (if not (is_syn_sent self.old.state) && ends_by_reset self.old segment.now then Fate.Removed else Fate.Stays) }
+        ensures after { self.new ≡ (if is_syn_sent self.old.state then after_refusal self.old segment.now else after_rst self.old segment.now) }
+    {
+        if self.state == State::SynSent {
+            if segment.flags().ack && self.sender.is_new(segment.acknowledgement()) {
+                self.reset();
+            }
+            return Fate::Stays;
+        }
+        let (number, span) = (segment.number(), segment.span());
+        if !self.receiver.accepts(number, span) {
+            return Fate::Stays;
+        }
+        if number != self.receiver.rnext() {
+            self.owes_ack = true;
+            return Fate::Stays;
+        }
+        if self.state == State::SynReceived && self.is_passive {
+            return Fate::Removed;
+        }
+        self.reset();
+        Fate::Stays
+    }
+
+    /// The peer's reset ends the connection.
+    fn reset(&mut self)
+        ensures { self.new ≡ after_reset self.old (reset_error self.old.state) }
+    {
+        self.told = self.state.reset_error();
+        self.state = State::Closed;
+        self.sender.abandon();
+        self.owes_ack = false;
+        self.resend = Resend::Idle;
     }
 
     /// Takes an acceptable segment with ACK and without SYN.

@@ -1,4 +1,4 @@
-ghost use Rattle.std.specs.Prelude.{◌≡◌, ◌<◌, ◌++◌, length, take, drop, if◌then◌else◌, ◌||◌, ◌==◌, Ok, Err, OnOk, OnErr};
+ghost use Rattle.std.specs.Prelude.{◌≡◌, ◌<◌, ◌++◌, length, take, drop, if◌then◌else◌, ◌||◌, ◌==◌, Ok, Err, OnOk, OnErr, is_some};
 ghost use Rattle.std.specs.Result.{result_err};
 ghost use Rattle.tcp_state.specs.View.{is_opening, is_end_seen};
 ghost use Rattle.tcp_state.specs.Calls.{send_answer, after_send, recv_answer, after_recv, moved, shutdown_refusal, after_shutdown};
@@ -16,6 +16,12 @@ pub enum Refusal {
     /// The connection is opening, there is no room, or nothing is readable.
     #[error("E8 EAGAIN")]
     EAGAIN,
+    /// The peer refused the connection.
+    #[error("E9 ECONNREFUSED")]
+    ECONNREFUSED,
+    /// The peer reset the connection.
+    #[error("E10 ECONNRESET")]
+    ECONNRESET,
     /// Our side is closed.
     #[error("E12 EPIPE")]
     EPIPE,
@@ -38,6 +44,7 @@ impl Connection {
         ensures answer { result ≡ send_answer self.old octets.now }
         ensures after { self.new ≡ after_send self.old octets.now }
     {
+        self.ask_error()?;
         if self.state.is_opening() {
             return Err(Refusal::EAGAIN);
         }
@@ -60,8 +67,9 @@ impl Connection {
         requires { 0 < length buffer.old }
         ensures answer { result ≡ recv_answer self.old (length buffer.old) }
         ensures after { self.new ≡ after_recv self.old (length buffer.old) }
-        ensures octets { buffer.new ≡ (if is_opening self.old.state || (length self.old.receiving.readable == 0) then buffer.old else take (moved self.old (length buffer.old)) self.old.receiving.readable ++ drop (moved self.old (length buffer.old)) buffer.old) }
+        ensures octets { buffer.new ≡ (if is_some self.old.told || is_opening self.old.state || (length self.old.receiving.readable == 0) then buffer.old else take (moved self.old (length buffer.old)) self.old.receiving.readable ++ drop (moved self.old (length buffer.old)) buffer.old) }
     {
+        self.ask_error()?;
         if self.state.is_opening() {
             return Err(Refusal::EAGAIN);
         }
@@ -72,6 +80,23 @@ impl Connection {
             self.owes_ack = true;
         }
         Ok(Received::Octets(self.receiver.read(buffer)))
+    }
+
+    /// The error that every call is told from now on, if there is one.
+    pub fn error(&self) -> Option<Refusal>
+        ensures { result ≡ self.now.told }
+    {
+        self.told
+    }
+
+    /// Refuses a call that is told an error.
+    fn ask_error(&self) -> Result<(), Refusal>
+        ensures { result_err result ≡ self.now.told }
+    {
+        match self.told {
+            Some(error) => Err(error),
+            None => Ok(()),
+        }
     }
 
     /// What a receive answers where nothing is readable.
@@ -93,6 +118,7 @@ impl Connection {
         ensures ok { OnOk result (self.new ≡ after_shutdown self.old) }
         ensures err { OnErr result (self.new ≡ self.old) }
     {
+        self.ask_error()?;
         if self.state.is_opening() {
             return Err(Refusal::ENOTCONN);
         }

@@ -3,6 +3,7 @@ ghost use Rattle.tcp_state.specs.View.{View, IsSound, opened_actively, after_tic
 ghost use Rattle.tcp_state.specs.Arrival.{opened_passively};
 
 use crate::buffers::Buffers;
+use crate::calls::Refusal;
 use crate::moment::Moment;
 use crate::receiver::Receiver;
 use crate::sender::Sender;
@@ -42,6 +43,7 @@ pub struct Connection {
     pub(crate) receiver: Receiver,
     pub(crate) owes_ack: bool,
     pub(crate) resend: Resend,
+    pub(crate) told: Option<Refusal>,
 }
 
 impl Model for Connection {
@@ -71,6 +73,7 @@ impl Connection {
             receiver: Receiver::new(receive),
             owes_ack: false,
             resend: Resend::Idle,
+            told: None,
         }
     }
 
@@ -98,6 +101,7 @@ impl Connection {
             receiver,
             owes_ack: false,
             resend: Resend::Idle,
+            told: None,
         }
     }
 

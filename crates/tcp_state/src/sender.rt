@@ -131,6 +131,14 @@ impl Sender {
         self.wl2 = self.nxt;
     }
 
+    /// What is held goes out no more, and nothing is outstanding.
+    pub(crate) fn abandon(&mut self)
+        ensures { self.new ≡ record self.old { held = []; nxt = self.old.una } }
+    {
+        self.held.clear();
+        self.nxt = self.una;
+    }
+
     /// Octets are acknowledged, which are held no longer, or the FIN behind them all.
     pub(crate) fn acknowledge(&mut self, acknowledgement: Seq)
         ensures { self.new ≡ after_acknowledged self.old acknowledgement.0 }

@@ -1,5 +1,6 @@
 ghost use Rattle.std.specs.Prelude.{◌≡◌};
 
+use crate::calls::Refusal;
 use std::fmt;
 
 /// The state of a connection (RFC 9293 section 3.3.2).
@@ -32,7 +33,7 @@ pub enum State {
 impl State {
     ghost use Rattle.tcp_state.specs.View.{is_opening, awaits_fin_ack, is_write_closed, is_end_seen};
     ghost use Rattle.tcp_state.specs.Calls.{shut};
-    ghost use Rattle.tcp_state.specs.Arrival.{beyond_fin, beyond_end, is_receiving};
+    ghost use Rattle.tcp_state.specs.Arrival.{beyond_fin, beyond_end, is_receiving, reset_error};
 
     /// Whether the two ends have not agreed on a connection yet.
     pub fn is_opening(self) -> bool
@@ -70,6 +71,19 @@ impl State {
         ensures { result ≡ is_receiving self }
     {
         matches!(self, State::Established | State::FinWait1 | State::FinWait2)
+    }
+
+    /// What a reset in this state tells the caller (RFC 9293 section 3.10.7.4).
+    pub(crate) fn reset_error(self) -> Option<Refusal>
+        ensures { result ≡ reset_error self }
+    {
+        match self {
+            State::SynSent | State::SynReceived => Some(Refusal::ECONNREFUSED),
+            State::Established | State::FinWait1 | State::FinWait2 | State::CloseWait => {
+                Some(Refusal::ECONNRESET)
+            }
+            _ => None,
+        }
     }
 
     /// The state once our side is closed (RFC 9293 section 3.10.4).

@@ -3,7 +3,7 @@ use ipv4::{Addr, Endpoint};
 use std::alloc::Global;
 use std::process::Abort;
 use std::test::Fail;
-use tcp_segment::{Seq, TcpView};
+use tcp_segment::{Flags, Head, Seq, TcpView};
 
 const A: Endpoint = Endpoint {
     addr: Addr([10, 0, 0, 1]),
@@ -90,8 +90,8 @@ fn what_is_outstanding_goes_again_after_a_second(rt: HostRuntime) -> Result<(), 
 fn opened(rt: &impl Abort, alloc: Global) -> Result<(Connection, Connection), Fail> {
     let mut a = caller(alloc)?;
     let mut frame = [0; FRAME];
-    assert_eq!(rt; a.emit(Moment(0), &mut frame), Some(24));
-    let syn = TcpView::parse(A.addr, B.addr, &frame[..24]).expect(rt, "it is well-formed");
+    let len = a.emit(Moment(0), &mut frame).expect(rt, "the SYN is due");
+    let syn = TcpView::parse(A.addr, B.addr, &frame[..len]).expect(rt, "it is well-formed");
     let mut b = Connection::passive(Buffers::new(alloc)?, B, A, Seq(7), &syn);
     pass(rt, &mut b, &mut a);
     pass(rt, &mut a, &mut b);
@@ -133,9 +133,9 @@ fn both_sides_close_at_once(rt: HostRuntime) -> Result<(), Fail> {
     assert_eq!(rt; a.shutdown(), Ok(()));
     assert_eq!(rt; b.shutdown(), Ok(()));
     let mut frame = [0; FRAME];
-    assert_eq!(rt; a.emit(Moment(0), &mut frame), Some(20));
+    let len = a.emit(Moment(0), &mut frame).expect(&rt, "the FIN is due");
     pass(&rt, &mut b, &mut a);
-    let fin = TcpView::parse(A.addr, B.addr, &frame[..20]).expect(&rt, "it is well-formed");
+    let fin = TcpView::parse(A.addr, B.addr, &frame[..len]).expect(&rt, "it is well-formed");
     assert!(rt; b.segment(&fin) == Fate::Stays);
     assert_eq!(rt; a.state(), State::Closing);
     assert_eq!(rt; b.state(), State::Closing);
@@ -143,6 +143,51 @@ fn both_sides_close_at_once(rt: HostRuntime) -> Result<(), Fail> {
     pass(&rt, &mut b, &mut a);
     assert_eq!(rt; a.state(), State::TimeWait);
     assert_eq!(rt; b.state(), State::TimeWait);
+    Ok(())
+}
+
+/// A segment without octets reaches `A`, as if `B` had sent it.
+fn hear(rt: &impl Abort, a: &mut Connection, number: u32, flags: Flags) {
+    let mut frame = [0; FRAME];
+    let head = Head {
+        source: B.port,
+        destination: A.port,
+        number: Seq(number),
+        acknowledgement: Seq(0),
+        flags,
+        window: 0,
+    };
+    let len = head.emit(B.addr, A.addr, 0, &mut frame);
+    let segment = TcpView::parse(B.addr, A.addr, &frame[..len]).expect(rt, "it is well-formed");
+    assert!(rt; a.segment(&segment) == Fate::Stays);
+}
+
+#[test]
+fn a_reset_acts_at_the_next_number_alone(rt: HostRuntime) -> Result<(), Fail> {
+    let (mut a, _b) = opened(&rt, rt.alloc())?;
+    let mut reset = Flags::default();
+    reset.rst = true;
+    let mut syn = Flags::default();
+    syn.syn = true;
+    let mut frame = [0; FRAME];
+    let rows = [
+        (9, reset, Some(Due::Ack)),
+        (7, reset, None),
+        (65_543, reset, None),
+        (8, syn, Some(Due::Ack)),
+    ];
+    for (number, flags, due) in rows {
+        hear(&rt, &mut a, number, flags);
+        assert_eq!(rt; a.state(), State::Established);
+        assert_eq!(rt; a.due(), due);
+        let _ = a.emit(Moment(0), &mut frame);
+    }
+    hear(&rt, &mut a, 8, reset);
+    assert_eq!(rt; a.state(), State::Closed);
+    let mut buffer = [0; 9];
+    assert_eq!(rt; a.recv(&mut buffer), Err(Refusal::ECONNRESET));
+    assert_eq!(rt; a.send(b"more"), Err(Refusal::ECONNRESET));
+    assert_eq!(rt; a.due(), None);
     Ok(())
 }
 

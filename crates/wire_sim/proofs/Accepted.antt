@@ -1,5 +1,5 @@
 -- What a call that was not refused tells of the host's table.
-use Rattle.std.proofs.Common.{◌≡◌, ℕ, zero, suc, ◌+◌, ◌==◌, ◌&&◌, ◌||◌, ◌⊎◌, inl, inr, not, Bool, true, false, cond, if◌then◌else◌, List, [], ◌∷◌, length, take, Option, Some, None, Result, Ok, Err, refl, sym, ◌∙◌, ap}
+use Rattle.std.proofs.Common.{◌≡◌, ℕ, zero, suc, ◌+◌, ◌==◌, ◌&&◌, ◌||◌, ◌⊎◌, inl, inr, not, Bool, true, false, cond, if◌then◌else◌, List, [], ◌∷◌, length, take, Option, Some, None, is_some, Result, Ok, Err, refl, sym, ◌∙◌, ap}
 use Rattle.std.specs.List.{find, list_any}
 use Rattle.std.specs.Cmp.Lexicographic.{same_text}
 use Rattle.std.proofs.lemmas.Bool.{eqb-true}
@@ -12,7 +12,7 @@ use Rattle.tcp_state.specs.declared.calls.Received.TheVariants.{Octets, EndOfStr
 use Rattle.tcp_state.specs.declared.calls.Refusal.{Refusal as ConnectionRefusal}
 use Rattle.tcp_state.specs.declared.calls.Refusal.TheVariants as connection_variants
 use Rattle.tcp_state.specs.Calls as connection_calls
-use Rattle.tcp_state.specs.Calls.{taken, moved, after_recv}
+use Rattle.tcp_state.specs.Calls.{unless_told, taken, moved, after_recv}
 use Rattle.tcp_state.specs.Stream.{send_room}
 use Rattle.tcp_state.specs.View.{View, is_opening, is_write_closed, is_end_seen, opened_actively}
 use Rattle.host.specs.declared.entry.SocketId.{SocketId}
@@ -28,7 +28,7 @@ use Rattle.host.specs.Ports.{port_after, first_port, first_port-step, first_port
 use Rattle.host.specs.Entries.{is_pending, is_socket, is_bound_at, is_between, connecting, received, with_role}
 use Rattle.host.specs.HostView.{HostView, with_socket}
 use Rattle.host.specs.Lists.{change_first}
-use Rattle.host.specs.Calls.{unless_refused, of_connection, sent_answer, received_answer, send_answer, recv_answer, is_pair_held, port_for, reach_refusal, open_answer, connect_refusal, counted_port, after_connect}
+use Rattle.host.specs.Calls.{unless_refused, of_connection, sent_answer, received_answer, send_answer, recv_answer, is_pair_held, port_for, reach_refusal, had_connection, open_answer, connect_refusal, counted_port, after_connect}
 use Rattle.wire_sim.specs.Steps.{Answers, readable_on}
 use Rattle.host.specs.Pairs.{socket_pair}
 use Rattle.wire_sim.proofs.Finding.{find-passes}
@@ -92,6 +92,7 @@ pub record SendsOn (h : HostView) (id : SocketId) (octets : List ℕ) (count : �
   pub c : View
   pub l : Option SocketId
   pub found : find (is_socket id) h.entries ≡ Some (record { id = id; role = Connected c l })
+  pub untold : is_some c.told ≡ false
   pub opened : is_opening c.state ≡ false
   pub unclosed : is_write_closed c.state ≡ false
   pub takes : count ≡ taken c octets
@@ -100,17 +101,18 @@ pub record SendsOn (h : HostView) (id : SocketId) (octets : List ℕ) (count : �
 pub sends-on : (h : HostView) (id : SocketId) (octets : List ℕ) (count : ℕ) → send_answer h id octets ≡ Ok count → SendsOn h id octets count
 sends-on h id octets count answered = by_entry (find (is_socket id) h.entries) refl
   where
-    by_tests : (c : View) (l : Option SocketId) → find (is_socket id) h.entries ≡ Some (record { id = id; role = Connected c l }) → (b closed full : Bool) → is_opening c.state ≡ b → is_write_closed c.state ≡ closed
-        → of_connection (if b then Err connection_variants.EAGAIN else if closed then Err connection_variants.EPIPE else if full then Err connection_variants.EAGAIN else Ok (taken c octets)) ≡ Ok count → SendsOn h id octets count
-    by_tests c l at true closed full is was e = cc
-    by_tests c l at false true full is was e = cc
-    by_tests c l at false false true is was e = cc
-    by_tests c l at false false false is was e = record { c = c; l = l; found = at; opened = is; unclosed = was; takes = cc }
+    by_tests : (c : View) (l : Option SocketId) → find (is_socket id) h.entries ≡ Some (record { id = id; role = Connected c l }) → (error : Option ConnectionRefusal) (b closed full : Bool) → c.told ≡ error → is_opening c.state ≡ b → is_write_closed c.state ≡ closed
+        → of_connection (unless_told error (if b then Err connection_variants.EAGAIN else if closed then Err connection_variants.EPIPE else if full then Err connection_variants.EAGAIN else Ok (taken c octets))) ≡ Ok count → SendsOn h id octets count
+    by_tests c l at (Some error) opening closed full told is was e = cc
+    by_tests c l at None true closed full told is was e = cc
+    by_tests c l at None false true full told is was e = cc
+    by_tests c l at None false false true told is was e = cc
+    by_tests c l at None false false false told is was e = record { c = c; l = l; found = at; untold = ap is_some told; opened = is; unclosed = was; takes = cc }
 
     by_role : (e : Entry) → find (is_socket id) h.entries ≡ Some e → (r : Role) → e.role ≡ r → sent_answer r octets ≡ Ok count → SendsOn h id octets count
     by_role e at (Idle buffers bound) is a = cc
     by_role e at (Listener bound backlog) is a = cc
-    by_role e at (Connected c l) is a = by_tests c l (found_socket h.entries id e (Connected c l) at is) (is_opening c.state) (is_write_closed c.state) ((send_room c.sending == 0) && not (length octets == 0)) refl refl a
+    by_role e at (Connected c l) is a = by_tests c l (found_socket h.entries id e (Connected c l) at is) c.told (is_opening c.state) (is_write_closed c.state) ((send_room c.sending == 0) && not (length octets == 0)) refl refl refl a
 
     by_entry : (o : Option Entry) → find (is_socket id) h.entries ≡ o → SendsOn h id octets count
     by_entry None at = let bad : Err EBADF ≡ Ok count = sym (rw at) ∙ answered in cc
@@ -129,8 +131,8 @@ pub record ReadsOn (h : HostView) (id : SocketId) (len : ℕ) (got : Received) :
   pub told : connection_calls.recv_answer c len ≡ Ok got
 
 -- octets are answered of an open connection that has some, and then as many as the buffer holds
-pub octets_told : (c : View) (len count : ℕ) → connection_calls.recv_answer c len ≡ Ok (Octets count) → (is_opening c.state ≡ false) × (count ≡ moved c len)
-octets_told c len count = by_tests (is_opening c.state) (length c.receiving.readable == 0) (is_end_seen c.state) refl
+pub octets_told : (c : View) (len count : ℕ) → connection_calls.recv_answer c len ≡ Ok (Octets count) → (is_some c.told ≡ false) × (is_opening c.state ≡ false) × (count ≡ moved c len)
+octets_told c len count = by_tests c.told (is_opening c.state) (length c.receiving.readable == 0) (is_end_seen c.state) refl refl
   where
     again : Result Received ConnectionRefusal
     again = Err connection_variants.EAGAIN
@@ -138,12 +140,14 @@ octets_told c len count = by_tests (is_opening c.state) (length c.receiving.read
     ended : Result Received ConnectionRefusal
     ended = Ok EndOfStream
 
-    by_tests : (opening none seen : Bool) → is_opening c.state ≡ opening → (if opening then again else if not none then Ok (Octets (moved c len)) else if seen then ended else again) ≡ Ok (Octets count)
-        → (is_opening c.state ≡ false) × (count ≡ moved c len)
-    by_tests true none seen is e = let bad : again ≡ Ok (Octets count) = e in cc
-    by_tests false false seen is e = let same : moved c len ≡ count = cc in (is, sym same)
-    by_tests false true true is e = let bad : ended ≡ Ok (Octets count) = e in cc
-    by_tests false true false is e = let bad : again ≡ Ok (Octets count) = e in cc
+    by_tests : (error : Option ConnectionRefusal) (opening none seen : Bool) → c.told ≡ error → is_opening c.state ≡ opening
+        → unless_told error (if opening then again else if not none then Ok (Octets (moved c len)) else if seen then ended else again) ≡ Ok (Octets count)
+        → (is_some c.told ≡ false) × (is_opening c.state ≡ false) × (count ≡ moved c len)
+    by_tests (Some error) opening none seen told is e = cc
+    by_tests None true none seen told is e = let bad : again ≡ Ok (Octets count) = e in cc
+    by_tests None false false seen told is e = let same : moved c len ≡ count = cc in (ap is_some told, is, sym same)
+    by_tests None false true true told is e = let bad : ended ≡ Ok (Octets count) = e in cc
+    by_tests None false true false told is e = let bad : again ≡ Ok (Octets count) = e in cc
 
 -- a receive that is answered is one on a connection
 pub reads-on : (h : HostView) (id : SocketId) (len : ℕ) (got : Received) → recv_answer h id len ≡ Ok got → ReadsOn h id len got
@@ -231,11 +235,15 @@ reached-neighbour h peer = step ((peer.port == 0) || not (is_single_host peer.ad
 pub opens_idle : (r : Role) (bound : Option Endpoint) → open_answer r ≡ Ok bound → (b : Buffers) × (r ≡ Idle b bound)
 opens_idle (Idle buffers at) bound e = let same : at ≡ bound = cc in (buffers, ap (Idle buffers) same)
 opens_idle (Listener local backlog) bound e = cc
-opens_idle (Connected c l) bound e = absurd (step (is_opening c.state) e)
+opens_idle (Connected c l) bound e = absurd (by_error c.told e)
   where
     step : (opening : Bool) → cond opening (Err EALREADY) (Err EISCONN) ≡ Ok bound → ⊥
     step true e = cc
     step false e = cc
+
+    by_error : (error : Option ConnectionRefusal) → had_connection c.state error ≡ Ok bound → ⊥
+    by_error (Some x) e = cc
+    by_error None e = step (is_opening c.state) e
 
 -- a connect that is not refused is one of an idle socket, to the neighbour
 pub connects-on : (h : HostView) (id : SocketId) (peer : Endpoint) → connect_refusal h id peer ≡ None → ConnectsOn h id peer

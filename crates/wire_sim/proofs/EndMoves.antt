@@ -1,5 +1,5 @@
 -- A move of one end, whatever the other end and the network are.
-use Rattle.std.proofs.Common.{◌≡◌, ℕ, ◌<◌, ◌^◌, ◌⊎◌, inl, inr, false, List, [], ◌++◌, take, Some, None, refl, sym, ap, subst}
+use Rattle.std.proofs.Common.{◌≡◌, ℕ, ◌<◌, ◌^◌, ◌⊎◌, inl, inr, false, List, [], ◌++◌, take, Some, None, is_some, refl, sym, ap, subst}
 use Rattle.ipv4.specs.declared.addr.Endpoint.{Endpoint}
 use Rattle.tcp_state.specs.declared.moment.Moment.{Moment}
 use Rattle.tcp_state.specs.View.{View, IsSound, is_opening, is_write_closed, opened_actively, after_tick}
@@ -30,13 +30,13 @@ end-goes limit d e d' e' is is' goes other out arrived = subst (λ x. Goes limit
 pub end-connects : (limit : ℕ) (local peer : Endpoint) (isn : ℕ) → isn < 2 ^ 32 → EndGoes limit (record { connection = None; written = []; closed = false; read = []; ended = false }) (record { connection = Some (opened_actively local peer isn); written = []; closed = false; read = []; ended = false })
 end-connects limit local peer isn fits other out arrived = inr (connects (pairing (record { connection = None; written = []; closed = false; read = []; ended = false }) other out arrived) local peer isn refl fits)
 
-pub end-takes : (limit : ℕ) (c : View) (octets w r : List ℕ) → IsSound c → is_opening c.state ≡ false → is_write_closed c.state ≡ false
+pub end-takes : (limit : ℕ) (c : View) (octets w r : List ℕ) → IsSound c → is_some c.told ≡ false → is_opening c.state ≡ false → is_write_closed c.state ≡ false
     → EndGoes limit (record { connection = Some c; written = w; closed = false; read = r; ended = false }) (record { connection = Some (after_send c octets); written = w ++ take (taken c octets) octets; closed = false; read = r; ended = false })
-end-takes limit c octets w r sound opened unclosed other out arrived = inr (takes (pairing (record { connection = Some c; written = w; closed = false; read = r; ended = false }) other out arrived) c octets refl sound opened unclosed)
+end-takes limit c octets w r sound untold opened unclosed other out arrived = inr (takes (pairing (record { connection = Some c; written = w; closed = false; read = r; ended = false }) other out arrived) c octets refl sound untold opened unclosed)
 
-pub end-gives : (limit : ℕ) (c : View) (len : ℕ) (w r : List ℕ) → IsSound c → is_opening c.state ≡ false
+pub end-gives : (limit : ℕ) (c : View) (len : ℕ) (w r : List ℕ) → IsSound c → is_some c.told ≡ false → is_opening c.state ≡ false
     → EndGoes limit (record { connection = Some c; written = w; closed = false; read = r; ended = false }) (record { connection = Some (after_recv c len); written = w; closed = false; read = r ++ take (moved c len) c.receiving.readable; ended = false })
-end-gives limit c len w r sound opened other out arrived = inr (gives (pairing (record { connection = Some c; written = w; closed = false; read = r; ended = false }) other out arrived) c len refl sound opened)
+end-gives limit c len w r sound untold opened other out arrived = inr (gives (pairing (record { connection = Some c; written = w; closed = false; read = r; ended = false }) other out arrived) c len refl sound untold opened)
 
 pub end-ticks : (limit : ℕ) (c : View) (now : Moment) (w r : List ℕ) → EndGoes limit (record { connection = Some c; written = w; closed = false; read = r; ended = false }) (record { connection = Some (after_tick c now); written = w; closed = false; read = r; ended = false })
 end-ticks limit c now w r other out arrived = inr (ticks (pairing (record { connection = Some c; written = w; closed = false; read = r; ended = false }) other out arrived) c now refl)

@@ -1,5 +1,5 @@
 -- Whatever happens to a connection, its endpoints stay, and only its caller closes our side.
-use Rattle.std.proofs.Common.{◌≡◌, ℕ, ◌||◌, ◌==◌, not, if◌then◌else◌, Bool, true, false, List, length, refl, ◌∙◌}
+use Rattle.std.proofs.Common.{◌≡◌, ℕ, ◌||◌, ◌==◌, not, if◌then◌else◌, Bool, true, false, List, length, is_some, refl, ◌∙◌}
 use Rattle.tcp_segment.specs.Segment.{Segment}
 use Rattle.tcp_state.specs.declared.emission.Due.{Due}
 use Rattle.tcp_state.specs.declared.emission.Due.TheVariants.{Syn, Text, Fin, Ack}
@@ -32,13 +32,18 @@ pub keeps-either : (v : View) (test : Bool) (w x : View) → KeepsEnds v w → K
 keeps-either v true w x a b = a
 keeps-either v false w x a b = b
 
+-- the second of two events, where the test fails
+pub keeps-but : (v : View) (test : Bool) (w x : View) → test ≡ false → KeepsEnds v x → KeepsEnds v (if test then w else x)
+keeps-but v true w x fails b = let bad : true ≡ false = fails in cc
+keeps-but v false w x fails b = b
+
 -- octets are taken from the caller
 pub keeps-send : (v : View) (octets : List ℕ) → KeepsEnds v (after_send v octets)
-keeps-send v octets = keeps-either v (is_opening v.state || is_write_closed v.state) v _ (keeps-nothing v) (record { local = refl; peer = refl; live = λ e. e })
+keeps-send v octets = keeps-either v (is_some v.told || is_opening v.state || is_write_closed v.state) v _ (keeps-nothing v) (record { local = refl; peer = refl; live = λ e. e })
 
 -- octets are read by the caller
 pub keeps-recv : (v : View) (len : ℕ) → KeepsEnds v (after_recv v len)
-keeps-recv v len = keeps-either v (is_opening v.state || (length v.receiving.readable == 0)) v _ (keeps-nothing v) (record { local = refl; peer = refl; live = λ e. e })
+keeps-recv v len = keeps-either v (is_some v.told || is_opening v.state || (length v.receiving.readable == 0)) v _ (keeps-nothing v) (record { local = refl; peer = refl; live = λ e. e })
 
 -- a tick
 pub keeps-tick : (v : View) (now : Moment) → KeepsEnds v (after_tick v now)
@@ -128,9 +133,10 @@ keeps-accepted v s =
     (keeps-either v (ends_by_syn v s) v (owing_ack v) (keeps-nothing v) (keeps-owing v))
     (keeps-either v s.flags.ack (after_acceptable v s) v (keeps-acceptable v s) (keeps-nothing v))
 
--- a segment arrives, whatever it is
-pub keeps-segment : (v : View) (s : Segment) → KeepsEnds v (after_segment v s)
-keeps-segment v s =
-    keeps-either v (s.flags.rst || is_closed v.state) v _ (keeps-nothing v)
+-- a segment arrives, whatever it is but a reset
+pub keeps-segment : (v : View) (s : Segment) → s.flags.rst ≡ false → KeepsEnds v (after_segment v s)
+keeps-segment v s unreset =
+    keeps-either v (is_closed v.state) v _ (keeps-nothing v)
+    (keeps-but v s.flags.rst _ _ unreset
     (keeps-either v (is_syn_sent v.state) (after_syn_ack v s) _ (keeps-syn_ack v s)
-    (keeps-either v (is_accepted v s) (after_accepted v s) (owing_ack v) (keeps-accepted v s) (keeps-owing v)))
+    (keeps-either v (is_accepted v s) (after_accepted v s) (owing_ack v) (keeps-accepted v s) (keeps-owing v))))

@@ -192,8 +192,11 @@ projects-delivered limit hs ts a b own own' other n trace isn place f is_limit t
     let solid : IsSoundConnection c = All-find (λ (e : Entry). IsSoundRole e.role) test own.entries (record { id = id; role = Connected c l }) sound at in
     let is : ((c.local.port == s.destination) && (c.peer.port == s.source)) ≡ true = sym (ports_of a b s.destination s.source c l id ours) ∙ find-passes test own.entries (record { id = id; role = Connected c l }) at in
     let ys = change_first test (with_role (arrived s)) own.entries in
+    let unreset : s.flags.rst ≡ false =
+    ap (λ (x : Segment). x.flags.rst) r.segment
+    ∙ ((shown limit h.small (pairing (end_at hs trace a b own.entries s.destination s.source) (end_at ts trace b a other.entries s.source s.destination) (h.out s.destination s.source) (h.arrived s.destination s.source)) (h.meets s.destination s.source)).received k.emission r.among).unreset in
     let m : Altered a b own.last_id own.entries ys (gave hs trace) (got hs trace) (gave hs trace) (got hs trace) id c (after_segment c s) =
-    altered a b own.last_id own.entries (gave hs trace) (got hs trace) (gave hs trace) (got hs trace) test (arrived s) id c (after_segment c s) l l at refl (keeps-segment c s) (λ i other. refl) (λ i other. refl) h.own_table in
+    altered a b own.last_id own.entries (gave hs trace) (got hs trace) (gave hs trace) (got hs trace) test (arrived s) id c (after_segment c s) l l at refl (keeps-segment c s unreset) (λ i other. refl) (λ i other. refl) h.own_table in
     let old_end = m.before s.destination s.source is in
     let there_end = end_at ts trace b a other.entries s.source s.destination in
     let p = pairing (end_with c id (gave hs trace) (got hs trace)) there_end (h.out s.destination s.source) (h.arrived s.destination s.source) in

@@ -1,5 +1,5 @@
 -- What each answered call makes of the pairings: a move of one of them, or of none.
-use Rattle.std.proofs.Common.{◌≡◌, ℕ, ◌+◌, ◌≤◌, ◌==◌, ◌&&◌, ◌⊎◌, inl, inr, Bool, true, false, List, [], ◌∷◌, ◌++◌, length, take, Option, Some, None, Result, Ok, Err, arith, refl, sym, ◌∙◌, ap, subst, append-nil}
+use Rattle.std.proofs.Common.{◌≡◌, ℕ, ◌+◌, ◌≤◌, ◌==◌, ◌&&◌, ◌⊎◌, inl, inr, Bool, true, false, List, [], ◌∷◌, ◌++◌, length, take, Option, Some, None, is_some, Result, Ok, Err, arith, refl, sym, ◌∙◌, ap, subst, append-nil}
 use Rattle.std.specs.List.{find}
 use Rattle.std.specs.Global.{Vec}
 use Rattle.ipv4.specs.declared.addr.Addr.{Addr}
@@ -120,6 +120,8 @@ socket_outcome h (reply.Refused refusal.EALREADY) new m = absurd m
 socket_outcome h (reply.Refused refusal.EAGAIN) new m = absurd m
 socket_outcome h (reply.Refused refusal.ENETUNREACH) new m = absurd m
 socket_outcome h (reply.Refused refusal.EPIPE) new m = absurd m
+socket_outcome h (reply.Refused refusal.ECONNREFUSED) new m = absurd m
+socket_outcome h (reply.Refused refusal.ECONNRESET) new m = absurd m
 socket_outcome h (reply.Refused refusal.EMFILE) new m = inr m.1
 socket_outcome h (reply.Refused refusal.ENOMEM) new m = inr m.1
 socket_outcome h (reply.Refused refusal.EOPNOTSUPP) new m = absurd m
@@ -130,6 +132,7 @@ pub record ReadsOctets (h : HostView) (id : SocketId) (len : ℕ) (answer : Answ
   pub c : View
   pub l : Option SocketId
   pub found : find (is_socket id) h.entries ≡ Some (record { id = id; role = Connected c l })
+  pub untold : is_some c.told ≡ false
   pub opened : Rattle.tcp_state.specs.View.is_opening c.state ≡ false
   pub some : (len == 0) ≡ false
   pub octets : Vec ℕ
@@ -158,8 +161,8 @@ recv_outcome h id len answer new = by_outcome (recv_answer h id len) refl answer
     by_outcome (Ok (received.Octets count)) is (reply.Octets o) m =
         let r = reads-on h id len (received.Octets count) is in
         let t = octets_told r.c len count r.told in
-        let same : count ≡ connection_calls.moved r.c len = t.1 in
-        inl (record { c = r.c; l = r.l; found = r.found; opened = t.0; some = r.some; octets = o; is_answer = refl; are_first = m.0 ∙ (readable_on-connected h id count r.c r.l r.found ∙ ap (λ i. take i r.c.receiving.readable) same); becomes = m.1 })
+        let same : count ≡ connection_calls.moved r.c len = t.2 in
+        inl (record { c = r.c; l = r.l; found = r.found; untold = t.0; opened = t.1; some = r.some; octets = o; is_answer = refl; are_first = m.0 ∙ (readable_on-connected h id count r.c r.l r.found ∙ ap (λ i. take i r.c.receiving.readable) same); becomes = m.1 })
     by_outcome (Ok (received.Octets count)) is reply.EndOfStream m = absurd m
     by_outcome (Ok (received.Octets count)) is (reply.State s) m = absurd m
     by_outcome (Ok (received.Octets count)) is (reply.Frame i l) m = absurd m
@@ -267,7 +270,7 @@ call-sends limit hs ts a b own other n place trace id octets count sound opposit
     let goes : EndGoes limit (end_with k.c id (gave hs trace) (got hs trace)) (end_with (connection_calls.after_send k.c octets.items) id (gave hs trace') (got hs trace')) =
     subst (λ x. EndGoes limit (end_with k.c id (gave hs trace) (got hs trace)) (record { connection = Some (connection_calls.after_send k.c octets.items); written = x; closed = false; read = got hs trace' id; ended = false })) (sym more)
     (subst (λ x. EndGoes limit (end_with k.c id (gave hs trace) (got hs trace)) (record { connection = Some (connection_calls.after_send k.c octets.items); written = gave hs trace id ++ take (connection_calls.taken k.c octets.items) octets.items; closed = false; read = x; ended = false })) (sym same_got)
-    (end-takes limit k.c octets.items (gave hs trace id) (got hs trace id) solid.sound k.opened k.unclosed)) in
+    (end-takes limit k.c octets.items (gave hs trace id) (got hs trace id) solid.sound k.untold k.opened k.unclosed)) in
     GoesCounted id count refl
     (projects-socket limit hs ts a b own other n trace (call.Send id octets) (reply.Sent count) id k.c (connection_calls.after_send k.c octets.items) k.l (sent octets.items) opposite k.found refl (keeps-send k.c octets.items)
     (λ i apart. sent_on-added hs i trace e ∙ (ap (λ x. sent_on hs i trace ++ x) ((sent_by-send hs id i octets count).1 apart) ∙ append-nil (sent_on hs i trace)))
@@ -276,9 +279,9 @@ call-sends limit hs ts a b own other n place trace id octets count sound opposit
     (tallies-counted trace n.openings hs id octets count (subst (λ i. i ≤ length octets.items) (sym k.takes) (taken_fits k.c octets.items)))
 
 pub call-receives : (limit : ℕ) (hs ts : Side) (a b : Addr) (own other : HostView) (n : NetworkView) (place : ℕ) (trace : List Happening) (id : SocketId) (len : ℕ) (octets : Vec ℕ) (m : ℕ) (c : View) (l : Option SocketId) → IsSoundHost own → ts ≡ other_side hs
-    → find (is_socket id) own.entries ≡ Some (record { id = id; role = Connected c l }) → Rattle.tcp_state.specs.View.is_opening c.state ≡ false → (m == 0) ≡ false → octets.items ≡ take (connection_calls.moved c m) c.receiving.readable
+    → find (is_socket id) own.entries ≡ Some (record { id = id; role = Connected c l }) → is_some c.told ≡ false → Rattle.tcp_state.specs.View.is_opening c.state ≡ false → (m == 0) ≡ false → octets.items ≡ take (connection_calls.moved c m) c.receiving.readable
     → Projects limit hs ts a b own other n.frames n.openings trace → CallGoes limit hs ts a b (after_recv own id m) other n (call.Recv id len) (reply.Octets octets) place trace
-call-receives limit hs ts a b own other n place trace id len octets m c l sound opposite found opened some are_first h =
+call-receives limit hs ts a b own other n place trace id len octets m c l sound opposite found untold opened some are_first h =
     let e = answered hs (call.Recv id len) (reply.Octets octets) in
     let trace' = trace ++ e ∷ [] in
     let solid = sound_socket own id c l sound found in
@@ -289,7 +292,7 @@ call-receives limit hs ts a b own other n place trace id len octets m c l sound 
     let goes : EndGoes limit (end_with c id (gave hs trace) (got hs trace)) (end_with (connection_calls.after_recv c m) id (gave hs trace') (got hs trace')) =
     subst (λ x. EndGoes limit (end_with c id (gave hs trace) (got hs trace)) (record { connection = Some (connection_calls.after_recv c m); written = gave hs trace' id; closed = false; read = x; ended = false })) (sym more)
     (subst (λ x. EndGoes limit (end_with c id (gave hs trace) (got hs trace)) (record { connection = Some (connection_calls.after_recv c m); written = x; closed = false; read = got hs trace id ++ take (connection_calls.moved c m) c.receiving.readable; ended = false })) (sym same_gave)
-    (end-gives limit c m (gave hs trace id) (got hs trace id) solid.sound opened)) in
+    (end-gives limit c m (gave hs trace id) (got hs trace id) solid.sound untold opened)) in
     let quiet : (s : Side) (i : SocketId) → sent_by s i e ≡ [] = λ s i. refl in
     GoesPlain refl
     (projects-socket limit hs ts a b own other n trace (call.Recv id len) (reply.Octets octets) id c (connection_calls.after_recv c m) l (received_role m) opposite found (received-connected c l m some) (keeps-recv c m)

@@ -178,7 +178,7 @@ projects-called limit hs ts a b own own' other n place trace (call.Recv id len) 
     elim (recv_outcome own id (asked len) answer own' m) [
       | inl r ↦
           subst (λ x. CallGoes limit hs ts a b own' other n (call.Recv id len) x place trace) (sym r.is_answer)
-          (subst (λ w. CallGoes limit hs ts a b w other n (call.Recv id len) (reply.Octets r.octets) place trace) (sym r.becomes) (call-receives limit hs ts a b own other n place trace id len r.octets (asked len) r.c r.l sound opposite r.found r.opened r.some r.are_first h))
+          (subst (λ w. CallGoes limit hs ts a b w other n (call.Recv id len) (reply.Octets r.octets) place trace) (sym r.becomes) (call-receives limit hs ts a b own other n place trace id len r.octets (asked len) r.c r.l sound opposite r.found r.untold r.opened r.some r.are_first h))
       | inr y ↦ elim y [
         | inl r ↦ absurd (never-ends limit hs ts a b own other n trace id (asked len) r h)
         | inr x ↦
