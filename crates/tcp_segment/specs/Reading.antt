@@ -5,7 +5,9 @@ use Rattle.std.specs.Option.{option_map}
 use Rattle.byteorder.specs.Endian.{big_number}
 use Rattle.tcp_segment.specs.declared.flags.Flags.{Flags}
 use Rattle.tcp_segment.specs.Options.{HeaderOption, EndOfOptions, NoOperation, MaximumSegmentSize, Other}
-use Rattle.tcp_segment.specs.Segment.{Segment}
+use Rattle.ipv4.specs.declared.addr.Addr.{Addr}
+use Rattle.inet_sum.specs.Sum.{sum_of}
+use Rattle.tcp_segment.specs.Segment.{Segment, summed}
 
 -- the option, and those behind it where they are well-formed
 abbrev pub with_first : HeaderOption → Option (List HeaderOption) → Option (List HeaderOption)
@@ -69,3 +71,17 @@ header_in octets =
     if nat_lt (length octets) 20 || nat_lt 65535 (length octets) then None
     else if nat_lt (header_len octets) 20 || nat_lt (length octets) (header_len octets) then None
     else Some (header_len octets)
+
+-- the segment with these options, if they are well-formed
+abbrev pub with_options : List ℕ → ℕ → Option (List HeaderOption) → Option Segment
+with_options octets header None = None
+with_options octets header (Some options) = Some (segment_with octets header options)
+
+-- the segment behind a header of this length, if there is one
+abbrev pub in_header : List ℕ → Option ℕ → Option Segment
+in_header octets None = None
+in_header octets (Some header) = with_options octets header (options_behind (take (header - 20) (drop 20 octets)) 0)
+
+-- the segment that octets from src for dst spell, if they do and their checksum is right
+abbrev pub segment_in : Addr → Addr → List ℕ → Option Segment
+segment_in src dst octets = if sum_of (summed src dst octets) == 65535 then in_header octets (header_in octets) else None

@@ -1,11 +1,12 @@
 //! Laws of the definitions that the contracts of this crate cite: each is the contract of a function
 //! that does nothing.
 
-ghost use Rattle.std.specs.Prelude.{◌≡◌, ℕ, ◌+◌, ◌-◌, ◌*◌, ◌<◌, ◌≤◌, ◌%◌, ◌^◌, ◌↔◌, pos, ◌-ℤ◌, List, length, Result, Ok};
+ghost use Rattle.std.specs.Prelude.{◌≡◌, ℕ, ◌+◌, ◌-◌, ◌*◌, ◌<◌, ◌≤◌, ◌%◌, ◌^◌, ◌↔◌, pos, ◌-ℤ◌, List, length, get_or, Option, Some, None, Result, Ok, Err};
 ghost use Rattle.ipv4.specs.declared.addr.Addr.{Addr};
 ghost use Rattle.tcp_segment.specs.declared.fault.SegmentFault.{SegmentFault};
 ghost use Rattle.tcp_segment.specs.declared.head.Head.{Head};
 ghost use Rattle.tcp_segment.specs.Segment.{Segment, IsParsed, Spells};
+ghost use Rattle.tcp_segment.specs.Reading.{segment_in};
 ghost use Rattle.tcp_segment.specs.Sent.{CanBeSent, sent, sent_offset, sent_octets};
 ghost use Rattle.tcp_segment.specs.Wire.{wire, past, difference, IsBefore, IsAtMost};
 
@@ -28,6 +29,12 @@ pub fn positions()
 pub fn one_answer()
     ensures { (src dst : Addr) (octets : List ℕ) (first second : Result Segment SegmentFault)
         → IsParsed src dst octets first → IsParsed src dst octets second → first ≡ second }
+{}
+
+/// The plain reading of octets from left to right finds the segment that `TcpView::parse` answers, and none where it answers a fault.
+pub fn read_plainly()
+    ensures ok { (src dst : Addr) (octets : List ℕ) (segment : Segment) → IsParsed src dst octets (Ok segment) → segment_in src dst octets ≡ Some segment }
+    ensures err { (src dst : Addr) (octets : List ℕ) (fault : SegmentFault) → ((i : ℕ) → get_or octets i 0 < 256) → IsParsed src dst octets (Err fault) → segment_in src dst octets ≡ None }
 {}
 
 /// What `Head::emit` writes spells the segment that is meant, and so parses to it.
