@@ -1,41 +1,55 @@
 -- What is foreseen of a delivery and of a connect is what comes of it.
-use Rattle.std.proofs.Common.{◌≡◌, ℕ, Bool, true, false, not, is_some, Option, Some, None, Result, Ok, Err, refl, sym, ap}
+use Rattle.std.proofs.Common.{◌≡◌, ℕ, Bool, true, false, not, ◌==◌, length, is_some, Option, Some, None, Result, Ok, Err, refl, sym}
 use Rattle.std.specs.List.{find, position}
 use Rattle.host.proofs.Firsts.{found_by_place}
 use Rattle.ipv4.specs.declared.addr.Endpoint.{Endpoint}
-use Rattle.ipv4.specs.declared.addr.Pair.{Pair}
-use Rattle.ipv4.specs.Addresses.{pair_of}
+use Rattle.tcp_segment.specs.declared.head.Head.{Head}
 use Rattle.tcp_segment.specs.Segment.{Segment}
+use Rattle.tcp_state.specs.declared.moment.Moment.{Moment}
+use Rattle.tcp_state.specs.declared.connection.Fate.{Fate}
+use Rattle.tcp_state.specs.declared.connection.Fate.TheVariants.{Stays, Removed, Refused}
 use Rattle.host.specs.declared.entry.SocketId.{SocketId}
 use Rattle.host.specs.declared.entry.Entry.{Entry}
 use Rattle.host.specs.declared.entry.Role.{Role}
 use Rattle.host.specs.declared.refusal.Refusal.{Refusal}
-use Rattle.host.specs.declared.refusal.Refusal.TheVariants.{EADDRINUSE}
 use Rattle.host.specs.HostView.{HostView, role_of}
-use Rattle.host.specs.Entries.{is_between, is_listening_at}
-use Rattle.host.specs.Dispatch.{local_end, peer_end, is_opening, has_no_place, arrival, opened_by, pair_opened}
+use Rattle.host.specs.Entries.{is_between, is_listening_at, fate_of}
+use Rattle.host.specs.Dispatch.{local_end, peer_end, is_opening, has_no_place, answered, arrival, opened_by, pair_opened}
+use Rattle.host.specs.Replies.{reset_at_ack, answer_to, answer_at_listener}
 use Rattle.host.specs.Calls.{open_answer, reach_refusal, port_for, connect_refusal, pair_connected}
 
-pub opening_foreseen : (h : HostView) (isn : ℕ) (s : Segment) → pair_opened h s ≡ opened_by h s (arrival h isn s)
-opening_foreseen h isn s = by_entry (find (is_between (local_end h s) (peer_end h s)) h.entries) refl
+-- an answer opens nothing, whether there is room for it or not
+answer-opens_nothing : (h : HostView) (s : Segment) (o : Option Head) → None ≡ opened_by h s (answered h o)
+answer-opens_nothing h s None = refl
+answer-opens_nothing h s (Some reply) = by_room (length h.replies == 16) refl
+  where
+    by_room : (full : Bool) → (length h.replies == 16) ≡ full → None ≡ opened_by h s (answered h (Some reply))
+    by_room true full = rw full
+    by_room false full = rw full
+
+pub opening_foreseen : (h : HostView) (now : Moment) (isn : ℕ) (s : Segment) → pair_opened h s ≡ opened_by h s (arrival h now isn s)
+opening_foreseen h now isn s = by_entry (find (is_between (local_end h s) (peer_end h s)) h.entries) refl
   where
     by_place : (listener : Entry) → find (is_between (local_end h s) (peer_end h s)) h.entries ≡ None → is_opening s.flags ≡ true → find (is_listening_at s.destination) h.entries ≡ Some listener
-        → (full : Bool) → has_no_place h listener ≡ full → pair_opened h s ≡ opened_by h s (arrival h isn s)
-    by_place listener none opens found true full = rw (none, opens, found, full)
-    by_place listener none opens found false full = rw (none, opens, found, full)
+        → (full : Bool) → has_no_place h listener ≡ full → pair_opened h s ≡ opened_by h s (arrival h now isn s)
+    by_place listener none opens found true full = rw (none, found, opens, full)
+    by_place listener none opens found false full = rw (none, found, opens, full)
 
-    by_listener : find (is_between (local_end h s) (peer_end h s)) h.entries ≡ None → is_opening s.flags ≡ true
-        → (o : Option Entry) → find (is_listening_at s.destination) h.entries ≡ o → pair_opened h s ≡ opened_by h s (arrival h isn s)
-    by_listener none opens None found = rw (none, opens, found)
-    by_listener none opens (Some listener) found = by_place listener none opens found (has_no_place h listener) refl
+    by_listener : find (is_between (local_end h s) (peer_end h s)) h.entries ≡ None → (b : Bool) → is_opening s.flags ≡ b
+        → (o : Option Entry) → find (is_listening_at s.destination) h.entries ≡ o → pair_opened h s ≡ opened_by h s (arrival h now isn s)
+    by_listener none true opens None found = rw (none, found, opens) (answer-opens_nothing h s (answer_to s))
+    by_listener none true opens (Some listener) found = by_place listener none opens found (has_no_place h listener) refl
+    by_listener none false opens None found = rw (none, found, opens) (answer-opens_nothing h s (answer_to s))
+    by_listener none false opens (Some listener) found = rw (none, found, opens) (answer-opens_nothing h s (answer_at_listener s))
 
-    by_flags : find (is_between (local_end h s) (peer_end h s)) h.entries ≡ None → (b : Bool) → is_opening s.flags ≡ b → pair_opened h s ≡ opened_by h s (arrival h isn s)
-    by_flags none false opens = rw (none, opens)
-    by_flags none true opens = by_listener none opens (find (is_listening_at s.destination) h.entries) refl
+    by_fate : (e : Entry) → find (is_between (local_end h s) (peer_end h s)) h.entries ≡ Some e → (r : Fate) → fate_of s e.role ≡ r → pair_opened h s ≡ opened_by h s (arrival h now isn s)
+    by_fate e found Stays is = rw (found, is)
+    by_fate e found Removed is = rw (found, is)
+    by_fate e found Refused is = rw (found, is) (answer-opens_nothing h s (Some (reset_at_ack s)))
 
-    by_entry : (o : Option Entry) → find (is_between (local_end h s) (peer_end h s)) h.entries ≡ o → pair_opened h s ≡ opened_by h s (arrival h isn s)
-    by_entry (Some e) found = rw found
-    by_entry None found = by_flags found (is_opening s.flags) refl
+    by_entry : (o : Option Entry) → find (is_between (local_end h s) (peer_end h s)) h.entries ≡ o → pair_opened h s ≡ opened_by h s (arrival h now isn s)
+    by_entry (Some e) found = by_fate e found (fate_of s e.role) refl
+    by_entry None found = by_listener found (is_opening s.flags) refl (find (is_listening_at s.destination) h.entries) refl
 
 pub connect_foreseen : (h : HostView) (id : SocketId) (peer : Endpoint) → is_some (pair_connected h id peer) ≡ not (is_some (connect_refusal h id peer))
 connect_foreseen h id peer = by_role (role_of h id) refl

@@ -3,6 +3,11 @@ pub mod Written
 pub mod Refused
 pub mod Turns
 pub mod Connected
-pub mod Fronts
 pub mod Arrived
 pub mod Foreseen
+pub mod Emitted
+pub mod Closed
+pub mod Retained
+pub mod Followed
+pub mod Caused
+pub mod Over

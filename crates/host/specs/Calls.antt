@@ -20,7 +20,7 @@ use Rattle.host.specs.declared.refusal.Refusal.{Refusal}
 use Rattle.host.specs.declared.refusal.Refusal.TheVariants.{EBADF, EINVAL, EADDRINUSE, EADDRNOTAVAIL, EISCONN, ENOTCONN, EALREADY, EAGAIN, ENETUNREACH, EOPNOTSUPP, ECONNREFUSED, ECONNRESET, EPIPE, EDESTADDRREQ}
 use Rattle.host.specs.Endpoints.{same_addr, is_single_host}
 use Rattle.host.specs.Ports.{first_port, is_free_port}
-use Rattle.host.specs.Entries.{has_port, is_between, is_offered_at, offered_peer, shown_state, new_socket, bound_to, listening, connecting, accepted, sent, received, write_shut, with_role}
+use Rattle.host.specs.Entries.{is_socket, has_port, is_between, is_offered_at, offered_peer, shown_state, new_socket, bound_to, listening, connecting, accepted, sent, received, write_shut, closed, close_fate_of, forsaken, forsaken_fate, settled, all_settled, with_role}
 use Rattle.host.specs.HostView.{HostView, role_of, with_socket}
 use Rattle.host.specs.Lists.{change_first}
 
@@ -188,6 +188,25 @@ shutdown_refusal h id = of_role (role_of h id)
 
 abbrev pub after_shutdown : HostView → SocketId → HostView
 after_shutdown h id = with_socket h id write_shut
+
+-- close is refused only where the id names no socket
+abbrev pub close_refusal : HostView → SocketId → Option Refusal
+close_refusal h id = if is_some (role_of h id) then None else Some EBADF
+
+-- The socket is gone. Nothing is left of one without a connection; a connection goes on without a socket, or is aborted, or is gone,
+-- as its own rules say (RFC 9293 section 3.10.4).
+abbrev pub after_socket_closed : HostView → SocketId → HostView
+after_socket_closed h id = of_role (role_of h id)
+  where
+    of_role : Option Role → HostView
+    of_role None = h
+    of_role (Some role) = record h { entries = settled (close_fate_of role) (is_socket id) (closed h.kept) h.entries }
+
+-- and each connection that waits at it, where it listens, is aborted
+abbrev pub after_close : HostView → SocketId → HostView
+after_close h id =
+    let closed_socket = after_socket_closed h id in
+    record closed_socket { entries = all_settled (forsaken_fate id) (forsaken id) closed_socket.entries }
 
 -- a connection from our port to the peer is in the table, in any state but CLOSED
 abbrev pub is_pair_held : HostView → ℕ → Endpoint → Bool

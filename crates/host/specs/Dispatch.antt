@@ -1,22 +1,24 @@
 -- What a frame that arrives makes of a host (RFC 9293 section 3.10.7).
-use Rattle.std.specs.Prelude.{◌≡◌, ℕ, ◌+◌, Bool, ◌&&◌, ◌||◌, not, nat_le, if◌then◌else◌, List, [], ◌∷◌, ◌++◌, count_by, Option, Some, None, find, Result, Ok, Err, MatchResult}
+use Rattle.std.specs.Prelude.{◌≡◌, ℕ, ◌+◌, Bool, ◌&&◌, ◌||◌, not, nat_le, ◌==◌, if◌then◌else◌, List, [], ◌∷◌, ◌++◌, length, count_by, Option, Some, None, find, Result, Ok, Err, MatchResult}
 use Rattle.ipv4.specs.declared.addr.Endpoint.{Endpoint}
 use Rattle.ipv4.specs.declared.addr.Pair.{Pair}
 use Rattle.ipv4.specs.Addresses.{pair_of}
 use Rattle.tcp_segment.specs.declared.flags.Flags.{Flags}
+use Rattle.tcp_segment.specs.declared.head.Head.{Head}
 use Rattle.tcp_segment.specs.declared.fault.SegmentFault.{SegmentFault}
 use Rattle.tcp_segment.specs.declared.fault.SegmentFault.TheVariants as fault
 use Rattle.tcp_segment.specs.Segment.{Segment, IsParsed}
 use Rattle.tcp_state.specs.declared.connection.Fate.{Fate}
-use Rattle.tcp_state.specs.declared.connection.Fate.TheVariants.{Stays, Removed}
+use Rattle.tcp_state.specs.declared.connection.Fate.TheVariants.{Refused}
+use Rattle.tcp_state.specs.declared.moment.Moment.{Moment}
 use Rattle.tcp_state.specs.Arrival.{opened_passively}
 use Rattle.host.specs.declared.entry.Entry.{Entry}
 use Rattle.host.specs.declared.refusal.DropCause.{DropCause}
 use Rattle.host.specs.declared.refusal.DropCause.TheVariants.{UpperHeader, UpperSum, NoRoom}
-use Rattle.host.specs.Entries.{is_between, is_listening_at, is_waiting_at, backlog_of, arrived, fate_of, new_waiting, with_role}
-use Rattle.host.specs.HostView.{HostView}
+use Rattle.host.specs.Entries.{is_between, is_listening_at, is_waiting_at, backlog_of, arrived, fate_of, new_waiting, settled}
+use Rattle.host.specs.HostView.{HostView, later}
+use Rattle.host.specs.Replies.{reset_at_ack, answer_to, answer_at_listener}
 use Rattle.host.specs.Calls.{is_table_full}
-use Rattle.host.specs.Lists.{change_first, remove_first}
 
 -- our end and the neighbour's of a segment that arrived
 abbrev pub local_end : HostView → Segment → Endpoint
@@ -24,11 +26,6 @@ local_end h s = record { addr = h.addr; port = s.destination }
 
 abbrev pub peer_end : HostView → Segment → Endpoint
 peer_end h s = record { addr = h.neighbour; port = s.source }
-
--- the entry of a connection after a segment for it: it may be gone
-abbrev pub settled : Fate → (Entry → Bool) → Segment → List Entry → List Entry
-settled Stays test s entries = change_first test (with_role (arrived s)) entries
-settled Removed test s entries = remove_first test entries
 
 -- a segment with SYN and neither RST nor ACK opens a connection at a listener
 abbrev pub is_opening : Flags → Bool
@@ -51,21 +48,39 @@ pub data Arrival : Type 0 where
   Opens : HostView → Arrival
   NoPlace : Arrival
 
--- a segment that opens a connection, at the listener of its destination port
-abbrev pub opening : HostView → ℕ → Segment → Arrival
-opening h isn s = of_listener (find (is_listening_at s.destination) h.entries)
+-- the reply joins those that wait, where fewer than 16 do; nothing changes where there is none
+abbrev pub answered : HostView → Option Head → Arrival
+answered h None = Becomes h
+answered h (Some reply) = if length h.replies == 16 then NoPlace else Becomes (record h { replies = h.replies ++ reply ∷ [] })
+
+-- a segment that opens a connection at this listener
+abbrev pub opening : HostView → ℕ → Segment → Entry → Arrival
+opening h isn s listener = if has_no_place h listener then NoPlace else Opens (after_opening h isn listener s)
+
+-- a segment for a listener and no connection (section 3.10.7.2): it opens one, or is answered, or changes nothing
+abbrev pub arrival_at : HostView → ℕ → Segment → Entry → Arrival
+arrival_at h isn s listener = if is_opening s.flags then opening h isn s listener else answered h (answer_at_listener s)
+
+-- a segment for no connection goes to the listener of its destination port, and is answered where there is none
+abbrev pub arrival_alone : HostView → ℕ → Segment → Arrival
+arrival_alone h isn s = of_listener (find (is_listening_at s.destination) h.entries)
   where
     of_listener : Option Entry → Arrival
-    of_listener None = Becomes h
-    of_listener (Some listener) = if has_no_place h listener then NoPlace else Opens (after_opening h isn listener s)
+    of_listener None = answered h (answer_to s)
+    of_listener (Some listener) = arrival_at h isn s listener
 
--- a segment goes to the connection of its two ends; else it may open one; every other one changes nothing
-abbrev pub arrival : HostView → ℕ → Segment → Arrival
-arrival h isn s = of_entry (find (is_between (local_end h s) (peer_end h s)) h.entries)
+-- a segment for a connection: it takes it, at the later of the moment and the kept one, or refuses it, which is answered by a reset
+abbrev pub arrival_at_connection : HostView → Moment → Segment → Fate → Arrival
+arrival_at_connection h now s Refused = answered h (Some (reset_at_ack s))
+arrival_at_connection h now s fate = Becomes (record h { entries = settled fate (is_between (local_end h s) (peer_end h s)) (arrived (later h now) s) h.entries })
+
+-- a segment goes to the connection of its two ends, in any state but CLOSED
+abbrev pub arrival : HostView → Moment → ℕ → Segment → Arrival
+arrival h now isn s = of_entry (find (is_between (local_end h s) (peer_end h s)) h.entries)
   where
     of_entry : Option Entry → Arrival
-    of_entry (Some e) = Becomes (record h { entries = settled (fate_of s e.role) (is_between (local_end h s) (peer_end h s)) s h.entries })
-    of_entry None = if is_opening s.flags then opening h isn s else Becomes h
+    of_entry (Some e) = arrival_at_connection h now s (fate_of s e.role)
+    of_entry None = arrival_alone h isn s
 
 -- the pair that a segment leads to the opening of
 abbrev pub opened_by : HostView → Segment → Arrival → Option Pair
@@ -108,12 +123,12 @@ cause_of fault.UpperHeader = UpperHeader
 cause_of fault.UpperSum = UpperSum
 
 -- a frame: the octets of a segment from the neighbour to us, or dropped by their first fault, and then nothing changes
-abbrev pub MeetsParsed : Result Segment SegmentFault → HostView → ℕ → Result (Unit {0}) DropCause → HostView → Type 0
-MeetsParsed (Ok s) h isn answer new = Meets (arrival h isn s) h answer new
-MeetsParsed (Err f) h isn answer new = (answer ≡ Err (cause_of f)) × (new ≡ h)
+abbrev pub MeetsParsed : Result Segment SegmentFault → HostView → Moment → ℕ → Result (Unit {0}) DropCause → HostView → Type 0
+MeetsParsed (Ok s) h now isn answer new = Meets (arrival h now isn s) h answer new
+MeetsParsed (Err f) h now isn answer new = (answer ≡ Err (cause_of f)) × (new ≡ h)
 
-abbrev pub IsDelivered : HostView → ℕ → List ℕ → Result (Unit {0}) DropCause → HostView → Type 0
-IsDelivered h isn octets answer new = (parsed : Result Segment SegmentFault) × IsParsed h.neighbour h.addr octets parsed × MeetsParsed parsed h isn answer new
+abbrev pub IsDelivered : HostView → Moment → ℕ → List ℕ → Result (Unit {0}) DropCause → HostView → Type 0
+IsDelivered h now isn octets answer new = (parsed : Result Segment SegmentFault) × IsParsed h.neighbour h.addr octets parsed × MeetsParsed parsed h now isn answer new
 
 -- the number of a cause among all that a host may name
 abbrev pub number_of : DropCause → ℕ

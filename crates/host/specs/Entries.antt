@@ -1,16 +1,17 @@
--- The entries of a host's table: sockets, and connections that nobody has accepted yet.
+-- The entries of a host's table: sockets, and connections that no socket names, not yet or no longer.
+use Rattle.std.specs.List.{retain_mut}
 use Rattle.std.specs.Prelude.{ℕ, Bool, true, false, ◌&&◌, ◌||◌, not, ◌==◌, [], if◌then◌else◌, List, ◌++◌, drop, Option, Some, None, option_map, is_some}
 use Rattle.ipv4.specs.declared.addr.Endpoint.{Endpoint}
 use Rattle.ipv4.specs.declared.addr.Pair.{Pair}
 use Rattle.tcp_state.specs.declared.state.State.{State}
 use Rattle.tcp_state.specs.declared.state.State.TheVariants.{Closed, Listen}
 use Rattle.tcp_state.specs.declared.moment.Moment.{Moment}
-use Rattle.tcp_state.specs.View.{View, is_opening, is_closed, is_syn_received, opened_actively, after_tick, deadline}
+use Rattle.tcp_state.specs.View.{View, is_opening, is_closed, is_syn_received, is_over, opened_actively, after_tick, tick_fate, deadline}
 use Rattle.tcp_segment.specs.Segment.{Segment}
 use Rattle.tcp_state.specs.declared.connection.Fate.{Fate}
-use Rattle.tcp_state.specs.declared.connection.Fate.TheVariants.{Stays}
-use Rattle.tcp_state.specs.Arrival.{after_segment, fate}
-use Rattle.tcp_state.specs.Calls.{after_send, after_recv, after_shutdown}
+use Rattle.tcp_state.specs.declared.connection.Fate.TheVariants.{Stays, Removed, Refused}
+use Rattle.tcp_state.specs.Arrival.{after_segment_at, fate}
+use Rattle.tcp_state.specs.Calls.{after_send, after_recv, after_shutdown, after_close, close_fate, after_abort, abort_fate}
 use Rattle.tcp_state.specs.declared.emission.Due.{Due}
 use Rattle.tcp_state.specs.Due.{first_due, after_emitted, emitted_len, emitted}
 use Rattle.tcp_state.specs.declared.buffers.Buffers.{Buffers}
@@ -19,6 +20,7 @@ use Rattle.host.specs.declared.entry.Entry.{Entry}
 use Rattle.host.specs.declared.entry.Role.{Role}
 use Rattle.host.specs.declared.entry.Role.TheVariants.{Idle, Listener, Connected}
 use Rattle.host.specs.Endpoints.{same_end}
+use Rattle.host.specs.Lists.{change_first, remove_first}
 
 -- a connection that nobody has accepted yet
 abbrev pub is_pending : Role → Bool
@@ -27,9 +29,19 @@ is_pending (Connected connection None) = false
 is_pending (Listener local backlog) = false
 is_pending (Idle buffers bound) = false
 
--- the socket that the id names; a connection that is not accepted is no socket
+-- a connection that its caller closed
+abbrev pub is_left : Role → Bool
+is_left (Connected connection listener) = connection.released
+is_left (Listener local backlog) = false
+is_left (Idle buffers bound) = false
+
+-- a connection is no socket while it is not accepted, and once its caller closed it
+abbrev pub has_socket : Role → Bool
+has_socket role = not (is_pending role || is_left role)
+
+-- the socket that the id names
 abbrev pub is_socket : SocketId → Entry → Bool
-is_socket id e = (e.id.0 == id.0) && not (is_pending e.role)
+is_socket id e = (e.id.0 == id.0) && has_socket e.role
 
 -- a connection from a local to a foreign endpoint, in any state but CLOSED
 abbrev pub is_live_between : Endpoint → Endpoint → Role → Bool
@@ -104,9 +116,9 @@ is_of_pair pair e = joins pair e.role
 abbrev pub has_port : ℕ → Entry → Bool
 has_port port e = uses_port port e.role
 
--- bound to this port as a socket; a connection that is not accepted is no socket
+-- bound to this port as a socket
 abbrev pub is_bound_at : ℕ → Entry → Bool
-is_bound_at port e = not (is_pending e.role) && uses_port port e.role
+is_bound_at port e = has_socket e.role && uses_port port e.role
 
 abbrev pub is_waiting_at : SocketId → Entry → Bool
 is_waiting_at id e = waits_at id e.role
@@ -154,11 +166,17 @@ ticked now (Connected c listener) = Connected (after_tick c now) listener
 ticked now (Listener l b) = Listener l b
 ticked now (Idle buffers bound) = Idle buffers bound
 
+-- what a tick makes of the entry's place
+abbrev pub tick_fate_of : Moment → Role → Fate
+tick_fate_of now (Connected c listener) = tick_fate c now
+tick_fate_of now (Listener l b) = Stays
+tick_fate_of now (Idle buffers bound) = Stays
+
 -- a segment arrives at the entry's connection
-abbrev pub arrived : Segment → Role → Role
-arrived s (Connected c listener) = Connected (after_segment c s) listener
-arrived s (Listener l b) = Listener l b
-arrived s (Idle buffers bound) = Idle buffers bound
+abbrev pub arrived : Moment → Segment → Role → Role
+arrived now s (Connected c listener) = Connected (after_segment_at c s now) listener
+arrived now s (Listener l b) = Listener l b
+arrived now s (Idle buffers bound) = Idle buffers bound
 
 -- what the segment makes of the entry's place
 abbrev pub fate_of : Segment → Role → Fate
@@ -194,6 +212,44 @@ emitted_at now (Connected c listener) = Connected (of_due (first_due c)) listene
 emitted_at now (Listener l b) = Listener l b
 emitted_at now (Idle buffers bound) = Idle buffers bound
 
+-- what that makes of the entry's place: an abort is over once its reset has gone out
+abbrev pub emitted_fate : Role → Fate
+emitted_fate (Connected c listener) = if is_over c then Removed else Stays
+emitted_fate (Listener l b) = Stays
+emitted_fate (Idle buffers bound) = Stays
+
+-- the caller closes the entry's connection
+abbrev pub closed : Moment → Role → Role
+closed now (Connected c listener) = Connected (after_close c now) listener
+closed now (Listener l b) = Listener l b
+closed now (Idle buffers bound) = Idle buffers bound
+
+-- what closing makes of the entry's place: nothing is left of a socket without a connection
+abbrev pub close_fate_of : Role → Fate
+close_fate_of (Connected c listener) = close_fate c
+close_fate_of (Listener l b) = Removed
+close_fate_of (Idle buffers bound) = Removed
+
+-- the entry's connection is aborted
+abbrev pub aborted : Role → Role
+aborted (Connected c listener) = Connected (after_abort c) listener
+aborted (Listener l b) = Listener l b
+aborted (Idle buffers bound) = Idle buffers bound
+
+-- what that makes of the entry's place
+abbrev pub abort_fate_of : Role → Fate
+abort_fate_of (Connected c listener) = abort_fate c
+abort_fate_of (Listener l b) = Stays
+abort_fate_of (Idle buffers bound) = Stays
+
+-- a listener is closed: a connection that waits at it is aborted
+abbrev pub forsaken : SocketId → Role → Role
+forsaken id role = if waits_at id role then aborted role else role
+
+-- what that makes of the entry's place
+abbrev pub forsaken_fate : SocketId → Role → Fate
+forsaken_fate id role = if waits_at id role then abort_fate_of role else Stays
+
 -- its length in octets
 abbrev pub due_len : Role → Option ℕ
 due_len (Connected c listener) = option_map (emitted_len c) (first_due c)
@@ -223,3 +279,18 @@ framed (Idle buffers bound) out = out
 -- the entry with its role changed
 abbrev pub with_role : (Role → Role) → Entry → Entry
 with_role change e = record e { role = change e.role }
+
+-- Steps of the table: what becomes of an entry's place goes with what becomes of its role.
+
+abbrev pub is_kept : Fate → Bool
+is_kept Removed = false
+is_kept Stays = true
+is_kept Refused = true
+
+-- the first entry that passes the test takes a step: its role changes, or it is taken out
+abbrev pub settled : Fate → (Entry → Bool) → (Role → Role) → List Entry → List Entry
+settled fate test change entries = if is_kept fate then change_first test (with_role change) entries else remove_first test entries
+
+-- each entry takes a step: those whose connection is gone are taken out, and the others keep their order
+abbrev pub all_settled : (Role → Fate) → (Role → Role) → List Entry → List Entry
+all_settled fate change entries = retain_mut (λ e. is_kept (fate e.role)) (with_role change) entries

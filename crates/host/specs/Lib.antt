@@ -1,5 +1,6 @@
 pub mod Lists
 pub mod Endpoints
+pub mod Replies
 pub mod Entries
 pub mod HostView
 pub mod Ports
@@ -7,3 +8,4 @@ pub mod Calls
 pub mod Dispatch
 pub mod Pairs
 pub mod Sound
+pub mod Causes

@@ -1,8 +1,11 @@
--- What every connection in a host's table keeps of itself.
-use Rattle.std.specs.Prelude.{◌≡◌, ◌<◌, ◌^◌, length}
+-- What every connection in a host's table, and every reply that waits, keeps of itself, and that no connection stays that is over.
+use Rattle.std.specs.Prelude.{Bool, ◌≡◌, ◌<◌, ◌^◌, true, false, [], length}
 use Rattle.std.specs.List.{AllByRecursion}
+use Rattle.ipv4.specs.declared.addr.Addr.{Addr}
 use Rattle.ipv4.specs.declared.addr.Endpoint.{Endpoint}
-use Rattle.tcp_state.specs.View.{View, IsSound}
+use Rattle.tcp_segment.specs.declared.head.Head.{Head}
+use Rattle.tcp_segment.specs.Sent.{CanBeSent}
+use Rattle.tcp_state.specs.View.{View, IsSound, is_over}
 use Rattle.host.specs.declared.entry.Entry.{Entry}
 use Rattle.host.specs.declared.entry.Role.{Role}
 use Rattle.host.specs.declared.entry.Role.TheVariants.{Idle, Listener, Connected}
@@ -24,5 +27,21 @@ IsSoundRole (Connected c listener) = IsSoundConnection c
 IsSoundRole (Listener local backlog) = Unit {0}
 IsSoundRole (Idle buffers bound) = Unit {0}
 
-abbrev pub IsSoundHost : HostView → Type 0
-IsSoundHost h = AllByRecursion (λ (e : Entry). IsSoundRole e.role) h.entries
+-- what every reply keeps of itself: it can be sent, and is a reset
+pub record IsSoundReply (src dst : Addr) (reply : Head) : Type 0 where
+  pub sendable : CanBeSent src dst reply []
+  pub reset : reply.flags.rst ≡ true
+
+pub record IsSoundHost (h : HostView) : Type 0 where
+  pub entries : AllByRecursion (λ (e : Entry). IsSoundRole e.role) h.entries
+  pub replies : AllByRecursion (IsSoundReply h.addr h.neighbour) h.replies
+
+-- a connection of which nothing is left: its caller closed it, it is CLOSED and owes no reset
+abbrev pub is_over_in : Role → Bool
+is_over_in (Connected c listener) = is_over c
+is_over_in (Listener local backlog) = false
+is_over_in (Idle buffers bound) = false
+
+-- no entry of the table is over
+abbrev pub NoneIsOver : HostView → Type 0
+NoneIsOver h = AllByRecursion (λ (e : Entry). is_over_in e.role ≡ false) h.entries

@@ -294,7 +294,7 @@ impl Host {
 
     /// The place of the socket `id`; EBADF where there is none.
     #[tactic(auto, using(crate::proofs::Firsts::firsts))]
-    fn socket_place(&self, id: SocketId) -> Result<usize, Refusal>
+    pub(crate) fn socket_place(&self, id: SocketId) -> Result<usize, Refusal>
         ensures absent { IfErr result (λ e. (e ≡ Refusal.EBADF) × (find (is_socket id) self.now.entries ≡ None)) }
         ensures place { IfOk result (λ place. position (is_socket id) self.now.entries ≡ Some place) }
     {

@@ -1,7 +1,7 @@
 //! An entry of a host's table: a socket, or a connection that nobody has accepted yet.
 
 ghost use Rattle.std.specs.Prelude.{◌≡◌, ◌≤◌, ◌<◌, length, IfSome};
-ghost use Rattle.host.specs.Entries.{is_pending, is_socket, is_live_between, joins, uses_port, waits_at, offered_peer, shown_state, deadline_of, has_due, bound_to, listening, connecting, accepted, ticked, with_role};
+ghost use Rattle.host.specs.Entries.{is_kept, is_pending, is_left, has_socket, is_socket, is_live_between, joins, uses_port, waits_at, offered_peer, shown_state, deadline_of, has_due, bound_to, listening, connecting, accepted, ticked, with_role};
 
 use crate::Refusal;
 use ipv4::{Addr, Endpoint, Pair};
@@ -100,6 +100,13 @@ impl Role {
     }
 }
 
+/// Whether an entry keeps its place.
+pub(crate) fn is_kept(fate: Fate) -> bool
+    ensures { result ≡ is_kept fate }
+{
+    fate != Fate::Removed
+}
+
 /// A place of the table.
 #[derive(Drop)]
 pub(crate) struct Entry {
@@ -118,7 +125,7 @@ impl Default for Entry {
 }
 
 impl Entry {
-    ghost use Rattle.host.specs.Entries.{new_socket, new_waiting, sent, received, emitted_at, due_len, framed, arrived, fate_of, listens_at, backlog_of, write_shut};
+    ghost use Rattle.host.specs.Entries.{new_socket, new_waiting, sent, received, emitted_at, emitted_fate, due_len, framed, arrived, fate_of, tick_fate_of, closed, close_fate_of, aborted, abort_fate_of, forsaken, forsaken_fate, listens_at, backlog_of, write_shut};
     ghost use Rattle.host.specs.Calls.{sent_answer, received_answer, read_front};
     ghost use Rattle.host.specs.Pairs.{pair_in};
     ghost use Rattle.host.specs.Sound.{IsSoundRole};
@@ -174,12 +181,46 @@ impl Entry {
     }
 
     /// Hands a segment to the connection, and answers what becomes of the entry.
-    pub(crate) fn segment(&mut self, segment: &TcpView<'_>) -> Fate
+    pub(crate) fn segment(&mut self, now: Moment, segment: &TcpView<'_>) -> Fate
         ensures fate { result ≡ fate_of segment.now self.old.role }
-        ensures after { self.new ≡ with_role (arrived segment.now) self.old }
+        ensures after { self.new ≡ with_role (arrived now segment.now) self.old }
     {
         match &mut self.role {
-            Role::Connected { connection, .. } => connection.segment(segment),
+            Role::Connected { connection, .. } => connection.segment(now, segment),
+            _ => Fate::Stays,
+        }
+    }
+
+    /// The caller closes the socket. Answers what becomes of the entry: nothing is left of a socket without a connection.
+    pub(crate) fn close(&mut self, now: Moment) -> Fate
+        ensures fate { result ≡ close_fate_of self.old.role }
+        ensures after { self.new ≡ with_role (closed now) self.old }
+    {
+        match &mut self.role {
+            Role::Connected { connection, .. } => connection.close(now),
+            _ => Fate::Removed,
+        }
+    }
+
+    /// The listener `id` is closed: a connection that waits at it is aborted. Answers whether the entry keeps its place.
+    pub(crate) fn forsake(&mut self, id: SocketId) -> bool
+        ensures kept { result ≡ is_kept (forsaken_fate id self.old.role) }
+        ensures after { self.new ≡ with_role (forsaken id) self.old }
+    {
+        if self.waits_at(id) {
+            is_kept(self.abort())
+        } else {
+            true
+        }
+    }
+
+    /// Aborts the connection, and answers what becomes of the entry.
+    fn abort(&mut self) -> Fate
+        ensures fate { result ≡ abort_fate_of self.old.role }
+        ensures after { self.new ≡ with_role aborted self.old }
+    {
+        match &mut self.role {
+            Role::Connected { connection, .. } => connection.abort(),
             _ => Fate::Stays,
         }
     }
@@ -225,15 +266,32 @@ impl Entry {
         }
     }
 
-    /// Whether this is the socket that `id` names; a connection that is not accepted is no socket.
+    /// Whether this is the socket that `id` names.
     pub(crate) fn is_socket(&self, id: SocketId) -> bool
         ensures { result ≡ is_socket id self.now }
     {
-        self.id == id && !self.is_pending()
+        self.id == id && self.has_socket()
+    }
+
+    /// Whether this is a socket: a connection is none while it is not accepted, and once its caller closed it.
+    pub(crate) fn has_socket(&self) -> bool
+        ensures { result ≡ has_socket self.now.role }
+    {
+        !(self.is_pending() || self.is_left())
+    }
+
+    /// Whether this is a connection that its caller closed.
+    fn is_left(&self) -> bool
+        ensures { result ≡ is_left self.now.role }
+    {
+        match &self.role {
+            Role::Connected { connection, .. } => connection.is_released(),
+            _ => false,
+        }
     }
 
     /// Whether this is a connection that is not accepted.
-    pub(crate) fn is_pending(&self) -> bool
+    fn is_pending(&self) -> bool
         ensures { result ≡ is_pending self.now.role }
     {
         matches!(
@@ -374,12 +432,14 @@ impl Entry {
         }
     }
 
-    /// Lets the timers whose moment has come act.
-    pub(crate) fn tick(&mut self, now: Moment)
-        ensures { self.new ≡ with_role (ticked now) self.old }
+    /// Lets the timers whose moment has come act, and answers whether the entry keeps its place.
+    pub(crate) fn tick(&mut self, now: Moment) -> bool
+        ensures kept { result ≡ is_kept (tick_fate_of now self.old.role) }
+        ensures after { self.new ≡ with_role (ticked now) self.old }
     {
-        if let Role::Connected { connection, .. } = &mut self.role {
-            connection.tick(now);
+        match &mut self.role {
+            Role::Connected { connection, .. } => is_kept(connection.tick(now)),
+            _ => true,
         }
     }
 
@@ -403,6 +463,16 @@ impl Entry {
         match &mut self.role {
             Role::Connected { connection, .. } => connection.emit(now, out),
             _ => None,
+        }
+    }
+
+    /// What becomes of the entry once its segment went out: an abort is over then.
+    pub(crate) fn emitted_fate(&self) -> Fate
+        ensures { result ≡ emitted_fate self.now.role }
+    {
+        match &self.role {
+            Role::Connected { connection, .. } if connection.is_over() => Fate::Removed,
+            _ => Fate::Stays,
         }
     }
 }

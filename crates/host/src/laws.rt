@@ -4,17 +4,32 @@ ghost use Rattle.std.specs.Prelude.{◌≡◌, ℕ, not, Some, is_some};
 ghost use Rattle.ipv4.specs.declared.addr.Endpoint.{Endpoint};
 ghost use Rattle.ipv4.specs.declared.addr.Pair.{Pair};
 ghost use Rattle.tcp_segment.specs.Segment.{Segment};
+ghost use Rattle.tcp_state.specs.declared.moment.Moment.{Moment};
 ghost use Rattle.host.specs.declared.entry.SocketId.{SocketId};
 ghost use Rattle.host.specs.HostView.{HostView};
 ghost use Rattle.host.specs.Dispatch.{arrival, opened_by, pair_opened};
 ghost use Rattle.host.specs.Calls.{connect_refusal, pair_connected};
+ghost use Rattle.host.specs.Sound.{IsSoundHost, NoneIsOver};
+ghost use Rattle.host.specs.Causes.{Event, after_event, IsStep, Follows};
 
-/// What `would_open` foresees of a segment is the pair that its delivery leads to the opening of, whatever the initial number.
+/// What `would_open` foresees of a segment is the pair that its delivery leads to the opening of, whatever the moment and the initial number.
 pub fn openings_are_foreseen()
-    ensures { (h : HostView) (isn : ℕ) (s : Segment) → pair_opened h s ≡ opened_by h s (arrival h isn s) }
+    ensures { (h : HostView) (now : Moment) (isn : ℕ) (s : Segment) → pair_opened h s ≡ opened_by h s (arrival h now isn s) }
 {}
 
 /// `would_connect` foresees a pair exactly where `connect` is not refused.
 pub fn connects_are_foreseen()
     ensures { (h : HostView) (id : SocketId) (peer : Endpoint) → is_some (pair_connected h id peer) ≡ not (is_some (connect_refusal h id peer)) }
+{}
+
+/// The state of an entry stays, or goes along an edge of the table of states. An entry becomes CLOSED, or is taken out of the table, only
+/// by a cause: its close or that of the listener that it waits at, or an event of its connection that ends it. Every other one keeps its
+/// place. An error that its connection tells was told before, or a reset tells it in a state that has it.
+pub fn ends_have_causes()
+    ensures { (h : HostView) (e : Event) → IsSoundHost h → Follows (IsStep h e) h.entries (let after = after_event h e in after.entries) }
+{}
+
+/// What is over is taken out at once: no event leaves a connection in the table that its caller closed, that is CLOSED and owes no reset.
+pub fn nothing_over_stays()
+    ensures { (h : HostView) (e : Event) → NoneIsOver h → NoneIsOver (after_event h e) }
 {}

@@ -1,14 +1,17 @@
 //! One host: a table of sockets and connections over one address, and one neighbour.
 #![tactic(auto)]
 
-ghost use Rattle.std.specs.Prelude.{◌≡◌, ◌≤◌, ◌<◌, ◌↔◌, length, IfSome, OnSome, IfNone, IfOk, IfErr, IsOk, Ok};
+ghost use Rattle.std.specs.Prelude.{ℕ, ◌≡◌, ◌≤◌, ◌<◌, ◌↔◌, true, [], length, position, IfSome, OnSome, IfNone, IfOk, IfErr, IsOk, Ok};
 ghost use Rattle.host.specs.Dispatch.{is_opening};
+ghost use Rattle.host.specs.Entries.{is_between, is_listening_at};
 
 mod calls;
+mod closing;
 mod entry;
 pub mod laws;
 mod ports;
 mod refusal;
+mod replies;
 mod table;
 #[cfg(test)]
 mod tests;
@@ -18,10 +21,11 @@ use entry::Entry;
 pub use entry::SocketId;
 use ipv4::{Addr, Endpoint, Pair};
 pub use refusal::{DropCause, Refusal};
+use replies::{REPLIES, Reply};
 use std::alloc::Global;
 use std::marker::Model;
 use tcp_segment::{Flags, Seq, TcpView};
-use tcp_state::{Buffers, Connection, Moment};
+use tcp_state::{Buffers, Connection, Fate, Moment};
 
 /// How many entries the table of one host holds.
 pub(crate) const ENTRIES: usize = 8;
@@ -87,6 +91,7 @@ pub struct Host {
     last_port: u16,
     last_id: u64,
     entries: ArrayVec<Entry, ENTRIES>,
+    replies: ArrayVec<Reply, REPLIES>,
 }
 
 impl Model for Host {
@@ -102,14 +107,15 @@ impl Model for Host {
       last_port = h.last_port;
       last_id = h.last_id;
       entries = h.entries.items;
+      replies = h.replies.items;
     } };
 
     ghost invariant = { λ h. 49152 ≤ h.last_port };
 }
 
 impl Host {
-    ghost use Rattle.host.specs.Dispatch.{local_end, peer_end, arrival, opening, Meets, IsDelivered, IsForeseen, pair_opened, pair_at_listener, has_no_place};
-    ghost use Rattle.host.specs.Pairs.{socket_pair, due_pair};
+    ghost use Rattle.host.specs.Dispatch.{local_end, peer_end, arrival, arrival_alone, answered, Meets, IsDelivered, IsForeseen, pair_opened, pair_at_listener, has_no_place};
+    ghost use Rattle.host.specs.Pairs.{socket_pair, due_pair, reply_pair};
     ghost use Rattle.host.specs.Sound.{IsSoundHost};
     ghost use Rattle.host.specs.HostView.{HostView, later, holder_id, fresh, emission_len, after_emission, emission_front, after_tick, least_deadline};
 
@@ -125,10 +131,12 @@ impl Host {
             last_port: ports::LAST,
             last_id: 0,
             entries: ArrayVec::new(),
+            replies: ArrayVec::new(),
         })
     }
 
-    /// Moves the kept moment forward to `now`, and lets each timer act whose moment has come. It never goes back.
+    /// Moves the kept moment forward to `now`, and lets each timer act whose moment has come. It never goes back. A
+    /// connection that its caller closed is gone once its wait is over.
     pub fn tick(&mut self, now: Moment)
         ensures { self.new ≡ after_tick self.old now }
     {
@@ -137,28 +145,31 @@ impl Host {
         table::tick(&mut self.entries, now);
     }
 
-    /// The least moment at which a tick does something.
+    /// The least moment at which a tick does something. Replies wait for none.
     pub fn next_deadline(&self) -> Option<Moment>
         ensures { result ≡ least_deadline self.now }
     {
         table::least_deadline(&self.entries)
     }
 
-    /// Takes a frame: the octets of one TCP segment from the neighbour. `isn` is used only where it opens a connection.
+    /// Takes a frame, at the later of `now` and the kept moment: the octets of one TCP segment from the neighbour. `isn` is
+    /// used only where it opens a connection.
     ///
     /// UpperHeader where it is malformed, UpperSum where its checksum is wrong, NoRoom where it would open a
-    /// connection and there is no place in the backlog or the table, no id or no memory.
+    /// connection and there is no place in the backlog or the table, no id or no memory, or where it is to be
+    /// answered by a reset and 16 replies wait.
     #[tactic(auto, using(crate::proofs::Firsts::firsts))]
-    pub fn deliver(&mut self, _now: Moment, isn: Seq, frame: &[u8]) -> Result<(), DropCause>
-        ensures { IsDelivered self.old isn.0 frame.now result self.new }
+    pub fn deliver(&mut self, now: Moment, isn: Seq, frame: &[u8]) -> Result<(), DropCause>
+        ensures { IsDelivered self.old now isn.0 frame.now result self.new }
     {
         match TcpView::parse(self.neighbour, self.addr, frame) {
-            Ok(segment) => self.take(isn, &segment),
+            Ok(segment) => self.take(now, isn, &segment),
             Err(fault) => Err(DropCause::from(fault)),
         }
     }
 
-    /// Writes the first frame that is due, in order of id, from `out[0]` on, and answers its length in octets.
+    /// Writes the frame that is due first from `out[0]` on, and answers its length in octets: the replies in the order
+    /// in which they came, then the entries in order of id.
     #[tactic(auto, using(crate::proofs::Firsts::firsts))]
     pub fn next_frame(&mut self, now: Moment, out: &mut [u8; 1514]) -> Option<usize>
         ensures answer { result ≡ emission_len self.old }
@@ -167,9 +178,41 @@ impl Host {
         ensures none { IfNone result (self.new ≡ self.old) }
         ensures frame { out.new ≡ emission_front self.old out.old }
     {
+        if !self.replies.is_empty() {
+            return Some(self.emit_reply(out));
+        }
+        self.emit_segment(now, out)
+    }
+
+    /// Writes the first of the replies, which then waits no more.
+    fn emit_reply(&mut self, out: &mut [u8; 1514]) -> usize
+        requires { 0 < length self.old.replies }
+        ensures len { Some result ≡ emission_len self.old }
+        ensures bound { result ≤ 1514 }
+        ensures after { (now : Moment) → self.new ≡ after_emission self.old now }
+        ensures frame { out.new ≡ emission_front self.old out.old }
+    {
+        let reply = self.replies.remove(0);
+        reply.emit(self.addr, self.neighbour, out)
+    }
+
+    /// Writes the segment that the first entry has due, in order of id, which is taken out where it is over then.
+    #[tactic(auto, using(crate::proofs::Firsts::firsts))]
+    fn emit_segment(&mut self, now: Moment, out: &mut [u8; 1514]) -> Option<usize>
+        requires { self.old.replies ≡ [] }
+        ensures answer { result ≡ emission_len self.old }
+        ensures bound { IfSome result (λ len. len ≤ 1514) }
+        ensures after { OnSome result (self.new ≡ after_emission self.old now) }
+        ensures none { IfNone result (self.new ≡ self.old) }
+        ensures frame { out.new ≡ emission_front self.old out.old }
+    {
         let now = self.later(now);
         let place = table::first_due(&self.entries)?;
-        self.entries[place].emit(now, out)
+        let entry = &mut self.entries[place];
+        let len = entry.emit(now, out)?;
+        let fate = entry.emitted_fate();
+        table::settle(&mut self.entries, place, fate);
+        Some(len)
     }
 
     /// The entry with a connection of this pair in any state but CLOSED.
@@ -190,13 +233,31 @@ impl Host {
         self.entries[place].pair()
     }
 
-    /// The pair of the first connection, in order of id, that has a segment due.
+    /// The pair of the frame that is due first.
     #[tactic(auto, using(crate::proofs::Firsts::firsts))]
     pub fn due_pair(&self) -> Option<Pair>
         ensures { result ≡ due_pair self.now }
     {
+        if let Some(reply) = self.replies.first() {
+            return Some(self.reply_pair(reply));
+        }
         let place = table::first_due(&self.entries)?;
         self.entries[place].pair()
+    }
+
+    /// The pair of the two ends of a reply.
+    fn reply_pair(&self, reply: &Reply) -> Pair
+        ensures { result ≡ reply_pair self.now reply.now }
+    {
+        let ours = Endpoint {
+            addr: self.addr,
+            port: reply.source(),
+        };
+        let theirs = Endpoint {
+            addr: self.neighbour,
+            port: reply.destination(),
+        };
+        Pair::new(ours, theirs)
     }
 
     /// The pair that delivering this frame would open if memory were there (RFC 9293 section 3.10.7.2); None where it would open none.
@@ -245,11 +306,12 @@ impl Host {
             || self.last_id == u64::MAX
     }
 
-    /// What each connection keeps of itself, for the contracts above; it changes nothing.
+    /// What each connection and each reply keeps of itself, for the contracts above; it changes nothing.
     pub fn sound(&self)
         ensures { IsSoundHost self.now }
     {
         table::sound(&self.entries);
+        replies::sound(&self.replies, self.addr, self.neighbour);
     }
 
     /// The later of `now` and the kept moment.
@@ -275,39 +337,67 @@ impl Host {
         (local, peer)
     }
 
-    /// Takes a segment: it goes to the connection of its two ends, or opens one, or changes nothing.
+    /// Takes a segment: it goes to the connection of its two ends, where there is one.
     #[tactic(auto, using(crate::proofs::Firsts::firsts))]
-    fn take(&mut self, isn: Seq, segment: &TcpView<'_>) -> Result<(), DropCause>
-        ensures { Meets (arrival self.old isn.0 segment.now) self.old result self.new }
+    fn take(&mut self, now: Moment, isn: Seq, segment: &TcpView<'_>) -> Result<(), DropCause>
+        ensures { Meets (arrival self.old now isn.0 segment.now) self.old result self.new }
     {
         let (local, peer) = self.ends(segment);
         match table::connection_between(&self.entries, local, peer) {
-            Some(place) => {
-                let fate = self.entries[place].segment(segment);
-                table::settle(&mut self.entries, place, fate);
-                Ok(())
-            }
-            None if is_opening(segment.flags()) => self.open(isn, local, peer, segment),
-            None => Ok(()),
+            Some(place) => self.take_at(now, place, segment),
+            None => self.take_alone(isn, segment),
         }
     }
 
-    /// Opens a connection for `syn` where a listener is bound to its destination port (RFC 9293 section 3.10.7.2).
+    /// Takes a segment for the connection in this place. One that it refuses is answered by a reset.
     #[tactic(auto, using(crate::proofs::Firsts::firsts))]
-    fn open(
-        &mut self,
-        isn: Seq,
-        local: Endpoint,
-        peer: Endpoint,
-        syn: &TcpView<'_>,
-    ) -> Result<(), DropCause>
-        requires local { local ≡ local_end self.old syn.now }
-        requires peer { peer ≡ peer_end self.old syn.now }
-        ensures { Meets (opening self.old isn.0 syn.now) self.old result self.new }
+    fn take_at(&mut self, now: Moment, place: usize, segment: &TcpView<'_>) -> Result<(), DropCause>
+        requires { position (is_between (local_end self.old segment.now) (peer_end self.old segment.now)) self.old.entries ≡ Some place }
+        ensures { (isn : ℕ) → Meets (arrival self.old now isn segment.now) self.old result self.new }
     {
-        let Some(place) = table::listener_at(&self.entries, local.port) else {
+        let now = self.later(now);
+        match self.entries[place].segment(now, segment) {
+            Fate::Refused => self.answer(Some(Reply::at_ack(segment))),
+            fate => {
+                table::settle(&mut self.entries, place, fate);
+                Ok(())
+            }
+        }
+    }
+
+    /// Takes a segment for no connection: it goes to the listener at its destination port, or is answered where there is none.
+    #[tactic(auto, using(crate::proofs::Firsts::firsts))]
+    fn take_alone(&mut self, isn: Seq, segment: &TcpView<'_>) -> Result<(), DropCause>
+        ensures { Meets (arrival_alone self.old isn.0 segment.now) self.old result self.new }
+    {
+        match table::listener_at(&self.entries, segment.destination()) {
+            None => self.answer(Reply::to_stray(segment)),
+            Some(place) if is_opening(segment.flags()) => self.open(isn, place, segment),
+            Some(_) => self.answer(Reply::of_listener(segment)),
+        }
+    }
+
+    /// Puts a reply behind those that wait; NoRoom where there is no place for it.
+    fn answer(&mut self, reply: Option<Reply>) -> Result<(), DropCause>
+        ensures { Meets (answered self.old reply) self.old result self.new }
+    {
+        let Some(reply) = reply else {
             return Ok(());
         };
+        if self.replies.is_full() {
+            return Err(DropCause::NoRoom);
+        }
+        self.replies.push(reply);
+        Ok(())
+    }
+
+    /// Opens a connection for `syn` at the listener in this place (RFC 9293 section 3.10.7.2).
+    #[tactic(auto, using(crate::proofs::Firsts::firsts))]
+    fn open(&mut self, isn: Seq, place: usize, syn: &TcpView<'_>) -> Result<(), DropCause>
+        requires place { position (is_listening_at syn.now.destination) self.old.entries ≡ Some place }
+        requires opens { is_opening syn.now.flags ≡ true }
+        ensures { Meets (arrival_alone self.old isn.0 syn.now) self.old result self.new }
+    {
         let entry = &self.entries[place];
         let listener = entry.id;
         let backlog = entry.backlog();
@@ -320,6 +410,7 @@ impl Host {
         let Ok(buffers) = Buffers::new(self.alloc) else {
             return Err(DropCause::NoRoom);
         };
+        let (local, peer) = self.ends(syn);
         let connection = Connection::passive(buffers, local, peer, isn, syn);
         self.last_id = id;
         self.entries

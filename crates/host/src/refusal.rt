@@ -82,7 +82,7 @@ pub enum DropCause {
     /// The segment's checksum is wrong (RFC 9293 section 3.1).
     #[error("F8 UpperSum")]
     UpperSum,
-    /// No place in the table or the backlog, no id or no memory for a passive opening.
+    /// No place in the table or the backlog, no id or no memory for a passive opening; no place for the reset that answers.
     #[error("F9 NoRoom")]
     NoRoom,
 }

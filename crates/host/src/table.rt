@@ -1,12 +1,12 @@
 //! What is looked up in the table, which stands in order of id.
 
-ghost use Rattle.std.specs.Prelude.{◌≡◌, ◌<◌, ◌≤◌, ◌&&◌, not, length, remove, position, count_by, map, fold, None, IfSome};
+ghost use Rattle.std.specs.Prelude.{◌≡◌, ◌<◌, ◌≤◌, ◌&&◌, not, if◌then◌else◌, length, remove, position, count_by, fold, None, IfSome};
 ghost use Rattle.std.specs.List.{list_any, AllByRecursion};
-ghost use Rattle.host.specs.Entries.{is_socket, is_between, is_of_pair, has_port, is_bound_at, is_waiting_at, is_offered_at, is_due, is_listening_at, deadline_of, ticked, with_role};
+ghost use Rattle.host.specs.Entries.{is_kept, all_settled, tick_fate_of, forsaken, forsaken_fate, is_socket, is_between, is_of_pair, has_port, is_bound_at, is_waiting_at, is_offered_at, is_due, is_listening_at, deadline_of, ticked, with_role};
 ghost use Rattle.host.specs.HostView.{earlier};
 ghost use Rattle.host.specs.Sound.{IsSoundRole};
 
-use crate::entry::Entry;
+use crate::entry::{Entry, is_kept};
 use crate::{ENTRIES, SocketId};
 use arrayvec::ArrayVec;
 use ipv4::{Endpoint, Pair};
@@ -55,13 +55,13 @@ pub(crate) fn is_port_taken(entries: &[Entry], port: u16) -> bool
     entries.iter().any(|entry| entry.uses_port(port))
 }
 
-/// Whether a socket has this local port; a connection that is not accepted is no socket.
+/// Whether a socket has this local port.
 pub(crate) fn is_port_bound(entries: &[Entry], port: u16) -> bool
     ensures { result ≡ list_any (is_bound_at port) entries.now }
 {
     entries
         .iter()
-        .any(|entry| !entry.is_pending() && entry.uses_port(port))
+        .any(|entry| entry.has_socket() && entry.uses_port(port))
 }
 
 /// The place of the listener at a local port.
@@ -97,13 +97,18 @@ pub(crate) fn first_due(entries: &[Entry]) -> Option<usize>
     entries.iter().position(|entry| entry.is_due())
 }
 
-/// Lets the timers of every entry act whose moment has come.
-pub(crate) fn tick(entries: &mut [Entry], now: Moment)
-    ensures { entries.new ≡ map (with_role (ticked now)) entries.old }
+/// Lets the timers of every entry act whose moment has come, and takes out those whose connection is gone then.
+pub(crate) fn tick(entries: &mut ArrayVec<Entry, ENTRIES>, now: Moment)
+    ensures { entries.new.items ≡ all_settled (tick_fate_of now) (ticked now) entries.old.items }
 {
-    for entry in entries.iter_mut() {
-        entry.tick(now);
-    }
+    entries.retain(|entry| entry.tick(now));
+}
+
+/// Aborts the connections that wait at the listener `id`, which is closed, and takes out those that are CLOSED already.
+pub(crate) fn forsake(entries: &mut ArrayVec<Entry, ENTRIES>, id: SocketId)
+    ensures { entries.new.items ≡ all_settled (forsaken_fate id) (forsaken id) entries.old.items }
+{
+    entries.retain(|entry| entry.forsake(id));
 }
 
 /// The least deadline of the entries.
@@ -138,13 +143,9 @@ pub(crate) fn sound(entries: &[Entry])
 /// Takes an entry out of the table where its connection is gone.
 pub(crate) fn settle(entries: &mut ArrayVec<Entry, ENTRIES>, place: usize, fate: Fate)
     requires { place < length entries.old.items }
-    ensures stays { fate ≡ Fate.Stays → entries.new.items ≡ entries.old.items }
-    ensures removed { fate ≡ Fate.Removed → entries.new.items ≡ remove entries.old.items place }
+    ensures { entries.new.items ≡ (if is_kept fate then entries.old.items else remove entries.old.items place) }
 {
-    match fate {
-        Fate::Removed => {
-            entries.remove(place);
-        }
-        Fate::Stays => {}
+    if !is_kept(fate) {
+        entries.remove(place);
     }
 }

@@ -9,7 +9,7 @@ use Rattle.hostd.specs.Keywords.{keyword_of}
 use Rattle.hostd.specs.declared.script.action.Keyword.{Keyword}
 use Rattle.hostd.specs.declared.script.action.Keyword.TheVariants as keyword
 use Rattle.hostd.specs.declared.script.action.Action.{Action}
-use Rattle.hostd.specs.declared.script.action.Action.TheVariants.{Socket, Bind, Listen, Accept, Connect, Send, Fill, Recv, Count, State, Tick, Emit, Deliver}
+use Rattle.hostd.specs.declared.script.action.Action.TheVariants.{Socket, Bind, Listen, Accept, Connect, Send, Fill, Recv, Count, Shutdown, Close, State, Tick, Emit, Deliver}
 
 -- a number of 64 bits
 abbrev pub wide : List ℕ → Option ℕ
@@ -50,6 +50,8 @@ said_by keyword.Send (id ∷ text ∷ []) = together Send (id_of id) (text_of te
 said_by keyword.Fill (id ∷ count ∷ []) = together Fill (id_of id) (octets_of count)
 said_by keyword.Recv (id ∷ most ∷ []) = together Recv (id_of id) (octets_of most)
 said_by keyword.Count (id ∷ most ∷ []) = together Count (id_of id) (octets_of most)
+said_by keyword.Shutdown (id ∷ []) = option_map Shutdown (id_of id)
+said_by keyword.Close (id ∷ []) = option_map Close (id_of id)
 said_by keyword.State (id ∷ []) = option_map State (id_of id)
 said_by keyword.Tick (moment ∷ []) = option_map Tick (moment_of moment)
 said_by keyword.Emit [] = Some Emit

@@ -9,7 +9,7 @@ use Rattle.wire_sim.specs.declared.event.Event.TheVariants as event
 use Rattle.wire_sim.specs.declared.event.Call.TheVariants as call
 use Rattle.host.specs.declared.Kind.TheVariants.{Tcp}
 use Rattle.hostd.specs.declared.script.action.Action.{Action}
-use Rattle.hostd.specs.declared.script.action.Action.TheVariants.{Socket, Bind, Listen, Accept, Connect, Send, Fill, Recv, Count, State, Tick, Emit, Deliver}
+use Rattle.hostd.specs.declared.script.action.Action.TheVariants.{Socket, Bind, Listen, Accept, Connect, Send, Fill, Recv, Count, Shutdown, Close, State, Tick, Emit, Deliver}
 
 -- the other host
 abbrev pub other_side : Side → Side
@@ -38,6 +38,8 @@ IsEventOf side (Fill id count) (event.Call s (call.Send i octets)) = (s ≡ side
 IsEventOf side (Fill id count) happens = ⊥
 IsEventOf side (Recv id most) happens = happens ≡ event.Call side (call.Recv id most)
 IsEventOf side (Count id most) happens = happens ≡ event.Call side (call.Recv id most)
+IsEventOf side (Shutdown id) happens = happens ≡ event.Call side (call.Shutdown id)
+IsEventOf side (Close id) happens = happens ≡ event.Call side (call.Close id)
 IsEventOf side (State id) happens = happens ≡ event.Call side (call.State id)
 IsEventOf side (Tick moment) happens = happens ≡ event.Tick side moment
 IsEventOf side Emit happens = happens ≡ event.Emit side

@@ -33,7 +33,7 @@ nothing cap limit v w c d same_state same_sender same_receiving same_readable in
 }
 
 -- one of two views by a test
-either : (P : View → Type 0) (test : Bool) (v w : View) → (test ≡ true → P v) → (test ≡ false → P w) → P (if test then v else w)
+pub either : (P : View → Type 0) (test : Bool) (v w : View) → (test ≡ true → P v) → (test ≡ false → P w) → P (if test then v else w)
 either P true v w if_true if_false = if_true refl
 either P false v w if_true if_false = if_false refl
 
@@ -227,7 +227,7 @@ record Heard (cap limit : ℕ) (v w : View) (d : Channel) : Type 0 where
   pub closed : is_write_closed w.state ≡ is_write_closed v.state
   pub synchronised : is_syn_sent w.state ≡ false
 
-pub receiving_past : (v : View) → is_syn_sent v.state ≡ false → receiving_of v ≡ Synchronised (record { rnext = v.receiving.rnext; kept = nothing_kept })
+receiving_past : (v : View) → is_syn_sent v.state ≡ false → receiving_of v ≡ Synchronised (record { rnext = v.receiving.rnext; kept = nothing_kept })
 receiving_past v past_syn = ap (λ b. if b then Waiting else Synchronised (record { rnext = v.receiving.rnext; kept = nothing_kept })) past_syn
 
 unheard : (cap limit : ℕ) (v : View) (d : Channel) → is_syn_sent v.state ≡ false → ReceivesFrom v d → Heard cap limit v v d

@@ -7,14 +7,13 @@ use Rattle.std.proofs.lemmas.Bool.{leb-true, eqb-true}
 use Rattle.std.proofs.lemmas.Bool.Decides.{leb_tells}
 use Rattle.tcp_segment.specs.Wire.{past}
 use Rattle.tcp_segment.specs.Segment.{Segment}
-use Rattle.ipv4.specs.declared.addr.Endpoint.{Endpoint}
 use Rattle.tcp_state.specs.Numbers.{is_before}
-use Rattle.tcp_state.specs.View.{View, is_opening, is_syn_sent, is_fin_acknowledged, opened_actively}
+use Rattle.tcp_state.specs.View.{View, is_opening, is_syn_sent, is_fin_acknowledged}
 use Rattle.tcp_state.specs.Halves.{Sending as SendingHalf, Receiving as ReceivingHalf}
 use Rattle.tcp_state.specs.Stream.{outstanding, is_new_ack, after_acknowledged, gained, after_octets, receive_window, stands_next}
 use Rattle.tcp_state.specs.Calls.{moved}
-use Rattle.stream_law.specs.Channel.{Receiver, Unopened, Open, Waiting, Synchronised, Channel, IsAmong, number_of, IsKnown, IsRecent}
-use Rattle.stream_law.specs.ChannelSteps.{Step, opens, synchronises, delivers, acknowledges, octets_up_to, reads, nothing_kept}
+use Rattle.stream_law.specs.Channel.{Receiver, Open, Waiting, Synchronised, Channel, IsAmong, number_of, IsKnown, IsRecent}
+use Rattle.stream_law.specs.ChannelSteps.{Step, synchronises, delivers, acknowledges, octets_up_to, reads, nothing_kept}
 use Rattle.stream_law.specs.ChannelViews.{sender_of, SendsInto, ReceivesFrom, frame_of, ack_of}
 
 -- a place of what is cut out of a list
@@ -190,12 +189,7 @@ hears-syn cap limit v d s written_at waiting syn shows among =
     synchronises d (frame_of s written_at) (shows.receiving ∙ ap (λ b. if b then Waiting else Synchronised (record { rnext = v.receiving.rnext; kept = nothing_kept })) waiting) among syn
 
 -- the caller reads the first octets of what is readable
-pub hands-over : (cap limit : ℕ) (v : View) (d : Channel) (len : ℕ) → ReceivesFrom v d
+pub hands-over : (cap limit : ℕ) (v : View) (d : Channel) (len : ℕ) → d.readable ≡ v.receiving.readable
     → Step cap limit d (record d { read = d.read ++ take (moved v len) v.receiving.readable; readable = drop (moved v len) v.receiving.readable })
 hands-over cap limit v d len shows =
-    reads d (take (moved v len) v.receiving.readable) (drop (moved v len) v.receiving.readable) (shows.readable ∙ sym (take-append-drop (moved v len) v.receiving.readable))
-
--- a caller opens
-pub opens-actively : (cap limit : ℕ) (local peer : Endpoint) (isn : ℕ) (c : Channel) → c.sending ≡ Unopened → isn < 2 ^ 32
-    → Step cap limit c (record c { sending = Open (sender_of (opened_actively local peer isn)) })
-opens-actively cap limit local peer isn c is fits = opens c isn is fits
+    reads d (take (moved v len) v.receiving.readable) (drop (moved v len) v.receiving.readable) (shows ∙ sym (take-append-drop (moved v len) v.receiving.readable))

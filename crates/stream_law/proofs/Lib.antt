@@ -9,6 +9,7 @@ pub mod ConnectionSends
 pub mod ConnectionHears
 pub mod ConnectionArrival
 pub mod PairingInvariant
+pub mod PairingEndings
 pub mod PairingMoves
 pub mod PairingEmission
 pub mod PairingArrival

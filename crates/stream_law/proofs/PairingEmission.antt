@@ -1,25 +1,25 @@
 -- A segment that goes out is steps of the two channels.
-use Rattle.std.proofs.Common.{◌≡◌, ℕ, ◌<◌, ◌≤◌, not, ◌||◌, ◌&&◌, ◌==◌, nat_lt, if◌then◌else◌, Bool, true, false, List, [], ◌∷◌, length, Option, Some, None, arith, refl, sym, ◌∙◌, ap, subst}
+use Rattle.std.proofs.Common.{◌≡◌, ℕ, ◌<◌, ◌≤◌, not, ◌||◌, ◌==◌, nat_lt, if◌then◌else◌, Bool, true, false, List, [], ◌∷◌, length, Option, Some, None, arith, refl, sym, ◌∙◌, ap, subst}
 use Rattle.std.proofs.lemmas.Bool.{eqb-true}
 use Rattle.tcp_segment.specs.Segment.{Segment}
 use Rattle.tcp_segment.specs.Sent.{sent}
 use Rattle.tcp_state.specs.declared.emission.Due.{Due}
-use Rattle.tcp_state.specs.declared.emission.Due.TheVariants.{Syn, Text, Fin, Ack as AckAlone}
+use Rattle.tcp_state.specs.declared.emission.Due.TheVariants.{Rst, Syn, Text, Fin, Ack as AckAlone}
 use Rattle.tcp_state.specs.declared.moment.Moment.{Moment}
 use Rattle.tcp_state.specs.declared.state.State.{State}
-use Rattle.tcp_state.specs.declared.state.State.TheVariants.{SynSent, SynReceived, FinWait1, Closing, LastAck}
-use Rattle.tcp_state.specs.View.{View, IsSound, is_opening, is_syn_sent, is_syn_received, is_closed, is_write_closed, is_end_seen, is_fin_acknowledged, awaits_fin_ack, is_due}
+use Rattle.tcp_state.specs.declared.state.State.TheVariants.{Closed, SynSent, SynReceived, FinWait1, Closing, LastAck}
+use Rattle.tcp_state.specs.View.{View, IsSound, is_opening, is_syn_sent, is_syn_received, is_closed, is_listening, is_write_closed, is_end_seen, is_fin_acknowledged, awaits_fin_ack, is_due}
 use Rattle.tcp_state.specs.Stream.{outstanding}
 use Rattle.tcp_state.specs.Windows.{sendable}
-use Rattle.tcp_state.specs.Due.{MayGoOut, first_due, head_of, octets_of, after_emitted, after_ack_paid, after_numbers}
+use Rattle.tcp_state.specs.Due.{MayGoOut, first_due, flags_of, head_of, octets_of, after_emitted, after_ack_paid, after_numbers}
 use Rattle.tcp_state.specs.Arrival.{is_fin_next}
 use Rattle.stream_law.specs.Channel.{Channel, Ack, Open, IsAmong, here, there}
 use Rattle.stream_law.specs.ChannelSteps.{Step, steps, emits_bare}
 use Rattle.stream_law.specs.ChannelViews.{Leads, stays, goes, sender_of, receiving_of, SendsInto, ReceivesFrom, IsOfWidth, frame_of, ack_of}
-use Rattle.stream_law.specs.Pairing.{Emission, Pairing, with_connection}
+use Rattle.stream_law.specs.Pairing.{Present, Emission, Pairing, with_connection}
 use Rattle.stream_law.proofs.ConnectionSends.{emits-syn, emits-text, emits-fin, emits-ack}
 use Rattle.stream_law.proofs.ConnectionArrival.{and_left, and_right, fin_flight}
-use Rattle.stream_law.proofs.PairingInvariant.{Shown, runs_on, other_stays, connected}
+use Rattle.stream_law.proofs.PairingInvariant.{Shown, runs_on, other_stays, connected, living, receives}
 
 -- the acknowledgement that a segment carries joins those of the channel from which the end receives
 record Paid (cap limit : ℕ) (v : View) (from : Channel) (carries : Bool) (a : Ack) : Type 0 where
@@ -80,14 +80,15 @@ record Went (cap limit : ℕ) (v w : View) (into : Channel) (s : Segment) : Type
   pub receiving : receiving_of w ≡ receiving_of v
   pub readable : w.receiving.readable ≡ v.receiving.readable
   pub state : w.state ≡ v.state
-  pub unreset : s.flags.rst ≡ false
   pub acknowledges : s.flags.ack ≡ true → (is_syn_sent v.state ≡ false) × (s.acknowledgement ≡ v.receiving.rnext)
 
 -- the same seen from both ends
-assembled : (cap limit : ℕ) (p : Pairing) (v w : View) (s : Segment) → IsOfWidth s → p.own.connection ≡ Some v → (h : Shown cap limit p) → Went cap limit v w h.into s
+assembled : (cap limit : ℕ) (p : Pairing) (v w : View) (s : Segment) → IsOfWidth s → s.flags.rst ≡ false → is_closed v.state ≡ false → p.own.connection ≡ Present v → (h : Shown cap limit p) → Went cap limit v w h.into s
     → Shown cap limit (record (with_connection p w) { sent = record { segment = s; own_written = length p.own.written; other_written = length p.other.written } ∷ p.sent })
-assembled cap limit p v w s width is h went =
+assembled cap limit p v w s width unreset unclosed is h went =
     let k = connected p.own.connection v h.into h.from is h.own.connection in
+    let shows = k.sends unclosed in
+    let hears = receives v h.into h.from unclosed k in
     let new : Emission = record { segment = s; own_written = length p.own.written; other_written = length p.other.written } in
     let own_at : length h.into.written ≡ length p.own.written = ap length h.own.written in
     let other_at : length p.other.written ≡ length h.from.written = sym (ap length h.other.written) in
@@ -97,7 +98,7 @@ assembled cap limit p v w s width is h went =
     let step : Step cap limit h.into into' =
     subst (λ n. Step cap limit h.into (record h.into { sending = Open (sender_of w); frames = frame_of s n ∷ h.into.frames })) own_at went.step in
     let paid = pays cap limit v h.from s.flags.ack a
-    (λ e. let q = went.acknowledges e in (q.0, ap (λ n. record { number = n; written_at = length p.other.written }) q.1 ∙ ap (λ n. record { number = v.receiving.rnext; written_at = n }) other_at)) k.receives in
+    (λ e. let q = went.acknowledges e in (q.0, ap (λ n. record { number = n; written_at = length p.other.written }) q.1 ∙ ap (λ n. record { number = v.receiving.rnext; written_at = n }) other_at)) hears in
     let from' : Channel = record h.from { acks = paid.acks } in
     record {
       into = into';
@@ -109,10 +110,8 @@ assembled cap limit p v w s width is h went =
         closed = h.own.closed;
         read = h.own.read;
         ended = h.own.ended;
-        connection = record {
-          sends = record { sending = refl; closed = k.sends.closed ∙ ap is_write_closed (sym went.state) };
-          receives = record { receiving = k.receives.receiving ∙ sym went.receiving; readable = k.receives.readable ∙ sym went.readable; end_seen = k.receives.end_seen ∙ ap is_end_seen (sym went.state) };
-        };
+        connection = living w into' from' (ap is_listening went.state ∙ k.unlistening) (record { sending = refl; closed = shows.closed ∙ ap is_write_closed (sym went.state) })
+            (record { receiving = hears.receiving ∙ sym went.receiving; readable = hears.readable ∙ sym went.readable; end_seen = hears.end_seen ∙ ap is_end_seen (sym went.state) });
       };
       other = record {
         written = h.other.written;
@@ -121,7 +120,7 @@ assembled cap limit p v w s width is h went =
         ended = h.other.ended;
         connection = other_stays p.other.connection h.from h.into from' into' refl refl refl refl refl refl h.other.connection;
       };
-      sent = emissions new p.sent (record { frame = here f h.into.frames; ack = paid.among; width = width; unreset = went.unreset })
+      sent = emissions new p.sent (record { frame = here f h.into.frames; ack = paid.among; width = width; unreset = unreset })
           (λ e among. let q = h.sent e among in record { frame = there (frame_of e.segment e.own_written) f h.into.frames q.frame; ack = λ t. paid.more (ack_of e.segment e.other_written) (q.ack t); width = q.width; unreset = q.unreset });
       received = λ e among. let q = h.received e among in record { frame = q.frame; ack = q.ack; width = q.width; unreset = q.unreset };
     }
@@ -136,7 +135,6 @@ went-syn cap limit v into now opening shows = record {
   receiving = same_receiving (is_syn_received v.state);
   readable = same_readable (is_syn_received v.state);
   state = same_state (is_syn_received v.state);
-  unreset = refl;
   acknowledges = λ e. (syn_received_past v.state e, ap (λ b. if b then v.receiving.rnext else 0) e);
 }
   where
@@ -152,29 +150,33 @@ went-syn cap limit v into now opening shows = record {
     same_state true = refl
     same_state false = refl
 
-went-text : (cap limit : ℕ) (v : View) (into : Channel) (count : ℕ) (now : Moment) → IsSound v → first_due v ≡ Some (Text count) → MayGoOut v (Text count) → SendsInto v into
-    → Went cap limit v (after_emitted v (Text count) now) into (sent (head_of v (Text count)) (octets_of v (Text count)))
-went-text cap limit v into count now sound first may shows =
-    let whole : outstanding v.sending ≤ count =
-    text_covers (is_opening v.state) (is_due v.resend) (outstanding v.sending == 0) (nat_lt 0 (sendable v.sending)) v.owes_ack ((outstanding v.sending == 0) || is_due v.resend) (is_fin_next v) (outstanding v.sending)
-    (sendable v.sending) count (eqb-true (outstanding v.sending) 0) first in
-    record {
-      step = emits-text cap limit v into now count may.0 (unfinished v count sound may.0 may.1 may.2) sound.una whole may.2 may.3 shows;
-      receiving = refl;
-      readable = refl;
-      state = refl;
-      unreset = refl;
-      acknowledges = λ e. (opened_past v.state may.0, refl);
-    }
+-- nothing is held once our FIN is acknowledged
+unfinished : (v : View) (count : ℕ) → IsSound v → is_opening v.state ≡ false → 0 < count → count ≤ length v.sending.held → is_fin_acknowledged v.state ≡ false
+unfinished v count sound opened some held =
+    none_left (is_fin_acknowledged v.state) (length v.sending.held) count (subst (λ b. length v.sending.held ≤ (if b || is_fin_acknowledged v.state then 0 else 65535)) opened sound.held) some held
   where
     none_left : (b : Bool) (len count : ℕ) → len ≤ (if b then 0 else 65535) → 0 < count → count ≤ len → b ≡ false
     none_left true len count most some held = absurd (omega (arith, most, some, held))
     none_left false len count most some held = refl
 
-    -- nothing is held once our FIN is acknowledged
-    unfinished : (v : View) (count : ℕ) → IsSound v → is_opening v.state ≡ false → 0 < count → count ≤ length v.sending.held → is_fin_acknowledged v.state ≡ false
-    unfinished v count sound opened some held =
-        none_left (is_fin_acknowledged v.state) (length v.sending.held) count (subst (λ b. length v.sending.held ≤ (if b || is_fin_acknowledged v.state then 0 else 65535)) opened sound.held) some held
+-- where no reset went out, none was owed
+no_reset : (owed : Bool) (rest : Option Due) {count : ℕ} → (if owed then Some Rst else rest) ≡ Some (Text count) → rest ≡ Some (Text count)
+no_reset true rest e = cc
+no_reset false rest e = e
+
+went-text : (cap limit : ℕ) (v : View) (into : Channel) (count : ℕ) (now : Moment) → IsSound v → first_due v ≡ Some (Text count) → MayGoOut v (Text count) → SendsInto v into
+    → Went cap limit v (after_emitted v (Text count) now) into (sent (head_of v (Text count)) (octets_of v (Text count)))
+went-text cap limit v into count now sound first may shows =
+    let whole : outstanding v.sending ≤ count =
+    text_covers (is_opening v.state) (is_due v.resend) (outstanding v.sending == 0) (nat_lt 0 (sendable v.sending)) v.owes_ack ((outstanding v.sending == 0) || is_due v.resend) (is_fin_next v) (outstanding v.sending)
+    (sendable v.sending) count (eqb-true (outstanding v.sending) 0) (no_reset v.owes_reset _ first) in
+    record {
+      step = emits-text cap limit v into now count may.0 (unfinished v count sound may.0 may.1 may.2) sound.una whole may.2 may.3 shows;
+      receiving = refl;
+      readable = refl;
+      state = refl;
+      acknowledges = λ e. (opened_past v.state may.0, refl);
+    }
 
 went-fin : (cap limit : ℕ) (v : View) (into : Channel) (now : Moment) → IsSound v → MayGoOut v Fin → SendsInto v into
     → Went cap limit v (after_emitted v Fin now) into (sent (head_of v Fin) (octets_of v Fin))
@@ -187,7 +189,6 @@ went-fin cap limit v into now sound may shows =
       receiving = refl;
       readable = refl;
       state = refl;
-      unreset = refl;
       acknowledges = λ e. (opened_past v.state t.0, refl);
     }
   where
@@ -208,28 +209,46 @@ went-ack cap limit v into now past shows = record {
   receiving = refl;
   readable = refl;
   state = refl;
-  unreset = refl;
   acknowledges = λ e. (past, refl);
 }
 
-pub moves-emits : (cap limit : ℕ) (p : Pairing) (v : View) (due : Due) (now : Moment) → p.own.connection ≡ Some v → IsSound v → first_due v ≡ Some due → MayGoOut v due
-    → IsOfWidth (sent (head_of v due) (octets_of v due)) → Shown cap limit p
+neither : (a b : Bool) → (a || b) ≡ false → (a ≡ false) × (b ≡ false)
+neither true b e = cc
+neither false b e = (refl, e)
+
+-- nothing goes out where all is closed
+unclosed_goes : (v : View) (due : Due) → IsSound v → MayGoOut v due → (let f = flags_of v due in f.rst) ≡ false → is_closed v.state ≡ false
+unclosed_goes v Rst sound may unreset = let bad : true ≡ false = unreset in cc
+unclosed_goes v Syn sound may unreset = opening_unclosed v.state may
+  where
+    opening_unclosed : (t : State) → is_opening t ≡ true → is_closed t ≡ false
+    opening_unclosed Closed e = cc
+    opening_unclosed _ e = refl
+unclosed_goes v (Text count) sound may unreset = unfinished_unclosed v.state (unfinished v count sound may.0 may.1 may.2)
+  where
+    unfinished_unclosed : (t : State) → is_fin_acknowledged t ≡ false → is_closed t ≡ false
+    unfinished_unclosed Closed e = cc
+    unfinished_unclosed _ e = refl
+unclosed_goes v Fin sound may unreset = awaiting_unclosed v.state (and_left (awaits_fin_ack v.state) (length v.sending.held == 0) may)
+  where
+    awaiting_unclosed : (t : State) → awaits_fin_ack t ≡ true → is_closed t ≡ false
+    awaiting_unclosed Closed e = cc
+    awaiting_unclosed _ e = refl
+unclosed_goes v AckAlone sound may unreset = (neither (is_syn_sent v.state) (is_closed v.state) may).1
+
+pub moves-emits : (cap limit : ℕ) (p : Pairing) (v : View) (due : Due) (now : Moment) → p.own.connection ≡ Present v → IsSound v → first_due v ≡ Some due → MayGoOut v due
+    → (let f = flags_of v due in f.rst) ≡ false → IsOfWidth (sent (head_of v due) (octets_of v due)) → Shown cap limit p
     → Shown cap limit (record (with_connection p (after_emitted v due now)) {
       sent = record { segment = sent (head_of v due) (octets_of v due); own_written = length p.own.written; other_written = length p.other.written } ∷ p.sent;
     })
-moves-emits cap limit p v Syn now is sound first may width h =
-    let k = connected p.own.connection v h.into h.from is h.own.connection in
-    assembled cap limit p v (after_emitted v Syn now) (sent (head_of v Syn) (octets_of v Syn)) width is h (went-syn cap limit v h.into now may k.sends)
-moves-emits cap limit p v (Text count) now is sound first may width h =
-    let k = connected p.own.connection v h.into h.from is h.own.connection in
-    assembled cap limit p v (after_emitted v (Text count) now) (sent (head_of v (Text count)) (octets_of v (Text count))) width is h (went-text cap limit v h.into count now sound first may k.sends)
-moves-emits cap limit p v Fin now is sound first may width h =
-    let k = connected p.own.connection v h.into h.from is h.own.connection in
-    assembled cap limit p v (after_emitted v Fin now) (sent (head_of v Fin) (octets_of v Fin)) width is h (went-fin cap limit v h.into now sound may k.sends)
-moves-emits cap limit p v AckAlone now is sound first may width h =
-    let k = connected p.own.connection v h.into h.from is h.own.connection in
-    assembled cap limit p v (after_emitted v AckAlone now) (sent (head_of v AckAlone) (octets_of v AckAlone)) width is h (went-ack cap limit v h.into now (or_none_left (is_syn_sent v.state) (is_closed v.state) may) k.sends)
+moves-emits cap limit p v due now is sound first may unreset width h =
+    let unclosed = unclosed_goes v due sound may unreset in
+    let shows = (connected p.own.connection v h.into h.from is h.own.connection).sends unclosed in
+    assembled cap limit p v (after_emitted v due now) (sent (head_of v due) (octets_of v due)) width unreset unclosed is h (went due first may unreset shows)
   where
-    or_none_left : (a b : Bool) → (a || b) ≡ false → a ≡ false
-    or_none_left true b e = let bad : true ≡ false = e in cc
-    or_none_left false b e = refl
+    went : (due : Due) → first_due v ≡ Some due → MayGoOut v due → (let f = flags_of v due in f.rst) ≡ false → SendsInto v h.into → Went cap limit v (after_emitted v due now) h.into (sent (head_of v due) (octets_of v due))
+    went Rst first may reset shows = let bad : true ≡ false = reset in cc
+    went Syn first may reset shows = went-syn cap limit v h.into now may shows
+    went (Text count) first may reset shows = went-text cap limit v h.into count now sound first may shows
+    went Fin first may reset shows = went-fin cap limit v h.into now sound may shows
+    went AckAlone first may reset shows = went-ack cap limit v h.into now (neither (is_syn_sent v.state) (is_closed v.state) may).0 shows

@@ -1,10 +1,12 @@
 -- What two ends show of the two channels between them.
-use Rattle.std.proofs.Common.{◌≡◌, ℕ, true, false, [], Option, Some, None, refl, ◌∙◌, subst}
-use Rattle.tcp_state.specs.View.{View}
+use Rattle.std.proofs.Common.{◌≡◌, ℕ, ◌&&◌, ◌||◌, not, Bool, true, false, [], is_some, refl, ◌∙◌, ap, subst}
+use Rattle.tcp_state.specs.declared.connection.Fate.{Fate}
+use Rattle.tcp_state.specs.declared.connection.Fate.TheVariants.{Stays, Removed, Refused}
+use Rattle.tcp_state.specs.View.{View, is_closed, is_listening, is_end_seen}
 use Rattle.stream_law.specs.Channel.{Channel, Unopened, Waiting, IsAmong}
 use Rattle.stream_law.specs.ChannelSteps.{Runs, starts, steps, fresh}
-use Rattle.stream_law.specs.ChannelViews.{Leads, stays, goes, SendsInto, ReceivesFrom, IsOfWidth, frame_of, ack_of}
-use Rattle.stream_law.specs.Pairing.{End, Emission, Pairing, from_other, apart}
+use Rattle.stream_law.specs.ChannelViews.{Leads, stays, goes, SendsInto, ReceivesFrom, receiving_of, is_telling, IsOfWidth, frame_of, ack_of}
+use Rattle.stream_law.specs.Pairing.{Presence, Absent, Present, Departed, End, Emission, Pairing, remains, from_other, apart}
 
 pub record Unconnected (into from : Channel) : Type 0 where
   pub sending : into.sending ≡ Unopened
@@ -14,13 +16,19 @@ pub record Unconnected (into from : Channel) : Type 0 where
   pub unclosed : into.closed ≡ false
   pub unended : from.end_seen ≡ false
 
+-- What is CLOSED neither sends nor receives any more: its halves stay in their channels as they were, and of the rest only
+-- what its caller is still told counts. None listens, so that a reset that tells no error finds the end seen.
 pub record Connected (v : View) (into from : Channel) : Type 0 where
-  pub sends : SendsInto v into
-  pub receives : ReceivesFrom v from
+  pub unlistening : is_listening v.state ≡ false
+  pub sends : is_closed v.state ≡ false → SendsInto v into
+  pub receiving : is_closed v.state ≡ false → from.receiving ≡ receiving_of v
+  pub readable : is_telling v ≡ true → from.readable ≡ v.receiving.readable
+  pub end_seen : is_telling v ≡ true → from.end_seen ≡ is_end_seen v.state
 
-abbrev pub ConnectionFits : Option View → Channel → Channel → Type 0
-ConnectionFits None into from = Unconnected into from
-ConnectionFits (Some v) into from = Connected v into from
+abbrev pub ConnectionFits : Presence → Channel → Channel → Type 0
+ConnectionFits Absent into from = Unconnected into from
+ConnectionFits (Present v) into from = Connected v into from
+ConnectionFits Departed into from = Unit {0}
 
 pub record EndFits (e : End) (into from : Channel) : Type 0 where
   pub written : into.written ≡ e.written
@@ -85,9 +93,9 @@ shown-from_other cap limit p h = record {
 }
 
 -- what the other end shows does not change where its halves of the channels stay
-pub other_stays : (o : Option View) (into from into' from' : Channel) → into'.sending ≡ into.sending → into'.written ≡ into.written → into'.closed ≡ into.closed → from'.receiving ≡ from.receiving
+pub other_stays : (o : Presence) (into from into' from' : Channel) → into'.sending ≡ into.sending → into'.written ≡ into.written → into'.closed ≡ into.closed → from'.receiving ≡ from.receiving
     → from'.readable ≡ from.readable → from'.end_seen ≡ from.end_seen → ConnectionFits o into from → ConnectionFits o into' from'
-other_stays None into from into' from' sending written closed receiving readable end_seen k = record {
+other_stays Absent into from into' from' sending written closed receiving readable end_seen k = record {
   sending = sending ∙ k.sending;
   unwritten = written ∙ k.unwritten;
   receiving = receiving ∙ k.receiving;
@@ -95,14 +103,44 @@ other_stays None into from into' from' sending written closed receiving readable
   unclosed = closed ∙ k.unclosed;
   unended = end_seen ∙ k.unended;
 }
-other_stays (Some v) into from into' from' sending written closed receiving readable end_seen k = record {
-  sends = record { sending = sending ∙ k.sends.sending; closed = closed ∙ k.sends.closed };
-  receives = record { receiving = receiving ∙ k.receives.receiving; readable = readable ∙ k.receives.readable; end_seen = end_seen ∙ k.receives.end_seen };
+other_stays (Present v) into from into' from' sending written closed receiving readable end_seen k = record {
+  unlistening = k.unlistening;
+  sends = λ e. let s = k.sends e in record { sending = sending ∙ s.sending; closed = closed ∙ s.closed };
+  receiving = λ e. receiving ∙ k.receiving e;
+  readable = λ t. readable ∙ k.readable t;
+  end_seen = λ t. end_seen ∙ k.end_seen t;
 }
+other_stays Departed into from into' from' sending written closed receiving readable end_seen k = tt
 
--- the connection of an end that has one, and of one that has none
-pub connected : (o : Option View) (v : View) (into from : Channel) → o ≡ Some v → ConnectionFits o into from → Connected v into from
+-- the connection of an end that has one, and of one that has none yet
+pub connected : (o : Presence) (v : View) (into from : Channel) → o ≡ Present v → ConnectionFits o into from → Connected v into from
 connected o v into from is k = subst (λ o. ConnectionFits o into from) is k
 
-pub unconnected : (o : Option View) (into from : Channel) → o ≡ None → ConnectionFits o into from → Unconnected into from
+pub unconnected : (o : Presence) (into from : Channel) → o ≡ Absent → ConnectionFits o into from → Unconnected into from
 unconnected o into from is k = subst (λ o. ConnectionFits o into from) is k
+
+-- a connection that is not CLOSED tells, and so does one without an error that its caller keeps
+pub open_tells : (v : View) → is_closed v.state ≡ false → is_telling v ≡ true
+open_tells v e = ap (λ b. not (b && (is_some v.told || v.released))) e
+
+pub untold_tells : (v : View) → is_some v.told ≡ false → v.released ≡ false → is_telling v ≡ true
+untold_tells v untold kept = tells (is_closed v.state) (is_some v.told || v.released) (ap (λ b. b || v.released) untold ∙ kept)
+  where
+    tells : (a b : Bool) → b ≡ false → not (a && b) ≡ true
+    tells true b e = ap not e
+    tells false b e = refl
+
+-- a connection that is the end of both channels, as every one is that is not CLOSED
+pub living : (v : View) (into from : Channel) → is_listening v.state ≡ false → SendsInto v into → ReceivesFrom v from → Connected v into from
+living v into from unlistening s r = record { unlistening = unlistening; sends = λ e. s; receiving = λ e. r.receiving; readable = λ t. r.readable; end_seen = λ t. r.end_seen }
+
+pub receives : (v : View) (into from : Channel) → is_closed v.state ≡ false → Connected v into from → ReceivesFrom v from
+receives v into from unclosed k =
+    let tells = open_tells v unclosed in
+    record { receiving = k.receiving unclosed; readable = k.readable tells; end_seen = k.end_seen tells }
+
+-- what is left of a connection fits as it did
+pub remains-fits : (f : Fate) (v : View) (into from : Channel) → Connected v into from → ConnectionFits (remains f v) into from
+remains-fits Stays v into from k = k
+remains-fits Removed v into from k = tt
+remains-fits Refused v into from k = k

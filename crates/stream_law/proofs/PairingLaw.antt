@@ -1,11 +1,10 @@
 -- Two connections and a network between them are lawful.
 use Rattle.std.proofs.Common.{ℕ, ◌≤◌, ◌^◌, ◌++◌, arith, sym, ◌∙◌, ap}
-use Rattle.stream_law.specs.Pairing.{Pairing, Move, connects, accepts, takes, closes, gives, ends, ticks, emits, hears, Meets, begins, here_moves, there_moves, from_other, IsStream}
-use Rattle.stream_law.specs.Begins.{Begins}
-use Rattle.stream_law.proofs.KeepingOctets.{Near}
+use Rattle.stream_law.specs.Pairing.{Pairing, Move, connects, accepts, takes, closes, gives, ends, rests, emits, hears, resets, stops, leaves, Meets, begins, here_moves, there_moves, from_other, IsStream}
 use Rattle.stream_law.proofs.ChannelLaw.{lawful}
 use Rattle.stream_law.proofs.PairingInvariant.{Shown, shown-apart, shown-from_other}
-use Rattle.stream_law.proofs.PairingMoves.{moves-connects, moves-accepts, moves-takes, moves-closes, moves-gives, moves-ends, moves-ticks}
+use Rattle.stream_law.proofs.PairingMoves.{moves-connects, moves-accepts, moves-takes, moves-closes, moves-gives, moves-ends, moves-rests}
+use Rattle.stream_law.proofs.PairingEndings.{moves-resets, moves-stops, moves-leaves}
 use Rattle.stream_law.proofs.PairingEmission.{moves-emits}
 use Rattle.stream_law.proofs.PairingArrival.{moves-hears}
 
@@ -13,28 +12,28 @@ use Rattle.stream_law.proofs.PairingArrival.{moves-hears}
 abbrev pub room : ℕ
 room = 65535
 
-pub near : (limit : ℕ) → limit ≤ 2 ^ 30 → Near room limit
-near limit recency = record { buffer = omega arith; recency = recency }
+moves : (limit : ℕ) (p q : Pairing) → Move limit p q → Shown room limit p → Shown room limit q
+moves limit _ _ (connects p local peer isn none fits) h = moves-connects room limit p local peer isn none fits h
+moves limit _ _ (accepts p local peer isn e none fits among timely syn) h = moves-accepts room limit p local peer isn e none fits among syn h
+moves limit _ _ (takes p v octets is sound untold opened unclosed) h = moves-takes room limit p v octets (omega arith) is sound untold opened unclosed h
+moves limit _ _ (closes p v is sound opened) h = moves-closes room limit p v is sound opened h
+moves limit _ _ (ends p v len is kept told) h = moves-ends room limit p v len is kept told h
+moves limit _ _ (gives p v len is sound untold kept opened) h = moves-gives room limit p v len is untold kept opened h
+moves limit _ _ (rests p v w is same) h = moves-rests room limit p v w is same h
+moves limit _ _ (emits p v due now is sound first may unreset width) h = moves-emits room limit p v due now is sound first may unreset width h
+moves limit _ _ (hears p v e is sound among timely) h = moves-hears room limit p v e is sound among timely h
+moves limit _ _ (resets p v s is rst) h = moves-resets room limit p v s is rst h
+moves limit _ _ (stops p v w closed is over keeps) h = moves-stops room limit p v w closed is over keeps h
+moves limit _ _ (leaves p v closed is keeps) h = moves-leaves room limit p closed keeps h
 
-moves : (limit : ℕ) → limit ≤ 2 ^ 30 → (p q : Pairing) → Move limit p q → Shown room limit p → Shown room limit q
-moves limit small _ _ (connects p local peer isn none fits) h = moves-connects room limit p local peer isn none fits h
-moves limit small _ _ (accepts p local peer isn e none fits among timely syn) h = moves-accepts room limit p local peer isn e none fits among syn h
-moves limit small _ _ (takes p v octets is sound untold opened unclosed) h = moves-takes room limit p v octets (omega arith) is sound untold opened unclosed h
-moves limit small _ _ (closes p v is sound opened) h = moves-closes room limit p v is sound opened h
-moves limit small _ _ (ends p v len is told) h = moves-ends room limit p v len is told h
-moves limit small _ _ (gives p v len is sound untold opened) h = moves-gives room limit p v len is untold opened h
-moves limit small _ _ (ticks p v now is) h = moves-ticks room limit p v now is h
-moves limit small _ _ (emits p v due now is sound first may width) h = moves-emits room limit p v due now is sound first may width h
-moves limit small _ _ (hears p v e is sound among timely) h = moves-hears room limit (near limit small) p v e is sound among timely h
-
-pub shown : (limit : ℕ) → limit ≤ 2 ^ 30 → (p : Pairing) → Meets limit p → Shown room limit p
-shown limit small _ begins = shown-apart room limit
-shown limit small _ (here_moves p q met move) = moves limit small p q move (shown limit small p met)
-shown limit small _ (there_moves p q met move) = shown-from_other room limit q (moves limit small (from_other p) q move (shown-from_other room limit p (shown limit small p met)))
+pub shown : (limit : ℕ) (p : Pairing) → Meets limit p → Shown room limit p
+shown limit _ begins = shown-apart room limit
+shown limit _ (here_moves p q met move) = moves limit p q move (shown limit p met)
+shown limit _ (there_moves p q met move) = shown-from_other room limit q (moves limit (from_other p) q move (shown-from_other room limit p (shown limit p met)))
 
 pub pairing_lawful : (limit : ℕ) → limit ≤ 2 ^ 30 → (p : Pairing) → Meets limit p → IsStream p.own p.other × IsStream p.other p.own
 pairing_lawful limit small p met =
-    let h = shown limit small p met in
+    let h = shown limit p met in
     let from = lawful room limit (omega arith) small h.from h.runs_from in
     let into = lawful room limit (omega arith) small h.into h.runs_into in (
       record {

@@ -1,26 +1,32 @@
--- One pair of endpoints: the connection at each end, what the two callers did, and every segment that ever went out between them.
--- The network loses, repeats and reorders: any segment may arrive never, once or often, in any order.
-use Rattle.std.specs.Prelude.{◌≡◌, ℕ, ◌+◌, ◌<◌, ◌≤◌, ◌^◌, Bool, true, false, List, [], ◌∷◌, ◌++◌, length, take, Option, Some, None, is_some, Ok}
+-- One pair of endpoints: what stands at each end, what the two callers did, and every segment without RST that ever went out between them.
+-- The network loses, repeats and reorders: any of them may arrive never, once or often, in any order, and a reset at any moment.
+use Rattle.std.specs.Prelude.{◌≡◌, ℕ, ◌+◌, ◌<◌, ◌≤◌, ◌^◌, Bool, true, false, List, [], ◌∷◌, ◌++◌, length, take, Some, is_some, Ok}
 use Rattle.tcp_state.specs.declared.calls.Received.TheVariants.{EndOfStream}
 use Rattle.ipv4.specs.declared.addr.Endpoint.{Endpoint}
 use Rattle.tcp_segment.specs.Segment.{Segment}
 use Rattle.tcp_segment.specs.Sent.{sent}
 use Rattle.tcp_state.specs.declared.connection.Fate.{Fate}
-use Rattle.tcp_state.specs.declared.connection.Fate.TheVariants.{Stays, Removed}
+use Rattle.tcp_state.specs.declared.connection.Fate.TheVariants.{Stays, Removed, Refused}
 use Rattle.tcp_state.specs.declared.emission.Due.{Due}
 use Rattle.tcp_state.specs.declared.moment.Moment.{Moment}
-use Rattle.tcp_state.specs.View.{View, IsSound, is_opening, is_write_closed, opened_actively, after_tick}
+use Rattle.tcp_state.specs.View.{View, IsSound, is_opening, is_write_closed, opened_actively}
 use Rattle.tcp_state.specs.Calls.{taken, after_send, moved, recv_answer, after_recv, after_shutdown}
 use Rattle.tcp_state.specs.Arrival.{opened_passively, after_segment, fate}
-use Rattle.tcp_state.specs.Due.{MayGoOut, first_due, head_of, octets_of, after_emitted}
+use Rattle.tcp_state.specs.Due.{MayGoOut, first_due, flags_of, head_of, octets_of, after_emitted}
 use Rattle.stream_law.specs.Channel.{IsAmong}
-use Rattle.stream_law.specs.ChannelViews.{IsOfWidth}
+use Rattle.stream_law.specs.ChannelViews.{IsOfWidth, SameStream, Stops}
 use Rattle.stream_law.specs.Begins.{Begins}
+
+-- what stands at one end: nothing yet, a connection, which may be CLOSED, or nothing any more
+pub data Presence : Type 0 where
+  Absent : Presence
+  Present : View → Presence
+  Departed : Presence
 
 -- one end: its connection, if it has one, what its caller gave to it and whether it closed its side, and what it gave to its caller
 -- and whether it told the end
 pub record End : Type 0 where
-  pub connection : Option View
+  pub connection : Presence
   pub written : List ℕ
   pub closed : Bool
   pub read : List ℕ
@@ -41,7 +47,7 @@ pub record Pairing : Type 0 where
 
 -- nothing has happened at either end
 abbrev pub nothing_yet : End
-nothing_yet = record { connection = None; written = []; closed = false; read = []; ended = false }
+nothing_yet = record { connection = Absent; written = []; closed = false; read = []; ended = false }
 
 abbrev pub apart : Pairing
 apart = record { own = nothing_yet; other = nothing_yet; sent = []; received = [] }
@@ -56,42 +62,52 @@ pub record IsTimely (limit : ℕ) (p : Pairing) (e : Emission) : Type 0 where
   pub other : length p.other.written < e.own_written + limit
 
 abbrev pub with_connection : Pairing → View → Pairing
-with_connection p v = record p { own = record p.own { connection = Some v } }
+with_connection p v = record p { own = record p.own { connection = Present v } }
 
 -- what is left of a connection
-abbrev pub remains : Fate → View → Option View
-remains Stays v = Some v
-remains Removed v = None
+abbrev pub remains : Fate → View → Presence
+remains Stays v = Present v
+remains Removed v = Departed
+remains Refused v = Present v
 
 -- what may happen at one end
 pub data Move (limit : ℕ) : Pairing → Pairing → Type 0 where
   -- its caller opens a connection, with any initial number
-  connects : (p : Pairing) (local peer : Endpoint) (isn : ℕ) → p.own.connection ≡ None → isn < 2 ^ 32 → Move limit p (with_connection p (opened_actively local peer isn))
+  connects : (p : Pairing) (local peer : Endpoint) (isn : ℕ) → p.own.connection ≡ Absent → isn < 2 ^ 32 → Move limit p (with_connection p (opened_actively local peer isn))
   -- a SYN of the other end opens one
-  accepts : (p : Pairing) (local peer : Endpoint) (isn : ℕ) (e : Emission) → p.own.connection ≡ None → isn < 2 ^ 32 → IsAmong e p.received → IsTimely limit p e → e.segment.flags.syn ≡ true
+  accepts : (p : Pairing) (local peer : Endpoint) (isn : ℕ) (e : Emission) → p.own.connection ≡ Absent → isn < 2 ^ 32 → IsAmong e p.received → IsTimely limit p e → e.segment.flags.syn ≡ true
       → Move limit p (with_connection p (opened_passively local peer isn e.segment))
   -- its caller gives octets
-  takes : (p : Pairing) (v : View) (octets : List ℕ) → p.own.connection ≡ Some v → IsSound v → is_some v.told ≡ false → is_opening v.state ≡ false → is_write_closed v.state ≡ false
-      → Move limit p (record p { own = record p.own { connection = Some (after_send v octets); written = p.own.written ++ take (taken v octets) octets } })
+  takes : (p : Pairing) (v : View) (octets : List ℕ) → p.own.connection ≡ Present v → IsSound v → is_some v.told ≡ false → is_opening v.state ≡ false → is_write_closed v.state ≡ false
+      → Move limit p (record p { own = record p.own { connection = Present (after_send v octets); written = p.own.written ++ take (taken v octets) octets } })
   -- its caller closes its side
-  closes : (p : Pairing) (v : View) → p.own.connection ≡ Some v → IsSound v → is_opening v.state ≡ false
-      → Move limit p (record p { own = record p.own { connection = Some (after_shutdown v); closed = true } })
+  closes : (p : Pairing) (v : View) → p.own.connection ≡ Present v → IsSound v → is_opening v.state ≡ false
+      → Move limit p (record p { own = record p.own { connection = Present (after_shutdown v); closed = true } })
   -- its caller reads into a buffer of some length
-  gives : (p : Pairing) (v : View) (len : ℕ) → p.own.connection ≡ Some v → IsSound v → is_some v.told ≡ false → is_opening v.state ≡ false
-      → Move limit p (record p { own = record p.own { connection = Some (after_recv v len); read = p.own.read ++ take (moved v len) v.receiving.readable } })
+  gives : (p : Pairing) (v : View) (len : ℕ) → p.own.connection ≡ Present v → IsSound v → is_some v.told ≡ false → v.released ≡ false → is_opening v.state ≡ false
+      → Move limit p (record p { own = record p.own { connection = Present (after_recv v len); read = p.own.read ++ take (moved v len) v.receiving.readable } })
   -- its caller is told the end
-  ends : (p : Pairing) (v : View) (len : ℕ) → p.own.connection ≡ Some v → recv_answer v len ≡ Ok EndOfStream → Move limit p (record p { own = record p.own { ended = true } })
-  -- the clock moves
-  ticks : (p : Pairing) (v : View) (now : Moment) → p.own.connection ≡ Some v → Move limit p (with_connection p (after_tick v now))
-  -- the segment that is due first goes out
-  emits : (p : Pairing) (v : View) (due : Due) (now : Moment) → p.own.connection ≡ Some v → IsSound v → first_due v ≡ Some due → MayGoOut v due
-      → IsOfWidth (sent (head_of v due) (octets_of v due))
+  ends : (p : Pairing) (v : View) (len : ℕ) → p.own.connection ≡ Present v → v.released ≡ false → recv_answer v len ≡ Ok EndOfStream → Move limit p (record p { own = record p.own { ended = true } })
+  -- the clock moves, or something else happens that changes nothing of the stream
+  rests : (p : Pairing) (v w : View) → p.own.connection ≡ Present v → SameStream v w → Move limit p (with_connection p w)
+  -- the segment that is due first goes out; none with RST is among those
+  emits : (p : Pairing) (v : View) (due : Due) (now : Moment) → p.own.connection ≡ Present v → IsSound v → first_due v ≡ Some due → MayGoOut v due
+      → (let f = flags_of v due in f.rst) ≡ false → IsOfWidth (sent (head_of v due) (octets_of v due))
       → Move limit p (record (with_connection p (after_emitted v due now)) {
         sent = record { segment = sent (head_of v due) (octets_of v due); own_written = length p.own.written; other_written = length p.other.written } ∷ p.sent;
       })
   -- a segment that the other end ever sent arrives
-  hears : (p : Pairing) (v : View) (e : Emission) → p.own.connection ≡ Some v → IsSound v → IsAmong e p.received → IsTimely limit p e
+  hears : (p : Pairing) (v : View) (e : Emission) → p.own.connection ≡ Present v → IsSound v → IsAmong e p.received → IsTimely limit p e
       → Move limit p (record p { own = record p.own { connection = remains (fate v e.segment) (after_segment v e.segment) } })
+  -- a reset arrives, whoever sent it and whatever its numbers
+  resets : (p : Pairing) (v : View) (s : Segment) → p.own.connection ≡ Present v → s.flags.rst ≡ true
+      → Move limit p (record p { own = record p.own { connection = remains (fate v s) (after_segment v s) } })
+  -- the connection is over, by the clock or by its caller's abort
+  stops : (p : Pairing) (v w : View) (closed : Bool) → p.own.connection ≡ Present v → Stops v w → (p.own.closed ≡ true → closed ≡ true)
+      → Move limit p (record p { own = record p.own { connection = Present w; closed = closed } })
+  -- it leaves its host's table
+  leaves : (p : Pairing) (v : View) (closed : Bool) → p.own.connection ≡ Present v → (p.own.closed ≡ true → closed ≡ true)
+      → Move limit p (record p { own = record p.own { connection = Departed; closed = closed } })
 
 -- what two ends may come to: one move after another, at either end
 pub data Meets (limit : ℕ) : Pairing → Type 0 where

@@ -1,1 +1,6 @@
 pub mod Framing
+pub mod Edges
+pub mod Causes
+pub mod Errors
+pub mod Unchanged
+pub mod Released

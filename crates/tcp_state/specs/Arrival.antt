@@ -1,18 +1,20 @@
 -- What an arriving segment makes of a connection, step by step (RFC 9293 section 3.10.7).
-use Rattle.std.specs.Prelude.{ℕ, ◌+◌, ◌%◌, ◌^◌, ◌==◌, ◌&&◌, ◌||◌, not, Bool, true, false, if◌then◌else◌, [], length, Option, Some, None}
+use Rattle.std.specs.Prelude.{ℕ, ◌+◌, ◌%◌, ◌^◌, ◌==◌, ◌&&◌, ◌||◌, not, Bool, true, false, if◌then◌else◌, length, Option, Some, None}
 use Rattle.tcp_state.specs.declared.calls.Refusal.{Refusal}
 use Rattle.tcp_state.specs.declared.calls.Refusal.TheVariants.{ECONNREFUSED, ECONNRESET}
 use Rattle.ipv4.specs.declared.addr.Endpoint.{Endpoint}
 use Rattle.tcp_segment.specs.Segment.{Segment, smss_of, span_of}
 use Rattle.tcp_state.specs.Numbers.{is_before}
 use Rattle.tcp_state.specs.declared.connection.Fate.{Fate}
-use Rattle.tcp_state.specs.declared.connection.Fate.TheVariants.{Stays, Removed}
+use Rattle.tcp_state.specs.declared.connection.Fate.TheVariants.{Stays, Removed, Refused}
+use Rattle.tcp_state.specs.declared.moment.Moment.{Moment}
 use Rattle.tcp_state.specs.declared.connection.Resend.TheVariants.{Idle}
 use Rattle.tcp_state.specs.declared.state.State.{State}
-use Rattle.tcp_state.specs.declared.state.State.TheVariants.{Closed, SynSent, SynReceived, Established, FinWait1, FinWait2, CloseWait, Closing, LastAck, TimeWait}
+use Rattle.tcp_state.specs.declared.state.State.TheVariants.{SynSent, SynReceived, Established, FinWait1, FinWait2, CloseWait, Closing, LastAck, TimeWait, Closed}
 use Rattle.tcp_state.specs.Stream.{outstanding, is_new_ack, sending_from, receiving_nothing, after_syn_acknowledged, after_acknowledged, is_acceptable, synchronised, after_octets, stands_next, after_end}
 use Rattle.tcp_state.specs.Windows.{after_syn_heard, after_window_told}
-use Rattle.tcp_state.specs.View.{View, is_syn_sent, is_syn_received, awaits_fin_ack, is_closed}
+use Rattle.tcp_state.specs.View.{View, is_syn_sent, is_syn_received, awaits_fin_ack, is_closed, is_fin_wait_2, is_time_wait, stopped, is_over}
+use Rattle.tcp_state.specs.Calls.{aborted}
 
 abbrev pub owing_ack : View → View
 owing_ack v = record v { owes_ack = true }
@@ -29,17 +31,14 @@ opened_passively local peer isn syn = record {
   owes_ack = false;
   resend = Idle;
   told = None;
+  released = false;
+  owes_reset = false;
+  since = record { 0 = 0 };
 }
 
 -- A reset ends the connection: what is held goes out no more, nothing is owed, and every call is told why from now on.
 abbrev pub after_reset : View → Option Refusal → View
-after_reset v error = record v {
-  state = Closed;
-  sending = record v.sending { held = []; nxt = v.sending.una };
-  owes_ack = false;
-  resend = Idle;
-  told = error;
-}
+after_reset v error = record (stopped v) { told = error }
 
 -- why, by the state that it ends: refused while it opens, reset while octets may still come or go; else both sides were closed
 abbrev pub reset_error : State → Option Refusal
@@ -187,5 +186,57 @@ after_segment v s =
     else if is_accepted v s then after_accepted v s
     else owing_ack v
 
+-- Octets for a connection that its caller closed would be lost, and the peer is told so by a reset (section 3.6.1): an acceptable
+-- segment has one at RCV.NXT or past it. Its acknowledgement and its window are used before, its FIN is not looked at.
+abbrev pub brings_more : View → Segment → Bool
+brings_more v s = not (length s.octets == 0) && is_before v.receiving.rnext ((s.number + length s.octets) % 2 ^ 32)
+
+abbrev pub is_read : View → Segment → Bool
+is_read v s = not s.flags.rst && is_accepted v s && not s.flags.syn && s.flags.ack && is_read_on v s.acknowledgement
+
+abbrev pub is_lost : View → Segment → Bool
+is_lost v s = v.released && is_receiving v.state && is_read v s && brings_more v s
+
+abbrev pub after_lost : View → Segment → View
+after_lost v s = aborted (after_window (after_ack v s.acknowledgement) s)
+
+-- What the segment makes of the connection without the clock ..
+abbrev pub after_heard : View → Segment → View
+after_heard v s = if is_lost v s then after_lost v s else after_segment v s
+
+-- .. and the clock: a wait is counted from the segment that leads to TIME-WAIT or to FIN-WAIT-2 ..
+abbrev pub begins_wait : State → State → Bool
+begins_wait before TimeWait = not (is_time_wait before)
+begins_wait before FinWait2 = not (is_fin_wait_2 before)
+begins_wait before _ = false
+
+-- .. and in TIME-WAIT again from one that brings the peer's FIN once more (section 3.10.7.4, eighth)
+abbrev pub repeats_fin : View → Segment → Bool
+repeats_fin v s = is_time_wait v.state && not s.flags.rst && not (is_accepted v s) && s.flags.fin && ((s.number + span_of s) % 2 ^ 32 == v.receiving.rnext)
+
+abbrev pub timed : View → Segment → Moment → View → View
+timed v s now w = record w { since = if repeats_fin v s || begins_wait v.state w.state then now else w.since }
+
+abbrev pub after_segment_at : View → Segment → Moment → View
+after_segment_at v s now = timed v s now (after_heard v s)
+
+-- While the connection opens, an acknowledgement of what was not sent is refused: it is answered by a reset at its number
+-- (section 3.10.7.3, first, and section 3.10.7.4, fifth), and changes nothing.
+abbrev pub acknowledges_unsent : View → Segment → Bool
+acknowledges_unsent v s = not s.flags.rst && s.flags.ack && not (is_new_ack v.sending s.acknowledgement)
+
+abbrev pub is_refused : View → Segment → Bool
+is_refused v s = acknowledges_unsent v s && (is_syn_sent v.state || (is_syn_received v.state && is_accepted v s && not s.flags.syn))
+
+-- a reset or a SYN takes out what a listener opened and is not established
+abbrev pub ends_opening : View → Segment → Bool
+ends_opening v s = not (is_syn_sent v.state) && (if s.flags.rst then ends_by_reset v s else ends_by_syn v s)
+
+-- what becomes of its place: taken out is also what its caller closed and what is over then
 abbrev pub fate : View → Segment → Fate
-fate v s = if not (is_syn_sent v.state) && (if s.flags.rst then ends_by_reset v s else ends_by_syn v s) then Removed else Stays
+fate v s =
+    if is_closed v.state || is_lost v s then Stays
+    else if is_over (after_segment v s) then Removed
+    else if is_refused v s then Refused
+    else if ends_opening v s then Removed
+    else Stays

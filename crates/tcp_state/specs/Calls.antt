@@ -1,5 +1,5 @@
--- What a caller's octets, its reading and its closing make of a connection (RFC 9293 sections 3.10.2 to 3.10.4, POSIX send and recv).
-use Rattle.std.specs.Prelude.{ℕ, ◌==◌, ◌&&◌, ◌||◌, not, min, if◌then◌else◌, List, ◌++◌, length, take, Option, Some, None, is_some, Result, Ok, Err}
+-- What a caller's octets, its reading and its closing make of a connection (RFC 9293 sections 3.10.2 to 3.10.5, POSIX send, recv and close).
+use Rattle.std.specs.Prelude.{ℕ, ◌==◌, ◌&&◌, ◌||◌, not, Bool, true, min, if◌then◌else◌, List, ◌++◌, length, take, Option, Some, None, is_some, Result, Ok, Err}
 use Rattle.std.specs.Option.{option_or}
 use Rattle.tcp_state.specs.declared.state.State.{State}
 use Rattle.tcp_state.specs.declared.state.State.TheVariants.{Established, FinWait1, CloseWait, LastAck}
@@ -7,8 +7,11 @@ use Rattle.tcp_state.specs.declared.calls.Refusal.{Refusal}
 use Rattle.tcp_state.specs.declared.calls.Refusal.TheVariants.{EAGAIN, ENOTCONN, EPIPE}
 use Rattle.tcp_state.specs.declared.calls.Received.{Received}
 use Rattle.tcp_state.specs.declared.calls.Received.TheVariants.{Octets, EndOfStream}
+use Rattle.tcp_state.specs.declared.moment.Moment.{Moment}
+use Rattle.tcp_state.specs.declared.connection.Fate.{Fate}
+use Rattle.tcp_state.specs.declared.connection.Fate.TheVariants.{Stays, Removed}
 use Rattle.tcp_state.specs.Stream.{send_room, receive_window, after_read}
-use Rattle.tcp_state.specs.View.{View, is_opening, is_write_closed, is_end_seen, is_closed}
+use Rattle.tcp_state.specs.View.{View, is_opening, is_syn_sent, is_syn_received, is_write_closed, is_end_seen, is_closed, is_fin_wait_2, stopped}
 
 -- how many octets a send takes: all, or as many as there is room for
 abbrev pub taken : View → List ℕ → ℕ
@@ -68,3 +71,35 @@ shut state = state
 
 abbrev pub after_shutdown : View → View
 after_shutdown v = record v { state = shut v.state }
+
+-- An abort (section 3.10.5): the peer is owed a reset, and nobody else anything.
+abbrev pub aborted : View → View
+aborted v = record (stopped v) { released = true; owes_reset = true }
+
+abbrev pub after_abort : View → View
+after_abort v = if is_closed v.state then v else aborted v
+
+-- what is CLOSED already is gone at once
+abbrev pub abort_fate : View → Fate
+abort_fate v = if is_closed v.state then Removed else Stays
+
+-- its caller leaves it, and our side closes: it goes on until it ends by itself; in FIN-WAIT-2 its wait begins
+abbrev pub after_release : View → Moment → View
+after_release v now = record v { state = shut v.state; released = true; since = if is_fin_wait_2 v.state then now else v.since }
+
+-- Closing (section 3.10.4) takes out at once what is CLOSED, or of which no peer knows that it may be open ..
+abbrev pub is_removed_by_close : View → Bool
+is_removed_by_close v = is_closed v.state || is_syn_sent v.state
+
+-- .. and aborts what opens for a peer, or has octets that its caller will not read (section 3.6.1)
+abbrev pub is_aborted_by_close : View → Bool
+is_aborted_by_close v = is_syn_received v.state || not (length v.receiving.readable == 0)
+
+abbrev pub after_close : View → Moment → View
+after_close v now =
+    if is_removed_by_close v then v
+    else if is_aborted_by_close v then aborted v
+    else after_release v now
+
+abbrev pub close_fate : View → Fate
+close_fate v = if is_removed_by_close v then Removed else Stays

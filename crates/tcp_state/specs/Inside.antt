@@ -13,4 +13,7 @@ view_of c = record {
   owes_ack = c.owes_ack;
   resend = c.resend;
   told = c.told;
+  released = c.is_released;
+  owes_reset = c.owes_reset;
+  since = c.since;
 }

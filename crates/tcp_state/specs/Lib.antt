@@ -6,4 +6,5 @@ pub mod View
 pub mod Calls
 pub mod Arrival
 pub mod Due
+pub mod Edges
 pub mod Inside

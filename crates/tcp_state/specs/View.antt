@@ -1,11 +1,13 @@
 -- A connection as its callers see it (RFC 9293 section 3.3).
-use Rattle.std.specs.Prelude.{◌≡◌, ℕ, ◌≤◌, ◌^◌, ◌==◌, ◌&&◌, ◌||◌, ◌<◌, nat_le, min, Bool, true, false, if◌then◌else◌, length, Option, Some, None}
+use Rattle.std.specs.Prelude.{◌≡◌, ℕ, ◌+◌, ◌-◌, ◌≤◌, ◌^◌, ◌==◌, ◌&&◌, ◌||◌, ◌<◌, not, nat_le, min, Bool, true, false, if◌then◌else◌, [], length, Option, Some, None, is_some}
 use Rattle.ipv4.specs.declared.addr.Endpoint.{Endpoint}
 use Rattle.tcp_state.specs.declared.buffers.TheConstants.{CAPACITY}
 use Rattle.tcp_state.specs.declared.state.State.{State}
-use Rattle.tcp_state.specs.declared.state.State.TheVariants.{Closed, Listen, SynSent, SynReceived, Established, FinWait1, FinWait2, CloseWait, Closing, LastAck, TimeWait}
+use Rattle.tcp_state.specs.declared.state.State.TheVariants.{Closed, Listen, SynSent, SynReceived, FinWait1, FinWait2, CloseWait, Closing, LastAck, TimeWait}
 use Rattle.tcp_state.specs.declared.moment.Moment.{Moment}
 use Rattle.tcp_state.specs.declared.calls.Refusal.{Refusal}
+use Rattle.tcp_state.specs.declared.connection.Fate.{Fate}
+use Rattle.tcp_state.specs.declared.connection.Fate.TheVariants.{Stays, Removed}
 use Rattle.tcp_state.specs.declared.connection.Resend.{Resend}
 use Rattle.tcp_state.specs.declared.connection.Resend.TheVariants.{Idle, At, Due}
 use Rattle.tcp_state.specs.Halves.{Sending, Receiving}
@@ -25,6 +27,12 @@ pub record View : Type 0 where
   pub resend : Resend
   -- the error that every call is told from now on
   pub told : Option Refusal
+  -- its caller closed it: no socket names it any more
+  pub released : Bool
+  -- it was aborted, and its reset has not gone out
+  pub owes_reset : Bool
+  -- the moment from which its wait in TIME-WAIT, or in FIN-WAIT-2 where it is released, is counted
+  pub since : Moment
 
 -- SYN-SENT or SYN-RECEIVED
 abbrev pub is_opening : State → Bool
@@ -71,6 +79,14 @@ abbrev pub is_closed : State → Bool
 is_closed Closed = true
 is_closed _ = false
 
+abbrev pub is_fin_wait_2 : State → Bool
+is_fin_wait_2 FinWait2 = true
+is_fin_wait_2 _ = false
+
+abbrev pub is_time_wait : State → Bool
+is_time_wait TimeWait = true
+is_time_wait _ = false
+
 abbrev pub is_listening : State → Bool
 is_listening Listen = true
 is_listening _ = false
@@ -83,21 +99,65 @@ abbrev pub is_idle : Resend → Bool
 is_idle Idle = true
 is_idle _ = false
 
--- the timer of what goes out again acts at a tick whose moment has come
-abbrev pub after_tick : View → Moment → View
-after_tick v now = record v { resend = resend_after v.resend now }
-  where
-    resend_after : Resend → Moment → Resend
-    resend_after (At moment) now = if nat_le moment.0 now.0 then Due else At moment
-    resend_after other now = other
+-- The clock.
 
--- the moment at which a tick makes something due
+-- so many milliseconds later, or the last moment where that would lie past it
+abbrev pub later : Moment → ℕ → Moment
+later moment milliseconds = record { 0 = min (moment.0 + milliseconds) (2 ^ 64 - 1) }
+
+-- when a wait that began at a moment ends: TIME-WAIT lasts twice the two minutes that a segment may live (section 3.4.2), FIN-WAIT-2
+-- a minute where no caller is left to read
+abbrev pub end_of_wait : State → Bool → Moment → Option Moment
+end_of_wait TimeWait released since = Some (later since 240000)
+end_of_wait FinWait2 true since = Some (later since 60000)
+end_of_wait FinWait2 false since = None
+end_of_wait _ released since = None
+
+abbrev pub ends_at : View → Option Moment
+ends_at v = end_of_wait v.state v.released v.since
+
+abbrev pub is_reached : Option Moment → Moment → Bool
+is_reached (Some moment) now = nat_le moment.0 now.0
+is_reached None now = false
+
+abbrev pub is_at_end : View → Moment → Bool
+is_at_end v now = is_reached (ends_at v) now
+
+-- the connection is CLOSED: nothing is held, owed or due, and no number is outstanding
+abbrev pub stopped : View → View
+stopped v = record v { state = Closed; sending = record v.sending { held = []; una = v.sending.nxt }; owes_ack = false; resend = Idle }
+
+-- closed by its caller and CLOSED, and no reset is owed: nothing is left of it
+abbrev pub is_over : View → Bool
+is_over v = is_closed v.state && v.released && not v.owes_reset
+
+abbrev pub resend_after : Resend → Moment → Resend
+resend_after (At moment) now = if nat_le moment.0 now.0 then Due else At moment
+resend_after other now = other
+
+-- the timer of what goes out again acts at a tick whose moment has come
+abbrev pub after_resend : View → Moment → View
+after_resend v now = record v { resend = resend_after v.resend now }
+
+-- a tick ends the connection whose wait is over, and tells nobody; else it lets the other timer act
+abbrev pub after_tick : View → Moment → View
+after_tick v now = if is_at_end v now then stopped v else after_resend v now
+
+abbrev pub tick_fate : View → Moment → Fate
+tick_fate v now = if is_at_end v now && v.released then Removed else Stays
+
+abbrev pub resend_at : Resend → Option Moment
+resend_at (At moment) = Some moment
+resend_at _ = None
+
+abbrev pub earlier : Option Moment → Option Moment → Option Moment
+earlier None other = other
+earlier (Some a) None = Some a
+earlier (Some a) (Some b) = if nat_le a.0 b.0 then Some a else Some b
+
+-- the moment at which a tick does something
 abbrev pub deadline : View → Option Moment
-deadline v = of_resend v.resend
-  where
-    of_resend : Resend → Option Moment
-    of_resend (At moment) = Some moment
-    of_resend _ = None
+deadline v = earlier (resend_at v.resend) (ends_at v)
 
 -- a connection that its caller opens (RFC 9293 section 3.10.1)
 abbrev pub opened_actively : Endpoint → Endpoint → ℕ → View
@@ -111,6 +171,9 @@ opened_actively local peer isn = record {
   owes_ack = false;
   resend = Idle;
   told = None;
+  released = false;
+  owes_reset = false;
+  since = record { 0 = 0 };
 }
 
 -- how many numbers may be outstanding: that of the SYN, as many octets that are held as one segment has, or that of the FIN behind them
@@ -120,6 +183,7 @@ most_outstanding v =
 
 -- What holds of every connection. While it opens, nothing is held or readable, and nothing is held once our FIN is acknowledged. At most
 -- one segment is outstanding; its timer runs exactly while it is. An acknowledgement is owed once a SYN came, and none when all is closed.
+-- An error is told, and a reset owed, only where all is closed; what its caller closed is closed on our side.
 pub record IsSound (v : View) : Type 0 where
   pub una : v.sending.una < 2 ^ 32
   pub nxt : v.sending.nxt < 2 ^ 32
@@ -132,3 +196,6 @@ pub record IsSound (v : View) : Type 0 where
   pub connection : is_listening v.state ≡ false
   pub segment : v.sending.smss ≤ 1460
   pub ack : ((is_syn_sent v.state || is_closed v.state) && v.owes_ack) ≡ false
+  pub error : (is_some v.told && not (is_closed v.state)) ≡ false
+  pub reset : (v.owes_reset && not (is_closed v.state && v.released)) ≡ false
+  pub release : (v.released && not (is_write_closed v.state)) ≡ false

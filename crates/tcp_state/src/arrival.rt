@@ -2,29 +2,57 @@
 
 ghost use Rattle.std.specs.Prelude.{◌≡◌, true, false, ◌&&◌, ◌||◌, not, if◌then◌else◌, IsTrue, ◌==◌};
 ghost use Rattle.tcp_state.specs.View.{is_opening, is_syn_sent, is_syn_received, is_closed};
-ghost use Rattle.tcp_state.specs.Arrival.{after_segment, fate, after_syn_ack, owing_ack, established, after_ack, is_read_on, after_window, after_text, after_acceptable, after_accepted, ends_by_syn, is_accepted, is_fin_next, fin_acknowledged, after_new_ack, after_fin, after_reset, reset_error, after_refusal, after_rst, ends_by_reset};
+ghost use Rattle.tcp_state.specs.Arrival.{after_segment, after_syn_ack, owing_ack, established, after_ack, is_read_on, after_window, after_text, after_acceptable, after_accepted, ends_by_syn, is_accepted, is_fin_next, fin_acknowledged, after_new_ack, after_fin, after_reset, reset_error, after_refusal, after_rst, ends_by_reset, is_right_syn_ack, fate, after_segment_at, after_heard, is_lost, is_read, brings_more, after_lost, repeats_fin, is_refused, ends_opening};
 ghost use Rattle.tcp_state.specs.Stream.{is_new_ack};
 
 use crate::connection::{Connection, Fate, Resend};
+use crate::moment::Moment;
 use crate::state::State;
 use tcp_segment::{Seq, TcpView};
 
 impl Connection {
-    /// Takes a segment from the peer.
-    pub fn segment(&mut self, segment: &TcpView<'_>) -> Fate
+    /// Takes a segment from the peer, and answers what becomes of the connection's place.
+    pub fn segment(&mut self, now: Moment, segment: &TcpView<'_>) -> Fate
         ensures fate { result ≡ fate self.old segment.now }
-        ensures after { self.new ≡ after_segment self.old segment.now }
+        ensures after { self.new ≡ after_segment_at self.old segment.now now }
     {
-        let flags = segment.flags();
+        let before = self.state;
+        let waits_anew = self.repeats_fin(segment);
+        let fate = self.hear(segment);
+        if waits_anew || before.begins_wait(self.state) {
+            self.since = now;
+        }
+        fate
+    }
+
+    /// Takes a segment, without the clock.
+    fn hear(&mut self, segment: &TcpView<'_>) -> Fate
+        ensures fate { result ≡ fate self.old segment.now }
+        ensures after { self.new ≡ after_heard self.old segment.now }
+    {
         if self.state == State::Closed {
             return Fate::Stays;
         }
+        if self.is_lost(segment) {
+            self.hear_lost(segment);
+            return Fate::Stays;
+        }
+        let fate = self.hear_kept(segment);
+        if self.is_over() { Fate::Removed } else { fate }
+    }
+
+    /// Takes a segment of which no octets are lost, step by step.
+    fn hear_kept(&mut self, segment: &TcpView<'_>) -> Fate
+        requires { is_closed self.old.state ≡ false }
+        ensures fate { result ≡ (if is_refused self.old segment.now then Fate.Refused else if ends_opening self.old segment.now then Fate.Removed else Fate.Stays) }
+        ensures after { self.new ≡ after_segment self.old segment.now }
+    {
+        let flags = segment.flags();
         if flags.rst {
             return self.hear_reset(segment);
         }
         if self.state == State::SynSent {
-            self.hear_syn_ack(segment);
-            return Fate::Stays;
+            return self.hear_syn_ack(segment);
         }
         if !self.receiver.accepts(segment.number(), segment.span()) {
             self.owes_ack = true;
@@ -34,9 +62,74 @@ impl Connection {
             return self.hear_syn_in_window();
         }
         if flags.ack {
-            self.hear_accepted(segment);
+            return self.hear_accepted(segment);
         }
         Fate::Stays
+    }
+
+    /// Whether octets of a segment would be lost: its caller closed the connection, and one stands at RCV.NXT or past it.
+    fn is_lost(&self, segment: &TcpView<'_>) -> bool
+        ensures { result ≡ is_lost self.now segment.now }
+    {
+        self.is_released
+            && self.state.is_receiving()
+            && self.is_read(segment)
+            && self.brings_more(segment)
+    }
+
+    /// Whether a segment is read to its octets: acceptable, with an acknowledgement of what was sent, and without RST and SYN.
+    fn is_read(&self, segment: &TcpView<'_>) -> bool
+        ensures { result ≡ is_read self.now segment.now }
+    {
+        let flags = segment.flags();
+        !flags.rst
+            && self.receiver.accepts(segment.number(), segment.span())
+            && !flags.syn
+            && flags.ack
+            && self.is_read_on(segment.acknowledgement())
+    }
+
+    /// Whether what follows an acknowledgement is read: past SYN-RECEIVED where it is of what was sent.
+    fn is_read_on(&self, acknowledgement: Seq) -> bool
+        ensures { result ≡ is_read_on self.now acknowledgement.0 }
+    {
+        let is_new = self.sender.is_new(acknowledgement);
+        if self.state == State::SynReceived {
+            return is_new;
+        }
+        is_new || !self.sender.nxt().is_before(acknowledgement)
+    }
+
+    /// Whether the last octet of a segment stands at RCV.NXT or past it.
+    fn brings_more(&self, segment: &TcpView<'_>) -> bool
+        ensures { result ≡ brings_more self.now segment.now }
+    {
+        let octets = segment.payload();
+        let end = segment.number() + octets.len() as u32;
+        !octets.is_empty() && self.receiver.rnext().is_before(end)
+    }
+
+    /// Octets come that no caller will read: the acknowledgement and the window are used, and the peer is reset.
+    fn hear_lost(&mut self, segment: &TcpView<'_>)
+        requires { (is_syn_sent self.old.state || is_closed self.old.state) ≡ false }
+        ensures { self.new ≡ after_lost self.old segment.now }
+    {
+        self.hear_ack(segment.acknowledgement());
+        self.hear_window(segment);
+        self.reset_peer();
+    }
+
+    /// Whether a segment in TIME-WAIT brings the peer's FIN once more: the number behind it is RCV.NXT.
+    fn repeats_fin(&self, segment: &TcpView<'_>) -> bool
+        ensures { result ≡ repeats_fin self.now segment.now }
+    {
+        let flags = segment.flags();
+        let (number, span) = (segment.number(), segment.span());
+        self.state == State::TimeWait
+            && !flags.rst
+            && !self.receiver.accepts(number, span)
+            && flags.fin
+            && number + span == self.receiver.rnext()
     }
 
     /// Takes a segment with RST.
@@ -70,22 +163,27 @@ impl Connection {
     fn reset(&mut self)
         ensures { self.new ≡ after_reset self.old (reset_error self.old.state) }
     {
-        self.told = self.state.reset_error();
-        self.state = State::Closed;
-        self.sender.abandon();
-        self.owes_ack = false;
-        self.resend = Resend::Idle;
+        let error = self.state.reset_error();
+        self.stop();
+        self.told = error;
     }
 
     /// Takes an acceptable segment with ACK and without SYN.
-    fn hear_accepted(&mut self, segment: &TcpView<'_>)
+    fn hear_accepted(&mut self, segment: &TcpView<'_>) -> Fate
         requires { (is_syn_sent self.old.state || is_closed self.old.state) ≡ false }
-        ensures { self.new ≡ after_acceptable self.old segment.now }
+        ensures fate { result ≡ (if is_syn_received self.old.state && not (is_new_ack self.old.sending segment.now.acknowledgement) then Fate.Refused else Fate.Stays) }
+        ensures after { self.new ≡ after_acceptable self.old segment.now }
     {
         if self.hear_ack(segment.acknowledgement()) {
             self.hear_window(segment);
             self.hear_octets(segment);
             self.hear_fin(segment);
+            return Fate::Stays;
+        }
+        if self.state == State::SynReceived {
+            Fate::Refused
+        } else {
+            Fate::Stays
         }
     }
 
@@ -101,14 +199,27 @@ impl Connection {
     }
 
     /// In SYN-SENT only a SYN that acknowledges ours is taken (RFC 9293 section 3.10.7.3).
-    fn hear_syn_ack(&mut self, segment: &TcpView<'_>)
+    fn hear_syn_ack(&mut self, segment: &TcpView<'_>) -> Fate
         requires { is_syn_sent self.old.state ≡ true }
-        ensures { self.new ≡ after_syn_ack self.old segment.now }
+        ensures fate { result ≡ (if segment.now.flags.ack && not (is_new_ack self.old.sending segment.now.acknowledgement) then Fate.Refused else Fate.Stays) }
+        ensures after { self.new ≡ after_syn_ack self.old segment.now }
     {
         let flags = segment.flags();
-        if !flags.syn || !flags.ack || !self.sender.is_new(segment.acknowledgement()) {
-            return;
+        if flags.ack && !self.sender.is_new(segment.acknowledgement()) {
+            return Fate::Refused;
         }
+        if flags.syn && flags.ack {
+            self.establish_by(segment);
+        }
+        Fate::Stays
+    }
+
+    /// The peer's SYN acknowledges ours.
+    fn establish_by(&mut self, segment: &TcpView<'_>)
+        requires waits { is_syn_sent self.old.state ≡ true }
+        requires right { is_right_syn_ack self.old segment.now ≡ true }
+        ensures { self.new ≡ after_syn_ack self.old segment.now }
+    {
         self.sender
             .hear_syn(segment.number(), segment.window(), segment.smss());
         self.sender.acknowledge_syn();

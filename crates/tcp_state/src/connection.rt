@@ -1,5 +1,5 @@
 ghost use Rattle.std.specs.Prelude.{◌≡◌};
-ghost use Rattle.tcp_state.specs.View.{View, IsSound, opened_actively, after_tick, deadline};
+ghost use Rattle.tcp_state.specs.View.{View, IsSound, opened_actively, is_over};
 ghost use Rattle.tcp_state.specs.Arrival.{opened_passively};
 
 use crate::buffers::Buffers;
@@ -15,10 +15,14 @@ use tcp_segment::{Seq, TcpView};
 /// What becomes of a connection's place in the table.
 #[derive(Clone, Copy, Debug, PartialEq, Eq)]
 pub enum Fate {
-    /// The connection goes on.
+    /// The connection keeps its place.
     Stays,
-    /// A passive connection that was not established is gone (RFC 9293 section 3.10.7.4).
+    /// The connection is gone: one that a listener opened and that was not established (RFC 9293 section 3.10.7.4), or one that its
+    /// caller closed and that is over.
     Removed,
+    /// The connection keeps its place and is as it was. The segment is answered by a reset at its acknowledgement (RFC 9293 sections
+    /// 3.10.7.3 and 3.10.7.4).
+    Refused,
 }
 
 /// Whether and when what is outstanding goes out again.
@@ -44,6 +48,9 @@ pub struct Connection {
     pub(crate) owes_ack: bool,
     pub(crate) resend: Resend,
     pub(crate) told: Option<Refusal>,
+    pub(crate) is_released: bool,
+    pub(crate) owes_reset: bool,
+    pub(crate) since: Moment,
 }
 
 impl Model for Connection {
@@ -74,6 +81,9 @@ impl Connection {
             owes_ack: false,
             resend: Resend::Idle,
             told: None,
+            is_released: false,
+            owes_reset: false,
+            since: Moment(0),
         }
     }
 
@@ -102,6 +112,9 @@ impl Connection {
             owes_ack: false,
             resend: Resend::Idle,
             told: None,
+            is_released: false,
+            owes_reset: false,
+            since: Moment(0),
         }
     }
 
@@ -127,24 +140,17 @@ impl Connection {
         self.peer
     }
 
-    /// Lets the timer act whose moment has come.
-    pub fn tick(&mut self, now: Moment)
-        ensures { self.new ≡ after_tick self.old now }
+    /// Whether its caller closed or aborted it, so that no socket names it any more.
+    pub fn is_released(&self) -> bool
+        ensures { result ≡ self.now.released }
     {
-        if let Resend::At(moment) = self.resend
-            && moment <= now
-        {
-            self.resend = Resend::Due;
-        }
+        self.is_released
     }
 
-    /// The moment at which a tick would make something due.
-    pub fn deadline(&self) -> Option<Moment>
-        ensures { result ≡ deadline self.now }
+    /// Whether nothing is left of a connection that its caller closed: it is CLOSED and owes no reset.
+    pub fn is_over(&self) -> bool
+        ensures { result ≡ is_over self.now }
     {
-        match self.resend {
-            Resend::At(moment) => Some(moment),
-            Resend::Idle | Resend::Due => None,
-        }
+        self.state == State::Closed && self.is_released && !self.owes_reset
     }
 }

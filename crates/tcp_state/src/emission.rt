@@ -2,7 +2,7 @@
 
 ghost use Rattle.std.specs.Prelude.{◌≡◌, ◌+◌, ◌<◌, ◌≤◌, ◌++◌, length, drop, IfSome, MatchOption, option_map, min, if◌then◌else◌, true, false};
 ghost use Rattle.tcp_state.specs.View.{is_opening, is_due, most_outstanding};
-ghost use Rattle.tcp_state.specs.Due.{MayGoOut, first_due, again, flags_of, number_of, octets_of, head_of, emitted, emitted_len, after_emitted, after_ack_paid, after_numbers};
+ghost use Rattle.tcp_state.specs.Due.{MayGoOut, first_due, again, flags_of, number_of, octets_of, window_of, head_of, emitted, emitted_len, after_emitted, after_ack_paid, after_numbers};
 
 use crate::connection::{Connection, Resend};
 use crate::moment::Moment;
@@ -18,6 +18,8 @@ const RESEND_AFTER: u64 = 1_000;
 /// A segment that may go out.
 #[derive(Clone, Copy, Debug, PartialEq, Eq)]
 pub enum Due {
+    /// The reset of an abort.
+    Rst,
     /// The SYN, or the SYN-ACK where a SYN came first.
     Syn,
     /// So many octets from the oldest unacknowledged number on.
@@ -34,6 +36,9 @@ impl Connection {
         ensures first { result ≡ first_due self.now }
         ensures may { IfSome result (MayGoOut self.now) }
     {
+        if self.owes_reset {
+            return Some(Due::Rst);
+        }
         let outstanding = self.sender.outstanding();
         let goes_again = self.resend == Resend::Due;
         if self.state.is_opening() {
@@ -103,7 +108,7 @@ impl Connection {
     {
         match due {
             Due::Text(count) => &self.sender.held()[..count],
-            Due::Syn | Due::Fin | Due::Ack => &[],
+            Due::Rst | Due::Syn | Due::Fin | Due::Ack => &[],
         }
     }
 
@@ -117,7 +122,7 @@ impl Connection {
             destination: self.peer.port,
             number: match due {
                 Due::Syn | Due::Text(_) | Due::Fin => self.sender.una(),
-                Due::Ack => self.sender.nxt(),
+                Due::Rst | Due::Ack => self.sender.nxt(),
             },
             acknowledgement: if flags.ack {
                 self.receiver.rnext()
@@ -125,7 +130,17 @@ impl Connection {
                 Seq(0)
             },
             flags,
-            window: self.receiver.free(),
+            window: self.window(due),
+        }
+    }
+
+    /// The window that the segment for what is due tells.
+    fn window(&self, due: Due) -> u16
+        ensures { result ≡ window_of self.now due }
+    {
+        match due {
+            Due::Rst => 0,
+            Due::Syn | Due::Text(_) | Due::Fin | Due::Ack => self.receiver.free(),
         }
     }
 
@@ -135,6 +150,7 @@ impl Connection {
     {
         let mut flags = Flags::default();
         match due {
+            Due::Rst => flags.rst = true,
             Due::Syn => {
                 flags.syn = true;
                 flags.ack = self.state == State::SynReceived;
@@ -158,6 +174,7 @@ impl Connection {
         ensures { self.new ≡ after_emitted self.old due now }
     {
         match due {
+            Due::Rst => self.owes_reset = false,
             Due::Syn => {
                 self.note_numbers(1, now);
                 if self.state == State::SynReceived {

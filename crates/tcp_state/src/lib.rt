@@ -7,6 +7,8 @@ mod buffers;
 mod calls;
 mod connection;
 mod emission;
+mod ending;
+pub mod laws;
 mod moment;
 mod receiver;
 mod sender;

@@ -133,10 +133,10 @@ impl Sender {
 
     /// What is held goes out no more, and nothing is outstanding.
     pub(crate) fn abandon(&mut self)
-        ensures { self.new ≡ record self.old { held = []; nxt = self.old.una } }
+        ensures { self.new ≡ record self.old { held = []; una = self.old.nxt } }
     {
         self.held.clear();
-        self.nxt = self.una;
+        self.una = self.nxt;
     }
 
     /// Octets are acknowledged, which are held no longer, or the FIN behind them all.

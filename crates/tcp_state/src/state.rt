@@ -33,7 +33,7 @@ pub enum State {
 impl State {
     ghost use Rattle.tcp_state.specs.View.{is_opening, awaits_fin_ack, is_write_closed, is_end_seen};
     ghost use Rattle.tcp_state.specs.Calls.{shut};
-    ghost use Rattle.tcp_state.specs.Arrival.{beyond_fin, beyond_end, is_receiving, reset_error};
+    ghost use Rattle.tcp_state.specs.Arrival.{beyond_fin, beyond_end, begins_wait, is_receiving, reset_error};
 
     /// Whether the two ends have not agreed on a connection yet.
     pub fn is_opening(self) -> bool
@@ -71,6 +71,17 @@ impl State {
         ensures { result ≡ is_receiving self }
     {
         matches!(self, State::Established | State::FinWait1 | State::FinWait2)
+    }
+
+    /// Whether a wait is counted from the moment of coming to `after` from this state.
+    pub(crate) fn begins_wait(self, after: State) -> bool
+        ensures { result ≡ begins_wait self after }
+    {
+        match after {
+            State::TimeWait => self != State::TimeWait,
+            State::FinWait2 => self != State::FinWait2,
+            _ => false,
+        }
     }
 
     /// What a reset in this state tells the caller (RFC 9293 section 3.10.7.4).

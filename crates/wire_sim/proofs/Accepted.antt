@@ -1,6 +1,7 @@
 -- What a call that was not refused tells of the host's table.
-use Rattle.std.proofs.Common.{◌≡◌, ℕ, zero, suc, ◌+◌, ◌==◌, ◌&&◌, ◌||◌, ◌⊎◌, inl, inr, not, Bool, true, false, cond, if◌then◌else◌, List, [], ◌∷◌, length, take, Option, Some, None, is_some, Result, Ok, Err, refl, sym, ◌∙◌, ap}
+use Rattle.std.proofs.Common.{◌≡◌, ℕ, zero, suc, ◌+◌, ◌==◌, ◌&&◌, ◌||◌, ◌⊎◌, inl, inr, not, Bool, true, false, cond, if◌then◌else◌, List, [], ◌∷◌, length, take, Option, Some, None, is_some, option_map, Result, Ok, Err, refl, sym, ◌∙◌, ap}
 use Rattle.std.specs.List.{find, list_any}
+use Rattle.std.specs.Option.{option_or}
 use Rattle.std.specs.Cmp.Lexicographic.{same_text}
 use Rattle.std.proofs.lemmas.Bool.{eqb-true}
 use Rattle.ipv4.specs.declared.addr.Addr.{Addr}
@@ -25,10 +26,10 @@ use Rattle.wire_sim.specs.declared.event.Answer.{Answer}
 use Rattle.wire_sim.specs.declared.event.Answer.TheVariants.{Refused}
 use Rattle.host.specs.Endpoints.{same_addr, is_single_host}
 use Rattle.host.specs.Ports.{port_after, first_port, first_port-step, first_port-zero, is_free_port}
-use Rattle.host.specs.Entries.{is_pending, is_socket, is_bound_at, is_between, connecting, received, with_role}
+use Rattle.host.specs.Entries.{is_pending, has_socket, is_socket, is_bound_at, is_between, connecting, received, write_shut, with_role}
 use Rattle.host.specs.HostView.{HostView, with_socket}
 use Rattle.host.specs.Lists.{change_first}
-use Rattle.host.specs.Calls.{unless_refused, of_connection, sent_answer, received_answer, send_answer, recv_answer, is_pair_held, port_for, reach_refusal, had_connection, open_answer, connect_refusal, counted_port, after_connect}
+use Rattle.host.specs.Calls.{unless_refused, of_connection, sent_answer, received_answer, send_answer, recv_answer, is_pair_held, port_for, reach_refusal, had_connection, open_answer, connect_refusal, counted_port, after_connect, refusal_of, shut_refusal, shutdown_refusal, pair_connected}
 use Rattle.wire_sim.specs.Steps.{Answers, readable_on}
 use Rattle.host.specs.Pairs.{socket_pair}
 use Rattle.wire_sim.proofs.Finding.{find-passes}
@@ -65,7 +66,16 @@ find-not_any {X} t = go
 
 -- an id that a test finds is that id
 pub socket-id : (id : SocketId) (e : Entry) → is_socket id e ≡ true → e.id ≡ id
-socket-id id e is = ap (λ n. let i : SocketId = record { 0 = n } in i) (eqb-true e.id.0 id.0 (both_first (e.id.0 == id.0) (not (is_pending e.role)) is))
+socket-id id e is = ap (λ n. let i : SocketId = record { 0 = n } in i) (eqb-true e.id.0 id.0 (both_first (e.id.0 == id.0) (has_socket e.role) is))
+
+-- a connection that a socket names was not closed by its caller
+pub socket-kept : (xs : List Entry) (id : SocketId) (c : View) (l : Option SocketId) → find (is_socket id) xs ≡ Some (record { id = id; role = Connected c l }) → c.released ≡ false
+socket-kept xs id c l found =
+    neither (is_pending (Connected c l)) c.released (not_true (is_pending (Connected c l) || c.released) (both_second (id.0 == id.0) (has_socket (Connected c l)) (find-passes (is_socket id) xs (record { id = id; role = Connected c l }) found)))
+  where
+    neither : (a b : Bool) → (a || b) ≡ false → b ≡ false
+    neither true b e = cc
+    neither false b e = e
 
 -- the entry that is found for a socket, by its role
 pub found_socket : (xs : List Entry) (id : SocketId) (e : Entry) (r : Role) → find (is_socket id) xs ≡ Some e → e.role ≡ r → find (is_socket id) xs ≡ Some (record { id = id; role = r })
@@ -149,6 +159,23 @@ octets_told c len count = by_tests c.told (is_opening c.state) (length c.receivi
     by_tests None false true true told is e = let bad : ended ≡ Ok (Octets count) = e in cc
     by_tests None false true false told is e = let bad : again ≡ Ok (Octets count) = e in cc
 
+-- where the end is told nothing is readable, so that nothing is read
+pub end_told : (c : View) (len : ℕ) → connection_calls.recv_answer c len ≡ Ok EndOfStream → after_recv c len ≡ c
+end_told c len = by_tests c.told (is_opening c.state) (length c.receiving.readable == 0) (is_end_seen c.state) refl refl refl
+  where
+    again : Result Received ConnectionRefusal
+    again = Err connection_variants.EAGAIN
+
+    ended : Result Received ConnectionRefusal
+    ended = Ok EndOfStream
+
+    by_tests : (error : Option ConnectionRefusal) (opening none seen : Bool) → c.told ≡ error → is_opening c.state ≡ opening → (length c.receiving.readable == 0) ≡ none
+        → unless_told error (if opening then again else if not none then Ok (Octets (moved c len)) else if seen then ended else again) ≡ Ok EndOfStream → after_recv c len ≡ c
+    by_tests (Some error) opening none seen told is empty e = cc
+    by_tests None true none seen told is empty e = let bad : again ≡ Ok EndOfStream = e in cc
+    by_tests None false false seen told is empty e = let bad : Ok (Octets (moved c len)) ≡ ended = e in cc
+    by_tests None false true seen told is empty e = rw (told, is, empty)
+
 -- a receive that is answered is one on a connection
 pub reads-on : (h : HostView) (id : SocketId) (len : ℕ) (got : Received) → recv_answer h id len ≡ Ok got → ReadsOn h id len got
 reads-on h id len got answered = by_entry (find (is_socket id) h.entries) refl
@@ -204,6 +231,7 @@ pub record ConnectsOn (h : HostView) (id : SocketId) (peer : Endpoint) : Type 0 
   pub found : find (is_socket id) h.entries ≡ Some (record { id = id; role = Idle b bound })
   pub reached : peer.addr ≡ h.neighbour
   pub free : find (is_between (record { addr = h.addr; port = port }) peer) h.entries ≡ None
+  pub foreseen : pair_connected h id peer ≡ Some (pair_of (record { addr = h.addr; port = port }) peer)
   pub becomes : (isn : ℕ) → after_connect h isn id peer ≡ with_socket (record h { last_port = counted_port h bound port }) id (connecting (record { addr = h.addr; port = port }) peer isn)
 
 -- no connection goes to the peer from the port that is given
@@ -263,6 +291,7 @@ connects-on h id peer none = by_entry (find (is_socket id) h.entries) refl
           found = found_socket h.entries id e (Idle idle.0 bound) at idle.1;
           reached = reached-neighbour h peer near;
           free = port_for-free h bound peer port given;
+          foreseen = rw (at, may, near, given);
           becomes = λ isn. after_connect-accepted h isn id peer e bound port at may given;
         }
 
@@ -316,3 +345,33 @@ found-connecting xs id b bound local peer isn found = found-itself (is_socket id
   where
     x : Entry
     x = record { id = id; role = Idle b bound }
+
+-- Shutdown.
+
+-- The socket is a connection past its opening that tells no error, and its side is closed.
+pub record ShutsOn (h : HostView) (id : SocketId) : Type 0 where
+  pub c : View
+  pub l : Option SocketId
+  pub found : find (is_socket id) h.entries ≡ Some (record { id = id; role = Connected c l })
+  pub opened : is_opening c.state ≡ false
+  pub shuts : write_shut (Connected c l) ≡ Connected (connection_calls.after_shutdown c) l
+
+pub shuts-on : (h : HostView) (id : SocketId) → shutdown_refusal h id ≡ None → ShutsOn h id
+shuts-on h id none = by_entry (find (is_socket id) h.entries) refl
+  where
+    by_tests : (c : View) (l : Option SocketId) → find (is_socket id) h.entries ≡ Some (record { id = id; role = Connected c l }) → (error : Option ConnectionRefusal) (opening : Bool) → c.told ≡ error → is_opening c.state ≡ opening
+        → option_map refusal_of (option_or error (if opening then Some connection_variants.ENOTCONN else None)) ≡ None → ShutsOn h id
+    by_tests c l at (Some error) opening told is e = cc
+    by_tests c l at None true told is e = cc
+    by_tests c l at None false told is e = record { c = c; l = l; found = at; opened = is; shuts = rw (told, is) }
+
+    by_role : (e : Entry) → find (is_socket id) h.entries ≡ Some e → (r : Role) → e.role ≡ r → shut_refusal r ≡ None → ShutsOn h id
+    by_role e at (Idle buffers bound) is a = cc
+    by_role e at (Listener bound backlog) is a = cc
+    by_role e at (Connected c l) is a = by_tests c l (found_socket h.entries id e (Connected c l) at is) c.told (is_opening c.state) refl refl a
+
+    by_entry : (o : Option Entry) → find (is_socket id) h.entries ≡ o → ShutsOn h id
+    by_entry None at = let refused : shutdown_refusal h id ≡ Some EBADF = rw at in cc
+    by_entry (Some e) at =
+        let told : shutdown_refusal h id ≡ shut_refusal e.role = rw at in
+        by_role e at e.role refl (sym told ∙ none)

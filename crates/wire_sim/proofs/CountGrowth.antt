@@ -27,9 +27,9 @@ use Rattle.host.specs.Calls.{of_connection, sent_answer, send_answer}
 use Rattle.host.specs.HostView.{HostView, role_of, after_emission}
 use Rattle.wire_sim.specs.Openings.{opened_by_connect, opened_by_frame}
 use Rattle.wire_sim.specs.Sides.{other_side}
-use Rattle.wire_sim.specs.Steps.{station_of, ticked_station, with_station, with_host, with_openings, Answers, MeetsCall, called, delivered, host_of, Steps}
+use Rattle.wire_sim.specs.Steps.{ticked_station, with_station, with_host, with_openings, Answers, MeetsCall, called, delivered, Steps}
 use Rattle.wire_sim.specs.Tallies.{is_opening_at, counted}
-use Rattle.wire_sim.specs.WorldView.{NetworkView}
+use Rattle.wire_sim.specs.WorldView.{NetworkView, station_of, host_of}
 
 -- a count beside an opening that may be one of the socket
 counted_or_kept : (b : Bool) (w n : ℕ) → (if b then w + n else w) ≤ w + n
@@ -107,6 +107,8 @@ called-grows side (call.Connect isn id peer) place i n answer new meets = connec
 called-grows side (call.Send id octets) place i n answer new meets =
     send-grows side id octets place i n answer _ _ new _ (λ v. took (host_of n side) id octets.items v _ refl) meets
 called-grows side (call.Recv id len) place i n answer new meets = kept-grows n side new i
+called-grows side (call.Shutdown id) place i n answer new meets = kept-grows n side new i
+called-grows side (call.Close id) place i n answer new meets = kept-grows n side new i
 called-grows side (call.State id) place i n answer new meets = kept-grows n side new i
 
 -- what a frame makes of them

@@ -1,11 +1,14 @@
 -- The octets of a segment that goes out.
-use Rattle.std.proofs.Common.{◌≡◌, ℕ, ◌≤◌, List, [], ◌++◌, length, take, drop, Some, None, option_map, option_and_then, ap, arith}
+use Rattle.std.proofs.Common.{◌≡◌, ℕ, ◌≤◌, List, [], ◌∷◌, ◌++◌, Option, refl, sym, ◌∙◌, length, take, drop, Some, None, option_map, ap, arith}
 use Rattle.std.proofs.lemmas.Grind.{common_steps}
 use Rattle.std.specs.List.{find}
 use Rattle.tcp_state.specs.Due.{first_due, emitted_len, emitted}
+use Rattle.tcp_segment.specs.declared.head.Head.{Head}
+use Rattle.host.specs.declared.entry.Entry.{Entry}
 use Rattle.host.specs.declared.entry.Role.{Role}
 use Rattle.host.specs.declared.entry.Role.TheVariants.{Idle, Listener, Connected}
 use Rattle.host.specs.Entries.{is_due, due_len, due_octets, framed}
+use Rattle.host.specs.Replies.{reply_len, reply_octets, reply_framed}
 use Rattle.host.specs.HostView.{HostView, emission_len, emission_octets, emission_front}
 
 -- the front of a buffer into which so many octets were written
@@ -22,8 +25,21 @@ framed_due (Connected c listener) out len due =
     ] due
 
 pub emission_front-due : (h : HostView) (out : List ℕ) (len : ℕ) → emission_len h ≡ Some len → emission_front h out ≡ emission_octets h ++ drop len out
-emission_front-due h out len due =
-    elim (find is_due h.entries) as (λ f. option_and_then (λ e. due_len e.role) f ≡ Some len → elim f as (λ x. List ℕ) [ None ↦ out | Some e ↦ framed e.role out ] ≡ elim f as (λ x. List ℕ) [ None ↦ [] | Some e ↦ due_octets e.role ] ++ drop len out) [
-      | None ↦ λ d. cc
-      | Some e ↦ λ d. framed_due e.role out len d
-    ] due
+emission_front-due h out len due = by_replies h.replies refl
+  where
+    by_replies : (rs : List Head) → h.replies ≡ rs → emission_front h out ≡ emission_octets h ++ drop len out
+    by_replies (reply ∷ rest) is =
+        let len_is : emission_len h ≡ Some (reply_len reply) = rw is in
+        let same : reply_len reply ≡ len = let e = sym len_is ∙ due in cc in
+        let front : emission_front h out ≡ reply_framed h.addr h.neighbour reply out = rw is in
+        let octets : emission_octets h ≡ reply_octets h.addr h.neighbour reply = rw is in
+        front ∙ (ap (λ n. reply_octets h.addr h.neighbour reply ++ drop n out) same ∙ ap (λ l. l ++ drop len out) (sym octets))
+    by_replies [] is = by_entry (find is_due h.entries) refl
+      where
+        by_entry : (o : Option Entry) → find is_due h.entries ≡ o → emission_front h out ≡ emission_octets h ++ drop len out
+        by_entry None found = let none : emission_len h ≡ None = rw (is, found) in let bad : None ≡ Some len = sym none ∙ due in cc
+        by_entry (Some e) found =
+            let one : emission_len h ≡ due_len e.role = rw (is, found) in
+            let front : emission_front h out ≡ framed e.role out = rw (is, found) in
+            let octets : emission_octets h ≡ due_octets e.role = rw (is, found) in
+            front ∙ (framed_due e.role out len (sym one ∙ due) ∙ ap (λ l. l ++ drop len out) (sym octets))

@@ -5,7 +5,8 @@ use Rattle.tcp_segment.specs.declared.seq.Seq.{Seq}
 use Rattle.wire_sim.specs.declared.event.Side.{Side}
 use Rattle.wire_sim.specs.declared.event.Event.TheVariants.{Deliver}
 use Rattle.wire_sim.specs.declared.world.bag.Frame.{Frame}
-use Rattle.wire_sim.specs.WorldView.{NetworkView, unfair_counted}
+use Rattle.wire_sim.specs.Fairness.{unfair_counted}
+use Rattle.wire_sim.specs.WorldView.{NetworkView}
 
 -- what stands at a place of a list stands within it
 slice_get-within : {X : Type 0} (xs : List X) (i : ℕ) (x : X) → slice_get xs i ≡ Some x → i < length xs

@@ -1,7 +1,7 @@
 -- What a search finds in a list of which the first element that passes another test was changed.
 use Rattle.std.proofs.Common.{◌≡◌, Bool, true, false, cond, List, [], ◌∷◌, ◌++◌, map, Option, Some, None, option_map, refl, sym, ◌∙◌, ap, subst}
 use Rattle.std.specs.List.{find, AllByRecursion}
-use Rattle.host.specs.Lists.{change_first}
+use Rattle.host.specs.Lists.{change_first, remove_first}
 
 -- at most one element passes
 abbrev pub IsSole : {X : Type 0} → (X → Bool) → List X → Type 0
@@ -398,3 +398,80 @@ none-change_first {X} s t f tests = go
     go : (xs : List X) → find t (change_first s f xs) ≡ None → find t xs ≡ None
     go [] e = refl
     go (x ∷ xs) e = step x xs (go xs) (s x) (t x) refl e
+
+-- where none passes, nothing is changed
+pub change-none : {X : Type 0} (s : X → Bool) (f : X → X) (xs : List X) → find s xs ≡ None → change_first s f xs ≡ xs
+change-none {X} s f = go
+  where
+    step : (x : X) (xs : List X) → (find s xs ≡ None → change_first s f xs ≡ xs) → (b : Bool) → cond b (Some x) (find s xs) ≡ None → cond b (f x ∷ xs) (x ∷ change_first s f xs) ≡ x ∷ xs
+    step x xs more true e = cc
+    step x xs more false e = ap (λ l. x ∷ l) (more e)
+
+    go : (xs : List X) → find s xs ≡ None → change_first s f xs ≡ xs
+    go [] e = refl
+    go (x ∷ xs) e = step x xs (go xs) (s x) e
+
+-- Of a list from which the first element that passes was taken.
+
+pub none-removed : {X : Type 0} (s t : X → Bool) (xs : List X) → find t xs ≡ None → find t (remove_first s xs) ≡ None
+none-removed {X} s t = go
+  where
+    step : (x : X) (xs : List X) → (find t xs ≡ None → find t (remove_first s xs) ≡ None) → (b c : Bool) → t x ≡ c → cond c (Some x) (find t xs) ≡ None → find t (cond b xs (x ∷ remove_first s xs)) ≡ None
+    step x xs more b true is e = cc
+    step x xs more true false is e = e
+    step x xs more false false is e = ap (λ b. cond b (Some x) (find t (remove_first s xs))) is ∙ more e
+
+    go : (xs : List X) → find t xs ≡ None → find t (remove_first s xs) ≡ None
+    go [] e = refl
+    go (x ∷ xs) e = step x xs (go xs) (s x) (t x) refl e
+
+-- it is found no longer, where at most one passes
+pub removed-itself : {X : Type 0} (s t : X → Bool) (xs : List X) (x : X) → find s xs ≡ Some x → t x ≡ true → IsSole t xs → find t (remove_first s xs) ≡ None
+removed-itself {X} s t xs x = go xs
+  where
+    step : (y : X) (ys : List X) → (find s ys ≡ Some x → find t (remove_first s ys) ≡ None) → (find s ys ≡ Some x → find t ys ≡ Some x) → (b c : Bool) → t y ≡ c → cond b (Some y) (find s ys) ≡ Some x → t x ≡ true
+        → (c ≡ true → find t ys ≡ None) → find t (cond b ys (y ∷ remove_first s ys)) ≡ None
+    step y ys more one true true is e passes none = none refl
+    step y ys more one true false is e passes none = let same : y ≡ x = cc in let bad : true ≡ false = sym passes ∙ (ap t (sym same) ∙ is) in cc
+    step y ys more one false true is e passes none = let bad : Some x ≡ None = sym (one e) ∙ none refl in cc
+    step y ys more one false false is e passes none = ap (λ b. cond b (Some y) (find t (remove_first s ys))) is ∙ more e
+
+    go : (ys : List X) → find s ys ≡ Some x → t x ≡ true → IsSole t ys → find t (remove_first s ys) ≡ None
+    go [] e passes sole = refl
+    go (y ∷ ys) e passes sole = step y ys (λ e. go ys e passes sole.1) (λ e. found-sole s t ys x e passes sole.1) (s y) (t y) refl e passes sole.0
+
+-- others are found as before
+pub removed-other : {X : Type 0} (s t : X → Bool) (xs : List X) (x : X) → find s xs ≡ Some x → t x ≡ false → find t (remove_first s xs) ≡ find t xs
+removed-other {X} s t xs x = go xs
+  where
+    step : (y : X) (ys : List X) → (find s ys ≡ Some x → find t (remove_first s ys) ≡ find t ys) → (b : Bool) → cond b (Some y) (find s ys) ≡ Some x → t x ≡ false → find t (cond b ys (y ∷ remove_first s ys)) ≡ find t (y ∷ ys)
+    step y ys more true e fails = let same : y ≡ x = cc in sym (ap (λ b. cond b (Some y) (find t ys)) (ap t same ∙ fails))
+    step y ys more false e fails = ap (λ o. cond (t y) (Some y) o) (more e)
+
+    go : (ys : List X) → find s ys ≡ Some x → t x ≡ false → find t (remove_first s ys) ≡ find t ys
+    go [] e fails = cc
+    go (y ∷ ys) e fails = step y ys (λ e. go ys e fails) (s y) e fails
+
+pub IsSole-removed : {X : Type 0} (s t : X → Bool) (xs : List X) → IsSole t xs → IsSole t (remove_first s xs)
+IsSole-removed {X} s t = go
+  where
+    step : (x : X) (xs : List X) → IsSole t (remove_first s xs) → (b : Bool) → IsSole t (x ∷ xs) → IsSole t (cond b xs (x ∷ remove_first s xs))
+    step x xs more true sole = sole.1
+    step x xs more false sole = (λ p. none-removed s t xs (sole.0 p), more)
+
+    go : (xs : List X) → IsSole t xs → IsSole t (remove_first s xs)
+    go [] sole = tt
+    go (x ∷ xs) sole = step x xs (go xs sole.1) (s x) sole
+
+-- an element of the list that passes is not missed
+pub find-missed : {X : Type 0} (s t : X → Bool) (xs : List X) (x : X) → find s xs ≡ Some x → t x ≡ true → find t xs ≡ None → ⊥
+find-missed {X} s t xs x = go xs
+  where
+    step : (y : X) (ys : List X) → (find s ys ≡ Some x → find t ys ≡ None → ⊥) → (b c : Bool) → t y ≡ c → cond b (Some y) (find s ys) ≡ Some x → t x ≡ true → cond c (Some y) (find t ys) ≡ None → ⊥
+    step y ys more b true is e passes none = cc
+    step y ys more true false is e passes none = let same : y ≡ x = cc in let bad : true ≡ false = sym passes ∙ (ap t (sym same) ∙ is) in cc
+    step y ys more false false is e passes none = more e none
+
+    go : (ys : List X) → find s ys ≡ Some x → t x ≡ true → find t ys ≡ None → ⊥
+    go [] e passes none = cc
+    go (y ∷ ys) e passes none = step y ys (λ e n. go ys e passes n) (s y) (t y) refl e passes none

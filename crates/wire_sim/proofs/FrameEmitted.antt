@@ -8,8 +8,8 @@ use Rattle.wire_sim.specs.declared.world.bag.Frame.{Frame}
 use Rattle.wire_sim.specs.declared.world.station.Station.{Station}
 use Rattle.host.specs.HostView.{HostView, after_emission, emission_len, emission_octets, emission_front}
 use Rattle.host.specs.Pairs.{due_pair}
-use Rattle.wire_sim.specs.Steps.{station_of, host_of, with_station, with_host, noted, EmitsFrame}
-use Rattle.wire_sim.specs.WorldView.{NetworkView}
+use Rattle.wire_sim.specs.Steps.{with_station, with_host, noted, EmitsFrame}
+use Rattle.wire_sim.specs.WorldView.{NetworkView, station_of, host_of}
 use Rattle.wire_sim.proofs.Emitted.{take_written, emission_front-due}
 
 -- what a host makes of itself as its segment goes out, at its own clock

@@ -1,173 +1,171 @@
--- What a new connection, a new socket, or a change that no connection sees makes of the ends in a host's table.
-use Rattle.std.proofs.Common.{◌≡◌, ℕ, ◌+◌, ◌≤◌, ◌<◌, ◌==◌, ◌&&◌, Bool, true, false, List, [], ◌∷◌, ◌++◌, Option, Some, None, option_map, arith, refl, sym, ◌∙◌, ap, subst}
-use Rattle.std.specs.List.{find, AllByRecursion}
-use Rattle.std.proofs.lemmas.Bool.{eqb-true}
+-- What a new connection or a new socket makes of the ends of pairs, and of what a table and the openings say of each other.
+use Rattle.std.proofs.Common.{◌≡◌, ℕ, ◌+◌, ◌<◌, ◌≤◌, inl, inr, ◌==◌, ◌&&◌, Bool, true, false, cond, List, [], ◌∷◌, ◌++◌, Option, Some, None, option_map, arith, refl, sym, ◌∙◌, ap, subst}
+use Rattle.std.specs.List.{find}
+use Rattle.std.proofs.lemmas.Bool.{and_from}
 use Rattle.ipv4.specs.declared.addr.Addr.{Addr}
-use Rattle.ipv4.specs.declared.addr.Endpoint.{Endpoint}
-use Rattle.tcp_state.specs.View.{View}
+use Rattle.ipv4.specs.declared.addr.Pair.{Pair}
+use Rattle.ipv4.specs.Addresses.{pair_of}
 use Rattle.tcp_state.specs.declared.buffers.Buffers.{Buffers}
+use Rattle.tcp_state.specs.View.{View}
 use Rattle.host.specs.declared.entry.SocketId.{SocketId}
 use Rattle.host.specs.declared.entry.Entry.{Entry}
 use Rattle.host.specs.declared.entry.Role.{Role}
-use Rattle.host.specs.declared.entry.Role.TheVariants.{Idle, Connected}
-use Rattle.host.specs.Entries.{is_live_between, with_role}
-use Rattle.host.specs.Lists.{change_first}
-use Rattle.wire_sim.proofs.Finding.{IsSole, All-find, shown-change_first, found-made, found-other, find-added_none, find-added, IsSole-found, IsSole-change_first, IsSole-made, IsSole-other, IsSole-added, IsSole-added_other, All-change_first, All-changed, All-added, All-weaker, find-none, none-before, none-sole, none-added, none-change_first}
-use Rattle.wire_sim.proofs.Tables.{Told, has_id, is_connected, is_connected_at, joins_ports, IsOurs, IsOurRole, IsTable, Slot, slot, connection_in, slot_of, eqb-same, ports_of}
-use Rattle.wire_sim.proofs.Changes.{by_test}
+use Rattle.host.specs.declared.entry.Role.TheVariants.{Idle, Listener, Connected}
+use Rattle.stream_law.specs.Pairing.{Present, nothing_yet}
+use Rattle.wire_sim.specs.declared.event.Side.{Side}
+use Rattle.wire_sim.specs.declared.event.Opening.{Opening}
+use Rattle.wire_sim.specs.Openings.{epoch_of}
+use Rattle.wire_sim.specs.Sides.{same_side}
+use Rattle.wire_sim.specs.Tallies.{is_opening_of, is_opening_at, same_pair}
+use Rattle.wire_sim.proofs.Changes.{by_test, OthersStay, end-another, table-becomes}
+use Rattle.wire_sim.proofs.Finding.{find-passes, find-added, find-added_none, find-missed}
+use Rattle.wire_sim.proofs.Opened.{IsNext, MayRise, opened-added, epoch-added, opening-of_parts, same_side-same}
+use Rattle.wire_sim.proofs.PairPorts.{same_pair-same}
+use Rattle.wire_sim.proofs.Tables.{Told, untold, has_id, role_at, Becomes, becomes-added, presence_in, end_with, end_of, end_at, IsOpened, IsNoted, MayOpen, IsTable, eqb-same, same_id}
 
--- A connection came to stand in a table, between ports where there was none. Nothing was told of it before.
-pub record Made (own other : Addr) (last : ℕ) (xs ys : List Entry) (sent read : Told) (id : SocketId) (c : View) : Type 0 where
-  pub table : IsTable own other last ys sent read
-  pub unsent : sent id ≡ []
-  pub unread : read id ≡ []
-  pub before : (p q : ℕ) → ((c.local.port == p) && (c.peer.port == q)) ≡ true → slot_of own other xs p q ≡ None
-  pub after : (p q : ℕ) → ((c.local.port == p) && (c.peer.port == q)) ≡ true → slot_of own other ys p q ≡ Some (record { id = id; connection = Some c })
-  pub elsewhere : (p q : ℕ) → ((c.local.port == p) && (c.peer.port == q)) ≡ false → slot_of own other ys p q ≡ slot_of own other xs p q
+-- A connection came to stand in a table, and its opening was noted.
+pub record Makes (side : Side) (own other : Addr) (os : List Opening) (o : Opening) (xs ys : List Entry) (c : View) (l : Option SocketId) : Type 0 where
+  pub becomes : Becomes xs ys o.id.0 (Some (Connected c l))
+  pub at_side : o.side ≡ side
+  pub pair : o.pair ≡ pair_of c.local c.peer
+  pub local : c.local.addr ≡ own
+  pub peer : c.peer.addr ≡ other
+  pub next : IsNext os o
+  pub rises : MayRise os o xs
 
--- Nothing of a connection changed in a table.
-pub record Unseen (own other : Addr) (last : ℕ) (xs ys : List Entry) (sent read : Told) : Type 0 where
-  pub table : IsTable own other last ys sent read
-  pub same : (p q : ℕ) → slot_of own other ys p q ≡ slot_of own other xs p q
+-- its opening passes the tests of its id ..
+pub its_id : (side : Side) (o : Opening) → o.side ≡ side → is_opening_at side o.id o ≡ true
+its_id side o same = and_from (same_side o.side side) (o.id.0 == o.id.0) (ap (same_side o.side) (sym same) ∙ same_side-same o.side) (eqb-same o.id.0)
 
-and-none : (b : Bool) → (b && false) ≡ false
-and-none true = refl
-and-none false = refl
+-- .. and of its pair in its epoch
+its_epoch : (side : Side) (o : Opening) → o.side ≡ side → is_opening_of side o.pair o.epoch o ≡ true
+its_epoch side o same =
+    and_from (same_side o.side side && same_pair o.pair o.pair) (o.epoch == o.epoch) (and_from (same_side o.side side) (same_pair o.pair o.pair) (ap (same_side o.side) (sym same) ∙ same_side-same o.side) (same_pair-same o.pair)) (eqb-same o.epoch)
 
-and-first : (b c : Bool) → (b && c) ≡ true → b ≡ true
-and-first true c e = refl
-and-first false c e = cc
-
--- ports that are these two are these
-pub both_ports : (a b p q : ℕ) → ((a == p) && (b == q)) ≡ true → (a ≡ p) × (b ≡ q)
-both_ports a b p q e = by_test (a == p) (λ first. (eqb-true a p first, eqb-true b q (ap (λ t. t && (b == q)) (sym first) ∙ e))) (λ first. let bad : false ≡ true = ap (λ t. t && (b == q)) (sym first) ∙ e in cc)
-
--- a search between the same ports
-same_ports : (own other : Addr) (xs : List Entry) (a b p q : ℕ) → ((a == p) && (b == q)) ≡ true → find (joins_ports own other a b) xs ≡ None → find (joins_ports own other p q) xs ≡ None
-same_ports own other xs a b p q e none =
-    let two = both_ports a b p q e in
-    ap (λ i. find (joins_ports own other i q) xs) (sym two.0) ∙ (ap (λ i. find (joins_ports own other a i) xs) (sym two.1) ∙ none)
-
--- an idle socket becomes a connection
-pub made : (own other : Addr) (last : ℕ) (xs : List Entry) (sent read : Told) (test : Entry → Bool) (g : Role → Role) (id : SocketId) (b : Buffers) (bound : Option Endpoint) (c : View)
-    → find test xs ≡ Some (record { id = id; role = Idle b bound }) → g (Idle b bound) ≡ Connected c None → IsOurs own other c → find (joins_ports own other c.local.port c.peer.port) xs ≡ None
-    → IsTable own other last xs sent read → Made own other last xs (change_first test (with_role g) xs) sent read id c
-made own other last xs sent read test g id b bound c found becomes ours none t = record {
-  table = record {
-    sole = λ p q. by_test ((c.local.port == p) && (c.peer.port == q))
-        (λ is. IsSole-made test (joins_ports own other p q) f xs (same_ports own other xs c.local.port c.peer.port p q is none))
-        (λ is. IsSole-other test (joins_ports own other p q) f xs x found refl (joins p q ∙ is) (t.sole p q));
-    ids = λ i. IsSole-found test (has_id i) f xs x found refl (t.ids i);
-    bound = All-changed (λ (e : Entry). e.id.0 ≤ last) test f xs x found (All-find (λ (e : Entry). e.id.0 ≤ last) test xs x t.bound found) t.bound;
-    ours = All-changed (λ (e : Entry). IsOurRole own other e.role) test f xs x found (subst (λ r. IsOurRole own other r) (sym becomes) ours) t.ours;
-    silent = λ i gone. t.silent i (none-before test (is_connected_at i.0) f xs x found (λ fails. and-none (id.0 == i.0)) gone);
-  };
-  unsent = (t.silent id quiet).0;
-  unread = (t.silent id quiet).1;
-  before = λ p q is. ap (option_map slot) (same_ports own other xs c.local.port c.peer.port p q is none);
-  after = λ p q is. ap (option_map slot) (found-made test (joins_ports own other p q) f xs x found (same_ports own other xs c.local.port c.peer.port p q is none) (joins p q ∙ is) ∙ ap Some is_made);
-  elsewhere = λ p q is. ap (option_map slot) (found-other test (joins_ports own other p q) f xs x found refl (joins p q ∙ is));
+pub table-made : (side : Side) (own other : Addr) (last last' : ℕ) (os : List Opening) (o : Opening) (xs ys : List Entry) (told : Told) (c : View) (l : Option SocketId) → Makes side own other os o xs ys c l → last ≤ last' → o.id.0 ≤ last'
+    → IsTable side own other last xs os told → IsTable side own other last' ys (os ++ o ∷ []) told
+table-made side own other last last' os o xs ys told c l m grows within t = record {
+  sole = m.becomes.sole;
+  bound = λ j r at. by_test (o.id.0 == j.0)
+      (λ is. subst (λ (i : SocketId). i.0 ≤ last') (same_id o.id j is) within)
+      (λ apart. let before = t.bound j r (sym (m.becomes.others j.0 apart) ∙ at) in omega (arith, before, grows));
+  noted = λ j r at. by_test (o.id.0 == j.0)
+      (λ is.
+      let one = same_id o.id j is in
+      let role : Some (Connected c l) ≡ Some r = sym m.becomes.here ∙ (ap (λ (i : SocketId). role_at ys i.0) one ∙ at) in
+      let same : Connected c l ≡ r = cc in
+      subst (λ r. IsNoted side own other (os ++ o ∷ []) j r) same (subst (λ i. IsNoted side own other (os ++ o ∷ []) i (Connected c l)) one itself))
+      (λ apart. let before = sym (m.becomes.others j.0 apart) ∙ at in noted j r apart before (t.noted j r before));
+  later = λ j above. unopened j (let bound : last < j.0 = omega (arith, above, grows) in t.later j bound) (by_test (o.id.0 == j.0) (λ is. let same = ap (λ (i : SocketId). i.0) (same_id o.id j is) in absurd (omega (arith, same, within, above))) (λ apart. apart));
+  silent = λ j none may. by_test (o.id.0 == j.0)
+      (λ is.
+      let found = subst (λ i. find (is_opening_at side i) (os ++ o ∷ []) ≡ Some o) (same_id o.id j is) at in
+      let bad : None ≡ Some o = sym none ∙ found in
+      cc)
+      (λ apart. t.silent j (sym (others j apart) ∙ none) (may_before j apart may));
 }
   where
-    f : Entry → Entry
-    f = with_role g
+    may_before : (j : SocketId) → (o.id.0 == j.0) ≡ false → MayOpen last' ys j → MayOpen last xs j
+    may_before j apart (inl above) = inl (omega (arith, above, grows))
+    may_before j apart (inr at) = inr (at.0, sym (m.becomes.others j.0 apart) ∙ at.1)
 
-    x : Entry
-    x = record { id = id; role = Idle b bound }
+    none_before : find (is_opening_at side o.id) os ≡ None
+    none_before = subst (λ s. find (is_opening_at s o.id) os ≡ None) m.at_side m.next.by_id
 
-    is_made : f x ≡ record { id = id; role = Connected c None }
-    is_made = ap (λ r. let e : Entry = record { id = id; role = r } in e) becomes
+    at : find (is_opening_at side o.id) (os ++ o ∷ []) ≡ Some o
+    at = find-added (is_opening_at side o.id) os o none_before (its_id side o m.at_side)
 
-    joins : (p q : ℕ) → joins_ports own other p q (f x) ≡ ((c.local.port == p) && (c.peer.port == q))
-    joins p q = ap (joins_ports own other p q) is_made ∙ ports_of own other p q c None id ours
+    others : (j : SocketId) → (o.id.0 == j.0) ≡ false → find (is_opening_at side j) (os ++ o ∷ []) ≡ find (is_opening_at side j) os
+    others j apart = find-added_none (is_opening_at side j) os o (ap (λ b. same_side o.side side && b) apart ∙ none (same_side o.side side))
+      where
+        none : (b : Bool) → (b && false) ≡ false
+        none true = refl
+        none false = refl
 
-    quiet : find (is_connected_at id.0) xs ≡ None
-    quiet = none-sole test (has_id id.0) (is_connected_at id.0) xs x found (eqb-same id.0) (and-none (id.0 == id.0)) (λ y. and-first (y.id.0 == id.0) (is_connected y.role)) (t.ids id.0)
+    unopened : (j : SocketId) → find (is_opening_at side j) os ≡ None → (o.id.0 == j.0) ≡ false → find (is_opening_at side j) (os ++ o ∷ []) ≡ None
+    unopened j before apart = others j apart ∙ before
 
--- ids that are not above the last one are none after it
-later_id : (xs : List Entry) (last i : ℕ) → last < i → AllByRecursion (λ (e : Entry). e.id.0 ≤ last) xs → AllByRecursion (λ (e : Entry). has_id i e ≡ false) xs
-later_id xs last i above = All-weaker (λ (e : Entry). e.id.0 ≤ last) (λ (e : Entry). has_id i e ≡ false) (λ e within. by_test (e.id.0 == i) (λ is. let same = eqb-true e.id.0 i is in absurd (omega (arith, same, within, above))) (λ apart. apart)) xs
+    itself : IsOpened side own other (os ++ o ∷ []) o.id c
+    itself = record {
+      local = m.local;
+      peer = m.peer;
+      opening = o;
+      at = at;
+      pair = m.pair;
+      present = λ live. sym (epoch-added os o o.pair ∙ ap (λ b. cond b o.epoch (epoch_of os o.pair)) (same_pair-same o.pair));
+    }
 
-later_connected : (xs : List Entry) (last i : ℕ) → last < i → AllByRecursion (λ (e : Entry). e.id.0 ≤ last) xs → AllByRecursion (λ (e : Entry). is_connected_at i e ≡ false) xs
-later_connected xs last i above bound = All-weaker (λ (e : Entry). has_id i e ≡ false) (λ (e : Entry). is_connected_at i e ≡ false) (λ e is. ap (λ b. b && is_connected e.role) is) xs (later_id xs last i above bound)
+    noted : (j : SocketId) (r : Role) → (o.id.0 == j.0) ≡ false → role_at xs j.0 ≡ Some r → IsNoted side own other os j r → IsNoted side own other (os ++ o ∷ []) j r
+    noted j (Connected d k) apart before n = opened-added side own other os o xs j d k m.rises before n
+    noted j (Listener local backlog) apart before n = others j apart ∙ n
+    noted j (Idle buffers bound) apart before n = others j apart ∙ n
 
--- an entry with the next id joins a table, which stays one
-added_ids : (xs : List Entry) (last : ℕ) (e : Entry) → e.id.0 ≡ last + 1 → AllByRecursion (λ (e : Entry). e.id.0 ≤ last) xs → ((i : ℕ) → IsSole (has_id i) xs) → (i : ℕ) → IsSole (has_id i) (xs ++ e ∷ [])
-added_ids xs last e next bound ids i = by_test (e.id.0 == i)
-    (λ is. let same = eqb-true e.id.0 i is in IsSole-added (has_id i) xs e (find-none (has_id i) xs (later_id xs last i (omega (arith, same, next)) bound)))
-    (λ apart. IsSole-added_other (has_id i) xs e apart (ids i))
+-- its end was nothing yet ..
+pub end-unmade : (side : Side) (os : List Opening) (o : Opening) (xs : List Entry) (told : Told) → o.side ≡ side → IsNext os o → end_at side os xs told o.pair o.epoch ≡ nothing_yet
+end-unmade side os o xs told same next = ap (end_of xs told) (subst (λ s. find (is_opening_of s o.pair o.epoch) os ≡ None) same next.by_epoch)
 
-added_bound : (xs : List Entry) (last : ℕ) (e : Entry) → e.id.0 ≡ last + 1 → AllByRecursion (λ (e : Entry). e.id.0 ≤ last) xs → AllByRecursion (λ (e : Entry). e.id.0 ≤ last + 1) (xs ++ e ∷ [])
-added_bound xs last e next bound = All-added (λ (e : Entry). e.id.0 ≤ last + 1) xs e (All-weaker (λ (e : Entry). e.id.0 ≤ last) (λ (e : Entry). e.id.0 ≤ last + 1) (λ e within. omega (arith, within)) xs bound) (omega (arith, next))
+-- .. and is that of the connection now
+pub end-made : (side : Side) (own other : Addr) (last : ℕ) (os : List Opening) (o : Opening) (xs ys : List Entry) (told : Told) (c : View) (l : Option SocketId) → Makes side own other os o xs ys c l → MayOpen last xs o.id → IsTable side own other last xs os told
+    → end_at side (os ++ o ∷ []) ys told o.pair o.epoch ≡ end_with (Present c) untold
+end-made side own other last os o xs ys told c l m may t =
+    let none = subst (λ s. find (is_opening_of s o.pair o.epoch) os ≡ None) m.at_side m.next.by_epoch in
+    let quiet = t.silent o.id (subst (λ s. find (is_opening_at s o.id) os ≡ None) m.at_side m.next.by_id) may in
+    ap (end_of ys told) (find-added (is_opening_of side o.pair o.epoch) os o none (its_epoch side o m.at_side))
+    ∙ (ap (λ r. end_with (presence_in r) (told o.id)) m.becomes.here ∙ ap (end_with (Present c)) quiet)
 
--- a connection joins the table
-pub added : (own other : Addr) (last : ℕ) (xs : List Entry) (sent read : Told) (id : SocketId) (l : Option SocketId) (c : View) → id.0 ≡ last + 1 → IsOurs own other c → find (joins_ports own other c.local.port c.peer.port) xs ≡ None
-    → IsTable own other last xs sent read → Made own other (last + 1) xs (xs ++ record { id = id; role = Connected c l } ∷ []) sent read id c
-added own other last xs sent read id l c next ours none t = record {
-  table = record {
-    sole = λ p q. by_test ((c.local.port == p) && (c.peer.port == q))
-        (λ is. IsSole-added (joins_ports own other p q) xs e (same_ports own other xs c.local.port c.peer.port p q is none))
-        (λ is. IsSole-added_other (joins_ports own other p q) xs e (joins p q ∙ is) (t.sole p q));
-    ids = added_ids xs last e next t.bound t.ids;
-    bound = added_bound xs last e next t.bound;
-    ours = All-added (λ (e : Entry). IsOurRole own other e.role) xs e t.ours ours;
-    silent = λ i gone. t.silent i (none-added (is_connected_at i.0) xs e gone);
-  };
-  unsent = (t.silent id quiet).0;
-  unread = (t.silent id quiet).1;
-  before = λ p q is. ap (option_map slot) (same_ports own other xs c.local.port c.peer.port p q is none);
-  after = λ p q is. ap (option_map slot) (find-added (joins_ports own other p q) xs e (same_ports own other xs c.local.port c.peer.port p q is none) (joins p q ∙ is));
-  elsewhere = λ p q is. ap (option_map slot) (find-added_none (joins_ports own other p q) xs e (joins p q ∙ is));
-}
+-- other ends are as they were
+pub end-elsewhere : (side : Side) (os : List Opening) (o : Opening) (xs ys : List Entry) (told : Told) (pair : Pair) (epoch : ℕ) → o.side ≡ side → IsNext os o → OthersStay o.id xs ys → is_opening_of side pair epoch o ≡ false
+    → end_at side (os ++ o ∷ []) ys told pair epoch ≡ end_at side os xs told pair epoch
+end-elsewhere side os o xs ys told pair epoch same next others apart =
+    ap (end_of ys told) (find-added_none (is_opening_of side pair epoch) os o apart)
+    ∙ end-another side os o.id pair epoch xs ys told told others (λ i apart. refl)
+    (λ x found. by_test (o.id.0 == x.id.0)
+    (λ is.
+    let parts = opening-of_parts side pair epoch x (find-passes (is_opening_of side pair epoch) os x found) in
+    absurd (never x (sym (same_id o.id x.id is)) parts.0 found))
+    (λ is. is))
   where
-    e : Entry
-    e = record { id = id; role = Connected c l }
+    never : (x : Opening) → x.id ≡ o.id → x.side ≡ side → find (is_opening_of side pair epoch) os ≡ Some x → ⊥
+    never x is at_side found =
+        let passes : is_opening_at side o.id x ≡ true = subst (λ i. is_opening_at side i x ≡ true) is (its_id side x at_side) in
+        let none : find (is_opening_at side o.id) os ≡ None = subst (λ s. find (is_opening_at s o.id) os ≡ None) same next.by_id in
+        find-missed (is_opening_of side pair epoch) (is_opening_at side o.id) os x found passes none
 
-    joins : (p q : ℕ) → joins_ports own other p q e ≡ ((c.local.port == p) && (c.peer.port == q))
-    joins p q = ports_of own other p q c l id ours
+-- ends of the other side too
+pub end-other : (side : Side) (os : List Opening) (o : Opening) (xs : List Entry) (told : Told) (pair : Pair) (epoch : ℕ) → same_side o.side side ≡ false → end_at side (os ++ o ∷ []) xs told pair epoch ≡ end_at side os xs told pair epoch
+end-other side os o xs told pair epoch apart = ap (end_of xs told) (find-added_none (is_opening_of side pair epoch) os o (ap (λ b. b && same_pair o.pair pair && (o.epoch == epoch)) apart))
 
-    quiet : find (is_connected_at id.0) xs ≡ None
-    quiet = find-none (is_connected_at id.0) xs (later_connected xs last id.0 (omega (arith, next)) t.bound)
+-- no entry has an id to come
+pub free-later : (side : Side) (own other : Addr) (last : ℕ) (os : List Opening) (xs : List Entry) (told : Told) (id : SocketId) → last < id.0 → IsTable side own other last xs os told → find (has_id id.0) xs ≡ None
+free-later side own other last os xs told id above t = decide (find (has_id id.0) xs) refl
+  where
+    decide : (o : Option Entry) → find (has_id id.0) xs ≡ o → o ≡ None
+    decide None at = refl
+    decide (Some e) at = let before = t.bound id e.role (ap (option_map (λ (e : Entry). e.role)) at) in absurd (omega (arith, before, above))
 
 -- an idle socket joins the table
-pub added_socket : (own other : Addr) (last : ℕ) (xs : List Entry) (sent read : Told) (id : SocketId) (b : Buffers) → id.0 ≡ last + 1 → IsTable own other last xs sent read
-    → Unseen own other (last + 1) xs (xs ++ record { id = id; role = Idle b None } ∷ []) sent read
-added_socket own other last xs sent read id b next t = record {
-  table = record {
-    sole = λ p q. IsSole-added_other (joins_ports own other p q) xs e refl (t.sole p q);
-    ids = added_ids xs last e next t.bound t.ids;
-    bound = added_bound xs last e next t.bound;
-    ours = All-added (λ (e : Entry). IsOurRole own other e.role) xs e t.ours tt;
-    silent = λ i gone. t.silent i (none-added (is_connected_at i.0) xs e gone);
-  };
-  same = λ p q. ap (option_map slot) (find-added_none (joins_ports own other p q) xs e refl);
-}
+pub table-socket : (side : Side) (own other : Addr) (last : ℕ) (os : List Opening) (xs : List Entry) (told : Told) (id : SocketId) (b : Buffers) → id.0 ≡ last + 1 → IsTable side own other last xs os told
+    → IsTable side own other (last + 1) (xs ++ record { id = id; role = Idle b None } ∷ []) os told
+table-socket side own other last os xs told id b next t =
+    table-becomes side own other (last + 1) xs (xs ++ x ∷ []) os told told id (Some (Idle b None)) (becomes-added xs x t.sole free)
+    (λ role is. let same : Idle b None ≡ role = cc in (subst (λ r. IsNoted side own other os id r) same unopened, omega (arith, next)))
+    (λ j apart. refl) (λ none may. t.silent id none (inl (omega (arith, next)))) (record {
+      sole = t.sole;
+      bound = λ j r at. let before = t.bound j r at in omega (arith, before);
+      noted = t.noted;
+      later = λ j above. t.later j (omega (arith, above));
+      silent = λ j none may. t.silent j none (sooner j may);
+    })
   where
-    e : Entry
-    e = record { id = id; role = Idle b None }
+    x : Entry
+    x = record { id = id; role = Idle b None }
 
--- a change of roles that no connection sees
-pub record IsQuiet (g : Role → Role) : Type 0 where
-  pub live : (local peer : Endpoint) (r : Role) → is_live_between local peer (g r) ≡ is_live_between local peer r
-  pub connection : (r : Role) → connection_in (g r) ≡ connection_in r
-  pub connected : (r : Role) → is_connected (g r) ≡ is_connected r
-  pub ours : (own other : Addr) (r : Role) → IsOurRole own other r → IsOurRole own other (g r)
+    sooner : (j : SocketId) → MayOpen (last + 1) xs j → MayOpen last xs j
+    sooner j (inl above) = inl (omega (arith, above))
+    sooner j (inr at) = inr at
 
-pub unseen : (own other : Addr) (last : ℕ) (xs : List Entry) (sent read : Told) (test : Entry → Bool) (g : Role → Role) → IsQuiet g → IsTable own other last xs sent read
-    → Unseen own other last xs (change_first test (with_role g) xs) sent read
-unseen own other last xs sent read test g quiet t = record {
-  table = record {
-    sole = λ p q. IsSole-change_first test (joins_ports own other p q) f (joins p q) xs (t.sole p q);
-    ids = λ i. IsSole-change_first test (has_id i) f (λ e. refl) xs (t.ids i);
-    bound = All-change_first (λ (e : Entry). e.id.0 ≤ last) test f (λ e within. within) xs t.bound;
-    ours = All-change_first (λ (e : Entry). IsOurRole own other e.role) test f (λ e. quiet.ours own other e.role) xs t.ours;
-    silent = λ i gone. t.silent i (none-change_first test (is_connected_at i.0) f (λ e. ap (λ b. (e.id.0 == i.0) && b) (quiet.connected e.role)) xs gone);
-  };
-  same = λ p q. shown-change_first test (joins_ports own other p q) f slot (joins p q) (λ e. ap (λ o. let s : Slot = record { id = e.id; connection = o } in s) (quiet.connection e.role)) xs;
-}
-  where
-    f : Entry → Entry
-    f = with_role g
+    unopened : find (is_opening_at side id) os ≡ None
+    unopened = t.later id (omega (arith, next))
 
-    joins : (p q : ℕ) (e : Entry) → joins_ports own other p q (f e) ≡ joins_ports own other p q e
-    joins p q e = quiet.live (record { addr = own; port = p }) (record { addr = other; port = q }) e.role
+    free : find (has_id id.0) xs ≡ None
+    free = free-later side own other last os xs told id (omega (arith, next)) t

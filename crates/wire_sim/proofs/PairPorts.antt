@@ -1,6 +1,6 @@
 -- The pair of two ports of the two hosts.
-use Rattle.std.proofs.Common.{◌≡◌, ℕ, ◌==◌, ◌&&◌, ◌||◌, not, Bool, true, false, cond, List, [], ◌∷◌, Option, Some, None, option_map, refl, sym, ◌∙◌, ap}
-use Rattle.std.specs.List.{find, AllByRecursion}
+use Rattle.std.proofs.Common.{◌≡◌, ℕ, ◌==◌, ◌&&◌, ◌||◌, not, Bool, true, false, cond, List, Option, Some, None, option_map, refl, sym, ◌∙◌, ap}
+use Rattle.std.specs.List.{find}
 use Rattle.std.specs.Ordering.{is_le}
 use Rattle.std.specs.Cmp.Lexicographic.{same_text}
 use Rattle.std.proofs.lemmas.Bool.{eqb-true, and_parts, and_from, and_right, false_from_ne_true}
@@ -9,15 +9,17 @@ use Rattle.ipv4.specs.declared.addr.Endpoint.{Endpoint}
 use Rattle.ipv4.specs.declared.addr.Pair.{Pair}
 use Rattle.ipv4.specs.Addresses.{endpoint_cmp, pair_of}
 use Rattle.ipv4.proofs.Pairs.{pair_of-swapped}
+use Rattle.host.specs.declared.entry.SocketId.{SocketId}
 use Rattle.host.specs.declared.entry.Entry.{Entry}
 use Rattle.host.specs.declared.entry.Role.{Role}
 use Rattle.host.specs.declared.entry.Role.TheVariants.{Idle, Listener, Connected}
 use Rattle.host.specs.Endpoints.{same_addr, same_end}
-use Rattle.tcp_state.specs.View.{is_closed}
-use Rattle.host.specs.Entries.{is_live_between, joins, is_of_pair}
+use Rattle.tcp_state.specs.View.{View, is_closed}
+use Rattle.host.specs.Entries.{is_live_between, is_between, joins, is_of_pair}
 use Rattle.host.specs.HostView.{HostView, holder_id}
 use Rattle.wire_sim.specs.Tallies.{same_pair}
-use Rattle.wire_sim.proofs.Tables.{IsOurRole, Slot, slot, slot_of, joins_ports, eqb-same, same_addr-same}
+use Rattle.wire_sim.proofs.Finding.{find-passes}
+use Rattle.wire_sim.proofs.Tables.{AreSole, role_at, found-role, none-role, eqb-same, same_addr-same}
 
 -- the pair of a port of one host and a port of the other
 abbrev pub pair_at : Addr → Addr → ℕ → ℕ → Pair
@@ -37,10 +39,10 @@ pub same_addr-other : (a b : Addr) → same_addr a b ≡ false → same_addr b a
 same_addr-other a b other = false_from_ne_true (same_addr b a)
     (λ e. let bad : true ≡ false = sym (same_addr-same a b (sym (same_addr-true b a e))) ∙ other in cc)
 
-same_end-same : (a : Endpoint) → same_end a a ≡ true
+pub same_end-same : (a : Endpoint) → same_end a a ≡ true
 same_end-same a = and_from (same_addr a.addr a.addr) (a.port == a.port) (same_addr-same a.addr a.addr refl) (eqb-same a.port)
 
-same_end-true : (a b : Endpoint) → same_end a b ≡ true → a ≡ b
+pub same_end-true : (a b : Endpoint) → same_end a b ≡ true → a ≡ b
 same_end-true a b e =
     let parts = and_parts (same_addr a.addr b.addr) (a.port == b.port) e in
     let addr : a.addr ≡ b.addr = same_addr-true a.addr b.addr parts.0 in
@@ -81,20 +83,43 @@ pair_at-injective own other p q p' q' apart = step (is_le (endpoint_cmp (here p)
     step false true e = mixed p' q (sym (ap (λ x. x.first) e))
     step false false e = (ap (λ x. x.second.port) e, ap (λ x. x.first.port) e)
 
+-- Who holds a pair.
+
+-- a connection that is not CLOSED is one of its pair
+pub joins-own : (c : View) (l : Option SocketId) → is_closed c.state ≡ false → joins (pair_of c.local c.peer) (Connected c l) ≡ true
+joins-own c l live = step (is_le (endpoint_cmp c.local c.peer))
+  where
+    own : is_live_between c.local c.peer (Connected c l) ≡ true
+    own = and_from (not (is_closed c.state)) (same_end c.local c.local && same_end c.peer c.peer) (ap not live) (and_from (same_end c.local c.local) (same_end c.peer c.peer) (same_end-same c.local) (same_end-same c.peer))
+
+    second : (b d : Bool) → d ≡ true → (b || d) ≡ true
+    second true d e = refl
+    second false d e = e
+
+    step : (b : Bool) → joins (cond b (record { first = c.local; second = c.peer }) (record { first = c.peer; second = c.local })) (Connected c l) ≡ true
+    step true = ap (λ b. b || is_live_between c.peer c.local (Connected c l)) own
+    step false = second (is_live_between c.peer c.local (Connected c l)) (is_live_between c.local c.peer (Connected c l)) own
+
+-- a role with a connection from our address to the neighbour's
+abbrev pub IsOurs : Addr → Addr → Role → Type 0
+IsOurs own other (Connected c listener) = (c.local.addr ≡ own) × (c.peer.addr ≡ other)
+IsOurs own other (Listener local backlog) = Unit {0}
+IsOurs own other (Idle buffers bound) = Unit {0}
+
 -- a connection of ours lies not from the neighbour to us
-not_reversed : (own other : Addr) (p q : ℕ) (r : Role) → same_addr own other ≡ false → IsOurRole own other r
+not_reversed : (own other : Addr) (p q : ℕ) (r : Role) → same_addr own other ≡ false → IsOurs own other r
     → is_live_between (record { addr = other; port = q }) (record { addr = own; port = p }) r ≡ false
 not_reversed own other p q (Connected c l) apart k =
-    let local : same_addr c.local.addr other ≡ false = ap (λ a. same_addr a other) k.local ∙ apart in
+    let local : same_addr c.local.addr other ≡ false = ap (λ a. same_addr a other) k.0 ∙ apart in
     and_right (not (is_closed c.state)) ((same_addr c.local.addr other && (c.local.port == q)) && (same_addr c.peer.addr own && (c.peer.port == p)))
     (ap (λ b. (b && (c.local.port == q)) && (same_addr c.peer.addr own && (c.peer.port == p))) local)
 not_reversed own other p q (Listener local backlog) apart k = refl
 not_reversed own other p q (Idle buffers bound) apart k = refl
 
--- an entry of ours is of the pair just where it joins the two ports
-pub joins-ports : (own other : Addr) (p q : ℕ) (e : Entry) → same_addr own other ≡ false → same_addr other own ≡ false → IsOurRole own other e.role
-    → is_of_pair (pair_at own other p q) e ≡ joins_ports own other p q e
-joins-ports own other p q e apart _ ours = step (is_le (endpoint_cmp here there)) (is_live_between here there e.role) refl
+-- a role of ours is of the pair just where it lies between the two ends
+pub joins-between : (own other : Addr) (p q : ℕ) (r : Role) → same_addr own other ≡ false → IsOurs own other r
+    → joins (pair_at own other p q) r ≡ is_live_between (record { addr = own; port = p }) (record { addr = other; port = q }) r
+joins-between own other p q r apart ours = step (is_le (endpoint_cmp here there)) (is_live_between here there r) refl
   where
     here : Endpoint
     here = record { addr = own; port = p }
@@ -102,29 +127,48 @@ joins-ports own other p q e apart _ ours = step (is_le (endpoint_cmp here there)
     there : Endpoint
     there = record { addr = other; port = q }
 
-    wrong : is_live_between there here e.role ≡ false
-    wrong = not_reversed own other p q e.role apart ours
+    wrong : is_live_between there here r ≡ false
+    wrong = not_reversed own other p q r apart ours
 
-    step : (b c : Bool) → is_live_between here there e.role ≡ c → joins (cond b (record { first = here; second = there }) (record { first = there; second = here })) e.role ≡ c
-    step true true is = ap (λ x. x || is_live_between there here e.role) is
-    step true false is = ap (λ x. x || is_live_between there here e.role) is ∙ wrong
-    step false c is = ap (λ x. x || is_live_between here there e.role) wrong ∙ is
+    step : (b c : Bool) → is_live_between here there r ≡ c → joins (cond b (record { first = here; second = there }) (record { first = there; second = here })) r ≡ c
+    step true true is = ap (λ x. x || is_live_between there here r) is
+    step true false is = ap (λ x. x || is_live_between there here r) is ∙ wrong
+    step false c is = ap (λ x. x || is_live_between here there r) wrong ∙ is
 
--- two tests that agree on every element find the same
-find-alike : {X : Type 0} (P : X → Type 0) (s t : X → Bool) → ((x : X) → P x → s x ≡ t x) → (xs : List X) → AllByRecursion P xs → find s xs ≡ find t xs
-find-alike P s t alike [] all = refl
-find-alike P s t alike (x ∷ xs) all = ap (λ b. cond b (Some x) (find s xs)) (alike x all.0) ∙ ap (λ o. cond (t x) (Some x) o) (find-alike P s t alike xs all.1)
+-- where none lies between the two ends, none holds their pair
+pub unheld-between : (own other : Addr) (p q : ℕ) (xs : List Entry) → same_addr own other ≡ false → AreSole xs → ((i : ℕ) (r : Role) → role_at xs i ≡ Some r → IsOurs own other r)
+    → find (is_between (record { addr = own; port = p }) (record { addr = other; port = q })) xs ≡ None → find (is_of_pair (pair_at own other p q)) xs ≡ None
+unheld-between own other p q xs apart sole ours none = decide (find (is_of_pair (pair_at own other p q)) xs) refl
+  where
+    here : Endpoint
+    here = record { addr = own; port = p }
 
-shown_id : (o : Option Entry) → option_map (λ (e : Entry). e.id) o ≡ option_map (λ (s : Slot). s.id) (option_map slot o)
-shown_id None = refl
-shown_id (Some e) = refl
+    there : Endpoint
+    there = record { addr = other; port = q }
 
--- the entry that holds the pair is that of the slot
-pub holder-slot : (h : HostView) (p q : ℕ) → same_addr h.addr h.neighbour ≡ false → same_addr h.neighbour h.addr ≡ false
-    → AllByRecursion (λ (e : Entry). IsOurRole h.addr h.neighbour e.role) h.entries
-    → holder_id h (pair_at h.addr h.neighbour p q) ≡ option_map (λ (s : Slot). s.id) (slot_of h.addr h.neighbour h.entries p q)
-holder-slot h p q apart apart' ours =
-    ap (option_map (λ (e : Entry). e.id))
-    (find-alike (λ (e : Entry). IsOurRole h.addr h.neighbour e.role) (is_of_pair (pair_at h.addr h.neighbour p q)) (joins_ports h.addr h.neighbour p q)
-    (λ e our. joins-ports h.addr h.neighbour p q e apart apart' our) h.entries ours)
-    ∙ shown_id (find (joins_ports h.addr h.neighbour p q) h.entries)
+    decide : (o : Option Entry) → find (is_of_pair (pair_at own other p q)) xs ≡ o → o ≡ None
+    decide None at = refl
+    decide (Some e) at =
+        let role = found-role (is_of_pair (pair_at own other p q)) xs e sole at in
+        let between = joins-between own other p q e.role apart (ours e.id.0 e.role role) in
+        let passes = find-passes (is_of_pair (pair_at own other p q)) xs e at in
+        let bad : true ≡ false = sym passes ∙ (between ∙ none-role (is_live_between here there) xs e.id.0 e.role none role) in
+        cc
+
+-- where none holds a pair, each of its connections is CLOSED
+pub unheld-closed : (xs : List Entry) (pair : Pair) (i : ℕ) (c : View) (l : Option SocketId) → find (is_of_pair pair) xs ≡ None → role_at xs i ≡ Some (Connected c l) → pair_of c.local c.peer ≡ pair → is_closed c.state ≡ true
+unheld-closed xs pair i c l none at same = decide (is_closed c.state) refl
+  where
+    decide : (b : Bool) → is_closed c.state ≡ b → b ≡ true
+    decide true is = refl
+    decide false is =
+        let bad : true ≡ false = sym (joins-own c l is) ∙ (ap (λ p. joins p (Connected c l)) same ∙ none-role (joins pair) xs i (Connected c l) none at) in
+        cc
+
+-- a host without a holder of a pair
+pub unheld : (h : HostView) (pair : Pair) → holder_id h pair ≡ None → find (is_of_pair pair) h.entries ≡ None
+unheld h pair = decide (find (is_of_pair pair) h.entries)
+  where
+    decide : (o : Option Entry) → option_map (λ (e : Entry). e.id) o ≡ None → o ≡ None
+    decide None e = refl
+    decide (Some x) e = cc

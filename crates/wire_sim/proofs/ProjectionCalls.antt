@@ -1,11 +1,11 @@
 -- What each answered call makes of the pairings: a move of one of them, or of none.
-use Rattle.std.proofs.Common.{◌≡◌, ℕ, ◌+◌, ◌≤◌, ◌==◌, ◌&&◌, ◌⊎◌, inl, inr, Bool, true, false, List, [], ◌∷◌, ◌++◌, length, take, Option, Some, None, is_some, Result, Ok, Err, arith, refl, sym, ◌∙◌, ap, subst, append-nil}
+use Rattle.std.proofs.Common.{◌≡◌, ℕ, ◌+◌, ◌≤◌, ◌==◌, ◌⊎◌, inl, inr, Bool, true, false, List, [], ◌∷◌, ◌++◌, length, take, Option, Some, None, is_some, Result, Ok, Err, arith, refl, sym, ◌∙◌, ap, subst}
 use Rattle.std.specs.List.{find}
 use Rattle.std.specs.Global.{Vec}
 use Rattle.ipv4.specs.declared.addr.Addr.{Addr}
 use Rattle.tcp_state.specs.declared.calls.Received.{Received}
 use Rattle.tcp_state.specs.declared.calls.Received.TheVariants as received
-use Rattle.tcp_state.specs.View.{View, opened_actively}
+use Rattle.tcp_state.specs.View.{View, is_opening}
 use Rattle.tcp_state.specs.Calls as connection_calls
 use Rattle.tcp_state.specs.declared.buffers.Buffers.{Buffers}
 use Rattle.wire_sim.specs.declared.event.Side.{Side}
@@ -22,68 +22,81 @@ use Rattle.host.specs.declared.entry.Role.TheVariants.{Connected}
 use Rattle.host.specs.declared.refusal.Refusal.{Refusal}
 use Rattle.host.specs.declared.refusal.Refusal.TheVariants as refusal
 use Rattle.wire_sim.specs.declared.world.bag.Frame.{Frame}
-use Rattle.host.specs.Calls.{after_socket, send_answer, after_send, recv_answer, after_recv}
-use Rattle.host.specs.Entries.{is_socket, sent, received as received_role, with_role}
+use Rattle.host.specs.Calls.{after_socket, send_answer, after_send, recv_answer, after_recv, shutdown_refusal, after_shutdown}
+use Rattle.host.specs.Entries.{is_socket, sent, received as received_role, write_shut, with_role}
 use Rattle.host.specs.HostView.{HostView}
 use Rattle.host.specs.Lists.{change_first}
-use Rattle.stream_law.specs.Pairing.{Meets, here_moves, ends}
+use Rattle.stream_law.specs.Pairing.{Present, Meets, takes, closes, gives, ends}
 use Rattle.host.specs.Sound.{IsSoundConnection, IsSoundRole, IsSoundHost}
 use Rattle.wire_sim.specs.Sides.{other_side}
 use Rattle.wire_sim.specs.Steps.{MeetsSocket, MeetsReceived, called, with_host, with_openings}
-use Rattle.wire_sim.specs.Tallies.{counted}
-use Rattle.wire_sim.specs.Trace.{sent_on, read_on, sent_by}
+use Rattle.wire_sim.specs.Tallies.{counted, is_opening_at}
 use Rattle.wire_sim.specs.WorldView.{NetworkView}
-use Rattle.wire_sim.proofs.Accepted.{sends-on, reads-on, octets_told, received-connected, readable_on-connected}
-use Rattle.wire_sim.proofs.Changes.{SameBut, Altered, altered, end_with, by_test}
-use Rattle.wire_sim.proofs.EndMoves.{pairing, EndGoes, meets-goes, end-takes, end-gives}
-use Rattle.wire_sim.proofs.Finding.{All-find}
-use Rattle.wire_sim.proofs.KeepsPorts.{keeps-nothing, keeps-send, keeps-recv}
-use Rattle.wire_sim.proofs.Makings.{Unseen, unseen, IsQuiet as IsQuietChange}
-use Rattle.wire_sim.proofs.Opened.{id_of, opened-kept}
-use Rattle.stream_law.proofs.PairingLaw.{pairing_lawful}
-use Rattle.wire_sim.proofs.ProjectionEmission.{both_same}
-use Rattle.wire_sim.proofs.Projection.{gave, got, end_at, Projects, projects-turned}
-use Rattle.wire_sim.proofs.Tables.{joins_ports, IsOurs, IsOurRole, Slot, slot_of, end_of_slot}
-use Rattle.wire_sim.proofs.Tallied.{tallies, answered, IsQuiet, sent_on-added, read_on-added, tallies-counted, tallies-quiet, sent_by-send, read_by-recv, other-quiet, quiet-everywhere}
+use Rattle.wire_sim.proofs.Accepted.{sends-on, reads-on, octets_told, end_told, received-connected, readable_on-connected, socket-kept, shuts-on}
+use Rattle.wire_sim.proofs.Changes.{SameBut, SameTold, table-becomes, table-told, end-told, meets-moved, opened-kept}
+use Rattle.wire_sim.proofs.EndMoves.{pairing, EndGoes, moved, end-stays}
+use Rattle.wire_sim.proofs.Finding.{All-find, change-none}
+use Rattle.wire_sim.proofs.KeepsPorts.{KeepsEnds, keeps-nothing, keeps-send, keeps-recv, keeps-shutdown}
+use Rattle.wire_sim.proofs.Projection.{told, Projects, projects-turned}
+use Rattle.wire_sim.proofs.QuietRoles.{IsQuiet as IsQuietChange}
+use Rattle.wire_sim.proofs.Tables.{Account, untold, role_at, found-role, Becomes, becomes-changed, presence_in, end_with, end_at, IsOpened, IsNoted, MayOpen, IsTable}
+use Rattle.wire_sim.proofs.Tallied.{tallies, answered, IsQuiet, tallies-counted, tallies-quiet, quiet-everywhere}
+use Rattle.wire_sim.proofs.Telling.{told-quiet, told-other, sends-told, receives-told, closes-told, ends-told}
 
 -- What happens and tells nothing of any socket's octets.
 
 abbrev pub IsSilent : Happening → Type 0
 IsSilent e = (s : Side) (i : SocketId) → IsQuiet s i e
 
-silent-sent : (trace : List Happening) (e : Happening) → IsSilent e → (s : Side) (i : SocketId) → sent_on s i (trace ++ e ∷ []) ≡ sent_on s i trace
-silent-sent trace e quiet s i = sent_on-added s i trace e ∙ (ap (λ l. sent_on s i trace ++ l) (quiet s i).0 ∙ append-nil (sent_on s i trace))
-
-silent-read : (trace : List Happening) (e : Happening) → IsSilent e → (s : Side) (i : SocketId) → read_on s i (trace ++ e ∷ []) ≡ read_on s i trace
-silent-read trace e quiet s i = read_on-added s i trace e ∙ (ap (λ l. read_on s i trace ++ l) (quiet s i).1 ∙ append-nil (read_on s i trace))
-
 pub projects-silent : (limit : ℕ) (hs ts : Side) (a b : Addr) (own other : HostView) (frames : List Frame) (openings : List Opening) (trace : List Happening) (e : Happening) → IsSilent e
     → Projects limit hs ts a b own other frames openings trace → Projects limit hs ts a b own other frames openings (trace ++ e ∷ [])
-projects-silent limit hs ts a b own other frames openings trace e quiet h = projects-turned limit hs ts a b own own other frames openings openings trace (trace ++ e ∷ []) h (record {
+projects-silent limit hs ts a b own other frames openings trace e quiet h = projects-turned limit hs ts a b own own other frames openings trace (trace ++ e ∷ []) h (record {
   addr = refl;
   neighbour = refl;
-  table = Rattle.wire_sim.proofs.Turned.same_told_table a b own.last_id own.entries (gave hs trace) (got hs trace) (gave hs (trace ++ e ∷ [])) (got hs (trace ++ e ∷ [])) (λ i. silent-sent trace e quiet hs i) (λ i. silent-read trace e quiet hs i) h.own_table;
-  other_gave = λ i. silent-sent trace e quiet ts i;
-  other_got = λ i. silent-read trace e quiet ts i;
-  moves = λ p q. subst (λ v. Meets limit (pairing v (end_at ts trace b a other.entries q p) (h.out p q) (h.arrived p q)))
-      (sym (Rattle.wire_sim.proofs.Turned.same_told_end (gave hs trace) (got hs trace) (gave hs (trace ++ e ∷ [])) (got hs (trace ++ e ∷ [])) (λ i. silent-sent trace e quiet hs i) (λ i. silent-read trace e quiet hs i) (slot_of a b own.entries p q))) (h.meets p q);
-  grows = λ s pair i same. same;
-  opened = h.opened;
+  table = table-told hs a b own.last_id own.entries openings (told hs trace) (told hs (trace ++ e ∷ [])) same h.own_table;
+  other_told = λ i. told-quiet ts trace e i (quiet ts i);
+  meets = λ pair epoch.
+      subst (λ v. Meets limit (pairing v (end_at ts openings other.entries (told ts trace) pair epoch) (h.out pair epoch) (h.arrived pair epoch)))
+      (sym (end-told hs openings own.entries (told hs trace) (told hs (trace ++ e ∷ [])) pair epoch same)) (h.meets pair epoch);
 })
+  where
+    same : SameTold (told hs trace) (told hs (trace ++ e ∷ []))
+    same i = told-quiet hs trace e i (quiet hs i)
+
+-- One id's entry became another, or is gone, and that is a move of its end.
+pub projects-moved : (limit : ℕ) (hs ts : Side) (a b : Addr) (own own' other : HostView) (frames : List Frame) (openings : List Opening) (trace trace' : List Happening) (id : SocketId) (r : Option Role)
+    → own'.addr ≡ own.addr → own'.neighbour ≡ own.neighbour → own'.last_id ≡ own.last_id → Becomes own.entries own'.entries id.0 r → ((role : Role) → r ≡ Some role → IsNoted hs a b openings id role × (id.0 ≤ own.last_id))
+    → SameBut id (told hs trace) (told hs trace') → (find (is_opening_at hs id) openings ≡ None → MayOpen own.last_id own'.entries id → told hs trace' id ≡ untold) → SameTold (told ts trace) (told ts trace')
+    → EndGoes limit (end_with (presence_in (role_at own.entries id.0)) (told hs trace id)) (end_with (presence_in r) (told hs trace' id))
+    → Projects limit hs ts a b own other frames openings trace → Projects limit hs ts a b own' other frames openings trace'
+projects-moved limit hs ts a b own own' other frames openings trace trace' id r addr neighbour last becomes new same quiet theirs goes h =
+    projects-turned limit hs ts a b own own' other frames openings trace trace' h (record {
+      addr = addr;
+      neighbour = neighbour;
+      table = subst (λ n. IsTable hs a b n own'.entries openings (told hs trace')) (sym last)
+          (table-becomes hs a b own.last_id own.entries own'.entries openings (told hs trace) (told hs trace') id r becomes new same quiet h.own_table);
+      other_told = theirs;
+      meets = meets-moved limit hs openings id own.entries own'.entries (told hs trace) (told hs trace') (λ pair epoch. end_at ts openings other.entries (told ts trace) pair epoch) h.out h.arrived becomes.others same
+          (subst (λ x. EndGoes limit (end_with (presence_in (role_at own.entries id.0)) (told hs trace id)) (end_with (presence_in x) (told hs trace' id))) (sym becomes.here) goes) h.meets;
+    })
 
 -- a change of our host that no connection sees
-pub projects-unseen : (limit : ℕ) (hs ts : Side) (a b : Addr) (own own' other : HostView) (frames : List Frame) (openings : List Opening) (trace : List Happening) → own'.addr ≡ own.addr → own'.neighbour ≡ own.neighbour
-    → Unseen a b own'.last_id own.entries own'.entries (gave hs trace) (got hs trace) → Projects limit hs ts a b own other frames openings trace → Projects limit hs ts a b own' other frames openings trace
-projects-unseen limit hs ts a b own own' other frames openings trace addr neighbour u h = projects-turned limit hs ts a b own own' other frames openings openings trace trace h (record {
-  addr = addr;
-  neighbour = neighbour;
-  table = u.table;
-  other_gave = λ i. refl;
-  other_got = λ i. refl;
-  moves = λ p q. subst (λ v. Meets limit (pairing v (end_at ts trace b a other.entries q p) (h.out p q) (h.arrived p q))) (sym (ap (end_of_slot (gave hs trace) (got hs trace)) (u.same p q))) (h.meets p q);
-  grows = λ s pair i same. same;
-  opened = opened-kept hs a b own.entries own'.entries other.entries openings (λ p q. ap id_of (u.same p q)) h.opened;
-})
+pub projects-quiet : (limit : ℕ) (hs ts : Side) (a b : Addr) (own other : HostView) (frames : List Frame) (openings : List Opening) (trace : List Happening) (test : Entry → Bool) (g : Role → Role) → IsQuietChange g
+    → Projects limit hs ts a b own other frames openings trace → Projects limit hs ts a b (record own { entries = change_first test (with_role g) own.entries }) other frames openings trace
+projects-quiet limit hs ts a b own other frames openings trace test g quiet h = by_found (find test own.entries) refl
+  where
+    next : HostView
+    next = record own { entries = change_first test (with_role g) own.entries }
+
+    by_found : (o : Option Entry) → find test own.entries ≡ o → Projects limit hs ts a b next other frames openings trace
+    by_found None at = subst (λ xs. Projects limit hs ts a b (record own { entries = xs }) other frames openings trace) (sym (change-none test (with_role g) own.entries at)) h
+    by_found (Some x) at =
+        let before = found-role test own.entries x h.own_table.sole at in
+        projects-moved limit hs ts a b own next other frames openings trace trace x.id (Some (g x.role)) refl refl refl (becomes-changed test g own.entries x h.own_table.sole at)
+        (λ role is. let same : g x.role ≡ role = cc in (subst (λ r. IsNoted hs a b openings x.id r) same (quiet.noted hs a b openings x.id x.role (h.own_table.noted x.id x.role before)), h.own_table.bound x.id x.role before))
+        (λ i apart. refl) (λ none may. h.own_table.silent x.id none (inr (x.role, before))) (λ i. refl)
+        (end-stays limit (end_with (presence_in (role_at own.entries x.id.0)) (told hs trace x.id)) (end_with (presence_in (Some (g x.role))) (told hs trace x.id))
+        (ap (λ p. end_with p (told hs trace x.id)) (quiet.seen x.role ∙ sym (ap presence_in before)))) h
 
 -- What a call made of the network: nothing beside its host, a count, or an opening.
 pub data CallGoes (limit : ℕ) (hs ts : Side) (a b : Addr) (own' other : HostView) (n : NetworkView) (c : Call) (answer : Answer) (place : ℕ) (trace : List Happening) : Type 0 where
@@ -141,18 +154,21 @@ pub record ReadsOctets (h : HostView) (id : SocketId) (len : ℕ) (answer : Answ
   pub becomes : new ≡ after_recv h id len
 
 -- What a receive shows that was told the end.
-pub record ReadsEnd (h : HostView) (id : SocketId) (len : ℕ) : Type 0 where
+pub record ReadsEnd (h : HostView) (id : SocketId) (len : ℕ) (answer : Answer) (new : HostView) : Type 0 where
   pub c : View
   pub l : Option SocketId
   pub found : find (is_socket id) h.entries ≡ Some (record { id = id; role = Connected c l })
+  pub some : (len == 0) ≡ false
   pub told : connection_calls.recv_answer c len ≡ Ok received.EndOfStream
+  pub is_answer : answer ≡ reply.EndOfStream
+  pub becomes : new ≡ after_recv h id len
 
 pub recv_outcome : (h : HostView) (id : SocketId) (len : ℕ) (answer : Answer) (new : HostView) → MeetsReceived h id len (recv_answer h id len) answer new
-    → ReadsOctets h id len answer new ⊎ (ReadsEnd h id len ⊎ ((e : Refusal) × (answer ≡ reply.Refused e) × (new ≡ h)))
+    → ReadsOctets h id len answer new ⊎ (ReadsEnd h id len answer new ⊎ ((e : Refusal) × (answer ≡ reply.Refused e) × (new ≡ h)))
 recv_outcome h id len answer new = by_outcome (recv_answer h id len) refl answer
   where
     by_outcome : (r : Result Received Refusal) → recv_answer h id len ≡ r → (answer : Answer) → MeetsReceived h id len r answer new
-        → ReadsOctets h id len answer new ⊎ (ReadsEnd h id len ⊎ ((e : Refusal) × (answer ≡ reply.Refused e) × (new ≡ h)))
+        → ReadsOctets h id len answer new ⊎ (ReadsEnd h id len answer new ⊎ ((e : Refusal) × (answer ≡ reply.Refused e) × (new ≡ h)))
     by_outcome (Ok (received.Octets count)) is (reply.Socket id) m = absurd m
     by_outcome (Ok (received.Octets count)) is reply.Done m = absurd m
     by_outcome (Ok (received.Octets count)) is (reply.Accepted i p) m = absurd m
@@ -176,7 +192,7 @@ recv_outcome h id len answer new = by_outcome (recv_answer h id len) refl answer
     by_outcome (Ok received.EndOfStream) is reply.Started m = absurd m
     by_outcome (Ok received.EndOfStream) is (reply.Sent n) m = absurd m
     by_outcome (Ok received.EndOfStream) is (reply.Octets o) m = absurd m
-    by_outcome (Ok received.EndOfStream) is reply.EndOfStream m = let r = reads-on h id len received.EndOfStream is in inr (inl (record { c = r.c; l = r.l; found = r.found; told = r.told }))
+    by_outcome (Ok received.EndOfStream) is reply.EndOfStream m = let r = reads-on h id len received.EndOfStream is in inr (inl (record { c = r.c; l = r.l; found = r.found; some = r.some; told = r.told; is_answer = refl; becomes = m }))
     by_outcome (Ok received.EndOfStream) is (reply.State s) m = absurd m
     by_outcome (Ok received.EndOfStream) is (reply.Frame i l) m = absurd m
     by_outcome (Ok received.EndOfStream) is reply.NoFrame m = absurd m
@@ -214,45 +230,30 @@ kept limit hs ts a b own own' other n trace same h = subst (λ w. Projects limit
 pub changed : (limit : ℕ) (hs ts : Side) (a b : Addr) (own own' other : HostView) (n : NetworkView) (trace : List Happening) (test : Entry → Bool) (g : Role → Role) → IsQuietChange g
     → own' ≡ record own { entries = change_first test (with_role g) own.entries } → Projects limit hs ts a b own other n.frames n.openings trace → Projects limit hs ts a b own' other n.frames n.openings trace
 changed limit hs ts a b own own' other n trace test g quiet becomes h =
-    let next : HostView = record own { entries = change_first test (with_role g) own.entries } in
-    kept limit hs ts a b next own' other n trace becomes
-    (projects-unseen limit hs ts a b own next other n.frames n.openings trace refl refl (unseen a b own.last_id own.entries (gave hs trace) (got hs trace) test g quiet h.own_table) h)
+    kept limit hs ts a b (record own { entries = change_first test (with_role g) own.entries }) own' other n trace becomes (projects-quiet limit hs ts a b own other n.frames n.openings trace test g quiet h)
 
--- Send and receive.
+-- Send, receive and close.
 
 -- what a call on one connection made of it, and of what is told of its socket
-projects-socket : (limit : ℕ) (hs ts : Side) (a b : Addr) (own other : HostView) (n : NetworkView) (trace : List Happening) (c : Call) (answer : Answer) (id : SocketId) (v w : View) (l : Option SocketId) (g : Role → Role)
-    → ts ≡ other_side hs → find (is_socket id) own.entries ≡ Some (record { id = id; role = Connected v l }) → g (Connected v l) ≡ Connected w l → Rattle.wire_sim.proofs.KeepsPorts.KeepsEnds v w
-    → SameBut id.0 (gave hs trace) (gave hs (trace ++ answered hs c answer ∷ [])) → SameBut id.0 (got hs trace) (got hs (trace ++ answered hs c answer ∷ []))
-    → EndGoes limit (end_with v id (gave hs trace) (got hs trace)) (end_with w id (gave hs (trace ++ answered hs c answer ∷ [])) (got hs (trace ++ answered hs c answer ∷ [])))
+projects-socket : (limit : ℕ) (hs ts : Side) (a b : Addr) (own other : HostView) (n : NetworkView) (trace : List Happening) (c : Call) (answer : Answer) (id : SocketId) (v w : View) (l l' : Option SocketId) (g : Role → Role)
+    → ts ≡ other_side hs → find (is_socket id) own.entries ≡ Some (record { id = id; role = Connected v l }) → g (Connected v l) ≡ Connected w l' → KeepsEnds v w
+    → SameBut id (told hs trace) (told hs (trace ++ answered hs c answer ∷ []))
+    → EndGoes limit (end_with (Present v) (told hs trace id)) (end_with (Present w) (told hs (trace ++ answered hs c answer ∷ []) id))
     → Projects limit hs ts a b own other n.frames n.openings trace
     → Projects limit hs ts a b (record own { entries = change_first (is_socket id) (with_role g) own.entries }) other n.frames n.openings (trace ++ answered hs c answer ∷ [])
-projects-socket limit hs ts a b own other n trace c answer id v w l g opposite found becomes keeps same_sent same_read goes h =
-    let e = answered hs c answer in
-    let trace' = trace ++ e ∷ [] in
-    let ys = change_first (is_socket id) (with_role g) own.entries in
-    let m : Altered a b own.last_id own.entries ys (gave hs trace) (got hs trace) (gave hs trace') (got hs trace') id v w =
-    altered a b own.last_id own.entries (gave hs trace) (got hs trace) (gave hs trace') (got hs trace') (is_socket id) g id v w l l found becomes keeps same_sent same_read h.own_table in
-    let quiet : (i : SocketId) → IsQuiet ts i e = λ i. subst (λ s. IsQuiet s i e) (sym opposite) (other-quiet hs c answer i) in
-    projects-turned limit hs ts a b own (record own { entries = ys }) other n.frames n.openings n.openings trace trace' h (record {
-      addr = refl;
-      neighbour = refl;
-      table = m.table;
-      other_gave = λ i. sent_on-added ts i trace e ∙ (ap (λ x. sent_on ts i trace ++ x) (quiet i).0 ∙ append-nil (sent_on ts i trace));
-      other_got = λ i. read_on-added ts i trace e ∙ (ap (λ x. read_on ts i trace ++ x) (quiet i).1 ∙ append-nil (read_on ts i trace));
-      moves = λ p q. by_test ((v.local.port == p) && (v.peer.port == q))
-          (λ is.
-          let o = end_at ts trace b a other.entries q p in
-          subst (λ x. Meets limit (pairing x o (h.out p q) (h.arrived p q))) (sym (m.after p q is))
-          (meets-goes limit (pairing (end_with v id (gave hs trace) (got hs trace)) o (h.out p q) (h.arrived p q)) (pairing (end_with w id (gave hs trace') (got hs trace')) o (h.out p q) (h.arrived p q))
-          (subst (λ x. Meets limit (pairing x o (h.out p q) (h.arrived p q))) (m.before p q is) (h.meets p q)) (goes o (h.out p q) (h.arrived p q))))
-          (λ is. subst (λ x. Meets limit (pairing x (end_at ts trace b a other.entries q p) (h.out p q) (h.arrived p q))) (sym (m.elsewhere p q is)) (h.meets p q));
-      grows = λ s pair i same. same;
-      opened = opened-kept hs a b own.entries ys other.entries n.openings m.names h.opened;
-    })
+projects-socket limit hs ts a b own other n trace c answer id v w l l' g opposite found becomes keeps same goes h =
+    let trace' = trace ++ answered hs c answer ∷ [] in
+    let x : Entry = record { id = id; role = Connected v l } in
+    let before : role_at own.entries id.0 ≡ Some (Connected v l) = found-role (is_socket id) own.entries x h.own_table.sole found in
+    let k : IsOpened hs a b n.openings id v = h.own_table.noted id (Connected v l) before in
+    projects-moved limit hs ts a b own (record own { entries = change_first (is_socket id) (with_role g) own.entries }) other n.frames n.openings trace trace' id (Some (Connected w l')) refl refl refl
+    (subst (λ r. Becomes own.entries (change_first (is_socket id) (with_role g) own.entries) id.0 (Some r)) becomes (becomes-changed (is_socket id) g own.entries x h.own_table.sole found))
+    (λ role is. let one : Connected w l' ≡ role = cc in (subst (λ r. IsNoted hs a b n.openings id r) one (opened-kept hs a b n.openings id v w keeps k), h.own_table.bound id (Connected v l) before))
+    same (λ none may. let bad : None ≡ Some k.opening = sym none ∙ k.at in cc) (told-other hs ts trace c answer opposite)
+    (subst (λ r. EndGoes limit (end_with (presence_in r) (told hs trace id)) (end_with (Present w) (told hs trace' id))) (sym before) goes) h
 
-sound_socket : (own : HostView) (id : SocketId) (c : View) (l : Option SocketId) → IsSoundHost own → find (is_socket id) own.entries ≡ Some (record { id = id; role = Connected c l }) → IsSoundConnection c
-sound_socket own id c l sound found = All-find (λ (e : Entry). IsSoundRole e.role) (is_socket id) own.entries (record { id = id; role = Connected c l }) sound found
+pub sound_socket : (own : HostView) (id : SocketId) (c : View) (l : Option SocketId) → IsSoundHost own → find (is_socket id) own.entries ≡ Some (record { id = id; role = Connected c l }) → IsSoundConnection c
+sound_socket own id c l sound found = All-find (λ (e : Entry). IsSoundRole e.role) (is_socket id) own.entries (record { id = id; role = Connected c l }) sound.entries found
 
 taken_fits : (c : View) (octets : List ℕ) → connection_calls.taken c octets ≤ length octets
 taken_fits c octets = omega arith
@@ -261,63 +262,56 @@ pub call-sends : (limit : ℕ) (hs ts : Side) (a b : Addr) (own other : HostView
     → Projects limit hs ts a b own other n.frames n.openings trace → CallGoes limit hs ts a b (after_send own id octets.items) other n (call.Send id octets) (reply.Sent count) place trace
 call-sends limit hs ts a b own other n place trace id octets count sound opposite answers h =
     let k = sends-on own id octets.items count answers in
-    let e = answered hs (call.Send id octets) (reply.Sent count) in
-    let trace' = trace ++ e ∷ [] in
     let solid = sound_socket own id k.c k.l sound k.found in
-    let same_got : got hs trace' id ≡ got hs trace id = read_on-added hs id trace e ∙ (ap (λ x. read_on hs id trace ++ x) (sent_by-send hs id id octets count).2 ∙ append-nil (read_on hs id trace)) in
-    let more : gave hs trace' id ≡ gave hs trace id ++ take (connection_calls.taken k.c octets.items) octets.items =
-    sent_on-added hs id trace e ∙ ap (λ x. sent_on hs id trace ++ x) ((sent_by-send hs id id octets count).0 (Rattle.wire_sim.proofs.Tables.eqb-same id.0) ∙ ap (λ i. take i octets.items) k.takes) in
-    let goes : EndGoes limit (end_with k.c id (gave hs trace) (got hs trace)) (end_with (connection_calls.after_send k.c octets.items) id (gave hs trace') (got hs trace')) =
-    subst (λ x. EndGoes limit (end_with k.c id (gave hs trace) (got hs trace)) (record { connection = Some (connection_calls.after_send k.c octets.items); written = x; closed = false; read = got hs trace' id; ended = false })) (sym more)
-    (subst (λ x. EndGoes limit (end_with k.c id (gave hs trace) (got hs trace)) (record { connection = Some (connection_calls.after_send k.c octets.items); written = gave hs trace id ++ take (connection_calls.taken k.c octets.items) octets.items; closed = false; read = x; ended = false })) (sym same_got)
-    (end-takes limit k.c octets.items (gave hs trace id) (got hs trace id) solid.sound k.untold k.opened k.unclosed)) in
+    let t = sends-told hs trace id octets count in
+    let one = told hs trace id in
+    let more : Account = record one { gave = one.gave ++ take (connection_calls.taken k.c octets.items) octets.items } in
+    let same : told hs (trace ++ answered hs (call.Send id octets) (reply.Sent count) ∷ []) id ≡ more =
+    t.0 ∙ ap (λ i. let x : Account = record one { gave = one.gave ++ take i octets.items } in x) k.takes in
     GoesCounted id count refl
-    (projects-socket limit hs ts a b own other n trace (call.Send id octets) (reply.Sent count) id k.c (connection_calls.after_send k.c octets.items) k.l (sent octets.items) opposite k.found refl (keeps-send k.c octets.items)
-    (λ i apart. sent_on-added hs i trace e ∙ (ap (λ x. sent_on hs i trace ++ x) ((sent_by-send hs id i octets count).1 apart) ∙ append-nil (sent_on hs i trace)))
-    (λ i apart. read_on-added hs i trace e ∙ (ap (λ x. read_on hs i trace ++ x) (sent_by-send hs id i octets count).2 ∙ append-nil (read_on hs i trace)))
-    goes h)
+    (projects-socket limit hs ts a b own other n trace (call.Send id octets) (reply.Sent count) id k.c (connection_calls.after_send k.c octets.items) k.l k.l (sent octets.items) opposite k.found refl (keeps-send k.c octets.items) t.1
+    (subst (λ x. EndGoes limit (end_with (Present k.c) one) (end_with (Present (connection_calls.after_send k.c octets.items)) x)) (sym same)
+    (λ there out arrived. moved limit (pairing (end_with (Present k.c) one) there out arrived) (pairing (end_with (Present (connection_calls.after_send k.c octets.items)) more) there out arrived) (takes (pairing (end_with (Present k.c) one) there out arrived) k.c octets.items refl solid.sound k.untold k.opened k.unclosed))) h)
     (tallies-counted trace n.openings hs id octets count (subst (λ i. i ≤ length octets.items) (sym k.takes) (taken_fits k.c octets.items)))
 
 pub call-receives : (limit : ℕ) (hs ts : Side) (a b : Addr) (own other : HostView) (n : NetworkView) (place : ℕ) (trace : List Happening) (id : SocketId) (len : ℕ) (octets : Vec ℕ) (m : ℕ) (c : View) (l : Option SocketId) → IsSoundHost own → ts ≡ other_side hs
-    → find (is_socket id) own.entries ≡ Some (record { id = id; role = Connected c l }) → is_some c.told ≡ false → Rattle.tcp_state.specs.View.is_opening c.state ≡ false → (m == 0) ≡ false → octets.items ≡ take (connection_calls.moved c m) c.receiving.readable
+    → find (is_socket id) own.entries ≡ Some (record { id = id; role = Connected c l }) → is_some c.told ≡ false → is_opening c.state ≡ false → (m == 0) ≡ false → octets.items ≡ take (connection_calls.moved c m) c.receiving.readable
     → Projects limit hs ts a b own other n.frames n.openings trace → CallGoes limit hs ts a b (after_recv own id m) other n (call.Recv id len) (reply.Octets octets) place trace
-call-receives limit hs ts a b own other n place trace id len octets m c l sound opposite found untold opened some are_first h =
-    let e = answered hs (call.Recv id len) (reply.Octets octets) in
-    let trace' = trace ++ e ∷ [] in
+call-receives limit hs ts a b own other n place trace id len octets m c l sound opposite found untold_yet opened some are_first h =
     let solid = sound_socket own id c l sound found in
-    let told = read_by-recv hs id in
-    let same_gave : gave hs trace' id ≡ gave hs trace id = sent_on-added hs id trace e ∙ (ap (λ x. sent_on hs id trace ++ x) (told id len octets).2 ∙ append-nil (sent_on hs id trace)) in
-    let more : got hs trace' id ≡ got hs trace id ++ take (connection_calls.moved c m) c.receiving.readable =
-    read_on-added hs id trace e ∙ ap (λ x. read_on hs id trace ++ x) ((told id len octets).0 (Rattle.wire_sim.proofs.Tables.eqb-same id.0) ∙ are_first) in
-    let goes : EndGoes limit (end_with c id (gave hs trace) (got hs trace)) (end_with (connection_calls.after_recv c m) id (gave hs trace') (got hs trace')) =
-    subst (λ x. EndGoes limit (end_with c id (gave hs trace) (got hs trace)) (record { connection = Some (connection_calls.after_recv c m); written = gave hs trace' id; closed = false; read = x; ended = false })) (sym more)
-    (subst (λ x. EndGoes limit (end_with c id (gave hs trace) (got hs trace)) (record { connection = Some (connection_calls.after_recv c m); written = x; closed = false; read = got hs trace id ++ take (connection_calls.moved c m) c.receiving.readable; ended = false })) (sym same_gave)
-    (end-gives limit c m (gave hs trace id) (got hs trace id) solid.sound untold opened)) in
-    let quiet : (s : Side) (i : SocketId) → sent_by s i e ≡ [] = λ s i. refl in
+    let t = receives-told hs trace id len octets in
+    let one = told hs trace id in
+    let more : Account = record one { got = one.got ++ take (connection_calls.moved c m) c.receiving.readable } in
+    let same : told hs (trace ++ answered hs (call.Recv id len) (reply.Octets octets) ∷ []) id ≡ more =
+    t.0 ∙ ap (λ i. let x : Account = record one { got = one.got ++ i } in x) are_first in
     GoesPlain refl
-    (projects-socket limit hs ts a b own other n trace (call.Recv id len) (reply.Octets octets) id c (connection_calls.after_recv c m) l (received_role m) opposite found (received-connected c l m some) (keeps-recv c m)
-    (λ i apart. sent_on-added hs i trace e ∙ (ap (λ x. sent_on hs i trace ++ x) (told i len octets).2 ∙ append-nil (sent_on hs i trace)))
-    (λ i apart. read_on-added hs i trace e ∙ (ap (λ x. read_on hs i trace ++ x) ((told i len octets).1 apart) ∙ append-nil (read_on hs i trace)))
-    goes h)
-    (tallies-quiet trace n.openings e quiet)
+    (projects-socket limit hs ts a b own other n trace (call.Recv id len) (reply.Octets octets) id c (connection_calls.after_recv c m) l l (received_role m) opposite found (received-connected c l m some) (keeps-recv c m) t.1
+    (subst (λ x. EndGoes limit (end_with (Present c) one) (end_with (Present (connection_calls.after_recv c m)) x)) (sym same)
+    (λ there out arrived. moved limit (pairing (end_with (Present c) one) there out arrived) (pairing (end_with (Present (connection_calls.after_recv c m)) more) there out arrived) (gives (pairing (end_with (Present c) one) there out arrived) c m refl solid.sound untold_yet (socket-kept own.entries id c l found) opened))) h)
+    (tallies-quiet trace n.openings (answered hs (call.Recv id len) (reply.Octets octets)) (λ s i. refl))
 
--- No caller is told the end, since no caller can close its side yet.
-pub never-ends : (limit : ℕ) (hs ts : Side) (a b : Addr) (own other : HostView) (n : NetworkView) (trace : List Happening) (id : SocketId) (len : ℕ) → ReadsEnd own id len
-    → Projects limit hs ts a b own other n.frames n.openings trace → ⊥
-never-ends limit hs ts a b own other n trace id len r h =
-    let c = r.c in
-    let p = c.local.port in
-    let q = c.peer.port in
-    let m = altered a b own.last_id own.entries (gave hs trace) (got hs trace) (gave hs trace) (got hs trace) (is_socket id) (λ x. x) id c c r.l r.l r.found refl (keeps-nothing c) (λ i other. refl) (λ i other. refl) h.own_table in
-    let there_end = end_at ts trace b a other.entries q p in
-    let e = pairing (end_with c id (gave hs trace) (got hs trace)) there_end (h.out p q) (h.arrived p q) in
-    let met : Meets limit e = subst (λ x. Meets limit (pairing x there_end (h.out p q) (h.arrived p q))) (m.before p q (both_same p q)) (h.meets p q) in
-    let told = record e { own = record e.own { ended = true } } in
-    let law = pairing_lawful limit h.small told (here_moves e told met (ends e c len refl r.told)) in
-    let closed : there_end.closed ≡ true = (law.0.end refl).0 in
-    let bad : false ≡ true = sym (unclosed (slot_of b a other.entries q p)) ∙ closed in
-    cc
-  where
-    unclosed : (o : Option Slot) → (end_of_slot (gave ts trace) (got ts trace) o).closed ≡ false
-    unclosed None = refl
-    unclosed (Some s) = refl
+pub call-ends : (limit : ℕ) (hs ts : Side) (a b : Addr) (own other : HostView) (n : NetworkView) (place : ℕ) (trace : List Happening) (id : SocketId) (len m : ℕ) (c : View) (l : Option SocketId) → ts ≡ other_side hs
+    → find (is_socket id) own.entries ≡ Some (record { id = id; role = Connected c l }) → (m == 0) ≡ false → connection_calls.recv_answer c m ≡ Ok received.EndOfStream
+    → Projects limit hs ts a b own other n.frames n.openings trace → CallGoes limit hs ts a b (after_recv own id m) other n (call.Recv id len) reply.EndOfStream place trace
+call-ends limit hs ts a b own other n place trace id len m c l opposite found some ended h =
+    let t = ends-told hs trace id len in
+    let one = told hs trace id in
+    let still : connection_calls.after_recv c m ≡ c = end_told c m ended in
+    GoesPlain refl
+    (projects-socket limit hs ts a b own other n trace (call.Recv id len) reply.EndOfStream id c c l l (received_role m) opposite found (received-connected c l m some ∙ ap (λ v. Connected v l) still) (keeps-nothing c) t.1
+    (subst (λ x. EndGoes limit (end_with (Present c) one) (end_with (Present c) x)) (sym t.0)
+    (λ there out arrived. moved limit (pairing (end_with (Present c) one) there out arrived) (pairing (end_with (Present c) (record one { ended = true })) there out arrived) (ends (pairing (end_with (Present c) one) there out arrived) c m refl (socket-kept own.entries id c l found) ended))) h)
+    (tallies-quiet trace n.openings (answered hs (call.Recv id len) reply.EndOfStream) (λ s i. refl))
+
+pub call-closes : (limit : ℕ) (hs ts : Side) (a b : Addr) (own other : HostView) (n : NetworkView) (place : ℕ) (trace : List Happening) (id : SocketId) → IsSoundHost own → ts ≡ other_side hs → shutdown_refusal own id ≡ None
+    → Projects limit hs ts a b own other n.frames n.openings trace → CallGoes limit hs ts a b (after_shutdown own id) other n (call.Shutdown id) reply.Done place trace
+call-closes limit hs ts a b own other n place trace id sound opposite accepted h =
+    let k = shuts-on own id accepted in
+    let solid = sound_socket own id k.c k.l sound k.found in
+    let t = closes-told hs trace id in
+    let one = told hs trace id in
+    GoesPlain refl
+    (projects-socket limit hs ts a b own other n trace (call.Shutdown id) reply.Done id k.c (connection_calls.after_shutdown k.c) k.l k.l write_shut opposite k.found k.shuts (keeps-shutdown k.c) t.1
+    (subst (λ x. EndGoes limit (end_with (Present k.c) one) (end_with (Present (connection_calls.after_shutdown k.c)) x)) (sym t.0)
+    (λ there out arrived. moved limit (pairing (end_with (Present k.c) one) there out arrived) (pairing (end_with (Present (connection_calls.after_shutdown k.c)) (record one { closed = true })) there out arrived) (closes (pairing (end_with (Present k.c) one) there out arrived) k.c refl solid.sound k.opened))) h)
+    (tallies-quiet trace n.openings (answered hs (call.Shutdown id) reply.Done) (λ s i. refl))

@@ -1,5 +1,5 @@
 -- What the trace tells of a socket after one happening more, and the counts beside the openings.
-use Rattle.std.proofs.Common.{◌≡◌, ℕ, ◌+◌, ◌<◌, ◌≤◌, ◌-◌, ◌==◌, ◌&&◌, nat_le, cond, Bool, true, false, List, [], ◌∷◌, ◌++◌, map, length, take, Option, Some, arith, refl, sym, ◌∙◌, ap, append_assoc, length-append}
+use Rattle.std.proofs.Common.{◌≡◌, ℕ, ◌+◌, ◌<◌, ◌≤◌, ◌-◌, ◌==◌, ◌&&◌, ◌||◌, nat_le, cond, Bool, true, false, List, [], ◌∷◌, ◌++◌, map, length, take, Option, Some, arith, refl, sym, ◌∙◌, ap, append_assoc, length-append}
 use Rattle.std.specs.List.{find}
 use Rattle.std.specs.Global.{Vec}
 use Rattle.std.proofs.lemmas.Bool.{eqb-true, eq-eqb, leb-false, and_parts, or_parts}
@@ -23,8 +23,9 @@ use Rattle.wire_sim.specs.declared.event.Happening.{Happening}
 use Rattle.wire_sim.specs.declared.world.bag.Note.{Note}
 use Rattle.wire_sim.specs.Sides.{same_side, other_side}
 use Rattle.wire_sim.specs.Tallies.{is_opening_of, is_opening_at, same_pair, written_by, counted}
-use Rattle.wire_sim.specs.Trace.{same_socket, sent_by_call, sent_by, read_by_call, read_by, sent_on, read_on, of_opening, written}
-use Rattle.wire_sim.specs.WorldView.{NetworkView, written_at, is_stale}
+use Rattle.wire_sim.specs.Trace.{same_socket, sent_by_call, sent_by, closed_by_call, closed_by, read_by_call, read_by, ended_by_call, ended_by, sent_on, closed_on, read_on, ended_on, of_opening, written}
+use Rattle.wire_sim.specs.Fairness.{is_stale}
+use Rattle.wire_sim.specs.WorldView.{NetworkView, written_at}
 
 -- how many octets the trace tells that each opening took from its caller
 abbrev pub tallies : List Happening → List Opening → List ℕ
@@ -36,7 +37,7 @@ answered side c a = record { event = event.Call side c; answer = a }
 
 -- nothing is told of a socket
 abbrev pub IsQuiet : Side → SocketId → Happening → Type 0
-IsQuiet side i h = (sent_by side i h ≡ []) × (read_by side i h ≡ [])
+IsQuiet side i h = (sent_by side i h ≡ []) × (closed_by side i h ≡ false) × (read_by side i h ≡ []) × (ended_by side i h ≡ false)
 
 -- Tests.
 
@@ -86,6 +87,23 @@ pub read_on-added : (side : Side) (id : SocketId) (trace : List Happening) (h : 
 read_on-added side id [] h = append-nil (read_by side id h)
 read_on-added side id (x ∷ xs) h = ap (λ octets. read_by side id x ++ octets) (read_on-added side id xs h) ∙ sym (append_assoc (read_by side id x) (read_on side id xs) (read_by side id h))
 
+-- and whether our side was closed, and the end told
+or_assoc : (a b c : Bool) → (a || (b || c)) ≡ ((a || b) || c)
+or_assoc true b c = refl
+or_assoc false b c = refl
+
+or_false : (a : Bool) → (a || false) ≡ a
+or_false true = refl
+or_false false = refl
+
+pub closed_on-added : (side : Side) (id : SocketId) (trace : List Happening) (h : Happening) → closed_on side id (trace ++ h ∷ []) ≡ (closed_on side id trace || closed_by side id h)
+closed_on-added side id [] h = or_false (closed_by side id h)
+closed_on-added side id (x ∷ xs) h = ap (λ b. closed_by side id x || b) (closed_on-added side id xs h) ∙ or_assoc (closed_by side id x) (closed_on side id xs) (closed_by side id h)
+
+pub ended_on-added : (side : Side) (id : SocketId) (trace : List Happening) (h : Happening) → ended_on side id (trace ++ h ∷ []) ≡ (ended_on side id trace || ended_by side id h)
+ended_on-added side id [] h = or_false (ended_by side id h)
+ended_on-added side id (x ∷ xs) h = ap (λ b. ended_by side id x || b) (ended_on-added side id xs h) ∙ or_assoc (ended_by side id x) (ended_on side id xs) (ended_by side id h)
+
 -- The counts.
 
 -- the count that is looked up is the length of what was written
@@ -93,8 +111,8 @@ pub written_by-tallies : (trace : List Happening) (openings : List Opening) (sid
     → written_by openings (tallies trace openings) side pair epoch ≡ length (written trace openings side pair epoch)
 written_by-tallies trace openings side pair epoch = go openings
   where
-    step : (o : Opening) (count : ℕ) (found : Option Opening) → count ≡ length (of_opening (λ o. sent_on side o.id trace) found) → (b : Bool) → (b ≡ true → o.side ≡ side)
-        → cond b (length (sent_on o.side o.id trace)) count ≡ length (of_opening (λ o. sent_on side o.id trace) (cond b (Some o) found))
+    step : (o : Opening) (count : ℕ) (found : Option Opening) → count ≡ length (of_opening [] (λ o. sent_on side o.id trace) found) → (b : Bool) → (b ≡ true → o.side ≡ side)
+        → cond b (length (sent_on o.side o.id trace)) count ≡ length (of_opening [] (λ o. sent_on side o.id trace) (cond b (Some o) found))
     step o count found e true is = ap (λ s. length (sent_on s o.id trace)) (is refl)
     step o count found e false is = e
 
@@ -162,39 +180,38 @@ timely n note fresh = (within (written_at n A note.pair note.epoch) note.at_a bo
 
 -- a tick tells of none
 pub quiet-tick : (s : Side) (moment : Moment) (a : Answer) (side : Side) (id : SocketId) → IsQuiet side id (record { event = event.Tick s moment; answer = a })
-quiet-tick s moment a side id = (refl, refl)
+quiet-tick s moment a side id = (refl, refl, refl, refl)
 
 -- nor does the going out of a frame
 pub quiet-emit : (s : Side) (a : Answer) (side : Side) (id : SocketId) → IsQuiet side id (record { event = event.Emit s; answer = a })
-quiet-emit s a side id = (refl, refl)
+quiet-emit s a side id = (refl, refl, refl, refl)
 
 -- nor does its arrival
 pub quiet-deliver : (s : Side) (index : ℕ) (isn : Seq) (a : Answer) (side : Side) (id : SocketId) → IsQuiet side id (record { event = event.Deliver s index isn; answer = a })
-quiet-deliver s index isn a side id = (refl, refl)
+quiet-deliver s index isn a side id = (refl, refl, refl, refl)
 
 -- the test of a call's own side
 own_socket : (side : Side) (id i : SocketId) → same_socket side i side id ≡ (i.0 == id.0)
 own_socket side id i = ap (λ b. b && (id.0 == i.0)) (same_side-same side) ∙ eqb-swap id.0 i.0
 
 -- octets that were sent are told of the socket that sent them, and of no other
-pub sent_by-send : (side : Side) (id i : SocketId) (octets : Vec ℕ) (count : ℕ)
-    → ((i.0 == id.0) ≡ true → sent_by side i (answered side (call.Send id octets) (answer.Sent count)) ≡ take count octets.items)
-    × ((i.0 == id.0) ≡ false → sent_by side i (answered side (call.Send id octets) (answer.Sent count)) ≡ [])
-    × (read_by side i (answered side (call.Send id octets) (answer.Sent count)) ≡ [])
-sent_by-send side id i octets count = (told true, told false, refl)
-  where
-    told : (b : Bool) → (i.0 == id.0) ≡ b → cond (same_socket side i side id) (take count octets.items) [] ≡ cond b (take count octets.items) []
-    told b is = ap (λ b. cond b (take count octets.items) []) (own_socket side id i ∙ is)
+pub sent_by-send : (side : Side) (id i : SocketId) (octets : Vec ℕ) (count : ℕ) → sent_by side i (answered side (call.Send id octets) (answer.Sent count)) ≡ cond (i.0 == id.0) (take count octets.items) []
+sent_by-send side id i octets count = ap (λ b. cond b (take count octets.items) []) (own_socket side id i)
 
 -- octets that were read are told of the socket that read them, and of no other
-pub read_by-recv : (side : Side) (id i : SocketId) (len : ℕ) (octets : Vec ℕ)
-    → ((i.0 == id.0) ≡ true → read_by side i (answered side (call.Recv id len) (answer.Octets octets)) ≡ octets.items)
-    × ((i.0 == id.0) ≡ false → read_by side i (answered side (call.Recv id len) (answer.Octets octets)) ≡ [])
-    × (sent_by side i (answered side (call.Recv id len) (answer.Octets octets)) ≡ [])
-read_by-recv side id i len octets = (told true, told false, refl)
-  where
-    told : (b : Bool) → (i.0 == id.0) ≡ b → cond (same_socket side i side id) octets.items [] ≡ cond b octets.items []
-    told b is = ap (λ b. cond b octets.items []) (own_socket side id i ∙ is)
+pub read_by-recv : (side : Side) (id i : SocketId) (len : ℕ) (octets : Vec ℕ) → read_by side i (answered side (call.Recv id len) (answer.Octets octets)) ≡ cond (i.0 == id.0) octets.items []
+read_by-recv side id i len octets = ap (λ b. cond b octets.items []) (own_socket side id i)
+
+-- a side is closed on the socket that closed it, and on no other
+pub closed_by-shutdown : (side : Side) (id i : SocketId) → closed_by side i (answered side (call.Shutdown id) answer.Done) ≡ (i.0 == id.0)
+closed_by-shutdown side id i = own_socket side id i
+
+pub closed_by-close : (side : Side) (id i : SocketId) → closed_by side i (answered side (call.Close id) answer.Done) ≡ (i.0 == id.0)
+closed_by-close side id i = own_socket side id i
+
+-- the end is told on the socket that asked, and on no other
+pub ended_by-recv : (side : Side) (id i : SocketId) (len : ℕ) → ended_by side i (answered side (call.Recv id len) answer.EndOfStream) ≡ (i.0 == id.0)
+ended_by-recv side id i len = own_socket side id i
 
 sent_by-elsewhere : (side s : Side) (i : SocketId) (c : Call) (a : Answer) → same_side s side ≡ false → sent_by_call side i s c a ≡ []
 sent_by-elsewhere side s i (call.Send id octets) (answer.Sent count) e = ap (λ b. cond (b && (id.0 == i.0)) (take count octets.items) []) e
@@ -204,9 +221,20 @@ read_by-elsewhere : (side s : Side) (i : SocketId) (c : Call) (a : Answer) → s
 read_by-elsewhere side s i (call.Recv id len) (answer.Octets octets) e = ap (λ b. cond (b && (id.0 == i.0)) octets.items []) e
 read_by-elsewhere side s i _ _ e = refl
 
+closed_by-elsewhere : (side s : Side) (i : SocketId) (c : Call) (a : Answer) → same_side s side ≡ false → closed_by_call side i s c a ≡ false
+closed_by-elsewhere side s i (call.Shutdown id) answer.Done e = ap (λ b. b && (id.0 == i.0)) e
+closed_by-elsewhere side s i (call.Close id) answer.Done e = ap (λ b. b && (id.0 == i.0)) e
+closed_by-elsewhere side s i _ _ e = refl
+
+ended_by-elsewhere : (side s : Side) (i : SocketId) (c : Call) (a : Answer) → same_side s side ≡ false → ended_by_call side i s c a ≡ false
+ended_by-elsewhere side s i (call.Recv id len) answer.EndOfStream e = ap (λ b. b && (id.0 == i.0)) e
+ended_by-elsewhere side s i _ _ e = refl
+
 -- a call tells of no socket of the other side
 pub other-quiet : (side : Side) (c : Call) (a : Answer) (i : SocketId) → IsQuiet (other_side side) i (answered side c a)
-other-quiet side c a i = (sent_by-elsewhere (other_side side) side i c a (same_side-other side), read_by-elsewhere (other_side side) side i c a (same_side-other side))
+other-quiet side c a i =
+    let apart = same_side-other side in
+    (sent_by-elsewhere (other_side side) side i c a apart, closed_by-elsewhere (other_side side) side i c a apart, read_by-elsewhere (other_side side) side i c a apart, ended_by-elsewhere (other_side side) side i c a apart)
 
 -- a call that tells of no socket of its own side tells of none
 pub quiet-everywhere : (side : Side) (c : Call) (a : Answer) → ((i : SocketId) → IsQuiet side i (answered side c a)) → (s : Side) (i : SocketId) → IsQuiet s i (answered side c a)
@@ -219,36 +247,39 @@ quiet-everywhere B c a here B i = here i
 
 -- the making of a socket, whatever is answered
 pub quiet-socket : (side : Side) (kind : Kind) (a : Answer) (i : SocketId) → IsQuiet side i (answered side (call.Socket kind) a)
-quiet-socket side kind a i = (refl, refl)
+quiet-socket side kind a i = (refl, refl, refl, refl)
 
 -- a bind, whatever is answered
 pub quiet-bind : (side : Side) (id : SocketId) (local : Endpoint) (a : Answer) (i : SocketId) → IsQuiet side i (answered side (call.Bind id local) a)
-quiet-bind side id local a i = (refl, refl)
+quiet-bind side id local a i = (refl, refl, refl, refl)
 
 -- a listen, whatever is answered
 pub quiet-listen : (side : Side) (id : SocketId) (backlog : ℕ) (a : Answer) (i : SocketId) → IsQuiet side i (answered side (call.Listen id backlog) a)
-quiet-listen side id backlog a i = (refl, refl)
+quiet-listen side id backlog a i = (refl, refl, refl, refl)
 
 -- an accept, whatever is answered
 pub quiet-accept : (side : Side) (id : SocketId) (a : Answer) (i : SocketId) → IsQuiet side i (answered side (call.Accept id) a)
-quiet-accept side id a i = (refl, refl)
+quiet-accept side id a i = (refl, refl, refl, refl)
 
 -- a connect, whatever is answered
 pub quiet-connect : (side : Side) (isn : Seq) (id : SocketId) (peer : Endpoint) (a : Answer) (i : SocketId) → IsQuiet side i (answered side (call.Connect isn id peer) a)
-quiet-connect side isn id peer a i = (refl, refl)
+quiet-connect side isn id peer a i = (refl, refl, refl, refl)
 
 -- a question for the state, whatever is answered
 pub quiet-state : (side : Side) (id : SocketId) (a : Answer) (i : SocketId) → IsQuiet side i (answered side (call.State id) a)
-quiet-state side id a i = (refl, refl)
+quiet-state side id a i = (refl, refl, refl, refl)
 
 -- a send that is refused
 pub quiet-send_refused : (side : Side) (id : SocketId) (octets : Vec ℕ) (e : Refusal) (i : SocketId) → IsQuiet side i (answered side (call.Send id octets) (answer.Refused e))
-quiet-send_refused side id octets e i = (refl, refl)
+quiet-send_refused side id octets e i = (refl, refl, refl, refl)
 
 -- a receive that is refused
 pub quiet-recv_refused : (side : Side) (id : SocketId) (len : ℕ) (e : Refusal) (i : SocketId) → IsQuiet side i (answered side (call.Recv id len) (answer.Refused e))
-quiet-recv_refused side id len e i = (refl, refl)
+quiet-recv_refused side id len e i = (refl, refl, refl, refl)
 
--- a receive at the end of the stream
-pub quiet-recv_end : (side : Side) (id : SocketId) (len : ℕ) (i : SocketId) → IsQuiet side i (answered side (call.Recv id len) answer.EndOfStream)
-quiet-recv_end side id len i = (refl, refl)
+-- a closing that is refused
+pub quiet-shutdown_refused : (side : Side) (id : SocketId) (e : Refusal) (i : SocketId) → IsQuiet side i (answered side (call.Shutdown id) (answer.Refused e))
+quiet-shutdown_refused side id e i = (refl, refl, refl, refl)
+
+pub quiet-close_refused : (side : Side) (id : SocketId) (e : Refusal) (i : SocketId) → IsQuiet side i (answered side (call.Close id) (answer.Refused e))
+quiet-close_refused side id e i = (refl, refl, refl, refl)

@@ -1,6 +1,9 @@
 -- Every run of a world keeps the law of the stream.
-use Rattle.std.proofs.Common.{◌≡◌, ℕ, zero, suc, ◌<◌, ◌≤◌, ◌^◌, inl, inr, Bool, true, false, cond, List, [], ◌∷◌, ◌++◌, length, Option, Some, None, refl, sym, ◌∙◌, ap, subst}
-use Rattle.std.specs.List.{AllByRecursion, slice_get}
+use Rattle.std.proofs.Common.{◌≡◌, ℕ, zero, suc, ◌<◌, ◌≤◌, ◌^◌, ◌==◌, not, inl, inr, Bool, true, false, cond, List, [], ◌∷◌, ◌++◌, length, Option, Some, None, refl, sym, ◌∙◌, ap, subst}
+use Rattle.std.specs.List.{find, AllByRecursion, slice_get}
+use Rattle.std.specs.Option.{option_or}
+use Rattle.std.proofs.lemmas.Bool.{eqb-true}
+use Rattle.ipv4.specs.declared.addr.Pair.{Pair}
 use Rattle.ipv4.specs.declared.addr.Addr.{Addr}
 use Rattle.tcp_segment.specs.declared.seq.Seq.{Seq}
 use Rattle.tcp_state.specs.declared.moment.Moment.{Moment}
@@ -13,36 +16,40 @@ use Rattle.wire_sim.specs.declared.event.Answer.{Answer}
 use Rattle.wire_sim.specs.declared.event.Answer.TheVariants as reply
 use Rattle.wire_sim.specs.declared.event.Opening.{Opening}
 use Rattle.wire_sim.specs.declared.event.Happening.{Happening}
-use Rattle.wire_sim.specs.declared.event.Unfair.TheVariants.{NoSuchFrame, Stale}
+use Rattle.wire_sim.specs.declared.event.Unfair.{Unfair}
+use Rattle.wire_sim.specs.declared.event.Unfair.TheVariants.{NoSuchFrame, OtherEpoch, Stale}
 use Rattle.wire_sim.specs.declared.world.bag.Frame.{Frame}
 use Rattle.wire_sim.specs.declared.world.bag.Note.{Note}
 use Rattle.wire_sim.specs.declared.world.station.Station.{Station}
+use Rattle.host.specs.declared.entry.Entry.{Entry}
+use Rattle.host.specs.declared.entry.Role.{Role}
 use Rattle.host.specs.Endpoints.{same_addr}
-use Rattle.wire_sim.specs.Fairness.{late_note, unfair_frame}
-use Rattle.host.specs.HostView.{HostView, later}
+use Rattle.wire_sim.specs.Fairness.{is_stale, late_note, second_by_frame, pair_foreseen, unfair_frame, unfair_call, unfair_counted}
+use Rattle.host.specs.HostView.{HostView}
 use Rattle.host.specs.HostView as host_view
-use Rattle.stream_law.specs.Pairing.{begins}
+use Rattle.stream_law.specs.Pairing.{IsStream, begins}
 use Rattle.wire_sim.specs.Runs.{IsNumbered, IsStep, IsReached}
 use Rattle.host.specs.Sound.{IsSoundHost}
 use Rattle.wire_sim.specs.Runs as runs
 use Rattle.wire_sim.specs.Sides.{same_side, other_side}
-use Rattle.wire_sim.specs.Steps.{station_of, host_of, with_station, with_host, with_openings, ticked_station, delivered, MeetsFrame, DeliversFrame, Steps}
-use Rattle.wire_sim.specs.Openings.{opened_by_frame}
-use Rattle.wire_sim.specs.Trace.{StreamLaw}
-use Rattle.wire_sim.specs.Tallies.{written_by, counted}
-use Rattle.wire_sim.specs.WorldView.{NetworkView, WorldView, written_at, is_stale, unfair_counted, fresh_network}
+use Rattle.wire_sim.specs.Steps.{with_station, with_host, with_openings, ticked_station, delivered, MeetsFrame, DeliversFrame, Steps}
+use Rattle.wire_sim.specs.Openings.{epoch_of, opened_by_frame}
+use Rattle.stream_law.specs.Begins.{Begins}
+use Rattle.wire_sim.specs.Trace.{closed_on, read_on, ended_on, of_opening, written, closed, read, ended, StreamLaw}
+use Rattle.wire_sim.specs.Tallies.{is_opening_of, written_by, counted}
+use Rattle.wire_sim.specs.WorldView.{NetworkView, WorldView, station_of, host_of, clock_of, written_at, fresh_network}
 use Rattle.wire_sim.proofs.Delivered.{frame-delivered}
-use Rattle.wire_sim.proofs.Opened.{stream_law}
 use Rattle.wire_sim.proofs.PairPorts.{same_addr-other}
 use Rattle.stream_law.proofs.PairingLaw.{pairing_lawful}
 use Rattle.wire_sim.proofs.EndMoves.{pairing}
 use Rattle.wire_sim.proofs.Fair.{same_unfair}
-use Rattle.wire_sim.proofs.Projection.{end_at, Carried, Projects, projects-swapped}
+use Rattle.wire_sim.proofs.Projection.{told, Carried, Projects, projects-swapped}
 use Rattle.wire_sim.proofs.ProjectionArrival.{Opens, OpensNone, OpensOne, projects-delivered}
 use Rattle.wire_sim.proofs.ProjectionCalls.{IsSilent, GoesPlain, GoesCounted, GoesOpened, projects-silent}
 use Rattle.wire_sim.proofs.ProjectionConnect.{projects-called}
-use Rattle.wire_sim.proofs.ProjectionEmission.{IsTallied, projects-emitted}
+use Rattle.wire_sim.proofs.ProjectionEmission.{IsTallied, written-end, projects-emitted}
 use Rattle.wire_sim.proofs.ProjectionTick.{projects-ticked}
+use Rattle.wire_sim.proofs.Tables.{end_of, end_at}
 use Rattle.wire_sim.proofs.Tallied.{tallies, written_by-tallies, tallies-quiet, tallies-opened, quiet-tick, quiet-emit, quiet-deliver}
 
 -- what holds of a world after every event, as one side sees it
@@ -114,14 +121,14 @@ own-again n m B is_a is_b = ap (λ (x : Station). x.host) is_b
 
 -- Each event of a side.
 
-orderly-called : (limit : ℕ) (hs ts : Side) (old new : NetworkView) (trace : List Happening) (c : Call) (answer : Answer) → ts ≡ other_side hs → IsNumbered (event.Call hs c) → IsSoundHost (host_of old hs) → Steps (event.Call hs c) (length trace) answer old new
+orderly-called : (limit : ℕ) (hs ts : Side) (old new : NetworkView) (trace : List Happening) (c : Call) (answer : Answer) → ts ≡ other_side hs → IsNumbered (event.Call hs c) → IsSoundHost (host_of old hs) → unfair_call old hs c ≡ None → Steps (event.Call hs c) (length trace) answer old new
     → IsOrderly limit hs ts old trace → IsOrderly limit hs ts new (trace ++ record { event = event.Call hs c; answer = answer } ∷ [])
-orderly-called limit hs ts old new trace c answer opposite numbered sound step w =
+orderly-called limit hs ts old new trace c answer opposite numbered sound fair step w =
     let own' = host_of new hs in
     let station = station_of old hs in
     let x : Station = record station { host = own' } in
     let e : Happening = record { event = event.Call hs c; answer = answer } in
-    elim (projects-called limit hs ts w.a w.b (host_of old hs) own' (host_of old ts) old (length trace) trace c answer sound opposite (ap (host_of old) opposite) numbered step.0 w.projects) [
+    elim (projects-called limit hs ts w.a w.b (host_of old hs) own' (host_of old ts) old (length trace) trace c answer sound opposite refl (ap (host_of old) opposite) numbered fair step.0 w.projects) [
       | GoesPlain is p t ↦
           let whole : new ≡ with_station old hs x = step.1 ∙ is in
           orderly-of limit hs ts w.a w.b own' (host_of old ts) old.frames old.openings (trace ++ e ∷ []) new
@@ -185,7 +192,7 @@ orderly-emitted limit hs ts old new trace (reply.Frame i l) opposite sound step 
     let e : Happening = record { event = event.Emit hs; answer = answer } in
     let next : NetworkView = record (with_station old hs x) { frames = old.frames ++ step.frame ∷ [] } in
     let p = projects-silent limit hs ts w.a w.b own' (host_of old ts) (old.frames ++ step.frame ∷ []) old.openings trace e (λ s i. quiet-emit hs answer s i)
-    (projects-emitted limit hs ts w.a w.b (host_of old hs) (host_of old ts) old trace (later (host_of old hs) station.clock) l step.frame (orderly-tallied limit hs ts old trace w) sound step.due step.sender step.octets step.note w.projects) in
+    (projects-emitted limit hs ts w.a w.b (host_of old hs) (host_of old ts) old trace station.clock l step.frame (orderly-tallied limit hs ts old trace w) sound step.due step.sender step.octets step.note w.projects) in
     orderly-of limit hs ts w.a w.b own' (host_of old ts) (old.frames ++ step.frame ∷ []) old.openings (trace ++ e ∷ []) new
     (ap (λ (m : NetworkView). m.limit) step.after ∙ (limit-with old hs x ∙ w.is_limit)) (ap (λ m. host_of m hs) step.after ∙ (own-again (with_station old hs x) next hs refl refl ∙ own-with old hs x))
     (ap (λ m. host_of m ts) step.after ∙ (own-again (with_station old hs x) next ts refl refl ∙ other-with old hs ts x opposite))
@@ -202,20 +209,26 @@ All-at P [] k x all e = cc
 All-at P (y ∷ ys) zero x all e = let same : y ≡ x = cc in subst P same all.0
 All-at P (y ∷ ys) (suc k) x all e = All-at P ys k x all.1 e
 
--- a frame that may be delivered to a side is of the other side, and not stale
-fair_sender : (n : NetworkView) (s : Side) (f : Frame) → unfair_frame n.limit (written_at n) s (Some f) ≡ None → (same_side f.sender s ≡ false) × (late_note n.limit (written_at n) f.note ≡ None)
-fair_sender n s f fair = step (same_side f.sender s) refl fair
+-- a frame that may be delivered to a side is of the other side, has nothing against it, and opens no pair a second time
+fair_sender : (n : NetworkView) (s : Side) (f : Frame) → unfair_frame n (written_at n) s (Some f) ≡ None
+    → (same_side f.sender s ≡ false) × (late_note n (written_at n) f.note ≡ None) × (second_by_frame n s (pair_foreseen (host_of n s) f.octets.items) ≡ None)
+fair_sender n s f fair = step (same_side f.sender s) refl (late_note n (written_at n) f.note) refl fair
   where
-    step : (b : Bool) → same_side f.sender s ≡ b → cond b (Some NoSuchFrame) (late_note n.limit (written_at n) f.note) ≡ None → (same_side f.sender s ≡ false) × (late_note n.limit (written_at n) f.note ≡ None)
-    step true is e = cc
-    step false is e = (is, e)
+    step : (b : Bool) → same_side f.sender s ≡ b → (late : Option Unfair) → late_note n (written_at n) f.note ≡ late → cond b (Some NoSuchFrame) (option_or late (second_by_frame n s (pair_foreseen (host_of n s) f.octets.items))) ≡ None
+        → (same_side f.sender s ≡ false) × (late_note n (written_at n) f.note ≡ None) × (second_by_frame n s (pair_foreseen (host_of n s) f.octets.items) ≡ None)
+    step true is late was e = cc
+    step false is None was e = (is, was, e)
+    step false is (Some x) was e = cc
 
-fair_note : (n : NetworkView) (note : Note) → late_note n.limit (written_at n) (Some note) ≡ None → is_stale n note ≡ false
-fair_note n note fair = step (is_stale n note) refl fair
+-- its pair is in the epoch that it was emitted in, and it is not stale
+fair_note : (n : NetworkView) (note : Note) → late_note n (written_at n) (Some note) ≡ None → (epoch_of n.openings note.pair ≡ note.epoch) × (is_stale n note ≡ false)
+fair_note n note fair = step (epoch_of n.openings note.pair == note.epoch) (is_stale n note) refl refl fair
   where
-    step : (b : Bool) → is_stale n note ≡ b → cond b (Some Stale) None ≡ None → is_stale n note ≡ false
-    step true is e = cc
-    step false is e = is
+    step : (same stale : Bool) → (epoch_of n.openings note.pair == note.epoch) ≡ same → is_stale n note ≡ stale → cond (not same) (Some OtherEpoch) (cond stale (Some Stale) None) ≡ None
+        → (epoch_of n.openings note.pair ≡ note.epoch) × (is_stale n note ≡ false)
+    step false stale is was e = cc
+    step true true is was e = cc
+    step true false is was e = (eqb-true (epoch_of n.openings note.pair) note.epoch is, was)
 
 not_own : (s : Side) → same_side s s ≡ false → ⊥
 not_own A e = cc
@@ -254,27 +267,28 @@ orderly-delivered limit hs ts old new trace index isn answer opposite numbered s
         ∙ sym (tallies-quiet trace (old.openings ++ o ∷ []) e (λ s i. (quiet-deliver hs index isn answer s i).0) ∙ tallies-opened trace old.openings o unsent)))
         (projects-silent limit hs ts w.a w.b own' (host_of old ts) old.frames (old.openings ++ o ∷ []) trace e (λ s i. quiet-deliver hs index isn answer s i) p)
 
-    of_sender : (f : Frame) → Carried hs ts w.a w.b w.projects.out w.projects.arrived old.openings f → same_side f.sender hs ≡ false → late_note old.limit (written_at old) f.note ≡ None
-        → MeetsFrame (host_of old hs) isn.0 f.octets.items answer own' → new ≡ delivered hs (length trace) f.note old own' → IsOrderly limit hs ts new (trace ++ e ∷ [])
-    of_sender f (inl c) not_ours timely meets becomes = absurd (not_own hs (ap (λ s. same_side s hs) (sym c.0) ∙ not_ours))
-    of_sender f (inr c) not_ours timely meets becomes =
+    of_sender : (f : Frame) → Carried hs ts w.a w.b w.projects.out w.projects.arrived f → same_side f.sender hs ≡ false → late_note old (written_at old) f.note ≡ None → second_by_frame old hs (pair_foreseen (host_of old hs) f.octets.items) ≡ None
+        → MeetsFrame (host_of old hs) (clock_of old hs) isn.0 f.octets.items answer own' → new ≡ delivered hs (length trace) f.note old own' → IsOrderly limit hs ts new (trace ++ e ∷ [])
+    of_sender f (inl c) not_ours timely second meets becomes = absurd (not_own hs (ap (λ s. same_side s hs) (sym c.0) ∙ not_ours))
+    of_sender f (inr c) not_ours timely second meets becomes =
         let k = c.1 in
+        let fresh = fair_note old k.note (ap (late_note old (written_at old)) (sym k.noted) ∙ timely) in
         opened f k.note k.noted becomes
-        (projects-delivered limit hs ts w.a w.b (host_of old hs) own' (host_of old ts) old trace isn.0 (length trace) f w.is_limit (orderly-tallied limit hs ts old trace w) sound numbered w.projects k
-        (fair_note old k.note (ap (late_note old.limit (written_at old)) (sym k.noted) ∙ timely)) (frame-delivered (host_of old hs) isn.0 f.octets.items answer own' meets))
+        (projects-delivered limit hs ts w.a w.b (host_of old hs) own' (host_of old ts) old trace (clock_of old hs) isn.0 (length trace) f w.is_limit (orderly-tallied limit hs ts old trace w) sound numbered w.projects k
+        fresh.1 fresh.0 second (frame-delivered (host_of old hs) (clock_of old hs) isn.0 f.octets.items answer own' meets))
 
-    of_frame : (o : Option Frame) → slice_get old.frames index ≡ o → unfair_frame old.limit (written_at old) hs o ≡ None → DeliversFrame hs isn.0 (length trace) answer old new o → IsOrderly limit hs ts new (trace ++ e ∷ [])
+    of_frame : (o : Option Frame) → slice_get old.frames index ≡ o → unfair_frame old (written_at old) hs o ≡ None → DeliversFrame hs isn.0 (length trace) answer old new o → IsOrderly limit hs ts new (trace ++ e ∷ [])
     of_frame None at fair step = absurd step
     of_frame (Some f) at fair step =
         let both = fair_sender old hs f fair in
-        of_sender f (All-at (Carried hs ts w.a w.b w.projects.out w.projects.arrived old.openings) old.frames index f w.projects.carried at) both.0 both.1 step.0 step.1
+        of_sender f (All-at (Carried hs ts w.a w.b w.projects.out w.projects.arrived) old.frames index f w.projects.carried at) both.0 both.1 both.2 step.0 step.1
 
 -- every event
 pub orderly-step : (limit : ℕ) (old new : WorldView) (happens : Event) (answer : Answer) → IsStep happens answer old new → IsOrderly limit A B old.network old.trace
     → IsOrderly limit A B new.network (old.trace ++ record { event = happens; answer = answer } ∷ [])
-orderly-step limit old new (event.Call A c) answer step w = orderly-called limit A B old.network new.network old.trace c answer refl step.numbered step.sound_a step.network w
+orderly-step limit old new (event.Call A c) answer step w = orderly-called limit A B old.network new.network old.trace c answer refl step.numbered step.sound_a step.fair step.network w
 orderly-step limit old new (event.Call B c) answer step w =
-    orderly-swapped limit B A new.network (old.trace ++ record { event = event.Call B c; answer = answer } ∷ []) (orderly-called limit B A old.network new.network old.trace c answer refl step.numbered step.sound_b step.network (orderly-swapped limit A B old.network old.trace w))
+    orderly-swapped limit B A new.network (old.trace ++ record { event = event.Call B c; answer = answer } ∷ []) (orderly-called limit B A old.network new.network old.trace c answer refl step.numbered step.sound_b step.fair step.network (orderly-swapped limit A B old.network old.trace w))
 orderly-step limit old new (event.Tick A moment) answer step w = orderly-ticked limit A B old.network new.network old.trace moment answer refl step.network w
 orderly-step limit old new (event.Tick B moment) answer step w =
     orderly-swapped limit B A new.network (old.trace ++ record { event = event.Tick B moment; answer = answer } ∷ []) (orderly-ticked limit B A old.network new.network old.trace moment answer refl step.network (orderly-swapped limit A B old.network old.trace w))
@@ -302,29 +316,77 @@ orderly-fresh limit a b distinct small = record {
     own_neighbour = refl;
     other_addr = refl;
     other_neighbour = refl;
-    own_table = record { sole = λ p q. tt; ids = λ i. tt; bound = tt; ours = tt; silent = λ i none. (refl, refl) };
-    other_table = record { sole = λ p q. tt; ids = λ i. tt; bound = tt; ours = tt; silent = λ i none. (refl, refl) };
-    out = λ p q. [];
-    arrived = λ p q. [];
-    meets = λ p q. begins;
+    ledger = record { by_id = λ side id. tt; by_epoch = λ side pair epoch. tt; past = λ side pair epoch later. refl };
+    own_table = record { sole = λ i. tt; bound = λ id r at. absurd (nothing r at); noted = λ id r at. absurd (nothing r at); later = λ id above. refl; silent = λ id none may. refl };
+    other_table = record { sole = λ i. tt; bound = λ id r at. absurd (nothing r at); noted = λ id r at. absurd (nothing r at); later = λ id above. refl; silent = λ id none may. refl };
+    out = λ pair epoch. [];
+    arrived = λ pair epoch. [];
+    meets = λ pair epoch. begins;
     carried = tt;
-    opened = record { firsts = tt; here_noted = λ p q. refl; there_noted = λ q p. refl };
   };
 }
+  where
+    nothing : (r : Role) → None ≡ Some r → ⊥
+    nothing r at = cc
 
 pub orderly : (limit : ℕ) (w : WorldView) → IsReached limit w → IsOrderly limit A B w.network w.trace
 orderly limit _ (runs.begins a b distinct small) = orderly-fresh limit a b distinct small
 orderly limit _ (runs.goes_on w v happens answer reached step) = subst (λ t. IsOrderly limit A B v.network t) (sym step.trace) (orderly-step limit w v happens answer step (orderly limit w reached))
 
+-- What the trace tells of a pair in an epoch is what its end does.
+
+closed-end : (side : Side) (trace : List Happening) (os : List Opening) (xs : List Entry) (pair : Pair) (epoch : ℕ) → closed trace os side pair epoch ≡ (end_at side os xs (told side trace) pair epoch).closed
+closed-end side trace os xs pair epoch = by_found (find (is_opening_of side pair epoch) os)
+  where
+    by_found : (o : Option Opening) → of_opening false (λ o. closed_on side o.id trace) o ≡ (end_of xs (told side trace) o).closed
+    by_found None = refl
+    by_found (Some o) = refl
+
+read-end : (side : Side) (trace : List Happening) (os : List Opening) (xs : List Entry) (pair : Pair) (epoch : ℕ) → read trace os side pair epoch ≡ (end_at side os xs (told side trace) pair epoch).read
+read-end side trace os xs pair epoch = by_found (find (is_opening_of side pair epoch) os)
+  where
+    by_found : (o : Option Opening) → of_opening [] (λ o. read_on side o.id trace) o ≡ (end_of xs (told side trace) o).read
+    by_found None = refl
+    by_found (Some o) = refl
+
+ended-end : (side : Side) (trace : List Happening) (os : List Opening) (xs : List Entry) (pair : Pair) (epoch : ℕ) → ended trace os side pair epoch ≡ (end_at side os xs (told side trace) pair epoch).ended
+ended-end side trace os xs pair epoch = by_found (find (is_opening_of side pair epoch) os)
+  where
+    by_found : (o : Option Opening) → of_opening false (λ o. ended_on side o.id trace) o ≡ (end_of xs (told side trace) o).ended
+    by_found None = refl
+    by_found (Some o) = refl
+
+-- the law of one pair in one epoch, where its two ends keep it
+pub record Keeps (reader writer : Side) (trace : List Happening) (os : List Opening) (pair : Pair) (epoch : ℕ) : Type 0 where
+  pub begins : Begins (read trace os reader pair epoch) (written trace os writer pair epoch)
+  pub end : ended trace os reader pair epoch ≡ true → (closed trace os writer pair epoch ≡ true) × (read trace os reader pair epoch ≡ written trace os writer pair epoch)
+
+keeps : (reader writer : Side) (trace : List Happening) (os : List Opening) (here there : List Entry) (pair : Pair) (epoch : ℕ)
+    → IsStream (end_at reader os here (told reader trace) pair epoch) (end_at writer os there (told writer trace) pair epoch) → Keeps reader writer trace os pair epoch
+keeps reader writer trace os here there pair epoch s = record {
+  begins = subst (λ x. Begins x (written trace os writer pair epoch)) (sym (read-end reader trace os here pair epoch))
+      (subst (λ x. Begins (end_at reader os here (told reader trace) pair epoch).read x) (sym (written-end writer trace os there pair epoch)) s.begins);
+  end = λ e.
+      let both = s.end (sym (ended-end reader trace os here pair epoch) ∙ e) in
+      (closed-end writer trace os there pair epoch ∙ both.0, read-end reader trace os here pair epoch ∙ (both.1 ∙ sym (written-end writer trace os there pair epoch)));
+}
+
 -- the law of the stream, of every world that was reached
 pub run_lawful : (limit : ℕ) (w : WorldView) → IsReached limit w → StreamLaw w.trace w.network.openings
-run_lawful limit w reached =
-    let o = orderly limit w reached in
-    let p = o.projects in
-    stream_law o.a o.b w.trace w.network.openings w.network.a.host.entries w.network.b.host.entries p.distinct p.opened
-    (λ i j.
-    let both = pairing_lawful limit p.small (pairing (end_at A w.trace o.a o.b w.network.a.host.entries i j) (end_at B w.trace o.b o.a w.network.b.host.entries j i) (p.out i j) (p.arrived i j)) (p.meets i j) in
-    (both.0.begins, both.1.begins))
+run_lawful limit w reached = of_writer
+  where
+    o : IsOrderly limit A B w.network w.trace
+    o = orderly limit w reached
+
+    both : (pair : Pair) (epoch : ℕ) → IsStream (end_at A w.network.openings w.network.a.host.entries (told A w.trace) pair epoch) (end_at B w.network.openings w.network.b.host.entries (told B w.trace) pair epoch)
+        × IsStream (end_at B w.network.openings w.network.b.host.entries (told B w.trace) pair epoch) (end_at A w.network.openings w.network.a.host.entries (told A w.trace) pair epoch)
+    both pair epoch =
+        let p = o.projects in
+        pairing_lawful limit p.small (pairing (end_at A w.network.openings w.network.a.host.entries (told A w.trace) pair epoch) (end_at B w.network.openings w.network.b.host.entries (told B w.trace) pair epoch) (p.out pair epoch) (p.arrived pair epoch)) (p.meets pair epoch)
+
+    of_writer : StreamLaw w.trace w.network.openings
+    of_writer A pair epoch = let k = keeps B A w.trace w.network.openings w.network.b.host.entries w.network.a.host.entries pair epoch (both pair epoch).1 in record { begins = k.begins; end = k.end }
+    of_writer B pair epoch = let k = keeps A B w.trace w.network.openings w.network.a.host.entries w.network.b.host.entries pair epoch (both pair epoch).0 in record { begins = k.begins; end = k.end }
 
 -- its counts are those of the trace
 pub run_tallied : (limit : ℕ) (w : WorldView) → IsReached limit w → IsTallied w.network w.trace

@@ -1,15 +1,28 @@
--- Which events are unfair: a network delivers only what the other side emitted, and nothing for too long.
-use Rattle.std.specs.Prelude.{ℕ, ◌-◌, Bool, ◌||◌, nat_le, if◌then◌else◌, List, Option, Some, None, slice_get}
+-- Which events are unfair: a network delivers only what the other side emitted, nothing for too long, nothing of a connection whose ports
+-- are used again, and no host opens a pair twice in one epoch.
+use Rattle.std.specs.Prelude.{ℕ, ◌-◌, ◌==◌, Bool, ◌||◌, nat_le, not, if◌then◌else◌, List, Option, Some, None, option_and_then, slice_get}
+use Rattle.std.specs.List.{list_any}
+use Rattle.std.specs.Option.{option_or}
 use Rattle.ipv4.specs.declared.addr.Pair.{Pair}
+use Rattle.tcp_segment.specs.Reading.{segment_in}
+use Rattle.host.specs.Calls.{pair_connected}
+use Rattle.host.specs.Dispatch.{pair_opened}
+use Rattle.host.specs.HostView.{HostView}
 use Rattle.wire_sim.specs.declared.event.Side.{Side}
 use Rattle.wire_sim.specs.declared.event.Side.TheVariants.{A, B}
+use Rattle.wire_sim.specs.declared.event.Call.{Call}
+use Rattle.wire_sim.specs.declared.event.Call.TheVariants as call
 use Rattle.wire_sim.specs.declared.event.Event.{Event}
 use Rattle.wire_sim.specs.declared.event.Event.TheVariants as event
+use Rattle.wire_sim.specs.declared.event.Opening.{Opening}
 use Rattle.wire_sim.specs.declared.event.Unfair.{Unfair}
-use Rattle.wire_sim.specs.declared.event.Unfair.TheVariants.{NoSuchFrame, Stale}
+use Rattle.wire_sim.specs.declared.event.Unfair.TheVariants.{NoSuchFrame, OtherEpoch, Stale, SecondOpening}
 use Rattle.wire_sim.specs.declared.world.bag.Frame.{Frame}
 use Rattle.wire_sim.specs.declared.world.bag.Note.{Note}
-use Rattle.wire_sim.specs.Sides.{same_side}
+use Rattle.wire_sim.specs.Openings.{epoch_of, epoch_connected}
+use Rattle.wire_sim.specs.Sides.{same_side, other_side}
+use Rattle.wire_sim.specs.Tallies.{is_opening_of}
+use Rattle.wire_sim.specs.WorldView.{NetworkView, host_of, written_at}
 
 -- how many octets a side took from its caller for a pair in an epoch
 abbrev pub Amount : Type 0
@@ -19,19 +32,52 @@ Amount = Side → Pair → ℕ → ℕ
 abbrev pub is_late : ℕ → Amount → Note → Bool
 is_late limit now note = nat_le limit (now A note.pair note.epoch - note.at_a) || nat_le limit (now B note.pair note.epoch - note.at_b)
 
--- a frame that belongs to a connection is stale, or there is nothing against it
-abbrev pub late_note : ℕ → Amount → Option Note → Option Unfair
-late_note limit now None = None
-late_note limit now (Some note) = if is_late limit now note then Some Stale else None
+-- a frame that belongs to a connection: the pair's epoch has risen since, or it is stale, or there is nothing against it
+abbrev pub late_note : NetworkView → Amount → Option Note → Option Unfair
+late_note n now None = None
+late_note n now (Some note) =
+    if not (epoch_of n.openings note.pair == note.epoch) then Some OtherEpoch
+    else if is_late n.limit now note then Some Stale
+    else None
 
--- only a frame that the other side emitted may be delivered to a side, and only while it is not stale
-abbrev pub unfair_frame : ℕ → Amount → Side → Option Frame → Option Unfair
-unfair_frame limit now side None = Some NoSuchFrame
-unfair_frame limit now side (Some f) = if same_side f.sender side then Some NoSuchFrame else late_note limit now f.note
+-- a side's host opened the pair in this epoch before
+abbrev pub second_in : List Opening → Side → Pair → ℕ → Option Unfair
+second_in openings side pair epoch = if list_any (is_opening_of side pair epoch) openings then Some SecondOpening else None
+
+-- the pair that octets would open at a host, if memory were there
+abbrev pub pair_foreseen : HostView → List ℕ → Option Pair
+pair_foreseen h octets = option_and_then (pair_opened h) (segment_in h.neighbour h.addr octets)
+
+-- a frame that would open a pair opens it in the pair's present epoch
+abbrev pub second_by_frame : NetworkView → Side → Option Pair → Option Unfair
+second_by_frame n side None = None
+second_by_frame n side (Some pair) = second_in n.openings side pair (epoch_of n.openings pair)
+
+abbrev pub second_by_connect : NetworkView → Side → Option Pair → Option Unfair
+second_by_connect n side None = None
+second_by_connect n side (Some pair) = second_in n.openings side pair (epoch_connected n.openings (host_of n (other_side side)) pair)
+
+-- only a frame that the other side emitted may be delivered to a side, only in time, and only where it opens no pair a second time
+abbrev pub unfair_frame : NetworkView → Amount → Side → Option Frame → Option Unfair
+unfair_frame n now side None = Some NoSuchFrame
+unfair_frame n now side (Some f) =
+    if same_side f.sender side then Some NoSuchFrame
+    else option_or (late_note n now f.note) (second_by_frame n side (pair_foreseen (host_of n side) f.octets.items))
+
+abbrev pub unfair_call : NetworkView → Side → Call → Option Unfair
+unfair_call n side (call.Connect isn id peer) = second_by_connect n side (pair_connected (host_of n side) id peer)
+unfair_call n side _ = None
 
 -- why an event is refused, but for want of memory: the first of the rules that it breaks
-abbrev pub unfair_event : ℕ → Amount → List Frame → Event → Option Unfair
-unfair_event limit now frames (event.Deliver side index isn) = unfair_frame limit now side (slice_get frames index)
-unfair_event limit now frames (event.Call side call) = None
-unfair_event limit now frames (event.Tick side moment) = None
-unfair_event limit now frames (event.Emit side) = None
+abbrev pub unfair_event : NetworkView → Amount → Event → Option Unfair
+unfair_event n now (event.Deliver side index isn) = unfair_frame n now side (slice_get n.frames index)
+unfair_event n now (event.Call side c) = unfair_call n side c
+unfair_event n now (event.Tick side moment) = None
+unfair_event n now (event.Emit side) = None
+
+-- the same tests by what is counted
+abbrev pub is_stale : NetworkView → Note → Bool
+is_stale n note = is_late n.limit (written_at n) note
+
+abbrev pub unfair_counted : NetworkView → Event → Option Unfair
+unfair_counted n happens = unfair_event n (written_at n) happens

@@ -12,14 +12,17 @@ use Rattle.wire_sim.specs.Tallies.{same_pair}
 abbrev pub epoch_of : List Opening → Pair → ℕ
 epoch_of openings pair = fold (λ epoch o. if same_pair o.pair pair then o.epoch else epoch) 0 openings
 
--- A connect that was started opens the pair that its socket then has. The pair's epoch rises, but where the other host
--- holds the pair already.
+-- the epoch that an opening by a connect belongs to: it rises, but where the other host holds the pair already
+abbrev pub epoch_connected : List Opening → HostView → Pair → ℕ
+epoch_connected openings other pair = if is_some (holder_id other pair) then epoch_of openings pair else epoch_of openings pair + 1
+
+-- A connect that was started opens the pair that its socket then has.
 abbrev pub opened_as : List Opening → Side → SocketId → ℕ → HostView → Option Pair → List Opening
 opened_as openings side id place other None = []
 opened_as openings side id place other (Some pair) = record {
   side = side;
   pair = pair;
-  epoch = if is_some (holder_id other pair) then epoch_of openings pair else epoch_of openings pair + 1;
+  epoch = epoch_connected openings other pair;
   id = id;
   place = place;
 } ∷ []

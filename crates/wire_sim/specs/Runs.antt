@@ -34,7 +34,7 @@ written_len w side pair epoch = length (written w.trace w.network.openings side 
 
 -- why an event is refused, but for want of memory
 abbrev pub unfair : WorldView → Event → Option Unfair
-unfair w happens = unfair_event w.network.limit (written_len w) w.network.frames happens
+unfair w happens = unfair_event w.network (written_len w) happens
 
 -- one event that is fair, and its answer, in the trace
 pub record IsStep (happens : Event) (answer : Answer) (old new : WorldView) : Type 0 where

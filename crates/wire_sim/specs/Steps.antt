@@ -23,21 +23,14 @@ use Rattle.wire_sim.specs.declared.event.Opening.{Opening}
 use Rattle.wire_sim.specs.declared.world.bag.Frame.{Frame}
 use Rattle.wire_sim.specs.declared.world.bag.Note.{Note}
 use Rattle.wire_sim.specs.declared.world.station.Station.{Station}
-use Rattle.host.specs.Calls.{unless_refused, is_table_full, after_socket, bind_refusal, after_bind, listen_refusal, after_listen, accept_answer, after_accept, connect_refusal, after_connect, send_answer, after_send, recv_answer, after_recv, state_answer}
+use Rattle.host.specs.Calls.{unless_refused, is_table_full, after_socket, bind_refusal, after_bind, listen_refusal, after_listen, accept_answer, after_accept, connect_refusal, after_connect, send_answer, after_send, recv_answer, after_recv, shutdown_refusal, after_shutdown, close_refusal, after_close, state_answer}
 use Rattle.host.specs.Dispatch.{IsDelivered}
 use Rattle.host.specs.HostView.{HostView, role_of, after_tick, after_emission, emission_len, emission_octets}
 use Rattle.wire_sim.specs.Sides.{other_side}
 use Rattle.wire_sim.specs.Tallies.{counted}
 use Rattle.wire_sim.specs.Openings.{epoch_of, opened_by_connect, opened_by_frame}
 use Rattle.host.specs.Pairs.{due_pair}
-use Rattle.wire_sim.specs.WorldView.{NetworkView, written_at}
-
-abbrev pub station_of : NetworkView → Side → Station
-station_of n A = n.a
-station_of n B = n.b
-
-abbrev pub host_of : NetworkView → Side → HostView
-host_of n side = let s = station_of n side in s.host
+use Rattle.wire_sim.specs.WorldView.{NetworkView, station_of, host_of, clock_of, written_at}
 
 -- a side's host and clock are these, and all else is as it was
 abbrev pub with_station : NetworkView → Side → Station → NetworkView
@@ -87,6 +80,8 @@ MeetsCall (call.Accept id) h answer new = Answers (accept_answer h id) (λ p. re
 MeetsCall (call.Connect isn id peer) h answer new = Answers (unless_refused (connect_refusal h id peer) (tt {0})) (λ _. reply.Started) (after_connect h isn.0 id peer) h answer new
 MeetsCall (call.Send id octets) h answer new = Answers (send_answer h id octets.items) (λ count. reply.Sent count) (after_send h id octets.items) h answer new
 MeetsCall (call.Recv id len) h answer new = MeetsReceived h id (asked len) (recv_answer h id (asked len)) answer new
+MeetsCall (call.Shutdown id) h answer new = Answers (unless_refused (shutdown_refusal h id) (tt {0})) (λ _. reply.Done) (after_shutdown h id) h answer new
+MeetsCall (call.Close id) h answer new = Answers (unless_refused (close_refusal h id) (tt {0})) (λ _. reply.Done) (after_close h id) h answer new
 MeetsCall (call.State id) h answer new = Answers (state_answer h id) (λ state. reply.State state) h h answer new
 
 -- openings are added, each with nothing counted yet
@@ -120,7 +115,7 @@ pub record EmitsFrame (side : Side) (index len : ℕ) (old new : NetworkView) : 
   pub sender : frame.sender ≡ side
   pub octets : frame.octets.items ≡ emission_octets (host_of old side)
   pub note : frame.note ≡ option_map (noted old) (due_pair (host_of old side))
-  pub after : new ≡ record (with_host old side (after_emission (host_of old side) (let s = station_of old side in s.clock))) { frames = old.frames ++ frame ∷ [] }
+  pub after : new ≡ record (with_host old side (after_emission (host_of old side) (clock_of old side))) { frames = old.frames ++ frame ∷ [] }
 
 -- nothing is due, and then nothing changes
 pub record EmitsNothing (side : Side) (old new : NetworkView) : Type 0 where
@@ -132,16 +127,16 @@ abbrev pub delivered : Side → ℕ → Option Note → NetworkView → HostView
 delivered side place None n host = with_host n side host
 delivered side place (Some note) n host = with_openings (with_host n side host) (opened_by_frame n.openings side place note.pair (host_of n side) host)
 
--- the host takes the frame's octets, or drops them with a cause
-abbrev pub MeetsFrame : HostView → ℕ → List ℕ → Answer → HostView → Type 0
-MeetsFrame h isn octets reply.Taken new = IsDelivered h isn octets (Ok tt) new
-MeetsFrame h isn octets (reply.Dropped cause) new = IsDelivered h isn octets (Err cause) new
-MeetsFrame h isn octets _ new = ⊥
+-- the host takes the frame's octets at its clock's moment, or drops them with a cause
+abbrev pub MeetsFrame : HostView → Moment → ℕ → List ℕ → Answer → HostView → Type 0
+MeetsFrame h now isn octets reply.Taken new = IsDelivered h now isn octets (Ok tt) new
+MeetsFrame h now isn octets (reply.Dropped cause) new = IsDelivered h now isn octets (Err cause) new
+MeetsFrame h now isn octets _ new = ⊥
 
 -- the frame reaches the host just as it was emitted
 abbrev pub DeliversFrame : Side → ℕ → ℕ → Answer → NetworkView → NetworkView → Option Frame → Type 0
 DeliversFrame side isn place answer old new None = ⊥
-DeliversFrame side isn place answer old new (Some f) = MeetsFrame (host_of old side) isn f.octets.items answer (host_of new side) × (new ≡ delivered side place f.note old (host_of new side))
+DeliversFrame side isn place answer old new (Some f) = MeetsFrame (host_of old side) (clock_of old side) isn f.octets.items answer (host_of new side) × (new ≡ delivered side place f.note old (host_of new side))
 
 -- the frame that is due goes out, or none is
 abbrev pub MeetsEmission : Side → Answer → NetworkView → NetworkView → Type 0

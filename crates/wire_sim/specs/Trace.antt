@@ -1,5 +1,5 @@
 -- What the callers gave to the hosts and got from them, read off the trace, and the law of the stream.
-use Rattle.std.specs.Prelude.{ℕ, Bool, ◌==◌, ◌&&◌, if◌then◌else◌, List, [], ◌∷◌, ◌++◌, take, Option, Some, None, find}
+use Rattle.std.specs.Prelude.{◌≡◌, ℕ, Bool, true, false, ◌==◌, ◌&&◌, ◌||◌, if◌then◌else◌, List, [], ◌∷◌, ◌++◌, take, Option, Some, None, find}
 use Rattle.ipv4.specs.declared.addr.Pair.{Pair}
 use Rattle.host.specs.declared.entry.SocketId.{SocketId}
 use Rattle.wire_sim.specs.declared.event.Side.{Side}
@@ -43,6 +43,31 @@ read_by side id h = of_event h.event
     of_event (event.Call s c) = read_by_call side id s c h.answer
     of_event _ = []
 
+-- the call closed our side of the socket, or the socket
+abbrev pub closed_by_call : Side → SocketId → Side → Call → Answer → Bool
+closed_by_call side id s (call.Shutdown i) answer.Done = same_socket side id s i
+closed_by_call side id s (call.Close i) answer.Done = same_socket side id s i
+closed_by_call side id s _ _ = false
+
+abbrev pub closed_by : Side → SocketId → Happening → Bool
+closed_by side id h = of_event h.event
+  where
+    of_event : Event → Bool
+    of_event (event.Call s c) = closed_by_call side id s c h.answer
+    of_event _ = false
+
+-- its answer told the caller of the socket the end of the stream
+abbrev pub ended_by_call : Side → SocketId → Side → Call → Answer → Bool
+ended_by_call side id s (call.Recv i len) answer.EndOfStream = same_socket side id s i
+ended_by_call side id s _ _ = false
+
+abbrev pub ended_by : Side → SocketId → Happening → Bool
+ended_by side id h = of_event h.event
+  where
+    of_event : Event → Bool
+    of_event (event.Call s c) = ended_by_call side id s c h.answer
+    of_event _ = false
+
 -- all octets that were accepted of `send` on a socket, joined in the order of the trace
 abbrev pub sent_on : Side → SocketId → List Happening → List ℕ
 sent_on side id [] = []
@@ -53,20 +78,42 @@ abbrev pub read_on : Side → SocketId → List Happening → List ℕ
 read_on side id [] = []
 read_on side id (h ∷ hs) = read_by side id h ++ read_on side id hs
 
--- of the opening by which a side's host came to hold a pair in an epoch; nothing where there is none
-abbrev pub of_opening : (Opening → List ℕ) → Option Opening → List ℕ
-of_opening octets None = []
-of_opening octets (Some o) = octets o
+-- whether our side of it was closed
+abbrev pub closed_on : Side → SocketId → List Happening → Bool
+closed_on side id [] = false
+closed_on side id (h ∷ hs) = closed_by side id h || closed_on side id hs
 
--- what was written at a side for a pair in an epoch
+-- whether the end was told on it
+abbrev pub ended_on : Side → SocketId → List Happening → Bool
+ended_on side id [] = false
+ended_on side id (h ∷ hs) = ended_by side id h || ended_on side id hs
+
+-- what is said of the opening by which a side's host came to hold a pair in an epoch, or this where there is none
+abbrev pub of_opening : {T : Type 0} → T → (Opening → T) → Option Opening → T
+of_opening nothing said None = nothing
+of_opening nothing said (Some o) = said o
+
+-- what was written at a side for a pair in an epoch, and whether the writer closed its side
 abbrev pub written : List Happening → List Opening → Side → Pair → ℕ → List ℕ
-written trace openings side pair epoch = of_opening (λ o. sent_on side o.id trace) (find (is_opening_of side pair epoch) openings)
+written trace openings side pair epoch = of_opening [] (λ o. sent_on side o.id trace) (find (is_opening_of side pair epoch) openings)
 
--- what was read there
+abbrev pub closed : List Happening → List Opening → Side → Pair → ℕ → Bool
+closed trace openings side pair epoch = of_opening false (λ o. closed_on side o.id trace) (find (is_opening_of side pair epoch) openings)
+
+-- what was read there, and whether the reader was told the end
 abbrev pub read : List Happening → List Opening → Side → Pair → ℕ → List ℕ
-read trace openings side pair epoch = of_opening (λ o. read_on side o.id trace) (find (is_opening_of side pair epoch) openings)
+read trace openings side pair epoch = of_opening [] (λ o. read_on side o.id trace) (find (is_opening_of side pair epoch) openings)
 
--- The law of the stream: for every pair of endpoints, every epoch and both directions, what was read at one end begins
--- what was written at the other.
+abbrev pub ended : List Happening → List Opening → Side → Pair → ℕ → Bool
+ended trace openings side pair epoch = of_opening false (λ o. ended_on side o.id trace) (find (is_opening_of side pair epoch) openings)
+
+-- from a writer to the reader at the other side: what was read begins what was written, and the end was told only where the writer closed
+-- its side and all that it wrote was read
+pub record KeepsStream (trace : List Happening) (openings : List Opening) (writer : Side) (pair : Pair) (epoch : ℕ) : Type 0 where
+  pub begins : Begins (read trace openings (other_side writer) pair epoch) (written trace openings writer pair epoch)
+  pub end : ended trace openings (other_side writer) pair epoch ≡ true
+      → (closed trace openings writer pair epoch ≡ true) × (read trace openings (other_side writer) pair epoch ≡ written trace openings writer pair epoch)
+
+-- The law of the stream: for every pair of endpoints, every epoch and both directions.
 abbrev pub StreamLaw : List Happening → List Opening → Type 0
-StreamLaw trace openings = (writer : Side) (pair : Pair) (epoch : ℕ) → Begins (read trace openings (other_side writer) pair epoch) (written trace openings writer pair epoch)
+StreamLaw trace openings = (writer : Side) (pair : Pair) (epoch : ℕ) → KeepsStream trace openings writer pair epoch

@@ -1,21 +1,19 @@
 -- What a reader sees of a world.
-use Rattle.std.specs.Prelude.{◌≡◌, ℕ, Bool, List, [], vec_len, Option, Some, None}
+use Rattle.std.specs.Prelude.{◌≡◌, ℕ, List, [], vec_len, Option, Some, None}
 use Rattle.ipv4.specs.declared.addr.Addr.{Addr}
 use Rattle.ipv4.specs.declared.addr.Pair.{Pair}
+use Rattle.tcp_state.specs.declared.moment.Moment.{Moment}
 use Rattle.wire_sim.specs.declared.event.Side.{Side}
-use Rattle.wire_sim.specs.declared.event.Event.{Event}
+use Rattle.wire_sim.specs.declared.event.Side.TheVariants.{A, B}
 use Rattle.wire_sim.specs.declared.event.Answer.{Answer}
 use Rattle.wire_sim.specs.declared.event.Answer.TheVariants as answer
 use Rattle.wire_sim.specs.declared.event.Opening.{Opening}
 use Rattle.wire_sim.specs.declared.event.Happening.{Happening}
-use Rattle.wire_sim.specs.declared.event.Unfair.{Unfair}
 use Rattle.wire_sim.specs.declared.world.bag.Frame.{Frame}
-use Rattle.wire_sim.specs.declared.world.bag.Note.{Note}
 use Rattle.wire_sim.specs.declared.world.station.Station.{Station}
 use Rattle.wire_sim.specs.declared.world.network.Network.{Network}
-use Rattle.host.specs.HostView.{fresh}
+use Rattle.host.specs.HostView.{HostView, fresh}
 use Rattle.wire_sim.specs.Tallies.{written_by}
-use Rattle.wire_sim.specs.Fairness.{is_late, unfair_event}
 
 -- the limit on what may be written while a frame is under way, the two hosts with their clocks, every frame that was
 -- emitted, the openings, and how many octets each of these took from its caller
@@ -46,12 +44,15 @@ pub record WorldView : Type 0 where
 abbrev pub written_at : NetworkView → Side → Pair → ℕ → ℕ
 written_at n side pair epoch = written_by n.openings n.written side pair epoch
 
--- the same tests by what is counted
-abbrev pub is_stale : NetworkView → Note → Bool
-is_stale n note = is_late n.limit (written_at n) note
+abbrev pub station_of : NetworkView → Side → Station
+station_of n A = n.a
+station_of n B = n.b
 
-abbrev pub unfair_counted : NetworkView → Event → Option Unfair
-unfair_counted n happens = unfair_event n.limit (written_at n) n.frames happens
+abbrev pub host_of : NetworkView → Side → HostView
+host_of n side = let s = station_of n side in s.host
+
+abbrev pub clock_of : NetworkView → Side → Moment
+clock_of n side = let s = station_of n side in s.clock
 
 -- the octets that an answer holds
 abbrev pub octets_in : Answer → Option (List ℕ)

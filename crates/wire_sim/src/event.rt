@@ -74,6 +74,14 @@ pub enum Call {
         id: SocketId,
         len: usize,
     },
+    /// Closes our side of a connection.
+    Shutdown {
+        id: SocketId,
+    },
+    /// Closes a socket.
+    Close {
+        id: SocketId,
+    },
     /// Asks for a socket's state.
     State {
         id: SocketId,
@@ -160,9 +168,15 @@ pub enum Unfair {
     /// There is no frame with this index, or the same side emitted it.
     #[error("U1 NoSuchFrame")]
     NoSuchFrame,
+    /// The frame's pair has been opened anew, in another epoch, since it was emitted.
+    #[error("U3 OtherEpoch")]
+    OtherEpoch,
     /// Since the frame was emitted, an end of its pair took the limit or more from its caller.
     #[error("U2 Stale")]
     Stale,
+    /// The event would make the host open a pair a second time in one epoch.
+    #[error("U4 SecondOpening")]
+    SecondOpening,
     /// Memory ran out before a host was touched.
     #[error("U5 NoMemory")]
     NoMemory,

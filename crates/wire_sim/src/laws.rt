@@ -3,7 +3,8 @@
 ghost use Rattle.wire_sim.specs.Runs.{EveryRunIsLawful, EveryRunIsTallied};
 
 /// In every run of a world of two hosts, over every list of socket calls, ticks, emissions and fair deliveries in any order, for
-/// every pair of endpoints, every epoch and both directions, what was read at one end begins what was written at the other.
+/// every pair of endpoints, every epoch and both directions, what was read at one end begins what was written at the other, and the
+/// end was told only where the writer closed its side and all that it wrote was read.
 pub fn every_run_is_lawful()
     ensures { EveryRunIsLawful }
 {}

@@ -33,6 +33,10 @@ pub enum Action<'a> {
     Recv { id: SocketId, most: usize },
     /// Read at most so many octets, and tell how many there were.
     Count { id: SocketId, most: usize },
+    /// Close our side of a connection: what was given goes out first, then the end.
+    Shutdown { id: SocketId },
+    /// Give a socket back: its id is gone, and its connection ends by itself.
+    Close { id: SocketId },
     /// Ask for a socket's state.
     State { id: SocketId },
     /// Tell the moment, in milliseconds.
@@ -64,6 +68,10 @@ pub enum Keyword {
     Recv,
     /// `count`
     Count,
+    /// `shutdown`
+    Shutdown,
+    /// `close`
+    Close,
     /// `state`
     State,
     /// `tick`
@@ -89,6 +97,8 @@ impl Keyword {
             b"fill" => Keyword::Fill,
             b"recv" => Keyword::Recv,
             b"count" => Keyword::Count,
+            b"shutdown" => Keyword::Shutdown,
+            b"close" => Keyword::Close,
             b"state" => Keyword::State,
             b"tick" => Keyword::Tick,
             b"emit" => Keyword::Emit,
@@ -137,6 +147,12 @@ fn with_one<'a>(keyword: Keyword, word: &'a [u8]) -> Option<Action<'a>>
     match keyword {
         Keyword::Socket if word == b"tcp".as_slice() => Some(Action::Socket),
         Keyword::Accept => Some(Action::Accept {
+            id: socket_id(word)?,
+        }),
+        Keyword::Shutdown => Some(Action::Shutdown {
+            id: socket_id(word)?,
+        }),
+        Keyword::Close => Some(Action::Close {
             id: socket_id(word)?,
         }),
         Keyword::State => Some(Action::State {

@@ -80,6 +80,8 @@ pub fn event(alloc: Global, side: Side, action: &Action<'_>) -> Result<Event, Al
                 len: *most,
             },
         )),
+        Action::Shutdown { id } => Ok(Event::Call(side, Call::Shutdown { id: *id })),
+        Action::Close { id } => Ok(Event::Call(side, Call::Close { id: *id })),
         Action::State { id } => Ok(Event::Call(side, Call::State { id: *id })),
     }
 }

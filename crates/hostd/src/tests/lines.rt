@@ -8,7 +8,7 @@ use crate::streams::memory::{MemorySink, MemorySource};
 use std::test::Fail;
 
 // Each of these is bad wherever it stands.
-const BAD: [&str; 44] = [
+const BAD: [&str; 47] = [
     " ",
     "c emit",
     "A emit",
@@ -51,7 +51,10 @@ const BAD: [&str; 44] = [
     "pass 1 1",
     "limit 0",
     "limit 1073741825",
-    "a shutdown 1",
+    "a shutdown",
+    "a shutdown 1 1",
+    "a close",
+    "a close 1 1",
     "a sendto 1 5001 hello",
 ];
 
@@ -59,7 +62,7 @@ const BAD: [&str; 44] = [
 fn bad_lines_end_before_anything_is_run(rt: HostRuntime) -> Result<(), Fail> {
     for line in BAD {
         let script = format!(in rt.alloc(); "a socket tcp\n\n# comment\n{line}\nbad too\n")?;
-        let (outcome, out) = run(&rt, script.as_str());
+        let (outcome, out) = run(rt.alloc(), script.as_str());
         assert_eq!(rt; outcome, Err(TextFault::Line(4)), "{line}");
         assert!(rt; out.taken().is_empty(), "{line}");
     }
@@ -74,7 +77,7 @@ fn limit_comes_first_or_is_bad(rt: HostRuntime) {
         ("a emit\nlimit 1", Err(TextFault::Line(2))),
         ("limit", Err(TextFault::Line(1))),
     ] {
-        assert_eq!(rt; run(&rt, script).0, want, "{script}");
+        assert_eq!(rt; run(rt.alloc(), script).0, want, "{script}");
     }
 }
 

@@ -1,190 +1,202 @@
 //! What good scripts print.
 
-use super::run;
+use super::{ACCEPTED, OPENING, plays, run};
+use std::test::Fail;
 
-const FIRST: &str = "b socket tcp
-b bind 1 80
-b listen 1 1
-a socket tcp
-a connect 1 80 4294967295
-pass 7
-pass 7
-pass 7
-b accept 1
-a send 1 hello
-a emit
-b deliver 3 0
-b deliver 3 0
-b recv 2 100
-b recv 2 100
+// A frame that comes twice is read once.
+const TWICE: &str = "a send 1 hello -> sent 5
+a emit -> frame 3 25
+b deliver 3 0 -> taken
+b deliver 3 0 -> taken
+b recv 2 100 -> octets hello
+b recv 2 100 -> E8 EAGAIN
 ";
 
-const FIRST_PRINTS: &str = "id 1
-ok
-ok
-id 1
-started
-a 1 b 1
-a 1 b 0
-a 0 b 0
-id 2 10.0.0.1 49152
-sent 5
-frame 3 25
-taken
-taken
-octets hello
-E8 EAGAIN
+// The limit counts what was written since the frame went out, and no side takes a frame of its own.
+const STALE: &str = "a send 1 hello -> sent 5
+a emit -> frame 3 25
+a send 1 123456789012345 -> sent 15
+b deliver 3 0 -> taken
+a send 1 1 -> sent 1
+b deliver 3 0 -> U2 Stale
+a deliver 3 0 -> U1 NoSuchFrame
+b deliver 99 0 -> U1 NoSuchFrame
 ";
 
-// The limit counts what was written since the frame went out.
-const LIMITED: &str = "# a stale frame
-
-limit 16
-b socket tcp
-b bind 1 80
-b listen 1 1
-a socket tcp
-a connect 1 80 4294967295
-pass 7
-pass 7
-pass 7
-b accept 1
-a send 1 hello
-a emit
-a send 1 123456789012345
-b deliver 3 0
-a send 1 1
-b deliver 3 0
-b deliver 99 0";
-
-const LIMITED_PRINTS: &str = "ok
-id 1
-ok
-ok
-id 1
-started
-a 1 b 1
-a 1 b 0
-a 0 b 0
-id 2 10.0.0.1 49152
-sent 5
-frame 3 25
-sent 15
-taken
-sent 1
-U2 Stale
-U1 NoSuchFrame
+// A socket that was only made.
+const IDLE: &str = "a recv 1 10 -> E1 EBADF
+a state 1 -> E1 EBADF
+a shutdown 1 -> E1 EBADF
+a socket tcp -> id 1
+a recv 1 10 -> E6 ENOTCONN
+a recv 1 0 -> E2 EINVAL
+a send 1 x -> E6 ENOTCONN
+a shutdown 1 -> E6 ENOTCONN
+a listen 1 1 -> E18 EDESTADDRREQ
+a listen 1 2 -> E2 EINVAL
+a accept 1 -> E2 EINVAL
+a state 1 -> CLOSED
+a bind 1 0 -> E2 EINVAL
+a connect 1 0 1 -> E4 EADDRNOTAVAIL
+a emit -> none
 ";
 
-const FRESH: &str = "a recv 1 10
-a socket tcp
-a recv 1 10
-a recv 1 0
-a listen 1 1
-a emit
-";
-
-const FRESH_PRINTS: &str = "E1 EBADF
-id 1
-E6 ENOTCONN
-E2 EINVAL
-E18 EDESTADDRREQ
-none
+// Sockets that are bound, listening and opening.
+const BUSY: &str = "a socket tcp -> id 1
+a bind 1 5 -> ok
+a bind 1 5 -> E2 EINVAL
+a socket tcp -> id 2
+a bind 2 5 -> E3 EADDRINUSE
+a listen 1 1 -> ok
+a listen 1 1 -> E2 EINVAL
+a accept 1 -> E8 EAGAIN
+a state 1 -> LISTEN
+a recv 1 0 -> E17 EOPNOTSUPP
+a send 1 x -> E17 EOPNOTSUPP
+a shutdown 1 -> E17 EOPNOTSUPP
+a connect 1 80 1 -> E17 EOPNOTSUPP
+a connect 2 80 1 -> started
+a connect 2 80 1 -> E7 EALREADY
+a recv 2 1 -> E8 EAGAIN
+a send 2 x -> E8 EAGAIN
+a shutdown 2 -> E6 ENOTCONN
+a bind 2 5 -> E2 EINVAL
 ";
 
 // A backlog of one takes one connection, and a side takes no frame of its own.
-const BACKLOG: &str = "b socket tcp
-b bind 1 00080
-b listen 1 1
-a socket tcp
-a state 1
-a connect 1 80 5
-a state 1
-a emit
-a emit
-a deliver 0 7
-b deliver 0 7
-a socket tcp
-a connect 2 80 9
-a emit
-b deliver 1 7
-b tick 18446744073709551615
-b state 1
+const BACKLOG: &str = "b socket tcp -> id 1
+b bind 1 00080 -> ok
+b listen 1 1 -> ok
+a socket tcp -> id 1
+a state 1 -> CLOSED
+a connect 1 80 5 -> started
+a state 1 -> SYN-SENT
+a emit -> frame 0 24
+a emit -> none
+a deliver 0 7 -> U1 NoSuchFrame
+b deliver 0 7 -> taken
+a socket tcp -> id 2
+a connect 2 80 9 -> started
+a emit -> frame 1 24
+b deliver 1 7 -> drop F9
+b tick 18446744073709551615 -> ok
+b state 1 -> LISTEN
 ";
 
-const BACKLOG_PRINTS: &str = "id 1
-ok
-ok
-id 1
-CLOSED
-started
-SYN-SENT
-frame 0 24
-none
-U1 NoSuchFrame
-taken
-id 2
-started
-frame 1 24
-drop F9
-ok
-LISTEN
+// Ports are given in turn, but for those that are bound.
+const PORTS: &str = "b socket tcp -> id 1
+b bind 1 80 -> ok
+b listen 1 1 -> ok
+a socket tcp -> id 1
+a socket tcp -> id 2
+a socket tcp -> id 3
+a bind 2 49153 -> ok
+a connect 1 80 1 -> started
+a connect 3 0 1 -> E4 EADDRNOTAVAIL
+pass 7 -> a 1 b 1
+pass 7 -> a 1 b 0
+b accept 1 -> id 2 10.0.0.1 49152
+a connect 3 80 1 -> started
+pass 7 -> a 1 b 1
+pass 7 -> a 1 b 0
+b accept 1 -> id 3 10.0.0.1 49154
+a connect 2 80 1 -> started
+pass 7 -> a 1 b 1
+pass 7 -> a 1 b 0
+b accept 1 -> id 4 10.0.0.1 49153
+b accept 1 -> E8 EAGAIN
 ";
 
-// After the opening that FIRST shows: octets are counted, and a backslash is escaped.
-const COUNTED: &str = "b socket tcp
-b bind 1 80
-b listen 1 1
-a socket tcp
-a connect 1 80 4294967295
-pass 7
-pass 7
-pass 7
-b accept 1
-a fill 1 1000
-pass 0
-b count 2 600
-b count 2 600
-b recv 2 1
-a send 1 C:\\x
-pass 0
-b recv 2 2000000
+const PARTS: &str = "a send 1 hello -> sent 5
+pass 0 -> a 1 b 1
+b recv 2 2 -> octets he
+b recv 2 2 -> octets ll
+b recv 2 2 -> octets o
+b recv 2 2 -> E8 EAGAIN
+b send 2 C:\\x -> sent 4
+pass 0 -> a 0 b 1
+a recv 1 2000000 -> octets C:\\x5cx
+a fill 1 1000 -> sent 1000
+pass 0 -> a 1 b 1
+b count 2 600 -> octets 600
+b count 2 600 -> octets 400
 ";
 
-const COUNTED_PRINTS: &str = "id 1
-ok
-ok
-id 1
-started
-a 1 b 1
-a 1 b 0
-a 0 b 0
-id 2 10.0.0.1 49152
-sent 1000
-a 1 b 1
-octets 600
-octets 400
-E8 EAGAIN
-sent 4
-a 1 b 1
-octets C:\\x5cx
+// A second after it went out, what isn't acknowledged goes out again; the clock goes forward alone.
+const RESENT: &str = "a send 1 hello -> sent 5
+a tick 50 -> ok
+a emit -> frame 3 25
+a emit -> none
+a tick 1049 -> ok
+a emit -> none
+a tick 1050 -> ok
+a tick 3 -> ok
+a emit -> frame 4 25
+b deliver 4 0 -> taken
+b emit -> frame 5 20
+a deliver 5 0 -> taken
+a tick 9000 -> ok
+a emit -> none
+";
+
+// 65,535 octets are 44 segments of 1,460 and one of 1,295.
+const FULL: &str = "a fill 1 70000 -> sent 65535
+a fill 1 1 -> E8 EAGAIN
+";
+
+const OPENED_AGAIN: &str = "pass 0 -> a 0 b 0
+a send 1 y -> sent 1
+pass 0 -> a 0 b 0
+b count 2 2000000 -> octets 65535
+pass 0 -> a 0 b 1
+pass 0 -> a 1 b 1
+b recv 2 2000000 -> octets y
 ";
 
 #[test]
-fn print_their_lines(rt: HostRuntime) {
+fn octets_are_carried(rt: HostRuntime) -> Result<(), Fail> {
+    plays(&rt, rt.alloc(), &[OPENING, ACCEPTED, TWICE])?;
+    plays(
+        &rt,
+        rt.alloc(),
+        &["# stale\n\nlimit 16 -> ok\n", OPENING, ACCEPTED, STALE],
+    )?;
+    plays(&rt, rt.alloc(), &[OPENING, ACCEPTED, PARTS])?;
+    plays(&rt, rt.alloc(), &[OPENING, ACCEPTED, RESENT])
+}
+
+#[test]
+fn calls_are_answered(rt: HostRuntime) -> Result<(), Fail> {
+    plays(&rt, rt.alloc(), &[IDLE])?;
+    plays(&rt, rt.alloc(), &[BUSY])?;
+    plays(&rt, rt.alloc(), &[BACKLOG])?;
+    plays(&rt, rt.alloc(), &[PORTS])
+}
+
+#[test]
+fn a_closed_window_opens(rt: HostRuntime) -> Result<(), Fail> {
+    let mut filled = String::new(rt.alloc());
+    filled.push_str(FULL)?;
+    for _ in 0..45 {
+        filled.push_str("pass 0 -> a 1 b 1\n")?;
+    }
+    plays(
+        &rt,
+        rt.alloc(),
+        &[OPENING, ACCEPTED, filled.as_str(), OPENED_AGAIN],
+    )
+}
+
+#[test]
+fn lines_that_print_nothing_or_a_limit(rt: HostRuntime) {
     let rows = [
-        (FIRST, FIRST_PRINTS),
-        (LIMITED, LIMITED_PRINTS),
-        (FRESH, FRESH_PRINTS),
-        (BACKLOG, BACKLOG_PRINTS),
-        (COUNTED, COUNTED_PRINTS),
         ("", ""),
         ("#\r\tany ASCII\n\n", ""),
         ("limit 1073741824\n", "ok\n"),
-        ("limit 001\n", "ok\n"),
+        ("limit 001", "ok\n"),
     ];
     for (script, want) in rows {
-        let (outcome, out) = run(&rt, script);
+        let (outcome, out) = run(rt.alloc(), script);
         assert_eq!(rt; outcome, Ok(()), "{script}");
         assert_eq!(rt; out.taken(), want.as_bytes(), "{script}");
     }

@@ -2,7 +2,8 @@
 
 ghost use Rattle.std.specs.Prelude.{◌≡◌, ℕ, ◌+◌, ◌<◌, ◌≤◌, ◌^◌, [], ◌∷◌, ◌++◌, vec_len, vec_capacity, slice_index_or, OnOk};
 ghost use Rattle.ipv4.specs.declared.addr.Pair.{Pair};
-ghost use Rattle.wire_sim.specs.Tallies.{written_by, counted};
+ghost use Rattle.std.specs.List.{list_any};
+ghost use Rattle.wire_sim.specs.Tallies.{is_opening_of, written_by, counted};
 ghost use Rattle.wire_sim.specs.Openings.{epoch_of};
 
 use crate::event::{Opening, Side};
@@ -73,6 +74,15 @@ impl Ledger {
                 epoch
             },
         )
+    }
+
+    /// Whether a side's host opened the pair in this epoch.
+    pub(super) fn has(&self, side: Side, pair: Pair, epoch: u64) -> bool
+        ensures { result ≡ list_any (is_opening_of side pair epoch) self.now.openings.items }
+    {
+        self.openings
+            .iter()
+            .any(|opening| opening.is_of(side, pair, epoch))
     }
 
     /// Counts octets that a side's host took from the caller of `id`.

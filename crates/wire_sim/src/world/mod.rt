@@ -76,7 +76,7 @@ impl World {
 
     /// Gives one event to the host that it names, and answers what the host answers.
     ///
-    /// NoSuchFrame, Stale, NoMemory, tested in this order; the world is then as it was.
+    /// NoSuchFrame, OtherEpoch, Stale, SecondOpening, NoMemory, tested in this order; the world is then as it was.
     pub fn step(&mut self, event: Event) -> Result<Answer, Unfair>
         ensures unfair { MatchOption (unfair self.old event)
             (IfErr result (λ refusal. refusal ≡ Unfair.NoMemory)) (λ refusal. result ≡ Err refusal) }

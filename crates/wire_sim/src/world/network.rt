@@ -1,6 +1,6 @@
 //! Two hosts, the frames that they emitted, and the openings of their connections.
 
-ghost use Rattle.std.specs.Prelude.{◌≡◌, ℕ, ◌<◌, ◌≤◌, ◌^◌, true, None, vec_len, vec_capacity, slice_index_or, option_map, option_and_then, OnOk, IfOk, IfErr};
+ghost use Rattle.std.specs.Prelude.{◌≡◌, ℕ, ◌<◌, ◌≤◌, ◌+◌, ◌^◌, true, None, vec_len, vec_capacity, slice_index_or, option_map, option_and_then, OnOk, IfOk, IfErr};
 ghost use Rattle.std.specs.Result.{result_err};
 
 use super::bag::{Frame, Note};
@@ -9,7 +9,7 @@ use super::station::Station;
 use crate::event::{Answer, Call, Event, Opening, Side, Unfair, WorldFault};
 use crate::room::{MOST_FRAME, filled};
 use host::{Config, SocketId};
-use ipv4::Pair;
+use ipv4::{Endpoint, Pair};
 use std::alloc::{AllocError, Global};
 use tcp_segment::Seq;
 use tcp_state::Moment;
@@ -25,13 +25,15 @@ pub(super) struct Network {
 }
 
 impl Network {
-    ghost use Rattle.wire_sim.specs.Steps.{Steps, station_of, host_of, with_openings, noted, asked_of, asked_by, is_emission};
+    ghost use Rattle.wire_sim.specs.Steps.{Steps, with_openings, noted, asked_of, asked_by, is_emission};
     ghost use Rattle.wire_sim.specs.Sides.{other_side};
     ghost use Rattle.host.specs.HostView.{holder_id};
     ghost use Rattle.wire_sim.specs.Runs.{IsNumbered, IsNumberedCall};
     ghost use Rattle.host.specs.Pairs.{due_pair};
-    ghost use Rattle.wire_sim.specs.Openings.{opened_by_connect};
-    ghost use Rattle.wire_sim.specs.WorldView.{network_view, fresh_network, unfair_counted, is_stale, octets_len};
+    ghost use Rattle.wire_sim.specs.Openings.{epoch_connected, opened_by_connect};
+    ghost use Rattle.wire_sim.specs.WorldView.{network_view, station_of, host_of, written_at, fresh_network, octets_len};
+    ghost use Rattle.wire_sim.specs.Fairness.{unfair_counted, unfair_call, late_note, second_in, second_by_frame, second_by_connect, pair_foreseen, is_stale};
+    ghost use Rattle.host.specs.Calls.{pair_connected};
     ghost use Rattle.host.specs.Sound.{IsSoundHost};
 
     /// Two hosts with no frames between them. NoMemory.
@@ -75,8 +77,61 @@ impl Network {
         ensures { result_err result ≡ unfair_counted (network_view self.now) event.now }
     {
         match event {
+            Event::Call(side, call) => self.may_call(*side, call),
             Event::Deliver(side, index, isn) => self.may_deliver(*side, *index, *isn),
+            Event::Tick(..) | Event::Emit(_) => Ok(()),
+        }
+    }
+
+    /// Whether the host of `side` may take the call: a connect opens no pair a second time in one epoch.
+    fn may_call(&self, side: Side, call: &Call) -> Result<(), Unfair>
+        ensures { result_err result ≡ unfair_call (network_view self.now) side call.now }
+    {
+        match call {
+            Call::Connect { id, peer, .. } => self.may_connect(side, *id, *peer),
             _ => Ok(()),
+        }
+    }
+
+    /// Whether the host of `side` may open the pair that a connect of the socket `id` to `peer` would open.
+    fn may_connect(&self, side: Side, id: SocketId, peer: Endpoint) -> Result<(), Unfair>
+        ensures { result_err result ≡ second_by_connect (network_view self.now) side (pair_connected (host_of (network_view self.now) side) id peer) }
+    {
+        match self.station(side).would_connect(id, peer) {
+            Some(pair) => self.may_open(side, pair, self.epoch_connected(side, pair)),
+            None => Ok(()),
+        }
+    }
+
+    /// Whether the host of `side` may open the pair that the frame would open.
+    fn may_open_by(&self, side: Side, frame: &[u8]) -> Result<(), Unfair>
+        ensures { result_err result ≡ second_by_frame (network_view self.now) side (pair_foreseen (host_of (network_view self.now) side) frame.now) }
+    {
+        match self.station(side).would_open(frame) {
+            Some(pair) => self.may_open(side, pair, self.ledger.epoch(pair)),
+            None => Ok(()),
+        }
+    }
+
+    /// Whether the host of `side` has not opened the pair in this epoch yet.
+    fn may_open(&self, side: Side, pair: Pair, epoch: u64) -> Result<(), Unfair>
+        ensures { result_err result ≡ second_in self.now.ledger.openings.items side pair epoch }
+    {
+        if self.ledger.has(side, pair, epoch) {
+            return Err(Unfair::SecondOpening);
+        }
+        Ok(())
+    }
+
+    /// The epoch that a connect of a side's host opens a pair in: the next one, but where the other host holds the pair.
+    fn epoch_connected(&self, side: Side, pair: Pair) -> u64
+        ensures value { result ≡ epoch_connected self.now.ledger.openings.items (host_of (network_view self.now) (other_side side)) pair }
+        ensures bound { result ≤ vec_len self.now.ledger.openings + 1 }
+    {
+        let epoch = self.ledger.epoch(pair);
+        match self.station(side.other()).holder(pair) {
+            Some(_) => epoch,
+            None => epoch + 1,
         }
     }
 
@@ -91,10 +146,24 @@ impl Network {
         if frame.sender.is(side) {
             return Err(Unfair::NoSuchFrame);
         }
-        match frame.note {
-            Some(note) if self.is_stale(note) => Err(Unfair::Stale),
-            _ => Ok(()),
+        self.is_timely(frame.note)?;
+        self.may_open_by(side, frame.octets.as_slice())
+    }
+
+    /// Whether a frame's pair is still in its epoch, and the frame is not stale.
+    fn is_timely(&self, note: Option<Note>) -> Result<(), Unfair>
+        ensures { result_err result ≡ late_note (network_view self.now) (written_at (network_view self.now)) note }
+    {
+        let Some(note) = note else {
+            return Ok(());
+        };
+        if self.ledger.epoch(note.pair) != note.epoch {
+            return Err(Unfair::OtherEpoch);
         }
+        if self.is_stale(note) {
+            return Err(Unfair::Stale);
+        }
+        Ok(())
     }
 
     /// Whether an end of a frame's connection took the limit or more from its caller since the frame went out.
@@ -190,11 +259,7 @@ impl Network {
         let Some(pair) = self.station(side).pair_of(id) else {
             return;
         };
-        let epoch = self.ledger.epoch(pair);
-        let epoch = match self.station(side.other()).holder(pair) {
-            Some(_) => epoch,
-            None => epoch + 1,
-        };
+        let epoch = self.epoch_connected(side, pair);
         self.ledger.open(Opening {
             side,
             pair,

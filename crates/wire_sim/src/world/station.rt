@@ -8,7 +8,7 @@ ghost use Rattle.wire_sim.specs.Steps.{MeetsReceived};
 
 use crate::event::{Answer, Call, WorldFault};
 use host::{Config, Host, Refusal, SocketId};
-use ipv4::{Addr, Pair};
+use ipv4::{Addr, Endpoint, Pair};
 use std::alloc::Global;
 use tcp_segment::Seq;
 use tcp_state::{Moment, Received};
@@ -25,6 +25,8 @@ impl Station {
     ghost use Rattle.wire_sim.specs.WorldView.{fresh_station};
     ghost use Rattle.wire_sim.specs.Steps.{ticked_station, asked_of, MeetsCall, MeetsFrame};
     ghost use Rattle.host.specs.Pairs.{socket_pair, due_pair};
+    ghost use Rattle.host.specs.Calls.{pair_connected};
+    ghost use Rattle.wire_sim.specs.Fairness.{pair_foreseen};
     ghost use Rattle.host.specs.Sound.{IsSoundHost};
     ghost use Rattle.wire_sim.specs.Runs.{IsNumberedCall};
 
@@ -67,6 +69,8 @@ impl Station {
                 answered(host.send(*id, octets.as_slice()), Answer::Sent)
             }
             Call::Recv { id, .. } => received(host, *id, buffer),
+            Call::Shutdown { id } => answered(host.shutdown_write(*id), |()| Answer::Done),
+            Call::Close { id } => answered(host.close(*id), |()| Answer::Done),
             Call::State { id } => answered(host.state(*id), Answer::State),
         }
     }
@@ -115,6 +119,20 @@ impl Station {
         self.host.due_pair()
     }
 
+    /// The pair that a connect of the socket `id` to `peer` would open.
+    pub(super) fn would_connect(&self, id: SocketId, peer: Endpoint) -> Option<Pair>
+        ensures { result ≡ pair_connected self.now.host id peer }
+    {
+        self.host.would_connect(id, peer)
+    }
+
+    /// The pair that a frame would open, if memory were there.
+    pub(super) fn would_open(&self, frame: &[u8]) -> Option<Pair>
+        ensures { result ≡ pair_foreseen self.now.host frame.now }
+    {
+        self.host.would_open(frame)
+    }
+
     /// What each connection keeps of itself, for the contracts above; it changes nothing.
     pub(super) fn sound(&self)
         ensures { IsSoundHost self.now.host }
@@ -125,7 +143,7 @@ impl Station {
     /// Hands a frame's octets to the host.
     pub(super) fn deliver(&mut self, isn: Seq, octets: &[u8]) -> Answer
         ensures octets { octets_len result ≡ 0 }
-        ensures answer { MeetsFrame self.old.host isn.0 octets.now result self.new.host }
+        ensures answer { MeetsFrame self.old.host self.old.clock isn.0 octets.now result self.new.host }
         ensures clock { self.new.clock ≡ self.old.clock }
     {
         match self.host.deliver(self.clock, isn, octets) {

@@ -1,8 +1,7 @@
 -- The listener is the first at the port, and the connection stands at the end of the table.
-use Rattle.std.proofs.Common.{◌≡◌, ◌∙◌, ℕ, length, count_by, List, get_or, Some, false, ap, sym, arith}
+use Rattle.std.proofs.Common.{◌≡◌, ◌∙◌, length, count_by, List, get_or, Some, false, ap, arith}
 use Rattle.std.proofs.lemmas.Grind.{common_steps}
-use Rattle.std.specs.List.{find, position}
-use Rattle.ipv4.specs.declared.addr.Endpoint.{Endpoint}
+use Rattle.std.specs.List.{find}
 use Rattle.host.specs.declared.entry.Entry.{Entry}
 use Rattle.host.specs.Dispatch.{has_no_place}
 use Rattle.host.specs.Entries.{is_listening_at, is_waiting_at, backlog_of}
@@ -16,24 +15,19 @@ returns c =
     let h : HostView = c.args.self.now in
     let x : Entry = c.index-deref-place.result in
     let entries = ap (λ (w : HostView). w.entries) c.self.view_is in
-    let at : x ≡ get_or h.entries c.in-Some.place x =
-    c.index-deref-place.is ∙ ap (λ (es : List Entry). get_or es c.in-Some.place x) (c.deref-2.ensures.0 ∙ entries)
+    let at : x ≡ get_or h.entries c.args.place x =
+    c.index-deref-place.is ∙ ap (λ (es : List Entry). get_or es c.args.place x) (c.deref.ensures.0 ∙ entries)
     in
-    let place : position (is_listening_at c.args.syn.now.destination) h.entries ≡ Some c.in-Some.place =
-    ap (λ (port : ℕ). position (is_listening_at port) h.entries) (sym (ap (λ (e : Endpoint). e.port) c.requires.local))
-    ∙ ap (λ (es : List Entry). position (is_listening_at c.args.local.port) es) (sym entries ∙ sym c.deref.ensures.0)
-    ∙ sym c.in-Some.ensures
-    in
-    let found : find (is_listening_at c.args.syn.now.destination) h.entries ≡ Some x = find-position _ h.entries c.in-Some.place x place at in
+    let found : find (is_listening_at c.args.syn.now.destination) h.entries ≡ Some x = find-position _ h.entries c.args.place x c.requires.place at in
     let room : has_no_place h x ≡ false = has_place h x
     (let waiting : c.waiting_at.result ≡ count_by (is_waiting_at x.id) h.entries =
-    c.waiting_at.ensures ∙ ap (λ (es : List Entry). count_by (is_waiting_at x.id) es) (c.deref-3.ensures.0 ∙ entries)
+    c.waiting_at.ensures ∙ ap (λ (es : List Entry). count_by (is_waiting_at x.id) es) (c.deref-2.ensures.0 ∙ entries)
     in
     let backlog : c.backlog-backlog.result ≡ backlog_of x.role = c.backlog-backlog.ensures in
     omega arith)
     (let len : length c.self.inside.entries.items ≡ length h.entries = ap length entries in
     λ full. grind (arith, common_steps))
     (let last : c.self.inside.last_id ≡ h.last_id = ap (λ (w : HostView). w.last_id) c.self.view_is in
-    omega (arith, c.in-Some-checked_add.ensures.0))
+    omega (arith, c.in-Some.ensures.0))
     in
-    meets_opens _ _ _ _ (opening-placed h c.args.isn.0 c.args.syn.now x found room) (grind (arith, common_steps))
+    meets_opens _ _ _ _ (opening-placed h c.args.isn.0 c.args.syn.now x found c.requires.opens room) (grind (arith, common_steps))

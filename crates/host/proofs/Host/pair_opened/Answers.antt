@@ -1,10 +1,10 @@
 -- Where a connection of the segment's two ends stands in the table, none is opened.
-use Rattle.std.proofs.Common.{◌≡◌, ◌∙◌, List, Some, sym, ap}
+use Rattle.std.proofs.Common.{◌∙◌, List, sym, ap}
 use Rattle.std.specs.List.{position}
 use Rattle.ipv4.specs.declared.addr.Endpoint.{Endpoint}
 use Rattle.tcp_segment.specs.Segment.{Segment}
 use Rattle.host.specs.declared.entry.Entry.{Entry}
-use Rattle.host.specs.Dispatch.{local_end, peer_end}
+use Rattle.host.specs.Dispatch.{peer_end}
 use Rattle.host.specs.Entries.{is_between}
 use Rattle.host.specs.HostView.{HostView}
 use Rattle.host.proofs.Foreseen.{none-found}

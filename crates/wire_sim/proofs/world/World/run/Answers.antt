@@ -7,6 +7,7 @@ use Rattle.wire_sim.specs.declared.event.Answer.{Answer}
 use Rattle.wire_sim.specs.declared.event.Unfair.{Unfair}
 use Rattle.wire_sim.specs.declared.event.Unfair.TheVariants.{NoMemory}
 use Rattle.wire_sim.specs.Runs.{SameEvent, IsOutcome, RunsTo}
+use Rattle.wire_sim.specs.Trace.{StreamLaw}
 use Rattle.wire_sim.proofs.EventCopied.{cloned}
 use Rattle.wire_sim.proofs.StepReached.{lawful}
 use Rattle.wire_sim.proofs.RunGiven.{runs-next, runs-none, runs-all, step-outcome, same_event}
@@ -35,7 +36,10 @@ loop-event-preserved c = (
   search rules,
   search rules,
   grind (arith, common_steps),
-  search rules,
+  elim c.match-clone.branch [
+    | in-Ok w ↦ subst (λ (x : WorldView). StreamLaw x.trace x.network.openings) (sym w.self-is) w.step-outcome.ensures.lawful
+    | in-Err w ↦ subst (λ (x : WorldView). StreamLaw x.trace x.network.openings) (sym w.self-is) c.loop-event.invariant.3
+  ],
   subst (λ l. RunsTo (take (c.loop-event.event-index + 1) c.args.events.now) (drop (length c.reserve.new.self.items) l) c.args.self.now c.match-clone.self) (sym c.push_reserved.ensures.items)
       (elim c.match-clone.branch [
         | in-Ok w ↦

@@ -3,7 +3,8 @@ use Rattle.std.proofs.Common.{◌≡◌, ◌∙◌, ◌+◌, ◌≤◌, List, le
 use Rattle.wire_sim.specs.declared.event.Happening.{Happening}
 use Rattle.wire_sim.specs.declared.world.World.TheInside.{Inside}
 use Rattle.wire_sim.specs.Runs.{unfair, IsStep}
-use Rattle.wire_sim.specs.WorldView.{NetworkView, WorldView, network_view, unfair_counted}
+use Rattle.wire_sim.specs.Fairness.{unfair_counted}
+use Rattle.wire_sim.specs.WorldView.{NetworkView, WorldView, network_view}
 use Rattle.wire_sim.proofs.Fair.{same_unfair}
 use Rattle.wire_sim.proofs.WorldLaw.{run_tallied}
 use Rattle.wire_sim.proofs.StepReached.{reached-next, lawful, step_from}

@@ -24,6 +24,11 @@ returns-in-connect c =
     let same : c.args.word.now ≡ codes "connect" = text_from_reads _ _ (omega arith) (search rules) in
     ap keyword_of (sym same)
 
+pub returns-in-shutdown : goal.returns-in-shutdown
+returns-in-shutdown c =
+    let same : c.args.word.now ≡ codes "shutdown" = text_from_reads _ _ (omega arith) (search rules) in
+    ap keyword_of (sym same)
+
 pub returns-in-deliver : goal.returns-in-deliver
 returns-in-deliver c =
     let same : c.args.word.now ≡ codes "deliver" = text_from_reads _ _ (omega arith) (search rules) in

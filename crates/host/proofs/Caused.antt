@@ -1,0 +1,524 @@
+-- Why an entry of the table ends only by a cause.
+use Rattle.std.proofs.Common.{◌≡◌, ◌⊎◌, inl, inr, ℕ, ◌==◌, ◌&&◌, ◌||◌, not, Bool, true, false, if◌then◌else◌, List, [], ◌∷◌, length, Option, Some, None, Result, Ok, Err, is_some, option_map, refl, sym, ◌∙◌, ap, subst, arith}
+use Rattle.std.proofs.lemmas.Grind.{common_steps}
+use Rattle.std.specs.List.{find, AllByRecursion}
+use Rattle.ipv4.specs.declared.addr.Endpoint.{Endpoint}
+use Rattle.tcp_segment.specs.declared.head.Head.{Head}
+use Rattle.tcp_segment.specs.Segment.{Segment}
+use Rattle.tcp_state.specs.declared.moment.Moment.{Moment}
+use Rattle.tcp_state.specs.declared.state.State.{State}
+use Rattle.tcp_state.specs.declared.state.State.TheVariants.{Established, CloseWait}
+use Rattle.tcp_state.specs.declared.connection.Fate.{Fate}
+use Rattle.tcp_state.specs.declared.connection.Fate.TheVariants.{Stays, Removed, Refused}
+use Rattle.tcp_state.specs.declared.emission.Due.{Due}
+use Rattle.tcp_state.specs.declared.emission.Due.TheVariants.{Rst}
+use Rattle.tcp_state.specs.View.{View, IsSound, is_opening, is_closed, is_over}
+use Rattle.tcp_state.specs.declared.calls.Refusal.{Refusal as Error}
+use Rattle.tcp_state.specs.Calls.{shut, after_recv, after_shutdown}
+use Rattle.tcp_state.specs.Due.{first_due}
+use Rattle.tcp_state.specs.Edges as edge
+use Rattle.tcp_state.proofs.Edges.{and_left, and_right, edges_hold, emitted-state}
+use Rattle.tcp_state.proofs.Causes.{both, or_left, or_right, not_true, ends_caused}
+use Rattle.tcp_state.proofs.Errors.{errors_caused}
+use Rattle.tcp_state.proofs.Unchanged.{closed_owes}
+use Rattle.host.specs.declared.refusal.Refusal.{Refusal}
+use Rattle.host.specs.declared.entry.SocketId.{SocketId}
+use Rattle.host.specs.declared.entry.Entry.{Entry}
+use Rattle.host.specs.declared.entry.Role.{Role}
+use Rattle.host.specs.declared.entry.Role.TheVariants.{Idle, Listener, Connected}
+use Rattle.host.specs.Entries.{is_socket, waits_at, is_between, is_live_between, is_listening_at, is_due, has_due, has_socket, aborted, abort_fate_of, is_offered_at, shown_state, is_kept, settled, fate_of, arrived, ticked, tick_fate_of, emitted_at, emitted_fate, forsaken, forsaken_fate, closed, close_fate_of, bound_to, listening, connecting, accepted, sent, received, write_shut, with_role}
+use Rattle.host.specs.HostView.{HostView, later, role_of, after_emission}
+use Rattle.host.specs.Calls.{open_answer, port_for, after_connect, after_socket_closed, after_close}
+use Rattle.host.specs.Dispatch.{local_end, peer_end, is_opening as opens, has_no_place, answered, arrival, arrival_alone}
+use Rattle.host.specs.Replies.{reset_at_ack, answer_to, answer_at_listener}
+use Rattle.host.specs.Sound.{IsSoundRole, IsSoundHost}
+use Rattle.host.specs.Lists.{change_first}
+use Rattle.host.specs.Causes.{Event, Makes, Binds, Listens, Accepts, Connects, Sends, Receives, Shuts, Closes, Ticks, Hears, Emits, after_arrival, after_event, is_connection_cause, becomes_closed, told_in, is_telling, is_telling_to, IsStep, Follows}
+use Rattle.host.proofs.Emitted.{emission-of_entry}
+use Rattle.host.proofs.Followed.{by_test, as_it_was, joined_by, first_changed, first_removed, each_followed, steps_joined}
+
+-- One connection.
+
+not_over : (c : View) → is_closed c.state ≡ false → is_over c ≡ false
+not_over c live = rw live
+
+closes_caused : (c : View) (e : edge.Event) → (not (is_closed c.state) && is_closed (let d = edge.after_event c e in d.state)) ≡ true → edge.is_cause c e ≡ true
+closes_caused c e closes =
+    let live : is_closed c.state ≡ false = not_true _ (and_left _ _ closes) in
+    ends_caused c e (not_over c live) (or_right (edge.is_removed (edge.fate_by c e)) _ closes)
+
+removed_caused : (c : View) (e : edge.Event) → is_over c ≡ false → edge.fate_by c e ≡ Removed → edge.is_cause c e ≡ true
+removed_caused c e over removed = ends_caused c e over (or_left _ _ (ap edge.is_removed removed))
+
+not_removed : (r : Fate) → is_kept r ≡ true → edge.is_removed r ≡ false
+not_removed Removed kept = cc
+not_removed Stays kept = refl
+not_removed Refused kept = refl
+
+kept_edge : (c : View) (e : edge.Event) → is_kept (edge.fate_by c e) ≡ true → edge.IsEdge c.state (let d = edge.after_event c e in d.state)
+kept_edge c e kept =
+    let P : Bool → Type 0 = λ b. edge.IsEdge c.state (if b then edge.left_by c else (let d = edge.after_event c e in d.state)) in
+    subst P (not_removed (edge.fate_by c e) kept) (edges_hold c e)
+
+gone_removed : (r : Fate) → is_kept r ≡ false → r ≡ Removed
+gone_removed Removed gone = refl
+gone_removed Stays gone = cc
+gone_removed Refused gone = cc
+
+never : (b : Bool) → (not b && b) ≡ false
+never true = refl
+never false = refl
+
+false_from : (b : Bool) → (b ≡ true → false ≡ true) → b ≡ false
+false_from true f = sym (f refl)
+false_from false f = refl
+
+pub some_same : {T : Type 0} (o : Option T) (x y : T) → o ≡ Some x → o ≡ Some y → x ≡ y
+some_same o x y e f = cc
+
+all_found : {X : Type 0} (P : X → Type 0) (test : X → Bool) (xs : List X) (x : X) → AllByRecursion P xs → find test xs ≡ Some x → P x
+all_found P test [] x all found = cc
+all_found P test (y ∷ ys) x all found =
+    by_test (test y)
+    (λ passes. let same : y ≡ x = some_same (find test (y ∷ ys)) y x (rw passes) found in subst P same all.0)
+    (λ fails. all_found P test ys x all.1 (let rest : find test ys ≡ find test (y ∷ ys) = rw fails in rest ∙ found))
+
+-- Steps that end nothing.
+
+same_step : (h : HostView) (e : Event) (x : Entry) → IsStep h e x (Some x)
+same_step h e x = (refl, inl refl, λ closes. let none = never (is_closed (shown_state x.role)) in cc, λ error told. inl told)
+
+-- no error is told that was not
+abbrev IsMute : (Role → Role) → Type 0
+IsMute change = (role : Role) (error : Error) → told_in (change role) ≡ Some error → told_in role ≡ Some error
+
+told_before : {P : Type 0} → P ⊎ (false ≡ true) → P
+told_before (inl p) = p
+told_before (inr q) = cc
+
+quiet_change : (h : HostView) (e : Event) (test : Entry → Bool) (change : Role → Role) → ((role : Role) → becomes_closed role (change role) ≡ false) → ((role : Role) → edge.IsEdge (shown_state role) (shown_state (change role))) → IsMute change → (entries : List Entry) → Follows (IsStep h e) entries (change_first test (with_role change) entries)
+quiet_change h e test change quiet along mute entries =
+    first_changed (IsStep h e) test (with_role change) entries (same_step h e) (λ x passes found. (refl, along x.role, λ closes. let none = quiet x.role in cc, λ error told. inl (mute x.role error told)))
+
+quiet_bound : (local : Endpoint) (role : Role) → becomes_closed role (bound_to local role) ≡ false
+quiet_bound local (Idle buffers bound) = refl
+quiet_bound local (Listener l b) = refl
+quiet_bound local (Connected c l) = never (is_closed c.state)
+
+quiet_listening : (backlog : ℕ) (role : Role) → becomes_closed role (listening backlog role) ≡ false
+quiet_listening backlog (Idle buffers None) = refl
+quiet_listening backlog (Idle buffers (Some local)) = refl
+quiet_listening backlog (Listener l b) = refl
+quiet_listening backlog (Connected c l) = never (is_closed c.state)
+
+quiet_connecting : (local peer : Endpoint) (isn : ℕ) (role : Role) → becomes_closed role (connecting local peer isn role) ≡ false
+quiet_connecting local peer isn (Idle buffers bound) = refl
+quiet_connecting local peer isn (Listener l b) = refl
+quiet_connecting local peer isn (Connected c l) = never (is_closed c.state)
+
+quiet_accepted : (role : Role) → becomes_closed role (accepted role) ≡ false
+quiet_accepted (Idle buffers bound) = refl
+quiet_accepted (Listener l b) = refl
+quiet_accepted (Connected c l) = never (is_closed c.state)
+
+quiet_sent : (octets : List ℕ) (role : Role) → becomes_closed role (sent octets role) ≡ false
+quiet_sent octets (Idle buffers bound) = refl
+quiet_sent octets (Listener l b) = refl
+quiet_sent octets (Connected c l) = false_from _ (closes_caused c (edge.Sends octets))
+
+quiet_received : (len : ℕ) (role : Role) → becomes_closed role (received len role) ≡ false
+quiet_received len (Idle buffers bound) = refl
+quiet_received len (Listener l b) = refl
+quiet_received len (Connected c l) =
+    by_test (len == 0) (λ none. rw none (never (is_closed c.state))) (λ some. rw some (false_from _ (closes_caused c (edge.Receives len))))
+
+shut_closes_none : (state : State) → (not (is_closed state) && is_closed (shut state)) ≡ false
+shut_closes_none state = grind (arith, common_steps)
+
+quiet_shut : (role : Role) → becomes_closed role (write_shut role) ≡ false
+quiet_shut (Idle buffers bound) = refl
+quiet_shut (Listener l b) = refl
+quiet_shut (Connected c l) =
+    by_test (is_some c.told || is_opening c.state) (λ refused. rw refused (never (is_closed c.state))) (λ shuts. rw shuts (shut_closes_none c.state))
+
+-- .. along their edges
+
+bound_edge : (local : Endpoint) (role : Role) → edge.IsEdge (shown_state role) (shown_state (bound_to local role))
+bound_edge local (Idle buffers bound) = inl refl
+bound_edge local (Listener l b) = inl refl
+bound_edge local (Connected c l) = inl refl
+
+listening_edge : (backlog : ℕ) (role : Role) → edge.IsEdge (shown_state role) (shown_state (listening backlog role))
+listening_edge backlog (Idle buffers None) = inl refl
+listening_edge backlog (Idle buffers (Some local)) = inr refl
+listening_edge backlog (Listener l b) = inl refl
+listening_edge backlog (Connected c l) = inl refl
+
+connecting_edge : (local peer : Endpoint) (isn : ℕ) (role : Role) → edge.IsEdge (shown_state role) (shown_state (connecting local peer isn role))
+connecting_edge local peer isn (Idle buffers bound) = inr refl
+connecting_edge local peer isn (Listener l b) = inl refl
+connecting_edge local peer isn (Connected c l) = inl refl
+
+accepted_edge : (role : Role) → edge.IsEdge (shown_state role) (shown_state (accepted role))
+accepted_edge (Idle buffers bound) = inl refl
+accepted_edge (Listener l b) = inl refl
+accepted_edge (Connected c l) = inl refl
+
+sent_edge : (octets : List ℕ) (role : Role) → edge.IsEdge (shown_state role) (shown_state (sent octets role))
+sent_edge octets (Idle buffers bound) = inl refl
+sent_edge octets (Listener l b) = inl refl
+sent_edge octets (Connected c l) = kept_edge c (edge.Sends octets) refl
+
+received_edge : (len : ℕ) (role : Role) → edge.IsEdge (shown_state role) (shown_state (received len role))
+received_edge len (Idle buffers bound) = inl refl
+received_edge len (Listener l b) = inl refl
+received_edge len (Connected c l) = by_test (len == 0) (λ none. rw none (inl refl)) (λ some. rw some (kept_edge c (edge.Receives len) refl))
+
+shut_edge : (state : State) → edge.IsEdge state (shut state)
+shut_edge Established = inr refl
+shut_edge CloseWait = inr refl
+shut_edge _ = inl refl
+
+shut_role_edge : (role : Role) → edge.IsEdge (shown_state role) (shown_state (write_shut role))
+shut_role_edge (Idle buffers bound) = inl refl
+shut_role_edge (Listener l b) = inl refl
+shut_role_edge (Connected c l) = by_test (is_some c.told || is_opening c.state) (λ refused. rw refused (inl refl)) (λ shuts. rw shuts (shut_edge c.state))
+
+-- .. and in silence
+
+bound_mute : (local : Endpoint) → IsMute (bound_to local)
+bound_mute local (Idle buffers bound) error told = told
+bound_mute local (Listener l b) error told = told
+bound_mute local (Connected c l) error told = told
+
+listening_mute : (backlog : ℕ) → IsMute (listening backlog)
+listening_mute backlog (Idle buffers None) error told = told
+listening_mute backlog (Idle buffers (Some local)) error told = told
+listening_mute backlog (Listener l b) error told = told
+listening_mute backlog (Connected c l) error told = told
+
+connecting_mute : (local peer : Endpoint) (isn : ℕ) → IsMute (connecting local peer isn)
+connecting_mute local peer isn (Idle buffers bound) error told = told
+connecting_mute local peer isn (Listener l b) error told = told
+connecting_mute local peer isn (Connected c l) error told = told
+
+accepted_mute : IsMute accepted
+accepted_mute (Idle buffers bound) error told = told
+accepted_mute (Listener l b) error told = told
+accepted_mute (Connected c l) error told = told
+
+sent_mute : (octets : List ℕ) → IsMute (sent octets)
+sent_mute octets (Idle buffers bound) error told = told
+sent_mute octets (Listener l b) error told = told
+sent_mute octets (Connected c l) error told = told_before (errors_caused c (edge.Sends octets) error told)
+
+received_mute : (len : ℕ) → IsMute (received len)
+received_mute len (Idle buffers bound) error told = told
+received_mute len (Listener l b) error told = told
+received_mute len (Connected c l) error told =
+    let of_test : Bool → Option Error = λ b. (let w : View = if b then c else after_recv c len in w.told) in
+    by_test (len == 0)
+    (λ none. ap of_test (sym none) ∙ told)
+    (λ some. told_before (errors_caused c (edge.Receives len) error (ap of_test (sym some) ∙ told)))
+
+shut_mute : IsMute write_shut
+shut_mute (Idle buffers bound) error told = told
+shut_mute (Listener l b) error told = told
+shut_mute (Connected c l) error told =
+    let of_test : Bool → Option Error = λ b. (let w : View = if b then c else after_shutdown c in w.told) in
+    by_test (is_some c.told || is_opening c.state) (λ refused. ap of_test (sym refused) ∙ told) (λ shuts. ap of_test (sym shuts) ∙ told)
+
+connect_followed : (h : HostView) (isn : ℕ) (id : SocketId) (peer : Endpoint) → Follows (IsStep h (Connects isn id peer)) h.entries (let after = after_connect h isn id peer in after.entries)
+connect_followed h isn id peer = by_role (role_of h id) refl
+  where
+    by_port : (role : Role) (bound : Option Endpoint) → role_of h id ≡ Some role → open_answer role ≡ Ok bound → (o : Option ℕ) → port_for h bound peer ≡ o
+        → Follows (IsStep h (Connects isn id peer)) h.entries (let after = after_connect h isn id peer in after.entries)
+    by_port role bound is opens_by None given = rw (is, opens_by, given) (as_it_was (IsStep h (Connects isn id peer)) (same_step h (Connects isn id peer)) h.entries)
+    by_port role bound is opens_by (Some port) given =
+        rw (is, opens_by, given) (quiet_change h (Connects isn id peer) (is_socket id) (connecting (record { addr = h.addr; port = port }) peer isn) (quiet_connecting (record { addr = h.addr; port = port }) peer isn) (connecting_edge (record { addr = h.addr; port = port }) peer isn) (connecting_mute (record { addr = h.addr; port = port }) peer isn) h.entries)
+
+    by_open : (role : Role) → role_of h id ≡ Some role → (r : Result (Option Endpoint) Refusal) → open_answer role ≡ r → Follows (IsStep h (Connects isn id peer)) h.entries (let after = after_connect h isn id peer in after.entries)
+    by_open role is (Err refusal) opens_by = rw (is, opens_by) (as_it_was (IsStep h (Connects isn id peer)) (same_step h (Connects isn id peer)) h.entries)
+    by_open role is (Ok bound) opens_by = by_port role bound is opens_by (port_for h bound peer) refl
+
+    by_role : (o : Option Role) → role_of h id ≡ o → Follows (IsStep h (Connects isn id peer)) h.entries (let after = after_connect h isn id peer in after.entries)
+    by_role None is = rw is (as_it_was (IsStep h (Connects isn id peer)) (same_step h (Connects isn id peer)) h.entries)
+    by_role (Some role) is = by_open role is (open_answer role) refl
+
+-- the first that passes takes a step
+settled_followed : (Step : Entry → Option Entry → Type 0) (r : Fate) (test : Entry → Bool) (change : Role → Role) (entries : List Entry) → ((x : Entry) → Step x (Some x))
+    → (is_kept r ≡ true → (x : Entry) → test x ≡ true → find test entries ≡ Some x → Step x (Some (with_role change x)))
+    → (is_kept r ≡ false → (x : Entry) → test x ≡ true → find test entries ≡ Some x → Step x None)
+    → Follows Step entries (settled r test change entries)
+settled_followed Step r test change entries same changed gone =
+    by_test (is_kept r)
+    (λ kept. rw kept (first_changed Step test (with_role change) entries same (changed kept)))
+    (λ removed. rw removed (first_removed Step test entries same (gone removed)))
+
+-- Closing.
+
+abbrev IsClosing : SocketId → Entry → Option Entry → Type 0
+IsClosing id x None = is_socket id x ≡ true
+IsClosing id x (Some y) = (y ≡ x) ⊎ ((y.id ≡ x.id) × (is_socket id x ≡ true) × edge.IsEdge (shown_state x.role) (shown_state y.role) × (waits_at id y.role ≡ false) × ((error : Error) → told_in y.role ≡ Some error → told_in x.role ≡ Some error))
+
+-- a socket whose connection goes on waits at no listener
+socket_goes_on : (id : SocketId) (now : Moment) (role : Role) → has_socket role ≡ true → is_kept (close_fate_of role) ≡ true → edge.IsEdge (shown_state role) (shown_state (closed now role)) × (waits_at id (closed now role) ≡ false) × ((error : Error) → told_in (closed now role) ≡ Some error → told_in role ≡ Some error)
+socket_goes_on id now (Idle buffers bound) socket kept = cc
+socket_goes_on id now (Listener l b) socket kept = cc
+socket_goes_on id now (Connected c (Some l)) socket kept = cc
+socket_goes_on id now (Connected c None) socket kept = (kept_edge c (edge.Closes now) kept, refl, λ error told. told_before (errors_caused c (edge.Closes now) error told))
+
+socket_closing : (h : HostView) (id : SocketId) → Follows (IsClosing id) h.entries (let after = after_socket_closed h id in after.entries)
+socket_closing h id = by_role (role_of h id) refl
+  where
+    by_role : (o : Option Role) → role_of h id ≡ o → Follows (IsClosing id) h.entries (let after = after_socket_closed h id in after.entries)
+    by_role None is = rw is (as_it_was (IsClosing id) (λ x. inl refl) h.entries)
+    by_role (Some role) is =
+        rw is (settled_followed (IsClosing id) (close_fate_of role) (is_socket id) (closed h.kept) h.entries (λ x. inl refl) (λ kept x passes found.
+        let same : role ≡ x.role = some_same (role_of h id) role x.role is (ap (λ (o : Option Entry). option_map (λ (e : Entry). e.role) o) found) in
+        let on = socket_goes_on id h.kept x.role (and_right _ _ passes) (ap (λ (r : Role). is_kept (close_fate_of r)) (sym same) ∙ kept) in
+        inr (refl, passes, on.0, on.1, on.2))
+        (λ gone x passes found. passes))
+
+abbrev IsForsaking : SocketId → Entry → Option Entry → Type 0
+IsForsaking id y None = is_kept (forsaken_fate id y.role) ≡ false
+IsForsaking id y (Some z) = (z ≡ with_role (forsaken id) y) × (is_kept (forsaken_fate id y.role) ≡ true)
+
+abort_edge : (role : Role) → is_kept (abort_fate_of role) ≡ true → edge.IsEdge (shown_state role) (shown_state (aborted role))
+abort_edge (Idle buffers bound) kept = inl refl
+abort_edge (Listener l b) kept = inl refl
+abort_edge (Connected c l) kept = kept_edge c edge.Aborts kept
+
+forsaken_edge : (id : SocketId) (role : Role) → is_kept (forsaken_fate id role) ≡ true → edge.IsEdge (shown_state role) (shown_state (forsaken id role))
+forsaken_edge id role kept =
+    by_test (waits_at id role)
+    (λ waits. rw waits (abort_edge role (ap (λ (b : Bool). is_kept (if b then abort_fate_of role else Stays)) (sym waits) ∙ kept)))
+    (λ other. rw other (inl refl))
+
+aborted_mute : IsMute aborted
+aborted_mute (Idle buffers bound) error told = told
+aborted_mute (Listener l b) error told = told
+aborted_mute (Connected c l) error told = told_before (errors_caused c edge.Aborts error told)
+
+forsaken_mute : (id : SocketId) → IsMute (forsaken id)
+forsaken_mute id role error told =
+    let of_test : Bool → Option Error = λ b. told_in (if b then aborted role else role) in
+    by_test (waits_at id role) (λ waits. aborted_mute role error (ap of_test (sym waits) ∙ told)) (λ other. ap of_test (sym other) ∙ told)
+
+forsaken_step : (h : HostView) (id : SocketId) (x : Entry) → is_kept (forsaken_fate id x.role) ≡ true → IsStep h (Closes id) x (Some (with_role (forsaken id) x))
+forsaken_step h id x kept = (
+  refl,
+  forsaken_edge id x.role kept,
+  λ closes. by_test (waits_at id x.role)
+      (λ waits. or_right (is_socket id x) _ waits)
+      (λ other. let same : forsaken id x.role ≡ x.role = rw other in
+      let none : becomes_closed x.role (forsaken id x.role) ≡ false = ap (λ (r : Role). becomes_closed x.role r) same ∙ never (is_closed (shown_state x.role)) in cc),
+  λ error told. inl (forsaken_mute id x.role error told),
+)
+
+forsaken_gone : (h : HostView) (id : SocketId) (x : Entry) → is_kept (forsaken_fate id x.role) ≡ false → IsStep h (Closes id) x None
+forsaken_gone h id x gone =
+    by_test (waits_at id x.role)
+    (λ waits. or_right (is_socket id x) _ waits)
+    (λ other. let kept : is_kept (forsaken_fate id x.role) ≡ true = rw other in cc)
+
+-- what waits at no listener is left alone
+socket_left : (h : HostView) (id : SocketId) (x y : Entry) → y.id ≡ x.id → is_socket id x ≡ true → edge.IsEdge (shown_state x.role) (shown_state y.role) → waits_at id y.role ≡ false → ((error : Error) → told_in y.role ≡ Some error → told_in x.role ≡ Some error) → IsStep h (Closes id) x (Some (with_role (forsaken id) y))
+socket_left h id x y ids socket along other mute =
+    let same : forsaken id y.role ≡ y.role = rw other in
+    let P : Role → Type 0 = λ r. edge.IsEdge (shown_state x.role) (shown_state r) in
+    (ids, subst P (sym same) along, λ closes. or_left _ _ socket, λ error told. inl (mute error (ap (λ (r : Role). told_in r) (sym same) ∙ told)))
+
+close_followed : (h : HostView) (id : SocketId) → Follows (IsStep h (Closes id)) h.entries (let after = after_close h id in after.entries)
+close_followed h id =
+    let middle : List Entry = let after = after_socket_closed h id in after.entries in
+    steps_joined (IsClosing id) (IsForsaking id) (IsStep h (Closes id)) (λ x socket. or_left _ _ socket) joins h.entries middle _
+    (socket_closing h id)
+    (each_followed (IsForsaking id) (λ x. is_kept (forsaken_fate id x.role)) (with_role (forsaken id)) middle (λ x kept. (refl, kept)) (λ x gone. gone))
+  where
+    forsakes : (x : Entry) (o : Option Entry) → IsForsaking id x o → IsStep h (Closes id) x o
+    forsakes x None gone = forsaken_gone h id x gone
+    forsakes x (Some z) step = let P : Entry → Type 0 = λ w. IsStep h (Closes id) x (Some w) in subst P (sym step.0) (forsaken_step h id x step.1)
+
+    joins : (x y : Entry) (o : Option Entry) → IsClosing id x (Some y) → IsForsaking id y o → IsStep h (Closes id) x o
+    joins x y o (inl same) step = let P : Entry → Type 0 = λ z. IsForsaking id z o in forsakes x o (subst P same step)
+    joins x y None (inr socket) step = or_left _ _ socket.1
+    joins x y (Some z) (inr socket) step =
+        let P : Entry → Type 0 = λ w. IsStep h (Closes id) x (Some w) in
+        subst P (sym step.0) (socket_left h id x y socket.0 socket.1 socket.2 socket.3 socket.4)
+
+-- The clock.
+
+tick_step : (h : HostView) (now : Moment) (x : Entry) → is_kept (tick_fate_of (later h now) x.role) ≡ true → IsStep h (Ticks now) x (Some (with_role (ticked (later h now)) x))
+tick_step h now x kept = (refl, along x.role kept, by_role x.role, λ error told. inl (mute x.role error told))
+  where
+    mute : IsMute (ticked (later h now))
+    mute (Idle buffers bound) error told = told
+    mute (Listener l b) error told = told
+    mute (Connected c l) error told = told_before (errors_caused c (edge.Ticks (later h now)) error told)
+
+    along : (role : Role) → is_kept (tick_fate_of (later h now) role) ≡ true → edge.IsEdge (shown_state role) (shown_state (ticked (later h now) role))
+    along (Idle buffers bound) stays = inl refl
+    along (Listener l b) stays = inl refl
+    along (Connected c l) stays = kept_edge c (edge.Ticks (later h now)) stays
+
+    by_role : (role : Role) → becomes_closed role (ticked (later h now) role) ≡ true → is_connection_cause (edge.Ticks (later h now)) role ≡ true
+    by_role (Idle buffers bound) closes = cc
+    by_role (Listener l b) closes = cc
+    by_role (Connected c l) closes = closes_caused c (edge.Ticks (later h now)) closes
+
+tick_gone : (h : HostView) (now : Moment) (x : Entry) → is_kept (tick_fate_of (later h now) x.role) ≡ false → IsStep h (Ticks now) x None
+tick_gone h now x = by_role x.role
+  where
+    by_role : (role : Role) → is_kept (tick_fate_of (later h now) role) ≡ false → is_connection_cause (edge.Ticks (later h now)) role ≡ true
+    by_role (Idle buffers bound) gone = cc
+    by_role (Listener l b) gone = cc
+    by_role (Connected c l) gone = grind (arith, common_steps)
+
+-- A segment.
+
+pub answered_same : (h : HostView) (o : Option Head) → (let after = after_arrival h (answered h o) in after.entries) ≡ h.entries
+answered_same h None = refl
+answered_same h (Some reply) = by_test (length h.replies == 16) (λ full. rw full) (λ room. rw room)
+
+heard_step : (h : HostView) (now : Moment) (isn : ℕ) (s : Segment) (x : Entry) → is_between (local_end h s) (peer_end h s) x ≡ true → is_kept (fate_of s x.role) ≡ true → IsStep h (Hears now isn s) x (Some (with_role (arrived (later h now) s) x))
+heard_step h now isn s x passes kept = (refl, along x.role kept, λ closes. both _ _ passes (by_role x.role closes), λ error told. for_it error (tells x.role error told))
+  where
+    tells : (role : Role) (error : Error) → told_in (arrived (later h now) s role) ≡ Some error → (told_in role ≡ Some error) ⊎ (is_telling (edge.Hears s (later h now)) error role ≡ true)
+    tells (Idle buffers bound) error told = inl told
+    tells (Listener l b) error told = inl told
+    tells (Connected c l) error told = errors_caused c (edge.Hears s (later h now)) error told
+
+    for_it : (error : Error) → (told_in x.role ≡ Some error) ⊎ (is_telling (edge.Hears s (later h now)) error x.role ≡ true) → (told_in x.role ≡ Some error) ⊎ (is_telling_to h (Hears now isn s) error x ≡ true)
+    for_it error (inl told) = inl told
+    for_it error (inr tells_now) = inr (both _ _ passes tells_now)
+
+    along : (role : Role) → is_kept (fate_of s role) ≡ true → edge.IsEdge (shown_state role) (shown_state (arrived (later h now) s role))
+    along (Idle buffers bound) stays = inl refl
+    along (Listener l b) stays = inl refl
+    along (Connected c l) stays = kept_edge c (edge.Hears s (later h now)) stays
+
+    by_role : (role : Role) → becomes_closed role (arrived (later h now) s role) ≡ true → is_connection_cause (edge.Hears s (later h now)) role ≡ true
+    by_role (Idle buffers bound) closes = cc
+    by_role (Listener l b) closes = cc
+    by_role (Connected c l) closes = closes_caused c (edge.Hears s (later h now)) closes
+
+heard_gone : (h : HostView) (now : Moment) (isn : ℕ) (s : Segment) (x : Entry) → is_between (local_end h s) (peer_end h s) x ≡ true → fate_of s x.role ≡ Removed → IsStep h (Hears now isn s) x None
+heard_gone h now isn s x passes removed = both _ _ passes (by_role x.role passes removed)
+  where
+    by_role : (role : Role) → is_live_between (local_end h s) (peer_end h s) role ≡ true → fate_of s role ≡ Removed → is_connection_cause (edge.Hears s (later h now)) role ≡ true
+    by_role (Idle buffers bound) live gone = cc
+    by_role (Listener l b) live gone = cc
+    by_role (Connected c l) live gone = removed_caused c (edge.Hears s (later h now)) (not_over c (not_true _ (and_left _ _ live))) gone
+
+settled_by_segment : (h : HostView) (now : Moment) (isn : ℕ) (s : Segment) (e : Entry) (r : Fate) → find (is_between (local_end h s) (peer_end h s)) h.entries ≡ Some e → fate_of s e.role ≡ r
+    → Follows (IsStep h (Hears now isn s)) h.entries (settled r (is_between (local_end h s) (peer_end h s)) (arrived (later h now) s) h.entries)
+settled_by_segment h now isn s e r found is =
+    settled_followed (IsStep h (Hears now isn s)) r (is_between (local_end h s) (peer_end h s)) (arrived (later h now) s) h.entries (same_step h (Hears now isn s))
+    (λ kept x passes at. heard_step h now isn s x passes (ap (λ (y : Entry). is_kept (fate_of s y.role)) (some_same _ x e at found) ∙ ap is_kept is ∙ kept))
+    (λ gone x passes at. heard_gone h now isn s x passes (ap (λ (y : Entry). fate_of s y.role) (some_same _ x e at found) ∙ is ∙ gone_removed r gone))
+
+answer_followed : (h : HostView) (e : Event) (o : Option Head) → Follows (IsStep h e) h.entries (let after = after_arrival h (answered h o) in after.entries)
+answer_followed h e o = let P : List Entry → Type 0 = λ ys. Follows (IsStep h e) h.entries ys in subst P (sym (answered_same h o)) (as_it_was (IsStep h e) (same_step h e) h.entries)
+
+alone_followed : (h : HostView) (now : Moment) (isn : ℕ) (s : Segment) → Follows (IsStep h (Hears now isn s)) h.entries (let after = after_arrival h (arrival_alone h isn s) in after.entries)
+alone_followed h now isn s = by_listener (find (is_listening_at s.destination) h.entries) refl
+  where
+    by_place : (listener : Entry) → find (is_listening_at s.destination) h.entries ≡ Some listener → opens s.flags ≡ true → (b : Bool) → has_no_place h listener ≡ b
+        → Follows (IsStep h (Hears now isn s)) h.entries (let after = after_arrival h (arrival_alone h isn s) in after.entries)
+    by_place listener found opened true full = rw (found, opened, full) (as_it_was (IsStep h (Hears now isn s)) (same_step h (Hears now isn s)) h.entries)
+    by_place listener found opened false full = rw (found, opened, full) (joined_by (IsStep h (Hears now isn s)) (same_step h (Hears now isn s)) h.entries _)
+
+    by_flags : (listener : Entry) → find (is_listening_at s.destination) h.entries ≡ Some listener → (b : Bool) → opens s.flags ≡ b → Follows (IsStep h (Hears now isn s)) h.entries (let after = after_arrival h (arrival_alone h isn s) in after.entries)
+    by_flags listener found true opened = by_place listener found opened (has_no_place h listener) refl
+    by_flags listener found false opened = rw (found, opened) (answer_followed h (Hears now isn s) (answer_at_listener s))
+
+    by_listener : (o : Option Entry) → find (is_listening_at s.destination) h.entries ≡ o → Follows (IsStep h (Hears now isn s)) h.entries (let after = after_arrival h (arrival_alone h isn s) in after.entries)
+    by_listener None found = rw found (answer_followed h (Hears now isn s) (answer_to s))
+    by_listener (Some listener) found = by_flags listener found (opens s.flags) refl
+
+segment_followed : (h : HostView) (now : Moment) (isn : ℕ) (s : Segment) → Follows (IsStep h (Hears now isn s)) h.entries (let after = after_arrival h (arrival h now isn s) in after.entries)
+segment_followed h now isn s = by_entry (find (is_between (local_end h s) (peer_end h s)) h.entries) refl
+  where
+    by_fate : (e : Entry) → find (is_between (local_end h s) (peer_end h s)) h.entries ≡ Some e → (r : Fate) → fate_of s e.role ≡ r → Follows (IsStep h (Hears now isn s)) h.entries (let after = after_arrival h (arrival h now isn s) in after.entries)
+    by_fate e found Stays is = rw (found, is) (settled_by_segment h now isn s e Stays found is)
+    by_fate e found Removed is = rw (found, is) (settled_by_segment h now isn s e Removed found is)
+    by_fate e found Refused is = rw (found, is) (answer_followed h (Hears now isn s) (Some (reset_at_ack s)))
+
+    by_entry : (o : Option Entry) → find (is_between (local_end h s) (peer_end h s)) h.entries ≡ o → Follows (IsStep h (Hears now isn s)) h.entries (let after = after_arrival h (arrival h now isn s) in after.entries)
+    by_entry None found = rw found (alone_followed h now isn s)
+    by_entry (Some e) found = by_fate e found (fate_of s e.role) refl
+
+-- What goes out.
+
+emitted_connection : (c : View) (l : Option SocketId) (now : Moment) → emitted_at now (Connected c l) ≡ Connected (edge.after_first c (first_due c) now) l
+emitted_connection c l now = by_due (first_due c) refl
+  where
+    by_due : (o : Option Due) → first_due c ≡ o → emitted_at now (Connected c l) ≡ Connected (edge.after_first c (first_due c) now) l
+    by_due None is = rw is
+    by_due (Some due) is = rw is
+
+due_not_over : (c : View) → IsSound c → is_some (first_due c) ≡ true → is_over c ≡ false
+due_not_over c sound due =
+    false_from (is_over c) (λ over.
+    let owes : first_due c ≡ (if c.owes_reset then Some Rst else None) = closed_owes c sound (and_left _ _ (and_left _ _ over)) in
+    let none : c.owes_reset ≡ false = not_true _ (and_right _ _ over) in
+    let nothing : first_due c ≡ None = owes ∙ ap (λ (b : Bool). if b then Some Rst else None) none in
+    let bad : is_some (first_due c) ≡ false = ap (λ (o : Option Due). is_some o) nothing in sym bad ∙ due)
+
+sent_step : (h : HostView) (now : Moment) (x : Entry) → IsStep h (Emits now) x (Some (with_role (emitted_at (later h now)) x))
+sent_step h now x = (refl, along x.role, by_role x.role, λ error told. inl (mute x.role error told))
+  where
+    mute : IsMute (emitted_at (later h now))
+    mute (Idle buffers bound) error told = told
+    mute (Listener l b) error told = told
+    mute (Connected c l) error told = told_before (errors_caused c (edge.Emits (later h now)) error (ap (λ (r : Role). told_in r) (sym (emitted_connection c l (later h now))) ∙ told))
+
+    along : (role : Role) → edge.IsEdge (shown_state role) (shown_state (emitted_at (later h now) role))
+    along (Idle buffers bound) = inl refl
+    along (Listener l b) = inl refl
+    along (Connected c l) = inl (sym (emitted-state c (first_due c) (later h now)) ∙ ap (λ (r : Role). shown_state r) (sym (emitted_connection c l (later h now))))
+
+    by_role : (role : Role) → becomes_closed role (emitted_at (later h now) role) ≡ true → is_connection_cause (edge.Emits (later h now)) role ≡ true
+    by_role (Idle buffers bound) closes = cc
+    by_role (Listener l b) closes = cc
+    by_role (Connected c l) closes = closes_caused c (edge.Emits (later h now)) (ap (λ (r : Role). becomes_closed (Connected c l) r) (sym (emitted_connection c l (later h now))) ∙ closes)
+
+sent_gone : (h : HostView) (now : Moment) (x : Entry) → IsSoundRole x.role → is_due x ≡ true → is_kept (emitted_fate (emitted_at (later h now) x.role)) ≡ false → IsStep h (Emits now) x None
+sent_gone h now x = by_role x.role
+  where
+    by_role : (role : Role) → IsSoundRole role → has_due role ≡ true → is_kept (emitted_fate (emitted_at (later h now) role)) ≡ false → is_connection_cause (edge.Emits (later h now)) role ≡ true
+    by_role (Idle buffers bound) sound due gone = cc
+    by_role (Listener l b) sound due gone = cc
+    by_role (Connected c l) sound due gone =
+        removed_caused c (edge.Emits (later h now)) (due_not_over c sound.sound due)
+        (ap (λ (r : Role). emitted_fate r) (sym (emitted_connection c l (later h now))) ∙ gone_removed _ gone)
+
+emission_followed : (h : HostView) (now : Moment) → IsSoundHost h → Follows (IsStep h (Emits now)) h.entries (let after = after_emission h now in after.entries)
+emission_followed h now sound = by_replies h.replies refl
+  where
+    by_entry : h.replies ≡ [] → (o : Option Entry) → find is_due h.entries ≡ o → Follows (IsStep h (Emits now)) h.entries (let after = after_emission h now in after.entries)
+    by_entry none None found = rw (none, found) (as_it_was (IsStep h (Emits now)) (same_step h (Emits now)) h.entries)
+    by_entry none (Some e) found =
+        let P : HostView → Type 0 = λ w. Follows (IsStep h (Emits now)) h.entries w.entries in
+        subst P (sym (emission-of_entry h now e none found)) (settled_followed (IsStep h (Emits now)) (emitted_fate (emitted_at (later h now) e.role)) is_due (emitted_at (later h now)) h.entries (same_step h (Emits now))
+        (λ kept x passes at. sent_step h now x)
+        (λ gone x passes at. sent_gone h now x (all_found (λ (y : Entry). IsSoundRole y.role) is_due h.entries x sound.entries at) passes (ap (λ (y : Entry). is_kept (emitted_fate (emitted_at (later h now) y.role))) (some_same _ x e at found) ∙ gone)))
+
+    by_replies : (replies : List Head) → h.replies ≡ replies → Follows (IsStep h (Emits now)) h.entries (let after = after_emission h now in after.entries)
+    by_replies [] is = by_entry is (find is_due h.entries) refl
+    by_replies (reply ∷ rest) is = rw is (as_it_was (IsStep h (Emits now)) (same_step h (Emits now)) h.entries)
+
+pub ends_followed : (h : HostView) (e : Event) → IsSoundHost h → Follows (IsStep h e) h.entries (let after = after_event h e in after.entries)
+ends_followed h (Makes buffers) sound = joined_by (IsStep h (Makes buffers)) (same_step h (Makes buffers)) h.entries _
+ends_followed h (Binds id local) sound = quiet_change h (Binds id local) (is_socket id) (bound_to local) (quiet_bound local) (bound_edge local) (bound_mute local) h.entries
+ends_followed h (Listens id backlog) sound = quiet_change h (Listens id backlog) (is_socket id) (listening backlog) (quiet_listening backlog) (listening_edge backlog) (listening_mute backlog) h.entries
+ends_followed h (Accepts id) sound = quiet_change h (Accepts id) (is_offered_at id) accepted quiet_accepted accepted_edge accepted_mute h.entries
+ends_followed h (Connects isn id peer) sound = connect_followed h isn id peer
+ends_followed h (Sends id octets) sound = quiet_change h (Sends id octets) (is_socket id) (sent octets) (quiet_sent octets) (sent_edge octets) (sent_mute octets) h.entries
+ends_followed h (Receives id len) sound = quiet_change h (Receives id len) (is_socket id) (received len) (quiet_received len) (received_edge len) (received_mute len) h.entries
+ends_followed h (Shuts id) sound = quiet_change h (Shuts id) (is_socket id) write_shut quiet_shut shut_role_edge shut_mute h.entries
+ends_followed h (Closes id) sound = close_followed h id
+ends_followed h (Ticks now) sound = each_followed (IsStep h (Ticks now)) (λ x. is_kept (tick_fate_of (later h now) x.role)) (with_role (ticked (later h now))) h.entries (tick_step h now) (tick_gone h now)
+ends_followed h (Hears now isn s) sound = segment_followed h now isn s
+ends_followed h (Emits now) sound = emission_followed h now sound

@@ -1,0 +1,103 @@
+-- Which states the entries of a host's table join, what ends them, and what makes them tell an error (RFC 9293 section 3.3.2).
+use Rattle.std.specs.Prelude.{◌≡◌, ◌⊎◌, ℕ, ◌&&◌, ◌||◌, not, Bool, true, false, List, [], ◌∷◌, Option, Some, None}
+use Rattle.ipv4.specs.declared.addr.Endpoint.{Endpoint}
+use Rattle.tcp_segment.specs.Segment.{Segment}
+use Rattle.tcp_state.specs.declared.buffers.Buffers.{Buffers}
+use Rattle.tcp_state.specs.declared.moment.Moment.{Moment}
+use Rattle.tcp_state.specs.View.{is_closed}
+use Rattle.tcp_state.specs.declared.calls.Refusal.{Refusal as Error}
+use Rattle.tcp_state.specs.Edges as edge
+use Rattle.host.specs.declared.entry.SocketId.{SocketId}
+use Rattle.host.specs.declared.entry.Entry.{Entry}
+use Rattle.host.specs.declared.entry.Role.{Role}
+use Rattle.host.specs.declared.entry.Role.TheVariants.{Idle, Listener, Connected}
+use Rattle.host.specs.Entries.{is_socket, is_waiting_at, is_between, shown_state}
+use Rattle.host.specs.HostView.{HostView, later, after_tick, after_emission}
+use Rattle.host.specs.Calls.{after_socket, after_bind, after_listen, after_accept, after_connect, after_send, after_recv, after_shutdown, after_close}
+use Rattle.host.specs.Dispatch.{Arrival, Becomes, Opens, NoPlace, local_end, peer_end, arrival}
+
+-- what may happen to a host: a call that is not refused, a tick, a segment from the neighbour, or what is due first goes out
+pub data Event : Type 0 where
+  Makes : Buffers → Event
+  Binds : SocketId → Endpoint → Event
+  Listens : SocketId → ℕ → Event
+  Accepts : SocketId → Event
+  Connects : ℕ → SocketId → Endpoint → Event
+  Sends : SocketId → List ℕ → Event
+  Receives : SocketId → ℕ → Event
+  Shuts : SocketId → Event
+  Closes : SocketId → Event
+  Ticks : Moment → Event
+  Hears : Moment → ℕ → Segment → Event
+  Emits : Moment → Event
+
+abbrev pub after_arrival : HostView → Arrival → HostView
+after_arrival h (Becomes next) = next
+after_arrival h (Opens next) = next
+after_arrival h NoPlace = h
+
+-- the host after an event
+abbrev pub after_event : HostView → Event → HostView
+after_event h (Makes buffers) = after_socket h buffers
+after_event h (Binds id local) = after_bind h id local
+after_event h (Listens id backlog) = after_listen h id backlog
+after_event h (Accepts id) = after_accept h id
+after_event h (Connects isn id peer) = after_connect h isn id peer
+after_event h (Sends id octets) = after_send h id octets
+after_event h (Receives id len) = after_recv h id len
+after_event h (Shuts id) = after_shutdown h id
+after_event h (Closes id) = after_close h id
+after_event h (Ticks now) = after_tick h now
+after_event h (Hears now isn s) = after_arrival h (arrival h now isn s)
+after_event h (Emits now) = after_emission h now
+
+-- an event of the entry's connection ends it
+abbrev pub is_connection_cause : edge.Event → Role → Bool
+is_connection_cause e (Connected c listener) = edge.is_cause c e
+is_connection_cause e (Listener local backlog) = false
+is_connection_cause e (Idle buffers bound) = false
+
+-- What ends an entry: that its socket is closed, or the listener that it waits at; and for a connection a segment of its two ends, a tick
+-- or the going out of its segment, each as its own rules say.
+abbrev pub is_cause_for : HostView → Event → Entry → Bool
+is_cause_for h (Closes id) x = is_socket id x || is_waiting_at id x
+is_cause_for h (Ticks now) x = is_connection_cause (edge.Ticks (later h now)) x.role
+is_cause_for h (Hears now isn s) x = is_between (local_end h s) (peer_end h s) x && is_connection_cause (edge.Hears s (later h now)) x.role
+is_cause_for h (Emits now) x = is_connection_cause (edge.Emits (later h now)) x.role
+is_cause_for h _ x = false
+
+-- an entry becomes CLOSED
+abbrev pub becomes_closed : Role → Role → Bool
+becomes_closed before after = not (is_closed (shown_state before)) && is_closed (shown_state after)
+
+-- the error that an entry's connection tells its caller
+abbrev pub told_in : Role → Option Error
+told_in (Connected c listener) = c.told
+told_in (Listener local backlog) = None
+told_in (Idle buffers bound) = None
+
+-- an event of the entry's connection makes it tell an error: a reset that acts, in a state that has it
+abbrev pub is_telling : edge.Event → Error → Role → Bool
+is_telling e error (Connected c listener) = edge.may_tell c e error
+is_telling e error (Listener local backlog) = false
+is_telling e error (Idle buffers bound) = false
+
+abbrev pub is_telling_to : HostView → Event → Error → Entry → Bool
+is_telling_to h (Hears now isn s) error x = is_between (local_end h s) (peer_end h s) x && is_telling (edge.Hears s (later h now)) error x.role
+is_telling_to h _ error x = false
+
+-- the errors that are told after an event were told before, or the event makes the connection tell them
+abbrev pub IsToldBy : HostView → Event → Entry → Entry → Type 0
+IsToldBy h e x y = (error : Error) → told_in y.role ≡ Some error → (told_in x.role ≡ Some error) ⊎ (is_telling_to h e error x ≡ true)
+
+-- An entry, and what an event leaves of it: its state stays, or goes along an edge of the table; where it is taken out, or becomes
+-- CLOSED, that has a cause; and so has an error that it tells.
+abbrev pub IsStep : HostView → Event → Entry → Option Entry → Type 0
+IsStep h e x None = is_cause_for h e x ≡ true
+IsStep h e x (Some y) = (y.id ≡ x.id) × edge.IsEdge (shown_state x.role) (shown_state y.role) × (becomes_closed x.role y.role ≡ true → is_cause_for h e x ≡ true) × IsToldBy h e x y
+
+-- The table before and after, entry by entry and in order: what is left of each, and new ones behind them.
+abbrev pub Follows : (Entry → Option Entry → Type 0) → List Entry → List Entry → Type 0
+Follows Step [] ys = Unit {0}
+Follows Step (x ∷ xs) [] = Step x None × Follows Step xs []
+Follows Step (x ∷ xs) (y ∷ ys) = (Step x (Some y) × Follows Step xs ys) ⊎ (Step x None × Follows Step xs (y ∷ ys))

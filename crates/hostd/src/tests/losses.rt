@@ -1,0 +1,288 @@
+//! Connections over a network that loses a frame or gives one twice: all octets are read all the same, and then the end.
+
+use super::run;
+use std::alloc::Global;
+use std::fmt::Display;
+use std::process::Abort;
+use std::test::Fail;
+
+// What becomes of the frames of a dialogue: all but one arrive once.
+#[derive(Clone, Copy, Debug, PartialEq, Eq)]
+enum Network {
+    // The frame with this index never arrives.
+    Losing(usize),
+    // The frame with this index arrives twice.
+    Repeating(usize),
+}
+
+impl Network {
+    // How often a frame arrives.
+    fn times(self, index: usize) -> usize {
+        match self {
+            Network::Losing(lost) if lost == index => 0,
+            Network::Repeating(repeated) if repeated == index => 2,
+            _ => 1,
+        }
+    }
+}
+
+// A script that grows line by line, by what it has printed so far.
+#[derive(Drop)]
+struct Dialogue {
+    alloc: Global,
+    script: String,
+    network: Network,
+    isn: u32,
+    turns: usize,
+}
+
+// How many frames a side emits at once at most.
+const MOST_FRAMES: usize = 8;
+
+// How often frames go both ways in a turn at most.
+const CROSSINGS: usize = 8;
+
+// How often a call is made that isn't answered yet, and how many turns follow the last one.
+const TRIES: usize = 5;
+
+// b listens, and a has a socket.
+const LISTENING: [(&str, &str); 4] = [
+    ("b socket tcp", "id 1"),
+    ("b bind 1 80", "ok"),
+    ("b listen 1 1", "ok"),
+    ("a socket tcp", "id 1"),
+];
+
+// What the two callers do once a connection is asked for, each call with its answer, and what they are answered some seconds
+// after the last of these. A frame that comes late may end a wait in TIME-WAIT, so a's state isn't asked.
+struct Course {
+    rows: &'static [(&'static str, &'static str)],
+    ends: &'static [(&'static str, &'static str)],
+}
+
+// One side closes, then the other.
+const IN_TURN: Course = Course {
+    rows: &[
+        ("b accept 1", "id 2 10.0.0.1 49152"),
+        ("a send 1 hello", "sent 5"),
+        ("b send 2 world!", "sent 6"),
+        ("a shutdown 1", "ok"),
+        ("b recv 2 100", "octets hello"),
+        ("b recv 2 100", "end"),
+        ("b state 2", "CLOSE-WAIT"),
+        ("a recv 1 100", "octets world!"),
+        ("b shutdown 2", "ok"),
+        ("a recv 1 100", "end"),
+    ],
+    ends: &[
+        ("b state 2", "CLOSED"),
+        ("a recv 1 100", "end"),
+        ("b recv 2 100", "end"),
+    ],
+};
+
+// Both sides close before either hears of it.
+const AT_ONCE: Course = Course {
+    rows: &[
+        ("b accept 1", "id 2 10.0.0.1 49152"),
+        ("a send 1 hello", "sent 5"),
+        ("b send 2 world!", "sent 6"),
+        ("a shutdown 1", "ok"),
+        ("b shutdown 2", "ok"),
+        ("b recv 2 100", "octets hello"),
+        ("a recv 1 100", "octets world!"),
+        ("b recv 2 100", "end"),
+        ("a recv 1 100", "end"),
+    ],
+    ends: &[
+        ("b state 2", "TIME-WAIT"),
+        ("a recv 1 100", "end"),
+        ("b recv 2 100", "end"),
+    ],
+};
+
+// Both callers give their sockets back, and a's port is free once its connection has waited.
+const SOCKETS_BACK: Course = Course {
+    rows: &[
+        ("b accept 1", "id 2 10.0.0.1 49152"),
+        ("a send 1 hello", "sent 5"),
+        ("a close 1", "ok"),
+        ("b recv 2 100", "octets hello"),
+        ("b recv 2 100", "end"),
+        ("b close 2", "ok"),
+    ],
+    ends: &[
+        ("a state 1", "E1 EBADF"),
+        ("b state 2", "E1 EBADF"),
+        ("a tick 300000", "ok"),
+        ("a socket tcp", "id 2"),
+        ("a bind 2 49152", "ok"),
+    ],
+};
+
+impl Dialogue {
+    // Adds a line.
+    fn say(&mut self, line: impl Display + Drop) -> Result<(), Fail> {
+        write!(self.script, "{line}\n")?;
+        Ok(())
+    }
+
+    // Adds a line, and answers what it prints.
+    fn ask(&mut self, line: &str) -> Result<String, Fail> {
+        self.say(line)?;
+        let (outcome, out) = run(self.alloc, self.script.as_str());
+        outcome?;
+        let printed = str::from_utf8(out.taken())?;
+        let (_, last) = printed
+            .trim_end()
+            .rsplit_once('\n')
+            .unwrap_or(("", printed));
+        Ok(String::from_str(self.alloc, last.trim_end())?)
+    }
+
+    // A side emits all that it has due; which frames these are.
+    fn emitted(&mut self, emit: &str) -> Result<Vec<usize>, Fail> {
+        let mut frames = Vec::new(self.alloc);
+        for _ in 0..MOST_FRAMES {
+            let said = self.ask(emit)?;
+            let Some((_, frame)) = said.as_str().split_once(' ') else {
+                return Ok(frames);
+            };
+            let Some((index, _)) = frame.split_once(' ') else {
+                return Ok(frames);
+            };
+            frames.push(index.parse::<usize>()?)?;
+        }
+        Ok(frames)
+    }
+
+    // A side takes frames as the network gives them.
+    fn deliver(&mut self, deliver: &str, frames: &[usize]) -> Result<(), Fail> {
+        let isn = self.isn;
+        for index in frames {
+            for _ in 0..self.network.times(*index) {
+                self.say(format_args!("{deliver} {index} {isn}"))?;
+            }
+        }
+        Ok(())
+    }
+
+    // Frames of both sides cross on their way, as long as there are any, and then a second goes by.
+    fn turn(&mut self) -> Result<(), Fail> {
+        for _ in 0..CROSSINGS {
+            let from_a = self.emitted("a emit")?;
+            let from_b = self.emitted("b emit")?;
+            if from_a.is_empty() && from_b.is_empty() {
+                break;
+            }
+            self.deliver("b deliver", from_a.as_slice())?;
+            self.deliver("a deliver", from_b.as_slice())?;
+        }
+        self.turns = self.turns.saturating_add(1);
+        let seconds = self.turns;
+        self.say(format_args!("a tick {seconds}000\nb tick {seconds}000"))
+    }
+
+    // Makes a call until it is answered, a second apart.
+    fn insist(&mut self, line: &str) -> Result<String, Fail> {
+        for _ in 0..TRIES {
+            let said = self.ask(line)?;
+            if said.as_str() != "E8 EAGAIN" {
+                return Ok(said);
+            }
+            self.turn()?;
+        }
+        self.ask(line)
+    }
+}
+
+// Plays a course: whatever the network does, each call has its answer, and both sides end.
+fn plays_through(
+    rt: &impl Abort,
+    alloc: Global,
+    course: &Course,
+    isn: u32,
+    network: Network,
+) -> Result<(), Fail> {
+    let mut dialogue = Dialogue {
+        alloc,
+        script: String::new(alloc),
+        network,
+        isn,
+        turns: 0,
+    };
+    for (line, want) in LISTENING {
+        assert_eq!(rt; dialogue.ask(line)?.as_str(), want, "{line}");
+    }
+    dialogue.say(format_args!("a connect 1 80 {isn}"))?;
+    for (line, want) in course.rows {
+        let said = dialogue.insist(line)?;
+        assert_eq!(rt;
+            said.as_str(),
+            *want,
+            "{line}, {network:?}, from {isn}: {}",
+            dialogue.script
+        );
+    }
+    for _ in 0..TRIES {
+        dialogue.turn()?;
+    }
+    for (line, want) in course.ends {
+        let said = dialogue.ask(line)?;
+        assert_eq!(rt;
+            said.as_str(),
+            *want,
+            "{line}, {network:?}, from {isn}: {}",
+            dialogue.script
+        );
+    }
+    Ok(())
+}
+
+// Numbers that pass the last one of 32 bits at each place of a dialogue.
+const NUMBERS: [u32; 11] = [
+    4_294_967_288,
+    4_294_967_289,
+    4_294_967_290,
+    4_294_967_291,
+    4_294_967_292,
+    4_294_967_293,
+    4_294_967_294,
+    4_294_967_295,
+    0,
+    1,
+    2,
+];
+
+// With this one, `hello` goes past the last number.
+const MID_TEXT: u32 = 4_294_967_292;
+
+// More than the frames of a course on a network that loses none.
+const FRAMES: usize = 12;
+
+// Plays a course from each of the numbers, and then with each of its frames lost or repeated.
+fn plays_everywhere(rt: &impl Abort, alloc: Global, course: &Course) -> Result<(), Fail> {
+    for isn in NUMBERS {
+        plays_through(rt, alloc, course, isn, Network::Losing(FRAMES))?;
+    }
+    for frame in 0..FRAMES {
+        plays_through(rt, alloc, course, MID_TEXT, Network::Losing(frame))?;
+        plays_through(rt, alloc, course, MID_TEXT, Network::Repeating(frame))?;
+    }
+    Ok(())
+}
+
+#[test]
+fn sides_close_in_turn(rt: HostRuntime) -> Result<(), Fail> {
+    plays_everywhere(&rt, rt.alloc(), &IN_TURN)
+}
+
+#[test]
+fn sides_close_at_once(rt: HostRuntime) -> Result<(), Fail> {
+    plays_everywhere(&rt, rt.alloc(), &AT_ONCE)
+}
+
+#[test]
+fn sockets_are_given_back(rt: HostRuntime) -> Result<(), Fail> {
+    plays_everywhere(&rt, rt.alloc(), &SOCKETS_BACK)
+}

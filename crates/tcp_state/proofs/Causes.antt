@@ -1,0 +1,264 @@
+-- Why a connection ends only by a cause, and an error is told only by a reset.
+use Rattle.std.proofs.Common.{◌≡◌, ℕ, ◌==◌, ◌||◌, ◌&&◌, ◌⊎◌, not, if◌then◌else◌, Bool, true, false, length, Option, Some, None, inl, inr, refl, sym, ◌∙◌, ap, is_some}
+use Rattle.tcp_segment.specs.Segment.{Segment}
+use Rattle.tcp_state.specs.declared.moment.Moment.{Moment}
+use Rattle.tcp_state.specs.declared.connection.Fate.TheVariants.{Stays, Removed, Refused}
+use Rattle.tcp_state.specs.declared.emission.Due.{Due}
+use Rattle.tcp_state.specs.declared.emission.Due.TheVariants.{Rst, Syn, Text, Fin, Ack}
+use Rattle.tcp_state.specs.declared.state.State.{State}
+use Rattle.tcp_state.specs.declared.state.State.TheVariants.{Closed, Established, FinWait1, FinWait2, Closing, LastAck}
+use Rattle.tcp_state.specs.Numbers.{is_before}
+use Rattle.tcp_state.specs.Stream.{is_new_ack}
+use Rattle.tcp_state.specs.View.{View, is_opening, is_syn_sent, is_syn_received, is_closed, is_over, awaits_fin_ack, is_write_closed, is_at_end, stopped, after_resend}
+use Rattle.tcp_state.specs.Calls.{after_send, after_recv, shut, shutdown_refusal, after_shutdown}
+use Rattle.tcp_state.specs.Arrival.{owing_ack, established, is_receiving, beyond_fin, beyond_end, is_fin_next, fin_acknowledged, after_new_ack, after_ack, is_read_on, is_read, after_window, after_text, counts_fin, after_fin, after_acceptable, after_accepted, ends_by_syn, ends_by_reset, ends_opening, is_acting_reset, is_accepted, after_reset, reset_error, after_refusal, after_rst, is_right_syn_ack, after_syn_ack, after_segment, is_lost, after_lost, after_heard, is_refused}
+use Rattle.tcp_state.specs.Due.{first_due, after_ack_paid, after_numbers}
+use Rattle.tcp_state.specs.Edges.{Event, Hears, Ticks, Emits, Sends, Receives, Shuts, Closes, Aborts, after_first, fate_by, is_removed, is_reset_by, is_last_ack, ends_by_ack, is_cause, ends_by}
+use Rattle.tcp_state.proofs.Edges.{either, and_left, and_right, emitted-state}
+
+pub both : (a b : Bool) → a ≡ true → b ≡ true → (a && b) ≡ true
+both true b e f = f
+both false b e f = cc
+
+pub or_left : (a b : Bool) → a ≡ true → (a || b) ≡ true
+or_left true b e = refl
+or_left false b e = cc
+
+pub or_right : (a b : Bool) → b ≡ true → (a || b) ≡ true
+or_right true b e = refl
+or_right false b e = e
+
+pub or_else : (a b : Bool) → (a || b) ≡ true → (a ≡ true) ⊎ (b ≡ true)
+or_else true b e = inl refl
+or_else false b e = inr e
+
+pub not_true : (b : Bool) → not b ≡ true → b ≡ false
+not_true true e = cc
+not_true false e = refl
+
+pub of_false : (b : Bool) → b ≡ false → not b ≡ true
+of_false true e = cc
+of_false false e = refl
+
+-- Segments.
+
+-- octets that are taken and a FIN that counts close nothing by themselves
+end_closes_none : (t : State) → is_receiving t ≡ true → is_closed (beyond_end t) ≡ false
+end_closes_none Established e = refl
+end_closes_none FinWait1 e = refl
+end_closes_none FinWait2 e = refl
+end_closes_none _ e = cc
+
+closed_before_fin : (w : View) (s : Segment) → is_closed (after_fin w s).state ≡ true → is_closed w.state ≡ true
+closed_before_fin w s =
+    either View (λ x. is_closed x.state ≡ true → is_closed w.state ≡ true) (counts_fin w s) _ w
+    (λ counts closed. let none = end_closes_none w.state (and_right s.flags.fin (is_receiving w.state) (and_left (s.flags.fin && is_receiving w.state) _ counts)) in
+    let bad : true ≡ false = sym closed ∙ none in cc)
+    (λ none closed. closed)
+
+closed_before_text : (w : View) (s : Segment) → is_closed (after_text w s).state ≡ true → is_closed w.state ≡ true
+closed_before_text w s =
+    either View (λ x. is_closed x.state ≡ true → is_closed w.state ≡ true) ((length s.octets == 0) || not (is_receiving w.state)) w _ (λ none closed. closed) (λ some closed. closed)
+
+last_fin : (t : State) → awaits_fin_ack t ≡ true → is_closed (beyond_fin t) ≡ true → is_last_ack t ≡ true
+last_fin LastAck e closed = refl
+last_fin FinWait1 e closed = cc
+last_fin Closing e closed = cc
+last_fin _ e closed = cc
+
+-- an acknowledgement closes by our FIN in LAST-ACK alone
+closed_by_ack : (v : View) (ack : ℕ) → is_closed v.state ≡ false → is_closed (after_ack v ack).state ≡ true → (is_last_ack v.state && is_new_ack v.sending ack && is_fin_next v) ≡ true
+closed_by_ack v ack lives =
+    let P : View → Type 0 = λ w. is_closed w.state ≡ true → (is_last_ack v.state && is_new_ack v.sending ack && is_fin_next v) ≡ true in
+    let none : is_closed v.state ≡ true → (is_last_ack v.state && is_new_ack v.sending ack && is_fin_next v) ≡ true = λ closed. let bad : true ≡ false = sym closed ∙ lives in cc in
+    either View P (is_syn_received v.state) _ _
+    (λ received. either View P (is_new_ack v.sending ack) (established v) v (λ new closed. cc) (λ old. none))
+    (λ past. either View P (is_new_ack v.sending ack) _ _
+    (λ new. either View P (is_fin_next v) (fin_acknowledged (after_new_ack v ack)) (after_new_ack v ack)
+    (λ fin closed. both (is_last_ack v.state && is_new_ack v.sending ack) (is_fin_next v)
+    (both (is_last_ack v.state) (is_new_ack v.sending ack) (last_fin v.state (and_left (awaits_fin_ack v.state) (length v.sending.held == 0) fin) closed) new) fin)
+    (λ octets. none))
+    (λ old. either View P (is_before v.sending.nxt ack) (owing_ack v) v (λ beyond. none) (λ within. none)))
+
+read_by_new : (received new behind : Bool) → new ≡ true → (if received then new else new || not behind) ≡ true
+read_by_new true new behind e = e
+read_by_new false true behind e = refl
+read_by_new false false behind e = cc
+
+closed_by_acceptable : (v : View) (s : Segment) → is_closed v.state ≡ false → is_closed (after_acceptable v s).state ≡ true
+    → (is_last_ack v.state && is_new_ack v.sending s.acknowledgement && is_fin_next v) ≡ true
+closed_by_acceptable v s lives =
+    let told = after_window (after_ack v s.acknowledgement) s in
+    either View (λ w. is_closed w.state ≡ true → (is_last_ack v.state && is_new_ack v.sending s.acknowledgement && is_fin_next v) ≡ true) (is_read_on v s.acknowledgement) _ (after_ack v s.acknowledgement)
+    (λ on closed. closed_by_ack v s.acknowledgement lives (closed_before_text told s (closed_before_fin (after_text told s) s closed)))
+    (λ off closed. closed_by_ack v s.acknowledgement lives closed)
+
+pub then_chosen : (t a b : Bool) → t ≡ true → a ≡ true → (if t then a else b) ≡ true
+then_chosen true a b e f = f
+then_chosen false a b e f = cc
+
+pub else_chosen : (t a b : Bool) → t ≡ false → b ≡ true → (if t then a else b) ≡ true
+else_chosen true a b e f = cc
+else_chosen false a b e f = f
+
+-- a segment that closes is a reset that acts, or acknowledges our FIN in LAST-ACK
+closed_by_segment : (v : View) (s : Segment) → is_closed v.state ≡ false → is_closed (after_segment v s).state ≡ true → (is_reset_by v s ≡ true) ⊎ (ends_by_ack v s ≡ true)
+closed_by_segment v s lives =
+    let C : Type 0 = (is_reset_by v s ≡ true) ⊎ (ends_by_ack v s ≡ true) in
+    let P : View → Type 0 = λ w. is_closed w.state ≡ true → C in
+    let none : is_closed v.state ≡ true → C = λ closed. let bad : true ≡ false = sym closed ∙ lives in cc in
+    let confirms = s.flags.ack && is_new_ack v.sending s.acknowledgement in
+    either View P (is_closed v.state) v _
+    (λ closed. none)
+    (λ open_yet. either View P s.flags.rst _ _
+    (λ rst. either View P (is_syn_sent v.state) (after_refusal v s) (after_rst v s)
+    (λ waits. either View P confirms (after_reset v (reset_error v.state)) v
+    (λ acts closed. inl (both s.flags.rst _ rst (then_chosen (is_syn_sent v.state) confirms (is_acting_reset v s) waits acts)))
+    (λ dropped. none))
+    (λ past. either View P (is_acting_reset v s) _ _
+    (λ acts. let caused : is_reset_by v s ≡ true = both s.flags.rst _ rst (else_chosen (is_syn_sent v.state) confirms (is_acting_reset v s) past acts) in
+    either View P (ends_by_reset v s) v (after_reset v (reset_error v.state)) (λ removed. none) (λ reset closed. inl caused))
+    (λ elsewhere. either View P (is_accepted v s) (owing_ack v) v (λ drawn. none) (λ dropped. none))))
+    (λ no_rst. either View P (is_syn_sent v.state) (after_syn_ack v s) _
+    (λ waits. either View P (is_right_syn_ack v s) _ v (λ right closed. cc) (λ wrong. none))
+    (λ past. either View P (is_accepted v s) (after_accepted v s) (owing_ack v)
+    (λ accepted. either View P s.flags.syn _ _
+    (λ syn. either View P (ends_by_syn v s) v (owing_ack v) (λ removed. none) (λ drawn. none))
+    (λ no_syn. either View P s.flags.ack (after_acceptable v s) v
+    (λ ack closed.
+    let k = closed_by_acceptable v s lives closed in
+    let fin = and_right (is_last_ack v.state && is_new_ack v.sending s.acknowledgement) (is_fin_next v) k in
+    let two = and_left (is_last_ack v.state && is_new_ack v.sending s.acknowledgement) (is_fin_next v) k in
+    let last = and_left (is_last_ack v.state) (is_new_ack v.sending s.acknowledgement) two in
+    let new = and_right (is_last_ack v.state) (is_new_ack v.sending s.acknowledgement) two in
+    let on : is_read_on v s.acknowledgement ≡ true = read_by_new (is_syn_received v.state) (is_new_ack v.sending s.acknowledgement) (is_before v.sending.nxt s.acknowledgement) new in
+    let read : is_read v s ≡ true =
+    both (not s.flags.rst && is_accepted v s && not s.flags.syn && s.flags.ack) _ (both (not s.flags.rst && is_accepted v s && not s.flags.syn) s.flags.ack
+    (both (not s.flags.rst && is_accepted v s) (not s.flags.syn) (both (not s.flags.rst) (is_accepted v s) (of_false s.flags.rst no_rst) accepted) (of_false s.flags.syn no_syn)) ack) on in
+    inr (both (is_last_ack v.state && is_read v s && is_new_ack v.sending s.acknowledgement) (is_fin_next v)
+    (both (is_last_ack v.state && is_read v s) (is_new_ack v.sending s.acknowledgement) (both (is_last_ack v.state) (is_read v s) last read) new) fin))
+    (λ no_ack. none)))
+    (λ refused. none))))
+
+-- why a segment takes a connection out, by the tests of its fate
+record Removes (closed lost over refused opening : Bool) : Type 0 where
+  pub lives : closed ≡ false
+  pub ends : (over ≡ true) ⊎ (opening ≡ true)
+
+removes : (closed lost over refused opening : Bool) → is_removed (if closed || lost then Stays else if over then Removed else if refused then Refused else if opening then Removed else Stays) ≡ true
+    → Removes closed lost over refused opening
+removes true lost over refused opening e = cc
+removes false true over refused opening e = cc
+removes false false true refused opening e = record { lives = refl; ends = inl refl }
+removes false false false true opening e = cc
+removes false false false false true e = record { lives = refl; ends = inr refl }
+removes false false false false false e = cc
+
+pub by : (C : Type 0) (b : Bool) → (b ≡ true → C) → (b ≡ false → C) → C
+by C true if_true if_false = if_true refl
+by C false if_true if_false = if_false refl
+
+-- the four causes that a segment can be
+caused_by : (v : View) (s : Segment) → (is_reset_by v s ≡ true) ⊎ (ends_by_ack v s ≡ true) → (is_reset_by v s || ends_by_syn v s || is_lost v s || ends_by_ack v s) ≡ true
+caused_by v s (inl reset) = or_left (is_reset_by v s || ends_by_syn v s || is_lost v s) _ (or_left (is_reset_by v s || ends_by_syn v s) _ (or_left (is_reset_by v s) _ reset))
+caused_by v s (inr ack) = or_right (is_reset_by v s || ends_by_syn v s || is_lost v s) (ends_by_ack v s) ack
+
+caused_by_opening : (v : View) (s : Segment) → ends_opening v s ≡ true → (is_reset_by v s || ends_by_syn v s || is_lost v s || ends_by_ack v s) ≡ true
+caused_by_opening v s e =
+    let past = not_true (is_syn_sent v.state) (and_left (not (is_syn_sent v.state)) _ e) in
+    let chosen : (if s.flags.rst then ends_by_reset v s else ends_by_syn v s) ≡ true = and_right (not (is_syn_sent v.state)) _ e in
+    let C : Type 0 = (is_reset_by v s || ends_by_syn v s || is_lost v s || ends_by_ack v s) ≡ true in
+    by C s.flags.rst
+    (λ rst.
+    let ends : ends_by_reset v s ≡ true = sym (ap (λ b. if b then ends_by_reset v s else ends_by_syn v s) rst) ∙ chosen in
+    let acts = and_left (is_acting_reset v s) v.passive (and_left (is_acting_reset v s && v.passive) (is_syn_received v.state) ends) in
+    caused_by v s (inl (both s.flags.rst _ rst (else_chosen (is_syn_sent v.state) (s.flags.ack && is_new_ack v.sending s.acknowledgement) (is_acting_reset v s) past acts))))
+    (λ no_rst.
+    let ends : ends_by_syn v s ≡ true = sym (ap (λ b. if b then ends_by_reset v s else ends_by_syn v s) no_rst) ∙ chosen in
+    or_left (is_reset_by v s || ends_by_syn v s || is_lost v s) (ends_by_ack v s) (or_left (is_reset_by v s || ends_by_syn v s) (is_lost v s) (or_right (is_reset_by v s) (ends_by_syn v s) ends)))
+
+segment-cause : (v : View) (s : Segment) (now : Moment) → ends_by v (Hears s now) ≡ true → is_cause v (Hears s now) ≡ true
+segment-cause v s now e =
+    let C : Type 0 = (is_reset_by v s || ends_by_syn v s || is_lost v s || ends_by_ack v s) ≡ true in
+    by C (is_lost v s)
+    (λ lost. or_left (is_reset_by v s || ends_by_syn v s || is_lost v s) (ends_by_ack v s) (or_right (is_reset_by v s || ends_by_syn v s) (is_lost v s) lost))
+    (λ kept. elim (or_else (is_removed (fate_by v (Hears s now))) _ e) [
+      | inl removed ↦
+          let r = removes (is_closed v.state) (is_lost v s) (is_over (after_segment v s)) (is_refused v s) (ends_opening v s) removed in
+          elim r.ends [
+            | inl over ↦ caused_by v s (closed_by_segment v s r.lives (and_left (is_closed (after_segment v s).state) (after_segment v s).released (and_left (is_closed (after_segment v s).state && (after_segment v s).released) _ over)))
+            | inr opening ↦ caused_by_opening v s opening
+          ]
+      | inr ended ↦
+          let lives = not_true (is_closed v.state) (and_left (not (is_closed v.state)) _ ended) in
+          let closed : is_closed (after_heard v s).state ≡ true = and_right (not (is_closed v.state)) _ ended in
+          let same : is_closed (after_heard v s).state ≡ is_closed (after_segment v s).state = ap (λ b. is_closed (if b then after_lost v s else after_segment v s).state) kept in
+          caused_by v s (closed_by_segment v s lives (sym same ∙ closed))
+    ])
+
+-- Every event.
+
+-- no event that leaves the state closes
+unclosed : (t u : State) → u ≡ t → (not (is_closed t) && is_closed u) ≡ true → ⊥
+unclosed t u same e =
+    let closed = and_right (not (is_closed t)) (is_closed u) e in
+    let lives = not_true (is_closed t) (and_left (not (is_closed t)) (is_closed u) e) in
+    let bad : true ≡ false = sym closed ∙ (ap is_closed same ∙ lives) in cc
+
+shut_closes_none : (t : State) → (not (is_closed t) && is_closed (shut t)) ≡ true → ⊥
+shut_closes_none t e = none t (not_true (is_closed t) (and_left (not (is_closed t)) (is_closed (shut t)) e)) (and_right (not (is_closed t)) (is_closed (shut t)) e)
+  where
+    none : (t : State) → is_closed t ≡ false → is_closed (shut t) ≡ true → ⊥
+    none Closed a b = cc
+    none _ a b = cc
+
+emitted-released : (v : View) (due : Option Due) (now : Moment) → (after_first v due now).released ≡ v.released
+emitted-released v None now = refl
+emitted-released v (Some Rst) now = refl
+emitted-released v (Some Syn) now =
+    either View (λ w. w.released ≡ v.released) (is_syn_received v.state) (after_ack_paid (after_numbers v 1 now)) (after_numbers v 1 now) (λ received. refl) (λ sent. refl)
+emitted-released v (Some (Text count)) now = refl
+emitted-released v (Some Fin) now = refl
+emitted-released v (Some Ack) now = refl
+
+-- what is over after an emission, and was not before, owed a reset
+owed_before : (closed released owed : Bool) → closed ≡ true → released ≡ true → (closed && released && not owed) ≡ false → owed ≡ true
+owed_before true true true c r e = refl
+owed_before true true false c r e = cc
+owed_before true false owed c r e = cc
+owed_before false released owed c r e = cc
+
+removed_where_over : (over : Bool) → is_removed (if over then Removed else Stays) ≡ true → over ≡ true
+removed_where_over true e = refl
+removed_where_over false e = cc
+
+emission-cause : (v : View) (now : Moment) → is_over v ≡ false → ends_by v (Emits now) ≡ true → v.owes_reset ≡ true
+emission-cause v now lives e =
+    let w = after_first v (first_due v) now in
+    elim (or_else (is_removed (fate_by v (Emits now))) _ e) [
+      | inl removed ↦
+          let over : is_over w ≡ true = removed_where_over (is_over w) removed in
+          let two = and_left (is_closed w.state && w.released) (not w.owes_reset) over in
+          let closed = sym (ap is_closed (emitted-state v (first_due v) now)) ∙ and_left (is_closed w.state) w.released two in
+          let released = sym (emitted-released v (first_due v) now) ∙ and_right (is_closed w.state) w.released two in
+          owed_before (is_closed v.state) v.released v.owes_reset closed released lives
+      | inr closed ↦ absurd (unclosed v.state w.state (emitted-state v (first_due v) now) closed)
+    ]
+
+pub ends_caused : (v : View) (e : Event) → is_over v ≡ false → ends_by v e ≡ true → is_cause v e ≡ true
+ends_caused v (Hears s now) lives e = segment-cause v s now e
+ends_caused v (Ticks now) lives e = by (is_at_end v now ≡ true) (is_at_end v now) (λ ends. ends) (λ waits.
+    let tried : Bool → Bool = λ b. is_removed (if b && v.released then Removed else Stays) || (not (is_closed v.state) && is_closed (if b then stopped v else after_resend v now).state) in
+    absurd (unclosed v.state v.state refl (sym (ap tried waits) ∙ e)))
+ends_caused v (Emits now) lives e = emission-cause v now lives e
+ends_caused v (Sends octets) lives e =
+    let same = either View (λ w. w.state ≡ v.state) (is_some v.told || is_opening v.state || is_write_closed v.state) v _ (λ refused. refl) (λ takes. refl) in
+    absurd (unclosed v.state (after_send v octets).state same e)
+ends_caused v (Receives len) lives e =
+    let same = either View (λ w. w.state ≡ v.state) (is_some v.told || is_opening v.state || (length v.receiving.readable == 0)) v _ (λ none. refl) (λ some. refl) in
+    absurd (unclosed v.state (after_recv v len).state same e)
+ends_caused v Shuts lives e = absurd (
+    either View (λ w. (not (is_closed v.state) && is_closed w.state) ≡ true → ⊥) (is_some (shutdown_refusal v)) v (after_shutdown v)
+    (λ refused. unclosed v.state v.state refl) (λ closed. shut_closes_none v.state) e)
+ends_caused v (Closes now) lives e = refl
+ends_caused v Aborts lives e = refl

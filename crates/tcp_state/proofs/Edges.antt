@@ -1,0 +1,160 @@
+-- Why one event keeps to the table of edges.
+use Rattle.std.proofs.Common.{◌≡◌, ℕ, ◌==◌, ◌||◌, ◌&&◌, not, if◌then◌else◌, Bool, true, false, length, Option, Some, None, inl, inr, refl, sym, subst, is_some}
+use Rattle.tcp_segment.specs.Segment.{Segment}
+use Rattle.tcp_state.specs.declared.moment.Moment.{Moment}
+use Rattle.tcp_state.specs.declared.emission.Due.{Due}
+use Rattle.tcp_state.specs.declared.emission.Due.TheVariants.{Rst, Syn, Text, Fin, Ack}
+use Rattle.tcp_state.specs.declared.state.State.{State}
+use Rattle.tcp_state.specs.declared.state.State.TheVariants.{Closed, Listen, SynSent, SynReceived, Established, FinWait1, FinWait2, CloseWait, Closing, LastAck}
+use Rattle.tcp_state.specs.Numbers.{is_before}
+use Rattle.tcp_state.specs.Stream.{is_new_ack}
+use Rattle.tcp_state.specs.View.{View, is_opening, is_syn_sent, is_syn_received, is_closed, awaits_fin_ack, is_write_closed, is_at_end, stopped, after_resend}
+use Rattle.tcp_state.specs.Calls.{shut, shutdown_refusal, after_shutdown, aborted, after_release, is_removed_by_close, is_aborted_by_close}
+use Rattle.tcp_state.specs.Arrival.{owing_ack, established, is_receiving, beyond_fin, beyond_end, is_fin_next, fin_acknowledged, after_new_ack, after_ack, is_read_on, after_window, after_text, counts_fin, after_fin, after_acceptable, after_accepted, ends_by_syn, ends_by_reset, is_acting_reset, is_accepted, after_reset, reset_error, after_refusal, after_rst, is_right_syn_ack, after_syn_ack, after_segment, is_lost, after_lost, after_heard}
+use Rattle.tcp_state.specs.Due.{first_due, after_ack_paid, after_numbers}
+use Rattle.tcp_state.specs.Edges.{IsEdge, Event, Hears, Ticks, Emits, Sends, Receives, Shuts, Closes, Aborts, after_first, after_event, fate_by, is_removed, left_by, state_after}
+
+-- one of two by a test
+pub either : (A : Type 0) (P : A → Type 0) (test : Bool) (v w : A) → (test ≡ true → P v) → (test ≡ false → P w) → P (if test then v else w)
+either A P true v w if_true if_false = if_true refl
+either A P false v w if_true if_false = if_false refl
+
+pub and_left : (a b : Bool) → (a && b) ≡ true → a ≡ true
+and_left true b e = refl
+and_left false b e = cc
+
+pub and_right : (a b : Bool) → (a && b) ≡ true → b ≡ true
+and_right true b e = e
+and_right false b e = cc
+
+-- any state may end
+closes : (t : State) → IsEdge t Closed
+closes Closed = inl refl
+closes _ = inr refl
+
+goes_back : (t : State) → is_syn_received t ≡ true → IsEdge t Listen
+goes_back SynReceived e = inr refl
+goes_back _ e = cc
+
+opens : (t : State) → is_syn_sent t ≡ true → IsEdge t Established
+opens SynSent e = inr refl
+opens _ e = cc
+
+shuts : (t : State) → IsEdge t (shut t)
+shuts Established = inr refl
+shuts CloseWait = inr refl
+shuts _ = inl refl
+
+ends : (t : State) → is_receiving t ≡ true → IsEdge t (beyond_end t)
+ends Established e = inr refl
+ends FinWait1 e = inr refl
+ends FinWait2 e = inr refl
+ends _ e = cc
+
+-- a segment may acknowledge our SYN or FIN and bring the peer's FIN: what it leads to by its acknowledgement, and by its FIN then
+record Reaches (before : State) (w : View) : Type 0 where
+  pub here : IsEdge before w.state
+  pub beyond : is_receiving w.state ≡ true → IsEdge before (beyond_end w.state)
+
+stays : (v w : View) → w.state ≡ v.state → Reaches v.state w
+stays v w same = record {
+  here = inl (sym same);
+  beyond = λ on. subst (λ t. is_receiving t ≡ true → IsEdge v.state (beyond_end t)) (sym same) (ends v.state) on;
+}
+
+reached_established : (t : State) → is_syn_received t ≡ true → IsEdge t Established × IsEdge t CloseWait
+reached_established SynReceived e = (inr refl, inr refl)
+reached_established _ e = cc
+
+reached_fin : (t : State) → awaits_fin_ack t ≡ true → IsEdge t (beyond_fin t) × (is_receiving (beyond_fin t) ≡ true → IsEdge t (beyond_end (beyond_fin t)))
+reached_fin FinWait1 e = (inr refl, λ on. inr refl)
+reached_fin Closing e = (inr refl, λ on. cc)
+reached_fin LastAck e = (inr refl, λ on. cc)
+reached_fin _ e = cc
+
+acked : (v : View) (ack : ℕ) → Reaches v.state (after_ack v ack)
+acked v ack =
+    let P : View → Type 0 = λ w. Reaches v.state w in
+    either View P (is_syn_received v.state) _ _
+    (λ received. either View P (is_new_ack v.sending ack) (established v) v
+    (λ new. let r = reached_established v.state received in record { here = r.0; beyond = λ on. r.1 })
+    (λ old. stays v v refl))
+    (λ past. either View P (is_new_ack v.sending ack) _ _
+    (λ new. either View P (is_fin_next v) (fin_acknowledged (after_new_ack v ack)) (after_new_ack v ack)
+    (λ fin. let r = reached_fin v.state (and_left (awaits_fin_ack v.state) (length v.sending.held == 0) fin) in record { here = r.0; beyond = r.1 })
+    (λ octets. stays v (after_new_ack v ack) refl))
+    (λ old. either View P (is_before v.sending.nxt ack) (owing_ack v) v (λ beyond. stays v (owing_ack v) refl) (λ within. stays v v refl)))
+
+texted : (t : State) (w : View) (s : Segment) → Reaches t w → Reaches t (after_text w s)
+texted t w s r =
+    either View (λ x. Reaches t x) ((length s.octets == 0) || not (is_receiving w.state)) w _
+    (λ none. r)
+    (λ some. record { here = r.here; beyond = r.beyond })
+
+finned : (t : State) (w : View) (s : Segment) → Reaches t w → IsEdge t (after_fin w s).state
+finned t w s r =
+    either View (λ x. IsEdge t x.state) (counts_fin w s) _ w
+    (λ counts. r.beyond (and_right s.flags.fin (is_receiving w.state) (and_left (s.flags.fin && is_receiving w.state) _ counts)))
+    (λ none. r.here)
+
+acceptable-edge : (v : View) (s : Segment) → IsEdge v.state (after_acceptable v s).state
+acceptable-edge v s =
+    let a = acked v s.acknowledgement in
+    let told = after_window (after_ack v s.acknowledgement) s in
+    let r : Reaches v.state told = record { here = a.here; beyond = a.beyond } in
+    either View (λ w. IsEdge v.state w.state) (is_read_on v s.acknowledgement) _ (after_ack v s.acknowledgement)
+    (λ on. finned v.state (after_text told s) s (texted v.state told s r))
+    (λ off. a.here)
+
+segment-edge : (v : View) (s : Segment) → IsEdge v.state (after_segment v s).state
+segment-edge v s =
+    let P : View → Type 0 = λ w. IsEdge v.state w.state in
+    either View P (is_closed v.state) v _
+    (λ closed. inl refl)
+    (λ lives. either View P s.flags.rst _ _
+    (λ rst. either View P (is_syn_sent v.state) (after_refusal v s) (after_rst v s)
+    (λ waits. either View P (s.flags.ack && is_new_ack v.sending s.acknowledgement) (after_reset v (reset_error v.state)) v (λ acts. closes v.state) (λ dropped. inl refl))
+    (λ past. either View P (is_acting_reset v s) _ _
+    (λ acts. either View P (ends_by_reset v s) v (after_reset v (reset_error v.state)) (λ removed. inl refl) (λ reset. closes v.state))
+    (λ elsewhere. either View P (is_accepted v s) (owing_ack v) v (λ drawn. inl refl) (λ dropped. inl refl))))
+    (λ no_rst. either View P (is_syn_sent v.state) (after_syn_ack v s) _
+    (λ waits. either View P (is_right_syn_ack v s) _ v (λ right. opens v.state waits) (λ wrong. inl refl))
+    (λ past. either View P (is_accepted v s) (after_accepted v s) (owing_ack v)
+    (λ accepted. either View P s.flags.syn _ _
+    (λ syn. either View P (ends_by_syn v s) v (owing_ack v) (λ removed. inl refl) (λ drawn. inl refl))
+    (λ no_syn. either View P s.flags.ack (after_acceptable v s) v (λ ack. acceptable-edge v s) (λ no_ack. inl refl)))
+    (λ refused. inl refl))))
+
+pub heard-edge : (v : View) (s : Segment) → IsEdge v.state (after_heard v s).state
+heard-edge v s = either View (λ w. IsEdge v.state w.state) (is_lost v s) (after_lost v s) (after_segment v s) (λ lost. closes v.state) (λ kept. segment-edge v s)
+
+-- what goes out changes no state
+pub emitted-state : (v : View) (due : Option Due) (now : Moment) → (after_first v due now).state ≡ v.state
+emitted-state v None now = refl
+emitted-state v (Some Rst) now = refl
+emitted-state v (Some Syn) now =
+    either View (λ w. w.state ≡ v.state) (is_syn_received v.state) (after_ack_paid (after_numbers v 1 now)) (after_numbers v 1 now) (λ received. refl) (λ sent. refl)
+emitted-state v (Some (Text count)) now = refl
+emitted-state v (Some Fin) now = refl
+emitted-state v (Some Ack) now = refl
+
+left-edge : (v : View) → IsEdge v.state (left_by v)
+left-edge v =
+    either State (λ t. IsEdge v.state t) (v.passive && is_syn_received v.state) Listen Closed
+    (λ back. goes_back v.state (and_right v.passive (is_syn_received v.state) back))
+    (λ gone. closes v.state)
+
+event-edge : (v : View) (e : Event) → IsEdge v.state (after_event v e).state
+event-edge v (Hears s now) = heard-edge v s
+event-edge v (Ticks now) = either View (λ w. IsEdge v.state w.state) (is_at_end v now) (stopped v) (after_resend v now) (λ over. closes v.state) (λ waits. inl refl)
+event-edge v (Emits now) = inl (sym (emitted-state v (first_due v) now))
+event-edge v (Sends octets) = either View (λ w. IsEdge v.state w.state) (is_some v.told || is_opening v.state || is_write_closed v.state) v _ (λ refused. inl refl) (λ takes. inl refl)
+event-edge v (Receives len) = either View (λ w. IsEdge v.state w.state) (is_some v.told || is_opening v.state || (length v.receiving.readable == 0)) v _ (λ none. inl refl) (λ some. inl refl)
+event-edge v Shuts = either View (λ w. IsEdge v.state w.state) (is_some (shutdown_refusal v)) v (after_shutdown v) (λ refused. inl refl) (λ closed. shuts v.state)
+event-edge v (Closes now) =
+    either View (λ w. IsEdge v.state w.state) (is_removed_by_close v) v _ (λ removed. inl refl)
+    (λ stays. either View (λ w. IsEdge v.state w.state) (is_aborted_by_close v) (aborted v) (after_release v now) (λ lost. closes v.state) (λ released. shuts v.state))
+event-edge v Aborts = either View (λ w. IsEdge v.state w.state) (is_closed v.state) v (aborted v) (λ closed. inl refl) (λ lives. closes v.state)
+
+pub edges_hold : (v : View) (e : Event) → IsEdge v.state (state_after v e)
+edges_hold v e = either State (λ t. IsEdge v.state t) (is_removed (fate_by v e)) (left_by v) (after_event v e).state (λ removed. left-edge v) (λ stays. event-edge v e)

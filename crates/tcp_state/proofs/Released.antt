@@ -1,0 +1,149 @@
+-- Why a connection that its caller closed takes no octets.
+use Rattle.std.proofs.Common.{◌≡◌, ℕ, ◌+◌, ◌%◌, ◌^◌, ◌<◌, ◌≤◌, ◌==◌, ◌||◌, ◌&&◌, not, nat_le, Bool, true, false, List, [], ◌++◌, length, take, drop, inl, inr, arith, refl, ◌∙◌, ap}
+use Rattle.std.proofs.lemmas.List.{drop_all, append-nil}
+use Rattle.std.proofs.Math.Seq.{take-nil}
+use Rattle.std.proofs.lemmas.Bool.Decides.{leb_tells}
+use Rattle.tcp_segment.specs.Wire.{past}
+use Rattle.tcp_segment.specs.Segment.{Segment}
+use Rattle.tcp_state.specs.declared.moment.Moment.{Moment}
+use Rattle.tcp_state.specs.declared.state.State.{State}
+use Rattle.tcp_state.specs.declared.state.State.TheVariants.{FinWait1, Closing, LastAck, SynReceived}
+use Rattle.tcp_state.specs.Numbers.{is_before}
+use Rattle.tcp_state.specs.Halves.{Receiving}
+use Rattle.tcp_state.specs.Stream.{is_new_ack, gained, after_octets, receive_window}
+use Rattle.tcp_state.specs.View.{View, IsSound, is_syn_sent, is_syn_received, is_closed, is_write_closed}
+use Rattle.tcp_state.specs.Arrival.{owing_ack, established, is_receiving, beyond_fin, is_fin_next, fin_acknowledged, after_new_ack, after_ack, is_read_on, is_read, brings_more, after_window, after_text, counts_fin, after_fin, after_acceptable, after_accepted, ends_by_syn, ends_by_reset, is_acting_reset, is_accepted, after_reset, reset_error, after_refusal, after_rst, is_right_syn_ack, after_syn_ack, after_segment, is_lost, after_lost, after_segment_at}
+use Rattle.tcp_state.proofs.Edges.{either}
+use Rattle.tcp_state.proofs.Causes.{both, of_false}
+use Rattle.tcp_state.proofs.Unchanged.{clash}
+
+-- an acknowledgement leaves the receiving half
+unheard : (v : View) (ack : ℕ) → (after_ack v ack).receiving ≡ v.receiving
+unheard v ack =
+    let P : View → Type 0 = λ w. w.receiving ≡ v.receiving in
+    either View P (is_syn_received v.state) _ _
+    (λ received. either View P (is_new_ack v.sending ack) (established v) v (λ new. refl) (λ old. refl))
+    (λ past_opening. either View P (is_new_ack v.sending ack) _ _
+    (λ new. either View P (is_fin_next v) (fin_acknowledged (after_new_ack v ack)) (after_new_ack v ack) (λ fin. refl) (λ octets. refl))
+    (λ old. either View P (is_before v.sending.nxt ack) (owing_ack v) v (λ beyond. refl) (λ within. refl)))
+
+-- where our side is closed, octets were taken before an acknowledgement if they are after it
+received_before : (t : State) → is_receiving (beyond_fin t) ≡ true → is_receiving t ≡ true
+received_before FinWait1 e = refl
+received_before Closing e = cc
+received_before LastAck e = cc
+received_before _ e = e
+
+opening_is_open : (t : State) → is_write_closed t ≡ true → is_syn_received t ≡ false
+opening_is_open SynReceived e = cc
+opening_is_open _ e = refl
+
+receiving_before : (v : View) (ack : ℕ) → is_write_closed v.state ≡ true → is_receiving (after_ack v ack).state ≡ true → is_receiving v.state ≡ true
+receiving_before v ack closed =
+    let P : View → Type 0 = λ w. is_receiving w.state ≡ true → is_receiving v.state ≡ true in
+    either View P (is_syn_received v.state) _ _
+    (λ received. clash (is_syn_received v.state) received (opening_is_open v.state closed))
+    (λ past_opening. either View P (is_new_ack v.sending ack) _ _
+    (λ new. either View P (is_fin_next v) (fin_acknowledged (after_new_ack v ack)) (after_new_ack v ack) (λ fin. received_before v.state) (λ octets e. e))
+    (λ old. either View P (is_before v.sending.nxt ack) (owing_ack v) v (λ beyond e. e) (λ within e. e)))
+
+not_before : (a b : ℕ) → is_before a b ≡ false → past a b < 2 ^ 31
+not_before a b e = elim (leb_tells (2 ^ 31) (past a b)) [ inl t ↦ clash (nat_le (2 ^ 31) (past a b)) t.0 e | inr t ↦ t.1 ]
+
+-- octets that end at RCV.NXT or before it add nothing
+known : (rnext number len : ℕ) → rnext < 2 ^ 32 → number < 2 ^ 32 → len < 2 ^ 16 → past rnext number < 2 ^ 31 → past rnext ((number + len) % 2 ^ 32) < 2 ^ 31 → len ≤ past rnext number
+known rnext number len a b c d e = omega (arith, a, b, c, d, e)
+
+none_gained : (r : Receiving) (number : ℕ) (octets : List ℕ) → r.rnext < 2 ^ 32 → number < 2 ^ 32 → length octets < 2 ^ 16 → is_before r.rnext ((number + length octets) % 2 ^ 32) ≡ false → gained r number octets ≡ []
+none_gained r number octets small fits short ends =
+    either (List ℕ) (λ l. l ≡ []) (is_before r.rnext number) [] (take (receive_window r) (drop (past r.rnext number) octets))
+    (λ ahead. refl)
+    (λ behind.
+    let all : length octets ≤ past r.rnext number = known r.rnext number (length octets) small fits short (not_before r.rnext number behind) (not_before r.rnext ((number + length octets) % 2 ^ 32) ends) in
+    ap (take (receive_window r)) (drop_all (past r.rnext number) octets all) ∙ take-nil (receive_window r))
+
+-- a segment of which no octets are lost, though it is read, ends before RCV.NXT or has none
+all_known : (v : View) (s : Segment) → v.released ≡ true → is_receiving v.state ≡ true → is_read v s ≡ true → is_lost v s ≡ false → (length s.octets == 0) ≡ false
+    → is_before v.receiving.rnext ((s.number + length s.octets) % 2 ^ 32) ≡ false
+all_known v s released receiving read kept some =
+    last (not (length s.octets == 0)) _ (of_false (length s.octets == 0) some)
+    (last (v.released && is_receiving v.state && is_read v s) (brings_more v s) (both (v.released && is_receiving v.state) (is_read v s) (both v.released (is_receiving v.state) released receiving) read) kept)
+  where
+    last : (a b : Bool) → a ≡ true → (a && b) ≡ false → b ≡ false
+    last true b e f = f
+    last false b e f = cc
+
+or_false : (a b : Bool) → (a || not b) ≡ false → (a ≡ false) × (b ≡ true)
+or_false true b e = cc
+or_false false true e = (refl, refl)
+or_false false false e = cc
+
+readable_by_fin : (w : View) (s : Segment) → (after_fin w s).receiving.readable ≡ w.receiving.readable
+readable_by_fin w s = either View (λ x. x.receiving.readable ≡ w.receiving.readable) (counts_fin w s) _ w (λ counts. refl) (λ none. refl)
+
+-- what a segment has to be for its octets to matter
+record IsKept (v : View) (s : Segment) : Type 0 where
+  pub small : v.receiving.rnext < 2 ^ 32
+  pub fits : s.number < 2 ^ 32
+  pub short : length s.octets < 2 ^ 16
+  pub released : v.released ≡ true
+  pub closed : is_write_closed v.state ≡ true
+  pub kept : is_lost v s ≡ false
+
+readable_by_acceptable : (v : View) (s : Segment) → IsKept v s → (is_read_on v s.acknowledgement ≡ true → is_read v s ≡ true) → (after_acceptable v s).receiving.readable ≡ v.receiving.readable
+readable_by_acceptable v s k read =
+    let told = after_window (after_ack v s.acknowledgement) s in
+    let same : told.receiving ≡ v.receiving = unheard v s.acknowledgement in
+    either View (λ w. w.receiving.readable ≡ v.receiving.readable) (is_read_on v s.acknowledgement) _ (after_ack v s.acknowledgement)
+    (λ on. readable_by_fin (after_text told s) s
+    ∙ either View (λ w. w.receiving.readable ≡ v.receiving.readable) ((length s.octets == 0) || not (is_receiving told.state)) told _
+    (λ none. ap (λ (r : Receiving). r.readable) same)
+    (λ some.
+    let tests = or_false (length s.octets == 0) (is_receiving told.state) some in
+    let ends = all_known v s k.released (receiving_before v s.acknowledgement k.closed tests.1) (read on) k.kept tests.0 in
+    ap (λ (r : Receiving). (after_octets r s.number s.octets).readable) same
+    ∙ (ap (λ l. v.receiving.readable ++ l) (none_gained v.receiving s.number s.octets k.small k.fits k.short ends) ∙ append-nil v.receiving.readable)))
+    (λ off. ap (λ (r : Receiving). r.readable) same)
+
+readable_by_segment : (v : View) (s : Segment) → IsKept v s → (after_segment v s).receiving.readable ≡ v.receiving.readable
+readable_by_segment v s k =
+    let P : View → Type 0 = λ w. w.receiving.readable ≡ v.receiving.readable in
+    let confirms = s.flags.ack && is_new_ack v.sending s.acknowledgement in
+    either View P (is_closed v.state) v _
+    (λ closed. refl)
+    (λ lives. either View P s.flags.rst _ _
+    (λ rst. either View P (is_syn_sent v.state) (after_refusal v s) (after_rst v s)
+    (λ waits. either View P confirms (after_reset v (reset_error v.state)) v (λ acts. refl) (λ dropped. refl))
+    (λ past_opening. either View P (is_acting_reset v s) _ _
+    (λ acts. either View P (ends_by_reset v s) v (after_reset v (reset_error v.state)) (λ removed. refl) (λ reset. refl))
+    (λ elsewhere. either View P (is_accepted v s) (owing_ack v) v (λ drawn. refl) (λ dropped. refl))))
+    (λ no_rst. either View P (is_syn_sent v.state) (after_syn_ack v s) _
+    (λ waits. either View P (is_right_syn_ack v s) _ v (λ right. refl) (λ wrong. refl))
+    (λ past_opening. either View P (is_accepted v s) (after_accepted v s) (owing_ack v)
+    (λ accepted. either View P s.flags.syn _ _
+    (λ syn. either View P (ends_by_syn v s) v (owing_ack v) (λ removed. refl) (λ drawn. refl))
+    (λ no_syn. either View P s.flags.ack (after_acceptable v s) v
+    (λ ack. readable_by_acceptable v s k (λ on. both (not s.flags.rst && is_accepted v s && not s.flags.syn && s.flags.ack) _
+    (both (not s.flags.rst && is_accepted v s && not s.flags.syn) s.flags.ack
+    (both (not s.flags.rst && is_accepted v s) (not s.flags.syn) (both (not s.flags.rst) (is_accepted v s) (of_false s.flags.rst no_rst) accepted) (of_false s.flags.syn no_syn)) ack) on))
+    (λ no_ack. refl)))
+    (λ refused. refl))))
+
+closed_where_released : (released closed : Bool) → (released && not closed) ≡ false → released ≡ true → closed ≡ true
+closed_where_released true true e f = refl
+closed_where_released true false e f = cc
+closed_where_released false closed e f = cc
+
+pub released_takes_none : (v : View) (s : Segment) (now : Moment) → IsSound v → v.released ≡ true → s.number < 2 ^ 32 → length s.octets < 2 ^ 16
+    → (after_segment_at v s now).receiving.readable ≡ v.receiving.readable
+released_takes_none v s now sound released fits short =
+    either View (λ w. w.receiving.readable ≡ v.receiving.readable) (is_lost v s) (after_lost v s) (after_segment v s)
+    (λ lost. ap (λ (r : Receiving). r.readable) (unheard v s.acknowledgement))
+    (λ kept. readable_by_segment v s (record {
+      small = sound.rnext;
+      fits = fits;
+      short = short;
+      released = released;
+      closed = closed_where_released v.released (is_write_closed v.state) sound.release released;
+      kept = kept;
+    }))

@@ -1,0 +1,149 @@
+-- Which states one event of a connection may join, what ends a connection, and what tells an error (RFC 9293 sections 3.3.2 and 3.10).
+use Rattle.std.specs.Prelude.{◌≡◌, ℕ, ◌&&◌, ◌||◌, not, Bool, true, false, if◌then◌else◌, ◌⊎◌, List, Option, Some, None, is_some}
+use Rattle.tcp_segment.specs.Segment.{Segment}
+use Rattle.tcp_state.specs.declared.moment.Moment.{Moment}
+use Rattle.tcp_state.specs.declared.emission.Due.{Due}
+use Rattle.tcp_state.specs.declared.connection.Fate.{Fate}
+use Rattle.tcp_state.specs.declared.connection.Fate.TheVariants.{Stays, Removed, Refused}
+use Rattle.tcp_state.specs.declared.state.State.{State}
+use Rattle.tcp_state.specs.declared.state.State.TheVariants.{Closed, Listen, SynSent, SynReceived, Established, FinWait1, FinWait2, CloseWait, Closing, LastAck, TimeWait}
+use Rattle.tcp_state.specs.declared.calls.Refusal.{Refusal}
+use Rattle.tcp_state.specs.declared.calls.Refusal.TheVariants.{ECONNREFUSED, ECONNRESET}
+use Rattle.tcp_state.specs.Stream.{is_new_ack}
+use Rattle.tcp_state.specs.View.{View, is_syn_sent, is_syn_received, is_closed, is_at_end, is_over, after_tick, tick_fate}
+use Rattle.tcp_state.specs.Calls.{after_send, after_recv, shutdown_refusal, after_shutdown, after_abort, abort_fate, after_close, close_fate}
+use Rattle.tcp_state.specs.Arrival.{is_acting_reset, ends_by_syn, is_fin_next, is_lost, is_read, after_segment_at, fate}
+use Rattle.tcp_state.specs.Due.{first_due, after_emitted}
+
+-- the edges of the diagram of states (figure 5), with those of a reset and an abort, and those that one segment takes at once
+abbrev pub may_join : State → State → Bool
+may_join Closed Listen = true
+may_join Closed SynSent = true
+may_join Listen SynReceived = true
+may_join Listen Closed = true
+may_join SynSent SynReceived = true
+may_join SynSent Established = true
+may_join SynSent Closed = true
+may_join SynReceived Established = true
+may_join SynReceived CloseWait = true
+may_join SynReceived Listen = true
+may_join SynReceived Closed = true
+may_join Established FinWait1 = true
+may_join Established CloseWait = true
+may_join Established Closed = true
+may_join FinWait1 FinWait2 = true
+may_join FinWait1 Closing = true
+may_join FinWait1 TimeWait = true
+may_join FinWait1 Closed = true
+may_join FinWait2 TimeWait = true
+may_join FinWait2 Closed = true
+may_join CloseWait LastAck = true
+may_join CloseWait Closed = true
+may_join Closing TimeWait = true
+may_join Closing Closed = true
+may_join LastAck Closed = true
+may_join TimeWait Closed = true
+may_join _ _ = false
+
+abbrev pub IsEdge : State → State → Type 0
+IsEdge before after = (before ≡ after) ⊎ (may_join before after ≡ true)
+
+-- what may happen to a connection: a segment comes, the clock moves, what is due first goes out, or its caller calls
+pub data Event : Type 0 where
+  Hears : Segment → Moment → Event
+  Ticks : Moment → Event
+  Emits : Moment → Event
+  Sends : List ℕ → Event
+  Receives : ℕ → Event
+  Shuts : Event
+  Closes : Moment → Event
+  Aborts : Event
+
+-- what is due goes out, if anything is
+abbrev pub after_first : View → Option Due → Moment → View
+after_first v None now = v
+after_first v (Some due) now = after_emitted v due now
+
+-- the connection after an event
+abbrev pub after_event : View → Event → View
+after_event v (Hears s now) = after_segment_at v s now
+after_event v (Ticks now) = after_tick v now
+after_event v (Emits now) = after_first v (first_due v) now
+after_event v (Sends octets) = after_send v octets
+after_event v (Receives len) = after_recv v len
+after_event v Shuts = if is_some (shutdown_refusal v) then v else after_shutdown v
+after_event v (Closes now) = after_close v now
+after_event v Aborts = after_abort v
+
+-- what becomes of its place; it is taken out after an emission where it is over
+abbrev pub fate_by : View → Event → Fate
+fate_by v (Hears s now) = fate v s
+fate_by v (Ticks now) = tick_fate v now
+fate_by v (Emits now) = if is_over (after_first v (first_due v) now) then Removed else Stays
+fate_by v (Sends octets) = Stays
+fate_by v (Receives len) = Stays
+fate_by v Shuts = Stays
+fate_by v (Closes now) = close_fate v
+fate_by v Aborts = abort_fate v
+
+abbrev pub is_removed : Fate → Bool
+is_removed Removed = true
+is_removed Stays = false
+is_removed Refused = false
+
+-- what is taken out is CLOSED, or back in LISTEN where its listener opened it and it was not established
+abbrev pub left_by : View → State
+left_by v = if v.passive && is_syn_received v.state then Listen else Closed
+
+-- the state that an event leads to
+abbrev pub state_after : View → Event → State
+state_after v e = if is_removed (fate_by v e) then left_by v else (after_event v e).state
+
+-- A reset acts: in SYN-SENT where it acknowledges our SYN, in any other state where it stands at RCV.NXT.
+abbrev pub is_reset_by : View → Segment → Bool
+is_reset_by v s = s.flags.rst && (if is_syn_sent v.state then s.flags.ack && is_new_ack v.sending s.acknowledgement else is_acting_reset v s)
+
+abbrev pub is_last_ack : State → Bool
+is_last_ack LastAck = true
+is_last_ack _ = false
+
+-- our FIN is acknowledged, in LAST-ACK
+abbrev pub ends_by_ack : View → Segment → Bool
+ends_by_ack v s = is_last_ack v.state && is_read v s && is_new_ack v.sending s.acknowledgement && is_fin_next v
+
+-- What ends a connection: a call of its caller; a reset that acts, a SYN before it is established, octets after its caller closed it, or
+-- the acknowledgement of our FIN in LAST-ACK; the clock at the end of its wait; and the going out of the reset of an abort.
+abbrev pub is_cause : View → Event → Bool
+is_cause v (Closes now) = true
+is_cause v Aborts = true
+is_cause v (Hears s now) = is_reset_by v s || ends_by_syn v s || is_lost v s || ends_by_ack v s
+is_cause v (Ticks now) = is_at_end v now
+is_cause v (Emits now) = v.owes_reset
+is_cause v (Sends octets) = false
+is_cause v (Receives len) = false
+is_cause v Shuts = false
+
+-- it is taken out, or becomes CLOSED
+abbrev pub ends_by : View → Event → Bool
+ends_by v e = is_removed (fate_by v e) || (not (is_closed v.state) && is_closed (after_event v e).state)
+
+-- the error that a reset tells in a state
+abbrev pub is_error_of : State → Refusal → Bool
+is_error_of SynSent ECONNREFUSED = true
+is_error_of SynReceived ECONNREFUSED = true
+is_error_of Established ECONNRESET = true
+is_error_of FinWait1 ECONNRESET = true
+is_error_of FinWait2 ECONNRESET = true
+is_error_of CloseWait ECONNRESET = true
+is_error_of _ _ = false
+
+-- an event tells this error: a reset that acts, in a state that has it
+abbrev pub may_tell : View → Event → Refusal → Bool
+may_tell v (Hears s now) error = is_reset_by v s && is_error_of v.state error
+may_tell v (Ticks now) error = false
+may_tell v (Emits now) error = false
+may_tell v (Sends octets) error = false
+may_tell v (Receives len) error = false
+may_tell v Shuts error = false
+may_tell v (Closes now) error = false
+may_tell v Aborts error = false
