@@ -3,9 +3,14 @@
 mod closing;
 mod command_line;
 mod devices;
+mod drops;
+mod examples;
 mod lines;
 mod losses;
+mod refusals;
+mod resets;
 mod scripts;
+mod windows;
 
 use crate::fault::TextFault;
 use crate::sim::sim;

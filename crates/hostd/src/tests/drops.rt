@@ -1,0 +1,206 @@
+//! Frames that find no room, and frames that the world refuses.
+
+use super::{ACCEPTED, OPENING, plays};
+use std::alloc::Global;
+use std::test::Fail;
+
+// A backlog of one holds one connection until that is accepted.
+const BACKLOG: &str = "b socket tcp -> id 1
+b bind 1 80 -> ok
+b listen 1 1 -> ok
+a socket tcp -> id 1
+a socket tcp -> id 2
+a connect 1 80 5 -> started
+a connect 2 80 9 -> started
+a emit -> frame 0 24
+a emit -> frame 1 24
+b deliver 0 7 -> taken
+b deliver 1 7 -> drop F9
+b emit -> frame 2 24
+b emit -> none
+a deliver 2 0 -> taken
+a emit -> frame 3 20
+b deliver 3 0 -> taken
+b deliver 1 7 -> drop F9
+b emit -> none
+b accept 1 -> id 2 10.0.0.1 49152
+b deliver 1 7 -> taken
+b emit -> frame 4 24
+a deliver 4 0 -> taken
+a emit -> frame 5 20
+b deliver 5 0 -> taken
+b accept 1 -> id 3 10.0.0.1 49153
+";
+
+// The table of b is full. What is dropped draws no id.
+const TABLE: &str = "b socket tcp -> id 1
+b bind 1 80 -> ok
+b listen 1 1 -> ok
+b socket tcp -> id 2
+b socket tcp -> id 3
+b socket tcp -> id 4
+b socket tcp -> id 5
+b socket tcp -> id 6
+b socket tcp -> id 7
+b socket tcp -> id 8
+a socket tcp -> id 1
+a connect 1 80 5 -> started
+a emit -> frame 0 24
+b deliver 0 7 -> drop F9
+b emit -> none
+b close 8 -> ok
+b deliver 0 7 -> taken
+b emit -> frame 1 24
+a deliver 1 0 -> taken
+a emit -> frame 2 20
+b deliver 2 0 -> taken
+b accept 1 -> id 9 10.0.0.1 49152
+";
+
+// At most 16 resets wait to answer segments for no connection.
+const REPLIES: usize = 16;
+
+// Nobody listens at port 81.
+const NOBODY: &str = "a socket tcp -> id 1
+a connect 1 81 5 -> started
+a emit -> frame 0 24
+";
+
+const ONE_REPLY_GOES: &str = "b deliver 0 0 -> drop F9
+b emit -> frame 1 20
+b deliver 0 0 -> taken
+b deliver 0 0 -> drop F9
+a deliver 1 0 -> taken
+a state 1 -> CLOSED
+a recv 1 1 -> E9 ECONNREFUSED
+";
+
+// On a connection of its own, a asks for another one at port 81 of b.
+const ANOTHER: &str = "a socket tcp -> id 2
+a connect 2 81 5 -> started
+a emit -> frame 3 24
+";
+
+// Where no reply has room, what needs none is taken: octets and a reset.
+const NEEDS_NO_REPLY: &str = "b deliver 3 0 -> drop F9
+a send 1 hello -> sent 5
+a emit -> frame 4 25
+b deliver 4 0 -> taken
+b recv 2 100 -> octets hello
+b send 2 world -> sent 5
+b emit -> frame 5 20
+b deliver 3 0 -> taken
+b deliver 3 0 -> drop F9
+";
+
+// The replies go out before all else.
+const WORLD_LAST: &str = "b emit -> frame 22 25
+b emit -> none
+a deliver 22 0 -> taken
+a close 1 -> ok
+a emit -> frame 23 20
+";
+
+const RESET_TAKEN: &str = "b deliver 3 0 -> drop F9
+b deliver 23 0 -> taken
+b state 2 -> CLOSED
+b recv 2 1 -> E10 ECONNRESET
+b deliver 23 0 -> taken
+b deliver 4 0 -> drop F9
+b deliver 3 0 -> drop F9
+";
+
+// No host opens a pair a second time while the other one holds it: not by a frame, and not by a connect.
+const SECOND_OPENING: &str = "b socket tcp -> id 1
+b bind 1 80 -> ok
+b listen 1 1 -> ok
+a socket tcp -> id 1
+a connect 1 80 5 -> started
+a emit -> frame 0 24
+b deliver 0 7 -> taken
+b emit -> frame 1 24
+a close 1 -> ok
+a socket tcp -> id 2
+a bind 2 49152 -> ok
+a connect 2 80 9 -> U4 SecondOpening
+a state 2 -> CLOSED
+a deliver 1 0 -> taken
+a emit -> frame 2 20
+b deliver 2 0 -> taken
+b deliver 0 7 -> U4 SecondOpening
+a connect 2 80 9 -> started
+a state 2 -> SYN-SENT
+b deliver 0 7 -> U3 OtherEpoch
+a deliver 1 0 -> U3 OtherEpoch
+pass 7 -> a 1 b 1
+pass 7 -> a 1 b 0
+b accept 1 -> id 3 10.0.0.1 49152
+";
+
+// A frame is none of the bag, was emitted by this side, or is too old by what either side's caller gave since.
+const UNFAIR: &str = "a send 1 hello -> sent 5
+a emit -> frame 3 25
+b deliver 4 0 -> U1 NoSuchFrame
+b deliver 18446744073709551615 0 -> U1 NoSuchFrame
+a deliver 3 0 -> U1 NoSuchFrame
+b fill 2 9 -> sent 9
+b deliver 3 0 -> taken
+b fill 2 0 -> sent 0
+b deliver 3 0 -> taken
+b fill 2 1 -> sent 1
+b deliver 3 0 -> U2 Stale
+a deliver 3 0 -> U1 NoSuchFrame
+b recv 2 100 -> octets hello
+";
+
+// So often says a script its line.
+fn repeated(alloc: Global, line: &str, times: usize) -> Result<String, Fail> {
+    let mut lines = String::new(alloc);
+    for _ in 0..times {
+        lines.push_str(line)?;
+    }
+    Ok(lines)
+}
+
+#[test]
+fn connections_find_no_room(rt: HostRuntime) -> Result<(), Fail> {
+    plays(&rt, rt.alloc(), &[BACKLOG])?;
+    plays(&rt, rt.alloc(), &[TABLE])
+}
+
+#[test]
+fn a_seventeenth_reply_finds_no_room(rt: HostRuntime) -> Result<(), Fail> {
+    let alloc = rt.alloc();
+    let sixteen = repeated(alloc, "b deliver 0 0 -> taken\n", REPLIES)?;
+    plays(&rt, alloc, &[NOBODY, sixteen.as_str(), ONE_REPLY_GOES])?;
+    let sixteen = repeated(alloc, "b deliver 3 0 -> taken\n", REPLIES)?;
+    let mut going = String::new(alloc);
+    for index in 6..22 {
+        write!(going, "b emit -> frame {index} 20\n")?;
+    }
+    plays(
+        &rt,
+        alloc,
+        &[
+            OPENING,
+            ACCEPTED,
+            ANOTHER,
+            sixteen.as_str(),
+            NEEDS_NO_REPLY,
+            going.as_str(),
+            WORLD_LAST,
+            sixteen.as_str(),
+            RESET_TAKEN,
+        ],
+    )
+}
+
+#[test]
+fn the_world_refuses_events(rt: HostRuntime) -> Result<(), Fail> {
+    plays(&rt, rt.alloc(), &[SECOND_OPENING])?;
+    plays(
+        &rt,
+        rt.alloc(),
+        &["limit 10 -> ok\n", OPENING, ACCEPTED, UNFAIR],
+    )
+}
