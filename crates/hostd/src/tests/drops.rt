@@ -32,7 +32,7 @@ b deliver 5 0 -> taken
 b accept 1 -> id 3 10.0.0.1 49153
 ";
 
-// The table of b is full. What is dropped draws no id.
+// The table of b is full. What is dropped draws no id, and a SYN that comes again later finds a place.
 const TABLE: &str = "b socket tcp -> id 1
 b bind 1 80 -> ok
 b listen 1 1 -> ok
@@ -48,12 +48,14 @@ a connect 1 80 5 -> started
 a emit -> frame 0 24
 b deliver 0 7 -> drop F9
 b emit -> none
+a tick 1000 -> ok
+pass 7 -> a 1 b 0
 b close 8 -> ok
 b deliver 0 7 -> taken
-b emit -> frame 1 24
-a deliver 1 0 -> taken
-a emit -> frame 2 20
-b deliver 2 0 -> taken
+b emit -> frame 2 24
+a deliver 2 0 -> taken
+a emit -> frame 3 20
+b deliver 3 0 -> taken
 b accept 1 -> id 9 10.0.0.1 49152
 ";
 
@@ -153,7 +155,27 @@ a deliver 3 0 -> U1 NoSuchFrame
 b recv 2 100 -> octets hello
 ";
 
-// So often says a script its line.
+// Where an event breaks several rules, the first of them is told: a stale frame that would open a pair a second time, and one
+// of an earlier epoch that is stale too.
+const FIRST_RULE: &str = "a send 1 x -> sent 1
+b deliver 0 9 -> U2 Stale
+a close 1 -> ok
+pass 0 -> a 1 b 1
+b recv 2 9 -> octets x
+pass 0 -> a 1 b 1
+b close 2 -> ok
+pass 0 -> a 0 b 1
+pass 0 -> a 1 b 0
+b deliver 0 9 -> U2 Stale
+a tick 240000 -> ok
+a socket tcp -> id 2
+a bind 2 49152 -> ok
+a connect 2 80 5 -> started
+b deliver 0 9 -> U3 OtherEpoch
+a deliver 0 9 -> U1 NoSuchFrame
+";
+
+// A script's line, so many times.
 fn repeated(alloc: Global, line: &str, times: usize) -> Result<String, Fail> {
     let mut lines = String::new(alloc);
     for _ in 0..times {
@@ -202,5 +224,10 @@ fn the_world_refuses_events(rt: HostRuntime) -> Result<(), Fail> {
         &rt,
         rt.alloc(),
         &["limit 10 -> ok\n", OPENING, ACCEPTED, UNFAIR],
+    )?;
+    plays(
+        &rt,
+        rt.alloc(),
+        &["limit 1 -> ok\n", OPENING, ACCEPTED, FIRST_RULE],
     )
 }

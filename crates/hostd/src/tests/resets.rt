@@ -88,6 +88,30 @@ b emit -> frame 3 20
 a deliver 3 0 -> taken
 ";
 
+// A port takes no connection while its socket is only bound, nor once that was given back.
+const NOBODY_LISTENS: &str = "b socket tcp -> id 1
+b bind 1 80 -> ok
+a socket tcp -> id 1
+a connect 1 80 5 -> started
+pass 0 -> a 1 b 1
+a recv 1 1 -> E9 ECONNREFUSED
+b state 1 -> CLOSED
+b listen 1 1 -> ok
+b close 1 -> ok
+a socket tcp -> id 2
+a connect 2 80 5 -> started
+pass 0 -> a 1 b 1
+a recv 2 1 -> E9 ECONNREFUSED
+b socket tcp -> id 2
+b bind 2 80 -> ok
+b listen 2 1 -> ok
+a socket tcp -> id 3
+a connect 3 80 5 -> started
+pass 7 -> a 1 b 1
+pass 7 -> a 1 b 0
+b accept 2 -> id 3 10.0.0.1 49154
+";
+
 // a's caller gives up, so that b's SYN is answered by a reset. It removes b's connection, and the backlog has room again.
 const SYN_RECEIVED: &str = "b socket tcp -> id 1
 b bind 1 80 -> ok
@@ -278,6 +302,7 @@ fn plays_on(rt: &impl Abort, alloc: Global, parts: &[&str], answers: &str) -> Re
 #[test]
 fn resets_while_opening(rt: HostRuntime) -> Result<(), Fail> {
     plays(&rt, rt.alloc(), &[SYN_SENT, TOLD_REFUSED])?;
+    plays(&rt, rt.alloc(), &[NOBODY_LISTENS])?;
     plays(&rt, rt.alloc(), &[SYN_RECEIVED])?;
     plays(&rt, rt.alloc(), &[OPENING, NOT_ACCEPTED])
 }
