@@ -1,7 +1,7 @@
 //! The Internet checksum: the one's complement sum of 16-bit words (RFC 791 section 3.1, RFC 1071).
 #![tactic(auto)]
 
-ghost use Rattle.std.specs.Prelude.{◌≡◌, ◌+◌, ◌-◌, ◌++◌};
+ghost use Rattle.std.specs.Prelude.{◌≡◌, ◌≤◌, ◌+◌, ◌*◌, ◌++◌, length};
 ghost use Rattle.inet_sum.specs.Sum.{word_sum, ones_complement, sum_of, checksum_of, pseudo_octets};
 
 use byteorder::{BigEndian, ByteOrder};
@@ -19,11 +19,14 @@ pub struct Pseudo {
     pub length: u16,
 }
 
+// The most octets whose words are added with no look at the total: 65,536 words of 16 bits sum to less than 2^32.
+const PART: usize = 1 << 17;
+
 /// The one's complement sum of `octets`, an odd last one padded with zero.
 pub fn sum(octets: &[u8]) -> u16
     ensures { result ≡ sum_of octets.now }
 {
-    folded(add_words(0, octets))
+    sum_after(0, octets)
 }
 
 /// The checksum of `octets`: the complement of their sum.
@@ -38,34 +41,43 @@ impl Pseudo {
     pub fn sum_with(&self, octets: &[u8]) -> u16
         ensures { result ≡ sum_of (pseudo_octets self.now ++ octets.now) }
     {
-        let addresses = add_words(add_words(0, &self.src), &self.dst);
-        let pseudo = add_word(add_word(addresses, u16::from(self.protocol)), self.length);
-        folded(add_words(pseudo, octets))
+        let addresses = words_of(&self.src) + words_of(&self.dst);
+        sum_after(
+            addresses + u32::from(self.protocol) + u32::from(self.length),
+            octets,
+        )
     }
 }
 
-/// Adds the words of `octets` to `total`, which stays the same number in one's complement.
-fn add_words(mut total: u64, octets: &[u8]) -> u64
-    ensures { ones_complement result ≡ ones_complement (total + word_sum octets.now) }
+/// The one's complement sum of what sums to `first` and of `octets` after it.
+fn sum_after(first: u32, octets: &[u8]) -> u16
+    ensures { result ≡ ones_complement (first + word_sum octets.now) }
 {
+    let mut total = u64::from(first);
     let mut rest = octets;
+    while rest.len() > PART {
+        let (part, tail) = rest.split_at(PART);
+        total = u64::from(folded(total + u64::from(words_of(part))));
+        rest = tail;
+    }
+    folded(total + u64::from(words_of(rest)))
+}
+
+/// The whole-number sum of the words of one part.
+fn words_of(part: &[u8]) -> u32
+    requires { length part.now ≤ PART }
+    ensures sum { result ≡ word_sum part.now }
+    ensures bound { result ≤ 65535 * length part.now }
+{
+    let mut total = 0;
+    let mut rest = part;
     while let [high, low, tail @ ..] = rest {
-        total = add_word(total, BigEndian::read_u16(&[*high, *low]));
+        total += u32::from(BigEndian::read_u16(&[*high, *low]));
         rest = tail;
     }
     match rest {
-        [last, ..] => add_word(total, BigEndian::read_u16(&[*last, 0])),
+        [last, ..] => total + u32::from(BigEndian::read_u16(&[*last, 0])),
         [] => total,
-    }
-}
-
-/// Adds one word. The total is folded only where it would pass 64 bits.
-fn add_word(total: u64, word: u16) -> u64
-    ensures { ones_complement result ≡ ones_complement (total + word) }
-{
-    match total.checked_add(u64::from(word)) {
-        Some(sum) => sum,
-        None => u64::from(folded(total)) + u64::from(word),
     }
 }
 
