@@ -5,8 +5,8 @@ use Rattle.tcp_state.specs.declared.state.State.{State}
 use Rattle.tcp_state.specs.declared.moment.Moment.{Moment}
 use Rattle.tcp_state.specs.declared.state.State.TheVariants.{Closed, Listen, FinWait2, Closing, LastAck, TimeWait}
 use Rattle.tcp_state.specs.View.{View, is_syn_sent, is_closed, is_listening, is_write_closed, is_end_seen, end_of_wait, is_reached, is_at_end, stopped}
-use Rattle.tcp_state.specs.Stream.{is_new_ack}
-use Rattle.tcp_state.specs.Arrival.{after_segment, after_refusal, after_rst, after_reset, reset_error, owing_ack, fate, is_accepted, is_acting_reset, ends_by_reset}
+use Rattle.tcp_state.specs.Stream.{is_new_ack, is_in_window}
+use Rattle.tcp_state.specs.Arrival.{after_segment, after_refusal, after_rst, after_reset, reset_error, owing_ack, fate, is_acting_reset, ends_by_reset}
 use Rattle.stream_law.specs.Channel.{Channel, Open}
 use Rattle.stream_law.specs.ChannelSteps.{closes}
 use Rattle.stream_law.specs.ChannelViews.{Leads, stays, goes, sender_of, receiving_of, is_telling, SameStream, Stops}
@@ -114,7 +114,7 @@ reset-fits v s into from rst k =
     (λ waiting. either P (s.flags.ack && is_new_ack v.sending s.acknowledgement) (after_reset v (reset_error v.state)) v (λ acts. reset) (λ dropped. k))
     (λ past_syn. either P (is_acting_reset v s) _ _
     (λ acts. either P (ends_by_reset v s) v (after_reset v (reset_error v.state)) (λ leaves. k) (λ closes. reset))
-    (λ other. either P (is_accepted v s) (owing_ack v) v (λ within. rests-fits v (owing_ack v) into from (same-owing v) k) (λ outside. k))))
+    (λ other. either P (is_in_window v.receiving s.number) (owing_ack v) v (λ within. rests-fits v (owing_ack v) into from (same-owing v) k) (λ outside. k))))
     (λ none. absurd_closed s.flags.rst rst none))
 
 -- the connection changes, and neither channel

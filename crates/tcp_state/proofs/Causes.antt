@@ -8,9 +8,9 @@ use Rattle.tcp_state.specs.declared.emission.Due.TheVariants.{Rst, Syn, Text, Fi
 use Rattle.tcp_state.specs.declared.state.State.{State}
 use Rattle.tcp_state.specs.declared.state.State.TheVariants.{Closed, Established, FinWait1, FinWait2, Closing, LastAck}
 use Rattle.tcp_state.specs.Numbers.{is_before}
-use Rattle.tcp_state.specs.Stream.{is_new_ack}
+use Rattle.tcp_state.specs.Stream.{is_new_ack, is_in_window}
 use Rattle.tcp_state.specs.View.{View, is_opening, is_syn_sent, is_syn_received, is_closed, is_over, awaits_fin_ack, is_write_closed, is_at_end, stopped, after_resend}
-use Rattle.tcp_state.specs.Calls.{after_send, after_recv, shut, shutdown_refusal, after_shutdown}
+use Rattle.tcp_state.specs.Calls.{after_send, after_recv, shut, shutdown_refusal, after_shutdown, aborted, after_release, is_removed_by_close, is_aborted_by_close}
 use Rattle.tcp_state.specs.Arrival.{owing_ack, established, is_receiving, beyond_fin, beyond_end, is_fin_next, fin_acknowledged, after_new_ack, after_ack, is_read_on, is_read, after_window, after_text, counts_fin, after_fin, after_acceptable, after_accepted, ends_by_syn, ends_by_reset, ends_opening, is_acting_reset, is_accepted, after_reset, reset_error, after_refusal, after_rst, is_right_syn_ack, after_syn_ack, after_segment, is_lost, after_lost, after_heard, is_refused}
 use Rattle.tcp_state.specs.Due.{first_due, after_ack_paid, after_numbers}
 use Rattle.tcp_state.specs.Edges.{Event, Hears, Ticks, Emits, Sends, Receives, Shuts, Closes, Aborts, after_first, fate_by, is_removed, is_reset_by, is_last_ack, ends_by_ack, is_cause, ends_by}
@@ -85,7 +85,7 @@ read_by_new true new behind e = e
 read_by_new false true behind e = refl
 read_by_new false false behind e = cc
 
-closed_by_acceptable : (v : View) (s : Segment) → is_closed v.state ≡ false → is_closed (after_acceptable v s).state ≡ true
+pub closed_by_acceptable : (v : View) (s : Segment) → is_closed v.state ≡ false → is_closed (after_acceptable v s).state ≡ true
     → (is_last_ack v.state && is_new_ack v.sending s.acknowledgement && is_fin_next v) ≡ true
 closed_by_acceptable v s lives =
     let told = after_window (after_ack v s.acknowledgement) s in
@@ -118,7 +118,7 @@ closed_by_segment v s lives =
     (λ past. either View P (is_acting_reset v s) _ _
     (λ acts. let caused : is_reset_by v s ≡ true = both s.flags.rst _ rst (else_chosen (is_syn_sent v.state) confirms (is_acting_reset v s) past acts) in
     either View P (ends_by_reset v s) v (after_reset v (reset_error v.state)) (λ removed. none) (λ reset closed. inl caused))
-    (λ elsewhere. either View P (is_accepted v s) (owing_ack v) v (λ drawn. none) (λ dropped. none))))
+    (λ elsewhere. either View P (is_in_window v.receiving s.number) (owing_ack v) v (λ drawn. none) (λ dropped. none))))
     (λ no_rst. either View P (is_syn_sent v.state) (after_syn_ack v s) _
     (λ waits. either View P (is_right_syn_ack v s) _ v (λ right closed. cc) (λ wrong. none))
     (λ past. either View P (is_accepted v s) (after_accepted v s) (owing_ack v)
@@ -159,15 +159,15 @@ by C true if_true if_false = if_true refl
 by C false if_true if_false = if_false refl
 
 -- the four causes that a segment can be
-caused_by : (v : View) (s : Segment) → (is_reset_by v s ≡ true) ⊎ (ends_by_ack v s ≡ true) → (is_reset_by v s || ends_by_syn v s || is_lost v s || ends_by_ack v s) ≡ true
-caused_by v s (inl reset) = or_left (is_reset_by v s || ends_by_syn v s || is_lost v s) _ (or_left (is_reset_by v s || ends_by_syn v s) _ (or_left (is_reset_by v s) _ reset))
-caused_by v s (inr ack) = or_right (is_reset_by v s || ends_by_syn v s || is_lost v s) (ends_by_ack v s) ack
+caused_by : (v : View) (s : Segment) → (is_reset_by v s ≡ true) ⊎ (ends_by_ack v s ≡ true) → (is_reset_by v s || (not s.flags.rst && ends_by_syn v s) || is_lost v s || ends_by_ack v s) ≡ true
+caused_by v s (inl reset) = or_left (is_reset_by v s || (not s.flags.rst && ends_by_syn v s) || is_lost v s) _ (or_left (is_reset_by v s || (not s.flags.rst && ends_by_syn v s)) _ (or_left (is_reset_by v s) _ reset))
+caused_by v s (inr ack) = or_right (is_reset_by v s || (not s.flags.rst && ends_by_syn v s) || is_lost v s) (ends_by_ack v s) ack
 
-caused_by_opening : (v : View) (s : Segment) → ends_opening v s ≡ true → (is_reset_by v s || ends_by_syn v s || is_lost v s || ends_by_ack v s) ≡ true
+caused_by_opening : (v : View) (s : Segment) → ends_opening v s ≡ true → (is_reset_by v s || (not s.flags.rst && ends_by_syn v s) || is_lost v s || ends_by_ack v s) ≡ true
 caused_by_opening v s e =
     let past = not_true (is_syn_sent v.state) (and_left (not (is_syn_sent v.state)) _ e) in
     let chosen : (if s.flags.rst then ends_by_reset v s else ends_by_syn v s) ≡ true = and_right (not (is_syn_sent v.state)) _ e in
-    let C : Type 0 = (is_reset_by v s || ends_by_syn v s || is_lost v s || ends_by_ack v s) ≡ true in
+    let C : Type 0 = (is_reset_by v s || (not s.flags.rst && ends_by_syn v s) || is_lost v s || ends_by_ack v s) ≡ true in
     by C s.flags.rst
     (λ rst.
     let ends : ends_by_reset v s ≡ true = sym (ap (λ b. if b then ends_by_reset v s else ends_by_syn v s) rst) ∙ chosen in
@@ -175,13 +175,13 @@ caused_by_opening v s e =
     caused_by v s (inl (both s.flags.rst _ rst (else_chosen (is_syn_sent v.state) (s.flags.ack && is_new_ack v.sending s.acknowledgement) (is_acting_reset v s) past acts))))
     (λ no_rst.
     let ends : ends_by_syn v s ≡ true = sym (ap (λ b. if b then ends_by_reset v s else ends_by_syn v s) no_rst) ∙ chosen in
-    or_left (is_reset_by v s || ends_by_syn v s || is_lost v s) (ends_by_ack v s) (or_left (is_reset_by v s || ends_by_syn v s) (is_lost v s) (or_right (is_reset_by v s) (ends_by_syn v s) ends)))
+    or_left (is_reset_by v s || (not s.flags.rst && ends_by_syn v s) || is_lost v s) (ends_by_ack v s) (or_left (is_reset_by v s || (not s.flags.rst && ends_by_syn v s)) (is_lost v s) (or_right (is_reset_by v s) (not s.flags.rst && ends_by_syn v s) (both (not s.flags.rst) (ends_by_syn v s) (of_false s.flags.rst no_rst) ends))))
 
 segment-cause : (v : View) (s : Segment) (now : Moment) → ends_by v (Hears s now) ≡ true → is_cause v (Hears s now) ≡ true
 segment-cause v s now e =
-    let C : Type 0 = (is_reset_by v s || ends_by_syn v s || is_lost v s || ends_by_ack v s) ≡ true in
+    let C : Type 0 = (is_reset_by v s || (not s.flags.rst && ends_by_syn v s) || is_lost v s || ends_by_ack v s) ≡ true in
     by C (is_lost v s)
-    (λ lost. or_left (is_reset_by v s || ends_by_syn v s || is_lost v s) (ends_by_ack v s) (or_right (is_reset_by v s || ends_by_syn v s) (is_lost v s) lost))
+    (λ lost. or_left (is_reset_by v s || (not s.flags.rst && ends_by_syn v s) || is_lost v s) (ends_by_ack v s) (or_right (is_reset_by v s || (not s.flags.rst && ends_by_syn v s)) (is_lost v s) lost))
     (λ kept. elim (or_else (is_removed (fate_by v (Hears s now))) _ e) [
       | inl removed ↦
           let r = removes (is_closed v.state) (is_lost v s) (is_over (after_segment v s)) (is_refused v s) (ends_opening v s) removed in
@@ -260,5 +260,9 @@ ends_caused v (Receives len) lives e =
 ends_caused v Shuts lives e = absurd (
     either View (λ w. (not (is_closed v.state) && is_closed w.state) ≡ true → ⊥) (is_some (shutdown_refusal v)) v (after_shutdown v)
     (λ refused. unclosed v.state v.state refl) (λ closed. shut_closes_none v.state) e)
-ends_caused v (Closes now) lives e = refl
+ends_caused v (Closes now) lives e = by (is_cause v (Closes now) ≡ true) (is_removed_by_close v) (or_left (is_removed_by_close v) (is_aborted_by_close v))
+    (λ stays. by (is_cause v (Closes now) ≡ true) (is_aborted_by_close v) (or_right (is_removed_by_close v) (is_aborted_by_close v))
+    (λ released.
+    let tried : Bool → Bool → Bool = λ a b. is_removed (if a then Removed else Stays) || (not (is_closed v.state) && is_closed (if a then v else (if b then aborted v else after_release v now)).state) in
+    absurd (shut_closes_none v.state (sym (ap (λ a. tried a (is_aborted_by_close v)) stays ∙ ap (tried false) released) ∙ e))))
 ends_caused v Aborts lives e = refl

@@ -7,7 +7,7 @@ use Rattle.tcp_state.specs.declared.emission.Due.TheVariants.{Rst, Syn, Text, Fi
 use Rattle.tcp_state.specs.declared.state.State.{State}
 use Rattle.tcp_state.specs.declared.state.State.TheVariants.{Closed, Listen, SynSent, SynReceived, Established, FinWait1, FinWait2, CloseWait, Closing, LastAck}
 use Rattle.tcp_state.specs.Numbers.{is_before}
-use Rattle.tcp_state.specs.Stream.{is_new_ack}
+use Rattle.tcp_state.specs.Stream.{is_new_ack, is_in_window}
 use Rattle.tcp_state.specs.View.{View, is_opening, is_syn_sent, is_syn_received, is_closed, awaits_fin_ack, is_write_closed, is_at_end, stopped, after_resend}
 use Rattle.tcp_state.specs.Calls.{shut, shutdown_refusal, after_shutdown, aborted, after_release, is_removed_by_close, is_aborted_by_close}
 use Rattle.tcp_state.specs.Arrival.{owing_ack, established, is_receiving, beyond_fin, beyond_end, is_fin_next, fin_acknowledged, after_new_ack, after_ack, is_read_on, after_window, after_text, counts_fin, after_fin, after_acceptable, after_accepted, ends_by_syn, ends_by_reset, is_acting_reset, is_accepted, after_reset, reset_error, after_refusal, after_rst, is_right_syn_ack, after_syn_ack, after_segment, is_lost, after_lost, after_heard}
@@ -116,7 +116,7 @@ segment-edge v s =
     (λ waits. either View P (s.flags.ack && is_new_ack v.sending s.acknowledgement) (after_reset v (reset_error v.state)) v (λ acts. closes v.state) (λ dropped. inl refl))
     (λ past. either View P (is_acting_reset v s) _ _
     (λ acts. either View P (ends_by_reset v s) v (after_reset v (reset_error v.state)) (λ removed. inl refl) (λ reset. closes v.state))
-    (λ elsewhere. either View P (is_accepted v s) (owing_ack v) v (λ drawn. inl refl) (λ dropped. inl refl))))
+    (λ elsewhere. either View P (is_in_window v.receiving s.number) (owing_ack v) v (λ drawn. inl refl) (λ dropped. inl refl))))
     (λ no_rst. either View P (is_syn_sent v.state) (after_syn_ack v s) _
     (λ waits. either View P (is_right_syn_ack v s) _ v (λ right. opens v.state waits) (λ wrong. inl refl))
     (λ past. either View P (is_accepted v s) (after_accepted v s) (owing_ack v)

@@ -1,5 +1,5 @@
 -- Why an error is told only by a reset, and stays told.
-use Rattle.std.proofs.Common.{◌≡◌, ℕ, ◌==◌, ◌||◌, ◌&&◌, ◌⊎◌, not, Bool, true, false, List, length, Option, Some, None, inl, inr, refl, sym, ◌∙◌, is_some}
+use Rattle.std.proofs.Common.{◌≡◌, ℕ, ◌==◌, ◌||◌, ◌&&◌, ◌⊎◌, not, Bool, true, false, List, length, Option, Some, None, inl, inr, refl, sym, ◌∙◌, ap, is_some}
 use Rattle.tcp_segment.specs.Segment.{Segment}
 use Rattle.tcp_state.specs.declared.moment.Moment.{Moment}
 use Rattle.tcp_state.specs.declared.calls.Refusal.{Refusal}
@@ -9,14 +9,14 @@ use Rattle.tcp_state.specs.declared.emission.Due.TheVariants.{Rst, Syn, Text, Fi
 use Rattle.tcp_state.specs.declared.state.State.{State}
 use Rattle.tcp_state.specs.declared.state.State.TheVariants.{SynSent, SynReceived, Established, FinWait1, FinWait2, CloseWait}
 use Rattle.tcp_state.specs.Numbers.{is_before}
-use Rattle.tcp_state.specs.Stream.{is_new_ack}
+use Rattle.tcp_state.specs.Stream.{is_new_ack, is_in_window}
 use Rattle.tcp_state.specs.View.{View, IsSound, is_opening, is_syn_sent, is_syn_received, is_closed, is_write_closed, is_at_end, stopped, after_resend}
 use Rattle.tcp_state.specs.Calls.{shutdown_refusal, after_shutdown, aborted, after_release, is_removed_by_close, is_aborted_by_close}
 use Rattle.tcp_state.specs.Arrival.{owing_ack, established, is_receiving, is_fin_next, fin_acknowledged, after_new_ack, after_ack, is_read_on, after_window, after_text, counts_fin, after_fin, after_acceptable, after_accepted, ends_by_syn, ends_by_reset, is_acting_reset, is_accepted, after_reset, reset_error, after_refusal, after_rst, is_right_syn_ack, after_syn_ack, after_segment, is_lost, after_lost, after_heard}
 use Rattle.tcp_state.specs.Due.{first_due, after_ack_paid, after_numbers}
 use Rattle.tcp_state.specs.Edges.{Event, Hears, Ticks, Emits, Sends, Receives, Shuts, Closes, Aborts, after_first, after_event, is_reset_by, is_error_of, may_tell}
 use Rattle.tcp_state.proofs.Edges.{either}
-use Rattle.tcp_state.proofs.Causes.{both, then_chosen, else_chosen}
+use Rattle.tcp_state.proofs.Causes.{both, of_false, then_chosen, else_chosen}
 
 -- What is no reset tells nothing.
 
@@ -46,7 +46,20 @@ told_by_acceptable v s =
 record IsTold (v : View) (s : Segment) (told : Option Refusal) : Type 0 where
   pub lives : is_closed v.state ≡ false
   pub reset : is_reset_by v s ≡ true
+  pub stays : ends_by_reset v s ≡ false
   pub error : told ≡ reset_error v.state
+
+sent_unlike_received : (t : State) → is_syn_sent t ≡ true → is_syn_received t ≡ false
+sent_unlike_received SynSent e = refl
+sent_unlike_received _ e = cc
+
+and_false : (a : Bool) → (a && false) ≡ false
+and_false true = refl
+and_false false = refl
+
+-- a reset takes out nothing that is in SYN-SENT
+sent_has_place : (v : View) (s : Segment) → is_syn_sent v.state ≡ true → ends_by_reset v s ≡ false
+sent_has_place v s waits = ap (λ b. is_acting_reset v s && v.passive && b) (sent_unlike_received v.state waits) ∙ and_false (is_acting_reset v s && v.passive)
 
 told_by_segment : (v : View) (s : Segment) → ((after_segment v s).told ≡ v.told) ⊎ IsTold v s (after_segment v s).told
 told_by_segment v s =
@@ -57,12 +70,12 @@ told_by_segment v s =
     (λ lives. either View P s.flags.rst _ _
     (λ rst. either View P (is_syn_sent v.state) (after_refusal v s) (after_rst v s)
     (λ waits. either View P confirms (after_reset v (reset_error v.state)) v
-    (λ acts. inr (record { lives = lives; reset = both s.flags.rst _ rst (then_chosen (is_syn_sent v.state) confirms (is_acting_reset v s) waits acts); error = refl }))
+    (λ acts. inr (record { lives = lives; reset = both s.flags.rst _ rst (then_chosen (is_syn_sent v.state) confirms (is_acting_reset v s) waits acts); stays = sent_has_place v s waits; error = refl }))
     (λ dropped. inl refl))
     (λ past. either View P (is_acting_reset v s) _ _
     (λ acts. either View P (ends_by_reset v s) v (after_reset v (reset_error v.state)) (λ removed. inl refl)
-    (λ kept. inr (record { lives = lives; reset = both s.flags.rst _ rst (else_chosen (is_syn_sent v.state) confirms (is_acting_reset v s) past acts); error = refl })))
-    (λ elsewhere. either View P (is_accepted v s) (owing_ack v) v (λ drawn. inl refl) (λ dropped. inl refl))))
+    (λ kept. inr (record { lives = lives; reset = both s.flags.rst _ rst (else_chosen (is_syn_sent v.state) confirms (is_acting_reset v s) past acts); stays = kept; error = refl })))
+    (λ elsewhere. either View P (is_in_window v.receiving s.number) (owing_ack v) v (λ drawn. inl refl) (λ dropped. inl refl))))
     (λ no_rst. either View P (is_syn_sent v.state) (after_syn_ack v s) _
     (λ waits. either View P (is_right_syn_ack v s) _ v (λ right. inl refl) (λ wrong. inl refl))
     (λ past. either View P (is_accepted v s) (after_accepted v s) (owing_ack v)
@@ -117,7 +130,7 @@ error_of _ _ e = cc
 pub errors_caused : (v : View) (e : Event) (error : Refusal) → (after_event v e).told ≡ Some error → (v.told ≡ Some error) ⊎ (may_tell v e error ≡ true)
 errors_caused v (Hears s now) error e = elim (told_by_heard v s) [
   | inl same ↦ inl (sym same ∙ e)
-  | inr told ↦ inr (both (is_reset_by v s) (is_error_of v.state error) told.reset (error_of v.state error (sym told.error ∙ e)))
+  | inr told ↦ inr (both (is_reset_by v s && not (ends_by_reset v s)) (is_error_of v.state error) (both (is_reset_by v s) (not (ends_by_reset v s)) told.reset (of_false (ends_by_reset v s) told.stays)) (error_of v.state error (sym told.error ∙ e)))
 ]
 errors_caused v (Ticks now) error e = inl (sym (told_by_ticks v now) ∙ e)
 errors_caused v (Emits now) error e = inl (sym (emitted-told v (first_due v) now) ∙ e)

@@ -4,3 +4,4 @@ pub mod Causes
 pub mod Errors
 pub mod Unchanged
 pub mod Released
+pub mod SilentEnds

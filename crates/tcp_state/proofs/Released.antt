@@ -10,7 +10,7 @@ use Rattle.tcp_state.specs.declared.state.State.{State}
 use Rattle.tcp_state.specs.declared.state.State.TheVariants.{FinWait1, Closing, LastAck, SynReceived}
 use Rattle.tcp_state.specs.Numbers.{is_before}
 use Rattle.tcp_state.specs.Halves.{Receiving}
-use Rattle.tcp_state.specs.Stream.{is_new_ack, gained, after_octets, receive_window}
+use Rattle.tcp_state.specs.Stream.{is_new_ack, gained, after_octets, receive_window, is_in_window}
 use Rattle.tcp_state.specs.View.{View, IsSound, is_syn_sent, is_syn_received, is_closed, is_write_closed}
 use Rattle.tcp_state.specs.Arrival.{owing_ack, established, is_receiving, beyond_fin, is_fin_next, fin_acknowledged, after_new_ack, after_ack, is_read_on, is_read, brings_more, after_window, after_text, counts_fin, after_fin, after_acceptable, after_accepted, ends_by_syn, ends_by_reset, is_acting_reset, is_accepted, after_reset, reset_error, after_refusal, after_rst, is_right_syn_ack, after_syn_ack, after_segment, is_lost, after_lost, after_segment_at}
 use Rattle.tcp_state.proofs.Edges.{either}
@@ -116,7 +116,7 @@ readable_by_segment v s k =
     (λ waits. either View P confirms (after_reset v (reset_error v.state)) v (λ acts. refl) (λ dropped. refl))
     (λ past_opening. either View P (is_acting_reset v s) _ _
     (λ acts. either View P (ends_by_reset v s) v (after_reset v (reset_error v.state)) (λ removed. refl) (λ reset. refl))
-    (λ elsewhere. either View P (is_accepted v s) (owing_ack v) v (λ drawn. refl) (λ dropped. refl))))
+    (λ elsewhere. either View P (is_in_window v.receiving s.number) (owing_ack v) v (λ drawn. refl) (λ dropped. refl))))
     (λ no_rst. either View P (is_syn_sent v.state) (after_syn_ack v s) _
     (λ waits. either View P (is_right_syn_ack v s) _ v (λ right. refl) (λ wrong. refl))
     (λ past_opening. either View P (is_accepted v s) (after_accepted v s) (owing_ack v)

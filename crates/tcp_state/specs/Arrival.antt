@@ -11,7 +11,7 @@ use Rattle.tcp_state.specs.declared.moment.Moment.{Moment}
 use Rattle.tcp_state.specs.declared.connection.Resend.TheVariants.{Idle}
 use Rattle.tcp_state.specs.declared.state.State.{State}
 use Rattle.tcp_state.specs.declared.state.State.TheVariants.{SynSent, SynReceived, Established, FinWait1, FinWait2, CloseWait, Closing, LastAck, TimeWait, Closed}
-use Rattle.tcp_state.specs.Stream.{outstanding, is_new_ack, sending_from, receiving_nothing, after_syn_acknowledged, after_acknowledged, is_acceptable, synchronised, after_octets, stands_next, after_end}
+use Rattle.tcp_state.specs.Stream.{outstanding, is_new_ack, sending_from, receiving_nothing, after_syn_acknowledged, after_acknowledged, is_in_window, is_acceptable, synchronised, after_octets, stands_next, after_end}
 use Rattle.tcp_state.specs.Windows.{after_syn_heard, after_window_told}
 use Rattle.tcp_state.specs.View.{View, is_syn_sent, is_syn_received, awaits_fin_ack, is_closed, is_fin_wait_2, is_time_wait, stopped, is_over}
 use Rattle.tcp_state.specs.Calls.{aborted}
@@ -73,7 +73,7 @@ after_syn_ack v s =
 abbrev pub is_accepted : View → Segment → Bool
 is_accepted v s = is_acceptable v.receiving s.number (span_of s)
 
--- a SYN in the window ends what a listener opened and is not established (section 3.10.7.4, fourth)
+-- an acceptable segment with SYN ends what a listener opened and is not established (section 3.10.7.4, fourth)
 abbrev pub ends_by_syn : View → Segment → Bool
 ends_by_syn v s = is_accepted v s && s.flags.syn && v.passive && is_syn_received v.state
 
@@ -85,16 +85,12 @@ is_acting_reset v s = is_accepted v s && (s.number == v.receiving.rnext)
 abbrev pub ends_by_reset : View → Segment → Bool
 ends_by_reset v s = is_acting_reset v s && v.passive && is_syn_received v.state
 
--- elsewhere in the window it draws an acknowledgement, and outside it is dropped
+-- its number elsewhere in the window, it draws an acknowledgement; outside it is dropped, whatever octets it has
 abbrev pub after_rst : View → Segment → View
 after_rst v s =
     if is_acting_reset v s then (if ends_by_reset v s then v else after_reset v (reset_error v.state))
-    else if is_accepted v s then record v { owes_ack = true }
+    else if is_in_window v.receiving s.number then owing_ack v
     else v
-
--- the acknowledgement is of numbers that were never sent
-abbrev pub is_beyond_sent : View → ℕ → Bool
-is_beyond_sent v ack = not (is_new_ack v.sending ack) && is_before v.sending.nxt ack
 
 -- our SYN is acknowledged
 abbrev pub established : View → View

@@ -1,5 +1,5 @@
 -- What a caller's octets, its reading and its closing make of a connection (RFC 9293 sections 3.10.2 to 3.10.5, POSIX send, recv and close).
-use Rattle.std.specs.Prelude.{ℕ, ◌==◌, ◌&&◌, ◌||◌, not, Bool, true, min, if◌then◌else◌, List, ◌++◌, length, take, Option, Some, None, is_some, Result, Ok, Err}
+use Rattle.std.specs.Prelude.{ℕ, ◌==◌, ◌&&◌, ◌||◌, not, Bool, true, min, max, if◌then◌else◌, List, ◌++◌, length, take, Option, Some, None, is_some, Result, Ok, Err}
 use Rattle.std.specs.Option.{option_or}
 use Rattle.tcp_state.specs.declared.state.State.{State}
 use Rattle.tcp_state.specs.declared.state.State.TheVariants.{Established, FinWait1, CloseWait, LastAck}
@@ -72,7 +72,8 @@ shut state = state
 abbrev pub after_shutdown : View → View
 after_shutdown v = record v { state = shut v.state }
 
--- An abort (section 3.10.5): the peer is owed a reset, and nobody else anything.
+-- An abort (section 3.10.5): the peer is owed a reset, and nobody else anything; own in CLOSING, LAST-ACK and TIME-WAIT, where the
+-- section sends none.
 abbrev pub aborted : View → View
 aborted v = record (stopped v) { released = true; owes_reset = true }
 
@@ -83,11 +84,16 @@ after_abort v = if is_closed v.state then v else aborted v
 abbrev pub abort_fate : View → Fate
 abort_fate v = if is_closed v.state then Removed else Stays
 
--- its caller leaves it, and our side closes: it goes on until it ends by itself; in FIN-WAIT-2 its wait begins
-abbrev pub after_release : View → Moment → View
-after_release v now = record v { state = shut v.state; released = true; since = if is_fin_wait_2 v.state then now else v.since }
+-- the later of two moments
+abbrev pub latest : Moment → Moment → Moment
+latest a b = record { 0 = max a.0 b.0 }
 
--- Closing (section 3.10.4) takes out at once what is CLOSED, or of which no peer knows that it may be open ..
+-- its caller leaves it, and our side closes: it goes on until it ends by itself; in FIN-WAIT-2 its wait begins, with the call or with
+-- the state, whichever is later
+abbrev pub after_release : View → Moment → View
+after_release v now = record v { state = shut v.state; released = true; since = if is_fin_wait_2 v.state then latest v.since now else v.since }
+
+-- Closing (section 3.10.4) takes out at once what is CLOSED, or waits for the answer to its SYN ..
 abbrev pub is_removed_by_close : View → Bool
 is_removed_by_close v = is_closed v.state || is_syn_sent v.state
 

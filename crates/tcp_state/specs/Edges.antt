@@ -11,11 +11,12 @@ use Rattle.tcp_state.specs.declared.calls.Refusal.{Refusal}
 use Rattle.tcp_state.specs.declared.calls.Refusal.TheVariants.{ECONNREFUSED, ECONNRESET}
 use Rattle.tcp_state.specs.Stream.{is_new_ack}
 use Rattle.tcp_state.specs.View.{View, is_syn_sent, is_syn_received, is_closed, is_at_end, is_over, after_tick, tick_fate}
-use Rattle.tcp_state.specs.Calls.{after_send, after_recv, shutdown_refusal, after_shutdown, after_abort, abort_fate, after_close, close_fate}
-use Rattle.tcp_state.specs.Arrival.{is_acting_reset, ends_by_syn, is_fin_next, is_lost, is_read, after_segment_at, fate}
+use Rattle.tcp_state.specs.Calls.{after_send, after_recv, shutdown_refusal, after_shutdown, after_abort, abort_fate, is_removed_by_close, is_aborted_by_close, after_close, close_fate}
+use Rattle.tcp_state.specs.Arrival.{is_acting_reset, ends_by_reset, ends_by_syn, is_fin_next, is_lost, is_read, after_segment_at, fate}
 use Rattle.tcp_state.specs.Due.{first_due, after_emitted}
 
--- the edges of the diagram of states (figure 5), with those of a reset and an abort, and those that one segment takes at once
+-- the edges of the diagram of states (figure 5) but those of a listener that sends and of a close in SYN-RECEIVED, which is aborted here;
+-- with them those of a reset and an abort, and those that one segment takes at once
 abbrev pub may_join : State → State → Bool
 may_join Closed Listen = true
 may_join Closed SynSent = true
@@ -111,12 +112,13 @@ is_last_ack _ = false
 abbrev pub ends_by_ack : View → Segment → Bool
 ends_by_ack v s = is_last_ack v.state && is_read v s && is_new_ack v.sending s.acknowledgement && is_fin_next v
 
--- What ends a connection: a call of its caller; a reset that acts, a SYN before it is established, octets after its caller closed it, or
--- the acknowledgement of our FIN in LAST-ACK; the clock at the end of its wait; and the going out of the reset of an abort.
+-- What ends a connection: a `close` that takes it out or aborts it, and an abort; a reset that acts, a SYN before it is established,
+-- octets after its caller closed it, or the acknowledgement of our FIN in LAST-ACK; the clock at the end of its wait; and the going out of
+-- the reset of an abort.
 abbrev pub is_cause : View → Event → Bool
-is_cause v (Closes now) = true
+is_cause v (Closes now) = is_removed_by_close v || is_aborted_by_close v
 is_cause v Aborts = true
-is_cause v (Hears s now) = is_reset_by v s || ends_by_syn v s || is_lost v s || ends_by_ack v s
+is_cause v (Hears s now) = is_reset_by v s || (not s.flags.rst && ends_by_syn v s) || is_lost v s || ends_by_ack v s
 is_cause v (Ticks now) = is_at_end v now
 is_cause v (Emits now) = v.owes_reset
 is_cause v (Sends octets) = false
@@ -137,9 +139,9 @@ is_error_of FinWait2 ECONNRESET = true
 is_error_of CloseWait ECONNRESET = true
 is_error_of _ _ = false
 
--- an event tells this error: a reset that acts, in a state that has it
+-- an event tells this error: a reset that acts and leaves the connection its place, in a state that has it
 abbrev pub may_tell : View → Event → Refusal → Bool
-may_tell v (Hears s now) error = is_reset_by v s && is_error_of v.state error
+may_tell v (Hears s now) error = is_reset_by v s && not (ends_by_reset v s) && is_error_of v.state error
 may_tell v (Ticks now) error = false
 may_tell v (Emits now) error = false
 may_tell v (Sends octets) error = false

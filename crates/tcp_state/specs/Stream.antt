@@ -1,5 +1,5 @@
--- The stream part: what octets taken, sent, acknowledged, arrived and read make of the two halves. Nothing here knows of timers, of the
--- peer's window, or of what goes out first; later rules for those leave this page as it is.
+-- The stream part: what octets taken, sent, acknowledged, arrived and read make of the two halves. Nothing here knows of timers, of how
+-- much the peer takes, or of what goes out first; later rules for those leave this page as it is.
 use Rattle.std.specs.Prelude.{ℕ, zero, suc, ◌+◌, ◌-◌, ◌%◌, ◌^◌, ◌≤◌, ◌==◌, ◌&&◌, ◌||◌, nat_lt, nat_le, Bool, if◌then◌else◌, List, [], ◌++◌, length, take, drop}
 use Rattle.tcp_segment.specs.Wire.{past}
 use Rattle.tcp_state.specs.Numbers.{is_before}

@@ -1,4 +1,4 @@
--- The windows that the two ends tell each other, and how much may go out at once (RFC 9293 section 3.8.6).
+-- The windows that the two ends tell each other, and how much may go out at once (RFC 9293 sections 3.8.6 and 3.10.7.4).
 use Rattle.std.specs.Prelude.{ℕ, ◌+◌, ◌-◌, ◌%◌, ◌^◌, ◌==◌, ◌&&◌, ◌||◌, not, min, Bool, if◌then◌else◌, length}
 use Rattle.tcp_state.specs.Numbers.{is_before}
 use Rattle.tcp_state.specs.declared.buffers.TheConstants.{CAPACITY}
@@ -8,10 +8,10 @@ use Rattle.tcp_state.specs.Halves.{Sending, Receiving}
 abbrev pub after_syn_heard : Sending → ℕ → ℕ → ℕ → Sending
 after_syn_heard s number window smss = record s { window = window; wl1 = number; smss = smss }
 
--- a segment tells the window that is no older than the one that told it last:
--- SND.WL1 < SEG.SEQ or (SND.WL1 = SEG.SEQ and SND.WL2 =< SEG.ACK)
+-- A segment tells the window where its acknowledgement is not below SND.UNA, and where it is no older than the one that told it last
+-- (section 3.10.7.4, fifth): SND.UNA =< SEG.ACK, and SND.WL1 < SEG.SEQ or (SND.WL1 = SEG.SEQ and SND.WL2 =< SEG.ACK)
 abbrev pub tells_window : Sending → ℕ → ℕ → Bool
-tells_window s number ack = is_before s.wl1 number || (s.wl1 == number && not (is_before ack s.wl2))
+tells_window s number ack = not (is_before ack s.una) && (is_before s.wl1 number || (s.wl1 == number && not (is_before ack s.wl2)))
 
 abbrev pub after_window_told : Sending → ℕ → ℕ → ℕ → Sending
 after_window_told s number ack window = if tells_window s number ack then record s { window = window; wl1 = number; wl2 = ack } else s

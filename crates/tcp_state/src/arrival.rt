@@ -2,7 +2,7 @@
 
 ghost use Rattle.std.specs.Prelude.{◌≡◌, true, false, ◌&&◌, ◌||◌, not, if◌then◌else◌, IsTrue, ◌==◌};
 ghost use Rattle.tcp_state.specs.View.{is_opening, is_syn_sent, is_syn_received, is_closed};
-ghost use Rattle.tcp_state.specs.Arrival.{after_segment, after_syn_ack, owing_ack, established, after_ack, is_read_on, after_window, after_text, after_acceptable, after_accepted, ends_by_syn, is_accepted, is_fin_next, fin_acknowledged, after_new_ack, after_fin, after_reset, reset_error, after_refusal, after_rst, ends_by_reset, is_right_syn_ack, fate, after_segment_at, after_heard, is_lost, is_read, brings_more, after_lost, repeats_fin, is_refused, ends_opening};
+ghost use Rattle.tcp_state.specs.Arrival.{after_segment, after_syn_ack, owing_ack, established, after_ack, is_read_on, after_window, after_text, after_acceptable, after_accepted, ends_by_syn, is_accepted, is_fin_next, fin_acknowledged, after_new_ack, after_fin, after_reset, reset_error, after_refusal, after_rst, is_acting_reset, ends_by_reset, is_right_syn_ack, fate, after_segment_at, after_heard, is_lost, is_read, brings_more, after_lost, repeats_fin, is_refused, ends_opening};
 ghost use Rattle.tcp_state.specs.Stream.{is_new_ack};
 
 use crate::connection::{Connection, Fate, Resend};
@@ -59,7 +59,7 @@ impl Connection {
             return Fate::Stays;
         }
         if flags.syn {
-            return self.hear_syn_in_window();
+            return self.hear_another_syn();
         }
         if flags.ack {
             return self.hear_accepted(segment);
@@ -144,12 +144,10 @@ impl Connection {
             }
             return Fate::Stays;
         }
-        let (number, span) = (segment.number(), segment.span());
-        if !self.receiver.accepts(number, span) {
-            return Fate::Stays;
-        }
-        if number != self.receiver.rnext() {
-            self.owes_ack = true;
+        if !self.is_acting_reset(segment) {
+            if self.receiver.is_in_window(segment.number()) {
+                self.owes_ack = true;
+            }
             return Fate::Stays;
         }
         if self.state == State::SynReceived && self.is_passive {
@@ -157,6 +155,14 @@ impl Connection {
         }
         self.reset();
         Fate::Stays
+    }
+
+    /// Whether an RST acts past SYN-SENT: it is acceptable, and its number is RCV.NXT.
+    fn is_acting_reset(&self, segment: &TcpView<'_>) -> bool
+        ensures { result ≡ is_acting_reset self.now segment.now }
+    {
+        let number = segment.number();
+        self.receiver.accepts(number, segment.span()) && number == self.receiver.rnext()
     }
 
     /// The peer's reset ends the connection.
@@ -229,8 +235,8 @@ impl Connection {
         self.owes_ack = true;
     }
 
-    /// A SYN in the window removes what a listener opened and did not establish, and else draws an ACK.
-    fn hear_syn_in_window(&mut self) -> Fate
+    /// An acceptable SYN removes what a listener opened and did not establish, and else draws an ACK.
+    fn hear_another_syn(&mut self) -> Fate
         requires { (is_syn_sent self.old.state || is_closed self.old.state) ≡ false }
         ensures fate { result ≡ (if self.old.passive && is_syn_received self.old.state then Fate.Removed else Fate.Stays) }
         ensures after { self.new ≡ (if self.old.passive && is_syn_received self.old.state then self.old else owing_ack self.old) }

@@ -144,7 +144,7 @@ impl Connection {
         requires { is_opening self.old.state ≡ false }
         ensures { self.new ≡ after_release self.old now }
     {
-        if self.state == State::FinWait2 {
+        if self.state == State::FinWait2 && self.since < now {
             self.since = now;
         }
         self.state = self.state.shut();

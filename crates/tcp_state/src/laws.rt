@@ -1,12 +1,14 @@
 //! Laws over the definitions alone: functions with nothing to do, whose contracts are the laws.
 
-ghost use Rattle.std.specs.Prelude.{◌≡◌, ◌<◌, ◌^◌, ◌⊎◌, length, true, false, if◌then◌else◌, Some, None, is_some};
+ghost use Rattle.std.specs.Prelude.{◌≡◌, ℕ, ◌+◌, ◌<◌, ◌^◌, ◌⊎◌, ◌↔◌, ◌||◌, length, true, false, if◌then◌else◌, Some, None, is_some};
 ghost use Rattle.tcp_segment.specs.Segment.{Segment};
 ghost use Rattle.tcp_state.specs.declared.calls.Refusal.{Refusal};
 ghost use Rattle.tcp_state.specs.declared.moment.Moment.{Moment};
 ghost use Rattle.tcp_state.specs.declared.connection.Fate.{Fate};
 ghost use Rattle.tcp_state.specs.declared.emission.Due.{Due};
-ghost use Rattle.tcp_state.specs.View.{View, IsSound, is_closed, is_over};
+ghost use Rattle.tcp_state.specs.View.{View, IsSound, is_closed, is_over, is_due, is_end_seen, is_reached, deadline, after_tick};
+ghost use Rattle.tcp_segment.specs.Wire.{wire, IsBefore};
+ghost use Rattle.tcp_state.specs.Numbers.{is_before};
 ghost use Rattle.tcp_state.specs.Arrival.{fate, after_segment_at};
 ghost use Rattle.tcp_state.specs.Due.{first_due};
 ghost use Rattle.tcp_state.specs.Edges.{Event, after_event, state_after, IsEdge, ends_by, is_cause, may_tell};
@@ -29,6 +31,28 @@ pub fn errors_have_causes()
 /// An error that was told stays told.
 pub fn errors_stay()
     ensures { (v : View) (e : Event) → IsSound v → is_some v.told ≡ true → (after_event v e).told ≡ v.told }
+{}
+
+/// Where the clock has not come to a connection's deadline, a tick changes nothing; where it has, what is outstanding is due again or the
+/// connection is CLOSED.
+pub fn deadlines_are_exact()
+    ensures waits { (v : View) (now : Moment) → is_reached (deadline v) now ≡ false → after_tick v now ≡ v }
+    ensures acts { (v : View) (now : Moment) → is_reached (deadline v) now ≡ true
+        → (is_due (after_tick v now).resend || is_closed (after_tick v now).state) ≡ true }
+{}
+
+/// A connection that becomes CLOSED without an error, and that its caller has not left, had seen the peer's end: `recv` tells an end of
+/// stream of no other.
+pub fn silent_ends_were_seen()
+    ensures { (v : View) (e : Event) → IsSound v → is_closed v.state ≡ false → is_closed (after_event v e).state ≡ true
+        → (after_event v e).told ≡ None → (after_event v e).released ≡ false → is_end_seen v.state ≡ true }
+{}
+
+/// The order by which arriving numbers are tested is that of the positions they stand for, as long as these are less than 2^31 apart
+/// (RFC 9293 section 3.4).
+pub fn numbers_are_ordered()
+    ensures sign { (a b : ℕ) → (is_before a b ≡ true) ↔ IsBefore a b }
+    ensures positions { (initial p q : ℕ) → p < q + 2 ^ 31 → q < p + 2 ^ 31 → (is_before (wire initial p) (wire initial q) ≡ true) ↔ (p < q) }
 {}
 
 /// A segment that is answered by a reset changes nothing.

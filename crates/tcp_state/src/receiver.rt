@@ -85,7 +85,7 @@ impl Receiver {
     }
 
     /// Whether a number lies in the window that is told.
-    fn is_in_window(&self, number: Seq) -> bool
+    pub(crate) fn is_in_window(&self, number: Seq) -> bool
         ensures { result ≡ is_in_window self.now number.0 }
     {
         number.past(self.rnext) < self.window()

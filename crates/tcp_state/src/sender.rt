@@ -148,13 +148,14 @@ impl Sender {
         self.una = acknowledgement;
     }
 
-    /// Takes the window of a segment that is no older than the one that told the present window.
+    /// Takes the window of a segment whose acknowledgement is not below SND.UNA, and that is no older than the one that told the
+    /// present window (RFC 9293 section 3.10.7.4).
     pub(crate) fn update_window(&mut self, number: Seq, acknowledgement: Seq, window: u16)
         ensures { self.new ≡ after_window_told self.old number.0 acknowledgement.0 window }
     {
         let is_newer = self.wl1.is_before(number)
             || self.wl1 == number && !acknowledgement.is_before(self.wl2);
-        if is_newer {
+        if is_newer && !acknowledgement.is_before(self.una) {
             self.window = u32::from(window);
             self.wl1 = number;
             self.wl2 = acknowledgement;

@@ -149,18 +149,23 @@ fn both_sides_close_at_once(rt: HostRuntime) -> Result<(), Fail> {
     Ok(())
 }
 
-/// A segment without octets reaches `A`, as if `B` had sent it.
-fn hear(rt: &impl Abort, a: &mut Connection, number: u32, flags: Flags) {
-    let mut frame = [0; FRAME];
-    let head = Head {
+/// The header of a segment of `B` for `A`, whose window is 0.
+fn from_b(number: u32, acknowledgement: u32, flags: Flags) -> Head {
+    Head {
         source: B.port,
         destination: A.port,
         number: Seq(number),
-        acknowledgement: Seq(0),
+        acknowledgement: Seq(acknowledgement),
         flags,
         window: 0,
-    };
-    let len = head.emit(B.addr, A.addr, 0, &mut frame);
+    }
+}
+
+/// A segment with two octets or none reaches `A`, as if `B` had sent it.
+fn hear(rt: &impl Abort, a: &mut Connection, head: Head, has_octets: bool) {
+    let mut frame = [0; FRAME];
+    let count = if has_octets { 2 } else { 0 };
+    let len = head.emit(B.addr, A.addr, count, &mut frame);
     let segment = TcpView::parse(B.addr, A.addr, &frame[..len]).expect(rt, "it is well-formed");
     assert!(rt; a.segment(Moment(0), &segment) == Fate::Stays);
 }
@@ -174,22 +179,40 @@ fn a_reset_acts_at_the_next_number_alone(rt: HostRuntime) -> Result<(), Fail> {
     syn.syn = true;
     let mut frame = [0; FRAME];
     let rows = [
-        (9, reset, Some(Due::Ack)),
-        (7, reset, None),
-        (65_543, reset, None),
-        (8, syn, Some(Due::Ack)),
+        (9, reset, false, Some(Due::Ack)),
+        (7, reset, false, None),
+        (7, reset, true, None),
+        (65_543, reset, false, None),
+        (65_542, reset, true, Some(Due::Ack)),
+        (8, syn, false, Some(Due::Ack)),
     ];
-    for (number, flags, due) in rows {
-        hear(&rt, &mut a, number, flags);
+    for (number, flags, has_octets, due) in rows {
+        hear(&rt, &mut a, from_b(number, 0, flags), has_octets);
         assert_eq!(rt; a.state(), State::Established);
         assert_eq!(rt; a.due(), due);
         let _ = a.emit(Moment(0), &mut frame);
     }
-    hear(&rt, &mut a, 8, reset);
+    hear(&rt, &mut a, from_b(8, 0, reset), false);
     assert_eq!(rt; a.state(), State::Closed);
     let mut buffer = [0; 9];
     assert_eq!(rt; a.recv(&mut buffer), Err(Refusal::ECONNRESET));
     assert_eq!(rt; a.send(b"more"), Err(Refusal::ECONNRESET));
+    assert_eq!(rt; a.due(), None);
+    Ok(())
+}
+
+#[test]
+fn an_old_acknowledgement_tells_no_window(rt: HostRuntime) -> Result<(), Fail> {
+    let (mut a, mut b) = opened(&rt, rt.alloc())?;
+    let mut ack = Flags::default();
+    ack.ack = true;
+    assert_eq!(rt; a.send(b"hello"), Ok(5));
+    pass(&rt, &mut a, &mut b);
+    pass(&rt, &mut b, &mut a);
+    assert_eq!(rt; a.send(b"more"), Ok(4));
+    hear(&rt, &mut a, from_b(9, 4, ack), false);
+    assert_eq!(rt; a.due(), Some(Due::Text(4)));
+    hear(&rt, &mut a, from_b(9, 5, ack), false);
     assert_eq!(rt; a.due(), None);
     Ok(())
 }
@@ -239,6 +262,18 @@ fn fin_wait_2_ends_by_the_clock_after_close_alone(rt: HostRuntime) -> Result<(),
     assert_eq!(rt; a.state(), State::FinWait2);
     assert!(rt; a.tick(Moment(60_500)) == Fate::Removed);
     assert_eq!(rt; a.due(), None);
+    Ok(())
+}
+
+#[test]
+fn a_wait_begins_with_the_later_of_close_and_state(rt: HostRuntime) -> Result<(), Fail> {
+    let (mut a, mut b) = opened(&rt, rt.alloc())?;
+    assert_eq!(rt; a.shutdown(), Ok(()));
+    pass(&rt, &mut a, &mut b);
+    assert!(rt; pass_at(&rt, Moment(700), &mut b, &mut a) == Fate::Stays);
+    assert_eq!(rt; a.state(), State::FinWait2);
+    assert!(rt; a.close(Moment(500)) == Fate::Stays);
+    assert_eq!(rt; a.deadline(), Some(Moment(60_700)));
     Ok(())
 }
 

@@ -7,7 +7,7 @@ use Rattle.tcp_state.specs.declared.moment.Moment.{Moment}
 use Rattle.tcp_state.specs.declared.state.State.{State}
 use Rattle.tcp_state.specs.declared.state.State.TheVariants.{Closed, Listen, SynSent, SynReceived, Established, FinWait1, FinWait2, CloseWait, Closing, LastAck, TimeWait}
 use Rattle.tcp_state.specs.Numbers.{is_before}
-use Rattle.tcp_state.specs.Stream.{is_new_ack}
+use Rattle.tcp_state.specs.Stream.{is_new_ack, is_in_window}
 use Rattle.tcp_state.specs.View.{View, is_opening, is_syn_sent, is_syn_received, is_closed, is_write_closed, is_at_end, stopped, after_resend, after_tick}
 use Rattle.tcp_state.specs.Calls.{after_send, after_recv, shut, after_shutdown, aborted, after_abort, is_removed_by_close, is_aborted_by_close, after_release, after_close}
 use Rattle.tcp_state.specs.Due.{after_emitted, after_ack_paid, after_numbers}
@@ -153,7 +153,7 @@ same-reset v s =
     (same-either v (s.flags.ack && is_new_ack v.sending s.acknowledgement) (after_reset v (reset_error v.state)) v (record { local = refl; peer = refl }) (same v))
     (same-either v (is_acting_reset v s) _ _
     (same-either v (ends_by_reset v s) v (after_reset v (reset_error v.state)) (same v) (record { local = refl; peer = refl }))
-    (same-either v (is_accepted v s) (owing_ack v) v (record { local = refl; peer = refl }) (same v)))
+    (same-either v (is_in_window v.receiving s.number) (owing_ack v) v (record { local = refl; peer = refl }) (same v)))
 
 same-segment : (v : View) (s : Segment) → SameEnds v (after_segment v s)
 same-segment v s =
