@@ -35,7 +35,13 @@ AreOptions [] padding = padding ≡ []
 AreOptions (EndOfOptions ∷ rest) padding = rest ≡ []
 AreOptions (option ∷ rest) padding = IsOption option × AreOptions rest padding
 
--- the maximum segment size that the last such option of a list tells, or else the one told before
+-- an option that tells no maximum segment size
+abbrev pub TellsNoSize : HeaderOption → Type 0
+TellsNoSize (MaximumSegmentSize size) = ⊥
+TellsNoSize option = Unit {0}
+
+-- The maximum segment size that a list of options tells, read from left to right with the one told so far: that of the
+-- last such option. `laws::last_size_stands` says so without a walk.
 abbrev pub last_told : Option ℕ → List HeaderOption → Option ℕ
 last_told told [] = told
 last_told told (MaximumSegmentSize size ∷ rest) = last_told (Some size) rest

@@ -1,10 +1,11 @@
 //! Laws of the definitions that the contracts of this crate cite: each is the contract of a function
 //! that does nothing.
 
-ghost use Rattle.std.specs.Prelude.{◌≡◌, ℕ, ◌+◌, ◌-◌, ◌*◌, ◌<◌, ◌≤◌, ◌%◌, ◌^◌, ◌↔◌, pos, ◌-ℤ◌, List, length, get_or, Option, Some, None, Result, Ok, Err};
+ghost use Rattle.std.specs.Prelude.{◌≡◌, ℕ, ◌+◌, ◌-◌, ◌*◌, ◌<◌, ◌≤◌, ◌%◌, ◌^◌, ◌↔◌, pos, ◌-ℤ◌, List, ◌∷◌, ◌++◌, All, length, get_or, Option, Some, None, Result, Ok, Err};
 ghost use Rattle.ipv4.specs.declared.addr.Addr.{Addr};
 ghost use Rattle.tcp_segment.specs.declared.fault.SegmentFault.{SegmentFault};
 ghost use Rattle.tcp_segment.specs.declared.head.Head.{Head};
+ghost use Rattle.tcp_segment.specs.Options.{HeaderOption, MaximumSegmentSize, TellsNoSize, last_told};
 ghost use Rattle.tcp_segment.specs.Segment.{Segment, IsParsed, Spells};
 ghost use Rattle.tcp_segment.specs.Reading.{segment_in};
 ghost use Rattle.tcp_segment.specs.Sent.{CanBeSent, sent, sent_offset, sent_octets};
@@ -35,6 +36,14 @@ pub fn one_answer()
 pub fn read_plainly()
     ensures ok { (src dst : Addr) (octets : List ℕ) (segment : Segment) → IsParsed src dst octets (Ok segment) → segment_in src dst octets ≡ Some segment }
     ensures err { (src dst : Addr) (octets : List ℕ) (fault : SegmentFault) → ((i : ℕ) → get_or octets i 0 < 256) → IsParsed src dst octets (Err fault) → segment_in src dst octets ≡ None }
+{}
+
+/// Of the options that tell a maximum segment size the last one stands, whatever stands before it, and without one none is
+/// told (RFC 9293 section 3.7.1).
+pub fn last_size_stands()
+    ensures last { (before after : List HeaderOption) (size : ℕ) → All TellsNoSize after
+        → last_told None (before ++ MaximumSegmentSize size ∷ after) ≡ Some size }
+    ensures none { (options : List HeaderOption) → All TellsNoSize options → last_told None options ≡ None }
 {}
 
 /// What `Head::emit` writes spells the segment that is meant, and so parses to it.
