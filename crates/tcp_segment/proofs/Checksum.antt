@@ -1,8 +1,8 @@
 -- The checksum of a segment that is sent is right.
-use Rattle.std.proofs.Common.{◌≡◌, ℕ, ◌+◌, ◌-◌, ◌*◌, ◌%◌, ◌^◌, ◌<◌, Bool, true, false, nat_eq, List, [], ◌∷◌, ◌++◌, length, if◌then◌else◌, refl, sym, ◌∙◌, ap, arith}
-use Rattle.std.proofs.lemmas.Bool.Decides.{nat_tests}
+use Rattle.std.proofs.Common.{◌≡◌, ℕ, ◌+◌, ◌-◌, ◌*◌, ◌^◌, ◌<◌, Bool, true, false, List, [], ◌∷◌, ◌++◌, length, if◌then◌else◌, refl, sym, ◌∙◌, ap, arith}
 use Rattle.byteorder.specs.Endian.{big_bytes}
 use Rattle.inet_sum.specs.Sum.{word_sum, ones_complement, sum_of, checksum_of}
+use Rattle.inet_sum.proofs.Complements.{with_complement}
 use Rattle.ipv4.specs.declared.addr.Addr.{Addr}
 use Rattle.tcp_segment.specs.declared.head.Head.{Head}
 use Rattle.tcp_segment.specs.Options.{MaximumSegmentSize, AreOptions}
@@ -10,22 +10,13 @@ use Rattle.tcp_segment.specs.Segment.{Spells, summed}
 use Rattle.tcp_segment.specs.Sent.{CanBeSent, sent, sent_offset, sent_with, sent_octets}
 use Rattle.tcp_segment.proofs.Sending.{option_len, whole_len}
 
--- a sum and its complement
-with_complement : (total : ℕ) → 0 < total → ones_complement (total + (65535 - ones_complement total)) ≡ 65535
-with_complement total some =
-    let here : nat_eq total 0 ≡ false = grind (arith, nat_tests) in
-    let value : ones_complement total ≡ 1 + (total - 1) % 65535 = rw here refl in
-    let there : nat_eq (total + (65535 - ones_complement total)) 0 ≡ false = grind (arith, nat_tests, value) in
-    rw there (omega (arith, value))
-
 -- what the checksum adds to the sum of the words
 abbrev pseudo_before : List ℕ → List ℕ → ℕ → List ℕ → List ℕ
 pseudo_before src dst len octets = (src ++ dst ++ 0 ∷ 6 ∷ [] ++ big_bytes 2 len) ++ octets
 
 words : (src dst : List ℕ) (len : ℕ) (head : Head) (octets : List ℕ) (checksum : ℕ) → length src ≡ 4 → length dst ≡ 4 → checksum < 2 ^ 16
-    → (word_sum (pseudo_before src dst len (sent_with head octets checksum)) ≡ word_sum (pseudo_before src dst len (sent_with head octets 0)) + checksum)
-    × (0 < word_sum (pseudo_before src dst len (sent_with head octets 0)))
-words (a ∷ b ∷ c ∷ d ∷ []) (e ∷ f ∷ g ∷ h ∷ []) len head octets checksum s t fits = (omega arith, omega arith)
+    → word_sum (pseudo_before src dst len (sent_with head octets checksum)) ≡ word_sum (pseudo_before src dst len (sent_with head octets 0)) + checksum
+words (a ∷ b ∷ c ∷ d ∷ []) (e ∷ f ∷ g ∷ h ∷ []) len head octets checksum s t fits = omega arith
 words _ _ len head octets checksum s t fits = absurd (omega arith)
 
 -- what is summed, by its length
@@ -44,8 +35,8 @@ sum_right src dst head octets can =
     let fits : checksum < 2 ^ 16 = omega arith in
     let are = words src.0 dst.0 len head octets checksum can.src_octets can.dst_octets fits in
     let checksum_is : checksum ≡ 65535 - ones_complement before = ap checksum_of (summed_is src dst head octets 0) in
-    let total : word_sum (pseudo_before src.0 dst.0 len (sent_with head octets checksum)) ≡ before + (65535 - ones_complement before) = omega (arith, are.0, checksum_is) in
-    ap sum_of (summed_is src dst head octets checksum) ∙ ap ones_complement total ∙ with_complement before are.1
+    let total : word_sum (pseudo_before src.0 dst.0 len (sent_with head octets checksum)) ≡ before + (65535 - ones_complement before) = omega (arith, are, checksum_is) in
+    ap sum_of (summed_is src dst head octets checksum) ∙ ap ones_complement total ∙ with_complement before
 
 -- the options that are sent
 sent_options : (b : Bool) → AreOptions (if b then MaximumSegmentSize 1460 ∷ [] else []) []
