@@ -10,6 +10,11 @@ pub with_complement : (total : ℕ) → ones_complement (total + (65535 - ones_c
 with_complement zero = refl
 with_complement (suc total) = grind arith
 
+-- no number but the complement, and in its place 0xFFFF, makes the sum right
+pub one_complement : (total n : ℕ) → n < 65535 → ones_complement (total + n) ≡ 65535 → n ≡ 65535 - ones_complement total
+one_complement zero n below right = grind arith
+one_complement (suc total) n below right = grind arith
+
 -- what a number of 16 bits adds to the words, behind an even number of octets
 pub word_sum-put : (before after : List ℕ) (words n : ℕ) → length before ≡ 2 * words → n < 2 ^ 16
     → word_sum (before ++ big_bytes 2 n ++ after) ≡ word_sum before + word_sum after + n

@@ -6,7 +6,7 @@ ghost use Rattle.ipv4.specs.declared.addr.Addr.{Addr};
 ghost use Rattle.tcp_segment.specs.declared.fault.SegmentFault.{SegmentFault};
 ghost use Rattle.tcp_segment.specs.declared.head.Head.{Head};
 ghost use Rattle.tcp_segment.specs.Options.{HeaderOption, MaximumSegmentSize, TellsNoSize, last_told};
-ghost use Rattle.tcp_segment.specs.Segment.{Segment, IsParsed, Spells};
+ghost use Rattle.tcp_segment.specs.Segment.{Segment, HasForm, IsParsed, SumIsRight, Spells};
 ghost use Rattle.tcp_segment.specs.Reading.{segment_in};
 ghost use Rattle.tcp_segment.specs.Sent.{CanBeSent, sent, sent_offset, sent_octets};
 ghost use Rattle.tcp_segment.specs.Wire.{wire, past, difference, IsBefore, IsAtMost};
@@ -44,6 +44,13 @@ pub fn last_size_stands()
     ensures last { (before after : List HeaderOption) (size : ℕ) → All TellsNoSize after
         → last_told None (before ++ MaximumSegmentSize size ∷ after) ≡ Some size }
     ensures none { (options : List HeaderOption) → All TellsNoSize options → last_told None options ≡ None }
+{}
+
+/// What this stack sends has one spelling: no other octets have its form, reserved bits of zero and a right checksum. A
+/// checksum of 0xFFFF is set apart, which is right too where 0 is (RFC 9293 section 3.1).
+pub fn one_spelling()
+    ensures { (src dst : Addr) (head : Head) (octets xs : List ℕ) (form : HasForm (sent head octets) xs) → CanBeSent src dst head octets
+        → SumIsRight src dst xs → form.reserved ≡ 0 → form.checksum < 65535 → xs ≡ sent_octets src dst head octets }
 {}
 
 /// What `Head::emit` writes spells the segment that is meant, and so parses to it.
