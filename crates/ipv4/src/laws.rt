@@ -8,8 +8,8 @@ ghost use Rattle.ipv4.specs.Addresses.{endpoint_cmp, pair_of};
 
 pub mod datagram;
 
-/// The two endpoints of a connection have one pair, in whichever order they are named; no others have that pair; and its first
-/// is the lesser of them, or they are one.
+/// The two endpoints of a connection, by which it is known (RFC 9293 section 4), have one pair, in whichever order they are
+/// named; no others have that pair; and its first is the lesser of them, or they are one.
 pub fn one_pair()
     ensures alike { (a b : Endpoint) → pair_of a b ≡ pair_of b a }
     ensures ends { (a b c d : Endpoint) → pair_of a b ≡ pair_of c d → ((a ≡ c) × (b ≡ d)) ⊎ ((a ≡ d) × (b ≡ c)) }

@@ -26,13 +26,14 @@ pub fn positions()
         → (IsAtMost (wire initial p) (wire initial q) ↔ (p ≤ q)) }
 {}
 
-/// For all octets there is one answer that `TcpView::parse` may give.
+/// For all octets there is one answer that `TcpView::parse` may give (RFC 9293 section 3.1).
 pub fn one_answer()
     ensures { (src dst : Addr) (octets : List ℕ) (first second : Result Segment SegmentFault)
         → IsParsed src dst octets first → IsParsed src dst octets second → first ≡ second }
 {}
 
-/// The plain reading of octets from left to right finds the segment that `TcpView::parse` answers, and none where it answers a fault.
+/// The plain reading of octets from left to right finds the segment that `TcpView::parse` answers, and none where it answers a
+/// fault (RFC 9293 sections 3.1 and 3.2).
 pub fn read_plainly()
     ensures ok { (src dst : Addr) (octets : List ℕ) (segment : Segment) → IsParsed src dst octets (Ok segment) → segment_in src dst octets ≡ Some segment }
     ensures err { (src dst : Addr) (octets : List ℕ) (fault : SegmentFault) → ((i : ℕ) → get_or octets i 0 < 256) → IsParsed src dst octets (Err fault) → segment_in src dst octets ≡ None }
@@ -53,7 +54,7 @@ pub fn one_spelling()
         → SumIsRight src dst xs → form.reserved ≡ 0 → form.checksum < 65535 → xs ≡ sent_octets src dst head octets }
 {}
 
-/// What `Head::emit` writes spells the segment that is meant, and so parses to it.
+/// What `Head::emit` writes spells the segment that is meant, and so parses to it (RFC 9293 section 3.1).
 pub fn emitted_parses()
     ensures len { (src dst : Addr) (head : Head) (octets : List ℕ)
         → length (sent_octets src dst head octets) ≡ 4 * sent_offset head + length octets }
