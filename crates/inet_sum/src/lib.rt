@@ -6,6 +6,8 @@ ghost use Rattle.inet_sum.specs.Sum.{word_sum, ones_complement, sum_of, checksum
 
 use byteorder::{BigEndian, ByteOrder};
 
+pub mod laws;
+
 /// The pseudo header that TCP and UDP sum before their own octets (RFC 9293 section 3.1, RFC 768).
 #[derive(Clone, Copy, Debug, PartialEq, Eq)]
 pub struct Pseudo {

@@ -1,7 +1,7 @@
 -- The laws of parsing and sending.
-use Rattle.std.proofs.Common.{◌≡◌, ℕ, ◌+◌, ◌-◌, ◌%◌, ◌^◌, ◌<◌, false, nat_eq, List, [], ◌++◌, length, take, Result, Ok, Err, refl, ◌∙◌, ap, subst, length-append, arith}
-use Rattle.std.proofs.lemmas.Bool.Decides.{nat_tests}
+use Rattle.std.proofs.Common.{◌≡◌, ℕ, ◌+◌, ◌^◌, ◌<◌, List, [], ◌++◌, length, take, Result, Ok, Err, refl, ◌∙◌, ap, subst, length-append, arith}
 use Rattle.inet_sum.specs.Sum.{word_sum, ones_complement, checksum_of}
+use Rattle.inet_sum.proofs.Complements.{with_complement}
 use Rattle.ipv4.specs.declared.fault.Ipv4Fault.{Ipv4Fault}
 use Rattle.ipv4.specs.declared.fault.Ipv4Fault.TheVariants.{IpHeader, IpSum}
 use Rattle.ipv4.specs.declared.head.Head.{Head}
@@ -29,27 +29,17 @@ one_answer octets (Err IpSum) (Err IpSum) p q = refl
 pub one_spelling : (d : Datagram) (octets : List ℕ) → Spells d octets → take (total_len d) octets ≡ spelling d
 one_spelling d octets spells = (form_read d octets spells.form).spelled
 
--- a sum and its complement
-with_complement : (total : ℕ) → 0 < total → ones_complement (total + (65535 - ones_complement total)) ≡ 65535
-with_complement total some =
-    let here : nat_eq total 0 ≡ false = grind (arith, nat_tests) in
-    let value : ones_complement total ≡ 1 + (total - 1) % 65535 = rw here refl in
-    let there : nat_eq (total + (65535 - ones_complement total)) 0 ≡ false = grind (arith, nat_tests, value) in
-    rw there (omega (arith, value))
-
 -- what the checksum adds to the sum of the words
 words : (head : Head) (payload : List ℕ) (checksum : ℕ) → checksum < 2 ^ 16
-    → (word_sum (header_octets (sent_with head payload checksum)) ≡ word_sum (header_octets (sent_with head payload 0)) + checksum)
-    × (0 < word_sum (header_octets (sent_with head payload 0)))
-words head payload checksum fits = (omega (arith, fits), omega arith)
+    → word_sum (header_octets (sent_with head payload checksum)) ≡ word_sum (header_octets (sent_with head payload 0)) + checksum
+words head payload checksum fits = omega (arith, fits)
 
 sum_right : (head : Head) (payload : List ℕ) → SumIsRight (sent head payload)
 sum_right head payload =
     let before : ℕ = word_sum (header_octets (sent_with head payload 0)) in
     let checksum : ℕ = checksum_of (header_octets (sent_with head payload 0)) in
     let fits : checksum < 2 ^ 16 = omega arith in
-    let are = words head payload checksum fits in
-    ap ones_complement are.0 ∙ with_complement before are.1
+    ap ones_complement (words head payload checksum fits) ∙ with_complement before
 
 -- what is sent spells the datagram that is meant
 pub sent_spelled : (head : Head) (payload padding : List ℕ) → IsDatagram (sent head payload)

@@ -1,5 +1,5 @@
 -- The pair of two endpoints.
-use Rattle.std.proofs.Common.{◌≡◌, cond, refl}
+use Rattle.std.proofs.Common.{◌≡◌, ◌⊎◌, inl, inr, Bool, true, false, IsTrue, cond, refl, ap}
 use Rattle.std.specs.declared.cmp.Ordering.{Ordering}
 use Rattle.std.specs.declared.cmp.Ordering.TheVariants.{Less, Equal, Greater}
 use Rattle.std.specs.Ordering.{nat_cmp, ordering_then, ordering_reverse, is_le}
@@ -43,3 +43,30 @@ either_way Greater Greater a b e same = cc
 -- in whichever order endpoints are named, their pair is the same
 pub pair_of-swapped : (a b : Endpoint) → pair_of a b ≡ pair_of b a
 pair_of-swapped a b = either_way (endpoint_cmp a b) (endpoint_cmp b a) a b (endpoints_total.antisymm a b) (same_endpoint a b)
+
+-- endpoints that have one pair are the same two
+by_order : (x y : Bool) (a b c d : Endpoint)
+    → ◌≡◌ {A = Pair} (cond x (record { first = a; second = b }) (record { first = b; second = a })) (cond y (record { first = c; second = d }) (record { first = d; second = c }))
+    → ((a ≡ c) × (b ≡ d)) ⊎ ((a ≡ d) × (b ≡ c))
+by_order true true a b c d e = inl (ap (λ (p : Pair). p.first) e, ap (λ (p : Pair). p.second) e)
+by_order true false a b c d e = inr (ap (λ (p : Pair). p.first) e, ap (λ (p : Pair). p.second) e)
+by_order false true a b c d e = inr (ap (λ (p : Pair). p.second) e, ap (λ (p : Pair). p.first) e)
+by_order false false a b c d e = inl (ap (λ (p : Pair). p.second) e, ap (λ (p : Pair). p.first) e)
+
+pub same_ends : (a b c d : Endpoint) → pair_of a b ≡ pair_of c d → ((a ≡ c) × (b ≡ d)) ⊎ ((a ≡ d) × (b ≡ c))
+same_ends a b c d e = by_order (is_le (endpoint_cmp a b)) (is_le (endpoint_cmp c d)) a b c d e
+
+-- the first is the lesser one, or both are one
+abbrev IsInOrder : Pair → Type 0
+IsInOrder p = is_le (endpoint_cmp p.first p.second) ≡ true
+
+in_order : (o p : Ordering) (a b : Endpoint) → endpoint_cmp a b ≡ o → endpoint_cmp b a ≡ p → o ≡ ordering_reverse p
+    → IsInOrder (cond (is_le o) (record { first = a; second = b }) (record { first = b; second = a }))
+in_order Less p a b e f r = ap is_le e
+in_order Equal p a b e f r = ap is_le e
+in_order Greater Less a b e f r = ap is_le f
+in_order Greater Equal a b e f r = cc
+in_order Greater Greater a b e f r = cc
+
+pub lesser_first : (a b : Endpoint) → IsTrue (is_le (endpoint_cmp (pair_of a b).first (pair_of a b).second))
+lesser_first a b = in_order (endpoint_cmp a b) (endpoint_cmp b a) a b refl refl (endpoints_total.antisymm a b)

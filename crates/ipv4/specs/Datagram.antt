@@ -52,7 +52,8 @@ abbrev pub spelling : Datagram → List ℕ
 spelling d = header_octets d ++ d.payload
 
 -- A payload of this length has a place at this offset (in units of eight octets): where more fragments follow, it is some
--- whole units, and it ends where the payload of the longest datagram ends at the latest.
+-- whole units (RFC 791 section 3.2), and it ends where the payload of the longest datagram ends at the latest. That bound,
+-- 65,515 octets, is this stack's own.
 pub record HasPlace (more_fragments : Bool) (offset len : ℕ) : Type 0 where
   pub units : IsTrue more_fragments → (0 < len) × (len % 8 ≡ 0)
   pub reach : 8 * offset + len ≤ 65515

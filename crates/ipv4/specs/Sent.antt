@@ -4,7 +4,7 @@ use Rattle.inet_sum.specs.Sum.{checksum_of}
 use Rattle.ipv4.specs.declared.head.Head.{Head}
 use Rattle.ipv4.specs.Datagram.{Datagram, header_octets}
 
--- with this checksum: type of service 0, time to live 64, no options
+-- with this checksum: type of service 0, time to live 64 (RFC 1122 section 3.2.1.7), no options
 abbrev pub sent_with : Head → List ℕ → ℕ → Datagram
 sent_with head payload checksum = record {
   service = 0;

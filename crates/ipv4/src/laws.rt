@@ -1,13 +1,17 @@
 //! Laws of the definitions that the contracts of this crate cite: each is the contract of a function
 //! that does nothing.
 
-ghost use Rattle.std.specs.Prelude.{◌≡◌};
+ghost use Rattle.std.specs.Prelude.{◌≡◌, ◌⊎◌, IsTrue};
+ghost use Rattle.std.specs.Ordering.{is_le};
 ghost use Rattle.ipv4.specs.declared.addr.Endpoint.{Endpoint};
-ghost use Rattle.ipv4.specs.Addresses.{pair_of};
+ghost use Rattle.ipv4.specs.Addresses.{endpoint_cmp, pair_of};
 
 pub mod datagram;
 
-/// The two endpoints of a connection have one pair, in whichever order they are named.
+/// The two endpoints of a connection, by which it is known (RFC 9293 section 4), have one pair, in whichever order they are
+/// named; no others have that pair; and its first is the lesser of them, or they are one.
 pub fn one_pair()
-    ensures { (a b : Endpoint) → pair_of a b ≡ pair_of b a }
+    ensures alike { (a b : Endpoint) → pair_of a b ≡ pair_of b a }
+    ensures ends { (a b c d : Endpoint) → pair_of a b ≡ pair_of c d → ((a ≡ c) × (b ≡ d)) ⊎ ((a ≡ d) × (b ≡ c)) }
+    ensures lesser { (a b : Endpoint) → IsTrue (is_le (endpoint_cmp (pair_of a b).first (pair_of a b).second)) }
 {}

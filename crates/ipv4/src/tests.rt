@@ -10,6 +10,8 @@ const B: Addr = Addr([10, 0, 0, 2]);
 #[test]
 fn addresses_are_printed_as_dotted_decimals(rt: HostRuntime) -> Result<(), Fail> {
     assert_eq!(rt; format!(in rt.alloc(); "{A}")?.as_str(), "10.0.0.1");
+    let other = Addr([192, 168, 1, 7]);
+    assert_eq!(rt; format!(in rt.alloc(); "{other}")?.as_str(), "192.168.1.7");
     Ok(())
 }
 

@@ -1,31 +1,22 @@
 -- The checksum of a segment that is sent is right.
-use Rattle.std.proofs.Common.{◌≡◌, ℕ, ◌+◌, ◌-◌, ◌*◌, ◌%◌, ◌^◌, ◌<◌, Bool, true, false, nat_eq, List, [], ◌∷◌, ◌++◌, length, if◌then◌else◌, refl, sym, ◌∙◌, ap, arith}
-use Rattle.std.proofs.lemmas.Bool.Decides.{nat_tests}
+use Rattle.std.proofs.Common.{◌≡◌, ℕ, ◌+◌, ◌-◌, ◌*◌, ◌^◌, ◌<◌, Bool, true, false, List, [], ◌∷◌, ◌++◌, length, if◌then◌else◌, refl, sym, ◌∙◌, ap, arith}
 use Rattle.byteorder.specs.Endian.{big_bytes}
 use Rattle.inet_sum.specs.Sum.{word_sum, ones_complement, sum_of, checksum_of}
+use Rattle.inet_sum.proofs.Complements.{with_complement, one_complement}
 use Rattle.ipv4.specs.declared.addr.Addr.{Addr}
 use Rattle.tcp_segment.specs.declared.head.Head.{Head}
-use Rattle.tcp_segment.specs.Options.{MaximumSegmentSize, AreOptions}
-use Rattle.tcp_segment.specs.Segment.{Spells, summed}
+use Rattle.tcp_segment.specs.Options.{MaximumSegmentSize, joined, AreOptions}
+use Rattle.tcp_segment.specs.Segment.{HasForm, SumIsRight, Spells, spelling, summed}
 use Rattle.tcp_segment.specs.Sent.{CanBeSent, sent, sent_offset, sent_with, sent_octets}
 use Rattle.tcp_segment.proofs.Sending.{option_len, whole_len}
-
--- a sum and its complement
-with_complement : (total : ℕ) → 0 < total → ones_complement (total + (65535 - ones_complement total)) ≡ 65535
-with_complement total some =
-    let here : nat_eq total 0 ≡ false = grind (arith, nat_tests) in
-    let value : ones_complement total ≡ 1 + (total - 1) % 65535 = rw here refl in
-    let there : nat_eq (total + (65535 - ones_complement total)) 0 ≡ false = grind (arith, nat_tests, value) in
-    rw there (omega (arith, value))
 
 -- what the checksum adds to the sum of the words
 abbrev pseudo_before : List ℕ → List ℕ → ℕ → List ℕ → List ℕ
 pseudo_before src dst len octets = (src ++ dst ++ 0 ∷ 6 ∷ [] ++ big_bytes 2 len) ++ octets
 
 words : (src dst : List ℕ) (len : ℕ) (head : Head) (octets : List ℕ) (checksum : ℕ) → length src ≡ 4 → length dst ≡ 4 → checksum < 2 ^ 16
-    → (word_sum (pseudo_before src dst len (sent_with head octets checksum)) ≡ word_sum (pseudo_before src dst len (sent_with head octets 0)) + checksum)
-    × (0 < word_sum (pseudo_before src dst len (sent_with head octets 0)))
-words (a ∷ b ∷ c ∷ d ∷ []) (e ∷ f ∷ g ∷ h ∷ []) len head octets checksum s t fits = (omega arith, omega arith)
+    → word_sum (pseudo_before src dst len (sent_with head octets checksum)) ≡ word_sum (pseudo_before src dst len (sent_with head octets 0)) + checksum
+words (a ∷ b ∷ c ∷ d ∷ []) (e ∷ f ∷ g ∷ h ∷ []) len head octets checksum s t fits = omega arith
 words _ _ len head octets checksum s t fits = absurd (omega arith)
 
 -- what is summed, by its length
@@ -44,8 +35,8 @@ sum_right src dst head octets can =
     let fits : checksum < 2 ^ 16 = omega arith in
     let are = words src.0 dst.0 len head octets checksum can.src_octets can.dst_octets fits in
     let checksum_is : checksum ≡ 65535 - ones_complement before = ap checksum_of (summed_is src dst head octets 0) in
-    let total : word_sum (pseudo_before src.0 dst.0 len (sent_with head octets checksum)) ≡ before + (65535 - ones_complement before) = omega (arith, are.0, checksum_is) in
-    ap sum_of (summed_is src dst head octets checksum) ∙ ap ones_complement total ∙ with_complement before are.1
+    let total : word_sum (pseudo_before src.0 dst.0 len (sent_with head octets checksum)) ≡ before + (65535 - ones_complement before) = omega (arith, are, checksum_is) in
+    ap sum_of (summed_is src dst head octets checksum) ∙ ap ones_complement total ∙ with_complement before
 
 -- the options that are sent
 sent_options : (b : Bool) → AreOptions (if b then MaximumSegmentSize 1460 ∷ [] else []) []
@@ -84,3 +75,34 @@ sent_spelled src dst head octets can =
 pub sent_octets_len : (src dst : Addr) (head : Head) (octets : List ℕ) → length (sent_octets src dst head octets) ≡ 4 * sent_offset head + length octets
 unfolding sent_octets
 sent_octets_len src dst head octets = whole_len head octets (checksum_of (summed src dst (sent_with head octets 0)))
+
+-- nothing stands behind the options that are sent
+no_padding : (b : Bool) (padding : List ℕ) → AreOptions (if b then MaximumSegmentSize 1460 ∷ [] else []) padding → padding ≡ []
+no_padding true padding are = are.1
+no_padding false padding are = are
+
+-- a spelling of what is sent, by its checksum
+by_checksum : (head : Head) (octets xs : List ℕ) (form : HasForm (sent head octets) xs) → form.reserved ≡ 0 → xs ≡ sent_with head octets form.checksum
+by_checksum head octets xs form zeros =
+    let segment = sent head octets in
+    let nothing : form.padding ≡ [] = no_padding head.flags.syn form.padding form.options in
+    let area : length (joined segment.options ++ form.padding) ≡ length (joined segment.options ++ []) = ap (λ (ys : List ℕ). length (joined segment.options ++ ys)) nothing in
+    let offset : form.offset ≡ sent_offset head = omega (arith, form.header, area, option_len head.flags.syn) in
+    form.spelled
+    ∙ ap (λ (n : ℕ). spelling segment n form.reserved form.checksum form.padding) offset
+    ∙ ap (λ (n : ℕ). spelling segment (sent_offset head) n form.checksum form.padding) zeros
+    ∙ ap (λ (ys : List ℕ). spelling segment (sent_offset head) 0 form.checksum ys) nothing
+
+-- what is sent has one spelling
+pub one_spelling : (src dst : Addr) (head : Head) (octets xs : List ℕ) (form : HasForm (sent head octets) xs) → CanBeSent src dst head octets
+    → SumIsRight src dst xs → form.reserved ≡ 0 → form.checksum < 65535 → xs ≡ sent_octets src dst head octets
+unfolding sent_octets
+one_spelling src dst head octets xs form can right zeros below =
+    let len : ℕ = 4 * sent_offset head + length octets in
+    let before : ℕ = word_sum (pseudo_before src.0 dst.0 len (sent_with head octets 0)) in
+    let spelled = by_checksum head octets xs form zeros in
+    let total : word_sum (summed src dst xs) ≡ before + form.checksum =
+    ap (λ (ys : List ℕ). word_sum (summed src dst ys)) spelled ∙ ap word_sum (summed_is src dst head octets form.checksum)
+    ∙ words src.0 dst.0 len head octets form.checksum can.src_octets can.dst_octets form.checksum_fits in
+    let checksum_is : form.checksum ≡ 65535 - ones_complement before = one_complement before form.checksum below (sym (ap ones_complement total) ∙ right) in
+    spelled ∙ ap (λ (n : ℕ). sent_with head octets n) (checksum_is ∙ sym (ap checksum_of (summed_is src dst head octets 0)))

@@ -7,3 +7,4 @@ pub mod Sending
 pub mod Checksum
 pub mod StreamPositions
 pub mod Answering
+pub mod Told

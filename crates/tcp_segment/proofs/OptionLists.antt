@@ -46,15 +46,15 @@ walked_mss a b xs os ha hb w =
     let same : 2 ∷ 4 ∷ a ∷ b ∷ xs ≡ 2 ∷ 4 ∷ byte_at 1 size ∷ byte_at 0 size ∷ (joined os ++ w.padding) = cc in
     record { padding = w.padding; spelled = same; ends = (omega arith, w.ends) }
 
-walked_other : (kind len : ℕ) (xs : List ℕ) (os : List HeaderOption) → 3 ≤ kind → 2 ≤ len → len - 2 ≤ length xs
+walked_other : (kind len : ℕ) (xs : List ℕ) (os : List HeaderOption) → kind < 256 → len < 256 → 3 ≤ kind → 2 ≤ len → len - 2 ≤ length xs
     → Walked (drop (len - 2) xs) os → Walked (kind ∷ len ∷ xs) (Other kind (take (len - 2) xs) ∷ os)
-walked_other kind len xs os hk hl hx w =
+walked_other kind len xs os kind_fits len_fits hk hl hx w =
     let body = take (len - 2) xs in
     let long : len ≡ 2 + length body = omega (arith, length-take (len - 2) xs) in
     let parts : xs ≡ (body ++ joined os) ++ w.padding =
     sym (take-append-drop (len - 2) xs) ∙ ap (λ (ys : List ℕ). body ++ ys) w.spelled ∙ sym (append_assoc body (joined os) w.padding) in
     let same : kind ∷ len ∷ xs ≡ kind ∷ (2 + length body) ∷ ((body ++ joined os) ++ w.padding) = cc in
-    record { padding = w.padding; spelled = same; ends = (hk, w.ends) }
+    record { padding = w.padding; spelled = same; ends = ((hk, kind_fits, omega (arith, long)), w.ends) }
 
 -- one octet is read
 one_octet : (no_end no_none : Bool) (kind : ℕ) (os : List HeaderOption) → no_end ≡ nat_eq kind 0 → no_none ≡ nat_eq kind 1
@@ -83,44 +83,44 @@ size_octets (x ∷ y ∷ xs) os b reads e =
     subst (λ (ys : List HeaderOption). Walked (2 ∷ 4 ∷ x ∷ y ∷ xs) ys) o.2 (walked_mss x y xs o.0 (b 0) (b 1) (reads o.0 o.1).1)
 
 -- an option with a length is read
-long_octets : (is_mss is_four is_short : Bool) (kind len : ℕ) (xs : List ℕ) (os : List HeaderOption)
+long_octets : (is_mss is_four is_short : Bool) (kind len : ℕ) (xs : List ℕ) (os : List HeaderOption) → kind < 256 → len < 256
     → kind ≢ 0 → kind ≢ 1 → is_mss ≡ nat_eq kind 2 → is_four ≡ nat_eq len 4 → is_short ≡ nat_lt len 2
     → AreOctets xs → ReadsBehind xs 2 → ReadsBehind xs (len - 2)
     → cond is_mss (cond is_four (with_first (MaximumSegmentSize (big_number 2 xs)) (options_behind xs 2)) None)
     (cond is_short None (with_first (Other kind (take (len - 2) xs)) (options_behind xs (len - 2)))) ≡ Some os
     → Walked (kind ∷ len ∷ xs) os
-long_octets true true is_short kind len xs os no_end no_none m f s b reads2 reads e =
+long_octets true true is_short kind len xs os kind_fits len_fits no_end no_none m f s b reads2 reads e =
     let kind_is : 2 ≡ kind = sym (eqb-true kind 2 (sym m)) in
     let len_is : 4 ≡ len = sym (eqb-true len 4 (sym f)) in
     subst (λ (k : ℕ). Walked (k ∷ len ∷ xs) os) kind_is (subst (λ (l : ℕ). Walked (2 ∷ l ∷ xs) os) len_is (size_octets xs os b reads2 e))
-long_octets true false is_short kind len xs os no_end no_none m f s b reads2 reads e = cc
-long_octets false is_four true kind len xs os no_end no_none m f s b reads2 reads e = cc
-long_octets false is_four false kind len xs os no_end no_none m f s b reads2 reads e =
+long_octets true false is_short kind len xs os kind_fits len_fits no_end no_none m f s b reads2 reads e = cc
+long_octets false is_four true kind len xs os kind_fits len_fits no_end no_none m f s b reads2 reads e = cc
+long_octets false is_four false kind len xs os kind_fits len_fits no_end no_none m f s b reads2 reads e =
     let o = others _ _ _ e in
     let rest = reads o.0 o.1 in
     subst (λ (ys : List HeaderOption). Walked (kind ∷ len ∷ xs) ys) o.2
-    (walked_other kind len xs o.0 (grind (arith, nat_tests)) (grind (arith, nat_tests)) rest.0 rest.1)
+    (walked_other kind len xs o.0 kind_fits len_fits (grind (arith, nat_tests)) (grind (arith, nat_tests)) rest.0 rest.1)
 
 -- an option and more is read
-many_octets : (is_end is_none : Bool) (kind len : ℕ) (xs : List ℕ) (os : List HeaderOption)
+many_octets : (is_end is_none : Bool) (kind len : ℕ) (xs : List ℕ) (os : List HeaderOption) → kind < 256 → len < 256
     → is_end ≡ nat_eq kind 0 → is_none ≡ nat_eq kind 1
     → AreOctets xs → ReadsBehind (len ∷ xs) 0 → ReadsBehind xs 2 → ReadsBehind xs (len - 2)
     → cond is_end (Some (EndOfOptions ∷ [])) (cond is_none (with_first NoOperation (options_behind (len ∷ xs) 0))
     (cond (nat_eq kind 2) (cond (nat_eq len 4) (with_first (MaximumSegmentSize (big_number 2 xs)) (options_behind xs 2)) None)
     (cond (nat_lt len 2) None (with_first (Other kind (take (len - 2) xs)) (options_behind xs (len - 2)))))) ≡ Some os
     → Walked (kind ∷ len ∷ xs) os
-many_octets true is_none kind len xs os z o b reads0 reads2 reads e =
+many_octets true is_none kind len xs os kind_fits len_fits z o b reads0 reads2 reads e =
     let kind_is : 0 ≡ kind = sym (eqb-true kind 0 (sym z)) in
     let os_is : EndOfOptions ∷ [] ≡ os = cc in
     subst (λ (ys : List HeaderOption). Walked (kind ∷ len ∷ xs) ys) os_is (subst (λ (k : ℕ). Walked (k ∷ len ∷ xs) (EndOfOptions ∷ [])) kind_is (walked_end (len ∷ xs)))
-many_octets false true kind len xs os z o b reads0 reads2 reads e =
+many_octets false true kind len xs os kind_fits len_fits z o b reads0 reads2 reads e =
     let kind_is : 1 ≡ kind = sym (eqb-true kind 1 (sym o)) in
     let p = others _ _ _ e in
     subst (λ (ys : List HeaderOption). Walked (kind ∷ len ∷ xs) ys) p.2 (subst (λ (k : ℕ). Walked (k ∷ len ∷ xs) (NoOperation ∷ p.0)) kind_is (walked_none (len ∷ xs) p.0 (reads0 p.0 p.1).1))
-many_octets false false kind len xs os z o b reads0 reads2 reads e =
+many_octets false false kind len xs os kind_fits len_fits z o b reads0 reads2 reads e =
     let no_end : kind ≢ 0 = λ k. grind (arith, nat_tests) in
     let no_none : kind ≢ 1 = λ k. grind (arith, nat_tests) in
-    long_octets (nat_eq kind 2) (nat_eq len 4) (nat_lt len 2) kind len xs os no_end no_none refl refl refl b reads2 reads e
+    long_octets (nat_eq kind 2) (nat_eq len 4) (nat_lt len 2) kind len xs os kind_fits len_fits no_end no_none refl refl refl b reads2 reads e
 
 -- what is read is spelled so
 pub are_walked : (xs : List ℕ) (n : ℕ) → AreOctets xs → ReadsBehind xs n
@@ -134,7 +134,7 @@ are_walked (kind ∷ len ∷ xs) zero b os e =
     let tail = tail_octets kind (len ∷ xs) b in
     let rest = tail_octets len xs tail in (
       omega arith,
-      many_octets _ _ kind len xs os refl refl rest (are_walked (len ∷ xs) 0 tail) (are_walked xs 2 rest) (are_walked xs (len - 2) rest) e,
+      many_octets _ _ kind len xs os (b 0) (b 1) refl refl rest (are_walked (len ∷ xs) 0 tail) (are_walked xs 2 rest) (are_walked xs (len - 2) rest) e,
     )
 
 -- an option without a length is read first

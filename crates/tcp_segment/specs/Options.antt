@@ -1,4 +1,5 @@
--- The options of a TCP header (RFC 9293 section 3.2).
+-- The options of a TCP header: their shape, and what stands behind the end of the list (RFC 9293 section 3.1); the kinds 0,
+-- 1 and 2 (section 3.2).
 use Rattle.std.specs.Prelude.{◌≡◌, ℕ, ◌+◌, ◌≤◌, ◌<◌, ◌^◌, List, [], ◌∷◌, length, Option, Some}
 use Rattle.std.specs.List.{flat_map}
 use Rattle.byteorder.specs.Endian.{big_bytes}
@@ -21,12 +22,12 @@ option_octets (Other kind octets) = kind ∷ (2 + length octets) ∷ octets
 abbrev pub joined : List HeaderOption → List ℕ
 joined options = flat_map option_octets options
 
--- an option that has octets of its own
+-- an option that octets can spell: each number fits its field, and `Other` is none of the three kinds above
 abbrev pub IsOption : HeaderOption → Type 0
 IsOption EndOfOptions = Unit {0}
 IsOption NoOperation = Unit {0}
 IsOption (MaximumSegmentSize size) = size < 2 ^ 16
-IsOption (Other kind octets) = 3 ≤ kind
+IsOption (Other kind octets) = (3 ≤ kind) × (kind < 2 ^ 8) × (2 + length octets < 2 ^ 8)
 
 -- What may stand between a list of options and the end of the header: nothing, or anything behind the
 -- end of the list, behind which no option stands.
@@ -35,7 +36,13 @@ AreOptions [] padding = padding ≡ []
 AreOptions (EndOfOptions ∷ rest) padding = rest ≡ []
 AreOptions (option ∷ rest) padding = IsOption option × AreOptions rest padding
 
--- the maximum segment size that the last such option of a list tells, or else the one told before
+-- an option that tells no maximum segment size
+abbrev pub TellsNoSize : HeaderOption → Type 0
+TellsNoSize (MaximumSegmentSize size) = ⊥
+TellsNoSize option = Unit {0}
+
+-- The maximum segment size that a list of options tells, read from left to right with the one told so far: that of the
+-- last such option (RFC 9293 section 3.7.1). `laws::last_size_stands` says so without a walk.
 abbrev pub last_told : Option ℕ → List HeaderOption → Option ℕ
 last_told told [] = told
 last_told told (MaximumSegmentSize size ∷ rest) = last_told (Some size) rest

@@ -1,5 +1,6 @@
--- The segment that octets spell, as the plain reading of them from left to right. The contract of `TcpView::parse`
--- does not rest on this page: it says what is read by the spelling alone.
+-- The segment that octets spell, as the plain reading of them from left to right (RFC 9293 sections 3.1 and 3.2). The
+-- contract of `TcpView::parse` does not rest on this page: it says what is read by the spelling alone. What a world
+-- foresees of a frame rests on it.
 use Rattle.std.specs.Prelude.{ℕ, zero, suc, ◌-◌, ◌*◌, ◌/◌, ◌%◌, ◌==◌, nat_lt, ◌||◌, if◌then◌else◌, List, [], ◌∷◌, length, take, drop, slice_index, Option, Some, None}
 use Rattle.std.specs.Option.{option_map}
 use Rattle.byteorder.specs.Endian.{big_number}

@@ -1,5 +1,5 @@
 -- A TCP segment, and the octets that spell it (RFC 9293 section 3.1).
-use Rattle.std.specs.Prelude.{◌≡◌, ℕ, ◌+◌, ◌*◌, ◌<◌, ◌^◌, List, ◌++◌, length, Bool, if◌then◌else◌, max, min, unwrap_or, None, Result, Ok, Err}
+use Rattle.std.specs.Prelude.{◌≡◌, ℕ, ◌+◌, ◌*◌, ◌<◌, ◌^◌, List, ◌++◌, length, Bool, if◌then◌else◌, max, min, unwrap_or, Option, None, Result, Ok, Err}
 use Rattle.byteorder.specs.Endian.{big_bytes}
 use Rattle.inet_sum.specs.Sum.{sum_of, pseudo_octets}
 use Rattle.ipv4.specs.declared.addr.Addr.{Addr}
@@ -90,12 +90,15 @@ IsParsed src dst octets (Ok segment) = Spells src dst segment octets
 IsParsed src dst octets (Err UpperHeader) = (segment : Segment) → HasForm segment octets → ⊥
 IsParsed src dst octets (Err UpperSum) = (segment : Segment) × HasForm segment octets × (SumIsRight src dst octets → ⊥)
 
--- The maximum segment size that the peer told (RFC 9293 section 3.7.1): read where SYN is set, 536
--- where none is told, and never under 64.
-abbrev pub told_mss : Segment → ℕ
-told_mss segment = if segment.flags.syn then max (unwrap_or (last_told None segment.options) 536) 64 else 536
+-- the maximum segment size that a segment tells (RFC 9293 section 3.7.1): that of its last such option, read where SYN is set
+abbrev pub told_of : Segment → Option ℕ
+told_of segment = if segment.flags.syn then last_told None segment.options else None
 
--- the most octets that are sent to this peer in one segment
+-- the size that counts as told: 536 where none is told, and never under 64
+abbrev pub told_mss : Segment → ℕ
+told_mss segment = max (unwrap_or (told_of segment) 536) 64
+
+-- SMSS, the most octets that are sent to this peer in one segment (RFC 5681 section 2, RFC 9293 section 3.7.1)
 abbrev pub smss_of : Segment → ℕ
 smss_of segment = min (told_mss segment) 1460
 

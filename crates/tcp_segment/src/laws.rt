@@ -1,11 +1,12 @@
 //! Laws of the definitions that the contracts of this crate cite: each is the contract of a function
 //! that does nothing.
 
-ghost use Rattle.std.specs.Prelude.{◌≡◌, ℕ, ◌+◌, ◌-◌, ◌*◌, ◌<◌, ◌≤◌, ◌%◌, ◌^◌, ◌↔◌, pos, ◌-ℤ◌, List, length, get_or, Option, Some, None, Result, Ok, Err};
+ghost use Rattle.std.specs.Prelude.{◌≡◌, ℕ, ◌+◌, ◌-◌, ◌*◌, ◌<◌, ◌≤◌, ◌%◌, ◌^◌, ◌↔◌, pos, ◌-ℤ◌, List, ◌∷◌, ◌++◌, All, length, get_or, Option, Some, None, Result, Ok, Err};
 ghost use Rattle.ipv4.specs.declared.addr.Addr.{Addr};
 ghost use Rattle.tcp_segment.specs.declared.fault.SegmentFault.{SegmentFault};
 ghost use Rattle.tcp_segment.specs.declared.head.Head.{Head};
-ghost use Rattle.tcp_segment.specs.Segment.{Segment, IsParsed, Spells};
+ghost use Rattle.tcp_segment.specs.Options.{HeaderOption, MaximumSegmentSize, TellsNoSize, last_told};
+ghost use Rattle.tcp_segment.specs.Segment.{Segment, HasForm, IsParsed, SumIsRight, Spells};
 ghost use Rattle.tcp_segment.specs.Reading.{segment_in};
 ghost use Rattle.tcp_segment.specs.Sent.{CanBeSent, sent, sent_offset, sent_octets};
 ghost use Rattle.tcp_segment.specs.Wire.{wire, past, difference, IsBefore, IsAtMost};
@@ -25,19 +26,35 @@ pub fn positions()
         → (IsAtMost (wire initial p) (wire initial q) ↔ (p ≤ q)) }
 {}
 
-/// For all octets there is one answer that `TcpView::parse` may give.
+/// For all octets there is one answer that `TcpView::parse` may give (RFC 9293 section 3.1).
 pub fn one_answer()
     ensures { (src dst : Addr) (octets : List ℕ) (first second : Result Segment SegmentFault)
         → IsParsed src dst octets first → IsParsed src dst octets second → first ≡ second }
 {}
 
-/// The plain reading of octets from left to right finds the segment that `TcpView::parse` answers, and none where it answers a fault.
+/// The plain reading of octets from left to right finds the segment that `TcpView::parse` answers, and none where it answers a
+/// fault (RFC 9293 sections 3.1 and 3.2).
 pub fn read_plainly()
     ensures ok { (src dst : Addr) (octets : List ℕ) (segment : Segment) → IsParsed src dst octets (Ok segment) → segment_in src dst octets ≡ Some segment }
     ensures err { (src dst : Addr) (octets : List ℕ) (fault : SegmentFault) → ((i : ℕ) → get_or octets i 0 < 256) → IsParsed src dst octets (Err fault) → segment_in src dst octets ≡ None }
 {}
 
-/// What `Head::emit` writes spells the segment that is meant, and so parses to it.
+/// Of the options that tell a maximum segment size the last one stands, whatever stands before it, and without one none is
+/// told (RFC 9293 section 3.7.1).
+pub fn last_size_stands()
+    ensures last { (before after : List HeaderOption) (size : ℕ) → All TellsNoSize after
+        → last_told None (before ++ MaximumSegmentSize size ∷ after) ≡ Some size }
+    ensures none { (options : List HeaderOption) → All TellsNoSize options → last_told None options ≡ None }
+{}
+
+/// What this stack sends has one spelling: no other octets have its form, reserved bits of zero and a right checksum. A
+/// checksum of 0xFFFF is set apart, which is right too where 0 is (RFC 9293 section 3.1).
+pub fn one_spelling()
+    ensures { (src dst : Addr) (head : Head) (octets xs : List ℕ) (form : HasForm (sent head octets) xs) → CanBeSent src dst head octets
+        → SumIsRight src dst xs → form.reserved ≡ 0 → form.checksum < 65535 → xs ≡ sent_octets src dst head octets }
+{}
+
+/// What `Head::emit` writes spells the segment that is meant, and so parses to it (RFC 9293 section 3.1).
 pub fn emitted_parses()
     ensures len { (src dst : Addr) (head : Head) (octets : List ℕ)
         → length (sent_octets src dst head octets) ≡ 4 * sent_offset head + length octets }

@@ -5,7 +5,7 @@
 mod fault;
 mod flags;
 mod head;
-mod laws;
+pub mod laws;
 mod options;
 mod seq;
 mod sum;
@@ -24,7 +24,6 @@ pub const LEAST_MSS: u16 = 64;
 pub use fault::SegmentFault;
 pub use flags::Flags;
 pub use head::Head;
-pub use laws::{emitted_parses, one_answer, positions};
 pub use seq::Seq;
 pub use view::TcpView;
 

@@ -36,6 +36,7 @@ fn syn(rt: HostRuntime) {
     assert!(rt; view.flags().syn && !view.flags().ack);
     assert_eq!(rt; view.window(), 65_535);
     assert_eq!(rt; view.urgent(), 0);
+    assert_eq!(rt; view.told(), Some(1460));
     assert_eq!(rt; view.mss(), 1460);
     assert_eq!(rt; view.smss(), 1460);
     assert_eq!(rt; view.span(), 1);
@@ -68,6 +69,7 @@ fn data(rt: HostRuntime) {
     assert_eq!(rt; view.number(), Seq(0));
     assert_eq!(rt; view.acknowledgement(), Seq(8));
     assert!(rt; view.flags().ack && view.flags().psh && !view.flags().syn);
+    assert_eq!(rt; view.told(), None);
     assert_eq!(rt; view.mss(), 536);
     assert_eq!(rt; view.span(), 5);
     assert_eq!(rt; view.payload(), b"hello".as_slice());

@@ -1,11 +1,10 @@
 //! A segment that was received (RFC 9293 section 3.1).
 
-ghost use Rattle.std.specs.Prelude.{◌≡◌, ◌+◌, ◌<◌, ◌≤◌, ◌^◌, IfOk, OnOk, IfErr, None, drop, length};
+ghost use Rattle.std.specs.Prelude.{◌≡◌, ◌+◌, ◌<◌, ◌≤◌, ◌^◌, IfOk, OnOk, IfErr, drop, length};
 ghost use Rattle.std.specs.Option.{ok_or};
 ghost use Rattle.byteorder.specs.Endian.{big_number};
 ghost use Rattle.tcp_segment.specs.declared.fault.SegmentFault.TheVariants.{UpperHeader};
-ghost use Rattle.tcp_segment.specs.Options.{last_told};
-ghost use Rattle.tcp_segment.specs.Segment.{Segment, HasForm, IsParsed, told_mss, smss_of, span_of};
+ghost use Rattle.tcp_segment.specs.Segment.{Segment, HasForm, IsParsed, told_of, told_mss, smss_of, span_of};
 ghost use Rattle.tcp_segment.specs.Reading.{header_in};
 
 use crate::fault::SegmentFault;
@@ -137,23 +136,23 @@ impl<'a> TcpView<'a> {
         self.urgent
     }
 
-    /// The maximum segment size that the peer told, in octets (RFC 9293 section 3.7.1): read where SYN is
-    /// set, 536 where none is told, and at least 64.
-    pub fn mss(&self) -> u16
-        ensures { result ≡ told_mss self.now }
+    /// The maximum segment size that the segment tells, in octets (RFC 9293 section 3.7.1): that of its last such option, and
+    /// none without SYN or without the option.
+    pub fn told(&self) -> Option<u16>
+        ensures { result ≡ told_of self.now }
     {
         if self.head.flags.syn {
-            self.told().unwrap_or(DEFAULT_MSS).max(LEAST_MSS)
+            options::told_mss(self.options).unwrap_or(None)
         } else {
-            DEFAULT_MSS
+            None
         }
     }
 
-    /// The maximum segment size that its last such option tells.
-    fn told(&self) -> Option<u16>
-        ensures { result ≡ last_told None self.now.options }
+    /// The maximum segment size that counts as told, in octets (RFC 9293 section 3.7.1): 536 where none is told, and at least 64.
+    pub fn mss(&self) -> u16
+        ensures { result ≡ told_mss self.now }
     {
-        options::told_mss(self.options).unwrap_or(None)
+        self.told().unwrap_or(DEFAULT_MSS).max(LEAST_MSS)
     }
 
     /// The most octets to send in one segment: what the peer told, and at most 1460.
