@@ -11,3 +11,4 @@ pub mod Retained
 pub mod Followed
 pub mod Caused
 pub mod Over
+pub mod FirstPorts

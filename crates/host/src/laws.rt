@@ -1,6 +1,6 @@
 //! Laws over the definitions alone: functions with nothing to do, whose contracts are the laws.
 
-ghost use Rattle.std.specs.Prelude.{◌≡◌, ℕ, not, Some, is_some};
+ghost use Rattle.std.specs.Prelude.{◌≡◌, ℕ, Bool, true, false, not, Option, Some, None, is_some};
 ghost use Rattle.ipv4.specs.declared.addr.Endpoint.{Endpoint};
 ghost use Rattle.ipv4.specs.declared.addr.Pair.{Pair};
 ghost use Rattle.tcp_segment.specs.Segment.{Segment};
@@ -10,6 +10,7 @@ ghost use Rattle.host.specs.HostView.{HostView};
 ghost use Rattle.host.specs.Dispatch.{arrival, opened_by, pair_opened};
 ghost use Rattle.host.specs.Calls.{connect_refusal, pair_connected};
 ghost use Rattle.host.specs.Sound.{IsSoundHost, NoneIsOver};
+ghost use Rattle.host.specs.Ports.{first_port, IsDynamic, IsFirstBehind};
 ghost use Rattle.host.specs.Causes.{Event, after_event, IsStep, Follows};
 
 /// What `would_open` foresees of a segment is the pair that its delivery leads to the opening of, whatever the moment and the initial number.
@@ -32,4 +33,11 @@ pub fn ends_have_causes()
 /// What is over is taken out at once: no event leaves a connection in the table that its caller closed, that is CLOSED and owes no reset.
 pub fn nothing_over_stays()
     ensures { (h : HostView) (e : Event) → NoneIsOver h → NoneIsOver (after_event h e) }
+{}
+
+/// Of the dynamic ports (RFC 6335 section 6: 49152 to 65535) the first one that passes is given, in the turn that begins behind the last one
+/// given; and none exactly where no dynamic port passes.
+pub fn dynamic_ports()
+    ensures given { (test : ℕ → Bool) (last port : ℕ) → IsDynamic last → first_port test last 0 16384 ≡ Some port → IsFirstBehind test last port }
+    ensures none { (test : ℕ → Bool) (last : ℕ) → IsDynamic last → first_port test last 0 16384 ≡ None → (port : ℕ) → IsDynamic port → test port ≡ false }
 {}
