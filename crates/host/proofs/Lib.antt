@@ -12,3 +12,4 @@ pub mod Followed
 pub mod Caused
 pub mod Over
 pub mod FirstPorts
+pub mod Deadlines

@@ -6,7 +6,8 @@ ghost use Rattle.ipv4.specs.declared.addr.Pair.{Pair};
 ghost use Rattle.tcp_segment.specs.Segment.{Segment};
 ghost use Rattle.tcp_state.specs.declared.moment.Moment.{Moment};
 ghost use Rattle.host.specs.declared.entry.SocketId.{SocketId};
-ghost use Rattle.host.specs.HostView.{HostView};
+ghost use Rattle.tcp_state.specs.View.{is_reached};
+ghost use Rattle.host.specs.HostView.{HostView, later, after_tick, least_deadline, IsLeastDeadline, HasNoDeadline};
 ghost use Rattle.host.specs.Dispatch.{arrival, opened_by, pair_opened};
 ghost use Rattle.host.specs.Calls.{connect_refusal, pair_connected};
 ghost use Rattle.host.specs.Sound.{IsSoundHost, NoneIsOver};
@@ -40,4 +41,16 @@ pub fn nothing_over_stays()
 pub fn dynamic_ports()
     ensures given { (test : ℕ → Bool) (last port : ℕ) → IsDynamic last → first_port test last 0 16384 ≡ Some port → IsFirstBehind test last port }
     ensures none { (test : ℕ → Bool) (last : ℕ) → IsDynamic last → first_port test last 0 16384 ≡ None → (port : ℕ) → IsDynamic port → test port ≡ false }
+{}
+
+/// The moment that `next_deadline` answers is the deadline of an entry, and none has an earlier one; it answers none exactly where no entry has
+/// one.
+pub fn deadline_is_the_least()
+    ensures some { (h : HostView) (moment : Moment) → least_deadline h ≡ Some moment → IsLeastDeadline h moment }
+    ensures none { (h : HostView) → least_deadline h ≡ None → HasNoDeadline h }
+{}
+
+/// A tick before the deadline changes nothing but the kept moment, and so does any tick where there is no deadline.
+pub fn ticks_wait()
+    ensures { (h : HostView) (now : Moment) → is_reached (least_deadline h) (later h now) ≡ false → after_tick h now ≡ record h { kept = later h now } }
 {}
