@@ -13,3 +13,4 @@ pub mod Caused
 pub mod Over
 pub mod FirstPorts
 pub mod Deadlines
+pub mod Opened

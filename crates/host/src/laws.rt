@@ -9,7 +9,8 @@ ghost use Rattle.host.specs.declared.entry.SocketId.{SocketId};
 ghost use Rattle.tcp_state.specs.View.{is_reached};
 ghost use Rattle.host.specs.HostView.{HostView, later, after_tick, least_deadline, IsLeastDeadline, HasNoDeadline};
 ghost use Rattle.host.specs.Dispatch.{arrival, opened_by, pair_opened};
-ghost use Rattle.host.specs.Calls.{connect_refusal, pair_connected};
+ghost use Rattle.host.specs.Calls.{connect_refusal, after_connect, pair_connected};
+ghost use Rattle.host.specs.Pairs.{socket_pair};
 ghost use Rattle.host.specs.Sound.{IsSoundHost, NoneIsOver};
 ghost use Rattle.host.specs.Ports.{first_port, IsDynamic, IsFirstBehind};
 ghost use Rattle.host.specs.Causes.{Event, after_event, IsStep, Follows};
@@ -19,9 +20,10 @@ pub fn openings_are_foreseen()
     ensures { (h : HostView) (now : Moment) (isn : ℕ) (s : Segment) → pair_opened h s ≡ opened_by h s (arrival h now isn s) }
 {}
 
-/// `would_connect` foresees a pair exactly where `connect` is not refused.
+/// `would_connect` foresees a pair exactly where `connect` is not refused, and after the `connect` the socket has a connection of that pair.
 pub fn connects_are_foreseen()
-    ensures { (h : HostView) (id : SocketId) (peer : Endpoint) → is_some (pair_connected h id peer) ≡ not (is_some (connect_refusal h id peer)) }
+    ensures foreseen { (h : HostView) (id : SocketId) (peer : Endpoint) → is_some (pair_connected h id peer) ≡ not (is_some (connect_refusal h id peer)) }
+    ensures opened { (h : HostView) (isn : ℕ) (id : SocketId) (peer : Endpoint) (pair : Pair) → pair_connected h id peer ≡ Some pair → socket_pair (after_connect h isn id peer) id ≡ Some pair }
 {}
 
 /// The state of an entry stays, or goes along an edge of the table of states. An entry becomes CLOSED, or is taken out of the table, only
