@@ -14,3 +14,4 @@ pub mod Over
 pub mod FirstPorts
 pub mod Deadlines
 pub mod Opened
+pub mod Ends

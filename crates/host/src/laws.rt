@@ -13,7 +13,7 @@ ghost use Rattle.host.specs.Calls.{connect_refusal, after_connect, pair_connecte
 ghost use Rattle.host.specs.Pairs.{socket_pair};
 ghost use Rattle.host.specs.Sound.{IsSoundHost, NoneIsOver};
 ghost use Rattle.host.specs.Ports.{first_port, IsDynamic, IsFirstBehind};
-ghost use Rattle.host.specs.Causes.{Event, after_event, IsStep, Follows};
+ghost use Rattle.host.specs.Causes.{Event, after_event, IsAdded, IsStep, Follows};
 
 /// What `would_open` foresees of a segment is the pair that its delivery leads to the opening of, whatever the moment and the initial number.
 pub fn openings_are_foreseen()
@@ -28,9 +28,10 @@ pub fn connects_are_foreseen()
 
 /// The state of an entry stays, or goes along an edge of the table of states. An entry becomes CLOSED, or is taken out of the table, only
 /// by a cause: its close or that of the listener that it waits at, or an event of its connection that ends it. Every other one keeps its
-/// place. An error that its connection tells was told before, or a reset tells it in a state that has it.
+/// place. An error that its connection tells was told before, or a reset tells it in a state that has it. Behind them a new entry stands only
+/// where a socket was made, or a segment opened a connection at a listener.
 pub fn ends_have_causes()
-    ensures { (h : HostView) (e : Event) → IsSoundHost h → Follows (IsStep h e) h.entries (let after = after_event h e in after.entries) }
+    ensures { (h : HostView) (e : Event) → IsSoundHost h → Follows (IsStep h e) (IsAdded h e) h.entries (let after = after_event h e in after.entries) }
 {}
 
 /// What is over is taken out at once: no event leaves a connection in the table that its caller closed, that is CLOSED and owes no reset.
