@@ -249,7 +249,7 @@ connect_followed h isn id peer = by_role (role_of h id) refl
     by_role (Some role) is = by_open role is (open_answer role) refl
 
 -- the first that passes takes a step
-settled_followed : (Step : Entry → Option Entry → Type 0) (Added : List Entry → Type 0) → Added [] → (r : Fate) (test : Entry → Bool) (change : Role → Role) (entries : List Entry) → ((x : Entry) → Step x (Some x))
+pub settled_followed : (Step : Entry → Option Entry → Type 0) (Added : List Entry → Type 0) → Added [] → (r : Fate) (test : Entry → Bool) (change : Role → Role) (entries : List Entry) → ((x : Entry) → Step x (Some x))
     → (is_kept r ≡ true → (x : Entry) → test x ≡ true → find test entries ≡ Some x → Step x (Some (with_role change x)))
     → (is_kept r ≡ false → (x : Entry) → test x ≡ true → find test entries ≡ Some x → Step x None)
     → Follows Step Added entries (settled r test change entries)

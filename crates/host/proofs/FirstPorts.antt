@@ -46,6 +46,10 @@ found test last steps (suc n) port given =
       before = λ j from below. none_at test last steps j fails (λ i on same. more.before i on (omega arith)) from;
     }
 
+-- what is given passes
+pub given_passes : (test : ℕ → Bool) (last steps n port : ℕ) → first_port test last steps n ≡ Some port → test port ≡ true
+given_passes test last steps n port given = (found test last steps n port given).passes
+
 -- none passes
 missed : (test : ℕ → Bool) (last steps n : ℕ) → first_port test last steps n ≡ None → (j : ℕ) → steps ≤ j → j < steps + n → test (port_after last j) ≡ false
 missed test last steps zero given j from within = absurd (omega arith)

@@ -15,3 +15,6 @@ pub mod FirstPorts
 pub mod Deadlines
 pub mod Opened
 pub mod Ends
+pub mod KeptEnds
+pub mod Ordering
+pub mod Ordered

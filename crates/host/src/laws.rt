@@ -1,18 +1,20 @@
 //! Laws over the definitions alone: functions with nothing to do, whose contracts are the laws.
 
 ghost use Rattle.std.specs.Prelude.{◌≡◌, ℕ, Bool, true, false, not, Option, Some, None, is_some};
+ghost use Rattle.ipv4.specs.declared.addr.Addr.{Addr};
 ghost use Rattle.ipv4.specs.declared.addr.Endpoint.{Endpoint};
 ghost use Rattle.ipv4.specs.declared.addr.Pair.{Pair};
 ghost use Rattle.tcp_segment.specs.Segment.{Segment};
 ghost use Rattle.tcp_state.specs.declared.moment.Moment.{Moment};
 ghost use Rattle.host.specs.declared.entry.SocketId.{SocketId};
 ghost use Rattle.tcp_state.specs.View.{is_reached};
-ghost use Rattle.host.specs.HostView.{HostView, later, after_tick, least_deadline, IsLeastDeadline, HasNoDeadline};
+ghost use Rattle.host.specs.HostView.{HostView, fresh, later, after_tick, least_deadline, IsLeastDeadline, HasNoDeadline};
 ghost use Rattle.host.specs.Dispatch.{arrival, opened_by, pair_opened};
 ghost use Rattle.host.specs.Calls.{connect_refusal, after_connect, pair_connected};
 ghost use Rattle.host.specs.Pairs.{socket_pair};
 ghost use Rattle.host.specs.Sound.{IsSoundHost, NoneIsOver};
 ghost use Rattle.host.specs.Ports.{first_port, IsDynamic, IsFirstBehind};
+ghost use Rattle.host.specs.Order.{IsOrdered, IsAllowed};
 ghost use Rattle.host.specs.Causes.{Event, after_event, IsAdded, IsStep, Follows};
 
 /// What `would_open` foresees of a segment is the pair that its delivery leads to the opening of, whatever the moment and the initial number.
@@ -56,4 +58,11 @@ pub fn deadline_is_the_least()
 /// A tick before the deadline changes nothing but the kept moment, and so does any tick where there is no deadline.
 pub fn ticks_wait()
     ensures { (h : HostView) (now : Moment) → is_reached (least_deadline h) (later h now) ≡ false → after_tick h now ≡ record h { kept = later h now } }
+{}
+
+/// The table of a host stays in order, from the first on, whatever happens but a call that is refused: ids ascend, no two connections but CLOSED
+/// ones have the same two ends (RFC 9293 section 3.4.1), and no two sockets without a connection have the same port.
+pub fn tables_stay_ordered()
+    ensures fresh { (addr neighbour : Addr) → IsOrdered (fresh addr neighbour) }
+    ensures kept { (h : HostView) (e : Event) → IsAllowed h e → IsOrdered h → IsOrdered (after_event h e) }
 {}
