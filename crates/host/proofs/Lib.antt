@@ -18,3 +18,4 @@ pub mod Ends
 pub mod KeptEnds
 pub mod Ordering
 pub mod Ordered
+pub mod Held

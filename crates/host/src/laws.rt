@@ -1,15 +1,17 @@
 //! Laws over the definitions alone: functions with nothing to do, whose contracts are the laws.
 
-ghost use Rattle.std.specs.Prelude.{◌≡◌, ℕ, Bool, true, false, not, Option, Some, None, is_some};
+ghost use Rattle.std.specs.Prelude.{◌≡◌, ℕ, ◌+◌, Bool, true, false, not, Option, Some, None, is_some};
 ghost use Rattle.ipv4.specs.declared.addr.Addr.{Addr};
 ghost use Rattle.ipv4.specs.declared.addr.Endpoint.{Endpoint};
 ghost use Rattle.ipv4.specs.declared.addr.Pair.{Pair};
+ghost use Rattle.ipv4.specs.Addresses.{pair_of};
 ghost use Rattle.tcp_segment.specs.Segment.{Segment};
 ghost use Rattle.tcp_state.specs.declared.moment.Moment.{Moment};
 ghost use Rattle.host.specs.declared.entry.SocketId.{SocketId};
 ghost use Rattle.tcp_state.specs.View.{is_reached};
-ghost use Rattle.host.specs.HostView.{HostView, fresh, later, after_tick, least_deadline, IsLeastDeadline, HasNoDeadline};
-ghost use Rattle.host.specs.Dispatch.{arrival, opened_by, pair_opened};
+ghost use Rattle.host.specs.HostView.{HostView, holder_id, fresh, later, after_tick, least_deadline, IsLeastDeadline, HasNoDeadline};
+ghost use Rattle.host.specs.Dispatch.{Opens, local_end, peer_end, arrival, opened_by, pair_opened};
+ghost use Rattle.host.specs.Endpoints.{same_addr};
 ghost use Rattle.host.specs.Calls.{connect_refusal, after_connect, pair_connected};
 ghost use Rattle.host.specs.Pairs.{socket_pair};
 ghost use Rattle.host.specs.Sound.{IsSoundHost, NoneIsOver};
@@ -18,8 +20,10 @@ ghost use Rattle.host.specs.Order.{IsOrdered, IsAllowed};
 ghost use Rattle.host.specs.Causes.{Event, after_event, IsAdded, IsStep, Follows};
 
 /// What `would_open` foresees of a segment is the pair that its delivery leads to the opening of, whatever the moment and the initial number.
+/// Where a segment opens one, the new connection, of the next id, holds that pair.
 pub fn openings_are_foreseen()
-    ensures { (h : HostView) (now : Moment) (isn : ℕ) (s : Segment) → pair_opened h s ≡ opened_by h s (arrival h now isn s) }
+    ensures foreseen { (h : HostView) (now : Moment) (isn : ℕ) (s : Segment) → pair_opened h s ≡ opened_by h s (arrival h now isn s) }
+    ensures opened { (h : HostView) (now : Moment) (isn : ℕ) (s : Segment) (next : HostView) → IsOrdered h → same_addr h.addr h.neighbour ≡ false → arrival h now isn s ≡ Opens next → holder_id next (pair_of (local_end h s) (peer_end h s)) ≡ Some (record { 0 = h.last_id + 1 }) }
 {}
 
 /// `would_connect` foresees a pair exactly where `connect` is not refused, and after the `connect` the socket has a connection of that pair.
