@@ -1,4 +1,4 @@
--- Which states the entries of a host's table join, what ends them, and what makes them tell an error (RFC 9293 section 3.3.2).
+-- Which states the entries of a host's table join, what ends them, and what makes them tell an error (RFC 9293 sections 3.3.2 and 3.10).
 use Rattle.std.specs.Prelude.{◌≡◌, ◌⊎◌, ℕ, ◌+◌, ◌==◌, ◌&&◌, ◌||◌, not, Bool, true, false, List, [], ◌∷◌, length, Option, Some, None, find}
 use Rattle.ipv4.specs.declared.addr.Endpoint.{Endpoint}
 use Rattle.tcp_segment.specs.Segment.{Segment}
