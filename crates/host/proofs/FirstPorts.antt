@@ -77,6 +77,10 @@ place_round last place port a b c is above = omega arith
 dynamic_after : (last place port : ℕ) → port ≡ port_after last place → IsDynamic port
 dynamic_after last place port is = record { from_first = omega arith; to_last = omega arith }
 
+-- what is given is dynamic
+pub given_dynamic : (test : ℕ → Bool) (last steps n port : ℕ) → first_port test last steps n ≡ Some port → IsDynamic port
+given_dynamic test last steps n port given = let f = found test last steps n port given in dynamic_after last f.place port f.is
+
 pub first_behind : (test : ℕ → Bool) (last port : ℕ) → IsDynamic last → first_port test last 0 16384 ≡ Some port → IsFirstBehind test last port
 first_behind test last port dynamic given = record {
   dynamic = within;

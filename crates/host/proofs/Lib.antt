@@ -19,3 +19,4 @@ pub mod KeptEnds
 pub mod Ordering
 pub mod Ordered
 pub mod Held
+pub mod Numbered

@@ -23,23 +23,23 @@ use Rattle.host.specs.declared.entry.Role.TheVariants.{Idle, Listener, Connected
 use Rattle.host.specs.Endpoints.{same_addr, same_end}
 use Rattle.host.specs.Entries.{is_socket, waits_at, is_between, is_live_between, is_listening_at, is_due, is_offered_at, is_kept, has_port, uses_port, settled, fate_of, arrived, ticked, tick_fate_of, emitted_at, emitted_fate, aborted, forsaken, forsaken_fate, closed, close_fate_of, bound_to, listening, connecting, accepted, sent, received, write_shut, new_socket, new_waiting, with_role}
 use Rattle.host.specs.HostView.{HostView, fresh, later, role_of, after_emission}
-use Rattle.host.specs.Calls.{open_answer, reach_refusal, port_for, is_pair_held, is_port_taken, bind_refusal, connect_refusal, after_connect, after_socket_closed}
+use Rattle.host.specs.Calls.{open_answer, reach_refusal, port_for, counted_port, is_pair_held, is_port_taken, bind_refusal, connect_refusal, after_connect, after_socket_closed}
 use Rattle.host.specs.Dispatch.{local_end, peer_end, is_opening as opens, has_no_place, answered, arrival, arrival_alone, after_opening}
 use Rattle.host.specs.Replies.{reset_at_ack, answer_to, answer_at_listener}
 use Rattle.host.specs.Lists.{change_first}
-use Rattle.host.specs.Ports.{is_free_port}
+use Rattle.host.specs.Ports.{IsDynamic, is_free_port}
 use Rattle.host.specs.Causes.{Event, Makes, Binds, Listens, Accepts, Connects, Sends, Receives, Shuts, Closes, Ticks, Hears, Emits, after_arrival, after_event}
 use Rattle.host.specs.Order.{has_for_itself, is_alone_at, LiesBetween, IsOrdered, IsAllowed}
 use Rattle.host.proofs.Caused.{settled_followed}
 use Rattle.host.proofs.Emitted.{emission-of_entry}
 use Rattle.host.proofs.Ends.{same_addr-true, same_end-true}
-use Rattle.host.proofs.FirstPorts.{given_passes}
+use Rattle.host.proofs.FirstPorts.{given_passes, given_dynamic}
 use Rattle.host.proofs.Followed.{IsNothing, by_test, first_changed, each_followed}
 use Rattle.host.proofs.KeptEnds.{keeps-nothing, keeps-send, keeps-recv, keeps-shutdown, keeps-tick, keeps-abort, keeps-close, keeps-emitted, keeps-segment}
 use Rattle.host.proofs.Ordering.{IsBound, Keeps, KeepsRole, keeps_role, keeps_connection, nowhere, no_port, ordered_by, ordered_still, ascends_joined, count_changed, count_joined, count_unfound, count_none}
 
 pub fresh_ordered : (addr neighbour : Addr) → IsOrdered (fresh addr neighbour)
-fresh_ordered addr neighbour = record { ids = omega arith; ends = λ local peer. omega arith; ports = λ port. omega arith; own = tt }
+fresh_ordered addr neighbour = record { ids = omega arith; ends = λ local peer. omega arith; ports = λ port. omega arith; own = tt; last_port = record { from_first = omega arith; to_last = omega arith } }
 
 -- Changes of a role that take no end and no port.
 
@@ -110,12 +110,12 @@ stays h x = (refl, keeps_role x.role h.addr h.neighbour)
 changed_ordered : (h : HostView) (test : Entry → Bool) (change : Role → Role) → ((x : Entry) → test x ≡ true → KeepsRole x.role (change x.role)) → IsOrdered h → IsOrdered (record h { entries = change_first test (with_role change) h.entries })
 changed_ordered h test change keeps o =
     let w : HostView = record h { entries = change_first test (with_role change) h.entries } in
-    ordered_still h w refl refl refl (first_changed (Keeps nowhere no_port h.addr h.neighbour) IsNothing refl test (with_role change) h.entries (stays h) (λ x passes found. (refl, keeps x passes h.addr h.neighbour))) o
+    ordered_still h w refl refl refl refl (first_changed (Keeps nowhere no_port h.addr h.neighbour) IsNothing refl test (with_role change) h.entries (stays h) (λ x passes found. (refl, keeps x passes h.addr h.neighbour))) o
 
 settled_ordered : (h : HostView) (r : Fate) (test : Entry → Bool) (change : Role → Role) → ((x : Entry) → test x ≡ true → KeepsRole x.role (change x.role)) → IsOrdered h → IsOrdered (record h { entries = settled r test change h.entries })
 settled_ordered h r test change keeps o =
     let w : HostView = record h { entries = settled r test change h.entries } in
-    ordered_still h w refl refl refl (settled_followed (Keeps nowhere no_port h.addr h.neighbour) IsNothing refl r test change h.entries (stays h) (λ kept x passes found. (refl, keeps x passes h.addr h.neighbour)) (λ gone x passes found. tt)) o
+    ordered_still h w refl refl refl refl (settled_followed (Keeps nowhere no_port h.addr h.neighbour) IsNothing refl r test change h.entries (stays h) (λ kept x passes found. (refl, keeps x passes h.addr h.neighbour)) (λ gone x passes found. tt)) o
 
 -- Joining the table.
 
@@ -128,6 +128,7 @@ joined_ordered h x id free alone lies o = record {
       (λ other. let before : count_by (is_between local peer) h.entries ≤ 1 = o.ends local peer in rw other (omega arith)));
   ports = λ port. let before : count_by (is_alone_at port) h.entries ≤ 1 = o.ports port in rw (count_joined (is_alone_at port) h.entries x, alone port) (omega arith);
   own = joined h.entries o.own;
+  last_port = o.last_port;
 }
   where
     joined : (xs : List Entry) → AllByRecursion (λ (e : Entry). LiesBetween h.addr h.neighbour e.role) xs → AllByRecursion (λ (e : Entry). LiesBetween h.addr h.neighbour e.role) (xs ++ x ∷ [])
@@ -174,7 +175,7 @@ itself at_ends at_port h x = (refl, record { ends = λ l p e live. live; port = 
 
 bind_ordered : (h : HostView) (id : SocketId) (local : Endpoint) → bind_refusal h id local ≡ None → IsOrdered h → IsOrdered (after_event h (Binds id local))
 bind_ordered h id local allowed o =
-    ordered_by nowhere at_port h (after_event h (Binds id local)) refl refl refl
+    ordered_by nowhere at_port h (after_event h (Binds id local)) refl refl refl (λ (d : IsDynamic h.last_port). d)
     (first_changed (Keeps nowhere at_port h.addr h.neighbour) IsNothing refl (is_socket id) (with_role (bound_to local)) h.entries (itself nowhere at_port h) (λ x passes found. (refl, bound_role h local x.role)))
     (λ l p e. cc)
     (λ port is. subst (λ (n : ℕ). count_by (is_alone_at n) changed ≤ 1) (eqb-true local.port port is) one) o
@@ -208,17 +209,22 @@ port_free h (Some b) peer port given = by_test (is_pair_held h b.port peer)
     (λ free. let some : port_for h (Some b) peer ≡ Some b.port = rw free in let same : b.port ≡ port = cc in subst (λ (n : ℕ). is_pair_held h n peer ≡ false) same free)
 port_free h None peer port given = not_true _ (and_parts _ _ (given_passes (is_free_port h.entries h.addr peer) h.last_port 0 16384 port given)).1
 
+-- the port given last stays dynamic
+counted_dynamic : (h : HostView) (bound : Option Endpoint) (peer : Endpoint) (port : ℕ) → IsDynamic h.last_port → port_for h bound peer ≡ Some port → IsDynamic (counted_port h bound port)
+counted_dynamic h (Some b) peer port dynamic given = dynamic
+counted_dynamic h None peer port dynamic given = given_dynamic (is_free_port h.entries h.addr peer) h.last_port 0 16384 port given
+
 -- between the two ends alone a connection comes to lie
 connecting_role : (h : HostView) (local peer : Endpoint) (isn : ℕ) → local.addr ≡ h.addr → peer.addr ≡ h.neighbour → (r : Role) → IsBound (λ (l p : Endpoint). same_end local l && same_end peer p) no_port h.addr h.neighbour r (connecting local peer isn r)
 connecting_role h local peer isn own other (Idle buffers bound) = record { ends = λ l p apart live. let bad : true ≡ false = sym live ∙ apart in cc; port = λ port e has. cc; own = λ lies. (own, other) }
 connecting_role h local peer isn own other (Listener l b) = record { ends = λ l p e live. live; port = λ port e has. has; own = λ lies. lies }
 connecting_role h local peer isn own other (Connected c l) = record { ends = λ l p e live. live; port = λ port e has. has; own = λ lies. lies }
 
-opened_ordered : (h : HostView) (id : SocketId) (peer : Endpoint) (isn port last : ℕ) → peer.addr ≡ h.neighbour → is_pair_held h port peer ≡ false → IsOrdered h
+opened_ordered : (h : HostView) (id : SocketId) (peer : Endpoint) (isn port last : ℕ) → IsDynamic last → peer.addr ≡ h.neighbour → is_pair_held h port peer ≡ false → IsOrdered h
     → IsOrdered (record h { last_port = last; entries = change_first (is_socket id) (with_role (connecting (record { addr = h.addr; port = port }) peer isn)) h.entries })
-opened_ordered h id peer isn port last reached free o =
+opened_ordered h id peer isn port last dynamic reached free o =
     let w : HostView = record h { last_port = last; entries = changed } in
-    ordered_by at_ends no_port h w refl refl refl
+    ordered_by at_ends no_port h w refl refl refl (λ (d : IsDynamic h.last_port). dynamic)
     (first_changed (Keeps at_ends no_port h.addr h.neighbour) IsNothing refl (is_socket id) (with_role (connecting local peer isn)) h.entries (itself at_ends no_port h) (λ x passes found. (refl, connecting_role h local peer isn refl reached x.role)))
     at_them
     (λ n e. cc) o
@@ -254,7 +260,7 @@ connect_ordered h isn id peer allowed o = by_role (role_of h id) refl
     by_port : (role : Role) (bound : Option Endpoint) → role_of h id ≡ Some role → open_answer role ≡ Ok bound → (o : Option ℕ) → port_for h bound peer ≡ o → IsOrdered (after_connect h isn id peer)
     by_port role bound is opens_by None given = rw (is, opens_by, given) o
     by_port role bound is opens_by (Some port) given =
-        rw (is, opens_by, given) (opened_ordered h id peer isn port _ (neighbour_reached h peer (by_reach role bound is opens_by (reach_refusal h peer) refl)) (port_free h bound peer port given) o)
+        rw (is, opens_by, given) (opened_ordered h id peer isn port (counted_port h bound port) (counted_dynamic h bound peer port o.last_port given) (neighbour_reached h peer (by_reach role bound is opens_by (reach_refusal h peer) refl)) (port_free h bound peer port given) o)
 
     by_open : (role : Role) → role_of h id ≡ Some role → (r : Result (Option Endpoint) Refusal) → open_answer role ≡ r → IsOrdered (after_connect h isn id peer)
     by_open role is (Err refusal) opens_by = rw (is, opens_by) o
@@ -276,7 +282,7 @@ socket_closed_ordered h id o = by_role (role_of h id) refl
 close_ordered : (h : HostView) (id : SocketId) → IsOrdered h → IsOrdered (after_event h (Closes id))
 close_ordered h id o =
     let w : HostView = after_socket_closed h id in
-    ordered_still w (after_event h (Closes id)) refl refl refl
+    ordered_still w (after_event h (Closes id)) refl refl refl refl
     (each_followed (Keeps nowhere no_port w.addr w.neighbour) IsNothing refl (λ x. is_kept (forsaken_fate id x.role)) (with_role (forsaken id)) w.entries (λ x kept. (refl, forsaken_keeps id x.role w.addr w.neighbour)) (λ x gone. tt))
     (socket_closed_ordered h id o)
 
@@ -284,14 +290,14 @@ close_ordered h id o =
 
 tick_ordered : (h : HostView) (now : Moment) → IsOrdered h → IsOrdered (after_event h (Ticks now))
 tick_ordered h now o =
-    ordered_still h (after_event h (Ticks now)) refl refl refl
+    ordered_still h (after_event h (Ticks now)) refl refl refl refl
     (each_followed (Keeps nowhere no_port h.addr h.neighbour) IsNothing refl (λ x. is_kept (tick_fate_of (later h now) x.role)) (with_role (ticked (later h now))) h.entries (λ x kept. (refl, ticked_keeps (later h now) x.role h.addr h.neighbour)) (λ x gone. tt))
     o
 
 -- A segment.
 
 with_replies : (h : HostView) (replies : List Head) → IsOrdered h → IsOrdered (record h { replies = replies })
-with_replies h replies o = record { ids = o.ids; ends = o.ends; ports = o.ports; own = o.own }
+with_replies h replies o = record { ids = o.ids; ends = o.ends; ports = o.ports; own = o.own; last_port = o.last_port }
 
 answer_ordered : (h : HostView) (reply : Option Head) → IsOrdered h → IsOrdered (after_arrival h (answered h reply))
 answer_ordered h None o = o

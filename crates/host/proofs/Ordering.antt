@@ -16,6 +16,7 @@ use Rattle.host.specs.Entries.{is_live_between, is_between}
 use Rattle.host.specs.HostView.{HostView}
 use Rattle.host.specs.Lists.{change_first}
 use Rattle.host.specs.Causes.{Follows}
+use Rattle.host.specs.Ports.{IsDynamic}
 use Rattle.host.specs.Order.{AreAscending, has_for_itself, is_alone_at, LiesBetween, IsOrdered}
 use Rattle.host.proofs.KeptEnds.{KeepsEnds}
 use Rattle.host.proofs.Followed.{IsNothing, by_test}
@@ -130,12 +131,13 @@ count_none test (x ∷ xs) none = let parts = or_parts (test x) (list_any test x
 
 -- The order of a host.
 
-pub ordered_by : (at_ends : Endpoint → Endpoint → Bool) (at_port : ℕ → Bool) (h w : HostView) → w.addr ≡ h.addr → w.neighbour ≡ h.neighbour → w.last_id ≡ h.last_id
+pub ordered_by : (at_ends : Endpoint → Endpoint → Bool) (at_port : ℕ → Bool) (h w : HostView) → w.addr ≡ h.addr → w.neighbour ≡ h.neighbour → w.last_id ≡ h.last_id → (IsDynamic h.last_port → IsDynamic w.last_port)
     → Follows (Keeps at_ends at_port h.addr h.neighbour) IsNothing h.entries w.entries
     → ((local peer : Endpoint) → at_ends local peer ≡ true → count_by (is_between local peer) w.entries ≤ 1)
     → ((port : ℕ) → at_port port ≡ true → count_by (is_alone_at port) w.entries ≤ 1)
     → IsOrdered h → IsOrdered w
-ordered_by at_ends at_port h w addr neighbour last f ends ports o = record {
+ordered_by at_ends at_port h w addr neighbour last last_port f ends ports o = record {
+  last_port = last_port o.last_port;
   ids = subst (λ (n : ℕ). AreAscending 0 n w.entries) (sym last) (ascends_followed (Keeps at_ends at_port h.addr h.neighbour) (λ x y s. s.0) 0 h.last_id h.entries w.entries f o.ids);
   ends = λ local peer. by_test (at_ends local peer) (ends local peer)
       (λ other. let before : count_by (is_between local peer) h.entries ≤ 1 = o.ends local peer in
@@ -162,8 +164,8 @@ KeepsRole before after = (own other : Addr) → IsBound nowhere no_port own othe
 pub keeps_role : (r : Role) → KeepsRole r r
 keeps_role r own other = record { ends = λ local peer e live. live; port = λ port e has. has; own = λ lies. lies }
 
-pub ordered_still : (h w : HostView) → w.addr ≡ h.addr → w.neighbour ≡ h.neighbour → w.last_id ≡ h.last_id → Follows (Keeps nowhere no_port h.addr h.neighbour) IsNothing h.entries w.entries → IsOrdered h → IsOrdered w
-ordered_still h w addr neighbour last f o = ordered_by nowhere no_port h w addr neighbour last f (λ local peer e. cc) (λ port e. cc) o
+pub ordered_still : (h w : HostView) → w.addr ≡ h.addr → w.neighbour ≡ h.neighbour → w.last_id ≡ h.last_id → w.last_port ≡ h.last_port → Follows (Keeps nowhere no_port h.addr h.neighbour) IsNothing h.entries w.entries → IsOrdered h → IsOrdered w
+ordered_still h w addr neighbour last last_port f o = ordered_by nowhere no_port h w addr neighbour last (λ (d : IsDynamic h.last_port). subst IsDynamic (sym last_port) d) f (λ local peer e. cc) (λ port e. cc) o
 
 -- a connection whose ends stay
 pub keeps_connection : (c d : View) (l k : Option SocketId) → KeepsEnds c d → KeepsRole (Connected c l) (Connected d k)

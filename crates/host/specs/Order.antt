@@ -8,6 +8,7 @@ use Rattle.host.specs.declared.entry.Role.{Role}
 use Rattle.host.specs.declared.entry.Role.TheVariants.{Idle, Listener, Connected}
 use Rattle.host.specs.Entries.{is_between}
 use Rattle.host.specs.HostView.{HostView}
+use Rattle.host.specs.Ports.{IsDynamic}
 use Rattle.host.specs.Calls.{is_table_full, bind_refusal, listen_refusal, accept_answer, connect_refusal, send_answer, recv_answer, shutdown_refusal, close_refusal}
 use Rattle.host.specs.Causes.{Event, Makes, Binds, Listens, Accepts, Connects, Sends, Receives, Shuts, Closes, Ticks, Hears, Emits}
 
@@ -33,12 +34,14 @@ LiesBetween own other (Listener local backlog) = Unit {0}
 LiesBetween own other (Idle buffers bound) = Unit {0}
 
 -- Ids ascend from 1 to the last one given. At most one connection that is not CLOSED lies between any two ends, and at most one socket
--- without a connection is bound to a port or listens at it. Each connection lies between the host's address and the neighbour's.
+-- without a connection is bound to a port or listens at it. Each connection lies between the host's address and the neighbour's,
+-- and the port given last is dynamic.
 pub record IsOrdered (h : HostView) : Type 0 where
   pub ids : AreAscending 0 h.last_id h.entries
   pub ends : (local peer : Endpoint) → count_by (is_between local peer) h.entries ≤ 1
   pub ports : (port : ℕ) → count_by (is_alone_at port) h.entries ≤ 1
   pub own : AllByRecursion (λ (e : Entry). LiesBetween h.addr h.neighbour e.role) h.entries
+  pub last_port : IsDynamic h.last_port
 
 -- a call is not refused
 abbrev pub IsAllowed : HostView → Event → Type 0

@@ -1,6 +1,6 @@
 //! Laws over the definitions alone: functions with nothing to do, whose contracts are the laws.
 
-ghost use Rattle.std.specs.Prelude.{◌≡◌, ℕ, ◌+◌, Bool, true, false, not, Option, Some, None, is_some};
+ghost use Rattle.std.specs.Prelude.{◌≡◌, ℕ, ◌+◌, ◌≤◌, Bool, true, false, not, Option, Some, None, is_some};
 ghost use Rattle.ipv4.specs.declared.addr.Addr.{Addr};
 ghost use Rattle.ipv4.specs.declared.addr.Endpoint.{Endpoint};
 ghost use Rattle.ipv4.specs.declared.addr.Pair.{Pair};
@@ -46,7 +46,7 @@ pub fn nothing_over_stays()
 {}
 
 /// Of the dynamic ports (RFC 6335 section 6: 49152 to 65535) the first one that passes is given, in the turn that begins behind the last one
-/// given; and none exactly where no dynamic port passes.
+/// given; and none exactly where no dynamic port passes. (The port that a host gave last is always dynamic, by `tables_stay_ordered`.)
 pub fn dynamic_ports()
     ensures given { (test : ℕ → Bool) (last port : ℕ) → IsDynamic last → first_port test last 0 16384 ≡ Some port → IsFirstBehind test last port }
     ensures none { (test : ℕ → Bool) (last : ℕ) → IsDynamic last → first_port test last 0 16384 ≡ None → (port : ℕ) → IsDynamic port → test port ≡ false }
@@ -66,7 +66,9 @@ pub fn ticks_wait()
 
 /// The table of a host stays in order, from the first on, whatever happens but a call that is refused: ids ascend, no two connections but CLOSED
 /// ones have the same two ends (RFC 9293 section 3.4.1), and no two sockets without a connection have the same port.
+/// The id given last never goes back, so none is given twice.
 pub fn tables_stay_ordered()
     ensures fresh { (addr neighbour : Addr) → IsOrdered (fresh addr neighbour) }
     ensures kept { (h : HostView) (e : Event) → IsAllowed h e → IsOrdered h → IsOrdered (after_event h e) }
+    ensures numbered { (h : HostView) (e : Event) → let after = after_event h e in h.last_id ≤ after.last_id }
 {}
