@@ -1,6 +1,7 @@
 -- Why an entry of the table ends only by a cause.
-use Rattle.std.proofs.Common.{◌≡◌, ◌⊎◌, inl, inr, ℕ, ◌==◌, ◌&&◌, ◌||◌, not, Bool, true, false, if◌then◌else◌, List, [], ◌∷◌, length, Option, Some, None, Result, Ok, Err, is_some, option_map, refl, sym, ◌∙◌, ap, subst, arith}
+use Rattle.std.proofs.Common.{◌≡◌, ◌⊎◌, inl, inr, ℕ, ◌+◌, ◌==◌, ◌&&◌, ◌||◌, not, Bool, true, false, if◌then◌else◌, List, [], ◌∷◌, length, Option, Some, None, Result, Ok, Err, is_some, option_map, refl, sym, ◌∙◌, ap, subst, arith}
 use Rattle.std.proofs.lemmas.Grind.{common_steps}
+use Rattle.std.proofs.lemmas.Bool.{and_from}
 use Rattle.std.specs.List.{find, AllByRecursion}
 use Rattle.ipv4.specs.declared.addr.Endpoint.{Endpoint}
 use Rattle.tcp_segment.specs.declared.head.Head.{Head}
@@ -16,6 +17,7 @@ use Rattle.tcp_state.specs.View.{View, IsSound, is_opening, is_closed, is_over}
 use Rattle.tcp_state.specs.declared.calls.Refusal.{Refusal as Error}
 use Rattle.tcp_state.specs.Calls.{shut, after_recv, after_shutdown}
 use Rattle.tcp_state.specs.Due.{first_due}
+use Rattle.tcp_state.specs.Arrival.{opened_passively}
 use Rattle.tcp_state.specs.Edges as edge
 use Rattle.tcp_state.proofs.Edges.{and_left, and_right, edges_hold, emitted-state}
 use Rattle.tcp_state.proofs.Causes.{both, or_left, or_right, not_true, ends_caused}
@@ -26,16 +28,17 @@ use Rattle.host.specs.declared.entry.SocketId.{SocketId}
 use Rattle.host.specs.declared.entry.Entry.{Entry}
 use Rattle.host.specs.declared.entry.Role.{Role}
 use Rattle.host.specs.declared.entry.Role.TheVariants.{Idle, Listener, Connected}
-use Rattle.host.specs.Entries.{is_socket, waits_at, is_between, is_live_between, is_listening_at, is_due, has_due, has_socket, aborted, abort_fate_of, is_offered_at, shown_state, is_kept, settled, fate_of, arrived, ticked, tick_fate_of, emitted_at, emitted_fate, forsaken, forsaken_fate, closed, close_fate_of, bound_to, listening, connecting, accepted, sent, received, write_shut, with_role}
+use Rattle.host.specs.Entries.{is_socket, waits_at, is_between, is_live_between, is_listening_at, is_due, has_due, has_socket, new_waiting, aborted, abort_fate_of, is_offered_at, shown_state, is_kept, settled, fate_of, arrived, ticked, tick_fate_of, emitted_at, emitted_fate, forsaken, forsaken_fate, closed, close_fate_of, bound_to, listening, connecting, accepted, sent, received, write_shut, with_role}
 use Rattle.host.specs.HostView.{HostView, later, role_of, after_emission}
 use Rattle.host.specs.Calls.{open_answer, port_for, after_connect, after_socket_closed, after_close}
 use Rattle.host.specs.Dispatch.{local_end, peer_end, is_opening as opens, has_no_place, answered, arrival, arrival_alone}
 use Rattle.host.specs.Replies.{reset_at_ack, answer_to, answer_at_listener}
 use Rattle.host.specs.Sound.{IsSoundRole, IsSoundHost}
 use Rattle.host.specs.Lists.{change_first}
-use Rattle.host.specs.Causes.{Event, Makes, Binds, Listens, Accepts, Connects, Sends, Receives, Shuts, Closes, Ticks, Hears, Emits, after_arrival, after_event, is_connection_cause, becomes_closed, told_in, is_telling, is_telling_to, IsStep, Follows}
+use Rattle.host.specs.Causes.{Event, Makes, Binds, Listens, Accepts, Connects, Sends, Receives, Shuts, Closes, Ticks, Hears, Emits, after_arrival, after_event, is_connection_cause, becomes_closed, told_in, is_telling, is_telling_to, is_next_out, IsOpenedBy, IsAdded, IsStep, Follows}
 use Rattle.host.proofs.Emitted.{emission-of_entry}
-use Rattle.host.proofs.Followed.{by_test, as_it_was, joined_by, first_changed, first_removed, each_followed, steps_joined}
+use Rattle.host.proofs.Ends.{eqb-same, same_end-same}
+use Rattle.host.proofs.Followed.{IsNothing, by_test, as_it_was, joined_by, first_changed, first_removed, each_followed, steps_joined}
 
 -- One connection.
 
@@ -96,9 +99,9 @@ told_before : {P : Type 0} → P ⊎ (false ≡ true) → P
 told_before (inl p) = p
 told_before (inr q) = cc
 
-quiet_change : (h : HostView) (e : Event) (test : Entry → Bool) (change : Role → Role) → ((role : Role) → becomes_closed role (change role) ≡ false) → ((role : Role) → edge.IsEdge (shown_state role) (shown_state (change role))) → IsMute change → (entries : List Entry) → Follows (IsStep h e) entries (change_first test (with_role change) entries)
-quiet_change h e test change quiet along mute entries =
-    first_changed (IsStep h e) test (with_role change) entries (same_step h e) (λ x passes found. (refl, along x.role, λ closes. let none = quiet x.role in cc, λ error told. inl (mute x.role error told)))
+quiet_change : (h : HostView) (e : Event) → IsAdded h e [] → (test : Entry → Bool) (change : Role → Role) → ((role : Role) → becomes_closed role (change role) ≡ false) → ((role : Role) → edge.IsEdge (shown_state role) (shown_state (change role))) → IsMute change → (entries : List Entry) → Follows (IsStep h e) (IsAdded h e) entries (change_first test (with_role change) entries)
+quiet_change h e none test change quiet along mute entries =
+    first_changed (IsStep h e) (IsAdded h e) none test (with_role change) entries (same_step h e) (λ x passes found. (refl, along x.role, λ closes. let none = quiet x.role in cc, λ error told. inl (mute x.role error told)))
 
 quiet_bound : (local : Endpoint) (role : Role) → becomes_closed role (bound_to local role) ≡ false
 quiet_bound local (Idle buffers bound) = refl
@@ -228,32 +231,32 @@ shut_mute (Connected c l) error told =
     let of_test : Bool → Option Error = λ b. (let w : View = if b then c else after_shutdown c in w.told) in
     by_test (is_some c.told || is_opening c.state) (λ refused. ap of_test (sym refused) ∙ told) (λ shuts. ap of_test (sym shuts) ∙ told)
 
-connect_followed : (h : HostView) (isn : ℕ) (id : SocketId) (peer : Endpoint) → Follows (IsStep h (Connects isn id peer)) h.entries (let after = after_connect h isn id peer in after.entries)
+connect_followed : (h : HostView) (isn : ℕ) (id : SocketId) (peer : Endpoint) → Follows (IsStep h (Connects isn id peer)) (IsAdded h (Connects isn id peer)) h.entries (let after = after_connect h isn id peer in after.entries)
 connect_followed h isn id peer = by_role (role_of h id) refl
   where
     by_port : (role : Role) (bound : Option Endpoint) → role_of h id ≡ Some role → open_answer role ≡ Ok bound → (o : Option ℕ) → port_for h bound peer ≡ o
-        → Follows (IsStep h (Connects isn id peer)) h.entries (let after = after_connect h isn id peer in after.entries)
-    by_port role bound is opens_by None given = rw (is, opens_by, given) (as_it_was (IsStep h (Connects isn id peer)) (same_step h (Connects isn id peer)) h.entries)
+        → Follows (IsStep h (Connects isn id peer)) (IsAdded h (Connects isn id peer)) h.entries (let after = after_connect h isn id peer in after.entries)
+    by_port role bound is opens_by None given = rw (is, opens_by, given) (as_it_was (IsStep h (Connects isn id peer)) (IsAdded h (Connects isn id peer)) refl (same_step h (Connects isn id peer)) h.entries)
     by_port role bound is opens_by (Some port) given =
-        rw (is, opens_by, given) (quiet_change h (Connects isn id peer) (is_socket id) (connecting (record { addr = h.addr; port = port }) peer isn) (quiet_connecting (record { addr = h.addr; port = port }) peer isn) (connecting_edge (record { addr = h.addr; port = port }) peer isn) (connecting_mute (record { addr = h.addr; port = port }) peer isn) h.entries)
+        rw (is, opens_by, given) (quiet_change h (Connects isn id peer) refl (is_socket id) (connecting (record { addr = h.addr; port = port }) peer isn) (quiet_connecting (record { addr = h.addr; port = port }) peer isn) (connecting_edge (record { addr = h.addr; port = port }) peer isn) (connecting_mute (record { addr = h.addr; port = port }) peer isn) h.entries)
 
-    by_open : (role : Role) → role_of h id ≡ Some role → (r : Result (Option Endpoint) Refusal) → open_answer role ≡ r → Follows (IsStep h (Connects isn id peer)) h.entries (let after = after_connect h isn id peer in after.entries)
-    by_open role is (Err refusal) opens_by = rw (is, opens_by) (as_it_was (IsStep h (Connects isn id peer)) (same_step h (Connects isn id peer)) h.entries)
+    by_open : (role : Role) → role_of h id ≡ Some role → (r : Result (Option Endpoint) Refusal) → open_answer role ≡ r → Follows (IsStep h (Connects isn id peer)) (IsAdded h (Connects isn id peer)) h.entries (let after = after_connect h isn id peer in after.entries)
+    by_open role is (Err refusal) opens_by = rw (is, opens_by) (as_it_was (IsStep h (Connects isn id peer)) (IsAdded h (Connects isn id peer)) refl (same_step h (Connects isn id peer)) h.entries)
     by_open role is (Ok bound) opens_by = by_port role bound is opens_by (port_for h bound peer) refl
 
-    by_role : (o : Option Role) → role_of h id ≡ o → Follows (IsStep h (Connects isn id peer)) h.entries (let after = after_connect h isn id peer in after.entries)
-    by_role None is = rw is (as_it_was (IsStep h (Connects isn id peer)) (same_step h (Connects isn id peer)) h.entries)
+    by_role : (o : Option Role) → role_of h id ≡ o → Follows (IsStep h (Connects isn id peer)) (IsAdded h (Connects isn id peer)) h.entries (let after = after_connect h isn id peer in after.entries)
+    by_role None is = rw is (as_it_was (IsStep h (Connects isn id peer)) (IsAdded h (Connects isn id peer)) refl (same_step h (Connects isn id peer)) h.entries)
     by_role (Some role) is = by_open role is (open_answer role) refl
 
 -- the first that passes takes a step
-settled_followed : (Step : Entry → Option Entry → Type 0) (r : Fate) (test : Entry → Bool) (change : Role → Role) (entries : List Entry) → ((x : Entry) → Step x (Some x))
+pub settled_followed : (Step : Entry → Option Entry → Type 0) (Added : List Entry → Type 0) → Added [] → (r : Fate) (test : Entry → Bool) (change : Role → Role) (entries : List Entry) → ((x : Entry) → Step x (Some x))
     → (is_kept r ≡ true → (x : Entry) → test x ≡ true → find test entries ≡ Some x → Step x (Some (with_role change x)))
     → (is_kept r ≡ false → (x : Entry) → test x ≡ true → find test entries ≡ Some x → Step x None)
-    → Follows Step entries (settled r test change entries)
-settled_followed Step r test change entries same changed gone =
+    → Follows Step Added entries (settled r test change entries)
+settled_followed Step Added none r test change entries same changed gone =
     by_test (is_kept r)
-    (λ kept. rw kept (first_changed Step test (with_role change) entries same (changed kept)))
-    (λ removed. rw removed (first_removed Step test entries same (gone removed)))
+    (λ kept. rw kept (first_changed Step Added none test (with_role change) entries same (changed kept)))
+    (λ removed. rw removed (first_removed Step Added none test entries same (gone removed)))
 
 -- Closing.
 
@@ -268,13 +271,13 @@ socket_goes_on id now (Listener l b) socket kept = cc
 socket_goes_on id now (Connected c (Some l)) socket kept = cc
 socket_goes_on id now (Connected c None) socket kept = (kept_edge c (edge.Closes now) kept, refl, λ error told. told_before (errors_caused c (edge.Closes now) error told))
 
-socket_closing : (h : HostView) (id : SocketId) → Follows (IsClosing id) h.entries (let after = after_socket_closed h id in after.entries)
+socket_closing : (h : HostView) (id : SocketId) → Follows (IsClosing id) IsNothing h.entries (let after = after_socket_closed h id in after.entries)
 socket_closing h id = by_role (role_of h id) refl
   where
-    by_role : (o : Option Role) → role_of h id ≡ o → Follows (IsClosing id) h.entries (let after = after_socket_closed h id in after.entries)
-    by_role None is = rw is (as_it_was (IsClosing id) (λ x. inl refl) h.entries)
+    by_role : (o : Option Role) → role_of h id ≡ o → Follows (IsClosing id) IsNothing h.entries (let after = after_socket_closed h id in after.entries)
+    by_role None is = rw is (as_it_was (IsClosing id) IsNothing refl (λ x. inl refl) h.entries)
     by_role (Some role) is =
-        rw is (settled_followed (IsClosing id) (close_fate_of role) (is_socket id) (closed h.kept) h.entries (λ x. inl refl) (λ kept x passes found.
+        rw is (settled_followed (IsClosing id) IsNothing refl (close_fate_of role) (is_socket id) (closed h.kept) h.entries (λ x. inl refl) (λ kept x passes found.
         let same : role ≡ x.role = some_same (role_of h id) role x.role is (ap (λ (o : Option Entry). option_map (λ (e : Entry). e.role) o) found) in
         let on = socket_goes_on id h.kept x.role (and_right _ _ passes) (ap (λ (r : Role). is_kept (close_fate_of r)) (sym same) ∙ kept) in
         inr (refl, passes, on.0, on.1, on.2))
@@ -329,12 +332,12 @@ socket_left h id x y ids socket along other mute =
     let P : Role → Type 0 = λ r. edge.IsEdge (shown_state x.role) (shown_state r) in
     (ids, subst P (sym same) along, λ closes. or_left _ _ socket, λ error told. inl (mute error (ap (λ (r : Role). told_in r) (sym same) ∙ told)))
 
-close_followed : (h : HostView) (id : SocketId) → Follows (IsStep h (Closes id)) h.entries (let after = after_close h id in after.entries)
+close_followed : (h : HostView) (id : SocketId) → Follows (IsStep h (Closes id)) (IsAdded h (Closes id)) h.entries (let after = after_close h id in after.entries)
 close_followed h id =
     let middle : List Entry = let after = after_socket_closed h id in after.entries in
     steps_joined (IsClosing id) (IsForsaking id) (IsStep h (Closes id)) (λ x socket. or_left _ _ socket) joins h.entries middle _
     (socket_closing h id)
-    (each_followed (IsForsaking id) (λ x. is_kept (forsaken_fate id x.role)) (with_role (forsaken id)) middle (λ x kept. (refl, kept)) (λ x gone. gone))
+    (each_followed (IsForsaking id) IsNothing refl (λ x. is_kept (forsaken_fate id x.role)) (with_role (forsaken id)) middle (λ x kept. (refl, kept)) (λ x gone. gone))
   where
     forsakes : (x : Entry) (o : Option Entry) → IsForsaking id x o → IsStep h (Closes id) x o
     forsakes x None gone = forsaken_gone h id x gone
@@ -412,40 +415,54 @@ heard_gone h now isn s x passes removed = both _ _ passes (by_role x.role passes
     by_role (Connected c l) live gone = removed_caused c (edge.Hears s (later h now)) (not_over c (not_true _ (and_left _ _ live))) gone
 
 settled_by_segment : (h : HostView) (now : Moment) (isn : ℕ) (s : Segment) (e : Entry) (r : Fate) → find (is_between (local_end h s) (peer_end h s)) h.entries ≡ Some e → fate_of s e.role ≡ r
-    → Follows (IsStep h (Hears now isn s)) h.entries (settled r (is_between (local_end h s) (peer_end h s)) (arrived (later h now) s) h.entries)
+    → Follows (IsStep h (Hears now isn s)) (IsAdded h (Hears now isn s)) h.entries (settled r (is_between (local_end h s) (peer_end h s)) (arrived (later h now) s) h.entries)
 settled_by_segment h now isn s e r found is =
-    settled_followed (IsStep h (Hears now isn s)) r (is_between (local_end h s) (peer_end h s)) (arrived (later h now) s) h.entries (same_step h (Hears now isn s))
+    settled_followed (IsStep h (Hears now isn s)) (IsAdded h (Hears now isn s)) (inl refl) r (is_between (local_end h s) (peer_end h s)) (arrived (later h now) s) h.entries (same_step h (Hears now isn s))
     (λ kept x passes at. heard_step h now isn s x passes (ap (λ (y : Entry). is_kept (fate_of s y.role)) (some_same _ x e at found) ∙ ap is_kept is ∙ kept))
     (λ gone x passes at. heard_gone h now isn s x passes (ap (λ (y : Entry). fate_of s y.role) (some_same _ x e at found) ∙ is ∙ gone_removed r gone))
 
-answer_followed : (h : HostView) (e : Event) (o : Option Head) → Follows (IsStep h e) h.entries (let after = after_arrival h (answered h o) in after.entries)
-answer_followed h e o = let P : List Entry → Type 0 = λ ys. Follows (IsStep h e) h.entries ys in subst P (sym (answered_same h o)) (as_it_was (IsStep h e) (same_step h e) h.entries)
+answer_followed : (h : HostView) (e : Event) → IsAdded h e [] → (o : Option Head) → Follows (IsStep h e) (IsAdded h e) h.entries (let after = after_arrival h (answered h o) in after.entries)
+answer_followed h e none o = let P : List Entry → Type 0 = λ ys. Follows (IsStep h e) (IsAdded h e) h.entries ys in subst P (sym (answered_same h o)) (as_it_was (IsStep h e) (IsAdded h e) none (same_step h e) h.entries)
 
-alone_followed : (h : HostView) (now : Moment) (isn : ℕ) (s : Segment) → Follows (IsStep h (Hears now isn s)) h.entries (let after = after_arrival h (arrival_alone h isn s) in after.entries)
+-- what a segment opens
+opened_by_it : (h : HostView) (isn : ℕ) (s : Segment) (listener : Entry) → find (is_listening_at s.destination) h.entries ≡ Some listener → opens s.flags ≡ true
+    → IsOpenedBy h s (new_waiting (record { 0 = h.last_id + 1 }) listener.id (opened_passively (local_end h s) (peer_end h s) isn s))
+opened_by_it h isn s listener found opening = record {
+  opens = opening;
+  id = refl;
+  between = and_from _ _ (same_end-same (local_end h s)) (same_end-same (peer_end h s));
+  state = refl;
+  told = refl;
+  listener = listener;
+  listens = found;
+  waits = eqb-same listener.id.0;
+}
+
+alone_followed : (h : HostView) (now : Moment) (isn : ℕ) (s : Segment) → Follows (IsStep h (Hears now isn s)) (IsAdded h (Hears now isn s)) h.entries (let after = after_arrival h (arrival_alone h isn s) in after.entries)
 alone_followed h now isn s = by_listener (find (is_listening_at s.destination) h.entries) refl
   where
     by_place : (listener : Entry) → find (is_listening_at s.destination) h.entries ≡ Some listener → opens s.flags ≡ true → (b : Bool) → has_no_place h listener ≡ b
-        → Follows (IsStep h (Hears now isn s)) h.entries (let after = after_arrival h (arrival_alone h isn s) in after.entries)
-    by_place listener found opened true full = rw (found, opened, full) (as_it_was (IsStep h (Hears now isn s)) (same_step h (Hears now isn s)) h.entries)
-    by_place listener found opened false full = rw (found, opened, full) (joined_by (IsStep h (Hears now isn s)) (same_step h (Hears now isn s)) h.entries _)
+        → Follows (IsStep h (Hears now isn s)) (IsAdded h (Hears now isn s)) h.entries (let after = after_arrival h (arrival_alone h isn s) in after.entries)
+    by_place listener found opened true full = rw (found, opened, full) (as_it_was (IsStep h (Hears now isn s)) (IsAdded h (Hears now isn s)) (inl refl) (same_step h (Hears now isn s)) h.entries)
+    by_place listener found opened false full = rw (found, opened, full) (joined_by (IsStep h (Hears now isn s)) (IsAdded h (Hears now isn s)) (same_step h (Hears now isn s)) h.entries _ (inr (_, refl, opened_by_it h isn s listener found opened)))
 
-    by_flags : (listener : Entry) → find (is_listening_at s.destination) h.entries ≡ Some listener → (b : Bool) → opens s.flags ≡ b → Follows (IsStep h (Hears now isn s)) h.entries (let after = after_arrival h (arrival_alone h isn s) in after.entries)
+    by_flags : (listener : Entry) → find (is_listening_at s.destination) h.entries ≡ Some listener → (b : Bool) → opens s.flags ≡ b → Follows (IsStep h (Hears now isn s)) (IsAdded h (Hears now isn s)) h.entries (let after = after_arrival h (arrival_alone h isn s) in after.entries)
     by_flags listener found true opened = by_place listener found opened (has_no_place h listener) refl
-    by_flags listener found false opened = rw (found, opened) (answer_followed h (Hears now isn s) (answer_at_listener s))
+    by_flags listener found false opened = rw (found, opened) (answer_followed h (Hears now isn s) (inl refl) (answer_at_listener s))
 
-    by_listener : (o : Option Entry) → find (is_listening_at s.destination) h.entries ≡ o → Follows (IsStep h (Hears now isn s)) h.entries (let after = after_arrival h (arrival_alone h isn s) in after.entries)
-    by_listener None found = rw found (answer_followed h (Hears now isn s) (answer_to s))
+    by_listener : (o : Option Entry) → find (is_listening_at s.destination) h.entries ≡ o → Follows (IsStep h (Hears now isn s)) (IsAdded h (Hears now isn s)) h.entries (let after = after_arrival h (arrival_alone h isn s) in after.entries)
+    by_listener None found = rw found (answer_followed h (Hears now isn s) (inl refl) (answer_to s))
     by_listener (Some listener) found = by_flags listener found (opens s.flags) refl
 
-segment_followed : (h : HostView) (now : Moment) (isn : ℕ) (s : Segment) → Follows (IsStep h (Hears now isn s)) h.entries (let after = after_arrival h (arrival h now isn s) in after.entries)
+segment_followed : (h : HostView) (now : Moment) (isn : ℕ) (s : Segment) → Follows (IsStep h (Hears now isn s)) (IsAdded h (Hears now isn s)) h.entries (let after = after_arrival h (arrival h now isn s) in after.entries)
 segment_followed h now isn s = by_entry (find (is_between (local_end h s) (peer_end h s)) h.entries) refl
   where
-    by_fate : (e : Entry) → find (is_between (local_end h s) (peer_end h s)) h.entries ≡ Some e → (r : Fate) → fate_of s e.role ≡ r → Follows (IsStep h (Hears now isn s)) h.entries (let after = after_arrival h (arrival h now isn s) in after.entries)
+    by_fate : (e : Entry) → find (is_between (local_end h s) (peer_end h s)) h.entries ≡ Some e → (r : Fate) → fate_of s e.role ≡ r → Follows (IsStep h (Hears now isn s)) (IsAdded h (Hears now isn s)) h.entries (let after = after_arrival h (arrival h now isn s) in after.entries)
     by_fate e found Stays is = rw (found, is) (settled_by_segment h now isn s e Stays found is)
     by_fate e found Removed is = rw (found, is) (settled_by_segment h now isn s e Removed found is)
-    by_fate e found Refused is = rw (found, is) (answer_followed h (Hears now isn s) (Some (reset_at_ack s)))
+    by_fate e found Refused is = rw (found, is) (answer_followed h (Hears now isn s) (inl refl) (Some (reset_at_ack s)))
 
-    by_entry : (o : Option Entry) → find (is_between (local_end h s) (peer_end h s)) h.entries ≡ o → Follows (IsStep h (Hears now isn s)) h.entries (let after = after_arrival h (arrival h now isn s) in after.entries)
+    by_entry : (o : Option Entry) → find (is_between (local_end h s) (peer_end h s)) h.entries ≡ o → Follows (IsStep h (Hears now isn s)) (IsAdded h (Hears now isn s)) h.entries (let after = after_arrival h (arrival h now isn s) in after.entries)
     by_entry None found = rw found (alone_followed h now isn s)
     by_entry (Some e) found = by_fate e found (fate_of s e.role) refl
 
@@ -466,8 +483,12 @@ due_not_over c sound due =
     let nothing : first_due c ≡ None = owes ∙ ap (λ (b : Bool). if b then Some Rst else None) none in
     let bad : is_some (first_due c) ≡ false = ap (λ (o : Option Due). is_some o) nothing in sym bad ∙ due)
 
-sent_step : (h : HostView) (now : Moment) (x : Entry) → IsStep h (Emits now) x (Some (with_role (emitted_at (later h now)) x))
-sent_step h now x = (refl, along x.role, by_role x.role, λ error told. inl (mute x.role error told))
+-- the first that has a segment due is what goes out, where no reply waits
+next_out : (h : HostView) (x : Entry) → h.replies ≡ [] → find is_due h.entries ≡ Some x → is_next_out h x ≡ true
+next_out h x none found = rw (none, found) (eqb-same x.id.0)
+
+sent_step : (h : HostView) (now : Moment) (x : Entry) → is_next_out h x ≡ true → IsStep h (Emits now) x (Some (with_role (emitted_at (later h now)) x))
+sent_step h now x next = (refl, along x.role, λ closes. both _ _ next (by_role x.role closes), λ error told. inl (mute x.role error told))
   where
     mute : IsMute (emitted_at (later h now))
     mute (Idle buffers bound) error told = told
@@ -484,8 +505,8 @@ sent_step h now x = (refl, along x.role, by_role x.role, λ error told. inl (mut
     by_role (Listener l b) closes = cc
     by_role (Connected c l) closes = closes_caused c (edge.Emits (later h now)) (ap (λ (r : Role). becomes_closed (Connected c l) r) (sym (emitted_connection c l (later h now))) ∙ closes)
 
-sent_gone : (h : HostView) (now : Moment) (x : Entry) → IsSoundRole x.role → is_due x ≡ true → is_kept (emitted_fate (emitted_at (later h now) x.role)) ≡ false → IsStep h (Emits now) x None
-sent_gone h now x = by_role x.role
+sent_gone : (h : HostView) (now : Moment) (x : Entry) → is_next_out h x ≡ true → IsSoundRole x.role → is_due x ≡ true → is_kept (emitted_fate (emitted_at (later h now) x.role)) ≡ false → IsStep h (Emits now) x None
+sent_gone h now x next sound due gone = both _ _ next (by_role x.role sound due gone)
   where
     by_role : (role : Role) → IsSoundRole role → has_due role ≡ true → is_kept (emitted_fate (emitted_at (later h now) role)) ≡ false → is_connection_cause (edge.Emits (later h now)) role ≡ true
     by_role (Idle buffers bound) sound due gone = cc
@@ -494,31 +515,38 @@ sent_gone h now x = by_role x.role
         removed_caused c (edge.Emits (later h now)) (due_not_over c sound.sound due)
         (ap (λ (r : Role). emitted_fate r) (sym (emitted_connection c l (later h now))) ∙ gone_removed _ gone)
 
-emission_followed : (h : HostView) (now : Moment) → IsSoundHost h → Follows (IsStep h (Emits now)) h.entries (let after = after_emission h now in after.entries)
+-- where nothing is due, and where a reply goes out, the table stays
+idle_emission : (h : HostView) (now : Moment) → h.replies ≡ [] → find is_due h.entries ≡ None → (let after = after_emission h now in after.entries) ≡ h.entries
+idle_emission h now none found = rw (none, found)
+
+reply_emission : (h : HostView) (now : Moment) (reply : Head) (rest : List Head) → h.replies ≡ reply ∷ rest → (let after = after_emission h now in after.entries) ≡ h.entries
+reply_emission h now reply rest is = rw is
+
+emission_followed : (h : HostView) (now : Moment) → IsSoundHost h → Follows (IsStep h (Emits now)) (IsAdded h (Emits now)) h.entries (let after = after_emission h now in after.entries)
 emission_followed h now sound = by_replies h.replies refl
   where
-    by_entry : h.replies ≡ [] → (o : Option Entry) → find is_due h.entries ≡ o → Follows (IsStep h (Emits now)) h.entries (let after = after_emission h now in after.entries)
-    by_entry none None found = rw (none, found) (as_it_was (IsStep h (Emits now)) (same_step h (Emits now)) h.entries)
+    by_entry : h.replies ≡ [] → (o : Option Entry) → find is_due h.entries ≡ o → Follows (IsStep h (Emits now)) (IsAdded h (Emits now)) h.entries (let after = after_emission h now in after.entries)
+    by_entry none None found = let P : List Entry → Type 0 = λ ys. Follows (IsStep h (Emits now)) (IsAdded h (Emits now)) h.entries ys in subst P (sym (idle_emission h now none found)) (as_it_was (IsStep h (Emits now)) (IsAdded h (Emits now)) refl (same_step h (Emits now)) h.entries)
     by_entry none (Some e) found =
-        let P : HostView → Type 0 = λ w. Follows (IsStep h (Emits now)) h.entries w.entries in
-        subst P (sym (emission-of_entry h now e none found)) (settled_followed (IsStep h (Emits now)) (emitted_fate (emitted_at (later h now) e.role)) is_due (emitted_at (later h now)) h.entries (same_step h (Emits now))
-        (λ kept x passes at. sent_step h now x)
-        (λ gone x passes at. sent_gone h now x (all_found (λ (y : Entry). IsSoundRole y.role) is_due h.entries x sound.entries at) passes (ap (λ (y : Entry). is_kept (emitted_fate (emitted_at (later h now) y.role))) (some_same _ x e at found) ∙ gone)))
+        let P : HostView → Type 0 = λ w. Follows (IsStep h (Emits now)) (IsAdded h (Emits now)) h.entries w.entries in
+        subst P (sym (emission-of_entry h now e none found)) (settled_followed (IsStep h (Emits now)) (IsAdded h (Emits now)) refl (emitted_fate (emitted_at (later h now) e.role)) is_due (emitted_at (later h now)) h.entries (same_step h (Emits now))
+        (λ kept x passes at. sent_step h now x (next_out h x none at))
+        (λ gone x passes at. sent_gone h now x (next_out h x none at) (all_found (λ (y : Entry). IsSoundRole y.role) is_due h.entries x sound.entries at) passes (ap (λ (y : Entry). is_kept (emitted_fate (emitted_at (later h now) y.role))) (some_same _ x e at found) ∙ gone)))
 
-    by_replies : (replies : List Head) → h.replies ≡ replies → Follows (IsStep h (Emits now)) h.entries (let after = after_emission h now in after.entries)
+    by_replies : (replies : List Head) → h.replies ≡ replies → Follows (IsStep h (Emits now)) (IsAdded h (Emits now)) h.entries (let after = after_emission h now in after.entries)
     by_replies [] is = by_entry is (find is_due h.entries) refl
-    by_replies (reply ∷ rest) is = rw is (as_it_was (IsStep h (Emits now)) (same_step h (Emits now)) h.entries)
+    by_replies (reply ∷ rest) is = let P : List Entry → Type 0 = λ ys. Follows (IsStep h (Emits now)) (IsAdded h (Emits now)) h.entries ys in subst P (sym (reply_emission h now reply rest is)) (as_it_was (IsStep h (Emits now)) (IsAdded h (Emits now)) refl (same_step h (Emits now)) h.entries)
 
-pub ends_followed : (h : HostView) (e : Event) → IsSoundHost h → Follows (IsStep h e) h.entries (let after = after_event h e in after.entries)
-ends_followed h (Makes buffers) sound = joined_by (IsStep h (Makes buffers)) (same_step h (Makes buffers)) h.entries _
-ends_followed h (Binds id local) sound = quiet_change h (Binds id local) (is_socket id) (bound_to local) (quiet_bound local) (bound_edge local) (bound_mute local) h.entries
-ends_followed h (Listens id backlog) sound = quiet_change h (Listens id backlog) (is_socket id) (listening backlog) (quiet_listening backlog) (listening_edge backlog) (listening_mute backlog) h.entries
-ends_followed h (Accepts id) sound = quiet_change h (Accepts id) (is_offered_at id) accepted quiet_accepted accepted_edge accepted_mute h.entries
+pub ends_followed : (h : HostView) (e : Event) → IsSoundHost h → Follows (IsStep h e) (IsAdded h e) h.entries (let after = after_event h e in after.entries)
+ends_followed h (Makes buffers) sound = joined_by (IsStep h (Makes buffers)) (IsAdded h (Makes buffers)) (same_step h (Makes buffers)) h.entries _ refl
+ends_followed h (Binds id local) sound = quiet_change h (Binds id local) refl (is_socket id) (bound_to local) (quiet_bound local) (bound_edge local) (bound_mute local) h.entries
+ends_followed h (Listens id backlog) sound = quiet_change h (Listens id backlog) refl (is_socket id) (listening backlog) (quiet_listening backlog) (listening_edge backlog) (listening_mute backlog) h.entries
+ends_followed h (Accepts id) sound = quiet_change h (Accepts id) refl (is_offered_at id) accepted quiet_accepted accepted_edge accepted_mute h.entries
 ends_followed h (Connects isn id peer) sound = connect_followed h isn id peer
-ends_followed h (Sends id octets) sound = quiet_change h (Sends id octets) (is_socket id) (sent octets) (quiet_sent octets) (sent_edge octets) (sent_mute octets) h.entries
-ends_followed h (Receives id len) sound = quiet_change h (Receives id len) (is_socket id) (received len) (quiet_received len) (received_edge len) (received_mute len) h.entries
-ends_followed h (Shuts id) sound = quiet_change h (Shuts id) (is_socket id) write_shut quiet_shut shut_role_edge shut_mute h.entries
+ends_followed h (Sends id octets) sound = quiet_change h (Sends id octets) refl (is_socket id) (sent octets) (quiet_sent octets) (sent_edge octets) (sent_mute octets) h.entries
+ends_followed h (Receives id len) sound = quiet_change h (Receives id len) refl (is_socket id) (received len) (quiet_received len) (received_edge len) (received_mute len) h.entries
+ends_followed h (Shuts id) sound = quiet_change h (Shuts id) refl (is_socket id) write_shut quiet_shut shut_role_edge shut_mute h.entries
 ends_followed h (Closes id) sound = close_followed h id
-ends_followed h (Ticks now) sound = each_followed (IsStep h (Ticks now)) (λ x. is_kept (tick_fate_of (later h now) x.role)) (with_role (ticked (later h now))) h.entries (tick_step h now) (tick_gone h now)
+ends_followed h (Ticks now) sound = each_followed (IsStep h (Ticks now)) (IsAdded h (Ticks now)) refl (λ x. is_kept (tick_fate_of (later h now) x.role)) (with_role (ticked (later h now))) h.entries (tick_step h now) (tick_gone h now)
 ends_followed h (Hears now isn s) sound = segment_followed h now isn s
 ends_followed h (Emits now) sound = emission_followed h now sound

@@ -11,3 +11,12 @@ pub mod Retained
 pub mod Followed
 pub mod Caused
 pub mod Over
+pub mod FirstPorts
+pub mod Deadlines
+pub mod Opened
+pub mod Ends
+pub mod KeptEnds
+pub mod Ordering
+pub mod Ordered
+pub mod Held
+pub mod Numbered

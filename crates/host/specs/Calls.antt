@@ -194,7 +194,7 @@ abbrev pub close_refusal : HostView → SocketId → Option Refusal
 close_refusal h id = if is_some (role_of h id) then None else Some EBADF
 
 -- The socket is gone. Nothing is left of one without a connection; a connection goes on without a socket, or is aborted, or is gone,
--- as its own rules say (RFC 9293 section 3.10.4).
+-- as its own rules say (RFC 9293 section 3.10.4; 3.6.1 where octets are unread; own in SYN-RECEIVED and at a listener).
 abbrev pub after_socket_closed : HostView → SocketId → HostView
 after_socket_closed h id = of_role (role_of h id)
   where

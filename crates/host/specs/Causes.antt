@@ -1,9 +1,10 @@
--- Which states the entries of a host's table join, what ends them, and what makes them tell an error (RFC 9293 section 3.3.2).
-use Rattle.std.specs.Prelude.{◌≡◌, ◌⊎◌, ℕ, ◌&&◌, ◌||◌, not, Bool, true, false, List, [], ◌∷◌, Option, Some, None}
+-- Which states the entries of a host's table join, what ends them, and what makes them tell an error (RFC 9293 sections 3.3.2 and 3.10).
+use Rattle.std.specs.Prelude.{◌≡◌, ◌⊎◌, ℕ, ◌+◌, ◌==◌, ◌&&◌, ◌||◌, not, Bool, true, false, List, [], ◌∷◌, length, Option, Some, None, find}
 use Rattle.ipv4.specs.declared.addr.Endpoint.{Endpoint}
 use Rattle.tcp_segment.specs.Segment.{Segment}
 use Rattle.tcp_state.specs.declared.buffers.Buffers.{Buffers}
 use Rattle.tcp_state.specs.declared.moment.Moment.{Moment}
+use Rattle.tcp_state.specs.declared.state.State.TheVariants.{SynReceived}
 use Rattle.tcp_state.specs.View.{is_closed}
 use Rattle.tcp_state.specs.declared.calls.Refusal.{Refusal as Error}
 use Rattle.tcp_state.specs.Edges as edge
@@ -11,10 +12,10 @@ use Rattle.host.specs.declared.entry.SocketId.{SocketId}
 use Rattle.host.specs.declared.entry.Entry.{Entry}
 use Rattle.host.specs.declared.entry.Role.{Role}
 use Rattle.host.specs.declared.entry.Role.TheVariants.{Idle, Listener, Connected}
-use Rattle.host.specs.Entries.{is_socket, is_waiting_at, is_between, shown_state}
+use Rattle.host.specs.Entries.{is_socket, is_waiting_at, is_between, is_listening_at, is_due, shown_state, new_socket}
 use Rattle.host.specs.HostView.{HostView, later, after_tick, after_emission}
 use Rattle.host.specs.Calls.{after_socket, after_bind, after_listen, after_accept, after_connect, after_send, after_recv, after_shutdown, after_close}
-use Rattle.host.specs.Dispatch.{Arrival, Becomes, Opens, NoPlace, local_end, peer_end, arrival}
+use Rattle.host.specs.Dispatch.{Arrival, Becomes, Opens, NoPlace, local_end, peer_end, is_opening, arrival}
 
 -- what may happen to a host: a call that is not refused, a tick, a segment from the neighbour, or what is due first goes out
 pub data Event : Type 0 where
@@ -57,13 +58,21 @@ is_connection_cause e (Connected c listener) = edge.is_cause c e
 is_connection_cause e (Listener local backlog) = false
 is_connection_cause e (Idle buffers bound) = false
 
+-- it is what goes out next: no reply waits, and of the entries that have a segment due it is the first
+abbrev pub is_next_out : HostView → Entry → Bool
+is_next_out h x = (length h.replies == 0) && of_entry (find is_due h.entries)
+  where
+    of_entry : Option Entry → Bool
+    of_entry None = false
+    of_entry (Some first) = first.id.0 == x.id.0
+
 -- What ends an entry: that its socket is closed, or the listener that it waits at; and for a connection a segment of its two ends, a tick
 -- or the going out of its segment, each as its own rules say.
 abbrev pub is_cause_for : HostView → Event → Entry → Bool
 is_cause_for h (Closes id) x = is_socket id x || is_waiting_at id x
 is_cause_for h (Ticks now) x = is_connection_cause (edge.Ticks (later h now)) x.role
 is_cause_for h (Hears now isn s) x = is_between (local_end h s) (peer_end h s) x && is_connection_cause (edge.Hears s (later h now)) x.role
-is_cause_for h (Emits now) x = is_connection_cause (edge.Emits (later h now)) x.role
+is_cause_for h (Emits now) x = is_next_out h x && is_connection_cause (edge.Emits (later h now)) x.role
 is_cause_for h _ x = false
 
 -- an entry becomes CLOSED
@@ -96,8 +105,26 @@ abbrev pub IsStep : HostView → Event → Entry → Option Entry → Type 0
 IsStep h e x None = is_cause_for h e x ≡ true
 IsStep h e x (Some y) = (y.id ≡ x.id) × edge.IsEdge (shown_state x.role) (shown_state y.role) × (becomes_closed x.role y.role ≡ true → is_cause_for h e x ≡ true) × IsToldBy h e x y
 
--- The table before and after, entry by entry and in order: what is left of each, and new ones behind them.
-abbrev pub Follows : (Entry → Option Entry → Type 0) → List Entry → List Entry → Type 0
-Follows Step [] ys = Unit {0}
-Follows Step (x ∷ xs) [] = Step x None × Follows Step xs []
-Follows Step (x ∷ xs) (y ∷ ys) = (Step x (Some y) × Follows Step xs ys) ⊎ (Step x None × Follows Step xs (y ∷ ys))
+-- a new connection in SYN-RECEIVED between the two ends of a segment that opens one, told no error, which waits at the listener of the
+-- segment's destination port
+pub record IsOpenedBy (h : HostView) (s : Segment) (e : Entry) : Type 0 where
+  pub opens : is_opening s.flags ≡ true
+  pub id : e.id.0 ≡ h.last_id + 1
+  pub between : is_between (local_end h s) (peer_end h s) e ≡ true
+  pub state : shown_state e.role ≡ SynReceived
+  pub told : told_in e.role ≡ None
+  pub listener : Entry
+  pub listens : find (is_listening_at s.destination) h.entries ≡ Some listener
+  pub waits : is_waiting_at listener.id e ≡ true
+
+-- What an event adds: the making of a socket adds an idle one that is not bound, a segment at most one connection, and nothing else any.
+abbrev pub IsAdded : HostView → Event → List Entry → Type 0
+IsAdded h (Makes buffers) added = added ≡ new_socket (record { 0 = h.last_id + 1 }) buffers ∷ []
+IsAdded h (Hears now isn s) added = (added ≡ []) ⊎ ((e : Entry) × (added ≡ e ∷ []) × IsOpenedBy h s e)
+IsAdded h _ added = added ≡ []
+
+-- The table before and after, entry by entry and in order: what is left of each, and behind them what was added.
+abbrev pub Follows : (Entry → Option Entry → Type 0) → (List Entry → Type 0) → List Entry → List Entry → Type 0
+Follows Step Added [] ys = Added ys
+Follows Step Added (x ∷ xs) [] = Step x None × Follows Step Added xs []
+Follows Step Added (x ∷ xs) (y ∷ ys) = (Step x (Some y) × Follows Step Added xs ys) ⊎ (Step x None × Follows Step Added xs (y ∷ ys))

@@ -1,5 +1,6 @@
 -- What a reader sees of a host.
-use Rattle.std.specs.Prelude.{ℕ, nat_lt, if◌then◌else◌, List, [], ◌∷◌, fold, Option, Some, None, option_map, option_and_then, find}
+use Rattle.std.specs.Prelude.{◌≡◌, ℕ, ◌≤◌, nat_lt, if◌then◌else◌, List, [], ◌∷◌, fold, Option, Some, None, option_map, option_and_then, find}
+use Rattle.std.specs.List.{Contains, AllByRecursion}
 use Rattle.ipv4.specs.declared.addr.Addr.{Addr}
 use Rattle.ipv4.specs.declared.addr.Pair.{Pair}
 use Rattle.tcp_segment.specs.declared.head.Head.{Head}
@@ -114,3 +115,12 @@ earlier None b = b
 -- the least deadline of all entries
 abbrev pub least_deadline : HostView → Option Moment
 least_deadline h = fold (λ least e. earlier least (deadline_of e.role)) None h.entries
+
+-- an entry of the host has this deadline, and none has an earlier one
+pub record IsLeastDeadline (h : HostView) (moment : Moment) : Type 0 where
+  pub has : (e : Entry) × Contains h.entries e × (deadline_of e.role ≡ Some moment)
+  pub least : AllByRecursion (λ (e : Entry). (other : Moment) → deadline_of e.role ≡ Some other → moment.0 ≤ other.0) h.entries
+
+-- no entry of the host has a deadline
+abbrev pub HasNoDeadline : HostView → Type 0
+HasNoDeadline h = AllByRecursion (λ (e : Entry). deadline_of e.role ≡ None) h.entries

@@ -9,3 +9,4 @@ pub mod Dispatch
 pub mod Pairs
 pub mod Sound
 pub mod Causes
+pub mod Order

@@ -221,10 +221,10 @@ impl Host {
         }
     }
 
-    /// Gives octets to a connection, and answers how many it took: the first that find room.
+    /// Gives octets to a connection (RFC 9293 section 3.10.2), and answers how many it took: the first that find room.
     ///
-    /// EBADF; EOPNOTSUPP where the socket listens; ENOTCONN where it has no connection; EAGAIN while the connection
-    /// is opened, or where octets are given and there is no room.
+    /// EBADF; EOPNOTSUPP where the socket listens; ENOTCONN where it has no connection; the error that its connection is told; EAGAIN
+    /// while the connection is opened; EPIPE once our side is closed; EAGAIN where octets are given and there is no room.
     #[tactic(auto, using(crate::proofs::Firsts::firsts))]
     pub fn send(&mut self, id: SocketId, octets: &[u8]) -> Result<usize, Refusal>
         ensures answer { result ≡ send_answer self.old id octets.now }
@@ -235,10 +235,12 @@ impl Host {
         self.entries[place].send(octets)
     }
 
-    /// Reads octets of a connection into `buffer`, in order, as many as there are or as fit.
+    /// Reads octets of a connection into `buffer` (RFC 9293 section 3.10.3), in order, as many as there are or as fit. The end of the stream
+    /// is told where nothing is readable and the peer's FIN has come behind all its octets, and where the connection is CLOSED and told no
+    /// error.
     ///
-    /// EBADF; EOPNOTSUPP where the socket listens; EINVAL for an empty buffer; ENOTCONN where it has no connection;
-    /// EAGAIN while the connection is opened, or where nothing is readable.
+    /// EBADF; EOPNOTSUPP where the socket listens; EINVAL for an empty buffer; ENOTCONN where it has no connection; the error that its
+    /// connection is told; EAGAIN while the connection is opened, or where nothing is readable before the end.
     #[tactic(auto, using(crate::proofs::Firsts::firsts))]
     pub fn recv(&mut self, id: SocketId, buffer: &mut [u8]) -> Result<Received, Refusal>
         ensures answer { result ≡ recv_answer self.old id (length buffer.old) }

@@ -1,5 +1,6 @@
 use Rattle.host.proofs.Foreseen.{opening_foreseen}
+use Rattle.host.proofs.Held.{opening_holds}
 use Rattle.host.proofs.laws.openings_are_foreseen.Goals as goal
 
 pub returns : goal.returns
-returns c = opening_foreseen
+returns c = record { foreseen = opening_foreseen; opened = opening_holds }

@@ -1,0 +1,173 @@
+-- Whatever happens to a connection, its endpoints stay, and what is CLOSED stays so.
+use Rattle.std.proofs.Common.{◌≡◌, ℕ, ◌&&◌, ◌||◌, ◌==◌, not, if◌then◌else◌, Bool, true, false, List, length, is_some, refl, ◌∙◌}
+use Rattle.tcp_segment.specs.Segment.{Segment}
+use Rattle.tcp_state.specs.declared.emission.Due.{Due}
+use Rattle.tcp_state.specs.declared.emission.Due.TheVariants.{Rst, Syn, Text, Fin, Ack}
+use Rattle.tcp_state.specs.declared.moment.Moment.{Moment}
+use Rattle.tcp_state.specs.declared.state.State.{State}
+use Rattle.tcp_state.specs.declared.state.State.TheVariants.{Closed, Listen, SynSent, SynReceived, Established, FinWait1, FinWait2, CloseWait, Closing, LastAck, TimeWait}
+use Rattle.tcp_state.specs.Numbers.{is_before}
+use Rattle.tcp_state.specs.Stream.{is_new_ack, is_in_window}
+use Rattle.tcp_state.specs.View.{View, is_opening, is_syn_sent, is_syn_received, is_closed, is_write_closed, is_at_end, stopped, after_resend, after_tick}
+use Rattle.tcp_state.specs.Calls.{after_send, after_recv, shut, after_shutdown, aborted, after_abort, is_removed_by_close, is_aborted_by_close, after_release, after_close}
+use Rattle.tcp_state.specs.Due.{after_emitted, after_ack_paid, after_numbers}
+use Rattle.tcp_state.specs.Arrival.{after_segment, after_syn_ack, is_right_syn_ack, is_accepted, after_accepted, after_acceptable, after_ack, is_read_on, after_window, after_text, owing_ack, established, ends_by_syn, is_fin_next, fin_acknowledged, after_new_ack, is_receiving, counts_fin, after_fin, after_reset, reset_error, after_refusal, is_acting_reset, ends_by_reset, after_rst, is_lost, after_lost, after_heard, after_segment_at}
+
+-- the endpoints stay, and nothing that is CLOSED lives again
+pub record KeepsEnds (v w : View) : Type 0 where
+  pub local : w.local ≡ v.local
+  pub peer : w.peer ≡ v.peer
+  pub live : is_closed w.state ≡ false → is_closed v.state ≡ false
+
+-- nothing happened
+pub keeps-nothing : (v : View) → KeepsEnds v v
+keeps-nothing v = record { local = refl; peer = refl; live = λ e. e }
+
+-- octets are taken from the caller
+pub keeps-send : (v : View) (octets : List ℕ) → KeepsEnds v (after_send v octets)
+keeps-send v octets = either (is_some v.told || is_opening v.state || is_write_closed v.state) v _ (keeps-nothing v) (record { local = refl; peer = refl; live = λ e. e })
+  where
+    either : (test : Bool) (w x : View) → KeepsEnds v w → KeepsEnds v x → KeepsEnds v (if test then w else x)
+    either true w x a b = a
+    either false w x a b = b
+
+-- octets are read by the caller
+pub keeps-recv : (v : View) (len : ℕ) → KeepsEnds v (after_recv v len)
+keeps-recv v len = either (is_some v.told || is_opening v.state || (length v.receiving.readable == 0)) v _ (keeps-nothing v) (record { local = refl; peer = refl; live = λ e. e })
+  where
+    either : (test : Bool) (w x : View) → KeepsEnds v w → KeepsEnds v x → KeepsEnds v (if test then w else x)
+    either true w x a b = a
+    either false w x a b = b
+
+-- our side is closed
+pub keeps-shutdown : (v : View) → KeepsEnds v (after_shutdown v)
+keeps-shutdown v = record { local = refl; peer = refl; live = λ e. still v.state e }
+  where
+    still : (t : State) → is_closed (shut t) ≡ false → is_closed t ≡ false
+    still Closed e = e
+    still Listen e = refl
+    still SynSent e = refl
+    still SynReceived e = refl
+    still Established e = refl
+    still FinWait1 e = refl
+    still FinWait2 e = refl
+    still CloseWait e = refl
+    still Closing e = refl
+    still LastAck e = refl
+    still TimeWait e = refl
+
+-- a tick
+pub keeps-tick : (v : View) (now : Moment) → KeepsEnds v (after_tick v now)
+keeps-tick v now = either (is_at_end v now)
+  where
+    either : (test : Bool) → KeepsEnds v (if test then stopped v else after_resend v now)
+    either true = record { local = refl; peer = refl; live = λ e. let bad : true ≡ false = e in cc }
+    either false = record { local = refl; peer = refl; live = λ e. e }
+
+-- it is aborted, as far as it is not CLOSED
+pub keeps-abort : (v : View) → KeepsEnds v (after_abort v)
+keeps-abort v = either (is_closed v.state)
+  where
+    either : (test : Bool) → KeepsEnds v (if test then v else aborted v)
+    either true = keeps-nothing v
+    either false = record { local = refl; peer = refl; live = λ e. let bad : true ≡ false = e in cc }
+
+-- its caller closes it
+pub keeps-close : (v : View) (now : Moment) → KeepsEnds v (after_close v now)
+keeps-close v now = first (is_removed_by_close v)
+  where
+    second : (test : Bool) → KeepsEnds v (if test then aborted v else after_release v now)
+    second true = record { local = refl; peer = refl; live = λ e. let bad : true ≡ false = e in cc }
+    second false = let shuts = keeps-shutdown v in record { local = refl; peer = refl; live = shuts.live }
+
+    first : (test : Bool) → KeepsEnds v (if test then v else (if is_aborted_by_close v then aborted v else after_release v now))
+    first true = keeps-nothing v
+    first false = second (is_aborted_by_close v)
+
+-- a segment goes out
+pub keeps-emitted : (v : View) (due : Due) (now : Moment) → KeepsEnds v (after_emitted v due now)
+keeps-emitted v Rst now = record { local = refl; peer = refl; live = λ e. e }
+keeps-emitted v Syn now = either (is_syn_received v.state)
+  where
+    either : (test : Bool) → KeepsEnds v (if test then after_ack_paid (after_numbers v 1 now) else after_numbers v 1 now)
+    either true = record { local = refl; peer = refl; live = λ e. e }
+    either false = record { local = refl; peer = refl; live = λ e. e }
+keeps-emitted v (Text count) now = record { local = refl; peer = refl; live = λ e. e }
+keeps-emitted v Fin now = record { local = refl; peer = refl; live = λ e. e }
+keeps-emitted v Ack now = record { local = refl; peer = refl; live = λ e. e }
+
+-- A segment comes.
+
+record SameEnds (v w : View) : Type 0 where
+  local : w.local ≡ v.local
+  peer : w.peer ≡ v.peer
+
+same : (v : View) → SameEnds v v
+same v = record { local = refl; peer = refl }
+
+same-then : (v w x : View) → SameEnds v w → SameEnds w x → SameEnds v x
+same-then v w x a b = record { local = b.local ∙ a.local; peer = b.peer ∙ a.peer }
+
+same-either : (v : View) (test : Bool) (w x : View) → SameEnds v w → SameEnds v x → SameEnds v (if test then w else x)
+same-either v true w x a b = a
+same-either v false w x a b = b
+
+same-syn_ack : (v : View) (s : Segment) → SameEnds v (after_syn_ack v s)
+same-syn_ack v s = same-either v (is_right_syn_ack v s) _ v (record { local = refl; peer = refl }) (same v)
+
+same-ack : (v : View) (ack : ℕ) → SameEnds v (after_ack v ack)
+same-ack v ack =
+    same-either v (is_syn_received v.state) _ _
+    (same-either v (is_new_ack v.sending ack) (established v) v (record { local = refl; peer = refl }) (same v))
+    (same-either v (is_new_ack v.sending ack) _ _
+    (same-either v (is_fin_next v) (fin_acknowledged (after_new_ack v ack)) (after_new_ack v ack) (record { local = refl; peer = refl }) (record { local = refl; peer = refl }))
+    (same-either v (is_before v.sending.nxt ack) (owing_ack v) v (record { local = refl; peer = refl }) (same v)))
+
+same-text : (v : View) (s : Segment) → SameEnds v (after_text v s)
+same-text v s = same-either v ((length s.octets == 0) || not (is_receiving v.state)) v _ (same v) (record { local = refl; peer = refl })
+
+same-fin : (v : View) (s : Segment) → SameEnds v (after_fin v s)
+same-fin v s = same-either v (counts_fin v s) _ v (record { local = refl; peer = refl }) (same v)
+
+same-window : (v : View) (s : Segment) → SameEnds v (after_window v s)
+same-window v s = record { local = refl; peer = refl }
+
+same-acceptable : (v : View) (s : Segment) → SameEnds v (after_acceptable v s)
+same-acceptable v s =
+    let acked = after_ack v s.acknowledgement in
+    let told = after_window acked s in
+    let heard = after_text told s in
+    let kept = same-ack v s.acknowledgement in
+    same-either v (is_read_on v s.acknowledgement) (after_fin heard s) acked
+    (same-then v heard (after_fin heard s) (same-then v told heard (same-then v acked told kept (same-window acked s)) (same-text told s)) (same-fin heard s)) kept
+
+same-accepted : (v : View) (s : Segment) → SameEnds v (after_accepted v s)
+same-accepted v s =
+    same-either v s.flags.syn _ _
+    (same-either v (ends_by_syn v s) v (owing_ack v) (same v) (record { local = refl; peer = refl }))
+    (same-either v s.flags.ack (after_acceptable v s) v (same-acceptable v s) (same v))
+
+same-reset : (v : View) (s : Segment) → SameEnds v (if is_syn_sent v.state then after_refusal v s else after_rst v s)
+same-reset v s =
+    same-either v (is_syn_sent v.state) _ _
+    (same-either v (s.flags.ack && is_new_ack v.sending s.acknowledgement) (after_reset v (reset_error v.state)) v (record { local = refl; peer = refl }) (same v))
+    (same-either v (is_acting_reset v s) _ _
+    (same-either v (ends_by_reset v s) v (after_reset v (reset_error v.state)) (same v) (record { local = refl; peer = refl }))
+    (same-either v (is_in_window v.receiving s.number) (owing_ack v) v (record { local = refl; peer = refl }) (same v)))
+
+same-segment : (v : View) (s : Segment) → SameEnds v (after_segment v s)
+same-segment v s =
+    same-either v (is_closed v.state) v _ (same v)
+    (same-either v s.flags.rst _ _ (same-reset v s)
+    (same-either v (is_syn_sent v.state) (after_syn_ack v s) _ (same-syn_ack v s)
+    (same-either v (is_accepted v s) (after_accepted v s) (owing_ack v) (same-accepted v s) (record { local = refl; peer = refl }))))
+
+same-heard : (v : View) (s : Segment) → SameEnds v (after_heard v s)
+same-heard v s =
+    let acked = after_ack v s.acknowledgement in
+    let told = after_window acked s in
+    same-either v (is_lost v s) (after_lost v s) (after_segment v s) (same-then v told (aborted told) (same-then v acked told (same-ack v s.acknowledgement) (same-window acked s)) (record { local = refl; peer = refl })) (same-segment v s)
+
+-- a segment arrives at a connection that is not CLOSED
+pub keeps-segment : (v : View) (s : Segment) (now : Moment) → is_closed v.state ≡ false → KeepsEnds v (after_segment_at v s now)
+keeps-segment v s now lives = let ends = same-heard v s in record { local = ends.local; peer = ends.peer; live = λ e. lives }
