@@ -33,15 +33,11 @@ fn main() {
     }
 }
 
-fn sums(octets: &[u8]) -> [Measurement<'_>; 3] {
+fn sums(octets: &[u8]) -> [Measurement<'_>; 2] {
     let of = |side, sum: fn(&[u8]) -> u16| {
         Measurement::new("sum", side, move || sum(black_box(octets))).of_octets(PAYLOAD_LEN)
     };
-    [
-        of("proved", proved::sum),
-        of("Rust", plain::sum),
-        of("Rust, word by word", plain::sum_by_words),
-    ]
+    [of("proved", proved::sum), of("Rust", plain::sum)]
 }
 
 fn parsings(segment: &[u8]) -> [Measurement<'_>; 2] {

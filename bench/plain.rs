@@ -7,27 +7,12 @@ const END_OF_OPTIONS: u8 = 0;
 const NO_OPERATION: u8 = 1;
 const MAXIMUM_SEGMENT_SIZE: u8 = 2;
 const MSS: u16 = 1460;
-const TCP: u64 = 6;
+const TCP: u32 = 6;
 
 /// The one's complement sum of `octets`, an odd last one padded with zero.
 #[inline(never)]
 pub fn sum(octets: &[u8]) -> u16 {
     folded(words(octets))
-}
-
-/// The same sum, word by word as the stack takes it: the total is folded only where it would pass 64 bits.
-#[inline(never)]
-pub fn sum_by_words(octets: &[u8]) -> u16 {
-    let mut total = 0;
-    let mut rest = octets;
-    while let [high, low, tail @ ..] = rest {
-        total = add_word(total, u16::from_be_bytes([*high, *low]));
-        rest = tail;
-    }
-    if let [last] = rest {
-        total = add_word(total, u16::from_be_bytes([*last, 0]));
-    }
-    folded(total)
 }
 
 /// What a segment from `src` for `dst` says, where it is well-formed.
@@ -52,24 +37,18 @@ pub fn emit(src: u32, dst: u32, fields: &Fields, out: &mut [u8]) -> Option<usize
     Some(len)
 }
 
-fn words(octets: &[u8]) -> u64 {
+/// The words of at most 65,535 octets, which 32 bits hold.
+fn words(octets: &[u8]) -> u32 {
     let (words, rest) = octets.as_chunks::<2>();
-    let last = rest.first().map_or(0, |last| u64::from(*last) << 8);
+    let last = rest.first().map_or(0, |last| u32::from(*last) << 8);
     words
         .iter()
-        .map(|word| u64::from(u16::from_be_bytes(*word)))
-        .sum::<u64>()
+        .map(|word| u32::from(u16::from_be_bytes(*word)))
+        .sum::<u32>()
         + last
 }
 
-fn add_word(total: u64, word: u16) -> u64 {
-    match total.checked_add(u64::from(word)) {
-        Some(sum) => sum,
-        None => u64::from(folded(total)) + u64::from(word),
-    }
-}
-
-fn folded(mut total: u64) -> u16 {
+fn folded(mut total: u32) -> u16 {
     while total > 0xffff {
         total = (total & 0xffff) + (total >> 16);
     }
@@ -79,7 +58,7 @@ fn folded(mut total: u64) -> u16 {
 /// The sum of a segment behind its pseudo header.
 pub fn sum_between(src: u32, dst: u32, segment: &[u8]) -> u16 {
     let addresses = words(&src.to_be_bytes()) + words(&dst.to_be_bytes());
-    folded(addresses + TCP + segment.len() as u64 + words(segment))
+    folded(addresses + TCP + segment.len() as u32 + words(segment))
 }
 
 /// What the header says, whatever its checksum is.
