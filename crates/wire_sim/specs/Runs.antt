@@ -67,10 +67,11 @@ abbrev pub SameEvent : Event → Event → Type 0
 SameEvent (event.Call s a) (event.Call t b) = (s ≡ t) × SameCall a b
 SameEvent a b = a ≡ b
 
--- What is told of an event that was given to a world: it was taken with that answer, or it was refused and the world is as it was.
+-- What is told of an event that was given to a world: it was taken with that answer, or the world is as it was and the event was refused: by
+-- the first of the rules that it breaks, and for want of memory only where it breaks none.
 abbrev pub IsOutcome : Event → Result Answer Unfair → WorldView → WorldView → Type 0
 IsOutcome happens (Ok told) old new = (answer : Answer) × SameAnswer told answer × IsStep happens answer old new
-IsOutcome happens (Err refusal) old new = (new ≡ old) × ((unfair old happens ≡ Some refusal) ⊎ (refusal ≡ NoMemory))
+IsOutcome happens (Err refusal) old new = (new ≡ old) × ((unfair old happens ≡ Some refusal) ⊎ ((unfair old happens ≡ None) × (refusal ≡ NoMemory)))
 
 -- a list of events was given in turn, each with its outcome
 abbrev pub RunsTo : List Event → List (Result Answer Unfair) → WorldView → WorldView → Type 0

@@ -116,6 +116,7 @@ impl World {
         for event in events {
             let outcome = match event.clone() {
                 Ok(event) => self.step(event),
+                // Only a send owns octets that take memory, and no rule refuses a send.
                 Err(_) => Err(Unfair::NoMemory),
             };
             results.push_reserved(outcome);

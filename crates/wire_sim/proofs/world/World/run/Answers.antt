@@ -1,12 +1,12 @@
 -- A world that is given no event keeps the law.
-use Rattle.std.proofs.Common.{◌≡◌, ◌+◌, length, take, drop, List, [], ◌∷◌, ◌++◌, Result, Err, subst, refl, inr, sym, arith, rules}
+use Rattle.std.proofs.Common.{◌≡◌, ◌+◌, length, take, drop, List, [], ◌∷◌, ◌++◌, None, Result, Err, subst, refl, inr, sym, arith, rules}
 use Rattle.std.proofs.lemmas.Grind.{common_steps}
 use Rattle.wire_sim.specs.WorldView.{WorldView, network_view}
 use Rattle.wire_sim.specs.declared.event.Event.{Event}
 use Rattle.wire_sim.specs.declared.event.Answer.{Answer}
 use Rattle.wire_sim.specs.declared.event.Unfair.{Unfair}
 use Rattle.wire_sim.specs.declared.event.Unfair.TheVariants.{NoMemory}
-use Rattle.wire_sim.specs.Runs.{SameEvent, IsOutcome, RunsTo}
+use Rattle.wire_sim.specs.Runs.{unfair, SameEvent, IsOutcome, RunsTo}
 use Rattle.wire_sim.specs.Trace.{StreamLaw}
 use Rattle.wire_sim.proofs.EventCopied.{cloned}
 use Rattle.wire_sim.proofs.StepReached.{lawful}
@@ -50,8 +50,10 @@ loop-event-preserved c = (
             subst (λ o. Goes c o c.match-clone.self) (sym w.outcome-is) (subst (λ v. Goes c w.step-outcome.result v) (sym w.self-is)
             (goes_on c given w.step-outcome.result w.step-outcome.new.self (cloned c.event-item.result given w.in-Ok.ensures.cases) outcome))
         | in-Err w ↦
+            -- only a send holds octets, for which memory may be refused, and a send breaks no rule
+            let keeps_rules : unfair c.loop-event.self c.event-item.result ≡ None = search rules in
             subst (λ o. Goes c o c.match-clone.self) (sym w.outcome-is) (subst (λ v. Goes c (Err NoMemory) v) (sym w.self-is)
-            (goes_on c c.event-item.result (Err NoMemory) c.loop-event.self (same_event c.event-item.result) (refl, inr refl)))
+            (goes_on c c.event-item.result (Err NoMemory) c.loop-event.self (same_event c.event-item.result) (refl, inr (keeps_rules, refl))))
       ]),
 )
 
