@@ -30,5 +30,6 @@ pub mod ProjectionConnect
 pub mod Fair
 pub mod WorldLaw
 pub mod StepReached
+pub mod RunReached
 pub mod EventCopied
 pub mod RunGiven
