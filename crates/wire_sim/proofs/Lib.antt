@@ -31,5 +31,6 @@ pub mod Fair
 pub mod WorldLaw
 pub mod StepReached
 pub mod RunReached
+pub mod Covered
 pub mod EventCopied
 pub mod RunGiven

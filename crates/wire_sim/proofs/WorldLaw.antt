@@ -97,7 +97,7 @@ frames-with : (n : NetworkView) (s : Side) (x : Station) → (let m = with_stati
 frames-with n A x = refl
 frames-with n B x = refl
 
-openings-with : (n : NetworkView) (s : Side) (x : Station) → (let m = with_station n s x in m.openings) ≡ n.openings
+pub openings-with : (n : NetworkView) (s : Side) (x : Station) → (let m = with_station n s x in m.openings) ≡ n.openings
 openings-with n A x = refl
 openings-with n B x = refl
 

@@ -6,3 +6,4 @@ pub mod WorldView
 pub mod Steps
 pub mod Trace
 pub mod Runs
+pub mod Coverage

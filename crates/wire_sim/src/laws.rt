@@ -1,6 +1,7 @@
 //! Laws over the definitions alone: functions with nothing to do, whose contracts are the laws.
 
 ghost use Rattle.wire_sim.specs.Runs.{EveryRunIsLawful, EveryRunIsTallied, EveryRunIsReached, EveryMomentIsLawful};
+ghost use Rattle.wire_sim.specs.Coverage.{EveryConnectionIsListed, EveryOpeningIsUnique, EveryOctetIsCovered};
 
 /// In every run of a world of two hosts, over every list of socket calls, ticks, emissions and fair deliveries in any order, for
 /// every pair of endpoints, every epoch and both directions, what was read at one end begins what was written at the other, and the
@@ -22,4 +23,21 @@ pub fn every_run_is_reached()
 /// The law of the stream holds at every moment of such a list: after each of its events, whether it was taken or refused.
 pub fn every_moment_is_lawful()
     ensures { EveryMomentIsLawful }
+{}
+
+/// Every connection in a host's table has an opening of its side, its id and its pair (RFC 9293 section 3.3.1: a pair of endpoints names
+/// a connection), and it is the one that the law of the stream reads for that pair in the opening's epoch.
+pub fn every_connection_is_listed()
+    ensures { EveryConnectionIsListed }
+{}
+
+/// No two openings are of one socket of a side, nor of one pair in one epoch at a side.
+pub fn every_opening_is_unique()
+    ensures { EveryOpeningIsUnique }
+{}
+
+/// No octet escapes the law of the stream: what was sent, read, closed and told to end on a socket is what the law reads of the socket's
+/// opening, also once it left the table; where it has no opening, nothing was sent or read on it and no end was told.
+pub fn every_octet_is_covered()
+    ensures { EveryOctetIsCovered }
 {}
