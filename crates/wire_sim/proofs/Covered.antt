@@ -129,7 +129,7 @@ pub record Grows (n m : NetworkView) : Type 0 where
 grows-not : (n m : NetworkView) → m.openings ≡ n.openings → Grows n m
 grows-not n m same = record { more = []; openings = same ∙ sym (append-nil n.openings) }
 
-opens : (n : NetworkView) (os : List Opening) → (let m = with_openings n os in m.openings) ≡ n.openings ++ os
+pub opens : (n : NetworkView) (os : List Opening) → (let m = with_openings n os in m.openings) ≡ n.openings ++ os
 opens n [] = sym (append-nil n.openings)
 opens n (o ∷ os) = opens (record n { openings = n.openings ++ o ∷ []; written = n.written ++ 0 ∷ [] }) os ∙ append_assoc n.openings (o ∷ []) os
 

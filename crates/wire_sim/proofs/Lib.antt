@@ -32,5 +32,6 @@ pub mod WorldLaw
 pub mod StepReached
 pub mod RunReached
 pub mod Covered
+pub mod Begun
 pub mod EventCopied
 pub mod RunGiven

@@ -7,3 +7,4 @@ pub mod Steps
 pub mod Trace
 pub mod Runs
 pub mod Coverage
+pub mod Holding

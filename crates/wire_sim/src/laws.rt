@@ -2,6 +2,7 @@
 
 ghost use Rattle.wire_sim.specs.Runs.{EveryRunIsLawful, EveryRunIsTallied, EveryRunIsReached, EveryMomentIsLawful};
 ghost use Rattle.wire_sim.specs.Coverage.{EveryConnectionIsListed, EveryOpeningIsUnique, EveryOctetIsCovered};
+ghost use Rattle.wire_sim.specs.Holding.{EveryOpeningIsBegun};
 
 /// In every run of a world of two hosts, over every list of socket calls, ticks, emissions and fair deliveries in any order, for
 /// every pair of endpoints, every epoch and both directions, what was read at one end begins what was written at the other, and the
@@ -40,4 +41,11 @@ pub fn every_opening_is_unique()
 /// opening, also once it left the table; where it has no opening, nothing was sent or read on it and no end was told.
 pub fn every_octet_is_covered()
     ensures { EveryOctetIsCovered }
+{}
+
+/// An event adds one opening at most, and only where it makes a side's host hold a pair that it did not hold: the opening names the side,
+/// the pair, the entry and the event's place. Its epoch is the one that the pair is in, and the next one exactly where a connect opens it
+/// while the other host does not hold the pair.
+pub fn every_opening_is_begun()
+    ensures { EveryOpeningIsBegun }
 {}
