@@ -35,6 +35,7 @@ use Rattle.wire_sim.specs.WorldView.{NetworkView, WorldView, station_of, host_of
 use Rattle.wire_sim.proofs.Accepted.{outcome, not_refused, connects-on, socket_pair-connected, found-connecting}
 use Rattle.wire_sim.proofs.Covered.{opens}
 use Rattle.wire_sim.proofs.Finding.{found-made}
+use Rattle.wire_sim.proofs.Held.{joined, unheld_connecting, unheld-changed_at}
 use Rattle.wire_sim.proofs.PairPorts.{pair_at, joins-own, unheld-between}
 use Rattle.wire_sim.proofs.Projection.{told}
 use Rattle.wire_sim.proofs.ProjectionConnect.{table-ours}
@@ -45,7 +46,7 @@ abbrev pub IsNoted : Event → WorldView → WorldView → Type 0
 IsNoted happens old new = (new.network.openings ≡ old.network.openings) ⊎ ((o : Opening) × (new.network.openings ≡ old.network.openings ++ o ∷ []) × IsBegun happens old new o)
 
 -- where a host's step adds what is listed
-host-opens : (n m : NetworkView) (side : Side) (h : HostView) (os : List Opening) → m ≡ with_openings (with_host n side h) os → m.openings ≡ n.openings ++ os
+pub host-opens : (n m : NetworkView) (side : Side) (h : HostView) (os : List Opening) → m ≡ with_openings (with_host n side h) os → m.openings ≡ n.openings ++ os
 host-opens n m side h os same =
     ap (λ (k : NetworkView). k.openings) same ∙ (opens (with_host n side h) os ∙ ap (λ l. l ++ os) (openings-with n side (let s = station_of n side in record s { host = h })))
 
@@ -56,6 +57,7 @@ pub record Connecting (hs : Side) (n : NetworkView) (own own' : HostView) (id : 
   pub pair : Pair
   pub unheld : holder_id own pair ≡ None
   pub held : holder_id own' pair ≡ Some id
+  pub others : (x y : Endpoint) → find (is_of_pair (pair_of x y)) own.entries ≡ None → (pair ≡ pair_of x y) ⊎ (find (is_of_pair (pair_of x y)) own'.entries ≡ None)
   pub opens : opened_by_connect n.openings hs id place own' (host_of n (other_side hs)) ≡ record { side = hs; pair = pair; epoch = epoch_connected n.openings (host_of n (other_side hs)) pair; id = id; place = place } ∷ []
 
 pub connecting-host : (limit : ℕ) (hs ts : Side) (n : NetworkView) (trace : List Happening) → IsOrderly limit hs ts n trace → (isn : Seq) (id : SocketId) (peer : Endpoint) (place : ℕ) → connect_refusal (host_of n hs) id peer ≡ None
@@ -88,11 +90,15 @@ connecting-host limit hs ts n trace w isn id peer place may =
       pair = pair;
       unheld = ap (option_map (λ (e : Entry). e.id)) free;
       held = ap (λ w. holder_id w pair) is_next ∙ ap (option_map (λ (e : Entry). e.id)) (found-made (is_socket id) (is_of_pair pair) (with_role g) own.entries x k.found free (joins-own c None refl));
+      others = λ p q none. elim (joined c None p q) [
+        | inl same ↦ inl same
+        | inr out ↦ inr (ap (λ (w : HostView). find (is_of_pair (pair_of p q)) w.entries) is_next ∙ unheld-changed_at (is_socket id) g (pair_of p q) own.entries (unheld_connecting local peer isn.0 (pair_of p q) out) none)
+      ];
       opens = ap (λ w. opened_by_connect n.openings hs id place w (host_of n (other_side hs))) is_next ∙ ap (opened_as n.openings hs id place (host_of n (other_side hs))) named;
     }
 
 -- the epoch of what a connect opens
-epoch-rises : (os : List Opening) (other : HostView) (pair : Pair) → epoch_connected os other pair ≡ epoch_of os pair + (if true && not (is_some (holder_id other pair)) then 1 else 0)
+pub epoch-rises : (os : List Opening) (other : HostView) (pair : Pair) → epoch_connected os other pair ≡ epoch_of os pair + (if true && not (is_some (holder_id other pair)) then 1 else 0)
 epoch-rises os other pair = by_holder (is_some (holder_id other pair))
   where
     by_holder : (b : Bool) → (if b then epoch_of os pair else epoch_of os pair + 1) ≡ epoch_of os pair + (if true && not b then 1 else 0)

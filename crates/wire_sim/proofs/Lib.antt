@@ -32,6 +32,8 @@ pub mod WorldLaw
 pub mod StepReached
 pub mod RunReached
 pub mod Covered
+pub mod Held
 pub mod Begun
+pub mod Noted
 pub mod EventCopied
 pub mod RunGiven

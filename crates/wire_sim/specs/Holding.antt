@@ -1,6 +1,10 @@
 -- What an opening and an epoch are, told by which pairs the two hosts hold before an event and after it.
 use Rattle.std.specs.Prelude.{◌≡◌, ℕ, ◌+◌, Bool, true, false, ◌&&◌, not, if◌then◌else◌, [], ◌∷◌, ◌++◌, length, Some, None, is_some, ◌⊎◌}
+use Rattle.ipv4.specs.declared.addr.Endpoint.{Endpoint}
+use Rattle.ipv4.specs.Addresses.{pair_of}
+use Rattle.host.specs.declared.entry.SocketId.{SocketId}
 use Rattle.host.specs.HostView.{holder_id}
+use Rattle.wire_sim.specs.declared.event.Side.{Side}
 use Rattle.wire_sim.specs.declared.event.Call.TheVariants as call
 use Rattle.wire_sim.specs.declared.event.Event.{Event}
 use Rattle.wire_sim.specs.declared.event.Event.TheVariants as event
@@ -27,3 +31,9 @@ pub record IsBegun (happens : Event) (old new : WorldView) (o : Opening) : Type 
 abbrev pub EveryOpeningIsBegun : Type 0
 EveryOpeningIsBegun = (limit : ℕ) (old new : WorldView) (happens : Event) (answer : Answer) → IsReached limit old → IsStep happens answer old new
     → (new.network.openings ≡ old.network.openings) ⊎ ((o : Opening) × (new.network.openings ≡ old.network.openings ++ o ∷ []) × IsBegun happens old new o)
+
+-- and wherever a host comes to hold the pair of two ends, the event adds just that opening
+abbrev pub EveryHoldingIsNoted : Type 0
+EveryHoldingIsNoted = (limit : ℕ) (old new : WorldView) (happens : Event) (answer : Answer) → IsReached limit old → IsStep happens answer old new
+    → (side : Side) (x y : Endpoint) (id : SocketId) → holder_id (host_of old.network side) (pair_of x y) ≡ None → holder_id (host_of new.network side) (pair_of x y) ≡ Some id
+    → (o : Opening) × (o.side ≡ side) × (o.pair ≡ pair_of x y) × (o.id ≡ id) × (new.network.openings ≡ old.network.openings ++ o ∷ []) × IsBegun happens old new o

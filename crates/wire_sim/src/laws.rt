@@ -2,7 +2,7 @@
 
 ghost use Rattle.wire_sim.specs.Runs.{EveryRunIsLawful, EveryRunIsTallied, EveryRunIsReached, EveryMomentIsLawful};
 ghost use Rattle.wire_sim.specs.Coverage.{EveryConnectionIsListed, EveryOpeningIsUnique, EveryOctetIsCovered};
-ghost use Rattle.wire_sim.specs.Holding.{EveryOpeningIsBegun};
+ghost use Rattle.wire_sim.specs.Holding.{EveryOpeningIsBegun, EveryHoldingIsNoted};
 
 /// In every run of a world of two hosts, over every list of socket calls, ticks, emissions and fair deliveries in any order, for
 /// every pair of endpoints, every epoch and both directions, what was read at one end begins what was written at the other, and the
@@ -48,4 +48,9 @@ pub fn every_octet_is_covered()
 /// while the other host does not hold the pair.
 pub fn every_opening_is_begun()
     ensures { EveryOpeningIsBegun }
+{}
+
+/// Wherever an event makes a side's host hold the pair of two endpoints that it did not hold, it adds just that opening.
+pub fn every_holding_is_noted()
+    ensures { EveryHoldingIsNoted }
 {}
