@@ -30,5 +30,10 @@ pub mod ProjectionConnect
 pub mod Fair
 pub mod WorldLaw
 pub mod StepReached
+pub mod RunReached
+pub mod Covered
+pub mod Held
+pub mod Begun
+pub mod Noted
 pub mod EventCopied
 pub mod RunGiven

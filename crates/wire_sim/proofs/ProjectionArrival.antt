@@ -92,7 +92,7 @@ pub record Reaches (limit : ℕ) (hs ts : Side) (a b : Addr) (own other : HostVi
   pub segment : s ≡ k.segment
   pub pair : k.note.pair ≡ pair_of (local_end own s) (peer_end own s)
 
-reached : (limit : ℕ) (hs ts : Side) (a b : Addr) (own other : HostView) (n : NetworkView) (trace : List Happening) (f : Frame)
+pub reached : (limit : ℕ) (hs ts : Side) (a b : Addr) (own other : HostView) (n : NetworkView) (trace : List Happening) (f : Frame)
     → (h : Projects limit hs ts a b own other n.frames n.openings trace) → (k : Carries b a ts hs h.arrived f) → (s : Segment) → IsParsed own.neighbour own.addr f.octets.items (Ok s) → Reaches limit hs ts a b own other n trace f h k s
 reached limit hs ts a b own other n trace f h k s parsed =
     let same = k.parsed s (subst (λ x. IsParsed x a f.octets.items (Ok s)) h.own_neighbour (subst (λ x. IsParsed own.neighbour x f.octets.items (Ok s)) h.own_addr parsed)) in

@@ -43,8 +43,8 @@ pub step-outcome : (e : Event) (r : Result Answer Unfair) (old new : WorldView) 
 step-outcome e (Ok told) old new refused kept taken = taken
 step-outcome e (Err refusal) old new refused kept taken = (kept, by_rule (unfair old e) refl refused)
   where
-    by_rule : (u : Option Unfair) → unfair old e ≡ u → MatchOption u (refusal ≡ NoMemory) (λ broken. ◌≡◌ {A = Result Answer Unfair} (Err refusal) (Err broken)) → (unfair old e ≡ Some refusal) ⊎ (refusal ≡ NoMemory)
-    by_rule None is m = inr m
+    by_rule : (u : Option Unfair) → unfair old e ≡ u → MatchOption u (refusal ≡ NoMemory) (λ broken. ◌≡◌ {A = Result Answer Unfair} (Err refusal) (Err broken)) → (unfair old e ≡ Some refusal) ⊎ ((unfair old e ≡ None) × (refusal ≡ NoMemory))
+    by_rule None is m = inr (is, m)
     by_rule (Some broken) is m = let same : refusal ≡ broken = cc in inl (is ∙ ap Some (sym same))
 
 -- nothing was given yet

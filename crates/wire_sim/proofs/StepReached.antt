@@ -16,6 +16,10 @@ reached-fresh limit a b n t apart small is_n is_t =
     subst (λ t. IsReached n.limit (record { network = n; trace = t })) (sym is_t)
     (subst (λ (m : NetworkView). IsReached m.limit (record { network = m; trace = [] })) (sym is_n) (begins a b apart small))
 
+-- in the limit that they were made with
+pub reached-within : (limit : ℕ) (a b : Addr) (n : NetworkView) (t : List Happening) → n ≡ fresh_network a b limit → IsReached n.limit (record { network = n; trace = t }) → IsReached limit (record { network = n; trace = t })
+reached-within limit a b n t is_n reached = subst (λ l. IsReached l (record { network = n; trace = t })) (ap (λ (m : NetworkView). m.limit) is_n) reached
+
 -- nothing is counted
 pub uncounted : (limit : ℕ) (a b : Addr) (n : NetworkView) (i m : ℕ) → n ≡ fresh_network a b limit → get_or n.written i 0 ≤ m
 uncounted limit a b n i m is = let none : get_or n.written i 0 ≡ 0 = ap (λ (x : NetworkView). get_or x.written i 0) is in omega (arith, none)
@@ -26,6 +30,14 @@ reached-next old new happens answer reached step =
     let run = goes_on old new happens answer reached step in
     let o = orderly old.network.limit new run in
     subst (λ l. IsReached l new) (sym o.is_limit) run
+
+-- a world by its parts
+pub same-parts : (n m : NetworkView) (t u : List Happening) → n ≡ m → t ≡ u → ◌≡◌ {A = WorldView} (record { network = n; trace = t }) (record { network = m; trace = u })
+same-parts n m t u same_n same_t = cc
+
+-- the same world was reached
+pub reached-again : (w v : WorldView) → v ≡ w → IsReached w.network.limit w → IsReached v.network.limit v
+reached-again w v same reached = subst (λ (x : WorldView). IsReached x.network.limit x) (sym same) reached
 
 -- whatever was reached keeps the law
 pub lawful : (limit : ℕ) (w v : WorldView) → v ≡ w → IsReached limit w → StreamLaw v.trace v.network.openings

@@ -97,7 +97,7 @@ frames-with : (n : NetworkView) (s : Side) (x : Station) → (let m = with_stati
 frames-with n A x = refl
 frames-with n B x = refl
 
-openings-with : (n : NetworkView) (s : Side) (x : Station) → (let m = with_station n s x in m.openings) ≡ n.openings
+pub openings-with : (n : NetworkView) (s : Side) (x : Station) → (let m = with_station n s x in m.openings) ≡ n.openings
 openings-with n A x = refl
 openings-with n B x = refl
 
@@ -105,17 +105,17 @@ written-with : (n : NetworkView) (s : Side) (x : Station) → (let m = with_stat
 written-with n A x = refl
 written-with n B x = refl
 
-own-with : (n : NetworkView) (s : Side) (x : Station) → host_of (with_station n s x) s ≡ x.host
+pub own-with : (n : NetworkView) (s : Side) (x : Station) → host_of (with_station n s x) s ≡ x.host
 own-with n A x = refl
 own-with n B x = refl
 
-other-with : (n : NetworkView) (s t : Side) (x : Station) → t ≡ other_side s → host_of (with_station n s x) t ≡ host_of n t
+pub other-with : (n : NetworkView) (s t : Side) (x : Station) → t ≡ other_side s → host_of (with_station n s x) t ≡ host_of n t
 other-with n A A x e = cc
 other-with n A B x e = refl
 other-with n B A x e = refl
 other-with n B B x e = cc
 
-own-again : (n m : NetworkView) (s : Side) → m.a ≡ n.a → m.b ≡ n.b → host_of m s ≡ host_of n s
+pub own-again : (n m : NetworkView) (s : Side) → m.a ≡ n.a → m.b ≡ n.b → host_of m s ≡ host_of n s
 own-again n m A is_a is_b = ap (λ (x : Station). x.host) is_a
 own-again n m B is_a is_b = ap (λ (x : Station). x.host) is_b
 
@@ -204,13 +204,13 @@ orderly-emitted limit hs ts old new trace (reply.Dropped c) opposite sound step 
 orderly-emitted limit hs ts old new trace (reply.Refused e) opposite sound step w = absurd step
 
 -- what holds of every element holds at a place
-All-at : {X : Type 0} (P : X → Type 0) (xs : List X) (k : ℕ) (x : X) → AllByRecursion P xs → slice_get xs k ≡ Some x → P x
+pub All-at : {X : Type 0} (P : X → Type 0) (xs : List X) (k : ℕ) (x : X) → AllByRecursion P xs → slice_get xs k ≡ Some x → P x
 All-at P [] k x all e = cc
 All-at P (y ∷ ys) zero x all e = let same : y ≡ x = cc in subst P same all.0
 All-at P (y ∷ ys) (suc k) x all e = All-at P ys k x all.1 e
 
 -- a frame that may be delivered to a side is of the other side, has nothing against it, and opens no pair a second time
-fair_sender : (n : NetworkView) (s : Side) (f : Frame) → unfair_frame n (written_at n) s (Some f) ≡ None
+pub fair_sender : (n : NetworkView) (s : Side) (f : Frame) → unfair_frame n (written_at n) s (Some f) ≡ None
     → (same_side f.sender s ≡ false) × (late_note n (written_at n) f.note ≡ None) × (second_by_frame n s (pair_foreseen (host_of n s) f.octets.items) ≡ None)
 fair_sender n s f fair = step (same_side f.sender s) refl (late_note n (written_at n) f.note) refl fair
   where
@@ -230,7 +230,7 @@ fair_note n note fair = step (epoch_of n.openings note.pair == note.epoch) (is_s
     step true true is was e = cc
     step true false is was e = (eqb-true (epoch_of n.openings note.pair) note.epoch is, was)
 
-not_own : (s : Side) → same_side s s ≡ false → ⊥
+pub not_own : (s : Side) → same_side s s ≡ false → ⊥
 not_own A e = cc
 not_own B e = cc
 

@@ -6,3 +6,5 @@ pub mod WorldView
 pub mod Steps
 pub mod Trace
 pub mod Runs
+pub mod Coverage
+pub mod Holding

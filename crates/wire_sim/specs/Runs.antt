@@ -1,6 +1,6 @@
 -- Every run of a world: one fair event after another, in any order and of any kind, each answered by its host as the host's own
 -- definitions say. A frame may be delivered never, once or often, in any order.
-use Rattle.std.specs.Prelude.{◌≡◌, ℕ, ◌<◌, ◌≤◌, ◌^◌, false, List, [], ◌∷◌, ◌++◌, length, Option, None, Some, ◌⊎◌, Result, Ok, Err}
+use Rattle.std.specs.Prelude.{◌≡◌, ℕ, ◌<◌, ◌≤◌, ◌^◌, false, List, [], ◌∷◌, ◌++◌, length, take, drop, Option, None, Some, ◌⊎◌, Result, Ok, Err}
 use Rattle.ipv4.specs.declared.addr.Addr.{Addr}
 use Rattle.ipv4.specs.declared.addr.Pair.{Pair}
 use Rattle.wire_sim.specs.declared.event.Side.{Side}
@@ -67,10 +67,11 @@ abbrev pub SameEvent : Event → Event → Type 0
 SameEvent (event.Call s a) (event.Call t b) = (s ≡ t) × SameCall a b
 SameEvent a b = a ≡ b
 
--- What is told of an event that was given to a world: it was taken with that answer, or it was refused and the world is as it was.
+-- What is told of an event that was given to a world: it was taken with that answer, or the world is as it was and the event was refused: by
+-- the first of the rules that it breaks, and for want of memory only where it breaks none.
 abbrev pub IsOutcome : Event → Result Answer Unfair → WorldView → WorldView → Type 0
 IsOutcome happens (Ok told) old new = (answer : Answer) × SameAnswer told answer × IsStep happens answer old new
-IsOutcome happens (Err refusal) old new = (new ≡ old) × ((unfair old happens ≡ Some refusal) ⊎ (refusal ≡ NoMemory))
+IsOutcome happens (Err refusal) old new = (new ≡ old) × ((unfair old happens ≡ Some refusal) ⊎ ((unfair old happens ≡ None) × (refusal ≡ NoMemory)))
 
 -- a list of events was given in turn, each with its outcome
 abbrev pub RunsTo : List Event → List (Result Answer Unfair) → WorldView → WorldView → Type 0
@@ -78,3 +79,12 @@ RunsTo [] [] old new = new ≡ old
 RunsTo (happens ∷ more) (outcome ∷ outcomes) old new =
     (given : Event) × (between : WorldView) × SameEvent given happens × IsOutcome given outcome old between × RunsTo more outcomes between new
 RunsTo _ _ old new = ⊥
+
+-- A list of events that is given to a world that was reached leads to one that was.
+abbrev pub EveryRunIsReached : Type 0
+EveryRunIsReached = (limit : ℕ) (events : List Event) (outcomes : List (Result Answer Unfair)) (old new : WorldView) → IsReached limit old → RunsTo events outcomes old new → IsReached limit new
+
+-- After each of its events stands a world, between the events so far and those to come, that was reached and keeps the law of the stream.
+abbrev pub EveryMomentIsLawful : Type 0
+EveryMomentIsLawful = (limit : ℕ) (events : List Event) (outcomes : List (Result Answer Unfair)) (old new : WorldView) → IsReached limit old → RunsTo events outcomes old new → (count : ℕ)
+    → (between : WorldView) × RunsTo (take count events) (take count outcomes) old between × RunsTo (drop count events) (drop count outcomes) between new × IsReached limit between × StreamLaw between.trace between.network.openings

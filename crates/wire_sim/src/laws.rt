@@ -1,6 +1,8 @@
 //! Laws over the definitions alone: functions with nothing to do, whose contracts are the laws.
 
-ghost use Rattle.wire_sim.specs.Runs.{EveryRunIsLawful, EveryRunIsTallied};
+ghost use Rattle.wire_sim.specs.Runs.{EveryRunIsLawful, EveryRunIsTallied, EveryRunIsReached, EveryMomentIsLawful};
+ghost use Rattle.wire_sim.specs.Coverage.{EveryConnectionIsListed, EveryOpeningIsUnique, EveryOctetIsCovered};
+ghost use Rattle.wire_sim.specs.Holding.{EveryOpeningIsBegun, EveryHoldingIsNoted};
 
 /// In every run of a world of two hosts, over every list of socket calls, ticks, emissions and fair deliveries in any order, for
 /// every pair of endpoints, every epoch and both directions, what was read at one end begins what was written at the other, and the
@@ -12,4 +14,43 @@ pub fn every_run_is_lawful()
 /// What a world counts beside its openings is how much was written, read off the trace.
 pub fn every_run_is_tallied()
     ensures { EveryRunIsTallied }
+{}
+
+/// A list of events that is given in turn to a world that a run led to leads to one that a run leads to.
+pub fn every_run_is_reached()
+    ensures { EveryRunIsReached }
+{}
+
+/// The law of the stream holds at every moment of such a list: after each of its events, whether it was taken or refused.
+pub fn every_moment_is_lawful()
+    ensures { EveryMomentIsLawful }
+{}
+
+/// Every connection in a host's table has an opening of its side, its id and its pair (RFC 9293 section 3.3.1: a pair of endpoints names
+/// a connection), and it is the one that the law of the stream reads for that pair in the opening's epoch.
+pub fn every_connection_is_listed()
+    ensures { EveryConnectionIsListed }
+{}
+
+/// No two openings are of one socket of a side, nor of one pair in one epoch at a side.
+pub fn every_opening_is_unique()
+    ensures { EveryOpeningIsUnique }
+{}
+
+/// No octet escapes the law of the stream: what was sent, read, closed and told to end on a socket is what the law reads of the socket's
+/// opening, also once it left the table; where it has no opening, nothing was sent or read on it and no end was told.
+pub fn every_octet_is_covered()
+    ensures { EveryOctetIsCovered }
+{}
+
+/// An event adds one opening at most, and only where it makes a side's host hold a pair that it did not hold: the opening names the side,
+/// the pair, the entry and the event's place. Its epoch is the one that the pair is in, and the next one exactly where a connect opens it
+/// while the other host does not hold the pair.
+pub fn every_opening_is_begun()
+    ensures { EveryOpeningIsBegun }
+{}
+
+/// Wherever an event makes a side's host hold the pair of two endpoints that it did not hold, it adds just that opening.
+pub fn every_holding_is_noted()
+    ensures { EveryHoldingIsNoted }
 {}

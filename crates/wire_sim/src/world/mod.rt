@@ -44,7 +44,7 @@ impl Model for World {
 }
 
 impl World {
-    ghost use Rattle.wire_sim.specs.Runs.{unfair, IsStep, RunsTo};
+    ghost use Rattle.wire_sim.specs.Runs.{unfair, IsStep, IsReached, RunsTo};
     ghost use Rattle.wire_sim.specs.Trace.{StreamLaw};
     ghost use Rattle.wire_sim.specs.WorldView.{WorldView, SameAnswer, fresh_world};
 
@@ -52,6 +52,7 @@ impl World {
     pub fn new(alloc: Global, a: Config, b: Config) -> Result<World, WorldFault>
         ensures same { (result ≡ Err WorldFault.SameAddress) ↔ (a ≡ b) }
         ensures fresh { IfOk result (λ world. world ≡ fresh_world a b (2 ^ 30)) }
+        ensures reached { IfOk result (λ world. IsReached (2 ^ 30) world) }
         ensures lawful { IfOk result (λ world. StreamLaw world.trace world.network.openings) }
     {
         World::with_limit(alloc, a, b, LIMIT)
@@ -62,6 +63,7 @@ impl World {
         requires { (1 ≤ limit) × (limit ≤ 2 ^ 30) }
         ensures same { (result ≡ Err WorldFault.SameAddress) ↔ (a ≡ b) }
         ensures fresh { IfOk result (λ world. world ≡ fresh_world a b limit) }
+        ensures reached { IfOk result (λ world. IsReached limit world) }
         ensures lawful { IfOk result (λ world. StreamLaw world.trace world.network.openings) }
     {
         if a.addr() == b.addr() {
@@ -82,6 +84,7 @@ impl World {
             (IfErr result (λ refusal. refusal ≡ Unfair.NoMemory)) (λ refusal. result ≡ Err refusal) }
         ensures refused { OnErr result (self.new ≡ self.old) }
         ensures taken { IfOk result (λ told. (answer : Answer) × SameAnswer told answer × IsStep event answer self.old self.new) }
+        ensures reached { IsReached self.new.network.limit self.new }
         ensures lawful { StreamLaw self.new.trace self.new.network.openings }
     {
         self.network.sound();
@@ -107,6 +110,7 @@ impl World {
         ensures steps { OnOk result (RunsTo events.now (drop (length results.old.items) results.new.items) self.old self.new) }
         ensures err { OnErr result ((self.new ≡ self.old) × (results.new.items ≡ results.old.items)) }
         ensures fault { IfErr result (λ fault. fault ≡ WorldFault.NoMemory) }
+        ensures reached { IsReached self.new.network.limit self.new }
         ensures lawful { StreamLaw self.new.trace self.new.network.openings }
     {
         let _ = &self.alloc;
@@ -116,6 +120,7 @@ impl World {
         for event in events {
             let outcome = match event.clone() {
                 Ok(event) => self.step(event),
+                // Only a send owns octets that take memory, and no rule refuses a send.
                 Err(_) => Err(Unfair::NoMemory),
             };
             results.push_reserved(outcome);
@@ -125,7 +130,8 @@ impl World {
 
     /// When a host came to hold a pair, in order.
     pub fn openings(&self) -> &[Opening]
-        ensures { result.now ≡ self.now.network.openings }
+        ensures openings { result.now ≡ self.now.network.openings }
+        ensures reached { IsReached self.now.network.limit self.now }
     {
         self.network.openings()
     }
@@ -133,6 +139,7 @@ impl World {
     /// The events that were taken, with their answers, in order.
     pub fn trace(&self) -> &[Happening]
         ensures trace { result.now ≡ self.now.trace }
+        ensures reached { IsReached self.now.network.limit self.now }
         ensures lawful { StreamLaw result.now self.now.network.openings }
     {
         self.trace.as_slice()

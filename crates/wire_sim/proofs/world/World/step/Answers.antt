@@ -1,5 +1,5 @@
 -- A step adds at most what one send takes to each count.
-use Rattle.std.proofs.Common.{◌≡◌, ◌∙◌, ◌+◌, ◌≤◌, List, length, length-append, get_or, None, refl, sym, ap, arith, rules}
+use Rattle.std.proofs.Common.{◌≡◌, ◌∙◌, ◌+◌, ◌≤◌, length, length-append, get_or, None, refl, sym, ap, arith, rules}
 use Rattle.wire_sim.specs.declared.event.Happening.{Happening}
 use Rattle.wire_sim.specs.declared.world.World.TheInside.{Inside}
 use Rattle.wire_sim.specs.Runs.{unfair, IsStep}
@@ -7,7 +7,7 @@ use Rattle.wire_sim.specs.Fairness.{unfair_counted}
 use Rattle.wire_sim.specs.WorldView.{NetworkView, WorldView, network_view}
 use Rattle.wire_sim.proofs.Fair.{same_unfair}
 use Rattle.wire_sim.proofs.WorldLaw.{run_tallied}
-use Rattle.wire_sim.proofs.StepReached.{reached-next, lawful, step_from}
+use Rattle.wire_sim.proofs.StepReached.{reached-next, same-parts, reached-again, lawful, step_from}
 use Rattle.wire_sim.proofs.CountGrowth.{Steps-grows}
 use Rattle.wire_sim.proofs.world.World.step.Goals as goal
 
@@ -71,6 +71,15 @@ returns-clause-taken c =
     let step = taken c in
     (c.perform-answer.result, record { octets = c.copied-told.ensures.octets; others = c.copied-told.ensures.others }, step_from c.args.event c.perform-answer.result (after c.self.inside) c.args.self.now _ (sym c.self.view_is) step)
 
+pub returns-clause-reached : goal.returns-clause-reached
+returns-clause-reached c = reached-next (after c.self.inside) (record { network = network_view c.perform-answer.new.self; trace = c.push_reserved.new.self.items }) c.args.event c.perform-answer.result c.self.invariant.1 (taken c)
+
+pub returns-in_err-admits-clause-reached : goal.returns-in_err-admits-clause-reached
+returns-in_err-admits-clause-reached c = reached-again (after c.self.inside) c.args.self.now (sym c.self.view_is) c.self.invariant.1
+
+pub returns-in_default-clause-reached : goal.returns-in_default-clause-reached
+returns-in_default-clause-reached c = reached-again (after c.self.inside) (record { network = network_view c.reserve.new.network; trace = c.reserve.new.trace.items }) (same-parts _ _ _ _ c.reserve.ensures.network c.reserve.ensures.trace) c.self.invariant.1
+
 pub returns-clause-lawful : goal.returns-clause-lawful
 returns-clause-lawful c =
     let next : WorldView = record { network = network_view c.perform-answer.new.self; trace = c.push_reserved.new.self.items } in
@@ -80,8 +89,4 @@ pub returns-in_err-admits-clause-lawful : goal.returns-in_err-admits-clause-lawf
 returns-in_err-admits-clause-lawful c = lawful _ (after c.self.inside) c.args.self.now (sym c.self.view_is) c.self.invariant.1
 
 pub returns-in_default-clause-lawful : goal.returns-in_default-clause-lawful
-returns-in_default-clause-lawful c =
-    let kept : WorldView = record { network = network_view c.reserve.new.network; trace = c.reserve.new.trace.items } in
-    lawful _ (after c.self.inside) kept
-    (ap (λ (n : NetworkView). let w : WorldView = record { network = n; trace = c.reserve.new.trace.items } in w) c.reserve.ensures.network
-    ∙ ap (λ (t : List Happening). let w : WorldView = record { network = network_view c.self.inside.network; trace = t } in w) c.reserve.ensures.trace) c.self.invariant.1
+returns-in_default-clause-lawful c = lawful _ (after c.self.inside) (record { network = network_view c.reserve.new.network; trace = c.reserve.new.trace.items }) (same-parts _ _ _ _ c.reserve.ensures.network c.reserve.ensures.trace) c.self.invariant.1

@@ -2,8 +2,11 @@
 use Rattle.std.proofs.Common.{◌∙◌, List, sym, ap}
 use Rattle.wire_sim.specs.declared.event.Happening.{Happening}
 use Rattle.wire_sim.specs.WorldView.{WorldView, network_view}
-use Rattle.wire_sim.proofs.StepReached.{lawful}
+use Rattle.wire_sim.proofs.StepReached.{reached-again, lawful}
 use Rattle.wire_sim.proofs.world.World.trace.Goals as goal
+
+pub returns-clause-reached : goal.returns-clause-reached
+returns-clause-reached c = reached-again (record { network = network_view c.self.inside.network; trace = c.self.inside.trace.items }) c.args.self.now (sym c.self.view_is) c.self.invariant.1
 
 pub returns-clause-lawful : goal.returns-clause-lawful
 returns-clause-lawful c =

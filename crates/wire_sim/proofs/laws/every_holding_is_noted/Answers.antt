@@ -1,0 +1,5 @@
+use Rattle.wire_sim.proofs.Noted.{holdings-noted}
+use Rattle.wire_sim.proofs.laws.every_holding_is_noted.Goals as goal
+
+pub returns : goal.returns
+returns c = holdings-noted
