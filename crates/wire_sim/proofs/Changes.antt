@@ -14,7 +14,7 @@ use Rattle.wire_sim.specs.declared.event.Side.{Side}
 use Rattle.wire_sim.specs.declared.event.Opening.{Opening}
 use Rattle.wire_sim.specs.Tallies.{is_opening_of, is_opening_at}
 use Rattle.wire_sim.proofs.EndMoves.{pairing, EndGoes}
-use Rattle.wire_sim.proofs.KeepsPorts.{KeepsEnds}
+use Rattle.host.proofs.KeptEnds.{KeepsEnds}
 use Rattle.wire_sim.proofs.Tables.{untold, Told, role_at, Becomes, presence_in, end_with, end_of, end_at, IsOpened, IsNoted, MayOpen, IsTable, same_id}
 
 -- a test decides

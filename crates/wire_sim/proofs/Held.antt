@@ -24,7 +24,7 @@ use Rattle.host.specs.Entries.{is_live_between, connecting, is_between, joins, i
 use Rattle.host.specs.Lists.{change_first, remove_first}
 use Rattle.wire_sim.proofs.Finding.{none-removed}
 use Rattle.wire_sim.proofs.PairPorts.{same_end-true}
-use Rattle.wire_sim.proofs.KeepsPorts.{KeepsEnds, keeps-nothing, keeps-send, keeps-recv, keeps-shutdown, keeps-tick, keeps-abort, keeps-close, keeps-emitted, keeps-segment}
+use Rattle.host.proofs.KeptEnds.{KeepsEnds, keeps-nothing, keeps-send, keeps-recv, keeps-shutdown, keeps-tick, keeps-abort, keeps-close, keeps-emitted, keeps-segment}
 
 -- Lists.
 

@@ -10,7 +10,6 @@ pub mod Tables
 pub mod Changes
 pub mod Makings
 pub mod EndMoves
-pub mod KeepsPorts
 pub mod Going
 pub mod PairPorts
 pub mod Opened

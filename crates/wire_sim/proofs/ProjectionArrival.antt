@@ -41,7 +41,7 @@ use Rattle.wire_sim.proofs.Changes.{Its, Another, Whose, whose, end-its, end-ano
 use Rattle.wire_sim.proofs.Delivered.{Delivery, Ignored, Answered, Heard, Began}
 use Rattle.wire_sim.proofs.EndMoves.{pairing, Goes, moved}
 use Rattle.wire_sim.proofs.Finding.{All-find, find-passes, find-added}
-use Rattle.wire_sim.proofs.KeepsPorts.{keeps-segment}
+use Rattle.host.proofs.KeptEnds.{keeps-segment}
 use Rattle.wire_sim.proofs.Makings.{Makes, free-later, end-unmade}
 use Rattle.wire_sim.proofs.Opened.{opening-found, opening-only, opening-at_parts}
 use Rattle.wire_sim.proofs.PairPorts.{pair_at, pair_at-swapped, same_end-true, joins-own, unheld-between, unheld-closed}

@@ -36,7 +36,7 @@ use Rattle.wire_sim.proofs.Accepted.{sends-on, reads-on, octets_told, end_told, 
 use Rattle.wire_sim.proofs.Changes.{SameBut, SameTold, table-becomes, table-told, end-told, meets-moved, opened-kept}
 use Rattle.wire_sim.proofs.EndMoves.{pairing, EndGoes, moved, end-stays}
 use Rattle.wire_sim.proofs.Finding.{All-find, change-none}
-use Rattle.wire_sim.proofs.KeepsPorts.{KeepsEnds, keeps-nothing, keeps-send, keeps-recv, keeps-shutdown}
+use Rattle.host.proofs.KeptEnds.{KeepsEnds, keeps-nothing, keeps-send, keeps-recv, keeps-shutdown}
 use Rattle.wire_sim.proofs.Projection.{told, Projects, projects-turned}
 use Rattle.wire_sim.proofs.QuietRoles.{IsQuiet as IsQuietChange}
 use Rattle.wire_sim.proofs.Tables.{Account, untold, role_at, found-role, Becomes, becomes-changed, presence_in, end_with, end_at, IsOpened, IsNoted, MayOpen, IsTable}

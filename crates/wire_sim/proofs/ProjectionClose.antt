@@ -34,7 +34,7 @@ use Rattle.wire_sim.proofs.Accepted.{found_socket}
 use Rattle.wire_sim.proofs.Changes.{SameBut, SameTold, by_test, table-becomes, end-another, opened-kept}
 use Rattle.wire_sim.proofs.EndMoves.{pairing, EndGoes, moved}
 use Rattle.wire_sim.proofs.Finding.{find-passes, find-missed}
-use Rattle.wire_sim.proofs.KeepsPorts.{keeps-close, keeps-abort}
+use Rattle.host.proofs.KeptEnds.{keeps-close, keeps-abort}
 use Rattle.wire_sim.proofs.Makings.{its_id}
 use Rattle.wire_sim.proofs.Opened.{opening-of_parts}
 use Rattle.wire_sim.proofs.Projection.{told, Projects, projects-turned}

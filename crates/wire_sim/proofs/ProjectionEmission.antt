@@ -43,7 +43,7 @@ use Rattle.wire_sim.proofs.Changes.{by_test, end-its, end-another, table-becomes
 use Rattle.wire_sim.proofs.EndMoves.{pairing, EndGoes, moved}
 use Rattle.wire_sim.proofs.Finding.{All-find, All-added, All-weaker, find-passes}
 use Rattle.wire_sim.proofs.Going.{due-may, due-live, due-kind, due-can, due-width, emitted-state, emitted-parses, emitted-ports, Emits, emits-some, emitted_at-connected}
-use Rattle.wire_sim.proofs.KeepsPorts.{keeps-emitted}
+use Rattle.host.proofs.KeptEnds.{keeps-emitted}
 use Rattle.wire_sim.proofs.Opened.{opening-found, opening-only, opening-at_parts}
 use Rattle.wire_sim.proofs.PairPorts.{pair_at, same_pair-same, same_pair-true}
 use Rattle.wire_sim.proofs.Projection.{told, at_side, Sent, Carries, Carried, Projects, projects-turned}

@@ -23,7 +23,7 @@ use Rattle.stream_law.proofs.PairingMoves.{same-resend}
 use Rattle.wire_sim.specs.Tallies.{is_opening_of}
 use Rattle.wire_sim.proofs.Changes.{opened-kept}
 use Rattle.wire_sim.proofs.EndMoves.{pairing, EndGoes, moved, end-stays}
-use Rattle.wire_sim.proofs.KeepsPorts.{keeps-tick}
+use Rattle.host.proofs.KeptEnds.{keeps-tick}
 use Rattle.wire_sim.proofs.Projection.{told, Projects, projects-turned}
 use Rattle.wire_sim.proofs.Tables.{Account, role_at, settle, settle_each, role_at-settled, sole-settled, presence_in, end_with, end_of, end_at, IsNoted, MayOpen, IsTable}
 
