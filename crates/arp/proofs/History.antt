@@ -19,7 +19,7 @@ use Rattle.arp.proofs.Unheard.{heard_at, IsFirstUnheard, takes, keeps, is_longes
 
 -- Addresses are the same where their octets are.
 
-same_octets : (a b : Addr) → same_addr a b ≡ true → a.0 ≡ b.0
+pub same_octets : (a b : Addr) → same_addr a b ≡ true → a.0 ≡ b.0
 same_octets a b = (bytes_eq-Decides a.0 b.0).0
 
 pub same_addr-refl : (a : Addr) → same_addr a a ≡ true

@@ -3,6 +3,7 @@ pub mod Counts
 pub mod Found
 pub mod Fronts
 pub mod History
+pub mod Kept
 pub mod OnePacket
 pub mod Reading
 pub mod Spelling

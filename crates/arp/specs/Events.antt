@@ -13,6 +13,12 @@ pub data Event : Type 0 where
   -- the table was aged
   Age : Moment → Event
 
+-- when it happened
+abbrev pub moment_of : Event → Moment
+moment_of (Hear now packet ours) = now
+moment_of (Ask now addr) = now
+moment_of (Age now) = now
+
 abbrev pub after_event : Cache → Event → Cache
 after_event cache (Hear now packet ours) = after_hear now packet ours cache
 after_event cache (Ask now addr) = after_ask now addr cache
