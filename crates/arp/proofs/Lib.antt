@@ -1,6 +1,7 @@
 pub mod Asking
 pub mod Counts
 pub mod Found
+pub mod Heard
 pub mod Fronts
 pub mod History
 pub mod Kept

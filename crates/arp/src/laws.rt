@@ -2,13 +2,14 @@
 //! that does nothing.
 
 ghost use Rattle.std.specs.Prelude.{◌≡◌, ◌≢◌, ℕ, List, ◌++◌, ◌<◌, ◌≤◌, length, take, filter, fold, All, false, IsTrue, Some, Result, Ok};
+ghost use Rattle.ether.specs.declared.mac.Mac.{Mac};
 ghost use Rattle.ipv4.specs.declared.addr.Addr.{Addr};
 ghost use Rattle.arp.specs.declared.packet.ArpFault.{ArpFault};
 ghost use Rattle.arp.specs.declared.packet.ArpPacket.{ArpPacket};
 ghost use Rattle.arp.specs.declared.entry.Asked.{Asked};
 ghost use Rattle.arp.specs.declared.moment.Moment.{Moment};
 ghost use Rattle.arp.specs.Cache.{Cache, same_addr, is_live, is_pair_of, after_hear, look, after_age, may_ask, asked_after, after_ask};
-ghost use Rattle.arp.specs.Events.{Event, moment_of, after_event, cache_after};
+ghost use Rattle.arp.specs.Events.{Event, moment_of, after_event, cache_after, IsLastFrom};
 ghost use Rattle.arp.specs.Packet.{spelling, HasWidths, Spells, IsParsed};
 
 /// Octets spell at most one packet.
@@ -57,6 +58,14 @@ pub fn asked_once_a_second()
     ensures { (now later : Moment) (addr : Addr) (asked : List Asked)
         → IsTrue (may_ask now addr asked) → IsTrue (is_live 1000 later now)
         → may_ask later addr (asked_after now addr asked) ≡ false }
+{}
+
+/// Whatever happens to a cache, what is looked up of an address is the MAC that the last packet from it told (RFC 826), and
+/// that packet is still live.
+pub fn found_was_heard()
+    ensures { (events : List Event) (now : Moment) (addr : Addr) (mac : Mac)
+        → look now addr (cache_after events) ≡ Some mac
+        → (heard : Moment) × IsLastFrom events addr mac heard × IsTrue (is_live 1200000 now heard) }
 {}
 
 /// A packet hides no other address than its sender's: where there is a place more, or where the packet is for another, each other
