@@ -120,7 +120,7 @@ hearing_keeps_few sender is_for_us pairs few = known (list_any (is_pair_of sende
     known true = omega (arith, few, length-map pairs (after_sender sender))
     known false = for_us is_for_us
 
-length-filter-le : {X : Type 0} (p : X → Bool) (xs : List X) → length (filter p xs) ≤ length xs
+pub length-filter-le : {X : Type 0} (p : X → Bool) (xs : List X) → length (filter p xs) ≤ length xs
 length-filter-le p [] = omega arith
 length-filter-le p (x ∷ xs) = omega (arith, passing-cons p x xs, at_most_one (p x), length-filter-le p xs)
   where

@@ -1,8 +1,9 @@
 -- What stays as it was: other addresses, what is live, and notes.
-use Rattle.std.proofs.Common.{◌≡◌, ◌≢◌, ℕ, suc, ◌<◌, ◌≤◌, Bool, true, false, ◌&&◌, ◌||◌, nat_eq, nat_lt, List, [], ◌∷◌, ◌++◌, length, filter, fold, find, cond, All, Some, None, option_map, refl, sym, ◌∙◌, ap, arith}
+use Rattle.std.proofs.Common.{◌≡◌, ◌≢◌, ℕ, suc, ◌<◌, ◌≤◌, Bool, true, false, not, ◌&&◌, ◌||◌, nat_eq, nat_lt, List, [], ◌∷◌, ◌++◌, length, filter, fold, find, cond, All, Some, None, option_map, refl, sym, ◌∙◌, ap, arith}
 use Rattle.std.specs.Cmp.Lexicographic.{pointwise}
 use Rattle.std.specs.List.{list_any, remove}
 use Rattle.std.proofs.lemmas.Bool.Decides.{nat_tests}
+use Rattle.std.proofs.lemmas.List.Elements.{filter_passes}
 use Rattle.ipv4.specs.declared.addr.Addr.{Addr}
 use Rattle.arp.specs.declared.entry.Asked.{Asked}
 use Rattle.arp.specs.declared.entry.Neighbour.{Neighbour}
@@ -12,7 +13,7 @@ use Rattle.arp.specs.Cache.{Cache, same_addr, is_live, is_pair_of, is_note_of, i
 use Rattle.arp.specs.Events.{Event, moment_of, after_event}
 use Rattle.arp.specs.Events.Event.{Hear, Ask, Age}
 use Rattle.arp.proofs.Found.{is_found, refused_where_noted}
-use Rattle.arp.proofs.History.{same_octets, same_addr-refl}
+use Rattle.arp.proofs.History.{same_octets, same_addr-refl, length-filter-le}
 
 -- Addresses that are not the same.
 
@@ -104,6 +105,9 @@ aging_hides_nothing cache now later addr order =
     ap (λ o. option_map (λ (pair : Neighbour). pair.mac) o)
     (find_filter (is_found later addr) (is_live_pair now) (λ pair found. live_before 1200000 now later pair.heard order (both_right (is_pair_of addr pair) (is_live_pair later pair) found)) cache.pairs)
 
+pub aging_forgets : (cache : Cache) (now : Moment) → All (λ pair. is_live 1200000 now pair.heard ≡ true) (after_age now cache).pairs
+aging_forgets cache now = filter_passes (is_live_pair now) cache.pairs
+
 -- Notes.
 
 -- a note of the address that is live later
@@ -191,3 +195,29 @@ pub noted_while_live : (cache : Cache) (now later : Moment) (addr : Addr) (betwe
 noted_while_live cache now later addr between may live order =
     held_refused later addr (fold after_event (after_ask now addr cache) between).asked
     (held_events later addr (after_ask now addr cache) between order (held_first now later addr cache.asked may live))
+
+none_live : (now : Moment) (addr : Addr) (notes : List Asked) → All (λ note. note.addr ≡ addr → is_live 1000 now note.at ≡ false) notes
+    → list_any (is_note_of addr) (live_notes now notes) ≡ false
+none_live now addr [] old = refl
+none_live now addr (note ∷ notes) old =
+    either (none_live now addr notes (λ i d within. old (suc i) d (omega (arith, within)))) (is_note_of addr note) (is_live_note now note) refl refl
+  where
+    made : List ℕ → Addr
+    made octets = record { 0 = octets }
+
+    either : list_any (is_note_of addr) (live_notes now notes) ≡ false → (b c : Bool) → is_note_of addr note ≡ b → is_live_note now note ≡ c
+        → list_any (is_note_of addr) (cond c (note ∷ live_notes now notes) (live_notes now notes)) ≡ false
+    either rest b false is_b is_c = rest
+    either rest false true is_b is_c = ap (λ d. d || list_any (is_note_of addr) (live_notes now notes)) is_b ∙ rest
+    either rest true true is_b is_c =
+        let same : note.addr ≡ addr = ap made (same_octets note.addr addr is_b) in
+        let no : is_live_note now note ≡ false = old 0 note (omega arith) same in
+        absurd cc
+
+pub asked_where_there_is_room : (now : Moment) (addr : Addr) (asked : List Asked) → length asked < 64
+    → All (λ note. note.addr ≡ addr → is_live 1000 now note.at ≡ false) asked → may_ask now addr asked ≡ true
+unfolding may_ask
+asked_where_there_is_room now addr asked few old =
+    let few_live : length (live_notes now asked) < 64 = omega (arith, few, length-filter-le (is_live_note now) asked) in
+    let room : nat_lt (length (live_notes now asked)) 64 ≡ true = grind (arith, nat_tests, few_live) in
+    ap (λ b. b && not (list_any (is_note_of addr) (live_notes now asked))) room ∙ ap (λ b. not b) (none_live now addr asked old)

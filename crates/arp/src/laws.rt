@@ -85,6 +85,18 @@ pub fn aging_hides_nothing()
         → look later addr (after_age now cache) ≡ look later addr cache }
 {}
 
+/// Of what was aged, nothing is left that was not heard in the last 20 minutes (RFC 1122 section 2.3.2.1).
+pub fn aging_forgets()
+    ensures { (cache : Cache) (now : Moment) → All (λ pair. IsTrue (is_live 1200000 now pair.heard)) (after_age now cache).pairs }
+{}
+
+/// A request may go out where fewer than 64 are noted, and none of them is live and for its address.
+pub fn asked_where_there_is_room()
+    ensures { (now : Moment) (addr : Addr) (asked : List Asked) → length asked < 64
+        → All (λ note. note.addr ≡ addr → is_live 1000 now note.at ≡ false) asked
+        → IsTrue (may_ask now addr asked) }
+{}
+
 /// Once a request for an address was let out, no other may go out while its note is live, whatever else happens to the
 /// cache until then (RFC 1122 section 2.3.2.1).
 pub fn noted_while_live()
