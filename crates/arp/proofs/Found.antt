@@ -90,7 +90,7 @@ still_noted later note live (first ∷ notes) = either (still_noted later note l
     either rest true = behind (is_note_of note.addr first) _ rest
     either rest false = rest
 
-refused_where_noted : (addr : Addr) (notes : List Asked) → list_any (is_note_of addr) notes ≡ true → has_place_for addr notes ≡ false
+pub refused_where_noted : (addr : Addr) (notes : List Asked) → list_any (is_note_of addr) notes ≡ true → has_place_for addr notes ≡ false
 refused_where_noted addr notes e = ap (λ b. nat_lt (length notes) 64 && not b) e ∙ never (nat_lt (length notes) 64)
   where
     never : (b : Bool) → (b && false) ≡ false

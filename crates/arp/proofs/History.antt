@@ -19,7 +19,7 @@ use Rattle.arp.proofs.Unheard.{heard_at, IsFirstUnheard, takes, keeps, is_longes
 
 -- Addresses are the same where their octets are.
 
-same_octets : (a b : Addr) → same_addr a b ≡ true → a.0 ≡ b.0
+pub same_octets : (a b : Addr) → same_addr a b ≡ true → a.0 ≡ b.0
 same_octets a b = (bytes_eq-Decides a.0 b.0).0
 
 pub same_addr-refl : (a : Addr) → same_addr a a ≡ true
@@ -120,7 +120,7 @@ hearing_keeps_few sender is_for_us pairs few = known (list_any (is_pair_of sende
     known true = omega (arith, few, length-map pairs (after_sender sender))
     known false = for_us is_for_us
 
-length-filter-le : {X : Type 0} (p : X → Bool) (xs : List X) → length (filter p xs) ≤ length xs
+pub length-filter-le : {X : Type 0} (p : X → Bool) (xs : List X) → length (filter p xs) ≤ length xs
 length-filter-le p [] = omega arith
 length-filter-le p (x ∷ xs) = omega (arith, passing-cons p x xs, at_most_one (p x), length-filter-le p xs)
   where

@@ -1,8 +1,10 @@
 pub mod Asking
 pub mod Counts
 pub mod Found
+pub mod Heard
 pub mod Fronts
 pub mod History
+pub mod Kept
 pub mod OnePacket
 pub mod Reading
 pub mod Spelling

@@ -1,4 +1,6 @@
--- What a host keeps of the packets that it heard, and of the requests that it sent (RFC 826, RFC 1122 section 2.3.2).
+-- What a host keeps of the packets that it heard, and of the requests that it sent. Who is learnt is RFC 826; that old pairs
+-- are flushed, and one request a second for an address, are RFC 1122 section 2.3.2.1. The twenty minutes, the 64 pairs, the 64
+-- notes and which pair gives way are this stack's own.
 use Rattle.std.specs.Prelude.{ℕ, ◌+◌, ◌-◌, ◌^◌, min, Bool, true, false, not, ◌&&◌, nat_eq, nat_lt, nat_le, if◌then◌else◌, List, [], ◌∷◌, ◌++◌, length, map, filter, find, remove, Option, option_map}
 use Rattle.std.specs.List.{list_any, list_all, position_or_len}
 use Rattle.std.specs.Cmp.Lexicographic.{pointwise}

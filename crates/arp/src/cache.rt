@@ -45,8 +45,9 @@ impl ArpCache {
     }
 
     /// Learns from a packet (RFC 826): an address that is kept, live or not, takes the sender's MAC; one that
-    /// is not is added where the packet is for `ours`, and of 64 pairs the longest unheard, of equals the first
-    /// added, gives way. True where a reply is owed: the packet is a request for `ours`.
+    /// is not is added where the packet is for `ours`. That 64 pairs are kept, and that of them the longest unheard,
+    /// of equals the first added, gives way, is this stack's own. True where a reply is owed: the packet is a
+    /// request for `ours`.
     pub fn hear(&mut self, now: Moment, packet: &ArpPacket, ours: Addr) -> bool
         ensures cache { self.new ≡ after_hear now packet.now ours self.old }
         ensures answer { result ≡ is_request_for ours packet.now }
@@ -68,7 +69,7 @@ impl ArpCache {
     }
 
     /// Whether a request for an address may go out now; one that may is noted. In a second one may for each
-    /// address, and 64 in all (RFC 1122 section 2.3.2.1).
+    /// address (RFC 1122 section 2.3.2.1), and 64 in all, which is this stack's own limit.
     pub fn ask(&mut self, now: Moment, addr: Addr) -> bool
         ensures cache { self.new ≡ after_ask now addr self.old }
         ensures answer { result ≡ may_ask now addr self.old.asked }
@@ -81,7 +82,8 @@ impl ArpCache {
         may_go_out
     }
 
-    /// Forgets the pairs that were not heard in the last 20 minutes (RFC 1122 section 2.3.2.1).
+    /// Forgets the pairs that were not heard in the last 20 minutes. That old pairs are flushed is RFC 1122
+    /// section 2.3.2.1; the 20 minutes are this stack's own.
     pub fn age(&mut self, now: Moment)
         ensures { self.new ≡ after_age now self.old }
     {

@@ -8,7 +8,8 @@ use crate::packet::ArpPacket;
 use ether::Mac;
 use ipv4::Addr;
 
-/// How long a pair is live after it was heard, in milliseconds (RFC 1122 section 2.3.2.1).
+/// How long a pair is live after it was heard, in milliseconds. That a pair is flushed is RFC 1122 section 2.3.2.1; how
+/// soon is this stack's own.
 const PAIR_LIFE: u64 = 1_200_000;
 
 /// How long no second request for an address goes out, in milliseconds (RFC 1122 section 2.3.2.1).

@@ -1,14 +1,15 @@
 //! Laws of the definitions that the contracts of this crate cite: each is the contract of a function
 //! that does nothing.
 
-ghost use Rattle.std.specs.Prelude.{◌≡◌, ℕ, List, ◌++◌, ◌≤◌, length, take, filter, false, IsTrue, Some, Result, Ok};
+ghost use Rattle.std.specs.Prelude.{◌≡◌, ◌≢◌, ℕ, List, ◌++◌, ◌<◌, ◌≤◌, length, take, filter, fold, All, false, IsTrue, Some, Result, Ok};
+ghost use Rattle.ether.specs.declared.mac.Mac.{Mac};
 ghost use Rattle.ipv4.specs.declared.addr.Addr.{Addr};
 ghost use Rattle.arp.specs.declared.packet.ArpFault.{ArpFault};
 ghost use Rattle.arp.specs.declared.packet.ArpPacket.{ArpPacket};
 ghost use Rattle.arp.specs.declared.entry.Asked.{Asked};
 ghost use Rattle.arp.specs.declared.moment.Moment.{Moment};
-ghost use Rattle.arp.specs.Cache.{Cache, same_addr, is_live, is_pair_of, after_hear, look, may_ask, asked_after};
-ghost use Rattle.arp.specs.Events.{Event, cache_after};
+ghost use Rattle.arp.specs.Cache.{Cache, same_addr, is_live, is_pair_of, after_hear, look, after_age, may_ask, asked_after, after_ask};
+ghost use Rattle.arp.specs.Events.{Event, moment_of, after_event, cache_after, IsLastFrom};
 ghost use Rattle.arp.specs.Packet.{spelling, HasWidths, Spells, IsParsed};
 
 /// Octets spell at most one packet.
@@ -57,4 +58,50 @@ pub fn asked_once_a_second()
     ensures { (now later : Moment) (addr : Addr) (asked : List Asked)
         → IsTrue (may_ask now addr asked) → IsTrue (is_live 1000 later now)
         → may_ask later addr (asked_after now addr asked) ≡ false }
+{}
+
+/// Whatever happens to a cache, what is looked up of an address is the MAC that the last packet from it told (RFC 826), and
+/// that packet is still live.
+pub fn found_was_heard()
+    ensures { (events : List Event) (now : Moment) (addr : Addr) (mac : Mac)
+        → look now addr (cache_after events) ≡ Some mac
+        → (heard : Moment) × IsLastFrom events addr mac heard × IsTrue (is_live 1200000 now heard) }
+{}
+
+/// A packet hides no other address than its sender's: where there is a place more, or where the packet is for another, each other
+/// address is looked up as before (RFC 826).
+pub fn others_stay()
+    ensures room { (cache : Cache) (now later : Moment) (packet : ArpPacket) (ours addr : Addr)
+        → addr ≢ packet.sender_addr → length cache.pairs < 64
+        → look later addr (after_hear now packet ours cache) ≡ look later addr cache }
+    ensures not_ours { (cache : Cache) (now later : Moment) (packet : ArpPacket) (ours addr : Addr)
+        → addr ≢ packet.sender_addr → packet.target_addr ≢ ours
+        → look later addr (after_hear now packet ours cache) ≡ look later addr cache }
+{}
+
+/// What is looked up then or later doesn't depend on whether the cache was aged (RFC 1122 section 2.3.2.1).
+pub fn aging_hides_nothing()
+    ensures { (cache : Cache) (now later : Moment) (addr : Addr) → now.0 ≤ later.0
+        → look later addr (after_age now cache) ≡ look later addr cache }
+{}
+
+/// Of what was aged, nothing is left that was not heard in the last 20 minutes (RFC 1122 section 2.3.2.1).
+pub fn aging_forgets()
+    ensures { (cache : Cache) (now : Moment) → All (λ pair. IsTrue (is_live 1200000 now pair.heard)) (after_age now cache).pairs }
+{}
+
+/// A request may go out where fewer than 64 are noted, and none of them is live and for its address.
+pub fn asked_where_there_is_room()
+    ensures { (now : Moment) (addr : Addr) (asked : List Asked) → length asked < 64
+        → All (λ note. note.addr ≡ addr → is_live 1000 now note.at ≡ false) asked
+        → IsTrue (may_ask now addr asked) }
+{}
+
+/// Once a request for an address was let out, no other may go out while its note is live, whatever else happens to the
+/// cache until then (RFC 1122 section 2.3.2.1).
+pub fn noted_while_live()
+    ensures { (cache : Cache) (now later : Moment) (addr : Addr) (between : List Event)
+        → IsTrue (may_ask now addr cache.asked) → IsTrue (is_live 1000 later now)
+        → All (λ event. (moment_of event).0 ≤ later.0) between
+        → may_ask later addr (fold after_event (after_ask now addr cache) between).asked ≡ false }
 {}

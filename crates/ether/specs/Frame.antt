@@ -1,8 +1,10 @@
 -- An Ethernet II frame, and the octets that spell it (RFC 894).
-use Rattle.std.specs.Prelude.{ℕ, ◌-◌, ◌<◌, ◌^◌, ◌≡◌, List, ◌++◌, length, replicate}
+use Rattle.std.specs.Prelude.{ℕ, ◌-◌, ◌<◌, ◌^◌, ◌≡◌, List, ◌++◌, length, replicate, Result, Ok, Err}
 use Rattle.byteorder.specs.Endian.{big_bytes}
 use Rattle.ether.specs.declared.mac.Mac.{Mac}
 use Rattle.ether.specs.declared.head.Head.{Head}
+use Rattle.ether.specs.declared.view.FrameFault.{FrameFault}
+use Rattle.ether.specs.declared.view.FrameFault.TheVariants.{Short}
 
 -- what a frame says: to whom, from whom, of what type, and its payload
 pub record Frame : Type 0 where
@@ -26,6 +28,11 @@ pub record Spells (f : Frame) (octets : List ℕ) : Type 0 where
   pub source : length f.source.0 ≡ 6
   pub kind : f.kind < 2 ^ 16
   pub spelled : octets ≡ spelling f
+
+-- what is made of octets: the frame that they spell, or the one fault where they spell none
+abbrev pub IsParsed : List ℕ → Result Frame FrameFault → Type 0
+IsParsed octets (Ok f) = Spells f octets
+IsParsed octets (Err Short) = (f : Frame) → Spells f octets → ⊥
 
 -- zeros up to the least payload of a frame, 46 octets
 abbrev pub padding : List ℕ → List ℕ

@@ -1,16 +1,30 @@
 //! Laws of the definitions that the contracts of this crate cite: each is the contract of a function that does nothing.
 
-ghost use Rattle.std.specs.Prelude.{◌≡◌, List, ℕ, ◌<◌, ◌^◌, length};
+ghost use Rattle.std.specs.Prelude.{◌≡◌, ◌↔◌, List, ℕ, ◌+◌, ◌<◌, ◌^◌, length, max, All, Result, Ok, Err};
 ghost use Rattle.ether.specs.declared.head.Head.{Head};
-ghost use Rattle.ether.specs.Frame.{Frame, Spells, sent, spelling};
+ghost use Rattle.ether.specs.declared.view.FrameFault.{FrameFault};
+ghost use Rattle.ether.specs.declared.view.FrameFault.TheVariants.{Short};
+ghost use Rattle.ether.specs.Frame.{Frame, Spells, IsParsed, sent, spelling};
 
-/// Octets spell at most one frame.
+/// Octets spell at most one frame (RFC 894).
 pub fn one_frame()
     ensures { (first second : Frame) (octets : List ℕ) → Spells first octets → Spells second octets → first ≡ second }
 {}
 
-/// What `Head::emit` writes spells the frame that is meant, and so parses to it.
+/// For all octets there is one answer that `EtherView::parse` may give, and it is `Short` exactly for fewer than 14, the
+/// octets of a head (RFC 894).
+pub fn one_answer()
+    ensures one { (octets : List ℕ) (first second : Result Frame FrameFault) → IsParsed octets first → IsParsed octets second → first ≡ second }
+    ensures short { (octets : List ℕ) → All (λ octet. octet < 256) octets → (IsParsed octets (Err Short) ↔ (length octets < 14)) }
+{}
+
+/// What `Head::emit` writes spells the frame that is meant, and so parses to it; its payload has 46 octets at least (RFC 894).
 pub fn emitted_parses()
-    ensures { (head : Head) (payload : List ℕ) → length head.destination.0 ≡ 6 → length head.source.0 ≡ 6 → head.kind < 2 ^ 16
+    ensures spelled { (head : Head) (payload : List ℕ) → length head.destination.0 ≡ 6 → length head.source.0 ≡ 6 → head.kind < 2 ^ 16
         → Spells (sent head payload) (spelling (sent head payload)) }
+    ensures parsed { (head : Head) (payload : List ℕ) (answer : Result Frame FrameFault)
+        → length head.destination.0 ≡ 6 → length head.source.0 ≡ 6 → head.kind < 2 ^ 16
+        → IsParsed (spelling (sent head payload)) answer → answer ≡ Ok (sent head payload) }
+    ensures len { (head : Head) (payload : List ℕ) → length head.destination.0 ≡ 6 → length head.source.0 ≡ 6
+        → length (spelling (sent head payload)) ≡ 14 + max (length payload) 46 }
 {}

@@ -37,3 +37,12 @@ fn a_short_payload_is_padded(rt: HostRuntime) {
     assert_eq!(rt; out[60], 7);
     assert_eq!(rt; head.emit(MOST_PAYLOAD, &mut out), SPACE);
 }
+
+#[test]
+fn a_refusal_is_named(rt: HostRuntime) -> Result<(), Fail> {
+    assert_eq!(rt;
+        FrameFault::Short.to_string(rt.alloc())?.as_str(),
+        "F1 Short"
+    );
+    Ok(())
+}

@@ -1,7 +1,7 @@
 //! A frame that was received.
 
-ghost use Rattle.std.specs.Prelude.{◌≡◌, ◌<◌, length, IfOk, IsErr, ◌↔◌, IfErr};
-ghost use Rattle.ether.specs.Frame.{Frame, Spells};
+ghost use Rattle.std.specs.Prelude.{◌≡◌, ◌<◌, length, IsErr, ◌↔◌};
+ghost use Rattle.ether.specs.Frame.{IsParsed};
 
 use crate::mac::Mac;
 use byteorder::{BigEndian, ByteOrder};
@@ -34,9 +34,9 @@ impl<'a> Model for EtherView<'a> {
 }
 
 impl<'a> EtherView<'a> {
-    /// The frame that these octets spell. `Short` where there are fewer than 14.
+    /// The frame that these octets spell (RFC 894). `Short` where they spell none: there are fewer than 14.
     pub fn parse(octets: &'a [u8]) -> Result<EtherView<'a>, FrameFault>
-        ensures frame { IfOk result (λ view. Spells view octets.now) }
+        ensures parsed { IsParsed octets.now result }
         ensures short { IsErr result ↔ (length octets.now < 14) }
     {
         let [

@@ -2,7 +2,7 @@
 
 use thiserror::Error;
 
-/// What is wrong with a message: the first fault in this order (RFC 792, RFC 1122 section 3.2.2).
+/// What is wrong with a message: the first fault in this order (RFC 792).
 #[derive(Clone, Copy, Debug, PartialEq, Eq, Error)]
 pub enum IcmpFault {
     /// There are fewer than 8 octets.

@@ -108,6 +108,20 @@ fn a_short_payload_is_quoted_whole(rt: HostRuntime) {
 }
 
 #[test]
+fn named_types(rt: HostRuntime) {
+    let rows = [
+        (Kind::ECHO_REPLY, 0),
+        (Kind::DESTINATION_UNREACHABLE, 3),
+        (Kind::ECHO, 8),
+        (Kind::TIME_EXCEEDED, 11),
+        (Kind::PARAMETER_PROBLEM, 12),
+    ];
+    for (kind, number) in rows {
+        assert_eq!(rt; kind, Kind(number));
+    }
+}
+
+#[test]
 fn reasons(rt: HostRuntime) {
     let rows = [
         (Reason::NetUnreachable, 3, 0),

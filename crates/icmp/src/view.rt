@@ -35,7 +35,7 @@ impl<'a> Model for IcmpView<'a> {
 
 impl<'a> IcmpView<'a> {
     /// The message that these octets spell, all that a datagram carries. Refuses octets that spell none with the first
-    /// fault: fewer than 8 octets, then a wrong checksum (RFC 792, RFC 1122 section 3.2.2).
+    /// fault: fewer than 8 octets, then a wrong checksum (RFC 792).
     pub fn parse(octets: &'a [u8]) -> Result<IcmpView<'a>, IcmpFault>
         ensures { IsParsed octets.now result }
     {

@@ -1,5 +1,5 @@
 -- Tables of routes, by their entries.
-use Rattle.std.proofs.Common.{◌≡◌, ◌≢◌, ℕ, ◌<◌, ◌≤◌, ◌⊎◌, ⊎_elim, List, [], ◌∷◌, ◌++◌, length, get_or, Option, Some, None, MatchOption, IfSome, Contains, is_some, option_map, take, drop, suc, remove, ◌+◌, drop-cons, length-append, arith, refl, sym, ◌∙◌, ap, subst}
+use Rattle.std.proofs.Common.{◌≡◌, ◌≢◌, ℕ, ◌<◌, ◌≤◌, ◌⊎◌, ⊎_elim, List, [], ◌∷◌, ◌++◌, length, get_or, Option, Some, None, MatchOption, IfSome, AllPairs, Contains, ◌↔◌, is_some, option_map, take, drop, zero, suc, remove, ◌+◌, drop-cons, length-append, arith, refl, sym, ◌∙◌, ap, subst}
 use Rattle.std.specs.Bool.{Decides}
 use Rattle.std.specs.List.{HoldsAt, AllWithin}
 use Rattle.std.proofs.lemmas.Bool.{cases_order}
@@ -152,3 +152,68 @@ taken_out table prefix place route within is = record {
   old_is = sym (take-append-drop place table) ∙ ap (λ (rest : List Route). take place table ++ rest) (drop-cons table place route within);
   new_is = refl;
 }
+
+-- of tables with the same routes
+pub one_pick_of_same : (table other : List Route) (addr : Addr) (a b : Option Hop) → IsTable table → ((route : Route) → Contains table route ↔ Contains other route)
+    → Picks table addr a → Picks other addr b → a ≡ b
+one_pick_of_same table other addr a b is same p q = one_pick table addr a b is p (carried b q)
+  where
+    carried : (o : Option Hop) → Picks other addr o → Picks table addr o
+    carried None none = λ route here. none route ((same route).0 here)
+    carried (Some hop) q =
+        (q.0, record { entry = (same q.0).1 q.1.entry; matches = q.1.matches; longest = λ route here. q.1.longest route ((same route).0 here) }, q.2)
+
+-- no two routes of a list have one prefix
+abbrev pub AreApart : List Route → Type 0
+AreApart routes = AllPairs (λ one other. one.prefix ≢ other.prefix) routes
+
+apart_behind : (first : Route) (routes : List Route) → AreApart (first ∷ routes) → AreApart routes
+apart_behind first routes apart i j d before within = apart (suc i) (suc j) d (omega (arith, before)) (omega (arith, within))
+
+-- the route between two parts of a list
+between : (before : List Route) (route : Route) (after : List Route) (d : Route) → get_or (before ++ route ∷ after) (length before) d ≡ route
+between [] route after d = refl
+between (first ∷ before) route after d = between before route after d
+
+-- the first one has another prefix than one behind it
+first_apart : (first : Route) (before : List Route) (route : Route) (after : List Route) → AreApart (first ∷ (before ++ route ∷ after)) → first.prefix ≡ route.prefix → ⊥
+first_apart first before route after apart same =
+    apart 0 (suc (length before)) first (omega arith) (omega (arith, length-append before (route ∷ after)))
+    (same ∙ sym (ap (λ (r : Route). r.prefix) (between before route after first)))
+
+rest_is_one : (prefix : Prefix) (before after : List Route) (route : Route) (before' after' : List Route) (route' : Route)
+    → AreApart (before ++ route ∷ after) → before ++ route ∷ after ≡ before' ++ route' ∷ after' → route.prefix ≡ prefix → route'.prefix ≡ prefix
+    → before ++ after ≡ before' ++ after'
+rest_is_one prefix [] after route [] after' route' apart e named named' = cc
+rest_is_one prefix [] after route (first' ∷ before') after' route' apart e named named' =
+    let first : route ≡ first' = cc in
+    absurd (first_apart first' before' route' after' (subst AreApart e apart) (ap (λ (r : Route). r.prefix) (sym first) ∙ (named ∙ sym named')))
+rest_is_one prefix (first ∷ before) after route [] after' route' apart e named named' =
+    let same : first ≡ route' = cc in
+    absurd (first_apart first before route after apart (ap (λ (r : Route). r.prefix) same ∙ (named' ∙ sym named)))
+rest_is_one prefix (first ∷ before) after route (first' ∷ before') after' route' apart e named named' =
+    let same : first ≡ first' = cc in
+    let behind : before ++ route ∷ after ≡ before' ++ route' ∷ after' = cc in
+    let rest = rest_is_one prefix before after route before' after' route' (apart_behind first (before ++ route ∷ after) apart) behind named named' in
+    cc
+
+-- what is left of a table is determined
+pub one_rest : (old a b : List Route) (prefix : Prefix) → IsTable old → TakesOut old a prefix → TakesOut old b prefix → a ≡ b
+one_rest old a b prefix is p q =
+    p.new_is
+    ∙ (rest_is_one prefix p.before p.after p.route q.before q.after q.route (subst AreApart p.old_is is.apart) (sym p.old_is ∙ q.old_is) p.named q.named ∙ sym q.new_is)
+
+none_left : (prefix : Prefix) (before after : List Route) (route : Route) → AreApart (before ++ route ∷ after) → route.prefix ≡ prefix
+    → (other : Route) (i : ℕ) → i < length (before ++ after) → get_or (before ++ after) i other ≡ other → other.prefix ≡ prefix → ⊥
+none_left prefix [] after route apart named other i within is its =
+    apart 0 (suc i) other (omega arith) (omega (arith, within)) (named ∙ (sym its ∙ sym (ap (λ (r : Route). r.prefix) is)))
+none_left prefix (first ∷ before) after route apart named other zero within is its =
+    first_apart first before route after apart (ap (λ (r : Route). r.prefix) is ∙ (its ∙ sym named))
+none_left prefix (first ∷ before) after route apart named other (suc i) within is its =
+    none_left prefix before after route (apart_behind first (before ++ route ∷ after) apart) named other i (omega (arith, within)) is its
+
+-- and no route of it has the prefix
+pub none_of_prefix : (old new : List Route) (prefix : Prefix) → IsTable old → TakesOut old new prefix → ¬ HasPrefix new prefix
+none_of_prefix old new prefix is p has =
+    let here : HasPrefix (p.before ++ p.after) prefix = subst (λ (l : List Route). HasPrefix l prefix) p.new_is has in
+    none_left prefix p.before p.after p.route (subst AreApart p.old_is is.apart) p.named here.0 here.1.0 here.1.1 here.1.2 here.2

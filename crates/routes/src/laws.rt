@@ -1,10 +1,11 @@
 //! Laws of the definitions that the contracts of this crate cite: each is the contract of a function that does nothing.
 
-ghost use Rattle.std.specs.Prelude.{◌≡◌, List, Option};
+ghost use Rattle.std.specs.Prelude.{◌≡◌, ◌↔◌, List, Option, Contains};
 ghost use Rattle.ipv4.specs.declared.addr.Addr.{Addr};
+ghost use Rattle.ipv4.specs.declared.prefix.Prefix.{Prefix};
 ghost use Rattle.routes.specs.declared.route.Route.{Route};
 ghost use Rattle.routes.specs.declared.route.Hop.{Hop};
-ghost use Rattle.routes.specs.Routes.{IsTable, IsBest, Picks};
+ghost use Rattle.routes.specs.Routes.{IsTable, HasPrefix, TakesOut, IsBest, Picks};
 
 /// Of a table, in which no two entries have one prefix, one route at most is the best for an address.
 pub fn one_best_route()
@@ -16,4 +17,18 @@ pub fn one_best_route()
 pub fn one_answer()
     ensures { (table : List Route) (addr : Addr) (first second : Option Hop) → IsTable table → Picks table addr first → Picks table addr second
         → first ≡ second }
+{}
+
+/// Nor does it depend on the order of the routes: tables with the same routes have the same answer (RFC 4632 section 5.1).
+pub fn order_does_not_matter()
+    ensures { (table other : List Route) (addr : Addr) (first second : Option Hop) → IsTable table
+        → ((route : Route) → Contains table route ↔ Contains other route)
+        → Picks table addr first → Picks other addr second → first ≡ second }
+{}
+
+/// What is left where the route of a prefix is taken out of a table is determined, and no route of it has that prefix.
+pub fn one_rest()
+    ensures one { (old first second : List Route) (prefix : Prefix) → IsTable old → TakesOut old first prefix → TakesOut old second prefix
+        → first ≡ second }
+    ensures gone { (old new : List Route) (prefix : Prefix) → IsTable old → TakesOut old new prefix → ¬ HasPrefix new prefix }
 {}
