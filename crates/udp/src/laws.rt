@@ -1,6 +1,6 @@
 //! Laws of the definitions that the contracts of this crate cite: each is the contract of a function that does nothing.
 
-ghost use Rattle.std.specs.Prelude.{◌≡◌, ℕ, ◌+◌, ◌*◌, ◌<◌, ◌≤◌, ◌↔◌, IsTrue, List, ◌++◌, All, length, take, Result, Ok};
+ghost use Rattle.std.specs.Prelude.{◌≡◌, ℕ, ◌+◌, ◌-◌, ◌*◌, ◌<◌, ◌≤◌, ◌↔◌, true, false, IsTrue, List, [], ◌∷◌, ◌++◌, All, length, map, replicate, take, Result, Ok};
 ghost use Rattle.std.specs.List.{flat_map};
 ghost use Rattle.ipv4.specs.Datagram.{HasPlace};
 ghost use Rattle.ipv4.specs.declared.addr.Addr.{Addr};
@@ -32,11 +32,14 @@ pub fn emitted_parses()
 
 /// The fragments of a payload cover it once and in order: their parts, one behind the other, are the payload. Each but the last
 /// has 1,480 octets, more are told exactly where its part ends before the payload does, and IPv4 has a place for each where
-/// it has one for the whole, 65,515 octets at most.
+/// it has one for the whole, 65,515 octets at most. There is one last fragment, which stands last, and only that of an empty
+/// payload is empty (RFC 791 section 3.2).
 pub fn fragments_cover()
     ensures whole { (payload : List ℕ) → flat_map (part_of payload) (fragments_of (length payload)) ≡ payload }
     ensures more { (len : ℕ) → All (λ f. IsTrue f.more_fragments ↔ (8 * f.offset + f.len < len)) (fragments_of len) }
     ensures full { (len : ℕ) → All (λ f. IsTrue f.more_fragments → f.len ≡ 1480) (fragments_of len) }
     ensures rest { (len : ℕ) → All (λ f. f.len ≤ 1480) (fragments_of len) }
+    ensures last { (len : ℕ) → map (λ f. f.more_fragments) (fragments_of len) ≡ replicate (length (fragments_of len) - 1) true ++ false ∷ [] }
+    ensures filled { (len : ℕ) → 0 < len → All (λ f. 0 < f.len) (fragments_of len) }
     ensures places { (len : ℕ) → len ≤ 65515 → All (λ f. HasPlace f.more_fragments f.offset f.len) (fragments_of len) }
 {}
