@@ -1,12 +1,13 @@
 //! Laws of the definitions that the contracts of this crate cite: each is the contract of a function that does nothing.
 
-ghost use Rattle.std.specs.Prelude.{◌≡◌, ℕ, ◌+◌, ◌-◌, ◌*◌, ◌<◌, ◌≤◌, ◌↔◌, true, false, IsTrue, List, [], ◌∷◌, ◌++◌, All, length, map, replicate, take, Result, Ok};
+ghost use Rattle.std.specs.Prelude.{◌≡◌, ◌≢◌, ℕ, ◌+◌, ◌-◌, ◌*◌, ◌<◌, ◌≤◌, ◌↔◌, true, false, IsTrue, List, [], ◌∷◌, ◌++◌, All, length, map, replicate, take, Result, Ok};
 ghost use Rattle.std.specs.List.{flat_map};
+ghost use Rattle.inet_sum.specs.Sum.{sum_of};
 ghost use Rattle.ipv4.specs.Datagram.{HasPlace};
 ghost use Rattle.ipv4.specs.declared.addr.Addr.{Addr};
 ghost use Rattle.udp.specs.declared.fault.UdpFault.{UdpFault};
 ghost use Rattle.udp.specs.declared.head.Head.{Head};
-ghost use Rattle.udp.specs.Datagram.{UserDatagram, IsParsed, Spells, datagram_len, spelling};
+ghost use Rattle.udp.specs.Datagram.{UserDatagram, IsParsed, Spells, datagram_len, spelling, summed};
 ghost use Rattle.udp.specs.Fragments.{fragments_of, part_of};
 ghost use Rattle.udp.specs.Sent.{CanBeSent, sent};
 
@@ -21,13 +22,17 @@ pub fn one_spelling()
     ensures { (src dst : Addr) (d : UserDatagram) (octets : List ℕ) → Spells src dst d octets → take (datagram_len d) octets ≡ spelling d }
 {}
 
-/// What `Head::emit` writes spells the user datagram that is meant, whatever padding stands behind it, and so parses to it.
+/// What `Head::emit` writes spells the user datagram that is meant, whatever padding stands behind it, and so parses to it. There
+/// is always a checksum, and it is right: one that is computed as 0 goes out as 0xFFFF, since 0 says that there is none (RFC 768).
 pub fn emitted_parses()
     ensures len { (src dst : Addr) (head : Head) (payload : List ℕ) → length (spelling (sent src dst head payload)) ≡ 8 + length payload }
     ensures spelled { (src dst : Addr) (head : Head) (payload padding : List ℕ) → CanBeSent src dst head payload
         → Spells src dst (sent src dst head payload) (spelling (sent src dst head payload) ++ padding) }
     ensures parsed { (src dst : Addr) (head : Head) (payload padding : List ℕ) (answer : Result UserDatagram UdpFault) → CanBeSent src dst head payload
         → IsParsed src dst (spelling (sent src dst head payload) ++ padding) answer → answer ≡ Ok (sent src dst head payload) }
+    ensures told { (src dst : Addr) (head : Head) (payload : List ℕ) → (sent src dst head payload).checksum ≢ 0 }
+    ensures right { (src dst : Addr) (head : Head) (payload : List ℕ) → CanBeSent src dst head payload
+        → sum_of (summed src dst (spelling (sent src dst head payload))) ≡ 65535 }
 {}
 
 /// The fragments of a payload cover it once and in order: their parts, one behind the other, are the payload. Each but the last
