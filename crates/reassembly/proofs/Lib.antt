@@ -7,3 +7,4 @@ pub mod Latest
 pub mod Wholes
 pub mod Together
 pub mod Contradictions
+pub mod OneMore

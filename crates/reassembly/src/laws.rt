@@ -1,11 +1,12 @@
 //! Laws of the definitions that the contracts of this crate cite: each is the contract of a function that does nothing.
 
-ghost use Rattle.std.specs.Prelude.{◌≡◌, ◌++◌, ◌∷◌, [], ℕ, List, length, false, Some, None, slice_index_or};
+ghost use Rattle.std.specs.Prelude.{◌≡◌, ◌++◌, ◌∷◌, [], ℕ, List, length, true, false, Some, None, slice_index_or};
 ghost use Rattle.ipv4.specs.Datagram.{Datagram};
 ghost use Rattle.reassembly.specs.declared.moment.Moment.{Moment};
 ghost use Rattle.reassembly.specs.Fragments.{latest, told_end, is_contradictory, IsPayload};
 ghost use Rattle.reassembly.specs.Octets.{whole_of};
-ghost use Rattle.reassembly.specs.Reassembly.{begun, after_fragments, conflicts};
+ghost use Rattle.reassembly.specs.Reassembly.{begun, after_fragments, conflicts, outcome};
+ghost use Rattle.reassembly.specs.Reassembly.Outcome.{Waits, Completes, GivesUp};
 
 /// After some fragments the octet of each place is that of the last of them to arrive which covers it, and there is none where
 /// none does.
@@ -37,4 +38,24 @@ pub fn given_up()
         → is_contradictory fragments ≡ false
         → conflicts d (after_fragments (begun now first) fragments).end (length (after_fragments (begun now first) fragments).octets)
         ≡ is_contradictory (fragments ++ d ∷ []) }
+{}
+
+/// What becomes of a datagram with one fragment more, while no two of those before contradict each other: it is given up where this
+/// one contradicts one of them; else its payload is whole where all of them have one; else it waits, with this one among its
+/// fragments (RFC 791 section 3.2).
+pub fn one_more_fragment()
+    ensures given_up { (now : Moment) (first : Datagram) (fragments : List Datagram) (d : Datagram)
+        → is_contradictory fragments ≡ false
+        → is_contradictory (fragments ++ d ∷ []) ≡ true
+        → outcome d (after_fragments (begun now first) fragments) ≡ GivesUp }
+    ensures whole { (now : Moment) (first : Datagram) (fragments : List Datagram) (d : Datagram) (payload : List ℕ)
+        → is_contradictory fragments ≡ false
+        → is_contradictory (fragments ++ d ∷ []) ≡ false
+        → IsPayload (fragments ++ d ∷ []) payload
+        → outcome d (after_fragments (begun now first) fragments) ≡ Completes payload }
+    ensures waits { (now : Moment) (first : Datagram) (fragments : List Datagram) (d : Datagram)
+        → is_contradictory fragments ≡ false
+        → is_contradictory (fragments ++ d ∷ []) ≡ false
+        → ((payload : List ℕ) → IsPayload (fragments ++ d ∷ []) payload → ⊥)
+        → outcome d (after_fragments (begun now first) fragments) ≡ Waits (after_fragments (begun now first) (fragments ++ d ∷ [])) }
 {}
