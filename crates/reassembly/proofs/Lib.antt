@@ -8,3 +8,4 @@ pub mod Wholes
 pub mod Together
 pub mod Contradictions
 pub mod OneMore
+pub mod Quotes

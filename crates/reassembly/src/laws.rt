@@ -3,7 +3,7 @@
 ghost use Rattle.std.specs.Prelude.{◌≡◌, ◌++◌, ◌∷◌, [], ℕ, List, length, true, false, Some, None, slice_index_or};
 ghost use Rattle.ipv4.specs.Datagram.{Datagram};
 ghost use Rattle.reassembly.specs.declared.moment.Moment.{Moment};
-ghost use Rattle.reassembly.specs.Fragments.{latest, told_end, is_contradictory, IsPayload};
+ghost use Rattle.reassembly.specs.Fragments.{key_of, latest, latest_quote, told_end, is_contradictory, IsPayload};
 ghost use Rattle.reassembly.specs.Octets.{whole_of};
 ghost use Rattle.reassembly.specs.Reassembly.{begun, after_fragments, conflicts, outcome};
 ghost use Rattle.reassembly.specs.Reassembly.Outcome.{Waits, Completes, GivesUp};
@@ -58,4 +58,18 @@ pub fn one_more_fragment()
         → is_contradictory (fragments ++ d ∷ []) ≡ false
         → ((payload : List ℕ) → IsPayload (fragments ++ d ∷ []) payload → ⊥)
         → outcome d (after_fragments (begun now first) fragments) ≡ Waits (after_fragments (begun now first) (fragments ++ d ∷ [])) }
+{}
+
+/// After some fragments an error message quotes the last fragment zero that arrived, and there is nothing to quote where none did
+/// (RFC 792).
+pub fn quoted_fragment()
+    ensures { (now : Moment) (first : Datagram) (fragments : List Datagram)
+        → (after_fragments (begun now first) fragments).quote ≡ latest_quote fragments }
+{}
+
+/// Whatever fragments come, the time of a datagram runs from the arrival of the first one, whose source, destination, protocol and
+/// identification it keeps (RFC 791 section 3.2, RFC 1122 section 3.3.2).
+pub fn first_fragment_stays()
+    ensures since { (now : Moment) (first : Datagram) (fragments : List Datagram) → (after_fragments (begun now first) fragments).since ≡ now }
+    ensures key { (now : Moment) (first : Datagram) (fragments : List Datagram) → (after_fragments (begun now first) fragments).key ≡ key_of first }
 {}
