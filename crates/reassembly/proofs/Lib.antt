@@ -9,3 +9,4 @@ pub mod Together
 pub mod Contradictions
 pub mod OneMore
 pub mod Quotes
+pub mod Soonest

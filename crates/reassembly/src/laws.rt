@@ -1,11 +1,13 @@
 //! Laws of the definitions that the contracts of this crate cite: each is the contract of a function that does nothing.
 
-ghost use Rattle.std.specs.Prelude.{◌≡◌, ◌++◌, ◌∷◌, [], ℕ, List, length, true, false, Some, None, slice_index_or};
+ghost use Rattle.std.specs.Prelude.{◌≡◌, ◌≢◌, ◌<◌, ◌≤◌, ◌↔◌, ◌++◌, ◌∷◌, [], ℕ, List, All, length, true, false, Option, Some, None, IfSome, option_map, slice_index_or};
+ghost use Rattle.std.specs.List.{Any};
 ghost use Rattle.ipv4.specs.Datagram.{Datagram};
 ghost use Rattle.reassembly.specs.declared.moment.Moment.{Moment};
 ghost use Rattle.reassembly.specs.Fragments.{key_of, latest, latest_quote, told_end, is_contradictory, IsPayload};
 ghost use Rattle.reassembly.specs.Octets.{whole_of};
-ghost use Rattle.reassembly.specs.Reassembly.{begun, after_fragments, conflicts, outcome};
+ghost use Rattle.reassembly.specs.Places.{after_age, expired, next_deadline};
+ghost use Rattle.reassembly.specs.Reassembly.{Reassembly, begun, after_fragments, conflicts, deadline_of, outcome};
 ghost use Rattle.reassembly.specs.Reassembly.Outcome.{Waits, Completes, GivesUp};
 
 /// After some fragments the octet of each place is that of the last of them to arrive which covers it, and there is none where
@@ -72,4 +74,22 @@ pub fn quoted_fragment()
 pub fn first_fragment_stays()
     ensures since { (now : Moment) (first : Datagram) (fragments : List Datagram) → (after_fragments (begun now first) fragments).since ≡ now }
     ensures key { (now : Moment) (first : Datagram) (fragments : List Datagram) → (after_fragments (begun now first) fragments).key ≡ key_of first }
+{}
+
+/// The next deadline is the least: the time of some datagram runs out then, and that of none earlier; there is none exactly where no
+/// place is taken. Before it `Pool::age` ends nothing and tells nothing, and from it on it ends some datagram (RFC 1122 section
+/// 3.3.2).
+pub fn next_is_least()
+    ensures none { (places : List (Option Reassembly)) → (next_deadline places ≡ None) ↔ All (λ place. place ≡ None) places }
+    ensures some { (places : List (Option Reassembly)) (next : Moment)
+        → next_deadline places ≡ Some next
+        → Any (λ place. option_map deadline_of place ≡ Some next) places }
+    ensures least { (places : List (Option Reassembly)) (next : Moment)
+        → next_deadline places ≡ Some next
+        → All (λ place. IfSome place (λ r. next.0 ≤ (deadline_of r).0)) places }
+    ensures before { (places : List (Option Reassembly)) (now : Moment)
+        → IfSome (next_deadline places) (λ next. now.0 < next.0)
+        → (after_age now places ≡ places) × (expired now places ≡ []) }
+    ensures reached { (places : List (Option Reassembly)) (now : Moment)
+        → IfSome (next_deadline places) (λ next. next.0 ≤ now.0 → after_age now places ≢ places) }
 {}
