@@ -1,7 +1,7 @@
 //! A user datagram that was received (RFC 768).
 
 ghost use Rattle.std.specs.Prelude.{◌≡◌, ◌<◌, ◌≤◌, ◌^◌, ◌↔◌, IsTrue, IfSome, IfNone, length};
-ghost use Rattle.udp.specs.Datagram.{UserDatagram, HasForm, IsParsed, SumIsRight};
+ghost use Rattle.udp.specs.Datagram.{UserDatagram, HasForm, IsParsed, SumIsRight, datagram_len};
 ghost use Rattle.udp.specs.Reading.{len_in};
 
 use crate::fault::UdpFault;
@@ -75,6 +75,13 @@ impl<'a> UdpView<'a> {
         ensures { result ≡ self.now.destination }
     {
         BigEndian::read_u16(&self.octets[2..])
+    }
+
+    /// The length in octets, the header's eight and the payload's, without any padding (RFC 768).
+    pub fn datagram_len(&self) -> u16
+        ensures { result ≡ datagram_len self.now }
+    {
+        BigEndian::read_u16(&self.octets[4..])
     }
 
     /// The checksum, 0 where there is none.
