@@ -11,19 +11,21 @@ ghost use Rattle.reassembly.specs.Reassembly.{Reassembly, begun, after_fragments
 ghost use Rattle.reassembly.specs.Reassembly.Outcome.{Waits, Completes, GivesUp};
 
 /// After some fragments the octet of each place is that of the last of them to arrive which covers it, and there is none where
-/// none does.
+/// none does (RFC 791 section 3.2).
 pub fn latest_octets()
     ensures { (now : Moment) (first : Datagram) (fragments : List Datagram) (i : ℕ)
         → slice_index_or (after_fragments (begun now first) fragments).octets i None ≡ latest fragments i }
 {}
 
-/// The end of a payload is known once a last fragment is among them, and it is the one that this tells.
+/// The end of a payload is known once a last fragment is among them, and it is the one that this tells (RFC 791 section
+/// 3.2).
 pub fn known_end()
     ensures { (now : Moment) (first : Datagram) (fragments : List Datagram)
         → (after_fragments (begun now first) fragments).end ≡ told_end fragments }
 {}
 
-/// A datagram is whole exactly where its end is known and every octet below it came; its octets are then the latest of each place.
+/// A datagram is whole exactly where its end is known and every octet below it came; its octets are then the latest of each place
+/// (RFC 791 section 3.2).
 pub fn whole_payload()
     ensures whole { (now : Moment) (first : Datagram) (fragments : List Datagram) (payload : List ℕ)
         → whole_of (after_fragments (begun now first) fragments).end (after_fragments (begun now first) fragments).octets ≡ Some payload
@@ -34,7 +36,7 @@ pub fn whole_payload()
 {}
 
 /// While no two fragments contradict each other, one more is given up with them exactly where it contradicts one of them: it has an
-/// octet past an end that was told, or it tells another end, or one before an octet that came.
+/// octet past an end that was told, or it tells another end, or one before an octet that came (RFC 791 section 3.2).
 pub fn given_up()
     ensures { (now : Moment) (first : Datagram) (fragments : List Datagram) (d : Datagram)
         → is_contradictory fragments ≡ false

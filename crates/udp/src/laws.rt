@@ -11,13 +11,13 @@ ghost use Rattle.udp.specs.Datagram.{UserDatagram, IsParsed, Spells, datagram_le
 ghost use Rattle.udp.specs.Fragments.{fragments_of, part_of};
 ghost use Rattle.udp.specs.Sent.{CanBeSent, sent};
 
-/// For all octets there is one answer that `UdpView::parse` may give.
+/// For all octets there is one answer that `UdpView::parse` may give (RFC 768).
 pub fn one_answer()
     ensures { (src dst : Addr) (octets : List ℕ) (first second : Result UserDatagram UdpFault)
         → IsParsed src dst octets first → IsParsed src dst octets second → first ≡ second }
 {}
 
-/// A user datagram has one spelling, up to the padding behind it.
+/// A user datagram has one spelling, up to the padding behind it (RFC 768).
 pub fn one_spelling()
     ensures { (src dst : Addr) (d : UserDatagram) (octets : List ℕ) → Spells src dst d octets → take (datagram_len d) octets ≡ spelling d }
 {}

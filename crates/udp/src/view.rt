@@ -63,14 +63,14 @@ impl<'a> UdpView<'a> {
         self.checksum() == 0 || sum_between(src, dst, self.octets) == u16::MAX
     }
 
-    /// The port that it comes from.
+    /// The port that it comes from (RFC 768).
     pub fn source(&self) -> u16
         ensures { result ≡ self.now.source }
     {
         BigEndian::read_u16(self.octets)
     }
 
-    /// The port that it goes to.
+    /// The port that it goes to (RFC 768).
     pub fn destination(&self) -> u16
         ensures { result ≡ self.now.destination }
     {
@@ -84,14 +84,14 @@ impl<'a> UdpView<'a> {
         BigEndian::read_u16(&self.octets[4..])
     }
 
-    /// The checksum, 0 where there is none.
+    /// The checksum, 0 where there is none (RFC 768).
     pub fn checksum(&self) -> u16
         ensures { result ≡ self.now.checksum }
     {
         BigEndian::read_u16(&self.octets[6..])
     }
 
-    /// The payload without any padding, at most 65,527 octets, a part of the octets that were parsed.
+    /// The payload without any padding, at most 65,527 octets, a part of the octets that were parsed (RFC 768).
     pub fn payload(&self) -> &'a [u8]
         ensures octets { result.now ≡ self.now.payload }
         ensures bound { length result.now ≤ 65527 }
