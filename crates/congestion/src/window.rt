@@ -14,7 +14,7 @@ const FIRST_SSTHRESH: u32 = 65_535;
 /// The duplicate ACK at which a segment counts as lost (RFC 5681 section 3.2).
 const THIRD: u8 = 3;
 
-/// The congestion window of a connection.
+/// The congestion window of a connection (RFC 5681 section 2).
 #[derive(Debug, Drop)]
 pub struct Cwnd {
     smss: u16,
@@ -53,7 +53,7 @@ impl Cwnd {
         }
     }
 
-    /// How many octets may be in flight.
+    /// How many octets may be in flight (RFC 5681 section 3.1).
     pub fn window(&self) -> u32
         ensures value { result ≡ self.now.cwnd }
         ensures sound { IsSound self.now }

@@ -7,3 +7,6 @@ pub mod Latest
 pub mod Wholes
 pub mod Together
 pub mod Contradictions
+pub mod OneMore
+pub mod Quotes
+pub mod Soonest

@@ -35,6 +35,10 @@ octet_for i d = slice_index d.payload (i - begin_of d)
 abbrev pub latest : List Datagram → ℕ → Option ℕ
 latest fragments i = option_map (octet_for i) (find (covers i) (reverse fragments))
 
+-- what is quoted of them: that of the fragment zero, which stands at the beginning, that arrived last
+abbrev pub latest_quote : List Datagram → Option (List ℕ)
+latest_quote fragments = option_map quote_of (find (λ d. d.offset == 0) (reverse fragments))
+
 -- the end of the payload, where a last fragment is among them
 abbrev pub told_end : List Datagram → Option ℕ
 told_end fragments = option_map end_of (find is_last fragments)

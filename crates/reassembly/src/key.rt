@@ -20,7 +20,7 @@ pub struct Key {
 }
 
 impl Key {
-    /// That of a fragment.
+    /// That of a fragment (RFC 791 section 3.2).
     pub fn of(fragment: &Ipv4View) -> Key
         ensures { result ≡ key_of fragment.now }
     {

@@ -1,26 +1,31 @@
 //! Laws of the definitions that the contracts of this crate cite: each is the contract of a function that does nothing.
 
-ghost use Rattle.std.specs.Prelude.{◌≡◌, ◌++◌, ◌∷◌, [], ℕ, List, length, false, Some, None, slice_index_or};
+ghost use Rattle.std.specs.Prelude.{◌≡◌, ◌≢◌, ◌<◌, ◌≤◌, ◌↔◌, ◌++◌, ◌∷◌, [], ℕ, List, All, length, true, false, Option, Some, None, IfSome, option_map, slice_index_or};
+ghost use Rattle.std.specs.List.{Any};
 ghost use Rattle.ipv4.specs.Datagram.{Datagram};
 ghost use Rattle.reassembly.specs.declared.moment.Moment.{Moment};
-ghost use Rattle.reassembly.specs.Fragments.{latest, told_end, is_contradictory, IsPayload};
+ghost use Rattle.reassembly.specs.Fragments.{key_of, latest, latest_quote, told_end, is_contradictory, IsPayload};
 ghost use Rattle.reassembly.specs.Octets.{whole_of};
-ghost use Rattle.reassembly.specs.Reassembly.{begun, after_fragments, conflicts};
+ghost use Rattle.reassembly.specs.Places.{after_age, expired, next_deadline};
+ghost use Rattle.reassembly.specs.Reassembly.{Reassembly, begun, after_fragments, conflicts, deadline_of, outcome};
+ghost use Rattle.reassembly.specs.Reassembly.Outcome.{Waits, Completes, GivesUp};
 
 /// After some fragments the octet of each place is that of the last of them to arrive which covers it, and there is none where
-/// none does.
+/// none does (RFC 791 section 3.2).
 pub fn latest_octets()
     ensures { (now : Moment) (first : Datagram) (fragments : List Datagram) (i : ℕ)
         → slice_index_or (after_fragments (begun now first) fragments).octets i None ≡ latest fragments i }
 {}
 
-/// The end of a payload is known once a last fragment is among them, and it is the one that this tells.
+/// The end of a payload is known once a last fragment is among them, and it is the one that this tells (RFC 791 section
+/// 3.2).
 pub fn known_end()
     ensures { (now : Moment) (first : Datagram) (fragments : List Datagram)
         → (after_fragments (begun now first) fragments).end ≡ told_end fragments }
 {}
 
-/// A datagram is whole exactly where its end is known and every octet below it came; its octets are then the latest of each place.
+/// A datagram is whole exactly where its end is known and every octet below it came; its octets are then the latest of each place
+/// (RFC 791 section 3.2).
 pub fn whole_payload()
     ensures whole { (now : Moment) (first : Datagram) (fragments : List Datagram) (payload : List ℕ)
         → whole_of (after_fragments (begun now first) fragments).end (after_fragments (begun now first) fragments).octets ≡ Some payload
@@ -31,10 +36,62 @@ pub fn whole_payload()
 {}
 
 /// While no two fragments contradict each other, one more is given up with them exactly where it contradicts one of them: it has an
-/// octet past an end that was told, or it tells another end, or one before an octet that came.
+/// octet past an end that was told, or it tells another end, or one before an octet that came (RFC 791 section 3.2).
 pub fn given_up()
     ensures { (now : Moment) (first : Datagram) (fragments : List Datagram) (d : Datagram)
         → is_contradictory fragments ≡ false
         → conflicts d (after_fragments (begun now first) fragments).end (length (after_fragments (begun now first) fragments).octets)
         ≡ is_contradictory (fragments ++ d ∷ []) }
+{}
+
+/// What becomes of a datagram with one fragment more, while no two of those before contradict each other: it is given up where this
+/// one contradicts one of them; else its payload is whole where all of them have one; else it waits, with this one among its
+/// fragments (RFC 791 section 3.2).
+pub fn one_more_fragment()
+    ensures given_up { (now : Moment) (first : Datagram) (fragments : List Datagram) (d : Datagram)
+        → is_contradictory fragments ≡ false
+        → is_contradictory (fragments ++ d ∷ []) ≡ true
+        → outcome d (after_fragments (begun now first) fragments) ≡ GivesUp }
+    ensures whole { (now : Moment) (first : Datagram) (fragments : List Datagram) (d : Datagram) (payload : List ℕ)
+        → is_contradictory fragments ≡ false
+        → is_contradictory (fragments ++ d ∷ []) ≡ false
+        → IsPayload (fragments ++ d ∷ []) payload
+        → outcome d (after_fragments (begun now first) fragments) ≡ Completes payload }
+    ensures waits { (now : Moment) (first : Datagram) (fragments : List Datagram) (d : Datagram)
+        → is_contradictory fragments ≡ false
+        → is_contradictory (fragments ++ d ∷ []) ≡ false
+        → ((payload : List ℕ) → IsPayload (fragments ++ d ∷ []) payload → ⊥)
+        → outcome d (after_fragments (begun now first) fragments) ≡ Waits (after_fragments (begun now first) (fragments ++ d ∷ [])) }
+{}
+
+/// After some fragments an error message quotes the last fragment zero that arrived, and there is nothing to quote where none did
+/// (RFC 792).
+pub fn quoted_fragment()
+    ensures { (now : Moment) (first : Datagram) (fragments : List Datagram)
+        → (after_fragments (begun now first) fragments).quote ≡ latest_quote fragments }
+{}
+
+/// Whatever fragments come, the time of a datagram runs from the arrival of the first one, whose source, destination, protocol and
+/// identification it keeps (RFC 791 section 3.2, RFC 1122 section 3.3.2).
+pub fn first_fragment_stays()
+    ensures since { (now : Moment) (first : Datagram) (fragments : List Datagram) → (after_fragments (begun now first) fragments).since ≡ now }
+    ensures key { (now : Moment) (first : Datagram) (fragments : List Datagram) → (after_fragments (begun now first) fragments).key ≡ key_of first }
+{}
+
+/// The next deadline is the least: the time of some datagram runs out then, and that of none earlier; there is none exactly where no
+/// place is taken. Before it `Pool::age` ends nothing and tells nothing, and from it on it ends some datagram (RFC 1122 section
+/// 3.3.2).
+pub fn next_is_least()
+    ensures none { (places : List (Option Reassembly)) → (next_deadline places ≡ None) ↔ All (λ place. place ≡ None) places }
+    ensures some { (places : List (Option Reassembly)) (next : Moment)
+        → next_deadline places ≡ Some next
+        → Any (λ place. option_map deadline_of place ≡ Some next) places }
+    ensures least { (places : List (Option Reassembly)) (next : Moment)
+        → next_deadline places ≡ Some next
+        → All (λ place. IfSome place (λ r. next.0 ≤ (deadline_of r).0)) places }
+    ensures before { (places : List (Option Reassembly)) (now : Moment)
+        → IfSome (next_deadline places) (λ next. now.0 < next.0)
+        → (after_age now places ≡ places) × (expired now places ≡ []) }
+    ensures reached { (places : List (Option Reassembly)) (now : Moment)
+        → IfSome (next_deadline places) (λ next. next.0 ≤ now.0 → after_age now places ≢ places) }
 {}

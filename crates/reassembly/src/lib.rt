@@ -1,4 +1,4 @@
-//! Datagrams put together from their fragments (RFC 791 section 3.2, RFC 815, RFC 1122 section 3.3.2).
+//! Datagrams put together from their fragments (RFC 791 section 3.2), within a time (RFC 1122 section 3.3.2).
 #![tactic(auto)]
 
 mod buffer;

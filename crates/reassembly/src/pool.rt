@@ -83,7 +83,7 @@ impl Pool {
         expired
     }
 
-    /// When the time of a datagram runs out next.
+    /// When the time of a datagram runs out next (RFC 1122 section 3.3.2).
     pub fn next_deadline(&self) -> Option<Moment>
         ensures value { result ≡ next_deadline self.now }
         ensures places { length self.now ≡ 4 }

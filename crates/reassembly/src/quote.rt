@@ -41,7 +41,7 @@ impl Quote {
         Quote { octets }
     }
 
-    /// The octets, at most 68.
+    /// The octets, at most 68 (RFC 792).
     pub fn octets(&self) -> &[u8]
         ensures { result.now ≡ self.now }
     {

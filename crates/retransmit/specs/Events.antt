@@ -1,4 +1,4 @@
--- The retransmission timeout after a list of events (RFC 6298 sections 2 and 5).
+-- The retransmission timeout after a list of events (RFC 6298 sections 2, 3 and 5).
 use Rattle.std.specs.Prelude.{ℕ, List, fold}
 use Rattle.retransmit.specs.Timeout.{Timeout, first_timeout, after_sample, after_expiry, after_lost_syn}
 

@@ -8,25 +8,26 @@ ghost use Rattle.retransmit.specs.Deadlines.{has_come, next_of};
 ghost use Rattle.retransmit.specs.Events.{Event, after_event, timeout_after};
 ghost use Rattle.retransmit.specs.Events.Event.{Expiry};
 
-/// What a call makes of the timeout is what one more event makes of it.
+/// What a call makes of the timeout is what one more event makes of it (RFC 6298 sections 2, 3 and 5).
 pub fn one_more_event()
     ensures { (events : List Event) (event : Event)
         → timeout_after (events ++ event ∷ []) ≡ after_event (timeout_after events) event }
 {}
 
-/// Whatever happens to a connection, its timeout lies between a second and a minute.
+/// Whatever happens to a connection, its timeout lies between a second and a minute (RFC 6298 sections 2.4
+/// and 2.5).
 pub fn timeout_in_range()
     ensures least { (events : List Event) → 1000 ≤ (timeout_after events).rto }
     ensures most { (events : List Event) → (timeout_after events).rto ≤ 60000 }
 {}
 
-/// Expiries in a row double the timeout, up to a minute.
+/// Expiries in a row double the timeout, up to a minute (RFC 6298 section 5.5).
 pub fn expiries_in_a_row()
     ensures { (events : List Event) (k : ℕ)
         → (timeout_after (events ++ replicate k Expiry)).rto ≡ min 60000 (2 ^ k * (timeout_after events).rto) }
 {}
 
-/// The next deadline is the least: it has come exactly where some deadline has.
+/// The next deadline is the least: it has come exactly where some deadline has (RFC 6298 section 5).
 pub fn next_is_least()
     ensures { (deadlines : List (Option Moment)) (now : Moment)
         → has_come (next_of deadlines) now ≡ list_any (λ d. has_come d now) deadlines }

@@ -30,7 +30,7 @@ pub struct Estimate {
     pub v4: u32,
 }
 
-/// The retransmission timeout of a connection.
+/// The retransmission timeout of a connection (RFC 6298).
 #[derive(Debug, Drop)]
 pub struct Rto {
     estimate: Option<Estimate>,
@@ -60,7 +60,7 @@ impl Rto {
         }
     }
 
-    /// The timeout, in milliseconds.
+    /// The timeout, in milliseconds (RFC 6298 section 2).
     pub fn rto(&self) -> u32
         ensures value { result ≡ self.now.rto }
         ensures least { 1000 ≤ result }

@@ -1,5 +1,5 @@
 -- The laws of parsing and sending.
-use Rattle.std.proofs.Common.{◌≡◌, ℕ, ◌+◌, ◌-◌, ◌%◌, ◌^◌, ◌<◌, Bool, true, false, nat_eq, inr, List, [], ◌∷◌, ◌++◌, length, take, cond, Result, Ok, Err, refl, ◌∙◌, ap, subst, arith}
+use Rattle.std.proofs.Common.{◌≡◌, ◌≢◌, ℕ, ◌+◌, ◌-◌, ◌%◌, ◌^◌, ◌<◌, Bool, true, false, nat_eq, inr, List, [], ◌∷◌, ◌++◌, length, take, cond, Result, Ok, Err, refl, ◌∙◌, ap, subst, arith}
 use Rattle.std.proofs.lemmas.Bool.Decides.{nat_tests}
 use Rattle.byteorder.specs.Endian.{big_bytes}
 use Rattle.inet_sum.specs.Sum.{word_sum, ones_complement, sum_of, checksum_of}
@@ -81,7 +81,18 @@ told_fits c fits = by_test (nat_eq c 0) c fits
     by_test true c fits = omega arith
     by_test false c fits = fits
 
-sum_right : (src dst : Addr) (head : Head) (payload : List ℕ) → CanBeSent src dst head payload
+-- a checksum always goes out
+pub sum_told : (src dst : Addr) (head : Head) (payload : List ℕ) → (sent src dst head payload).checksum ≢ 0
+sum_told src dst head payload = told_some (checksum_of (summed src dst (spelling (sent_with head payload 0))))
+  where
+    by_test : (b : Bool) (c : ℕ) → nat_eq c 0 ≡ b → cond b 65535 c ≢ 0
+    by_test true c test none = absurd (omega (arith, none))
+    by_test false c test none = absurd (grind (arith, nat_tests, test, none))
+
+    told_some : (c : ℕ) → told_checksum c ≢ 0
+    told_some c = by_test (nat_eq c 0) c refl
+
+pub sum_right : (src dst : Addr) (head : Head) (payload : List ℕ) → CanBeSent src dst head payload
     → sum_of (summed src dst (spelling (sent src dst head payload))) ≡ 65535
 sum_right src dst head payload can =
     let len : ℕ = 8 + length payload in

@@ -1,5 +1,5 @@
 -- The fragments of a payload cover it.
-use Rattle.std.proofs.Common.{◌≡◌, ℕ, zero, suc, ◌+◌, ◌-◌, ◌*◌, ◌<◌, ◌≤◌, ◌↔◌, IsTrue, min, List, ◌++◌, length, take, drop, sym, ◌∙◌, ap, arith, All}
+use Rattle.std.proofs.Common.{◌≡◌, ℕ, zero, suc, ◌+◌, ◌-◌, ◌*◌, ◌<◌, ◌≤◌, ◌↔◌, Bool, true, false, nat_lt, IsTrue, min, List, [], ◌∷◌, ◌++◌, length, take, drop, map, replicate, refl, sym, ◌∙◌, ap, arith, All}
 use Rattle.std.proofs.lemmas.Bool.Decides.{nat_tests}
 use Rattle.std.proofs.lemmas.List.{length-drop, take-append-drop, drop-drop, drop_all, take_min}
 use Rattle.std.specs.List.{flat_map}
@@ -24,6 +24,40 @@ full_is len k h more = grind (arith, nat_tests, more)
 
 pub place_is : (len : ℕ) → len ≤ 65515 → (k : ℕ) → 1480 * k ≤ len → HasPlace (fragment len k).more_fragments (fragment len k).offset (fragment len k).len
 place_is len fits k h = record { units = λ more. let full = full_is len k h more in (omega (arith, full), omega (arith, full)); reach = omega arith }
+
+-- all but the last tell of more
+no_more : (len number : ℕ) → number + 1 ≡ count_of len → len ≤ 1480 * (number + 1)
+no_more len number e = omega (arith, e)
+
+one_more : (len number rest : ℕ) → number + 2 + rest ≡ count_of len → 1480 * (number + 1) < len
+one_more len number rest e = omega (arith, e)
+
+count_from : (len number rest : ℕ) → length (fragments_from len number rest) ≡ rest
+count_from len number zero = refl
+count_from len number (suc rest) = ap (λ (n : ℕ). suc n) (count_from len (number + 1) rest)
+
+flags_from : (len number rest : ℕ) → number + suc rest ≡ count_of len
+    → map (λ f. f.more_fragments) (fragments_from len number (suc rest)) ≡ replicate rest true ++ false ∷ []
+flags_from len number zero e =
+    let none : nat_lt (1480 * (number + 1)) len ≡ false = grind (arith, nat_tests, no_more len number (omega (arith, e))) in
+    ap (λ (b : Bool). b ∷ []) none
+flags_from len number (suc rest) e =
+    let some : nat_lt (1480 * (number + 1)) len ≡ true = grind (arith, nat_tests, one_more len number rest (omega (arith, e))) in
+    ap (λ (b : Bool). b ∷ map (λ f. f.more_fragments) (fragments_from len (number + 1) (suc rest))) some
+    ∙ ap (λ (bs : List Bool). true ∷ bs) (flags_from len (number + 1) rest (omega (arith, e)))
+
+pub flags_are : (len : ℕ) → map (λ f. f.more_fragments) (fragments_of len) ≡ replicate (length (fragments_of len) - 1) true ++ false ∷ []
+flags_are len = of_count (count_of len) refl
+  where
+    of_count : (n : ℕ) → n ≡ count_of len → map (λ f. f.more_fragments) (fragments_from len 0 n) ≡ replicate (length (fragments_from len 0 n) - 1) true ++ false ∷ []
+    of_count zero e = absurd (omega (arith, e))
+    of_count (suc n) e =
+        let same : n ≡ length (fragments_from len 0 (suc n)) - 1 = omega (arith, count_from len 0 (suc n)) in
+        flags_from len 0 n (omega (arith, e)) ∙ ap (λ (k : ℕ). replicate k true ++ false ∷ []) same
+
+-- none but that of an empty payload is empty
+pub filled_of : (len : ℕ) → 0 < len → All (λ f. 0 < f.len) (fragments_of len)
+filled_of len some = all_from (λ f. 0 < f.len) len 0 (count_of len) (λ k h. omega (arith, h, some))
 
 -- the part of a fragment is 1,480 octets from its place on, or fewer where the payload ends
 part_is : (payload : List ℕ) (number : ℕ) → part_of payload (fragment (length payload) number) ≡ take 1480 (drop (1480 * number) payload)

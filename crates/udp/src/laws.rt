@@ -1,42 +1,50 @@
 //! Laws of the definitions that the contracts of this crate cite: each is the contract of a function that does nothing.
 
-ghost use Rattle.std.specs.Prelude.{◌≡◌, ℕ, ◌+◌, ◌*◌, ◌<◌, ◌≤◌, ◌↔◌, IsTrue, List, ◌++◌, All, length, take, Result, Ok};
+ghost use Rattle.std.specs.Prelude.{◌≡◌, ◌≢◌, ℕ, ◌+◌, ◌-◌, ◌*◌, ◌<◌, ◌≤◌, ◌↔◌, true, false, IsTrue, List, [], ◌∷◌, ◌++◌, All, length, map, replicate, take, Result, Ok};
 ghost use Rattle.std.specs.List.{flat_map};
+ghost use Rattle.inet_sum.specs.Sum.{sum_of};
 ghost use Rattle.ipv4.specs.Datagram.{HasPlace};
 ghost use Rattle.ipv4.specs.declared.addr.Addr.{Addr};
 ghost use Rattle.udp.specs.declared.fault.UdpFault.{UdpFault};
 ghost use Rattle.udp.specs.declared.head.Head.{Head};
-ghost use Rattle.udp.specs.Datagram.{UserDatagram, IsParsed, Spells, datagram_len, spelling};
+ghost use Rattle.udp.specs.Datagram.{UserDatagram, IsParsed, Spells, datagram_len, spelling, summed};
 ghost use Rattle.udp.specs.Fragments.{fragments_of, part_of};
 ghost use Rattle.udp.specs.Sent.{CanBeSent, sent};
 
-/// For all octets there is one answer that `UdpView::parse` may give.
+/// For all octets there is one answer that `UdpView::parse` may give (RFC 768).
 pub fn one_answer()
     ensures { (src dst : Addr) (octets : List ℕ) (first second : Result UserDatagram UdpFault)
         → IsParsed src dst octets first → IsParsed src dst octets second → first ≡ second }
 {}
 
-/// A user datagram has one spelling, up to the padding behind it.
+/// A user datagram has one spelling, up to the padding behind it (RFC 768).
 pub fn one_spelling()
     ensures { (src dst : Addr) (d : UserDatagram) (octets : List ℕ) → Spells src dst d octets → take (datagram_len d) octets ≡ spelling d }
 {}
 
-/// What `Head::emit` writes spells the user datagram that is meant, whatever padding stands behind it, and so parses to it.
+/// What `Head::emit` writes spells the user datagram that is meant, whatever padding stands behind it, and so parses to it. There
+/// is always a checksum, and it is right: one that is computed as 0 goes out as 0xFFFF, since 0 says that there is none (RFC 768).
 pub fn emitted_parses()
     ensures len { (src dst : Addr) (head : Head) (payload : List ℕ) → length (spelling (sent src dst head payload)) ≡ 8 + length payload }
     ensures spelled { (src dst : Addr) (head : Head) (payload padding : List ℕ) → CanBeSent src dst head payload
         → Spells src dst (sent src dst head payload) (spelling (sent src dst head payload) ++ padding) }
     ensures parsed { (src dst : Addr) (head : Head) (payload padding : List ℕ) (answer : Result UserDatagram UdpFault) → CanBeSent src dst head payload
         → IsParsed src dst (spelling (sent src dst head payload) ++ padding) answer → answer ≡ Ok (sent src dst head payload) }
+    ensures told { (src dst : Addr) (head : Head) (payload : List ℕ) → (sent src dst head payload).checksum ≢ 0 }
+    ensures right { (src dst : Addr) (head : Head) (payload : List ℕ) → CanBeSent src dst head payload
+        → sum_of (summed src dst (spelling (sent src dst head payload))) ≡ 65535 }
 {}
 
 /// The fragments of a payload cover it once and in order: their parts, one behind the other, are the payload. Each but the last
 /// has 1,480 octets, more are told exactly where its part ends before the payload does, and IPv4 has a place for each where
-/// it has one for the whole, 65,515 octets at most.
+/// it has one for the whole, 65,515 octets at most. There is one last fragment, which stands last, and only that of an empty
+/// payload is empty (RFC 791 section 3.2).
 pub fn fragments_cover()
     ensures whole { (payload : List ℕ) → flat_map (part_of payload) (fragments_of (length payload)) ≡ payload }
     ensures more { (len : ℕ) → All (λ f. IsTrue f.more_fragments ↔ (8 * f.offset + f.len < len)) (fragments_of len) }
     ensures full { (len : ℕ) → All (λ f. IsTrue f.more_fragments → f.len ≡ 1480) (fragments_of len) }
     ensures rest { (len : ℕ) → All (λ f. f.len ≤ 1480) (fragments_of len) }
+    ensures last { (len : ℕ) → map (λ f. f.more_fragments) (fragments_of len) ≡ replicate (length (fragments_of len) - 1) true ++ false ∷ [] }
+    ensures filled { (len : ℕ) → 0 < len → All (λ f. 0 < f.len) (fragments_of len) }
     ensures places { (len : ℕ) → len ≤ 65515 → All (λ f. HasPlace f.more_fragments f.offset f.len) (fragments_of len) }
 {}

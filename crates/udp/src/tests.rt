@@ -39,6 +39,7 @@ fn received(rt: HostRuntime) {
         (view.source(), view.destination(), view.checksum()),
         (5000, 5001, 0x5c5d)
     );
+    assert_eq!(rt; view.datagram_len(), 10);
     assert_eq!(rt; view.payload(), b"hi".as_slice());
 }
 

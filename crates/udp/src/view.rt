@@ -1,7 +1,7 @@
 //! A user datagram that was received (RFC 768).
 
 ghost use Rattle.std.specs.Prelude.{◌≡◌, ◌<◌, ◌≤◌, ◌^◌, ◌↔◌, IsTrue, IfSome, IfNone, length};
-ghost use Rattle.udp.specs.Datagram.{UserDatagram, HasForm, IsParsed, SumIsRight};
+ghost use Rattle.udp.specs.Datagram.{UserDatagram, HasForm, IsParsed, SumIsRight, datagram_len};
 ghost use Rattle.udp.specs.Reading.{len_in};
 
 use crate::fault::UdpFault;
@@ -63,28 +63,35 @@ impl<'a> UdpView<'a> {
         self.checksum() == 0 || sum_between(src, dst, self.octets) == u16::MAX
     }
 
-    /// The port that it comes from.
+    /// The port that it comes from (RFC 768).
     pub fn source(&self) -> u16
         ensures { result ≡ self.now.source }
     {
         BigEndian::read_u16(self.octets)
     }
 
-    /// The port that it goes to.
+    /// The port that it goes to (RFC 768).
     pub fn destination(&self) -> u16
         ensures { result ≡ self.now.destination }
     {
         BigEndian::read_u16(&self.octets[2..])
     }
 
-    /// The checksum, 0 where there is none.
+    /// The length in octets, the header's eight and the payload's, without any padding (RFC 768).
+    pub fn datagram_len(&self) -> u16
+        ensures { result ≡ datagram_len self.now }
+    {
+        BigEndian::read_u16(&self.octets[4..])
+    }
+
+    /// The checksum, 0 where there is none (RFC 768).
     pub fn checksum(&self) -> u16
         ensures { result ≡ self.now.checksum }
     {
         BigEndian::read_u16(&self.octets[6..])
     }
 
-    /// The payload without any padding, at most 65,527 octets, a part of the octets that were parsed.
+    /// The payload without any padding, at most 65,527 octets, a part of the octets that were parsed (RFC 768).
     pub fn payload(&self) -> &'a [u8]
         ensures octets { result.now ≡ self.now.payload }
         ensures bound { length result.now ≤ 65527 }
