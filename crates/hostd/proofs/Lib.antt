@@ -5,3 +5,4 @@ pub mod ScriptLemmas
 pub mod SimLemmas
 pub mod StreamLemmas
 pub mod WordLemmas
+pub mod PlayLemmas

@@ -2,11 +2,12 @@
 
 mod event;
 
-ghost use Rattle.std.specs.Prelude.{◌≡◌, ◌⊎◌, true, false, ◌≤◌, ◌<◌, ◌^◌, length, IfOk, IfErr, IfSome, OnErr};
+ghost use Rattle.std.specs.Prelude.{◌≡◌, ◌⊎◌, true, false, ◌≤◌, ◌<◌, ◌^◌, length, take, string_bytes, IfOk, IfErr, IfSome, OnErr};
 ghost use Rattle.std.specs.Option.{ForSome};
 ghost use Rattle.hostd.specs.Streams.{counted};
 ghost use Rattle.hostd.specs.Sim.{read_fails, write_fails_in, is_before_run, IsDue, IsFaultDue};
 ghost use Rattle.hostd.specs.Text.{style_of};
+ghost use Rattle.hostd.specs.Play.{Emits, Delivers, Carries};
 
 use crate::answer::{Style, show};
 use crate::fault::TextFault;
@@ -147,12 +148,24 @@ fn style(action: &Action<'_>) -> Style
     }
 }
 
-// One side emits until it has no frame, or has put 64 into the bag, and the other side takes them in order. A refusal is
-// passed over. Answers how many frames were emitted.
+// One side emits until it has no frame, or was asked 64 times, and the other side takes these frames in order. Answers how
+// many there were.
 fn carry(world: &mut World, from: Side, isn: Seq) -> usize
-    ensures { result ≤ MOST_FRAMES }
+    ensures few { result ≤ MOST_FRAMES }
+    ensures carried { Carries from isn result world.old world.new }
 {
     let mut frames = [0usize; MOST_FRAMES];
+    let count = emit(world, from, &mut frames);
+    deliver(world, other(from), &frames[..count], isn);
+    count
+}
+
+// One side emits until it has no frame, or was asked 64 times. A refusal is passed over. The indices of its frames go to
+// the front of `frames`, and it answers how many there are.
+fn emit(world: &mut World, from: Side, frames: &mut [usize; MOST_FRAMES]) -> usize
+    ensures few { result ≤ MOST_FRAMES }
+    ensures emitted { Emits from (take result frames.new) world.old world.new }
+{
     let mut count = 0;
     for _ in 0..MOST_FRAMES {
         match world.step(Event::Emit(from)) {
@@ -160,12 +173,18 @@ fn carry(world: &mut World, from: Side, isn: Seq) -> usize
                 frames[count] = index;
                 count += 1;
             }
-            Ok(_) => break,
+            Ok(_) => return count,
             Err(_) => {}
         }
     }
-    for index in &frames[..count] {
-        let _ = world.step(Event::Deliver(other(from), *index, isn));
-    }
     count
+}
+
+// One side takes these frames in order, whatever comes of each.
+fn deliver(world: &mut World, to: Side, frames: &[usize], isn: Seq)
+    ensures { Delivers to isn frames.now world.old world.new }
+{
+    for index in frames {
+        let _ = world.step(Event::Deliver(to, *index, isn));
+    }
 }

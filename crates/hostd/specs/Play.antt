@@ -1,0 +1,67 @@
+-- What the commands of a script print, over the worlds that they lead to.
+use Rattle.std.specs.Prelude.{◌≡◌, ◌⊎◌, ◌<◌, ◌+◌, ◌^◌, ◌++◌, ℕ, ⊤, List, [], ◌∷◌, Option, Some, None, Result, Ok, Err, IfSome, codes, length, map}
+use Rattle.std.specs.Fmt.{decimal}
+use Rattle.tcp_segment.specs.declared.seq.Seq.{Seq}
+use Rattle.wire_sim.specs.declared.event.Side.{Side}
+use Rattle.wire_sim.specs.declared.event.Side.TheVariants.{A, B}
+use Rattle.wire_sim.specs.declared.event.Event.{Event}
+use Rattle.wire_sim.specs.declared.event.Event.TheVariants as event
+use Rattle.wire_sim.specs.declared.event.Answer.{Answer}
+use Rattle.wire_sim.specs.declared.event.Answer.TheVariants.{Frame, NoFrame}
+use Rattle.wire_sim.specs.declared.event.Unfair.{Unfair}
+use Rattle.wire_sim.specs.Runs.{IsOutcome, RunsTo}
+use Rattle.wire_sim.specs.WorldView.{WorldView, fresh_world}
+use Rattle.hostd.specs.declared.answer.Style.{Style}
+use Rattle.hostd.specs.declared.script.Command.{Command}
+use Rattle.hostd.specs.declared.script.Command.TheVariants.{At, Pass}
+use Rattle.hostd.specs.Events.{IsEventOf, address_of, other_side}
+use Rattle.hostd.specs.Text.{style_of, shown_of}
+
+-- what is printed of an outcome; the names of states, addresses, causes and refusals are not told here
+abbrev pub IsShown : Style → Result Answer Unfair → List ℕ → Type 0
+IsShown how (Ok answer) text = IfSome (shown_of how answer) (λ told. text ≡ told)
+IsShown how (Err refusal) text = ⊤
+
+-- A side was asked for a frame so many times, and these went out, in order. A refusal is passed over.
+pub data HasEmitted (side : Side) (old : WorldView) : ℕ → List ℕ → WorldView → Type 0 where
+  begins : HasEmitted side old 0 [] old
+  goes_out : (times : ℕ) (frames : List ℕ) (w v : WorldView) (index len : ℕ) → HasEmitted side old times frames w →
+      IsOutcome (event.Emit side) (Ok (Frame index len)) w v → HasEmitted side old (times + 1) (frames ++ index ∷ []) v
+  passes : (times : ℕ) (frames : List ℕ) (w v : WorldView) (refusal : Unfair) → HasEmitted side old times frames w →
+      IsOutcome (event.Emit side) (Err refusal) w v → HasEmitted side old (times + 1) frames v
+
+-- a side emits these frames: it was asked 64 times, or fewer times and then it had none
+abbrev pub Emits : Side → List ℕ → WorldView → WorldView → Type 0
+Emits side frames old new =
+    HasEmitted side old 64 frames new
+    ⊎ ((times : ℕ) × (w : WorldView) × (times < 64) × HasEmitted side old times frames w × IsOutcome (event.Emit side) (Ok NoFrame) w new)
+
+-- these frames are delivered to a side in order, whatever comes of each
+abbrev pub Delivers : Side → Seq → List ℕ → WorldView → WorldView → Type 0
+Delivers side isn frames old new =
+    (outcomes : List (Result Answer Unfair)) × RunsTo (map (λ index. event.Deliver side index isn) frames) outcomes old new
+
+-- a side emits so many frames, and the other takes them in order
+abbrev pub Carries : Side → Seq → ℕ → WorldView → WorldView → Type 0
+Carries side isn count old new =
+    (frames : List ℕ) × (w : WorldView) × (count ≡ length frames) × Emits side frames old w × Delivers (other_side side) isn frames w new
+
+-- a command prints this line: what is shown of the outcome of its event, or how many frames of a and of b it carried
+abbrev pub Prints : Command → List ℕ → WorldView → WorldView → Type 0
+Prints (At side action) line old new =
+    (happens : Event) × (outcome : Result Answer Unfair) × (text : List ℕ) × IsEventOf side action happens
+    × IsOutcome happens outcome old new × IsShown (style_of action) outcome text × (line ≡ text ++ codes "\n")
+Prints (Pass isn) line old new =
+    (from_a : ℕ) × (from_b : ℕ) × (w : WorldView) × Carries A isn from_a old w × Carries B isn from_b w new
+    × (line ≡ codes "a " ++ decimal from_a ++ codes " b " ++ decimal from_b ++ codes "\n")
+
+-- these commands were run one after another, and this is what they printed
+pub data HasPrinted (old : WorldView) : List Command → List ℕ → WorldView → Type 0 where
+  begins : HasPrinted old [] [] old
+  goes_on : (commands : List Command) (command : Command) (text line : List ℕ) (w v : WorldView) → HasPrinted old commands text w →
+      Prints command line w v → HasPrinted old (commands ++ command ∷ []) (text ++ line) v
+
+-- the two hosts at their addresses, and nothing happened; the limit is the script's, or 2^30
+abbrev pub first_world : Option ℕ → WorldView
+first_world None = fresh_world (address_of A) (address_of B) (2 ^ 30)
+first_world (Some limit) = fresh_world (address_of A) (address_of B) limit
