@@ -1,5 +1,5 @@
 -- What the commands of a script print, over the worlds that they lead to.
-use Rattle.std.specs.Prelude.{◌≡◌, ◌⊎◌, ◌<◌, ◌+◌, ◌^◌, ◌++◌, ℕ, ⊤, List, [], ◌∷◌, Option, Some, None, Result, Ok, Err, IfSome, codes, length, map}
+use Rattle.std.specs.Prelude.{◌≡◌, ◌⊎◌, ◌<◌, ◌+◌, ◌^◌, ◌++◌, ℕ, List, [], ◌∷◌, Option, Some, None, Result, Ok, Err, IfSome, codes, length, map}
 use Rattle.std.specs.Fmt.{decimal}
 use Rattle.tcp_segment.specs.declared.seq.Seq.{Seq}
 use Rattle.wire_sim.specs.declared.event.Side.{Side}
@@ -15,12 +15,16 @@ use Rattle.hostd.specs.declared.answer.Style.{Style}
 use Rattle.hostd.specs.declared.script.Command.{Command}
 use Rattle.hostd.specs.declared.script.Command.TheVariants.{At, Pass}
 use Rattle.hostd.specs.Events.{IsEventOf, address_of, other_side}
-use Rattle.hostd.specs.Text.{style_of, shown_of}
+use Rattle.hostd.specs.Text.{style_of, shown_of, unfair_text}
 
--- what is printed of an outcome; the names of states, addresses, causes and refusals are not told here
+-- what is printed of an outcome; the names of states, addresses, causes and a host's refusals are not told here
 abbrev pub IsShown : Style → Result Answer Unfair → List ℕ → Type 0
 IsShown how (Ok answer) text = IfSome (shown_of how answer) (λ told. text ≡ told)
-IsShown how (Err refusal) text = ⊤
+IsShown how (Err refusal) text = text ≡ unfair_text refusal
+
+-- the line that shows an outcome
+abbrev pub IsLineOf : Style → Result Answer Unfair → List ℕ → Type 0
+IsLineOf how outcome line = (text : List ℕ) × IsShown how outcome text × (line ≡ text ++ codes "\n")
 
 -- A side was asked for a frame so many times, and these went out, in order. A refusal is passed over.
 pub data HasEmitted (side : Side) (old : WorldView) : ℕ → List ℕ → WorldView → Type 0 where
@@ -46,14 +50,17 @@ abbrev pub Carries : Side → Seq → ℕ → WorldView → WorldView → Type 0
 Carries side isn count old new =
     (frames : List ℕ) × (w : WorldView) × (count ≡ length frames) × Emits side frames old w × Delivers (other_side side) isn frames w new
 
+-- the line that tells how many frames went from a to b, and how many from b to a
+abbrev pub pass_line : ℕ → ℕ → List ℕ
+pass_line from_a from_b = codes "a " ++ decimal from_a ++ codes " b " ++ decimal from_b ++ codes "\n"
+
 -- a command prints this line: what is shown of the outcome of its event, or how many frames of a and of b it carried
 abbrev pub Prints : Command → List ℕ → WorldView → WorldView → Type 0
 Prints (At side action) line old new =
-    (happens : Event) × (outcome : Result Answer Unfair) × (text : List ℕ) × IsEventOf side action happens
-    × IsOutcome happens outcome old new × IsShown (style_of action) outcome text × (line ≡ text ++ codes "\n")
+    (happens : Event) × (outcome : Result Answer Unfair) × IsEventOf side action happens × IsOutcome happens outcome old new
+    × IsLineOf (style_of action) outcome line
 Prints (Pass isn) line old new =
-    (from_a : ℕ) × (from_b : ℕ) × (w : WorldView) × Carries A isn from_a old w × Carries B isn from_b w new
-    × (line ≡ codes "a " ++ decimal from_a ++ codes " b " ++ decimal from_b ++ codes "\n")
+    (from_a : ℕ) × (from_b : ℕ) × (w : WorldView) × Carries A isn from_a old w × Carries B isn from_b w new × (line ≡ pass_line from_a from_b)
 
 -- these commands were run one after another, and this is what they printed
 pub data HasPrinted (old : WorldView) : List Command → List ℕ → WorldView → Type 0 where

@@ -4,6 +4,8 @@ use Rattle.std.specs.List.{flat_map}
 use Rattle.std.specs.Fmt.{decimal}
 use Rattle.wire_sim.specs.declared.event.Answer.{Answer}
 use Rattle.wire_sim.specs.declared.event.Answer.TheVariants.{Socket, Done, Accepted, Started, Sent, Octets, EndOfStream, State, Frame, NoFrame, Taken, Dropped, Refused}
+use Rattle.wire_sim.specs.declared.event.Unfair.{Unfair}
+use Rattle.wire_sim.specs.declared.event.Unfair.TheVariants.{NoSuchFrame, OtherEpoch, Stale, SecondOpening, NoMemory}
 use Rattle.hostd.specs.declared.script.action.Action.{Action}
 use Rattle.hostd.specs.declared.script.action.Action.TheVariants.{Count}
 use Rattle.hostd.specs.declared.answer.Style.{Style}
@@ -45,3 +47,11 @@ shown_of how (Accepted id peer) = None
 shown_of how (State state) = None
 shown_of how (Dropped cause) = None
 shown_of how (Refused refusal) = None
+
+-- what is printed of an event that the world refuses
+abbrev pub unfair_text : Unfair → List ℕ
+unfair_text NoSuchFrame = codes "U1 NoSuchFrame"
+unfair_text Stale = codes "U2 Stale"
+unfair_text OtherEpoch = codes "U3 OtherEpoch"
+unfair_text SecondOpening = codes "U4 SecondOpening"
+unfair_text NoMemory = codes "U5 NoMemory"

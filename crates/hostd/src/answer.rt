@@ -1,11 +1,11 @@
 //! How the answers of a world are printed.
 
 ghost use Rattle.std.specs.Prelude.{◌≡◌, ◌<◌, ◌++◌, [], ◌∷◌, OnOk, IfOk, IfSome, codes, length, string_bytes};
-ghost use Rattle.hostd.specs.Text.{hex_digit_of, escape_of, escaped_of, shown_of};
+ghost use Rattle.hostd.specs.Text.{hex_digit_of, escape_of, escaped_of, shown_of, unfair_text};
 ghost use Rattle.std.specs.Fmt.{decimal};
 
 use std::alloc::AllocError;
-use wire_sim::Answer;
+use wire_sim::{Answer, Unfair};
 
 /// How the octets that a host read are printed.
 #[derive(Clone, Copy, Debug, PartialEq, Eq)]
@@ -67,6 +67,19 @@ pub fn show(answer: &Answer, style: Style, line: &mut String) -> Result<(), Allo
         Answer::Taken => line.push_str("taken"),
         Answer::Dropped(cause) => write!(line, "drop F{}", cause.number()),
         Answer::Refused(refusal) => write!(line, "{refusal}"),
+    }
+}
+
+/// Adds what is printed of an event that the world refuses to `line`.
+pub fn show_unfair(unfair: Unfair, line: &mut String) -> Result<(), AllocError>
+    ensures { OnOk result (string_bytes line.new ≡ string_bytes line.old ++ unfair_text unfair) }
+{
+    match unfair {
+        Unfair::NoSuchFrame => line.push_str("U1 NoSuchFrame"),
+        Unfair::Stale => line.push_str("U2 Stale"),
+        Unfair::OtherEpoch => line.push_str("U3 OtherEpoch"),
+        Unfair::SecondOpening => line.push_str("U4 SecondOpening"),
+        Unfair::NoMemory => line.push_str("U5 NoMemory"),
     }
 }
 

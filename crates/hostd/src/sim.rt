@@ -7,9 +7,9 @@ ghost use Rattle.std.specs.Option.{ForSome};
 ghost use Rattle.hostd.specs.Streams.{counted};
 ghost use Rattle.hostd.specs.Sim.{read_fails, write_fails_in, is_before_run, IsDue, IsFaultDue};
 ghost use Rattle.hostd.specs.Text.{style_of};
-ghost use Rattle.hostd.specs.Play.{Emits, Delivers, Carries};
+ghost use Rattle.hostd.specs.Play.{IsLineOf, Emits, Delivers, Carries, Prints, pass_line};
 
-use crate::answer::{Style, show};
+use crate::answer::{Style, show, show_unfair};
 use crate::fault::TextFault;
 use crate::output::{finish, hand_on};
 use crate::script::action::Action;
@@ -19,7 +19,7 @@ use event::{address, event, other};
 use host::Config;
 use std::alloc::{AllocError, Global};
 use tcp_segment::Seq;
-use wire_sim::{Answer, Event, Side, World};
+use wire_sim::{Answer, Event, Side, Unfair, World};
 
 /// The most octets of a script.
 pub const MOST_SCRIPT: usize = 1_000_000;
@@ -121,18 +121,59 @@ fn new_world(alloc: Global, limit: Option<u64>) -> Result<World, TextFault>
 }
 
 // Runs one command and answers the line that it prints.
-fn execute(alloc: Global, command: &Command<'_>, world: &mut World) -> Result<String, AllocError> {
-    let mut line = String::new(alloc);
+fn execute(alloc: Global, command: &Command<'_>, world: &mut World) -> Result<String, AllocError>
+    ensures { IfOk result (λ line. Prints command.now (string_bytes line) world.old world.new) }
+{
     match command {
-        Command::At(side, action) => match world.step(event(alloc, *side, action)?) {
-            Ok(answer) => show(&answer, style(action), &mut line)?,
-            Err(unfair) => write!(line, "{unfair}")?,
-        },
-        Command::Pass(isn) => {
-            let from_a = carry(world, Side::A, *isn);
-            let from_b = carry(world, Side::B, *isn);
-            write!(line, "a {from_a} b {from_b}")?;
-        }
+        Command::At(side, action) => act(alloc, *side, action, world),
+        Command::Pass(isn) => pass(alloc, *isn, world),
+    }
+}
+
+// One host does something. Answers the line that shows what comes of it.
+fn act(
+    alloc: Global,
+    side: Side,
+    action: &Action<'_>,
+    world: &mut World,
+) -> Result<String, AllocError>
+    ensures { IfOk result (λ line. Prints (Command.At side action.now) (string_bytes line) world.old world.new) }
+{
+    let outcome = world.step(event(alloc, side, action)?);
+    line_of(alloc, &outcome, style(action))
+}
+
+// Frames go from a to b, then from b to a. Answers the line that tells how many.
+fn pass(alloc: Global, isn: Seq, world: &mut World) -> Result<String, AllocError>
+    ensures { IfOk result (λ line. Prints (Command.Pass isn) (string_bytes line) world.old world.new) }
+{
+    let from_a = carry(world, Side::A, isn);
+    let from_b = carry(world, Side::B, isn);
+    line_of_pass(alloc, from_a, from_b)
+}
+
+// The line that tells how many frames went from a to b, and how many from b to a.
+fn line_of_pass(alloc: Global, from_a: usize, from_b: usize) -> Result<String, AllocError>
+    ensures { IfOk result (λ line. string_bytes line ≡ pass_line from_a from_b) }
+{
+    let mut line = String::new(alloc);
+    write!(line, "a {from_a} b {from_b}")?;
+    line.push('\n')?;
+    Ok(line)
+}
+
+// The line that shows an outcome.
+fn line_of(
+    alloc: Global,
+    outcome: &Result<Answer, Unfair>,
+    style: Style,
+) -> Result<String, AllocError>
+    ensures { IfOk result (λ line. IsLineOf style outcome.now (string_bytes line)) }
+{
+    let mut line = String::new(alloc);
+    match outcome {
+        Ok(answer) => show(answer, style, &mut line)?,
+        Err(unfair) => show_unfair(*unfair, &mut line)?,
     }
     line.push('\n')?;
     Ok(line)
