@@ -7,7 +7,7 @@ ghost use Rattle.std.specs.Option.{ForSome};
 ghost use Rattle.hostd.specs.Streams.{counted};
 ghost use Rattle.hostd.specs.Sim.{read_fails, write_fails_in, is_before_run, IsDue, IsFaultDue};
 ghost use Rattle.hostd.specs.Text.{style_of};
-ghost use Rattle.hostd.specs.Play.{IsLineOf, Emits, Delivers, Carries, Prints, pass_line};
+ghost use Rattle.hostd.specs.Play.{IsLineOf, Emits, Delivers, Carries, Prints, pass_line, first_world};
 
 use crate::answer::{Style, show, show_unfair};
 use crate::fault::TextFault;
@@ -108,7 +108,8 @@ fn play<W: Sink>(
 // A fresh world. The two addresses are those of single hosts and differ, so it is made unless there is no memory.
 fn new_world(alloc: Global, limit: Option<u64>) -> Result<World, TextFault>
     requires { ForSome limit (λ n. (1 ≤ n) × (n ≤ 2 ^ 30)) }
-    ensures { IfErr result (λ fault. fault ≡ TextFault.NoMemory) }
+    ensures world { IfOk result (λ world. world ≡ first_world limit) }
+    ensures faults { IfErr result (λ fault. fault ≡ TextFault.NoMemory) }
 {
     let (Ok(a), Ok(b)) = (Config::new(address(Side::A)), Config::new(address(Side::B))) else {
         return Err(TextFault::NoMemory);
