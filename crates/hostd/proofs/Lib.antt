@@ -6,3 +6,4 @@ pub mod SimLemmas
 pub mod StreamLemmas
 pub mod WordLemmas
 pub mod PlayLemmas
+pub mod RunLemmas

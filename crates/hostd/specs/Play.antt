@@ -1,6 +1,7 @@
 -- What the commands of a script print, over the worlds that they lead to.
 use Rattle.std.specs.Prelude.{◌≡◌, ◌⊎◌, ◌<◌, ◌+◌, ◌^◌, ◌++◌, ℕ, List, [], ◌∷◌, Option, Some, None, Result, Ok, Err, IfSome, codes, length, map}
 use Rattle.std.specs.Fmt.{decimal}
+use Rattle.std.specs.Io.KnownBytes.{Appends}
 use Rattle.tcp_segment.specs.declared.seq.Seq.{Seq}
 use Rattle.wire_sim.specs.declared.event.Side.{Side}
 use Rattle.wire_sim.specs.declared.event.Side.TheVariants.{A, B}
@@ -14,6 +15,9 @@ use Rattle.wire_sim.specs.WorldView.{WorldView, fresh_world}
 use Rattle.hostd.specs.declared.answer.Style.{Style}
 use Rattle.hostd.specs.declared.script.Command.{Command}
 use Rattle.hostd.specs.declared.script.Command.TheVariants.{At, Pass}
+use Rattle.hostd.specs.declared.fault.TextFault.{TextFault}
+use Rattle.hostd.specs.declared.fault.TextFault.TheVariants.{Write}
+use Rattle.hostd.specs.Streams.{TakesFront, TakesAllBut}
 use Rattle.hostd.specs.Events.{IsEventOf, address_of, other_side}
 use Rattle.hostd.specs.Text.{style_of, shown_of, unfair_text}
 
@@ -64,11 +68,50 @@ Prints (Pass isn) line old new =
 
 -- these commands were run one after another, and this is what they printed
 pub data HasPrinted (old : WorldView) : List Command → List ℕ → WorldView → Type 0 where
-  begins : HasPrinted old [] [] old
+  starts : HasPrinted old [] [] old
   goes_on : (commands : List Command) (command : Command) (text line : List ℕ) (w v : WorldView) → HasPrinted old commands text w →
       Prints command line w v → HasPrinted old (commands ++ command ∷ []) (text ++ line) v
+
+-- what a fault leaves of octets on their way to a sink: a sink that fails took a front of them, and otherwise all went but what waits
+abbrev pub IsLeft : TextFault → Option (List ℕ) → Option (List ℕ) → List ℕ → List ℕ → Type 0
+IsLeft Write old new octets waiting = TakesFront old new octets
+IsLeft fault old new octets waiting = TakesAllBut old new octets waiting
+
+-- A fault ended a run of commands. The first of them were run, and what they printed is on its way behind what waited before.
+abbrev pub IsCutShort : TextFault → WorldView → List Command → Option (List ℕ) → Option (List ℕ) → List ℕ → List ℕ → Type 0
+IsCutShort fault world commands old new before waiting =
+    (part : List Command) × (rest : List Command) × (text : List ℕ) × (w : WorldView) × (commands ≡ part ++ rest)
+    × HasPrinted world part text w × IsLeft fault old new (before ++ text) waiting
+
+-- all commands were run, and what they printed is on its way behind what waited before
+abbrev pub IsPlayed : WorldView → WorldView → List Command → Option (List ℕ) → Option (List ℕ) → List ℕ → List ℕ → Type 0
+IsPlayed world after commands old new before waiting =
+    (text : List ℕ) × HasPrinted world commands text after × TakesAllBut old new (before ++ text) waiting
 
 -- the two hosts at their addresses, and nothing happened; the limit is the script's, or 2^30
 abbrev pub first_world : Option ℕ → WorldView
 first_world None = fresh_world (address_of A) (address_of B) (2 ^ 30)
 first_world (Some limit) = fresh_world (address_of A) (address_of B) limit
+
+-- what is printed of a limit
+abbrev pub limit_line : Option ℕ → List ℕ
+limit_line None = []
+limit_line (Some limit) = codes "ok\n"
+
+-- what a script with this limit prints by these commands
+abbrev pub IsPrinted : Option ℕ → List Command → List ℕ → Type 0
+IsPrinted limit commands printed =
+    (text : List ℕ) × (w : WorldView) × HasPrinted (first_world limit) commands text w × (printed ≡ limit_line limit ++ text)
+
+-- what a fault lets a sink take of what was printed: all or nothing, but a front where the sink fails
+abbrev pub IsTold : TextFault → Option (List ℕ) → Option (List ℕ) → List ℕ → Type 0
+IsTold Write old new printed = TakesFront old new printed
+IsTold fault old new printed = Appends old new printed ⊎ Appends old new []
+
+-- what a script with this limit and these commands makes a sink take: all that they print, or what the first of them print where a fault
+-- ends the run
+abbrev pub TakesPrinted : Result (Unit {0}) TextFault → Option ℕ → List Command → Option (List ℕ) → Option (List ℕ) → Type 0
+TakesPrinted (Ok done) limit commands old new = (printed : List ℕ) × IsPrinted limit commands printed × Appends old new printed
+TakesPrinted (Err fault) limit commands old new =
+    (part : List Command) × (rest : List Command) × (printed : List ℕ) × (commands ≡ part ++ rest) × IsPrinted limit part printed
+    × IsTold fault old new printed

@@ -2,12 +2,12 @@
 
 mod event;
 
-ghost use Rattle.std.specs.Prelude.{◌≡◌, ◌⊎◌, true, false, ◌≤◌, ◌<◌, ◌^◌, length, take, string_bytes, IfOk, IfErr, IfSome, OnErr};
+ghost use Rattle.std.specs.Prelude.{◌≡◌, ◌⊎◌, true, false, ◌≤◌, ◌<◌, ◌^◌, length, take, ◌++◌, Err, string_bytes, IfOk, IfErr, IfSome, OnOk, OnErr};
 ghost use Rattle.std.specs.Option.{ForSome};
-ghost use Rattle.hostd.specs.Streams.{counted};
+ghost use Rattle.hostd.specs.Streams.{counted, TakesFront, TakesAllBut};
 ghost use Rattle.hostd.specs.Sim.{read_fails, write_fails_in, is_before_run, IsDue, IsFaultDue};
 ghost use Rattle.hostd.specs.Text.{style_of};
-ghost use Rattle.hostd.specs.Play.{IsLineOf, Emits, Delivers, Carries, Prints, pass_line, first_world};
+ghost use Rattle.hostd.specs.Play.{IsLineOf, Emits, Delivers, Carries, Prints, pass_line, IsPlayed, IsCutShort, first_world, limit_line, TakesPrinted};
 
 use crate::answer::{Style, show, show_unfair};
 use crate::fault::TextFault;
@@ -71,36 +71,73 @@ fn whole<R: Source>(alloc: Global, script: &mut R) -> Result<Vec<u8>, TextFault>
 fn run<W: Sink>(alloc: Global, script: &Script<'_>, out: &mut W) -> Result<(), TextFault>
     ensures written { W.failures out.new ≡ counted (write_fails_in result) (W.failures out.old) }
     ensures faults { IfErr result (λ fault. is_before_run fault ≡ false) }
+    ensures printed { TakesPrinted result script.now.limit script.now.commands.items (W.taken out.old) (W.taken out.new) }
 {
-    let mut lines = String::new(alloc);
-    let outcome = play(alloc, script, &mut lines, out);
-    if outcome == Err(TextFault::Write) {
+    let mut world = new_world(alloc, script.limit)?;
+    let mut lines = first_lines(alloc, script.limit)?;
+    let outcome = play(
+        alloc,
+        script.commands.as_slice(),
+        &mut world,
+        &mut lines,
+        out,
+    );
+    if is_write_fault(&outcome) {
         return outcome;
     }
     finish(&mut lines, out)?;
     outcome
 }
 
-// Runs a script's commands and adds what they print to `lines`, which go to the sink whenever they are many.
+// Whether the sink failed.
+fn is_write_fault(outcome: &Result<(), TextFault>) -> bool
+    ensures { result ≡ write_fails_in outcome.now }
+{
+    matches!(outcome, Err(TextFault::Write))
+}
+
+// What is printed of a limit.
+fn first_lines(alloc: Global, limit: Option<u64>) -> Result<String, AllocError>
+    ensures { IfOk result (λ lines. string_bytes lines ≡ limit_line limit) }
+{
+    let mut lines = String::new(alloc);
+    if limit.is_some() {
+        lines.push_str("ok\n")?;
+    }
+    Ok(lines)
+}
+
+// Runs commands in order and adds what they print to `lines`, which go to the sink whenever they are many.
 fn play<W: Sink>(
     alloc: Global,
-    script: &Script<'_>,
+    commands: &[Command<'_>],
+    world: &mut World,
     lines: &mut String,
     out: &mut W,
 ) -> Result<(), TextFault>
     ensures written { W.failures out.new ≡ counted (write_fails_in result) (W.failures out.old) }
     ensures faults { IfErr result (λ fault. is_before_run fault ≡ false) }
+    ensures played { OnOk result (IsPlayed world.old world.new commands.now (W.taken out.old) (W.taken out.new) (string_bytes lines.old) (string_bytes lines.new)) }
+    ensures cut { IfErr result (λ fault. IsCutShort fault world.old commands.now (W.taken out.old) (W.taken out.new) (string_bytes lines.old) (string_bytes lines.new)) }
 {
-    let mut world = new_world(alloc, script.limit)?;
-    if script.limit.is_some() {
-        lines.push_str("ok\n")?;
+    for command in commands {
+        let line = execute(alloc, command, world)?;
+        add_line(line.as_str(), lines, out)?;
     }
-    for command in &script.commands {
-        let line = execute(alloc, command, &mut world)?;
-        lines.push_str(line.as_str())?;
-        if lines.len() >= FULL {
-            hand_on(lines, out)?;
-        }
+    Ok(())
+}
+
+// Adds a line to those that wait, and hands them on where they are many.
+fn add_line<W: Sink>(line: &str, lines: &mut String, out: &mut W) -> Result<(), TextFault>
+    ensures written { W.failures out.new ≡ counted (write_fails_in result) (W.failures out.old) }
+    ensures faults { IfErr result (λ fault. (fault ≡ TextFault.Write)
+        ⊎ ((fault ≡ TextFault.NoMemory) × (string_bytes lines.new ≡ string_bytes lines.old) × (W.taken out.new ≡ W.taken out.old))) }
+    ensures added { OnOk result (TakesAllBut (W.taken out.old) (W.taken out.new) (string_bytes lines.old ++ line.now) (string_bytes lines.new)) }
+    ensures cut { result ≡ Err TextFault.Write → TakesFront (W.taken out.old) (W.taken out.new) (string_bytes lines.old ++ line.now) }
+{
+    lines.push_str(line)?;
+    if lines.len() >= FULL {
+        hand_on(lines, out)?;
     }
     Ok(())
 }
