@@ -1,14 +1,17 @@
 -- What a run of a script makes its sink take.
-use Rattle.std.proofs.Common.{◌≡◌, ℕ, List, [], ◌++◌, inl, inr, Option, Some, None, Result, Ok, Err, IfErr, OnOk, true, false, refl, ap, sym, subst, ◌∙◌, append_assoc, append-nil}
+use Rattle.std.proofs.Common.{◌≡◌, ℕ, List, [], ◌++◌, inl, inr, Option, Some, None, Result, Ok, Err, IfErr, OnOk, IfSome, ◌⊎◌, true, false, slice_get, option_to_list, refl, ap, sym, subst, ◌∙◌, append_assoc, append-nil}
 use Rattle.std.specs.Result.{IsErrAnd}
 use Rattle.std.specs.Io.KnownBytes.{Appends, Keeps}
 use Rattle.wire_sim.specs.WorldView.{WorldView}
 use Rattle.hostd.specs.declared.script.Command.{Command}
 use Rattle.hostd.specs.declared.fault.TextFault.{TextFault}
 use Rattle.hostd.specs.declared.fault.TextFault.TheVariants.{Line, TooLong, Read, Write, NoMemory}
-use Rattle.hostd.specs.Sim.{write_fails_in}
+use Rattle.std.specs.Option.{IsSomeAnd}
+use Rattle.hostd.specs.Words.{lines_of}
+use Rattle.hostd.specs.Script.{limit_of, limits_of, commands_of}
+use Rattle.hostd.specs.Sim.{write_fails_in, is_before_run}
 use Rattle.hostd.specs.Streams.{TakesFront, TakesAllBut}
-use Rattle.hostd.specs.Play.{HasPrinted, starts, IsPlayed, IsCutShort, IsLeft, first_world, limit_line, IsPrinted, IsTold, TakesPrinted}
+use Rattle.hostd.specs.Play.{HasPrinted, starts, IsPlayed, IsCutShort, IsLeft, first_world, limit_line, IsPrinted, IsTold, TakesPrinted, TakesPrintedBy}
 use Rattle.hostd.proofs.StreamLemmas.{Appends-more, Keeps-appends}
 
 kept : (o : Option (List ℕ)) → Keeps o o
@@ -126,3 +129,47 @@ is_write (Err NoMemory) test = cc
 
 pub is_no_write : (r : Result (Unit {0}) TextFault) → write_fails_in r ≡ false → r ≡ Err Write → ⊥
 is_no_write r test is = let same : true ≡ false = sym (ap write_fails_in is) ∙ test in cc
+
+-- nothing was run
+none_told : (fault : TextFault) (limit : Option ℕ) (commands : List Command) (old : Option (List ℕ)) → (fault ≡ Write → ⊥) →
+    TakesPrinted (Err fault) limit commands old old
+none_told fault limit commands old other =
+    ([], commands, limit_line limit ++ [], refl, ([], first_world limit, starts, refl), none fault other)
+  where
+    none : (f : TextFault) → (f ≡ Write → ⊥) → IsTold f old old (limit_line limit ++ [])
+    none (Line n) o = inr (Keeps-appends old old (kept old))
+    none TooLong o = inr (Keeps-appends old old (kept old))
+    none Read o = inr (Keeps-appends old old (kept old))
+    none Write o = absurd (o refl)
+    none NoMemory o = inr (Keeps-appends old old (kept old))
+
+pub none_told_by : (told : Option (List ℕ)) (r : Result (Unit {0}) TextFault) (fault : TextFault) (old : Option (List ℕ)) →
+    IsErrAnd r (λ e. e ≡ fault) → (fault ≡ Write → ⊥) → IfSome told (λ octets. TakesPrintedBy octets r old old)
+none_told_by None r fault old is other = tt
+none_told_by (Some octets) (Ok done) fault old is other = absurd is
+none_told_by (Some octets) (Err e) fault old is other = rw is (none_told fault (limit_of octets) (commands_of (lines_of octets)) old other)
+
+-- a fault before the run isn't the sink's
+pub no_write_before : (fault : TextFault) → (is_before_run fault ≡ true) ⊎ (fault ≡ NoMemory) → fault ≡ Write → ⊥
+no_write_before fault (inl before) is = let same : true ≡ false = sym before ∙ ap is_before_run is in cc
+no_write_before fault (inr memory) is = cc
+
+pub no_write_in_line : (fault : TextFault) (o : Option ℕ) → (fault ≡ NoMemory) ⊎ IsSomeAnd o (λ n. fault ≡ Line n) → fault ≡ Write → ⊥
+no_write_in_line fault o (inl memory) is = cc
+no_write_in_line fault None (inr bad) is = absurd bad
+no_write_in_line fault (Some n) (inr bad) is = cc
+
+-- the limit of a script is the one that its lines say
+limit_said_once : (limit : Option ℕ) → limit ≡ slice_get (option_to_list limit) 0
+limit_said_once None = refl
+limit_said_once (Some n) = refl
+
+-- a run of a script's commands is what its octets ask for
+pub told_by : (told : Option (List ℕ)) (octets : List ℕ) (r : Result (Unit {0}) TextFault) (limit : Option ℕ) (commands : List Command)
+    (old new : Option (List ℕ)) → IfSome told (λ t. octets ≡ t) → commands ≡ commands_of (lines_of octets) →
+    option_to_list limit ≡ limits_of (lines_of octets) → TakesPrinted r limit commands old new → IfSome told (λ t. TakesPrintedBy t r old new)
+told_by None octets r limit commands old new all said limited taken = tt
+told_by (Some t) octets r limit commands old new all said limited taken =
+    let one : limit ≡ limit_of octets = limit_said_once limit ∙ ap (λ l. slice_get l 0) limited in
+    subst (λ x. TakesPrintedBy x r old new) all
+    (subst (λ x. TakesPrinted r x (commands_of (lines_of octets)) old new) one (subst (λ x. TakesPrinted r limit x old new) said taken))

@@ -17,6 +17,8 @@ use Rattle.hostd.specs.declared.script.Command.{Command}
 use Rattle.hostd.specs.declared.script.Command.TheVariants.{At, Pass}
 use Rattle.hostd.specs.declared.fault.TextFault.{TextFault}
 use Rattle.hostd.specs.declared.fault.TextFault.TheVariants.{Write}
+use Rattle.hostd.specs.Words.{lines_of}
+use Rattle.hostd.specs.Script.{limit_of, commands_of}
 use Rattle.hostd.specs.Streams.{TakesFront, TakesAllBut}
 use Rattle.hostd.specs.Events.{IsEventOf, address_of, other_side}
 use Rattle.hostd.specs.Text.{style_of, shown_of, unfair_text}
@@ -115,3 +117,7 @@ TakesPrinted (Ok done) limit commands old new = (printed : List ℕ) × IsPrinte
 TakesPrinted (Err fault) limit commands old new =
     (part : List Command) × (rest : List Command) × (printed : List ℕ) × (commands ≡ part ++ rest) × IsPrinted limit part printed
     × IsTold fault old new printed
+
+-- what a script's octets make a sink take
+abbrev pub TakesPrintedBy : List ℕ → Result (Unit {0}) TextFault → Option (List ℕ) → Option (List ℕ) → Type 0
+TakesPrintedBy octets result old new = TakesPrinted result (limit_of octets) (commands_of (lines_of octets)) old new

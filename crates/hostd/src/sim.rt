@@ -7,7 +7,7 @@ ghost use Rattle.std.specs.Option.{ForSome};
 ghost use Rattle.hostd.specs.Streams.{counted, TakesFront, TakesAllBut};
 ghost use Rattle.hostd.specs.Sim.{read_fails, write_fails_in, is_before_run, IsDue, IsFaultDue};
 ghost use Rattle.hostd.specs.Text.{style_of};
-ghost use Rattle.hostd.specs.Play.{IsLineOf, Emits, Delivers, Carries, Prints, pass_line, IsPlayed, IsCutShort, first_world, limit_line, TakesPrinted};
+ghost use Rattle.hostd.specs.Play.{IsLineOf, Emits, Delivers, Carries, Prints, pass_line, IsPlayed, IsCutShort, first_world, limit_line, TakesPrinted, TakesPrintedBy};
 
 use crate::answer::{Style, show, show_unfair};
 use crate::fault::TextFault;
@@ -41,6 +41,7 @@ pub fn sim<R: Source, W: Sink>(alloc: Global, script: &mut R, out: &mut W) -> Re
     ensures written { W.failures out.new ≡ counted (write_fails_in result) (W.failures out.old) }
     ensures silent { IfErr result (λ fault. is_before_run fault ≡ true → out.new ≡ out.old) }
     ensures due { IfSome (R.remaining script.old) (λ octets. IsDue octets result) }
+    ensures printed { IfSome (R.remaining script.old) (λ octets. TakesPrintedBy octets result (W.taken out.old) (W.taken out.new)) }
 {
     let octets = whole(alloc, script)?;
     let script = Script::parse(alloc, octets.as_slice())?;
