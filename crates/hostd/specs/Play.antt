@@ -1,5 +1,5 @@
 -- What the commands of a script print, over the worlds that they lead to.
-use Rattle.std.specs.Prelude.{◌≡◌, ◌⊎◌, ◌<◌, ◌+◌, ◌^◌, ◌++◌, ℕ, List, [], ◌∷◌, Option, Some, None, Result, Ok, Err, IfSome, codes, length, map}
+use Rattle.std.specs.Prelude.{◌≡◌, ◌⊎◌, ◌<◌, ◌+◌, ◌^◌, ◌++◌, ℕ, List, [], ◌∷◌, Option, Some, None, Result, Ok, Err, codes, length, map}
 use Rattle.std.specs.Fmt.{decimal}
 use Rattle.std.specs.Io.KnownBytes.{Appends}
 use Rattle.tcp_segment.specs.declared.seq.Seq.{Seq}
@@ -23,14 +23,14 @@ use Rattle.hostd.specs.Streams.{TakesFront, TakesAllBut}
 use Rattle.hostd.specs.Events.{IsEventOf, address_of, other_side}
 use Rattle.hostd.specs.Text.{style_of, shown_of, unfair_text}
 
--- what is printed of an outcome; the names of states, addresses, causes and a host's refusals are not told here
-abbrev pub IsShown : Style → Result Answer Unfair → List ℕ → Type 0
-IsShown how (Ok answer) text = IfSome (shown_of how answer) (λ told. text ≡ told)
-IsShown how (Err refusal) text = text ≡ unfair_text refusal
+-- what is printed of an outcome
+abbrev pub text_of_outcome : Style → Result Answer Unfair → List ℕ
+text_of_outcome how (Ok answer) = shown_of how answer
+text_of_outcome how (Err refusal) = unfair_text refusal
 
 -- the line that shows an outcome
-abbrev pub IsLineOf : Style → Result Answer Unfair → List ℕ → Type 0
-IsLineOf how outcome line = (text : List ℕ) × IsShown how outcome text × (line ≡ text ++ codes "\n")
+abbrev pub line_of_outcome : Style → Result Answer Unfair → List ℕ
+line_of_outcome how outcome = text_of_outcome how outcome ++ codes "\n"
 
 -- A side was asked for a frame so many times, and these went out, in order. A refusal is passed over.
 pub data HasEmitted (side : Side) (old : WorldView) : ℕ → List ℕ → WorldView → Type 0 where
@@ -64,7 +64,7 @@ pass_line from_a from_b = codes "a " ++ decimal from_a ++ codes " b " ++ decimal
 abbrev pub Prints : Command → List ℕ → WorldView → WorldView → Type 0
 Prints (At side action) line old new =
     (happens : Event) × (outcome : Result Answer Unfair) × IsEventOf side action happens × IsOutcome happens outcome old new
-    × IsLineOf (style_of action) outcome line
+    × (line ≡ line_of_outcome (style_of action) outcome)
 Prints (Pass isn) line old new =
     (from_a : ℕ) × (from_b : ℕ) × (w : WorldView) × Carries A isn from_a old w × Carries B isn from_b w new × (line ≡ pass_line from_a from_b)
 

@@ -7,7 +7,7 @@ ghost use Rattle.std.specs.Option.{ForSome};
 ghost use Rattle.hostd.specs.Streams.{counted, TakesFront, TakesAllBut};
 ghost use Rattle.hostd.specs.Sim.{read_fails, write_fails_in, is_before_run, IsDue, IsFaultDue};
 ghost use Rattle.hostd.specs.Text.{style_of};
-ghost use Rattle.hostd.specs.Play.{IsLineOf, Emits, Delivers, Carries, Prints, pass_line, IsPlayed, IsCutShort, first_world, limit_line, TakesPrinted, TakesPrintedBy};
+ghost use Rattle.hostd.specs.Play.{line_of_outcome, Emits, Delivers, Carries, Prints, pass_line, IsPlayed, IsCutShort, first_world, limit_line, TakesPrinted, TakesPrintedBy};
 
 use crate::answer::{Style, show, show_unfair};
 use crate::fault::TextFault;
@@ -207,7 +207,7 @@ fn line_of(
     outcome: &Result<Answer, Unfair>,
     style: Style,
 ) -> Result<String, AllocError>
-    ensures { IfOk result (λ line. IsLineOf style outcome.now (string_bytes line)) }
+    ensures { IfOk result (λ line. string_bytes line ≡ line_of_outcome style outcome.now) }
 {
     let mut line = String::new(alloc);
     match outcome {
