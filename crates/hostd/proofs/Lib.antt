@@ -5,3 +5,5 @@ pub mod ScriptLemmas
 pub mod SimLemmas
 pub mod StreamLemmas
 pub mod WordLemmas
+pub mod PlayLemmas
+pub mod RunLemmas

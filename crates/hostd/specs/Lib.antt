@@ -7,3 +7,4 @@ pub mod Text
 pub mod Sim
 pub mod Line
 pub mod Events
+pub mod Play

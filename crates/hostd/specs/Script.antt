@@ -1,5 +1,5 @@
 -- What the lines of a script say, and which of them is the first that is bad.
-use Rattle.std.specs.Prelude.{ℕ, ⊤, ◌≤◌, ◌+◌, ◌^◌, ◌==◌, List, [], ◌∷◌, Option, Some, None, Bool, true, false, ◌&&◌, not, is_some, length, codes, option_map, option_and_then, if◌then◌else◌}
+use Rattle.std.specs.Prelude.{ℕ, ⊤, ◌≤◌, ◌+◌, ◌^◌, ◌==◌, List, [], ◌∷◌, Option, Some, None, Bool, true, false, ◌&&◌, not, is_some, length, slice_get, codes, option_map, option_and_then, if◌then◌else◌}
 use Rattle.std.specs.List.{filter_map}
 use Rattle.std.specs.Str.{bytes_eq}
 use Rattle.wire_sim.specs.declared.event.Side.TheVariants.{A, B}
@@ -88,6 +88,10 @@ commands_of lines = filter_map (λ line. command_in (item_of line)) lines
 -- the limits of some lines, in order
 abbrev pub limits_of : List (List ℕ) → List ℕ
 limits_of lines = filter_map (λ line. limit_said (item_of line)) lines
+
+-- the limit of a script, if it has one
+abbrev pub limit_of : List ℕ → Option ℕ
+limit_of octets = slice_get (limits_of (lines_of octets)) 0
 
 -- whether nothing was said so far
 abbrev pub is_start : Option ℕ → List Command → Bool

@@ -22,3 +22,7 @@ ReadGives old new r buffer = MatchResult r (λ n. Appends old new (take n buffer
 -- the known octets grew by a front of these
 abbrev pub TakesFront : Option (List ℕ) → Option (List ℕ) → List ℕ → Type 0
 TakesFront old new octets = (front : List ℕ) × (rest : List ℕ) × (octets ≡ front ++ rest) × Appends old new front
+
+-- the known octets grew by these, but for the last of them, which wait
+abbrev pub TakesAllBut : Option (List ℕ) → Option (List ℕ) → List ℕ → List ℕ → Type 0
+TakesAllBut old new octets waiting = (front : List ℕ) × (octets ≡ front ++ waiting) × Appends old new front

@@ -1,6 +1,6 @@
 //! The command line.
 
-ghost use Rattle.std.specs.Prelude.{◌≡◌, ◌⊎◌, [], Some, None, map, option_map, IfOk, IfErr};
+ghost use Rattle.std.specs.Prelude.{◌≡◌, ◌⊎◌, [], ◌∷◌, Some, None, map, option_map, IfOk, IfErr};
 ghost use Rattle.clap.specs.Words.{app_of, subcommand_rows_of};
 ghost use Rattle.clap.specs.Faults.{fault_of};
 ghost use Rattle.clap.specs.Kinds.{HasKind};
@@ -18,7 +18,8 @@ pub fn line<'a, S: AsStr>(alloc: Global, words: &'a [S]) -> Result<Line<'a>, Err
     ensures ok { IfOk result (λ line. script_asked (map S.text words.entry.now) ≡ Some (script_named line)) }
     ensures sound { IfOk result (λ line. fault_of hostd_command (map S.text words.entry.now) ≡ []) }
     ensures err { IfErr result (λ error. HasKind (fault_of hostd_command (map S.text words.entry.now)) error
-        ⊎ (script_asked (map S.text words.entry.now) ≡ None)) }
+        ⊎ ((script_asked (map S.text words.entry.now) ≡ None) × (fault_of hostd_command (map S.text words.entry.now) ≡ [])
+        × HasKind (ErrorKind.MissingSubcommand ∷ []) error)) }
 {
     let mut hostd = hostd(alloc)?;
     let matches = hostd.try_get_matches_from_mut(words)?;

@@ -30,7 +30,7 @@ pub fn hand_on<W: Sink>(lines: &mut String, out: &mut W) -> Result<(), TextFault
     ensures failures { W.failures out.new ≡ counted (write_fails_in result) (W.failures out.old) }
     ensures taken { OnOk result (Appends (W.taken out.old) (W.taken out.new) (string_bytes lines.old)) }
     ensures empty { OnOk result (string_bytes lines.new ≡ []) }
-    ensures faults { IfErr result (λ fault. fault ≡ TextFault.Write) }
+    ensures faults { IfErr result (λ fault. (fault ≡ TextFault.Write) × TakesFront (W.taken out.old) (W.taken out.new) (string_bytes lines.old)) }
 {
     write_all(out, lines.as_bytes())?;
     lines.clear();
@@ -41,7 +41,7 @@ pub fn hand_on<W: Sink>(lines: &mut String, out: &mut W) -> Result<(), TextFault
 pub fn finish<W: Sink>(lines: &mut String, out: &mut W) -> Result<(), TextFault>
     ensures failures { W.failures out.new ≡ counted (write_fails_in result) (W.failures out.old) }
     ensures taken { OnOk result (Appends (W.taken out.old) (W.taken out.new) (string_bytes lines.old)) }
-    ensures faults { IfErr result (λ fault. fault ≡ TextFault.Write) }
+    ensures faults { IfErr result (λ fault. (fault ≡ TextFault.Write) × TakesFront (W.taken out.old) (W.taken out.new) (string_bytes lines.old)) }
 {
     hand_on(lines, out)?;
     match out.flush() {

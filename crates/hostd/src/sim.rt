@@ -2,13 +2,14 @@
 
 mod event;
 
-ghost use Rattle.std.specs.Prelude.{◌≡◌, ◌⊎◌, true, false, ◌≤◌, ◌<◌, ◌^◌, length, IfOk, IfErr, IfSome, OnErr};
+ghost use Rattle.std.specs.Prelude.{◌≡◌, ◌⊎◌, true, false, ◌≤◌, ◌<◌, ◌^◌, length, take, ◌++◌, Err, string_bytes, IfOk, IfErr, IfSome, OnOk, OnErr};
 ghost use Rattle.std.specs.Option.{ForSome};
-ghost use Rattle.hostd.specs.Streams.{counted};
+ghost use Rattle.hostd.specs.Streams.{counted, TakesFront, TakesAllBut};
 ghost use Rattle.hostd.specs.Sim.{read_fails, write_fails_in, is_before_run, IsDue, IsFaultDue};
 ghost use Rattle.hostd.specs.Text.{style_of};
+ghost use Rattle.hostd.specs.Play.{line_of_outcome, Emits, Delivers, Carries, Prints, pass_line, IsPlayed, IsCutShort, first_world, limit_line, TakesPrinted, TakesPrintedBy};
 
-use crate::answer::{Style, show};
+use crate::answer::{Style, show, show_unfair};
 use crate::fault::TextFault;
 use crate::output::{finish, hand_on};
 use crate::script::action::Action;
@@ -18,7 +19,7 @@ use event::{address, event, other};
 use host::Config;
 use std::alloc::{AllocError, Global};
 use tcp_segment::Seq;
-use wire_sim::{Answer, Event, Side, World};
+use wire_sim::{Answer, Event, Side, Unfair, World};
 
 /// The most octets of a script.
 pub const MOST_SCRIPT: usize = 1_000_000;
@@ -40,6 +41,7 @@ pub fn sim<R: Source, W: Sink>(alloc: Global, script: &mut R, out: &mut W) -> Re
     ensures written { W.failures out.new ≡ counted (write_fails_in result) (W.failures out.old) }
     ensures silent { IfErr result (λ fault. is_before_run fault ≡ true → out.new ≡ out.old) }
     ensures due { IfSome (R.remaining script.old) (λ octets. IsDue octets result) }
+    ensures printed { IfSome (R.remaining script.old) (λ octets. TakesPrintedBy octets result (W.taken out.old) (W.taken out.new)) }
 {
     let octets = whole(alloc, script)?;
     let script = Script::parse(alloc, octets.as_slice())?;
@@ -70,36 +72,73 @@ fn whole<R: Source>(alloc: Global, script: &mut R) -> Result<Vec<u8>, TextFault>
 fn run<W: Sink>(alloc: Global, script: &Script<'_>, out: &mut W) -> Result<(), TextFault>
     ensures written { W.failures out.new ≡ counted (write_fails_in result) (W.failures out.old) }
     ensures faults { IfErr result (λ fault. is_before_run fault ≡ false) }
+    ensures printed { TakesPrinted result script.now.limit script.now.commands.items (W.taken out.old) (W.taken out.new) }
 {
-    let mut lines = String::new(alloc);
-    let outcome = play(alloc, script, &mut lines, out);
-    if outcome == Err(TextFault::Write) {
+    let mut world = new_world(alloc, script.limit)?;
+    let mut lines = first_lines(alloc, script.limit)?;
+    let outcome = play(
+        alloc,
+        script.commands.as_slice(),
+        &mut world,
+        &mut lines,
+        out,
+    );
+    if is_write_fault(&outcome) {
         return outcome;
     }
     finish(&mut lines, out)?;
     outcome
 }
 
-// Runs a script's commands and adds what they print to `lines`, which go to the sink whenever they are many.
+// Whether the sink failed.
+fn is_write_fault(outcome: &Result<(), TextFault>) -> bool
+    ensures { result ≡ write_fails_in outcome.now }
+{
+    matches!(outcome, Err(TextFault::Write))
+}
+
+// What is printed of a limit.
+fn first_lines(alloc: Global, limit: Option<u64>) -> Result<String, AllocError>
+    ensures { IfOk result (λ lines. string_bytes lines ≡ limit_line limit) }
+{
+    let mut lines = String::new(alloc);
+    if limit.is_some() {
+        lines.push_str("ok\n")?;
+    }
+    Ok(lines)
+}
+
+// Runs commands in order and adds what they print to `lines`, which go to the sink whenever they are many.
 fn play<W: Sink>(
     alloc: Global,
-    script: &Script<'_>,
+    commands: &[Command<'_>],
+    world: &mut World,
     lines: &mut String,
     out: &mut W,
 ) -> Result<(), TextFault>
     ensures written { W.failures out.new ≡ counted (write_fails_in result) (W.failures out.old) }
     ensures faults { IfErr result (λ fault. is_before_run fault ≡ false) }
+    ensures played { OnOk result (IsPlayed world.old world.new commands.now (W.taken out.old) (W.taken out.new) (string_bytes lines.old) (string_bytes lines.new)) }
+    ensures cut { IfErr result (λ fault. IsCutShort fault world.old commands.now (W.taken out.old) (W.taken out.new) (string_bytes lines.old) (string_bytes lines.new)) }
 {
-    let mut world = new_world(alloc, script.limit)?;
-    if script.limit.is_some() {
-        lines.push_str("ok\n")?;
+    for command in commands {
+        let line = execute(alloc, command, world)?;
+        add_line(line.as_str(), lines, out)?;
     }
-    for command in &script.commands {
-        let line = execute(alloc, command, &mut world)?;
-        lines.push_str(line.as_str())?;
-        if lines.len() >= FULL {
-            hand_on(lines, out)?;
-        }
+    Ok(())
+}
+
+// Adds a line to those that wait, and hands them on where they are many.
+fn add_line<W: Sink>(line: &str, lines: &mut String, out: &mut W) -> Result<(), TextFault>
+    ensures written { W.failures out.new ≡ counted (write_fails_in result) (W.failures out.old) }
+    ensures faults { IfErr result (λ fault. (fault ≡ TextFault.Write)
+        ⊎ ((fault ≡ TextFault.NoMemory) × (string_bytes lines.new ≡ string_bytes lines.old) × (W.taken out.new ≡ W.taken out.old))) }
+    ensures added { OnOk result (TakesAllBut (W.taken out.old) (W.taken out.new) (string_bytes lines.old ++ line.now) (string_bytes lines.new)) }
+    ensures cut { result ≡ Err TextFault.Write → TakesFront (W.taken out.old) (W.taken out.new) (string_bytes lines.old ++ line.now) }
+{
+    lines.push_str(line)?;
+    if lines.len() >= FULL {
+        hand_on(lines, out)?;
     }
     Ok(())
 }
@@ -107,7 +146,8 @@ fn play<W: Sink>(
 // A fresh world. The two addresses are those of single hosts and differ, so it is made unless there is no memory.
 fn new_world(alloc: Global, limit: Option<u64>) -> Result<World, TextFault>
     requires { ForSome limit (λ n. (1 ≤ n) × (n ≤ 2 ^ 30)) }
-    ensures { IfErr result (λ fault. fault ≡ TextFault.NoMemory) }
+    ensures world { IfOk result (λ world. world ≡ first_world limit) }
+    ensures faults { IfErr result (λ fault. fault ≡ TextFault.NoMemory) }
 {
     let (Ok(a), Ok(b)) = (Config::new(address(Side::A)), Config::new(address(Side::B))) else {
         return Err(TextFault::NoMemory);
@@ -120,18 +160,59 @@ fn new_world(alloc: Global, limit: Option<u64>) -> Result<World, TextFault>
 }
 
 // Runs one command and answers the line that it prints.
-fn execute(alloc: Global, command: &Command<'_>, world: &mut World) -> Result<String, AllocError> {
-    let mut line = String::new(alloc);
+fn execute(alloc: Global, command: &Command<'_>, world: &mut World) -> Result<String, AllocError>
+    ensures { IfOk result (λ line. Prints command.now (string_bytes line) world.old world.new) }
+{
     match command {
-        Command::At(side, action) => match world.step(event(alloc, *side, action)?) {
-            Ok(answer) => show(&answer, style(action), &mut line)?,
-            Err(unfair) => write!(line, "{unfair}")?,
-        },
-        Command::Pass(isn) => {
-            let from_a = carry(world, Side::A, *isn);
-            let from_b = carry(world, Side::B, *isn);
-            write!(line, "a {from_a} b {from_b}")?;
-        }
+        Command::At(side, action) => act(alloc, *side, action, world),
+        Command::Pass(isn) => pass(alloc, *isn, world),
+    }
+}
+
+// One host does something. Answers the line that shows what comes of it.
+fn act(
+    alloc: Global,
+    side: Side,
+    action: &Action<'_>,
+    world: &mut World,
+) -> Result<String, AllocError>
+    ensures { IfOk result (λ line. Prints (Command.At side action.now) (string_bytes line) world.old world.new) }
+{
+    let outcome = world.step(event(alloc, side, action)?);
+    line_of(alloc, &outcome, style(action))
+}
+
+// Frames go from a to b, then from b to a. Answers the line that tells how many.
+fn pass(alloc: Global, isn: Seq, world: &mut World) -> Result<String, AllocError>
+    ensures { IfOk result (λ line. Prints (Command.Pass isn) (string_bytes line) world.old world.new) }
+{
+    let from_a = carry(world, Side::A, isn);
+    let from_b = carry(world, Side::B, isn);
+    line_of_pass(alloc, from_a, from_b)
+}
+
+// The line that tells how many frames went from a to b, and how many from b to a.
+fn line_of_pass(alloc: Global, from_a: usize, from_b: usize) -> Result<String, AllocError>
+    ensures { IfOk result (λ line. string_bytes line ≡ pass_line from_a from_b) }
+{
+    let mut line = String::new(alloc);
+    write!(line, "a {from_a} b {from_b}")?;
+    line.push('\n')?;
+    Ok(line)
+}
+
+// The line that shows an outcome.
+fn line_of(
+    alloc: Global,
+    outcome: &Result<Answer, Unfair>,
+    style: Style,
+) -> Result<String, AllocError>
+    ensures { IfOk result (λ line. string_bytes line ≡ line_of_outcome style outcome.now) }
+{
+    let mut line = String::new(alloc);
+    match outcome {
+        Ok(answer) => show(answer, style, &mut line)?,
+        Err(unfair) => show_unfair(*unfair, &mut line)?,
     }
     line.push('\n')?;
     Ok(line)
@@ -147,12 +228,24 @@ fn style(action: &Action<'_>) -> Style
     }
 }
 
-// One side emits until it has no frame, or has put 64 into the bag, and the other side takes them in order. A refusal is
-// passed over. Answers how many frames were emitted.
+// One side emits until it has no frame, or was asked 64 times, and the other side takes these frames in order. Answers how
+// many there were.
 fn carry(world: &mut World, from: Side, isn: Seq) -> usize
-    ensures { result ≤ MOST_FRAMES }
+    ensures few { result ≤ MOST_FRAMES }
+    ensures carried { Carries from isn result world.old world.new }
 {
     let mut frames = [0usize; MOST_FRAMES];
+    let count = emit(world, from, &mut frames);
+    deliver(world, other(from), &frames[..count], isn);
+    count
+}
+
+// One side emits until it has no frame, or was asked 64 times. A refusal is passed over. The indices of its frames go to
+// the front of `frames`, and it answers how many there are.
+fn emit(world: &mut World, from: Side, frames: &mut [usize; MOST_FRAMES]) -> usize
+    ensures few { result ≤ MOST_FRAMES }
+    ensures emitted { Emits from (take result frames.new) world.old world.new }
+{
     let mut count = 0;
     for _ in 0..MOST_FRAMES {
         match world.step(Event::Emit(from)) {
@@ -160,12 +253,18 @@ fn carry(world: &mut World, from: Side, isn: Seq) -> usize
                 frames[count] = index;
                 count += 1;
             }
-            Ok(_) => break,
+            Ok(_) => return count,
             Err(_) => {}
         }
     }
-    for index in &frames[..count] {
-        let _ = world.step(Event::Deliver(other(from), *index, isn));
-    }
     count
+}
+
+// One side takes these frames in order, whatever comes of each.
+fn deliver(world: &mut World, to: Side, frames: &[usize], isn: Seq)
+    ensures { Delivers to isn frames.now world.old world.new }
+{
+    for index in frames {
+        let _ = world.step(Event::Deliver(to, *index, isn));
+    }
 }

@@ -58,7 +58,7 @@ pub trait Sink {
         ensures { result ≡ failures self.now };
 }
 
-/// A reader of std, as an open file: it tells no octets.
+/// A reader of std, as an open file: it tells the octets that the reader tells.
 #[derive(Debug, Drop)]
 pub struct Reading<R> {
     reader: R,
@@ -68,7 +68,8 @@ pub struct Reading<R> {
 impl<R> Reading<R> {
     /// A source of what `reader` gives, with no failure so far.
     pub fn new(reader: R) -> Self
-        ensures { result.failures ≡ 0 }
+        ensures reader { result.reader ≡ reader }
+        ensures failures { result.failures ≡ 0 }
     {
         Reading {
             reader,
@@ -79,6 +80,8 @@ impl<R> Reading<R> {
 
 impl<R: Read> Source for Reading<R> {
     ghost failures = { λ source. source.failures };
+
+    ghost remaining = { λ source. R.remaining source.reader };
 
     fn read(&mut self, buffer: &mut [u8]) -> Result<usize> {
         let outcome = self.reader.read(buffer);
@@ -93,7 +96,7 @@ impl<R: Read> Source for Reading<R> {
     }
 }
 
-/// A writer of std, as standard output: it tells no octets.
+/// A writer of std, as standard output: it tells the octets that the writer tells.
 #[derive(Debug, Drop)]
 pub struct Writing<W> {
     writer: W,
@@ -103,7 +106,8 @@ pub struct Writing<W> {
 impl<W> Writing<W> {
     /// A sink that hands all to `writer`, with no failure so far.
     pub fn new(writer: W) -> Self
-        ensures { result.failures ≡ 0 }
+        ensures writer { result.writer ≡ writer }
+        ensures failures { result.failures ≡ 0 }
     {
         Writing {
             writer,
@@ -114,6 +118,8 @@ impl<W> Writing<W> {
 
 impl<W: Write> Sink for Writing<W> {
     ghost failures = { λ sink. sink.failures };
+
+    ghost taken = { λ sink. W.contents sink.writer };
 
     fn write(&mut self, octets: &[u8]) -> Result<usize> {
         let outcome = self.writer.write(octets);

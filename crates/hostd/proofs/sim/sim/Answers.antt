@@ -1,5 +1,6 @@
 use Rattle.std.proofs.Common.{refl}
 use Rattle.hostd.proofs.SimLemmas.{passed_on, due_bad, due_ran, bad_is_no_device, ran_is_no_read, not_silent}
+use Rattle.hostd.proofs.RunLemmas.{none_told_by, no_write_before, no_write_in_line, told_by}
 use Rattle.hostd.proofs.sim.sim.Goals as goal
 
 pub returns-in_err-octets-clause-due : goal.returns-in_err-octets-clause-due
@@ -28,3 +29,16 @@ returns-clause-silent g c = not_silent _ c.run.result c.run.ensures.faults
 
 pub returns-clause-due : goal.returns-clause-due
 returns-clause-due g c = due_ran _ c.in_ok-octets.octets.items c.run.result c.in_ok-octets.ensures.all c.in_ok-octets.ensures.short (rw c.as_slice.ensures.value at c.in_ok-script.ensures.good) c.run.ensures.faults
+
+pub returns-in_err-octets-clause-printed : goal.returns-in_err-octets-clause-printed
+returns-in_err-octets-clause-printed g c =
+    none_told_by _ c.from_residual.result _ _ c.from_residual.ensures.1 (no_write_before _ c.in_err-octets.ensures.faults)
+
+pub returns-in_err-script-clause-printed : goal.returns-in_err-script-clause-printed
+returns-in_err-script-clause-printed g c =
+    none_told_by _ c.from_residual-in_err-script.result _ _ c.from_residual-in_err-script.ensures.1 (no_write_in_line _ _ c.in_err-script.ensures.bad)
+
+pub returns-clause-printed : goal.returns-clause-printed
+returns-clause-printed g c =
+    told_by _ c.in_ok-octets.octets.items c.run.result _ _ _ _ c.in_ok-octets.ensures.all (rw c.as_slice.ensures.value at c.in_ok-script.ensures.commands)
+    (rw c.as_slice.ensures.value at c.in_ok-script.ensures.limit) c.run.ensures.printed
