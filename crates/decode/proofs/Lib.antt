@@ -1,0 +1,2 @@
+pub mod LayerLemmas
+pub mod PairLemmas

@@ -1,0 +1,4 @@
+pub mod Pairs
+pub mod Words
+pub mod Lines
+pub mod Layers

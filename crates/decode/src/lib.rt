@@ -1,0 +1,13 @@
+//! What a frame says, as text: a line a layer, from Ethernet (RFC 894) up to ICMP, UDP or TCP.
+#![tactic(auto)]
+
+mod carried;
+mod drop;
+mod layers;
+mod lines;
+mod pairs;
+mod words;
+
+pub use drop::DropCause;
+pub use layers::decode;
+pub use pairs::{HexFault, octets_of};
