@@ -7,3 +7,4 @@ pub mod StreamLemmas
 pub mod WordLemmas
 pub mod PlayLemmas
 pub mod RunLemmas
+pub mod HexLemmas

@@ -30,25 +30,30 @@ name_of_rows m =
     as (λ o. option_map (λ p. p.0) (subcommand_rows o) ≡ option_map (λ b. (out-SubCommand (box_value b)).name.now) o)
     [ None ↦ refl | Some b ↦ refl ]
 
--- where it is `sim`, the file is that of its rows
-pub file_given : (met : Option (Text × List Row)) (rows : List Row) → option_map (λ p. p.0) met ≡ Some (codes "sim") →
-    option_map (λ p. p.1) met ≡ Some rows → file_of met ≡ first_of (codes "SCRIPT") rows
-file_given None rows named has = cc
-file_given (Some p) rows named has =
-    let name : p.0 ≡ codes "sim" = cc in
+when : (b : Bool) (x : Option Text) → b ≡ true → (if b then x else None) ≡ x
+when true x is = refl
+when false x is = cc
+
+-- where it is this command, the file is that of its rows
+pub file_given : (command file : Text) (met : Option (Text × List Row)) (rows : List Row) → option_map (λ p. p.0) met ≡ Some command →
+    option_map (λ p. p.1) met ≡ Some rows → file_of command file met ≡ first_of file rows
+file_given command file None rows named has = cc
+file_given command file (Some p) rows named has =
+    let name : p.0 ≡ command = cc in
     let given : p.1 ≡ rows = cc in
-    ap (λ n. file_of (Some (n, p.1))) name ∙ ap (first_of (codes "SCRIPT")) given
+    ap (λ n. file_of command file (Some (n, p.1))) name ∙ when (bytes_eq command command) (first_of file p.1) ((bytes_eq-Decides command command).1 refl)
+    ∙ ap (first_of file) given
 
 unless : (b : Bool) (x : Option Text) → (b ≡ true → ⊥) → (if b then x else None) ≡ None
 unless true x never = absurd (never refl)
 unless false x never = refl
 
 -- where it isn't, there is none
-pub no_file : (met : Option (Text × List Row)) → (option_map (λ p. p.0) met ≡ Some (codes "sim") → ⊥) → file_of met ≡ None
-no_file None other = refl
-no_file (Some p) other =
-    unless (bytes_eq p.0 (codes "sim")) (first_of (codes "SCRIPT") p.1)
-    (λ same. other (ap Some ((bytes_eq-Decides p.0 (codes "sim")).0 same)))
+pub no_file : (command file : Text) (met : Option (Text × List Row)) → (option_map (λ p. p.0) met ≡ Some command → ⊥) → file_of command file met ≡ None
+no_file command file None other = refl
+no_file command file (Some p) other =
+    unless (bytes_eq p.0 command) (first_of file p.1)
+    (λ same. other (ap Some ((bytes_eq-Decides p.0 command).0 same)))
 
 -- what holds of the error that a `?` passes on
 pub err_passed : {T E : Type 0} (P : E → Type 0) (r : Result T E) (f : E) → IsErrAnd r (λ e. e ≡ f) → P f → IfErr r P

@@ -5,7 +5,7 @@ use Rattle.std.specs.Io.KnownBytes.{Appends, Keeps}
 use Rattle.wire_sim.specs.WorldView.{WorldView}
 use Rattle.hostd.specs.declared.script.Command.{Command}
 use Rattle.hostd.specs.declared.fault.TextFault.{TextFault}
-use Rattle.hostd.specs.declared.fault.TextFault.TheVariants.{Line, TooLong, Read, Write, NoMemory}
+use Rattle.hostd.specs.declared.fault.TextFault.TheVariants.{Line, TooLong, NotHex, Read, Write, NoMemory}
 use Rattle.std.specs.Option.{IsSomeAnd}
 use Rattle.hostd.specs.Words.{lines_of}
 use Rattle.hostd.specs.Script.{limit_of, limits_of, commands_of}
@@ -51,6 +51,7 @@ left_but : (fault : TextFault) (old new : Option (List ℕ)) (octets waiting : L
     TakesAllBut old new octets waiting
 left_but (Line n) old new octets waiting other left = left
 left_but TooLong old new octets waiting other left = left
+left_but NotHex old new octets waiting other left = left
 left_but Read old new octets waiting other left = left
 left_but Write old new octets waiting other left = absurd (other refl)
 left_but NoMemory old new octets waiting other left = left
@@ -58,6 +59,7 @@ left_but NoMemory old new octets waiting other left = left
 told_as : (fault : TextFault) (old new : Option (List ℕ)) (printed : List ℕ) → (fault ≡ Write → ⊥) → Appends old new printed → IsTold fault old new printed
 told_as (Line n) old new printed other all = inl all
 told_as TooLong old new printed other all = inl all
+told_as NotHex old new printed other all = inl all
 told_as Read old new printed other all = inl all
 told_as Write old new printed other all = absurd (other refl)
 told_as NoMemory old new printed other all = inl all
@@ -123,6 +125,7 @@ pub is_write : (r : Result (Unit {0}) TextFault) → write_fails_in r ≡ true �
 is_write (Ok done) test = cc
 is_write (Err (Line n)) test = cc
 is_write (Err TooLong) test = cc
+is_write (Err NotHex) test = cc
 is_write (Err Read) test = cc
 is_write (Err Write) test = refl
 is_write (Err NoMemory) test = cc
@@ -139,6 +142,7 @@ none_told fault limit commands old other =
     none : (f : TextFault) → (f ≡ Write → ⊥) → IsTold f old old (limit_line limit ++ [])
     none (Line n) o = inr (Keeps-appends old old (kept old))
     none TooLong o = inr (Keeps-appends old old (kept old))
+    none NotHex o = inr (Keeps-appends old old (kept old))
     none Read o = inr (Keeps-appends old old (kept old))
     none Write o = absurd (o refl)
     none NoMemory o = inr (Keeps-appends old old (kept old))

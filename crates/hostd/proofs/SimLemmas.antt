@@ -6,7 +6,7 @@ use Rattle.std.proofs.lemmas.Grind.{common_steps}
 use Rattle.hostd.specs.Script.{first_bad_line}
 use Rattle.hostd.specs.Sim.{read_fails, write_fails_in, is_before_run, fault_of, IsDue, IsFaultDue}
 use Rattle.hostd.specs.declared.fault.TextFault.{TextFault}
-use Rattle.hostd.specs.declared.fault.TextFault.TheVariants.{Line, TooLong, Read, Write, NoMemory}
+use Rattle.hostd.specs.declared.fault.TextFault.TheVariants.{Line, TooLong, NotHex, Read, Write, NoMemory}
 
 -- the fault that a `?` passes on
 pub passed_on : {A : Type 0} (r : Result A TextFault) (f : TextFault) → IsErrAnd r (λ e. e ≡ f) → r ≡ Err f
@@ -39,6 +39,7 @@ ran_due : {A : Type 0} (octets : List ℕ) (r : Result A TextFault) → fault_of
 ran_due octets (Ok x) none faults = none
 ran_due octets (Err (Line n)) none faults = cc
 ran_due octets (Err TooLong) none faults = cc
+ran_due octets (Err NotHex) none faults = cc
 ran_due octets (Err Read) none faults = tt
 ran_due octets (Err Write) none faults = none
 ran_due octets (Err NoMemory) none faults = tt
@@ -66,6 +67,7 @@ pub ran_is_no_read : {A : Type 0} (r : Result A TextFault) → IfErr r (λ fault
 ran_is_no_read (Ok x) faults = refl
 ran_is_no_read (Err (Line n)) faults = cc
 ran_is_no_read (Err TooLong) faults = cc
+ran_is_no_read (Err NotHex) faults = cc
 ran_is_no_read (Err Read) faults = cc
 ran_is_no_read (Err Write) faults = refl
 ran_is_no_read (Err NoMemory) faults = refl

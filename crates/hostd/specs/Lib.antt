@@ -8,3 +8,4 @@ pub mod Sim
 pub mod Line
 pub mod Events
 pub mod Play
+pub mod Hex

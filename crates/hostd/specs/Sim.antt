@@ -1,8 +1,8 @@
 -- When running a script ends in a fault, and in which.
-use Rattle.std.specs.Prelude.{◌≡◌, ℕ, List, Option, Some, None, Result, Ok, Err, Bool, true, false, ⊤, nat_lt, length, option_map, if◌then◌else◌}
+use Rattle.std.specs.Prelude.{◌≡◌, ℕ, List, Option, Some, None, Result, Ok, Err, Bool, true, false, ⊤, ◌<◌, nat_lt, length, option_map, if◌then◌else◌}
 use Rattle.hostd.specs.Script.{first_bad_line}
 use Rattle.hostd.specs.declared.fault.TextFault.{TextFault}
-use Rattle.hostd.specs.declared.fault.TextFault.TheVariants.{Line, TooLong, Read, Write, NoMemory}
+use Rattle.hostd.specs.declared.fault.TextFault.TheVariants.{Line, TooLong, NotHex, Read, Write, NoMemory}
 
 -- whether the source failed
 abbrev pub read_fails : {A : Type 0} → Result A TextFault → Bool
@@ -22,9 +22,19 @@ fault_of octets = if nat_lt 1000000 (length octets) then Some TooLong else optio
 abbrev pub IsFaultDue : List ℕ → TextFault → Type 0
 IsFaultDue octets (Line n) = fault_of octets ≡ Some (Line n)
 IsFaultDue octets TooLong = fault_of octets ≡ Some TooLong
+IsFaultDue octets NotHex = ⊥
 IsFaultDue octets Write = fault_of octets ≡ None
 IsFaultDue octets Read = ⊤
 IsFaultDue octets NoMemory = ⊤
+
+-- Why a text is not read whole: it has too many octets. A failing source and want of memory may come in its place.
+abbrev pub IsUnread : List ℕ → TextFault → Type 0
+IsUnread octets (Line n) = ⊥
+IsUnread octets TooLong = 1000000 < length octets
+IsUnread octets NotHex = ⊥
+IsUnread octets Read = ⊤
+IsUnread octets Write = ⊥
+IsUnread octets NoMemory = ⊤
 
 -- the outcome is what a script's octets ask for
 abbrev pub IsDue : {A : Type 0} → List ℕ → Result A TextFault → Type 0
@@ -35,6 +45,7 @@ IsDue octets (Err fault) = IsFaultDue octets fault
 abbrev pub is_before_run : TextFault → Bool
 is_before_run (Line n) = true
 is_before_run TooLong = true
+is_before_run NotHex = true
 is_before_run Read = true
 is_before_run Write = false
 is_before_run NoMemory = false

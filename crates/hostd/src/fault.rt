@@ -3,18 +3,22 @@
 ghost use Rattle.std.specs.Prelude.{◌≡◌};
 ghost use Rattle.hostd.specs.declared.fault.TextFault.TheVariants.{NoMemory};
 
+use decode::HexFault;
 use std::alloc::{AllocError, AllocFailed};
 use thiserror::Error;
 
-/// Why a script is not run, or not to its end.
+/// Why a script is not run, or not to its end, or a frame not read.
 #[derive(Clone, Copy, Debug, PartialEq, Eq, Error)]
 pub enum TextFault {
     /// The line with this number, counted from 1 over all lines, is the first that is bad.
     #[error("line {0}")]
     Line(usize),
-    /// The script has more octets than a script may have.
+    /// The text has more octets than it may have.
     #[error("too long")]
     TooLong,
+    /// The text isn't pairs of hexadecimal digits and white space.
+    #[error("not hex")]
+    NotHex,
     /// The source failed.
     #[error("K1 Read")]
     Read,
@@ -39,5 +43,18 @@ impl<T: Drop> From<AllocFailed<T>> for TextFault {
 
     fn from(_error: AllocFailed<T>) -> TextFault {
         TextFault::NoMemory
+    }
+}
+
+impl From<HexFault> for TextFault {
+    ghost use Rattle.hostd.specs.Hex.{fault_by};
+
+    ghost from_gives = { λ hex fault. fault ≡ fault_by hex };
+
+    fn from(fault: HexFault) -> TextFault {
+        match fault {
+            HexFault::NotHex => TextFault::NotHex,
+            HexFault::NoMemory => TextFault::NoMemory,
+        }
     }
 }

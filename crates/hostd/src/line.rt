@@ -1,10 +1,11 @@
 //! The command line.
 
-ghost use Rattle.std.specs.Prelude.{◌≡◌, ◌⊎◌, [], ◌∷◌, Some, None, map, option_map, IfOk, IfErr};
+ghost use Rattle.std.specs.Prelude.{◌≡◌, ◌⊎◌, false, [], ◌∷◌, Some, None, map, option_map, IfOk, IfErr};
+ghost use Rattle.clap.specs.declared.builder.command.Command.TheViews.{out-Command as fields_of};
 ghost use Rattle.clap.specs.Words.{app_of, subcommand_rows_of};
 ghost use Rattle.clap.specs.Faults.{fault_of};
 ghost use Rattle.clap.specs.Kinds.{HasKind};
-ghost use Rattle.hostd.specs.Line.{hostd_command, file_of, script_asked, script_named};
+ghost use Rattle.hostd.specs.Line.{hostd_command, file_command, file_of, asked_of, asked_in, asked_by};
 
 use crate::request::Line;
 use clap::error::ErrorKind;
@@ -15,16 +16,16 @@ use std::convert::AsStr;
 /// Reads the words of a command line, the program's name first. An error is a usage fault or the help that was asked for,
 /// with clap's text, or its kind is `OutOfMemory`.
 pub fn line<'a, S: AsStr>(alloc: Global, words: &'a [S]) -> Result<Line<'a>, Error>
-    ensures ok { IfOk result (λ line. script_asked (map S.text words.entry.now) ≡ Some (script_named line)) }
+    ensures ok { IfOk result (λ line. asked_in (map S.text words.entry.now) ≡ Some (asked_by line)) }
     ensures sound { IfOk result (λ line. fault_of hostd_command (map S.text words.entry.now) ≡ []) }
     ensures err { IfErr result (λ error. HasKind (fault_of hostd_command (map S.text words.entry.now)) error
-        ⊎ ((script_asked (map S.text words.entry.now) ≡ None) × (fault_of hostd_command (map S.text words.entry.now) ≡ [])
+        ⊎ ((asked_in (map S.text words.entry.now) ≡ None) × (fault_of hostd_command (map S.text words.entry.now) ≡ [])
         × HasKind (ErrorKind.MissingSubcommand ∷ []) error)) }
 {
     let mut hostd = hostd(alloc)?;
     let matches = hostd.try_get_matches_from_mut(words)?;
-    match script_in(&matches) {
-        Some(script) => Ok(Line::Sim { script }),
+    match asked(&matches) {
+        Some(line) => Ok(line),
         None => Err(hostd.error(ErrorKind::MissingSubcommand, "a command is missing")?),
     }
 }
@@ -33,21 +34,56 @@ pub fn line<'a, S: AsStr>(alloc: Global, words: &'a [S]) -> Result<Line<'a>, Err
 fn hostd<'a>(alloc: Global) -> Result<Command<'a>, AllocError>
     ensures { IfOk result (λ command. app_of command ≡ hostd_command) }
 {
-    let script = Arg::new(alloc, "SCRIPT")
-        .required(true)
-        .help("The file of the script");
-    let sim = Command::new(alloc, "sim")
-        .about("Runs a script on a world of two hosts and prints what they answer")
-        .arg(script)?;
+    let sim = file_command(
+        alloc,
+        "sim",
+        "Runs a script on a world of two hosts and prints what they answer",
+        "SCRIPT",
+        "The file of the script",
+    )?;
+    let decode = file_command(
+        alloc,
+        "decode",
+        "Prints what a frame says, a line a layer",
+        "HEXFILE",
+        "The file of the frame, in hexadecimal digits",
+    )?;
     Command::new(alloc, "hostd")
         .about("Two IPv4 hosts with TCP sockets, joined by a bag of frames")
         .subcommand_required(true)
-        .subcommand(sim)
+        .subcommand(sim)?
+        .subcommand(decode)
 }
 
-// The file that `sim` names.
-fn script_in<'a>(matches: &ArgMatches<'a>) -> Option<&'a str>
-    ensures { option_map (λ script. script.now) result ≡ file_of (subcommand_rows_of matches.now) }
+// A command with one file, which must be given.
+fn file_command<'a>(
+    alloc: Global,
+    name: &'a str,
+    about: &'a str,
+    file: &'a str,
+    help: &'a str,
+) -> Result<Command<'a>, AllocError>
+    ensures words { IfOk result (λ command. app_of command ≡ file_command name.now file.now) }
+    ensures local { IfOk result (λ command. (fields_of command).has_globals ≡ false) }
 {
-    matches.subcommand_matches("sim")?.get_str("SCRIPT")
+    let file = Arg::new(alloc, file).required(true).help(help);
+    Command::new(alloc, name).about(about).arg(file)
+}
+
+// What the command that was met asks for.
+fn asked<'a>(matches: &ArgMatches<'a>) -> Option<Line<'a>>
+    ensures { option_map asked_by result ≡ asked_of (subcommand_rows_of matches.now) }
+{
+    if let Some(script) = file_in(matches, "sim", "SCRIPT") {
+        return Some(Line::Sim { script });
+    }
+    let hex = file_in(matches, "decode", "HEXFILE")?;
+    Some(Line::Decode { hex })
+}
+
+// The file that a command names, where that is the command that was met.
+fn file_in<'a>(matches: &ArgMatches<'a>, command: &str, file: &str) -> Option<&'a str>
+    ensures { option_map (λ name. name.now) result ≡ file_of command.now file.now (subcommand_rows_of matches.now) }
+{
+    matches.subcommand_matches(command)?.get_str(file)
 }

@@ -1,8 +1,10 @@
-//! `hostd`: runs a script of socket calls, ticks and frames on a world of two hosts, and prints what they answer.
+//! `hostd`: runs a script of socket calls, ticks and frames on a world of two hosts, and prints what they answer; or prints what a frame says.
 #![tactic(auto)]
 
 mod answer;
 mod fault;
+mod frame;
+mod input;
 mod line;
 mod output;
 mod request;
@@ -43,6 +45,7 @@ fn words(rt: &HostRuntime) -> io::Result<Vec<String>> {
 fn run(rt: &HostRuntime, words: &[String]) -> ExitCode {
     match line::line(rt.alloc(), words) {
         Ok(Line::Sim { script }) => run_script(rt, script),
+        Ok(Line::Decode { hex }) => print_frame(rt, hex),
         Err(error) if error.kind() == ErrorKind::OutOfMemory => told(rt, TextFault::NoMemory),
         Err(error) => {
             let _ = eprint!(rt; "{error}");
@@ -60,6 +63,20 @@ fn run_script(rt: &HostRuntime, path: &str) -> ExitCode {
     let mut out = Writing::new(io::writer(rt));
     match sim::sim(rt.alloc(), &mut script, &mut out) {
         Ok(()) => ExitCode::SUCCESS,
+        Err(fault) => told(rt, fault),
+    }
+}
+
+// Prints what the frame in a file says.
+fn print_frame(rt: &HostRuntime, path: &str) -> ExitCode {
+    let Ok(file) = fs::open(rt, path) else {
+        return told(rt, format_args!("cannot open {path}"));
+    };
+    let mut hex = Reading::new(file);
+    let mut out = Writing::new(io::writer(rt));
+    match frame::decode(rt.alloc(), &mut hex, &mut out) {
+        Ok(None) => ExitCode::SUCCESS,
+        Ok(Some(_)) => ExitCode::FAILURE,
         Err(fault) => told(rt, fault),
     }
 }

@@ -5,4 +5,6 @@
 pub enum Line<'a> {
     /// To run the script in this file.
     Sim { script: &'a str },
+    /// To print what the frame in this file says.
+    Decode { hex: &'a str },
 }

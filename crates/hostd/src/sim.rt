@@ -11,6 +11,7 @@ ghost use Rattle.hostd.specs.Play.{line_of_outcome, Emits, Delivers, Carries, Pr
 
 use crate::answer::{Style, show, show_unfair};
 use crate::fault::TextFault;
+use crate::input::whole;
 use crate::output::{finish, hand_on};
 use crate::script::action::Action;
 use crate::script::{Command, Script};
@@ -20,12 +21,6 @@ use host::Config;
 use std::alloc::{AllocError, Global};
 use tcp_segment::Seq;
 use wire_sim::{Answer, Event, Side, Unfair, World};
-
-/// The most octets of a script.
-pub const MOST_SCRIPT: usize = 1_000_000;
-
-// The octets of one read.
-const CHUNK: usize = 4096;
 
 // Where so many octets of printed lines wait, they are handed to the sink.
 const FULL: usize = 8192;
@@ -46,26 +41,6 @@ pub fn sim<R: Source, W: Sink>(alloc: Global, script: &mut R, out: &mut W) -> Re
     let octets = whole(alloc, script)?;
     let script = Script::parse(alloc, octets.as_slice())?;
     run(alloc, &script, out)
-}
-
-// All octets of a script.
-fn whole<R: Source>(alloc: Global, script: &mut R) -> Result<Vec<u8>, TextFault>
-    ensures read { R.failures script.new ≡ counted (read_fails result) (R.failures script.old) }
-    ensures short { IfOk result (λ octets. length octets.items ≤ MOST_SCRIPT) }
-    ensures all { IfOk result (λ octets. IfSome (R.remaining script.old) (λ told. octets.items ≡ told)) }
-    ensures faults { IfErr result (λ fault. is_before_run fault ≡ true ⊎ fault ≡ TextFault.NoMemory) }
-    ensures due { IfErr result (λ fault. IfSome (R.remaining script.old) (λ told. IsFaultDue told fault)) }
-{
-    let mut octets = Vec::new(alloc);
-    let mut chunk = [0u8; CHUNK];
-    while octets.len() <= MOST_SCRIPT {
-        match script.read(&mut chunk) {
-            Ok(0) => return Ok(octets),
-            Ok(count) => octets.extend_from_slice(&chunk[..count])?,
-            Err(_) => return Err(TextFault::Read),
-        }
-    }
-    Err(TextFault::TooLong)
 }
 
 // Runs a script's commands, and hands on what they print, also where a fault ends the run.

@@ -5,6 +5,7 @@ mod command_line;
 mod devices;
 mod drops;
 mod examples;
+mod frames;
 mod lines;
 mod losses;
 mod refusals;

@@ -18,8 +18,15 @@ fn names_the_script(rt: HostRuntime) -> Result<(), Fail> {
 }
 
 #[test]
+fn names_the_frame(rt: HostRuntime) -> Result<(), Fail> {
+    let asked = line(rt.alloc(), &["hostd", "decode", "syn.hex"])?;
+    assert!(rt; asked == Line::Decode { hex: "syn.hex" });
+    Ok(())
+}
+
+#[test]
 fn usage_faults_and_help(rt: HostRuntime) {
-    let rows: [(&[&str], ErrorKind); 7] = [
+    let rows: [(&[&str], ErrorKind); 10] = [
         (&["hostd"], ErrorKind::MissingSubcommand),
         (&["hostd", "sim"], ErrorKind::MissingRequiredArgument),
         (&["hostd", "sim", "one", "two"], ErrorKind::UnknownArgument),
@@ -31,8 +38,14 @@ fn usage_faults_and_help(rt: HostRuntime) {
             &["hostd", "copy", "one", "two"],
             ErrorKind::InvalidSubcommand,
         ),
+        (&["hostd", "decode"], ErrorKind::MissingRequiredArgument),
+        (
+            &["hostd", "decode", "one", "two"],
+            ErrorKind::UnknownArgument,
+        ),
         (&["hostd", "--help"], ErrorKind::DisplayHelp),
         (&["hostd", "sim", "--help"], ErrorKind::DisplayHelp),
+        (&["hostd", "decode", "--help"], ErrorKind::DisplayHelp),
     ];
     for (words, want) in rows {
         match line(rt.alloc(), words) {
