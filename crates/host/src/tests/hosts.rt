@@ -34,7 +34,7 @@ pub(super) const TWO: SocketId = SocketId(2);
 pub(super) const THREE: SocketId = SocketId(3);
 
 /// One of the two hosts.
-#[derive(Clone, Copy, Debug)]
+#[derive(Clone, Copy)]
 pub(super) enum Side {
     /// The host at 10.0.0.1.
     A,
@@ -229,7 +229,7 @@ fn done(outcome: Result<(), Refusal>) -> Told {
 
 /// The two hosts.
 #[derive(Drop)]
-pub(super) struct Hosts {
+struct Hosts {
     a: Station,
     b: Station,
 }
@@ -243,10 +243,10 @@ impl Hosts {
         })
     }
 
-    /// Does each step in turn, which tells what it is to tell.
-    pub(super) fn play(&mut self, rt: &impl Abort, steps: &[Step]) {
+    /// Does each step of a part in turn, which tells what it is to tell.
+    fn play(&mut self, rt: &impl Abort, part: usize, steps: &[Step]) {
         for (index, (side, act, told)) in steps.iter().enumerate() {
-            assert_eq!(rt; self.act(*side, *act), *told, "step {index}, at {side:?}");
+            assert_eq!(rt; self.act(*side, *act), *told, "part {part}, step {index}");
         }
     }
 
@@ -301,15 +301,9 @@ pub(super) const LISTENING: &[Step] = &[
 
 /// Plays two hosts from their setting up on, part after part.
 pub(super) fn plays(rt: &impl Abort, alloc: Global, parts: &[&[Step]]) -> Result<(), Fail> {
-    let _hosts = played(rt, alloc, parts)?;
-    Ok(())
-}
-
-/// The same, and answers the hosts as they are then.
-pub(super) fn played(rt: &impl Abort, alloc: Global, parts: &[&[Step]]) -> Result<Hosts, Fail> {
     let mut hosts = Hosts::new(alloc)?;
-    for part in parts {
-        hosts.play(rt, part);
+    for (part, steps) in parts.iter().enumerate() {
+        hosts.play(rt, part, steps);
     }
-    Ok(hosts)
+    Ok(())
 }

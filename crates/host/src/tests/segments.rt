@@ -1,7 +1,7 @@
 //! The frames that hosts send and take, octet by octet.
 
 use super::hosts::Side::{A, B};
-use super::hosts::{Act, LISTENING, ONE, SERVER, Step, Told, played, plays};
+use super::hosts::{Act, LISTENING, ONE, SERVER, Step, Told, plays};
 use crate::{DropCause, Refusal};
 use std::test::Fail;
 
@@ -77,9 +77,10 @@ const STRAY_RESET: &[u8] =
 const ANSWER: &[u8] =
     b"\x00\x50\xc0\x00\x00\x01\x11\x70\x00\x00\x00\x00\x50\x04\x00\x00\xca\x1c\x00\x00";
 
-const HEARD: &[Step] = &[(B, Act::Hear(0, STRAY), Told::Done)];
+/// There is room for 16 answers.
+const HEARD: &[Step] = &[(B, Act::Hear(0, STRAY), Told::Done); 16];
 
-/// Once 16 answers wait there is no room for another. A reset needs none.
+/// There is none for another. A reset needs none.
 const UNHEARD: &[Step] = &[
     (B, Act::Hear(0, STRAY), Told::Dropped(DropCause::NoRoom)),
     (B, Act::Hear(0, STRAY_RESET), Told::Done),
@@ -89,10 +90,5 @@ const UNHEARD: &[Step] = &[
 
 #[test]
 fn strays_are_answered_by_resets(rt: HostRuntime) -> Result<(), Fail> {
-    let mut hosts = played(&rt, rt.alloc(), &[REFUSED])?;
-    for _ in 0..16 {
-        hosts.play(&rt, HEARD);
-    }
-    hosts.play(&rt, UNHEARD);
-    Ok(())
+    plays(&rt, rt.alloc(), &[REFUSED, HEARD, UNHEARD])
 }

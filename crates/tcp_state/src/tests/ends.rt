@@ -24,7 +24,7 @@ pub(super) const SYN_SEGMENT: [u8; 24] = [
 ];
 
 /// An end of the connection.
-#[derive(Clone, Copy, Debug)]
+#[derive(Clone, Copy)]
 pub(super) enum Side {
     /// The end that calls.
     A,
@@ -247,14 +247,14 @@ impl End {
 
 /// The two ends of a connection.
 #[derive(Drop)]
-pub(super) struct Ends {
+struct Ends {
     a: End,
     b: End,
 }
 
 impl Ends {
     /// A calls, and its SYN has reached B.
-    pub(super) fn new(alloc: Global) -> Result<Ends, Fail> {
+    fn new(alloc: Global) -> Result<Ends, Fail> {
         let a = Connection::active(Buffers::new(alloc)?, CALLER, LISTENER, Seq(4_294_967_295));
         let syn = TcpView::parse(CALLER.addr, LISTENER.addr, &SYN_SEGMENT)?;
         let b = Connection::passive(Buffers::new(alloc)?, LISTENER, CALLER, Seq(7), &syn);
@@ -264,10 +264,10 @@ impl Ends {
         })
     }
 
-    /// Does each step in turn, which tells what it is to tell.
-    pub(super) fn play(&mut self, rt: &impl Abort, steps: &[Step]) {
+    /// Does each step of a part in turn, which tells what it is to tell.
+    fn play(&mut self, rt: &impl Abort, part: usize, steps: &[Step]) {
         for (index, (side, act, told)) in steps.iter().enumerate() {
-            assert_eq!(rt; self.act(*side, *act), *told, "step {index}, at {side:?}");
+            assert_eq!(rt; self.act(*side, *act), *told, "part {part}, step {index}");
         }
     }
 
@@ -325,15 +325,9 @@ pub(super) const HANDSHAKE: &[Step] = &[
 
 /// Plays a connection from its first call on, part after part.
 pub(super) fn plays(rt: &impl Abort, alloc: Global, parts: &[&[Step]]) -> Result<(), Fail> {
-    let _ends = played(rt, alloc, parts)?;
-    Ok(())
-}
-
-/// The same, and answers the two ends as they are then.
-pub(super) fn played(rt: &impl Abort, alloc: Global, parts: &[&[Step]]) -> Result<Ends, Fail> {
     let mut ends = Ends::new(alloc)?;
-    for part in parts {
-        ends.play(rt, part);
+    for (part, steps) in parts.iter().enumerate() {
+        ends.play(rt, part, steps);
     }
-    Ok(ends)
+    Ok(())
 }
