@@ -1,0 +1,309 @@
+//! Two hosts, each the other's neighbour, what is done at each, and what that tells.
+
+use crate::{Config, DropCause, Host, Kind, Refusal, SocketId};
+use ipv4::{Addr, Endpoint, Pair};
+use std::alloc::Global;
+use std::process::Abort;
+use std::test::Fail;
+use tcp_segment::Seq;
+use tcp_state::{Moment, Received, State};
+
+const A: Addr = Addr([10, 0, 0, 1]);
+
+const B: Addr = Addr([10, 0, 0, 2]);
+
+/// The first port that A's sockets are given.
+pub(super) const CLIENT: Endpoint = Endpoint {
+    addr: A,
+    port: 49_152,
+};
+
+/// The port of B that calls are for.
+pub(super) const SERVER: Endpoint = Endpoint { addr: B, port: 80 };
+
+/// A connection between the two.
+pub(super) const PAIR: Pair = Pair {
+    first: CLIENT,
+    second: SERVER,
+};
+
+pub(super) const ONE: SocketId = SocketId(1);
+
+pub(super) const TWO: SocketId = SocketId(2);
+
+pub(super) const THREE: SocketId = SocketId(3);
+
+/// One of the two hosts.
+#[derive(Clone, Copy)]
+pub(super) enum Side {
+    /// The host at 10.0.0.1.
+    A,
+    /// The host at 10.0.0.2.
+    B,
+}
+
+/// What is done at a host, or asked of it. All is done at moment 0, but for a tick.
+#[derive(Clone, Copy)]
+pub(super) enum Act {
+    /// Makes a socket.
+    Socket,
+    /// Binds a socket.
+    Bind(SocketId, Endpoint),
+    /// Lets a socket take connections, of which one may wait.
+    Listen(SocketId),
+    /// Takes a connection that waits at a socket.
+    Accept(SocketId),
+    /// Opens a connection with this initial number to a peer.
+    Connect(u32, SocketId, Endpoint),
+    /// Writes octets.
+    Send(SocketId, &'static [u8]),
+    /// Reads four octets at most.
+    Recv(SocketId),
+    /// Closes a socket.
+    Close(SocketId),
+    /// The state of a socket.
+    State(SocketId),
+    /// The pair of a socket's connection.
+    Pair(SocketId),
+    /// The entry that holds a pair.
+    Holder(Pair),
+    /// The clock comes to this moment, in milliseconds.
+    Tick(u64),
+    /// The frame that is due goes out.
+    Emit,
+    /// Whether these are the octets of the frame that went out last.
+    HasSent(&'static [u8]),
+    /// On its way the last bit of the frame that went out last is turned.
+    Damage,
+    /// The frame that went out last reaches the other host, with the initial number of what it may open.
+    Arrive(u32),
+    /// The frame that is due goes out, and reaches the other host.
+    Pass(u32),
+    /// These octets reach the host, with the initial number of what they may open.
+    Hear(u32, &'static [u8]),
+}
+
+/// What an act tells.
+#[derive(Clone, Copy, Debug, PartialEq)]
+pub(super) enum Told {
+    /// It is done.
+    Done,
+    /// No frame is due.
+    Nothing,
+    /// The error of a call.
+    Refused(Refusal),
+    /// Why a frame is not taken.
+    Dropped(DropCause),
+    /// The id of a new socket.
+    Id(SocketId),
+    /// The id of a connection that was accepted, and its peer.
+    Accepted(SocketId, Endpoint),
+    /// How many octets a write took.
+    Count(usize),
+    /// What a read answers.
+    Received(Received),
+    /// The state of a socket.
+    State(State),
+    /// The pair of a connection.
+    Pair(Option<Pair>),
+    /// The entry that holds a pair.
+    Holder(Option<SocketId>),
+    /// The octets of the frame that went out.
+    Length(usize),
+    /// Whether it is so.
+    Is(bool),
+}
+
+/// What is done at a host, and what that is to tell.
+pub(super) type Step = (Side, Act, Told);
+
+/// One host, and the frame that went out last.
+#[derive(Drop)]
+struct Station {
+    host: Host,
+    frame: [u8; 1514],
+    len: usize,
+}
+
+impl Station {
+    /// A host with no sockets.
+    fn new(alloc: Global, addr: Addr, neighbour: Addr) -> Result<Station, Fail> {
+        Ok(Station {
+            host: Host::new(alloc, Config::new(addr)?, neighbour)?,
+            frame: [0; 1514],
+            len: 0,
+        })
+    }
+
+    /// Makes a socket.
+    fn socket(&mut self) -> Told {
+        match self.host.socket(Kind::Tcp) {
+            Ok(id) => Told::Id(id),
+            Err(refusal) => Told::Refused(refusal),
+        }
+    }
+
+    /// Takes a connection.
+    fn accept(&mut self, id: SocketId) -> Told {
+        match self.host.accept(id) {
+            Ok((accepted, peer)) => Told::Accepted(accepted, peer),
+            Err(refusal) => Told::Refused(refusal),
+        }
+    }
+
+    /// Writes octets.
+    fn send(&mut self, id: SocketId, octets: &[u8]) -> Told {
+        match self.host.send(id, octets) {
+            Ok(count) => Told::Count(count),
+            Err(refusal) => Told::Refused(refusal),
+        }
+    }
+
+    /// Reads octets.
+    fn recv(&mut self, id: SocketId) -> Told {
+        match self.host.recv(id, &mut [0; 4]) {
+            Ok(received) => Told::Received(received),
+            Err(refusal) => Told::Refused(refusal),
+        }
+    }
+
+    /// The state of a socket.
+    fn state(&self, id: SocketId) -> Told {
+        match self.host.state(id) {
+            Ok(state) => Told::State(state),
+            Err(refusal) => Told::Refused(refusal),
+        }
+    }
+
+    /// The clock moves on.
+    fn tick(&mut self, now: u64) -> Told {
+        self.host.tick(Moment(now));
+        Told::Done
+    }
+
+    /// The frame that is due goes out.
+    fn emit(&mut self) -> Told {
+        match self.host.next_frame(Moment(0), &mut self.frame) {
+            Some(len) => {
+                self.len = len;
+                Told::Length(len)
+            }
+            None => Told::Nothing,
+        }
+    }
+
+    /// The frame that went out last.
+    fn sent(&self) -> &[u8] {
+        match self.frame.split_at_checked(self.len) {
+            Some((frame, _)) => frame,
+            None => &[],
+        }
+    }
+
+    /// The frame's last bit is turned.
+    fn damage(&mut self) -> Told {
+        if let Some((frame, _)) = self.frame.split_at_mut_checked(self.len)
+            && let Some(last) = frame.last_mut()
+        {
+            *last ^= 1;
+        }
+        Told::Done
+    }
+
+    /// Octets reach the host.
+    fn hear(&mut self, isn: u32, octets: &[u8]) -> Told {
+        match self.host.deliver(Moment(0), Seq(isn), octets) {
+            Ok(()) => Told::Done,
+            Err(cause) => Told::Dropped(cause),
+        }
+    }
+}
+
+/// What a call without a value tells.
+fn done(outcome: Result<(), Refusal>) -> Told {
+    match outcome {
+        Ok(()) => Told::Done,
+        Err(refusal) => Told::Refused(refusal),
+    }
+}
+
+/// The two hosts.
+#[derive(Drop)]
+struct Hosts {
+    a: Station,
+    b: Station,
+}
+
+impl Hosts {
+    /// Two hosts with no sockets.
+    fn new(alloc: Global) -> Result<Hosts, Fail> {
+        Ok(Hosts {
+            a: Station::new(alloc, A, B)?,
+            b: Station::new(alloc, B, A)?,
+        })
+    }
+
+    /// Does each step of a part in turn, which tells what it is to tell.
+    fn play(&mut self, rt: &impl Abort, part: usize, steps: &[Step]) {
+        for (index, (side, act, told)) in steps.iter().enumerate() {
+            assert_eq!(rt; self.act(*side, *act), *told, "part {part}, step {index}");
+        }
+    }
+
+    /// Does what is done at one side, and answers what that tells.
+    fn act(&mut self, side: Side, act: Act) -> Told {
+        match side {
+            Side::A => act_at(&mut self.a, &mut self.b, act),
+            Side::B => act_at(&mut self.b, &mut self.a, act),
+        }
+    }
+}
+
+/// Does what is done at `station`, and answers what that tells.
+fn act_at(station: &mut Station, other: &mut Station, act: Act) -> Told {
+    match act {
+        Act::Socket => station.socket(),
+        Act::Bind(id, local) => done(station.host.bind(id, local)),
+        Act::Listen(id) => done(station.host.listen(id, 1)),
+        Act::Accept(id) => station.accept(id),
+        Act::Connect(isn, id, peer) => done(station.host.connect(Moment(0), Seq(isn), id, peer)),
+        Act::Send(id, octets) => station.send(id, octets),
+        Act::Recv(id) => station.recv(id),
+        Act::Close(id) => done(station.host.close(id)),
+        Act::State(id) => station.state(id),
+        Act::Pair(id) => Told::Pair(station.host.pair_of(id)),
+        Act::Holder(pair) => Told::Holder(station.host.holds(pair)),
+        Act::Tick(now) => station.tick(now),
+        Act::Emit => station.emit(),
+        Act::HasSent(octets) => Told::Is(station.sent() == octets),
+        Act::Damage => station.damage(),
+        Act::Arrive(isn) => other.hear(isn, station.sent()),
+        Act::Pass(isn) => pass(station, other, isn),
+        Act::Hear(isn, octets) => station.hear(isn, octets),
+    }
+}
+
+/// The frame that is due at one host goes out, and reaches the other.
+fn pass(from: &mut Station, to: &mut Station, isn: u32) -> Told {
+    match from.emit() {
+        Told::Length(_) => to.hear(isn, from.sent()),
+        nothing => nothing,
+    }
+}
+
+/// B listens, and A has a socket.
+pub(super) const LISTENING: &[Step] = &[
+    (Side::B, Act::Socket, Told::Id(ONE)),
+    (Side::B, Act::Bind(ONE, SERVER), Told::Done),
+    (Side::B, Act::Listen(ONE), Told::Done),
+    (Side::A, Act::Socket, Told::Id(ONE)),
+];
+
+/// Plays two hosts from their setting up on, part after part.
+pub(super) fn plays(rt: &impl Abort, alloc: Global, parts: &[&[Step]]) -> Result<(), Fail> {
+    let mut hosts = Hosts::new(alloc)?;
+    for (part, steps) in parts.iter().enumerate() {
+        hosts.play(rt, part, steps);
+    }
+    Ok(())
+}

@@ -1,0 +1,80 @@
+//! Connections that open, and what goes out again.
+
+use super::ends::Side::{A, B};
+use super::ends::{ACK, Act, HANDSHAKE, STAYS, SYN_SEGMENT, Step, Told, plays};
+use crate::{Due, Fate, Moment, Received, Refusal, State};
+use std::test::Fail;
+
+/// The segment that carries `hello` from A to B after the handshake.
+const HELLO_SEGMENT: [u8; 25] = [
+    0xc0, 0x00, 0x00, 0x50, 0, 0, 0, 0, 0, 0, 0, 0x08, 0x50, 0x18, 0xff, 0xff, 0x97, 0x9a, 0, 0,
+    0x68, 0x65, 0x6c, 0x6c, 0x6f,
+];
+
+/// The octets arrive twice, and are read once.
+const OCTETS: &[Step] = &[
+    (A, Act::State, Told::State(State::Established)),
+    (B, Act::State, Told::State(State::Established)),
+    (A, Act::Send(b"hello"), Told::Count(5)),
+    (A, Act::Emit(0), Told::Length(25)),
+    (A, Act::HasSent(&HELLO_SEGMENT), Told::Is(true)),
+    (B, Act::Recv, Told::Refused(Refusal::EAGAIN)),
+    (A, Act::Arrive(0), STAYS),
+    (A, Act::Arrive(0), STAYS),
+    (B, Act::Recv, Told::Received(Received::Octets(5))),
+    (B, Act::HasRead(b"hello"), Told::Is(true)),
+    (B, Act::Recv, Told::Refused(Refusal::EAGAIN)),
+];
+
+#[test]
+fn hands_shake_and_octets_arrive(rt: HostRuntime) -> Result<(), Fail> {
+    plays(&rt, rt.alloc(), &[HANDSHAKE, OCTETS])
+}
+
+const SYN_AGAIN: &[Step] = &[
+    (A, Act::Deadline, Told::Deadline(None)),
+    (A, Act::Emit(500), Told::Length(24)),
+    (A, Act::Deadline, Told::Deadline(Some(Moment(1_500)))),
+    (A, Act::Tick(1_499), STAYS),
+    (A, Act::Emit(1_499), Told::Nothing),
+    (A, Act::Tick(1_500), STAYS),
+    (A, Act::Emit(u64::MAX), Told::Length(24)),
+    (A, Act::HasSent(&SYN_SEGMENT), Told::Is(true)),
+    (A, Act::Deadline, Told::Deadline(Some(Moment(u64::MAX)))),
+];
+
+#[test]
+fn what_is_outstanding_goes_again_after_a_second(rt: HostRuntime) -> Result<(), Fail> {
+    plays(&rt, rt.alloc(), &[SYN_AGAIN])
+}
+
+/// Before A's SYN is out nothing can acknowledge it, and then the number behind it does.
+const WRONG_ACKNOWLEDGEMENTS: &[Step] = &[
+    (A, Act::Hear(7, 0, ACK, 0), Told::Becomes(Fate::Refused)),
+    (A, Act::Emit(0), Told::Length(24)),
+    (A, Act::Hear(7, 0, ACK, 0), STAYS),
+    (A, Act::Hear(7, 1, ACK, 0), Told::Becomes(Fate::Refused)),
+    (A, Act::State, Told::State(State::SynSent)),
+];
+
+#[test]
+fn a_wrong_acknowledgement_of_a_syn_is_refused(rt: HostRuntime) -> Result<(), Fail> {
+    plays(&rt, rt.alloc(), &[WRONG_ACKNOWLEDGEMENTS])
+}
+
+/// The window of 0 in an acknowledgement from before the last one leaves B's window open.
+const OLD_WINDOW: &[Step] = &[
+    (A, Act::Send(b"hello"), Told::Count(5)),
+    (A, Act::Pass(0), STAYS),
+    (B, Act::Pass(0), STAYS),
+    (A, Act::Send(b"more"), Told::Count(4)),
+    (A, Act::Hear(9, 4, ACK, 0), STAYS),
+    (A, Act::Due, Told::Due(Some(Due::Text(4)))),
+    (A, Act::Hear(9, 5, ACK, 0), STAYS),
+    (A, Act::Due, Told::Due(None)),
+];
+
+#[test]
+fn an_old_acknowledgement_tells_no_window(rt: HostRuntime) -> Result<(), Fail> {
+    plays(&rt, rt.alloc(), &[HANDSHAKE, OLD_WINDOW])
+}
