@@ -1,2 +1,3 @@
 pub mod LayerLemmas
 pub mod PairLemmas
+pub mod OneAnswer

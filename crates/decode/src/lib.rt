@@ -3,6 +3,7 @@
 
 mod carried;
 mod drop;
+pub mod laws;
 mod layers;
 mod lines;
 mod pairs;
