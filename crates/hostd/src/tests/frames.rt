@@ -69,7 +69,7 @@ fn a_text_of_a_frame_has_a_million_octets_at_most(rt: HostRuntime) -> Result<(),
 
 #[test]
 fn devices_that_fail_are_told(rt: HostRuntime) {
-    for call in [1, 5, 30] {
+    for (call, taken) in [(1, 0), (5, 4), (30, 29)] {
         let mut hex = MemorySource::new(SYN.as_bytes())
             .in_pieces(1)
             .failing_at(call);
@@ -87,6 +87,6 @@ fn devices_that_fail_are_told(rt: HostRuntime) {
             Err(TextFault::Write)
         );
         assert!(rt; SYN_SAYS.as_bytes().starts_with(out.taken()));
-        assert_eq!(rt; out.taken().len() as u64, call - 1);
+        assert_eq!(rt; out.taken().len(), taken);
     }
 }
