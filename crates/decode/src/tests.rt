@@ -165,7 +165,7 @@ ipv4 10.0.0.1 10.0.0.2 proto 89 ttl 64 id 7 off 0 flags - payload 3
     ),
 ];
 
-// What cannot be read, and up to where it can. One octet, or one number of two octets, is wrong in each.
+// What cannot be read, behind the lines of the layers below, which can.
 const DROPS: [(&str, &str, Option<DropCause>); 15] = [
     (
         "020000000002020000000001 08",
