@@ -12,3 +12,6 @@ mod words;
 pub use drop::DropCause;
 pub use layers::decode;
 pub use pairs::{HexFault, octets_of};
+
+#[cfg(test)]
+mod tests;
