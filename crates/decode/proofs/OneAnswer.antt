@@ -1,5 +1,5 @@
 -- What is shown of a layer is determined by its octets, as what they are parsed to is.
-use Rattle.std.proofs.Common.{◌≡◌, ◌++◌, List, ℕ, Option, Result, Ok, Err, refl, sym, ap, ap₂, subst, ◌∙◌}
+use Rattle.std.proofs.Common.{◌≡◌, ◌++◌, List, ℕ, Option, Result, Ok, Err, sym, ap, ap₂, subst, ◌∙◌}
 use Rattle.ether.specs.Frame.{Frame}
 use Rattle.ether.specs.declared.view.FrameFault.{FrameFault}
 use Rattle.ether.specs.declared.view.FrameFault.TheVariants as frame

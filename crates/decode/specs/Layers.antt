@@ -1,5 +1,5 @@
 -- What is printed of a frame: a line a layer, up to the first that can't be read or has nothing printed above it.
-use Rattle.std.specs.Prelude.{◌≡◌, ℕ, List, [], ◌++◌, codes, Bool, true, false, ◌||◌, ◌==◌, not, if◌then◌else◌, Option, Some, None, Result, Ok, Err}
+use Rattle.std.specs.Prelude.{◌≡◌, ℕ, List, [], ◌++◌, codes, ◌||◌, ◌==◌, not, if◌then◌else◌, Option, Some, None, Result, Ok, Err}
 use Rattle.std.specs.Fmt.{decimal}
 use Rattle.ether.specs.Frame.{Frame, IsParsed as IsFrame}
 use Rattle.ether.specs.declared.view.FrameFault.{FrameFault}
