@@ -1,5 +1,5 @@
 -- What a text of hexadecimal digits makes a sink take.
-use Rattle.std.proofs.Common.{◌≡◌, ◌≤◌, List, ℕ, Option, Some, None, Result, Ok, Err, length, ap, ◌∙◌, subst, sym, IfSome}
+use Rattle.std.proofs.Common.{◌≡◌, ◌≤◌, List, ℕ, Option, Some, None, Result, Err, length, ap, ◌∙◌, subst, sym, IfSome}
 use Rattle.std.specs.Result.{IsErrAnd}
 use Rattle.decode.specs.declared.drop.DropCause.{DropCause}
 use Rattle.hostd.specs.declared.fault.TextFault.{TextFault}

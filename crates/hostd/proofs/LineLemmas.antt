@@ -1,5 +1,5 @@
 -- clap's meaning of the program's command.
-use Rattle.std.proofs.Common.{◌≡◌, List, [], Option, Some, None, Bool, true, false, codes, option_map, if◌then◌else◌, Result, Ok, Err, IfErr, subst, refl, ap, sym, ◌∙◌}
+use Rattle.std.proofs.Common.{◌≡◌, List, [], Option, Some, None, Bool, true, false, option_map, if◌then◌else◌, Result, Ok, Err, IfErr, subst, refl, ap, sym, ◌∙◌}
 use Rattle.std.specs.Str.{bytes_eq}
 use Rattle.std.specs.Result.{IsErrAnd}
 use Rattle.std.proofs.lemmas.Slice.Eq.{bytes_eq-Decides}
