@@ -1,11 +1,12 @@
 //! Lines that are bad, and the text of octets.
 
 use super::run;
-use crate::answer::escape;
 use crate::fault::TextFault;
 use crate::sim::sim;
 use crate::streams::memory::{MemorySink, MemorySource};
+use script::{Style, show};
 use std::test::Fail;
+use wire_sim::Answer;
 
 // Each of these is bad wherever it stands.
 const BAD: [&str; 47] = [
