@@ -1,10 +1,7 @@
-pub mod ActionLemmas
 pub mod LineLemmas
 pub mod MemoryLemmas
-pub mod ScriptLemmas
 pub mod SimLemmas
 pub mod StreamLemmas
-pub mod WordLemmas
 pub mod PlayLemmas
 pub mod RunLemmas
 pub mod HexLemmas

@@ -15,7 +15,7 @@ use Rattle.wire_sim.proofs.RunGiven.{runs-added}
 use Rattle.wire_sim.specs.declared.event.Answer.TheVariants.{Frame}
 use Rattle.std.specs.Io.KnownBytes.{Keeps}
 use Rattle.std.proofs.lemmas.List.{take-append-drop}
-use Rattle.hostd.specs.declared.script.Command.{Command}
+use Rattle.script.specs.declared.lines.Command.{Command}
 use Rattle.hostd.specs.declared.fault.TextFault.{TextFault}
 use Rattle.hostd.specs.declared.fault.TextFault.TheVariants.{Write, NoMemory}
 use Rattle.hostd.specs.Streams.{TakesFront, TakesAllBut}

@@ -3,12 +3,12 @@ use Rattle.std.proofs.Common.{◌≡◌, ℕ, List, [], ◌++◌, inl, inr, Opti
 use Rattle.std.specs.Result.{IsErrAnd}
 use Rattle.std.specs.Io.KnownBytes.{Appends, Keeps}
 use Rattle.wire_sim.specs.WorldView.{WorldView}
-use Rattle.hostd.specs.declared.script.Command.{Command}
+use Rattle.script.specs.declared.lines.Command.{Command}
 use Rattle.hostd.specs.declared.fault.TextFault.{TextFault}
 use Rattle.hostd.specs.declared.fault.TextFault.TheVariants.{Line, TooLong, NotHex, Read, Write, NoMemory}
 use Rattle.std.specs.Option.{IsSomeAnd}
-use Rattle.hostd.specs.Words.{lines_of}
-use Rattle.hostd.specs.Script.{limit_of, limits_of, commands_of}
+use Rattle.script.specs.Words.{lines_of}
+use Rattle.script.specs.Script.{limit_of, limits_of, commands_of}
 use Rattle.hostd.specs.Sim.{write_fails_in, is_before_run}
 use Rattle.hostd.specs.Streams.{TakesFront, TakesAllBut}
 use Rattle.hostd.specs.Play.{HasPrinted, starts, IsPlayed, IsCutShort, IsLeft, first_world, limit_line, IsPrinted, IsTold, TakesPrinted, TakesPrintedBy}

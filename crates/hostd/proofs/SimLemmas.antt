@@ -3,8 +3,10 @@ use Rattle.std.proofs.Common.{◌≡◌, ℕ, ◌≤◌, List, Option, Some, Non
 use Rattle.std.specs.Result.{IsErrAnd}
 use Rattle.std.specs.Option.{IsSomeAnd}
 use Rattle.std.proofs.lemmas.Grind.{common_steps}
-use Rattle.hostd.specs.Script.{first_bad_line}
-use Rattle.hostd.specs.Sim.{read_fails, write_fails_in, is_before_run, fault_of, IsDue, IsFaultDue}
+use Rattle.script.specs.Script.{first_bad_line}
+use Rattle.script.specs.declared.fault.ScriptFault.{ScriptFault}
+use Rattle.script.specs.declared.fault.ScriptFault.TheVariants as script
+use Rattle.hostd.specs.Sim.{fault_by, read_fails, write_fails_in, is_before_run, fault_of, IsDue, IsFaultDue}
 use Rattle.hostd.specs.declared.fault.TextFault.{TextFault}
 use Rattle.hostd.specs.declared.fault.TextFault.TheVariants.{Line, TooLong, NotHex, Read, Write, NoMemory}
 
@@ -12,6 +14,13 @@ use Rattle.hostd.specs.declared.fault.TextFault.TheVariants.{Line, TooLong, NotH
 pub passed_on : {A : Type 0} (r : Result A TextFault) (f : TextFault) → IsErrAnd r (λ e. e ≡ f) → r ≡ Err f
 passed_on (Ok x) f is = absurd is
 passed_on (Err e) f is = ap Err is
+
+-- what a bad script is told as
+pub told_as : (fault : ScriptFault) (o : Option ℕ) → (fault ≡ script.NoMemory) ⊎ IsSomeAnd o (λ n. fault ≡ script.Line n) →
+    (fault_by fault ≡ NoMemory) ⊎ IsSomeAnd o (λ n. fault_by fault ≡ Line n)
+told_as fault o (inl memory) = inl (ap fault_by memory)
+told_as fault None (inr bad) = absurd bad
+told_as fault (Some n) (inr bad) = inr (ap fault_by bad)
 
 -- what speaks against octets that are not too many
 fault_of_short : (octets : List ℕ) → length octets ≤ 1000000 → fault_of octets ≡ option_map Line (first_bad_line octets)

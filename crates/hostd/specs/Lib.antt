@@ -1,11 +1,5 @@
 pub mod Streams
-pub mod Words
-pub mod Keywords
-pub mod Actions
-pub mod Script
-pub mod Text
 pub mod Sim
 pub mod Line
-pub mod Events
 pub mod Play
 pub mod Hex

@@ -12,16 +12,16 @@ use Rattle.wire_sim.specs.declared.event.Answer.TheVariants.{Frame, NoFrame}
 use Rattle.wire_sim.specs.declared.event.Unfair.{Unfair}
 use Rattle.wire_sim.specs.Runs.{IsOutcome, RunsTo}
 use Rattle.wire_sim.specs.WorldView.{WorldView, fresh_world}
-use Rattle.hostd.specs.declared.answer.Style.{Style}
-use Rattle.hostd.specs.declared.script.Command.{Command}
-use Rattle.hostd.specs.declared.script.Command.TheVariants.{At, Pass}
+use Rattle.script.specs.declared.answer.Style.{Style}
+use Rattle.script.specs.declared.lines.Command.{Command}
+use Rattle.script.specs.declared.lines.Command.TheVariants.{At, Pass}
 use Rattle.hostd.specs.declared.fault.TextFault.{TextFault}
 use Rattle.hostd.specs.declared.fault.TextFault.TheVariants.{Write}
-use Rattle.hostd.specs.Words.{lines_of}
-use Rattle.hostd.specs.Script.{limit_of, commands_of}
+use Rattle.script.specs.Words.{lines_of}
+use Rattle.script.specs.Script.{limit_of, commands_of}
 use Rattle.hostd.specs.Streams.{TakesFront, TakesAllBut}
-use Rattle.hostd.specs.Events.{IsEventOf, address_of, other_side}
-use Rattle.hostd.specs.Text.{style_of, shown_of, unfair_text}
+use Rattle.script.specs.Events.{IsEventOf, address_of, other_side}
+use Rattle.script.specs.Text.{style_of, shown_of, unfair_text}
 
 -- what is printed of an outcome
 abbrev pub text_of_outcome : Style → Result Answer Unfair → List ℕ

@@ -1,8 +1,15 @@
 -- When running a script ends in a fault, and in which.
 use Rattle.std.specs.Prelude.{◌≡◌, ℕ, List, Option, Some, None, Result, Ok, Err, Bool, true, false, ⊤, ◌<◌, nat_lt, length, option_map, if◌then◌else◌}
-use Rattle.hostd.specs.Script.{first_bad_line}
+use Rattle.script.specs.Script.{first_bad_line}
+use Rattle.script.specs.declared.fault.ScriptFault.{ScriptFault}
+use Rattle.script.specs.declared.fault.ScriptFault.TheVariants as script
 use Rattle.hostd.specs.declared.fault.TextFault.{TextFault}
 use Rattle.hostd.specs.declared.fault.TextFault.TheVariants.{Line, TooLong, NotHex, Read, Write, NoMemory}
+
+-- why octets are not run as a script, by what tells that they are none
+abbrev pub fault_by : ScriptFault → TextFault
+fault_by (script.Line n) = Line n
+fault_by script.NoMemory = NoMemory
 
 -- whether the source failed
 abbrev pub read_fails : {A : Type 0} → Result A TextFault → Bool

@@ -4,6 +4,7 @@ ghost use Rattle.std.specs.Prelude.{◌≡◌};
 ghost use Rattle.hostd.specs.declared.fault.TextFault.TheVariants.{NoMemory};
 
 use decode::HexFault;
+use script::ScriptFault;
 use std::alloc::{AllocError, AllocFailed};
 use thiserror::Error;
 
@@ -43,6 +44,19 @@ impl<T: Drop> From<AllocFailed<T>> for TextFault {
 
     fn from(_error: AllocFailed<T>) -> TextFault {
         TextFault::NoMemory
+    }
+}
+
+impl From<ScriptFault> for TextFault {
+    ghost use Rattle.hostd.specs.Sim.{fault_by};
+
+    ghost from_gives = { λ told fault. fault ≡ fault_by told };
+
+    fn from(fault: ScriptFault) -> TextFault {
+        match fault {
+            ScriptFault::Line(number) => TextFault::Line(number),
+            ScriptFault::NoMemory => TextFault::NoMemory,
+        }
     }
 }
 

@@ -1,14 +1,12 @@
 //! `hostd`: runs a script of socket calls, ticks and frames on a world of two hosts, and prints what they answer; or prints what a frame says.
 #![tactic(auto)]
 
-mod answer;
 mod fault;
 mod frame;
 mod input;
 mod line;
 mod output;
 mod request;
-mod script;
 mod sim;
 mod streams;
 

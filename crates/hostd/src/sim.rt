@@ -1,23 +1,18 @@
 //! `hostd sim`: runs a script on a world of two hosts and prints what they answer.
 
-mod event;
-
 ghost use Rattle.std.specs.Prelude.{◌≡◌, ◌⊎◌, true, false, ◌≤◌, ◌<◌, ◌^◌, length, take, ◌++◌, Err, string_bytes, IfOk, IfErr, IfSome, OnOk, OnErr};
 ghost use Rattle.std.specs.Option.{ForSome};
 ghost use Rattle.hostd.specs.Streams.{counted, TakesFront, TakesAllBut};
 ghost use Rattle.hostd.specs.Sim.{read_fails, write_fails_in, is_before_run, IsDue, IsFaultDue};
-ghost use Rattle.hostd.specs.Text.{style_of};
+ghost use Rattle.script.specs.Text.{style_of};
 ghost use Rattle.hostd.specs.Play.{line_of_outcome, Emits, Delivers, Carries, Prints, pass_line, IsPlayed, IsCutShort, first_world, limit_line, TakesPrinted, TakesPrintedBy};
 
-use crate::answer::{Style, show, show_unfair};
 use crate::fault::TextFault;
 use crate::input::whole;
 use crate::output::{finish, hand_on};
-use crate::script::action::Action;
-use crate::script::{Command, Script};
 use crate::streams::{Sink, Source};
-use event::{address, event, other};
 use host::Config;
+use script::{Action, Command, Script, Style, address, event, other, show, show_unfair};
 use std::alloc::{AllocError, Global};
 use tcp_segment::Seq;
 use wire_sim::{Answer, Event, Side, Unfair, World};

@@ -1,11 +1,10 @@
-//! Whole scripts, run from memory to memory. The expected lines are those that the documents of the project give.
+//! Whole scripts and frames, from memory to memory. The expected lines are those that the documents of the project give.
 
 mod closing;
 mod command_line;
 mod devices;
 mod drops;
 mod examples;
-mod frames;
 mod lines;
 mod losses;
 mod refusals;
@@ -14,8 +13,11 @@ mod scripts;
 mod windows;
 
 use crate::fault::TextFault;
+use crate::frame;
 use crate::sim::sim;
 use crate::streams::memory::{MemorySink, MemorySource};
+use crate::streams::{Sink, Source};
+use decode::DropCause;
 use std::alloc::Global;
 use std::process::Abort;
 use std::test::Fail;
@@ -34,15 +36,83 @@ pass 7 -> a 0 b 0
 // b's caller takes the connection.
 const ACCEPTED: &str = "b accept 1 -> id 2 10.0.0.1 49152\n";
 
-// Runs a script, and answers how it ended and what it printed.
-fn run(alloc: Global, script: &str) -> (Result<(), TextFault>, MemorySink) {
-    let mut source = MemorySource::new(script.as_bytes());
-    let mut sink = MemorySink::new(alloc);
-    let outcome = sim(alloc, &mut source, &mut sink);
-    (outcome, sink)
+// A fifth of the 45 segments of a full window, each acknowledged.
+const NINE_CROSSINGS: &str = "pass 0 -> a 1 b 1
+pass 0 -> a 1 b 1
+pass 0 -> a 1 b 1
+pass 0 -> a 1 b 1
+pass 0 -> a 1 b 1
+pass 0 -> a 1 b 1
+pass 0 -> a 1 b 1
+pass 0 -> a 1 b 1
+pass 0 -> a 1 b 1
+";
+
+// All transcripts. Each is a list of parts, in whose lines an arrow parts a script's line from what it prints; a line without
+// one prints nothing.
+const TRANSCRIPTS: [&[&[&str]]; 7] = [
+    closing::TRANSCRIPTS,
+    drops::TRANSCRIPTS,
+    examples::TRANSCRIPTS,
+    refusals::TRANSCRIPTS,
+    resets::TRANSCRIPTS,
+    scripts::TRANSCRIPTS,
+    windows::TRANSCRIPTS,
+];
+
+// What is asked of the program: to run a text as a script, or to print what the frame says that it spells.
+#[derive(Clone, Copy, PartialEq, Eq, Debug)]
+enum Asked {
+    Sim,
+    Decode,
 }
 
-// Runs a transcript: in each line an arrow parts a script's line from what it prints; a line without one prints nothing.
+// A source or a sink that moves so many octets a call at most, and of which this call fails, counted from 1: at 0 none does.
+#[derive(Clone, Copy)]
+struct Device {
+    most: usize,
+    fails_at: u64,
+}
+
+const GOOD: Device = Device {
+    most: usize::MAX,
+    fails_at: 0,
+};
+
+// How a command ended: its answer, how often its source and its sink failed, and what the sink took.
+#[derive(Drop)]
+struct End {
+    answer: Result<Option<DropCause>, TextFault>,
+    failures: (u64, u64),
+    sink: MemorySink,
+}
+
+impl End {
+    fn told(&self) -> (Result<Option<DropCause>, TextFault>, (u64, u64), &[u8]) {
+        (self.answer, self.failures, self.sink.taken())
+    }
+}
+
+// Does what is asked of a text.
+fn ended(alloc: Global, asked: Asked, text: &[u8], from: Device, to: Device) -> End {
+    let mut source = MemorySource::new(text)
+        .in_pieces(from.most.max(1))
+        .failing_at(from.fails_at);
+    let mut sink = MemorySink::new(alloc)
+        .in_pieces(to.most)
+        .failing_at(to.fails_at);
+    let answer = match asked {
+        Asked::Sim => sim(alloc, &mut source, &mut sink).map(|()| None),
+        Asked::Decode => frame::decode(alloc, &mut source, &mut sink),
+    };
+    End {
+        answer,
+        failures: (source.failures(), sink.failures()),
+        sink,
+    }
+}
+
+// Plays a transcript.
 fn plays(rt: &impl Abort, alloc: Global, parts: &[&str]) -> Result<(), Fail> {
     let mut script = String::new(alloc);
     let mut want = String::new(alloc);
@@ -57,8 +127,18 @@ fn plays(rt: &impl Abort, alloc: Global, parts: &[&str]) -> Result<(), Fail> {
             }
         }
     }
-    let (outcome, out) = run(alloc, script.as_str());
-    assert_eq!(rt; outcome, Ok(()), "{script}");
-    assert_eq!(rt; str::from_utf8(out.taken())?, want.as_str());
+    let end = ended(alloc, Asked::Sim, script.as_bytes(), GOOD, GOOD);
+    assert_eq!(rt; end.answer, Ok(None), "{script}");
+    assert_eq!(rt; str::from_utf8(end.sink.taken())?, want.as_str());
+    Ok(())
+}
+
+#[test]
+fn transcripts_print_what_they_say(rt: HostRuntime) -> Result<(), Fail> {
+    for transcripts in TRANSCRIPTS {
+        for parts in transcripts {
+            plays(&rt, rt.alloc(), parts)?;
+        }
+    }
     Ok(())
 }

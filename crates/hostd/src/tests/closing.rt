@@ -1,7 +1,6 @@
 //! Connections that close.
 
-use super::{ACCEPTED, OPENING, plays};
-use std::test::Fail;
+use super::{ACCEPTED, OPENING};
 
 // a closes its side: its octets go out before the end.
 const ONE_SIDE: &str = "a send 1 hello -> sent 5
@@ -156,23 +155,17 @@ a close 2 -> E1 EBADF
 a socket tcp -> id 3
 ";
 
-#[test]
-fn both_sides_close(rt: HostRuntime) -> Result<(), Fail> {
-    let alloc = rt.alloc();
-    plays(&rt, alloc, &[OPENING, ACCEPTED, ONE_SIDE, OTHER_SIDE])?;
-    plays(&rt, alloc, &[OPENING, ACCEPTED, ONE_SIDE, OTHER_SOCKET])?;
-    plays(&rt, alloc, &[OPENING, ACCEPTED, AT_ONCE])?;
-    plays(&rt, alloc, &[OPENING, ACCEPTED, GIVEN])?;
-    plays(&rt, alloc, &[OPENING, ACCEPTED, SECOND_OPENING])?;
-    plays(&rt, alloc, &[UNHEARD])
-}
-
-#[test]
-fn connections_are_reset(rt: HostRuntime) -> Result<(), Fail> {
-    let alloc = rt.alloc();
-    plays(&rt, alloc, &[REFUSED])?;
-    plays(&rt, alloc, &[OPENING, ACCEPTED, UNREAD])?;
-    plays(&rt, alloc, &[OPENING, ACCEPTED, UNWANTED])?;
-    plays(&rt, alloc, &[OPENING, ACCEPTED, UNENDED])?;
-    plays(&rt, alloc, &[OPENING, LISTENER])
-}
+/// Both sides close, and then connections are reset.
+pub const TRANSCRIPTS: &[&[&str]] = &[
+    &[OPENING, ACCEPTED, ONE_SIDE, OTHER_SIDE],
+    &[OPENING, ACCEPTED, ONE_SIDE, OTHER_SOCKET],
+    &[OPENING, ACCEPTED, AT_ONCE],
+    &[OPENING, ACCEPTED, GIVEN],
+    &[OPENING, ACCEPTED, SECOND_OPENING],
+    &[UNHEARD],
+    &[REFUSED],
+    &[OPENING, ACCEPTED, UNREAD],
+    &[OPENING, ACCEPTED, UNWANTED],
+    &[OPENING, ACCEPTED, UNENDED],
+    &[OPENING, LISTENER],
+];

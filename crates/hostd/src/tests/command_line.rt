@@ -3,54 +3,48 @@
 use crate::line::line;
 use crate::request::Line;
 use clap::error::ErrorKind;
-use std::test::Fail;
 
 #[test]
-fn names_the_script(rt: HostRuntime) -> Result<(), Fail> {
-    let asked = line(rt.alloc(), &["hostd", "sim", "first.txt"])?;
-    assert!(rt;
-        asked
-            == Line::Sim {
-                script: "first.txt"
-            }
-    );
-    Ok(())
-}
-
-#[test]
-fn names_the_frame(rt: HostRuntime) -> Result<(), Fail> {
-    let asked = line(rt.alloc(), &["hostd", "decode", "syn.hex"])?;
-    assert!(rt; asked == Line::Decode { hex: "syn.hex" });
-    Ok(())
-}
-
-#[test]
-fn usage_faults_and_help(rt: HostRuntime) {
-    let rows: [(&[&str], ErrorKind); 10] = [
-        (&["hostd"], ErrorKind::MissingSubcommand),
-        (&["hostd", "sim"], ErrorKind::MissingRequiredArgument),
-        (&["hostd", "sim", "one", "two"], ErrorKind::UnknownArgument),
+fn words_ask_for_a_command_or_are_refused(rt: HostRuntime) {
+    let rows: [(&[&str], Result<Line<'_>, ErrorKind>); 12] = [
+        (
+            &["hostd", "sim", "first.txt"],
+            Ok(Line::Sim {
+                script: "first.txt",
+            }),
+        ),
+        (
+            &["hostd", "decode", "syn.hex"],
+            Ok(Line::Decode { hex: "syn.hex" }),
+        ),
+        (&["hostd"], Err(ErrorKind::MissingSubcommand)),
+        (&["hostd", "sim"], Err(ErrorKind::MissingRequiredArgument)),
+        (
+            &["hostd", "sim", "one", "two"],
+            Err(ErrorKind::UnknownArgument),
+        ),
         (
             &["hostd", "sim", "--fast", "one"],
-            ErrorKind::UnknownArgument,
+            Err(ErrorKind::UnknownArgument),
         ),
         (
             &["hostd", "copy", "one", "two"],
-            ErrorKind::InvalidSubcommand,
+            Err(ErrorKind::InvalidSubcommand),
         ),
-        (&["hostd", "decode"], ErrorKind::MissingRequiredArgument),
+        (
+            &["hostd", "decode"],
+            Err(ErrorKind::MissingRequiredArgument),
+        ),
         (
             &["hostd", "decode", "one", "two"],
-            ErrorKind::UnknownArgument,
+            Err(ErrorKind::UnknownArgument),
         ),
-        (&["hostd", "--help"], ErrorKind::DisplayHelp),
-        (&["hostd", "sim", "--help"], ErrorKind::DisplayHelp),
-        (&["hostd", "decode", "--help"], ErrorKind::DisplayHelp),
+        (&["hostd", "--help"], Err(ErrorKind::DisplayHelp)),
+        (&["hostd", "sim", "--help"], Err(ErrorKind::DisplayHelp)),
+        (&["hostd", "decode", "--help"], Err(ErrorKind::DisplayHelp)),
     ];
     for (words, want) in rows {
-        match line(rt.alloc(), words) {
-            Ok(asked) => panic!(rt; "{words:?} asks for {asked:?}"),
-            Err(error) => assert_eq!(rt; error.kind(), want, "{words:?}"),
-        }
+        let asked = line(rt.alloc(), words).map_err(|error| error.kind());
+        assert_eq!(rt; asked, want, "{words:?}");
     }
 }

@@ -1,72 +1,140 @@
-//! Sources and sinks that fail, or move a few octets at a time.
+//! What a script and frames print, on sources and sinks that fail or move a few octets at a time.
 
+use super::{Asked, Device, GOOD, ended};
 use crate::fault::TextFault;
-use crate::sim::sim;
-use crate::streams::memory::{MemorySink, MemorySource};
-use crate::streams::{Sink, Source};
+use decode::DropCause;
+use std::alloc::Global;
+use std::process::Abort;
 use std::test::Fail;
 
-const SCRIPT: &[u8] = b"a socket tcp\na state 1\na emit\n";
+const SCRIPT: &str = "a socket tcp
+a state 1
+a emit
+";
 
-const PRINTS: &[u8] = b"id 1\nCLOSED\nnone\n";
+const SCRIPT_PRINTS: &str = "id 1
+CLOSED
+none
+";
 
-// One octet a call: 30 reads for the octets, and one for the end.
-const READS: u64 = 31;
+// The SYN of a connection, as two lines and a half.
+const SYN: &str = "02 00 00 00 00 02  02 00 00 00 00 01  08 00
+4500002c 00004000 400626ca 0a000001 0a000002
+c0000050 FFFFFFFF 00000000 6002FFFF c3d30000 020405b4
+0000";
 
-// One octet a call: 17 writes, and a flush.
-const WRITES: u64 = 18;
+const SYN_SAYS: &str = "ether 02:00:00:00:00:02 02:00:00:00:00:01 0800
+ipv4 10.0.0.1 10.0.0.2 proto 6 ttl 64 id 0 off 0 flags DF payload 24
+tcp 49152 80 seq 4294967295 ack 0 flags S win 65535 mss 1460 data 0
+";
 
-#[test]
-fn pieces_change_nothing(rt: HostRuntime) {
-    for most in [1, 2, 7] {
-        let mut script = MemorySource::new(SCRIPT).in_pieces(most);
-        let mut out = MemorySink::new(rt.alloc()).in_pieces(most);
-        assert_eq!(rt; sim(rt.alloc(), &mut script, &mut out), Ok(()));
-        assert_eq!(rt; out.taken(), PRINTS);
-        assert_eq!(rt; (script.failures(), out.failures()), (0, 0));
+// A request of ARP, with the zeros that pad its frame.
+const ARP: &str =
+    "ffffffffffff020000000001080600010800060400010200000000010a0000010000000000000a000002
+000000000000000000000000000000000000";
+
+const ARP_SAYS: &str = "ether ff:ff:ff:ff:ff:ff 02:00:00:00:00:01 0806
+arp request 02:00:00:00:00:01 10.0.0.1 00:00:00:00:00:00 10.0.0.2
+";
+
+// The head of the SYN's frame, and nothing behind it.
+const BARE: &str = "020000000002 020000000001 0800";
+
+const BARE_SAYS: &str = "ether 02:00:00:00:00:02 02:00:00:00:00:01 0800\ndrop F4\n";
+
+// What is asked of a text, how it ends, and what it prints.
+type Row = (
+    Asked,
+    &'static str,
+    Result<Option<DropCause>, TextFault>,
+    &'static str,
+);
+
+const PRINTED: [Row; 5] = [
+    (Asked::Sim, SCRIPT, Ok(None), SCRIPT_PRINTS),
+    (Asked::Decode, SYN, Ok(None), SYN_SAYS),
+    (Asked::Decode, ARP, Ok(None), ARP_SAYS),
+    (
+        Asked::Decode,
+        BARE,
+        Ok(Some(DropCause::IpHeader)),
+        BARE_SAYS,
+    ),
+    (Asked::Decode, "", Ok(Some(DropCause::Short)), "drop F1\n"),
+];
+
+const REFUSED: [Row; 3] = [
+    (Asked::Decode, "0200000", Err(TextFault::NotHex), ""),
+    (Asked::Decode, "0 2", Err(TextFault::NotHex), ""),
+    (Asked::Decode, "02:00", Err(TextFault::NotHex), ""),
+];
+
+// The most octets that a call of a device moves.
+const PIECES: [usize; 4] = [1, 2, 7, 4096];
+
+// A device that moves an octet a call and fails at this one, counted from 1.
+fn failing(call: usize) -> Device {
+    Device {
+        most: 1,
+        fails_at: call as u64,
     }
 }
 
-#[test]
-fn a_source_that_fails_runs_nothing(rt: HostRuntime) {
-    for call in 1..=READS {
-        let mut script = MemorySource::new(SCRIPT).in_pieces(1).failing_at(call);
-        let mut out = MemorySink::new(rt.alloc());
-        let outcome = sim(rt.alloc(), &mut script, &mut out);
-        assert_eq!(rt; outcome, Err(TextFault::Read), "at {call}");
-        assert_eq!(rt; (script.failures(), out.failures()), (1, 0));
-        assert!(rt; out.taken().is_empty());
+// Devices that move a few octets at a time change nothing.
+fn moves_in_pieces(rt: &impl Abort, alloc: Global, (asked, text, want, prints): Row) {
+    for most in PIECES {
+        let device = Device { most, fails_at: 0 };
+        let end = ended(alloc, asked, text.as_bytes(), device, device);
+        assert_eq!(rt; end.told(), (want, (0, 0), prints.as_bytes()), "{text}");
     }
-    let mut script = MemorySource::new(SCRIPT).in_pieces(1).failing_at(READS + 1);
-    let mut out = MemorySink::new(rt.alloc());
-    assert_eq!(rt; sim(rt.alloc(), &mut script, &mut out), Ok(()));
+}
+
+// A source fails at each of its calls, that for the end too: then nothing is run.
+fn reads_fail(rt: &impl Abort, alloc: Global, (asked, text, want, prints): Row) {
+    let calls = text.len() + 1;
+    let nothing: &[u8] = &[];
+    for call in 1..=calls {
+        let end = ended(alloc, asked, text.as_bytes(), failing(call), GOOD);
+        let told = (Err(TextFault::Read), (1, 0), nothing);
+        assert_eq!(rt; end.told(), told, "{text} at {call}");
+    }
+    let end = ended(alloc, asked, text.as_bytes(), failing(calls + 1), GOOD);
+    assert_eq!(rt; end.told(), (want, (0, 0), prints.as_bytes()), "{text}");
+}
+
+// A sink fails at each of its calls, the flush too, and keeps what it took before. To take nothing of some octets is a failure.
+fn writes_fail(rt: &impl Abort, alloc: Global, (asked, text, want, prints): Row) {
+    let calls = prints.len() + 1;
+    for call in 1..=calls {
+        let end = ended(alloc, asked, text.as_bytes(), GOOD, failing(call));
+        let (taken, _) = prints.as_bytes().split_at(call - 1);
+        let told = (Err(TextFault::Write), (0, 1), taken);
+        assert_eq!(rt; end.told(), told, "{text} at {call}");
+    }
+    let end = ended(alloc, asked, text.as_bytes(), GOOD, failing(calls + 1));
+    assert_eq!(rt; end.told(), (want, (0, 0), prints.as_bytes()), "{text}");
+    let none = Device {
+        most: 0,
+        fails_at: 0,
+    };
+    let end = ended(alloc, asked, text.as_bytes(), GOOD, none);
+    assert_eq!(rt;
+        (end.answer, end.failures),
+        (Err(TextFault::Write), (0, 1)),
+        "{text}"
+    );
 }
 
 #[test]
-fn a_sink_that_fails_keeps_what_it_took(rt: HostRuntime) {
-    for call in 1..=WRITES {
-        let mut script = MemorySource::new(SCRIPT);
-        let mut out = MemorySink::new(rt.alloc()).in_pieces(1).failing_at(call);
-        let outcome = sim(rt.alloc(), &mut script, &mut out);
-        assert_eq!(rt; outcome, Err(TextFault::Write), "at {call}");
-        assert_eq!(rt; (script.failures(), out.failures()), (0, 1));
-        assert!(rt; PRINTS.starts_with(out.taken()));
-        assert_eq!(rt; out.taken().len() as u64, call - 1);
+fn devices_change_nothing_unless_they_fail(rt: HostRuntime) {
+    for row in REFUSED {
+        moves_in_pieces(&rt, rt.alloc(), row);
     }
-    let mut script = MemorySource::new(SCRIPT);
-    let mut out = MemorySink::new(rt.alloc())
-        .in_pieces(1)
-        .failing_at(WRITES + 1);
-    assert_eq!(rt; sim(rt.alloc(), &mut script, &mut out), Ok(()));
-}
-
-#[test]
-fn a_write_that_takes_nothing_is_a_failure(rt: HostRuntime) {
-    let mut script = MemorySource::new(SCRIPT);
-    let mut out = MemorySink::new(rt.alloc()).in_pieces(0);
-    let outcome = sim(rt.alloc(), &mut script, &mut out);
-    assert_eq!(rt; outcome, Err(TextFault::Write));
-    assert_eq!(rt; out.failures(), 1);
+    for row in PRINTED {
+        moves_in_pieces(&rt, rt.alloc(), row);
+        reads_fail(&rt, rt.alloc(), row);
+        writes_fail(&rt, rt.alloc(), row);
+    }
 }
 
 // More lines than the program holds back: a failure in mid-stream leaves the lines before it.
@@ -76,11 +144,13 @@ fn many_lines_are_handed_on_in_turn(rt: HostRuntime) -> Result<(), Fail> {
     for _ in 0..5000 {
         text.extend_from_slice(b"a emit\n")?;
     }
-    let mut script = MemorySource::new(text.as_slice());
-    let mut out = MemorySink::new(rt.alloc()).failing_at(2);
-    let outcome = sim(rt.alloc(), &mut script, &mut out);
-    assert_eq!(rt; outcome, Err(TextFault::Write));
-    assert!(rt; out.taken().starts_with(b"none\nnone\n"));
-    assert!(rt; out.taken().len() < 25_000);
+    let second = Device {
+        most: usize::MAX,
+        fails_at: 2,
+    };
+    let end = ended(rt.alloc(), Asked::Sim, text.as_slice(), GOOD, second);
+    assert_eq!(rt; end.answer, Err(TextFault::Write));
+    assert!(rt; end.sink.taken().starts_with(b"none\nnone\n"));
+    assert!(rt; end.sink.taken().len() < 25_000);
     Ok(())
 }

@@ -1,8 +1,6 @@
 //! Frames that find no room, and frames that the world refuses.
 
-use super::{ACCEPTED, OPENING, plays};
-use std::alloc::Global;
-use std::test::Fail;
+use super::{ACCEPTED, OPENING};
 
 // A backlog of one holds one connection until that is accepted.
 const BACKLOG: &str = "b socket tcp -> id 1
@@ -59,13 +57,29 @@ b deliver 3 0 -> taken
 b accept 1 -> id 9 10.0.0.1 49152
 ";
 
-// At most 16 resets wait to answer segments for no connection.
-const REPLIES: usize = 16;
-
 // Nobody listens at port 81.
 const NOBODY: &str = "a socket tcp -> id 1
 a connect 1 81 5 -> started
 a emit -> frame 0 24
+";
+
+// At most 16 resets wait to answer segments for no connection.
+const SIXTEEN_TAKEN: &str = "b deliver 0 0 -> taken
+b deliver 0 0 -> taken
+b deliver 0 0 -> taken
+b deliver 0 0 -> taken
+b deliver 0 0 -> taken
+b deliver 0 0 -> taken
+b deliver 0 0 -> taken
+b deliver 0 0 -> taken
+b deliver 0 0 -> taken
+b deliver 0 0 -> taken
+b deliver 0 0 -> taken
+b deliver 0 0 -> taken
+b deliver 0 0 -> taken
+b deliver 0 0 -> taken
+b deliver 0 0 -> taken
+b deliver 0 0 -> taken
 ";
 
 const ONE_REPLY_GOES: &str = "b deliver 0 0 -> drop F9
@@ -83,6 +97,25 @@ a connect 2 81 5 -> started
 a emit -> frame 3 24
 ";
 
+// The same number of resets that answer this one.
+const SIXTEEN_MORE: &str = "b deliver 3 0 -> taken
+b deliver 3 0 -> taken
+b deliver 3 0 -> taken
+b deliver 3 0 -> taken
+b deliver 3 0 -> taken
+b deliver 3 0 -> taken
+b deliver 3 0 -> taken
+b deliver 3 0 -> taken
+b deliver 3 0 -> taken
+b deliver 3 0 -> taken
+b deliver 3 0 -> taken
+b deliver 3 0 -> taken
+b deliver 3 0 -> taken
+b deliver 3 0 -> taken
+b deliver 3 0 -> taken
+b deliver 3 0 -> taken
+";
+
 // Where no reply has room, what needs none is taken: octets and a reset.
 const NEEDS_NO_REPLY: &str = "b deliver 3 0 -> drop F9
 a send 1 hello -> sent 5
@@ -96,6 +129,24 @@ b deliver 3 0 -> drop F9
 ";
 
 // The replies go out before all else.
+const SIXTEEN_GO: &str = "b emit -> frame 6 20
+b emit -> frame 7 20
+b emit -> frame 8 20
+b emit -> frame 9 20
+b emit -> frame 10 20
+b emit -> frame 11 20
+b emit -> frame 12 20
+b emit -> frame 13 20
+b emit -> frame 14 20
+b emit -> frame 15 20
+b emit -> frame 16 20
+b emit -> frame 17 20
+b emit -> frame 18 20
+b emit -> frame 19 20
+b emit -> frame 20 20
+b emit -> frame 21 20
+";
+
 const WORLD_LAST: &str = "b emit -> frame 22 25
 b emit -> none
 a deliver 22 0 -> taken
@@ -175,59 +226,23 @@ b deliver 0 9 -> U3 OtherEpoch
 a deliver 0 9 -> U1 NoSuchFrame
 ";
 
-// A script's line, so many times.
-fn repeated(alloc: Global, line: &str, times: usize) -> Result<String, Fail> {
-    let mut lines = String::new(alloc);
-    for _ in 0..times {
-        lines.push_str(line)?;
-    }
-    Ok(lines)
-}
-
-#[test]
-fn connections_find_no_room(rt: HostRuntime) -> Result<(), Fail> {
-    plays(&rt, rt.alloc(), &[BACKLOG])?;
-    plays(&rt, rt.alloc(), &[TABLE])
-}
-
-#[test]
-fn a_seventeenth_reply_finds_no_room(rt: HostRuntime) -> Result<(), Fail> {
-    let alloc = rt.alloc();
-    let sixteen = repeated(alloc, "b deliver 0 0 -> taken\n", REPLIES)?;
-    plays(&rt, alloc, &[NOBODY, sixteen.as_str(), ONE_REPLY_GOES])?;
-    let sixteen = repeated(alloc, "b deliver 3 0 -> taken\n", REPLIES)?;
-    let mut going = String::new(alloc);
-    for index in 6..22 {
-        write!(going, "b emit -> frame {index} 20\n")?;
-    }
-    plays(
-        &rt,
-        alloc,
-        &[
-            OPENING,
-            ACCEPTED,
-            ANOTHER,
-            sixteen.as_str(),
-            NEEDS_NO_REPLY,
-            going.as_str(),
-            WORLD_LAST,
-            sixteen.as_str(),
-            RESET_TAKEN,
-        ],
-    )
-}
-
-#[test]
-fn the_world_refuses_events(rt: HostRuntime) -> Result<(), Fail> {
-    plays(&rt, rt.alloc(), &[SECOND_OPENING])?;
-    plays(
-        &rt,
-        rt.alloc(),
-        &["limit 10 -> ok\n", OPENING, ACCEPTED, UNFAIR],
-    )?;
-    plays(
-        &rt,
-        rt.alloc(),
-        &["limit 1 -> ok\n", OPENING, ACCEPTED, FIRST_RULE],
-    )
-}
+/// Connections find no room, nor does a seventeenth reply; the world refuses events.
+pub const TRANSCRIPTS: &[&[&str]] = &[
+    &[BACKLOG],
+    &[TABLE],
+    &[NOBODY, SIXTEEN_TAKEN, ONE_REPLY_GOES],
+    &[
+        OPENING,
+        ACCEPTED,
+        ANOTHER,
+        SIXTEEN_MORE,
+        NEEDS_NO_REPLY,
+        SIXTEEN_GO,
+        WORLD_LAST,
+        SIXTEEN_MORE,
+        RESET_TAKEN,
+    ],
+    &[SECOND_OPENING],
+    &["limit 10 -> ok\n", OPENING, ACCEPTED, UNFAIR],
+    &["limit 1 -> ok\n", OPENING, ACCEPTED, FIRST_RULE],
+];

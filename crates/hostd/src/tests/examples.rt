@@ -1,8 +1,5 @@
 //! The scripts of the folder `examples`, each with all that it prints. A file there has the same lines without the arrows.
 
-use super::plays;
-use std::test::Fail;
-
 // examples/handshake.txt
 const HANDSHAKE: &str = "# Two hosts open a connection, and a sends five octets to b.
 #
@@ -228,12 +225,11 @@ pass 0 -> a 1 b 1
 b recv 3 100 -> octets xxxxxxxxxxxxxxxx
 ";
 
-#[test]
-fn examples_print_what_they_say(rt: HostRuntime) -> Result<(), Fail> {
-    let alloc = rt.alloc();
-    plays(&rt, alloc, &[HANDSHAKE])?;
-    plays(&rt, alloc, &[LOSS_REPAIRED])?;
-    plays(&rt, alloc, &[SIMULTANEOUS_CLOSE])?;
-    plays(&rt, alloc, &[RESET])?;
-    plays(&rt, alloc, &[OLD_SEGMENT_REFUSED])
-}
+/// The examples, each alone.
+pub const TRANSCRIPTS: &[&[&str]] = &[
+    &[HANDSHAKE],
+    &[LOSS_REPAIRED],
+    &[SIMULTANEOUS_CLOSE],
+    &[RESET],
+    &[OLD_SEGMENT_REFUSED],
+];

@@ -1,11 +1,11 @@
-//! Lines that are bad, and the text of octets.
+//! Lines that are bad, texts that are too long, and the text of octets.
 
-use super::run;
-use crate::answer::escape;
+use super::{Asked, GOOD, ended};
 use crate::fault::TextFault;
-use crate::sim::sim;
-use crate::streams::memory::{MemorySink, MemorySource};
+use decode::DropCause;
+use script::{Style, show};
 use std::test::Fail;
+use wire_sim::Answer;
 
 // Each of these is bad wherever it stands.
 const BAD: [&str; 47] = [
@@ -58,58 +58,90 @@ const BAD: [&str; 47] = [
     "a sendto 1 5001 hello",
 ];
 
+// A script without commands, how it ends and what it prints: the limit comes first, or is bad.
+const SCRIPTS: [(&str, Result<Option<DropCause>, TextFault>, &str); 8] = [
+    ("", Ok(None), ""),
+    ("#\r\tany ASCII\n\n", Ok(None), ""),
+    ("limit 1073741824\n", Ok(None), "ok\n"),
+    ("limit 001", Ok(None), "ok\n"),
+    ("# first\n\nlimit 1", Ok(None), "ok\n"),
+    ("limit 1\nlimit 1", Err(TextFault::Line(2)), ""),
+    ("a emit\nlimit 1", Err(TextFault::Line(2)), ""),
+    ("limit", Err(TextFault::Line(1)), ""),
+];
+
+// A text has a million octets at most, and one of more is too long whatever they are: what it begins with, how often which octet
+// comes then, and what it ends with.
+const LONG: [(
+    Asked,
+    &str,
+    (usize, u8),
+    &str,
+    Result<Option<DropCause>, TextFault>,
+); 5] = [
+    (Asked::Sim, "#", (999_998, b'x'), "\n", Ok(None)),
+    (
+        Asked::Sim,
+        "#",
+        (999_999, b'x'),
+        "\n",
+        Err(TextFault::TooLong),
+    ),
+    (
+        Asked::Sim,
+        "",
+        (1_000_001, b'x'),
+        "",
+        Err(TextFault::TooLong),
+    ),
+    (
+        Asked::Decode,
+        "",
+        (1_000_000, b' '),
+        "",
+        Ok(Some(DropCause::Short)),
+    ),
+    (
+        Asked::Decode,
+        "",
+        (1_000_001, b' '),
+        "",
+        Err(TextFault::TooLong),
+    ),
+];
+
 #[test]
-fn bad_lines_end_before_anything_is_run(rt: HostRuntime) -> Result<(), Fail> {
+fn texts_are_refused_before_anything_is_run(rt: HostRuntime) -> Result<(), Fail> {
+    let alloc = rt.alloc();
     for line in BAD {
-        let script = format!(in rt.alloc(); "a socket tcp\n\n# comment\n{line}\nbad too\n")?;
-        let (outcome, out) = run(rt.alloc(), script.as_str());
-        assert_eq!(rt; outcome, Err(TextFault::Line(4)), "{line}");
-        assert!(rt; out.taken().is_empty(), "{line}");
+        let script = format!(in alloc; "a socket tcp\n\n# comment\n{line}\nbad too\n")?;
+        let end = ended(alloc, Asked::Sim, script.as_bytes(), GOOD, GOOD);
+        assert_eq!(rt;
+            end.told(),
+            (Err(TextFault::Line(4)), (0, 0), b"".as_slice()),
+            "{line}"
+        );
     }
-    Ok(())
-}
-
-#[test]
-fn limit_comes_first_or_is_bad(rt: HostRuntime) {
-    for (script, want) in [
-        ("# first\n\nlimit 1", Ok(())),
-        ("limit 1\nlimit 1", Err(TextFault::Line(2))),
-        ("a emit\nlimit 1", Err(TextFault::Line(2))),
-        ("limit", Err(TextFault::Line(1))),
-    ] {
-        assert_eq!(rt; run(rt.alloc(), script).0, want, "{script}");
+    for (script, want, prints) in SCRIPTS {
+        let end = ended(alloc, Asked::Sim, script.as_bytes(), GOOD, GOOD);
+        assert_eq!(rt; end.told(), (want, (0, 0), prints.as_bytes()), "{script}");
     }
-}
-
-#[test]
-fn a_script_has_a_million_octets_at_most(rt: HostRuntime) -> Result<(), Fail> {
-    for (comment, want) in [(999_998, Ok(())), (999_999, Err(TextFault::TooLong))] {
-        let mut script = vec![in rt.alloc(); b'x'; comment]?;
-        script.insert(0, b'#')?;
-        script.push(b'\n')?;
-        let mut source = MemorySource::new(script.as_slice());
-        let mut out = MemorySink::new(rt.alloc());
-        assert_eq!(rt; sim(rt.alloc(), &mut source, &mut out), want);
+    for (asked, front, (count, octet), back, want) in LONG {
+        let mut text = Vec::from_slice(alloc, front.as_bytes())?;
+        text.extend_from_slice(vec![in alloc; octet; count]?.as_slice())?;
+        text.extend_from_slice(back.as_bytes())?;
+        let end = ended(alloc, asked, text.as_slice(), GOOD, GOOD);
+        assert_eq!(rt; end.answer, want, "{asked:?} {count}");
     }
-    Ok(())
-}
-
-#[test]
-fn a_long_script_is_too_long_whatever_its_lines(rt: HostRuntime) -> Result<(), Fail> {
-    let script = vec![in rt.alloc(); b'x'; 1_000_001]?;
-    let mut source = MemorySource::new(script.as_slice());
-    let mut out = MemorySink::new(rt.alloc());
-    assert_eq!(rt;
-        sim(rt.alloc(), &mut source, &mut out),
-        Err(TextFault::TooLong)
-    );
     Ok(())
 }
 
 #[test]
 fn octets_are_shown_as_text(rt: HostRuntime) -> Result<(), Fail> {
     let mut line = String::new(rt.alloc());
-    escape(&[0, 0x20, 0x21, b'\\', b'z', 0x7e, 0x7f, 0xaf], &mut line)?;
-    assert_eq!(rt; line.as_str(), "\\x00\\x20!\\x5cz~\\x7f\\xaf");
+    let octets = [0, 0x20, 0x21, b'\\', b'z', 0x7e, 0x7f, 0xaf];
+    let answer = Answer::Octets(Vec::from_slice(rt.alloc(), &octets)?);
+    show(&answer, Style::Text, &mut line)?;
+    assert_eq!(rt; line.as_str(), "octets \\x00\\x20!\\x5cz~\\x7f\\xaf");
     Ok(())
 }

@@ -1,7 +1,6 @@
 //! Every refusal of a call that a script can bring about, at each call that may answer it.
 
-use super::{ACCEPTED, OPENING, plays};
-use std::test::Fail;
+use super::{ACCEPTED, OPENING};
 
 // The id 1 names no socket of a. No other fault of a call is told before that.
 const NO_SOCKET: &str = "a bind 1 5 -> E1 EBADF
@@ -257,34 +256,18 @@ b tick 60000 -> ok
 b socket tcp -> id 9
 ";
 
-#[test]
-fn ids_name_sockets(rt: HostRuntime) -> Result<(), Fail> {
-    let alloc = rt.alloc();
-    plays(&rt, alloc, &[NO_SOCKET, GIVEN_BACK, NO_SOCKET])?;
-    plays(&rt, alloc, &[OPENING, OTHER_IDS])
-}
-
-#[test]
-fn calls_are_refused_by_state(rt: HostRuntime) -> Result<(), Fail> {
-    let alloc = rt.alloc();
-    plays(&rt, alloc, &[IDLE])?;
-    plays(&rt, alloc, &[LISTENING])?;
-    plays(&rt, alloc, &[CONNECTING])?;
-    plays(&rt, alloc, &[OPENING, ACCEPTED, CONNECTED])?;
-    plays(&rt, alloc, &[OPENING, ACCEPTED, ENDED])
-}
-
-#[test]
-fn errors_of_a_connection_stay(rt: HostRuntime) -> Result<(), Fail> {
-    let alloc = rt.alloc();
-    plays(&rt, alloc, &[TOLD_REFUSED])?;
-    plays(&rt, alloc, &[OPENING, ACCEPTED, TOLD_RESET])
-}
-
-#[test]
-fn ports_and_places_are_taken(rt: HostRuntime) -> Result<(), Fail> {
-    let alloc = rt.alloc();
-    plays(&rt, alloc, &[OPENING, ACCEPTED, PORT_IN_USE])?;
-    plays(&rt, alloc, &[EIGHT_SOCKETS])?;
-    plays(&rt, alloc, &[EIGHT_ENTRIES])
-}
+/// Ids name sockets; calls are refused by state; the errors of a connection stay; ports and places are taken.
+pub const TRANSCRIPTS: &[&[&str]] = &[
+    &[NO_SOCKET, GIVEN_BACK, NO_SOCKET],
+    &[OPENING, OTHER_IDS],
+    &[IDLE],
+    &[LISTENING],
+    &[CONNECTING],
+    &[OPENING, ACCEPTED, CONNECTED],
+    &[OPENING, ACCEPTED, ENDED],
+    &[TOLD_REFUSED],
+    &[OPENING, ACCEPTED, TOLD_RESET],
+    &[OPENING, ACCEPTED, PORT_IN_USE],
+    &[EIGHT_SOCKETS],
+    &[EIGHT_ENTRIES],
+];

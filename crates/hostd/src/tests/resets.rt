@@ -1,9 +1,6 @@
 //! A reset in each state that a connection goes through. The one that hears it is mostly a's, with the id 1.
 
-use super::{ACCEPTED, OPENING, plays};
-use std::alloc::Global;
-use std::process::Abort;
-use std::test::Fail;
+use super::{ACCEPTED, OPENING};
 
 // What a is answered where it is told an error, and that nothing is left to go out.
 const TOLD_RESET: &str = "a state 1 -> CLOSED
@@ -290,52 +287,46 @@ a recv 1 100 -> octets world
 a deliver 7 0 -> taken
 ";
 
-// Plays these parts from a connection that b has accepted, and then what a is answered.
-fn plays_on(rt: &impl Abort, alloc: Global, parts: &[&str], answers: &str) -> Result<(), Fail> {
-    let mut script = String::new(alloc);
-    for part in parts {
-        script.push_str(part)?;
-    }
-    plays(rt, alloc, &[OPENING, ACCEPTED, script.as_str(), answers])
-}
-
-#[test]
-fn resets_while_opening(rt: HostRuntime) -> Result<(), Fail> {
-    plays(&rt, rt.alloc(), &[SYN_SENT, TOLD_REFUSED])?;
-    plays(&rt, rt.alloc(), &[NOBODY_LISTENS])?;
-    plays(&rt, rt.alloc(), &[SYN_RECEIVED])?;
-    plays(&rt, rt.alloc(), &[OPENING, NOT_ACCEPTED])
-}
-
-#[test]
-fn resets_that_are_told(rt: HostRuntime) -> Result<(), Fail> {
-    let rows: [&[&str]; 8] = [
-        &[UNREAD, B_RESETS],
-        &[UNREAD, ALSO_UNREAD, B_RESETS],
-        &[UNREAD, FIN_WAIT_1],
-        &[UNREAD, FIN_WAIT_1_SENT],
-        &[UNREAD, FIN_WAIT_2, B_RESETS],
-        &[UNREAD, CLOSE_WAIT, B_RESETS],
-        &[UNREAD, PAST_A_GAP],
-        &[UNREAD, ALSO_UNREAD, BEFORE_THE_WINDOW],
-    ];
-    for row in rows {
-        plays_on(&rt, rt.alloc(), row, TOLD_RESET)?;
-    }
-    Ok(())
-}
-
-#[test]
-fn resets_after_both_ends(rt: HostRuntime) -> Result<(), Fail> {
-    let rows: [&[&str]; 5] = [
-        &[UNREAD, CLOSING],
-        &[UNREAD, CLOSE_WAIT, LAST_ACK],
-        &[UNREAD, ALSO_UNREAD, CLOSE_WAIT, LAST_ACK_UNREAD],
-        &[UNREAD, TIME_WAIT, B_RESETS],
-        &[LATE_COPY],
-    ];
-    for row in rows {
-        plays_on(&rt, rt.alloc(), row, TOLD_NOTHING)?;
-    }
-    plays(&rt, rt.alloc(), &[OPENING, ACCEPTED, LATE_COPY_OF_NOBODY])
-}
+/// Resets while a connection is opening, some that are told, and some after both ends.
+pub const TRANSCRIPTS: &[&[&str]] = &[
+    &[SYN_SENT, TOLD_REFUSED],
+    &[NOBODY_LISTENS],
+    &[SYN_RECEIVED],
+    &[OPENING, NOT_ACCEPTED],
+    &[OPENING, ACCEPTED, UNREAD, B_RESETS, TOLD_RESET],
+    &[OPENING, ACCEPTED, UNREAD, ALSO_UNREAD, B_RESETS, TOLD_RESET],
+    &[OPENING, ACCEPTED, UNREAD, FIN_WAIT_1, TOLD_RESET],
+    &[OPENING, ACCEPTED, UNREAD, FIN_WAIT_1_SENT, TOLD_RESET],
+    &[OPENING, ACCEPTED, UNREAD, FIN_WAIT_2, B_RESETS, TOLD_RESET],
+    &[OPENING, ACCEPTED, UNREAD, CLOSE_WAIT, B_RESETS, TOLD_RESET],
+    &[OPENING, ACCEPTED, UNREAD, PAST_A_GAP, TOLD_RESET],
+    &[
+        OPENING,
+        ACCEPTED,
+        UNREAD,
+        ALSO_UNREAD,
+        BEFORE_THE_WINDOW,
+        TOLD_RESET,
+    ],
+    &[OPENING, ACCEPTED, UNREAD, CLOSING, TOLD_NOTHING],
+    &[
+        OPENING,
+        ACCEPTED,
+        UNREAD,
+        CLOSE_WAIT,
+        LAST_ACK,
+        TOLD_NOTHING,
+    ],
+    &[
+        OPENING,
+        ACCEPTED,
+        UNREAD,
+        ALSO_UNREAD,
+        CLOSE_WAIT,
+        LAST_ACK_UNREAD,
+        TOLD_NOTHING,
+    ],
+    &[OPENING, ACCEPTED, UNREAD, TIME_WAIT, B_RESETS, TOLD_NOTHING],
+    &[OPENING, ACCEPTED, LATE_COPY, TOLD_NOTHING],
+    &[OPENING, ACCEPTED, LATE_COPY_OF_NOBODY],
+];

@@ -1,7 +1,6 @@
 //! What good scripts print.
 
-use super::{ACCEPTED, OPENING, plays, run};
-use std::test::Fail;
+use super::{ACCEPTED, NINE_CROSSINGS, OPENING};
 
 // A frame that comes twice is read once.
 const TWICE: &str = "a send 1 hello -> sent 5
@@ -153,51 +152,25 @@ pass 0 -> a 1 b 1
 b recv 2 2000000 -> octets y
 ";
 
-#[test]
-fn octets_are_carried(rt: HostRuntime) -> Result<(), Fail> {
-    plays(&rt, rt.alloc(), &[OPENING, ACCEPTED, TWICE])?;
-    plays(
-        &rt,
-        rt.alloc(),
-        &["# stale\n\nlimit 16 -> ok\n", OPENING, ACCEPTED, STALE],
-    )?;
-    plays(&rt, rt.alloc(), &[OPENING, ACCEPTED, PARTS])?;
-    plays(&rt, rt.alloc(), &[OPENING, ACCEPTED, RESENT])
-}
-
-#[test]
-fn calls_are_answered(rt: HostRuntime) -> Result<(), Fail> {
-    plays(&rt, rt.alloc(), &[IDLE])?;
-    plays(&rt, rt.alloc(), &[BUSY])?;
-    plays(&rt, rt.alloc(), &[BACKLOG])?;
-    plays(&rt, rt.alloc(), &[PORTS])
-}
-
-#[test]
-fn a_closed_window_opens(rt: HostRuntime) -> Result<(), Fail> {
-    let mut filled = String::new(rt.alloc());
-    filled.push_str(FULL)?;
-    for _ in 0..45 {
-        filled.push_str("pass 0 -> a 1 b 1\n")?;
-    }
-    plays(
-        &rt,
-        rt.alloc(),
-        &[OPENING, ACCEPTED, filled.as_str(), OPENED_AGAIN],
-    )
-}
-
-#[test]
-fn lines_that_print_nothing_or_a_limit(rt: HostRuntime) {
-    let rows = [
-        ("", ""),
-        ("#\r\tany ASCII\n\n", ""),
-        ("limit 1073741824\n", "ok\n"),
-        ("limit 001", "ok\n"),
-    ];
-    for (script, want) in rows {
-        let (outcome, out) = run(rt.alloc(), script);
-        assert_eq!(rt; outcome, Ok(()), "{script}");
-        assert_eq!(rt; out.taken(), want.as_bytes(), "{script}");
-    }
-}
+/// Octets are carried; calls are answered; a closed window opens.
+pub const TRANSCRIPTS: &[&[&str]] = &[
+    &[OPENING, ACCEPTED, TWICE],
+    &["# stale\n\nlimit 16 -> ok\n", OPENING, ACCEPTED, STALE],
+    &[OPENING, ACCEPTED, PARTS],
+    &[OPENING, ACCEPTED, RESENT],
+    &[IDLE],
+    &[BUSY],
+    &[BACKLOG],
+    &[PORTS],
+    &[
+        OPENING,
+        ACCEPTED,
+        FULL,
+        NINE_CROSSINGS,
+        NINE_CROSSINGS,
+        NINE_CROSSINGS,
+        NINE_CROSSINGS,
+        NINE_CROSSINGS,
+        OPENED_AGAIN,
+    ],
+];

@@ -1,15 +1,11 @@
 //! A reader that doesn't read: the window closes, and the writer waits.
 
-use super::{ACCEPTED, OPENING, plays};
-use std::alloc::Global;
-use std::test::Fail;
+use super::{ACCEPTED, NINE_CROSSINGS, OPENING};
 
 // 65,535 octets are 44 segments of 1,460 and one of 1,295, and as many are given again once they are acknowledged.
 const FILLED: &str = "a fill 1 70000 -> sent 65535
 a fill 1 1 -> E8 EAGAIN
 ";
-
-const SEGMENTS: usize = 45;
 
 // The window is closed. The end that a's caller asks for waits behind the octets.
 const WAITING: &str = "a fill 1 70000 -> sent 65535
@@ -59,46 +55,36 @@ b state 2 -> CLOSE-WAIT
 b count 2 2000000 -> end
 ";
 
-// The segments of a filled window go out one by one, each acknowledged.
-fn crossings(alloc: Global) -> Result<String, Fail> {
-    let mut lines = String::new(alloc);
-    for _ in 0..SEGMENTS {
-        lines.push_str("pass 0 -> a 1 b 1\n")?;
-    }
-    Ok(lines)
-}
-
-#[test]
-fn a_closed_window_holds_octets_and_the_end_back(rt: HostRuntime) -> Result<(), Fail> {
-    let crossings = crossings(rt.alloc())?;
-    plays(
-        &rt,
-        rt.alloc(),
-        &[
-            OPENING,
-            ACCEPTED,
-            FILLED,
-            crossings.as_str(),
-            WAITING,
-            READ_IN_PART,
-            crossings.as_str(),
-            READ_AT_LAST,
-        ],
-    )
-}
-
-#[test]
-fn an_end_at_a_closed_window_comes_later(rt: HostRuntime) -> Result<(), Fail> {
-    let crossings = crossings(rt.alloc())?;
-    plays(
-        &rt,
-        rt.alloc(),
-        &[
-            OPENING,
-            ACCEPTED,
-            FILLED,
-            crossings.as_str(),
-            END_FINDS_NO_PLACE,
-        ],
-    )
-}
+/// A closed window holds octets and the end back; an end at a closed window comes later. The segments of a filled window go
+/// out one by one, each acknowledged.
+pub const TRANSCRIPTS: &[&[&str]] = &[
+    &[
+        OPENING,
+        ACCEPTED,
+        FILLED,
+        NINE_CROSSINGS,
+        NINE_CROSSINGS,
+        NINE_CROSSINGS,
+        NINE_CROSSINGS,
+        NINE_CROSSINGS,
+        WAITING,
+        READ_IN_PART,
+        NINE_CROSSINGS,
+        NINE_CROSSINGS,
+        NINE_CROSSINGS,
+        NINE_CROSSINGS,
+        NINE_CROSSINGS,
+        READ_AT_LAST,
+    ],
+    &[
+        OPENING,
+        ACCEPTED,
+        FILLED,
+        NINE_CROSSINGS,
+        NINE_CROSSINGS,
+        NINE_CROSSINGS,
+        NINE_CROSSINGS,
+        NINE_CROSSINGS,
+        END_FINDS_NO_PLACE,
+    ],
+];

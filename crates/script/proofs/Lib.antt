@@ -1,0 +1,3 @@
+pub mod ActionLemmas
+pub mod ScriptLemmas
+pub mod WordLemmas

@@ -1,0 +1,35 @@
+-- Each long keyword is known by its length and its octets.
+use Rattle.std.proofs.Common.{rules, ◌≡◌, codes, arith, ap, sym}
+use Rattle.std.proofs.lemmas.Slice.Eq.{text_from_reads}
+use Rattle.script.specs.Keywords.{keyword_of}
+use Rattle.script.proofs.action.Keyword.parse.Goals as goal
+
+pub returns-in-socket : goal.returns-in-socket
+returns-in-socket c =
+    let same : c.args.word.now ≡ codes "socket" = text_from_reads _ _ (omega arith) (search rules) in
+    ap keyword_of (sym same)
+
+pub returns-in-listen : goal.returns-in-listen
+returns-in-listen c =
+    let same : c.args.word.now ≡ codes "listen" = text_from_reads _ _ (omega arith) (search rules) in
+    ap keyword_of (sym same)
+
+pub returns-in-accept : goal.returns-in-accept
+returns-in-accept c =
+    let same : c.args.word.now ≡ codes "accept" = text_from_reads _ _ (omega arith) (search rules) in
+    ap keyword_of (sym same)
+
+pub returns-in-connect : goal.returns-in-connect
+returns-in-connect c =
+    let same : c.args.word.now ≡ codes "connect" = text_from_reads _ _ (omega arith) (search rules) in
+    ap keyword_of (sym same)
+
+pub returns-in-shutdown : goal.returns-in-shutdown
+returns-in-shutdown c =
+    let same : c.args.word.now ≡ codes "shutdown" = text_from_reads _ _ (omega arith) (search rules) in
+    ap keyword_of (sym same)
+
+pub returns-in-deliver : goal.returns-in-deliver
+returns-in-deliver c =
+    let same : c.args.word.now ≡ codes "deliver" = text_from_reads _ _ (omega arith) (search rules) in
+    ap keyword_of (sym same)

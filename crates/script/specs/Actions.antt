@@ -1,0 +1,64 @@
+-- What a script's line has one host do, by the words that follow the host's name.
+use Rattle.std.specs.Prelude.{ℕ, ◌-◌, ◌^◌, List, [], ◌∷◌, Option, Some, None, codes, option_map, option_and_then, if◌then◌else◌}
+use Rattle.std.specs.Str.{bytes_eq}
+use Rattle.tcp_segment.specs.declared.seq.Seq.{Seq}
+use Rattle.tcp_state.specs.declared.moment.Moment.{Moment}
+use Rattle.host.specs.declared.entry.SocketId.{SocketId}
+use Rattle.script.specs.Words.{number_of, text_of}
+use Rattle.script.specs.Keywords.{keyword_of}
+use Rattle.script.specs.declared.action.Keyword.{Keyword}
+use Rattle.script.specs.declared.action.Keyword.TheVariants as keyword
+use Rattle.script.specs.declared.action.Action.{Action}
+use Rattle.script.specs.declared.action.Action.TheVariants.{Socket, Bind, Listen, Accept, Connect, Send, Fill, Recv, Count, Shutdown, Close, State, Tick, Emit, Deliver}
+
+-- a number of 64 bits
+abbrev pub wide : List ℕ → Option ℕ
+wide word = number_of (2 ^ 64 - 1) word
+
+-- a count of octets
+abbrev pub octets_of : List ℕ → Option ℕ
+octets_of word = number_of 2000000 word
+
+-- a port
+abbrev pub port_of : List ℕ → Option ℕ
+port_of word = number_of (2 ^ 16 - 1) word
+
+-- the id of a socket
+abbrev pub id_of : List ℕ → Option SocketId
+id_of word = option_map (λ n. record { 0 = n }) (wide word)
+
+-- a moment in milliseconds
+abbrev pub moment_of : List ℕ → Option Moment
+moment_of word = option_map (λ n. record { 0 = n }) (wide word)
+
+-- an initial sequence number
+abbrev pub isn_of : List ℕ → Option Seq
+isn_of word = option_map (λ n. record { 0 = n }) (number_of (2 ^ 32 - 1) word)
+
+-- what is made of two parts, if both are there
+abbrev pub together : {A B C : Type 0} → (A → B → C) → Option A → Option B → Option C
+together make a b = option_and_then (λ x. option_map (λ y. make x y) b) a
+
+-- what a keyword says with its arguments
+abbrev pub said_by : Keyword → List (List ℕ) → Option Action
+said_by keyword.Socket (kind ∷ []) = if bytes_eq kind (codes "tcp") then Some Socket else None
+said_by keyword.Bind (id ∷ port ∷ []) = together Bind (id_of id) (port_of port)
+said_by keyword.Listen (id ∷ backlog ∷ []) = together Listen (id_of id) (wide backlog)
+said_by keyword.Accept (id ∷ []) = option_map Accept (id_of id)
+said_by keyword.Connect (id ∷ port ∷ isn ∷ []) = option_and_then (λ s. together (λ p i. Connect s p i) (port_of port) (isn_of isn)) (id_of id)
+said_by keyword.Send (id ∷ text ∷ []) = together Send (id_of id) (text_of text)
+said_by keyword.Fill (id ∷ count ∷ []) = together Fill (id_of id) (octets_of count)
+said_by keyword.Recv (id ∷ most ∷ []) = together Recv (id_of id) (octets_of most)
+said_by keyword.Count (id ∷ most ∷ []) = together Count (id_of id) (octets_of most)
+said_by keyword.Shutdown (id ∷ []) = option_map Shutdown (id_of id)
+said_by keyword.Close (id ∷ []) = option_map Close (id_of id)
+said_by keyword.State (id ∷ []) = option_map State (id_of id)
+said_by keyword.Tick (moment ∷ []) = option_map Tick (moment_of moment)
+said_by keyword.Emit [] = Some Emit
+said_by keyword.Deliver (index ∷ isn ∷ []) = together Deliver (wide index) (isn_of isn)
+said_by keyword arguments = None
+
+-- what the words after a host's name say
+abbrev pub action_of : List (List ℕ) → Option Action
+action_of [] = None
+action_of (first ∷ arguments) = option_and_then (λ keyword. said_by keyword arguments) (keyword_of first)

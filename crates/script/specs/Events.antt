@@ -1,0 +1,46 @@
+-- What happens in the world where a host does what a script's line says.
+use Rattle.std.specs.Prelude.{◌≡◌, ℕ, [], ◌∷◌, replicate}
+use Rattle.ipv4.specs.declared.addr.Addr.{Addr}
+use Rattle.ipv4.specs.declared.addr.Endpoint.{Endpoint}
+use Rattle.wire_sim.specs.declared.event.Side.{Side}
+use Rattle.wire_sim.specs.declared.event.Side.TheVariants.{A, B}
+use Rattle.wire_sim.specs.declared.event.Event.{Event}
+use Rattle.wire_sim.specs.declared.event.Event.TheVariants as event
+use Rattle.wire_sim.specs.declared.event.Call.TheVariants as call
+use Rattle.host.specs.declared.Kind.TheVariants.{Tcp}
+use Rattle.script.specs.declared.action.Action.{Action}
+use Rattle.script.specs.declared.action.Action.TheVariants.{Socket, Bind, Listen, Accept, Connect, Send, Fill, Recv, Count, Shutdown, Close, State, Tick, Emit, Deliver}
+
+-- the other host
+abbrev pub other_side : Side → Side
+other_side A = B
+other_side B = A
+
+-- 10.0.0.1 for a, 10.0.0.2 for b
+abbrev pub address_of : Side → Addr
+address_of A = record { 0 = 10 ∷ 0 ∷ 0 ∷ 1 ∷ [] }
+address_of B = record { 0 = 10 ∷ 0 ∷ 0 ∷ 2 ∷ [] }
+
+-- a port of a side's host
+abbrev pub endpoint_of : Side → ℕ → Endpoint
+endpoint_of side port = record { addr = address_of side; port = port }
+
+-- the event is what the action of this side's host says
+abbrev pub IsEventOf : Side → Action → Event → Type 0
+IsEventOf side Socket happens = happens ≡ event.Call side (call.Socket Tcp)
+IsEventOf side (Bind id port) happens = happens ≡ event.Call side (call.Bind id (endpoint_of side port))
+IsEventOf side (Listen id backlog) happens = happens ≡ event.Call side (call.Listen id backlog)
+IsEventOf side (Accept id) happens = happens ≡ event.Call side (call.Accept id)
+IsEventOf side (Connect id port isn) happens = happens ≡ event.Call side (call.Connect isn id (endpoint_of (other_side side) port))
+IsEventOf side (Send id text) (event.Call s (call.Send i octets)) = (s ≡ side) × (i ≡ id) × (octets.items ≡ text)
+IsEventOf side (Send id text) happens = ⊥
+IsEventOf side (Fill id count) (event.Call s (call.Send i octets)) = (s ≡ side) × (i ≡ id) × (octets.items ≡ replicate count 120)
+IsEventOf side (Fill id count) happens = ⊥
+IsEventOf side (Recv id most) happens = happens ≡ event.Call side (call.Recv id most)
+IsEventOf side (Count id most) happens = happens ≡ event.Call side (call.Recv id most)
+IsEventOf side (Shutdown id) happens = happens ≡ event.Call side (call.Shutdown id)
+IsEventOf side (Close id) happens = happens ≡ event.Call side (call.Close id)
+IsEventOf side (State id) happens = happens ≡ event.Call side (call.State id)
+IsEventOf side (Tick moment) happens = happens ≡ event.Tick side moment
+IsEventOf side Emit happens = happens ≡ event.Emit side
+IsEventOf side (Deliver index isn) happens = happens ≡ event.Deliver side index isn

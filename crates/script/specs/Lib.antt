@@ -1,0 +1,6 @@
+pub mod Words
+pub mod Keywords
+pub mod Actions
+pub mod Script
+pub mod Text
+pub mod Events

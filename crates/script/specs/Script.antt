@@ -1,0 +1,103 @@
+-- What the lines of a script say, and which of them is the first that is bad.
+use Rattle.std.specs.Prelude.{ℕ, ⊤, ◌≤◌, ◌+◌, ◌^◌, ◌==◌, List, [], ◌∷◌, Option, Some, None, Bool, true, false, ◌&&◌, not, is_some, length, slice_get, codes, option_map, option_and_then, if◌then◌else◌}
+use Rattle.std.specs.List.{filter_map}
+use Rattle.std.specs.Str.{bytes_eq}
+use Rattle.wire_sim.specs.declared.event.Side.TheVariants.{A, B}
+use Rattle.script.specs.Words.{number_of, words_of, lines_of, is_ascii_line}
+use Rattle.script.specs.Actions.{action_of, isn_of}
+use Rattle.script.specs.declared.lines.Subject.{Subject}
+use Rattle.script.specs.declared.lines.Subject.TheVariants as subject
+use Rattle.script.specs.declared.lines.Command.{Command}
+use Rattle.script.specs.declared.lines.Command.TheVariants.{At, Pass}
+use Rattle.script.specs.declared.lines.Item.{Item}
+use Rattle.script.specs.declared.lines.Item.TheVariants.{Nothing, Limit, Do}
+
+-- the N of `limit`, from 1 to 2^30
+abbrev pub limit_in : List (List ℕ) → Option ℕ
+limit_in (word ∷ []) = option_and_then (λ n. if n == 0 then None else Some n) (number_of (2 ^ 30) word)
+limit_in words = None
+
+-- what `pass` says with the words after it
+abbrev pub pass_in : List (List ℕ) → Option Command
+pass_in (isn ∷ []) = option_map Pass (isn_of isn)
+pass_in words = None
+
+-- what a word is as the first of a line
+abbrev pub subject_of : List ℕ → Option Subject
+subject_of word =
+    if bytes_eq word (codes "limit") then Some subject.Limit
+    else if bytes_eq word (codes "pass") then Some subject.Pass
+    else if bytes_eq word (codes "a") then Some (subject.Host A)
+    else if bytes_eq word (codes "b") then Some (subject.Host B)
+    else None
+
+-- what a line's first word says with the words after it
+abbrev pub said_of : Subject → List (List ℕ) → Option Item
+said_of subject.Limit rest = option_map Limit (limit_in rest)
+said_of subject.Pass rest = option_map Do (pass_in rest)
+said_of (subject.Host side) rest = option_map (λ act. Do (At side act)) (action_of rest)
+
+-- what the words of a line say
+abbrev pub said_in : List (List ℕ) → Option Item
+said_in [] = None
+said_in (first ∷ rest) = option_and_then (λ word. said_of word rest) (subject_of first)
+
+-- what a line says: an empty line and a comment say nothing, and a bad line isn't any of the forms
+abbrev pub item_of : List ℕ → Option Item
+item_of [] = Some Nothing
+item_of (first ∷ rest) =
+    if first == 35 then (if is_ascii_line (first ∷ rest) then Some Nothing else None)
+    else said_in (words_of (first ∷ rest))
+
+-- whether a line is bad, where nothing was said before it (`start`) or something was: `limit` may only come first
+abbrev pub is_bad : Bool → Option Item → Bool
+is_bad start None = true
+is_bad start (Some (Limit n)) = not start
+is_bad start (Some item) = false
+
+-- whether a line says nothing
+abbrev pub says_nothing : Option Item → Bool
+says_nothing (Some Nothing) = true
+says_nothing item = false
+
+-- the number of the first bad line, where the first of these lines has the number n
+abbrev pub first_bad_from : Bool → ℕ → List (List ℕ) → Option ℕ
+first_bad_from start n [] = None
+first_bad_from start n (line ∷ rest) =
+    if is_bad start (item_of line) then Some n
+    else first_bad_from (start && says_nothing (item_of line)) (n + 1) rest
+
+-- the number of the first bad line of a script, counted from 1 over all lines
+abbrev pub first_bad_line : List ℕ → Option ℕ
+first_bad_line octets = first_bad_from true 1 (lines_of octets)
+
+-- the command that a line says
+abbrev pub command_in : Option Item → Option Command
+command_in (Some (Do command)) = Some command
+command_in item = None
+
+-- the N that a line's `limit` says
+abbrev pub limit_said : Option Item → Option ℕ
+limit_said (Some (Limit n)) = Some n
+limit_said item = None
+
+-- the commands of some lines, in order
+abbrev pub commands_of : List (List ℕ) → List Command
+commands_of lines = filter_map (λ line. command_in (item_of line)) lines
+
+-- the limits of some lines, in order
+abbrev pub limits_of : List (List ℕ) → List ℕ
+limits_of lines = filter_map (λ line. limit_said (item_of line)) lines
+
+-- the limit of a script, if it has one
+abbrev pub limit_of : List ℕ → Option ℕ
+limit_of octets = slice_get (limits_of (lines_of octets)) 0
+
+-- whether nothing was said so far
+abbrev pub is_start : Option ℕ → List Command → Bool
+is_start limit commands = not (is_some limit) && length commands == 0
+
+-- the N of a line's `limit` is from 1 to 2^30
+abbrev pub HasLimitInRange : Option Item → Type 0
+HasLimitInRange (Some (Limit n)) = (1 ≤ n) × (n ≤ 2 ^ 30)
+HasLimitInRange item = ⊤

@@ -1,0 +1,96 @@
+//! What happens in the world where a host does what a line says.
+
+ghost use Rattle.std.specs.Prelude.{◌≡◌, IfOk};
+ghost use Rattle.script.specs.Events.{IsEventOf, address_of, endpoint_of, other_side};
+
+use crate::action::Action;
+use host::Kind;
+use ipv4::{Addr, Endpoint};
+use std::alloc::{AllocError, Global};
+use wire_sim::{Call, Event, Side};
+
+/// The address of a side's host.
+pub fn address(side: Side) -> Addr
+    ensures { result ≡ address_of side }
+{
+    match side {
+        Side::A => Addr([10, 0, 0, 1]),
+        Side::B => Addr([10, 0, 0, 2]),
+    }
+}
+
+/// The side of the other host.
+pub fn other(side: Side) -> Side
+    ensures { result ≡ other_side side }
+{
+    match side {
+        Side::A => Side::B,
+        Side::B => Side::A,
+    }
+}
+
+/// What happens in the world where a host does `action`.
+pub fn event(alloc: Global, side: Side, action: &Action<'_>) -> Result<Event, AllocError>
+    ensures { IfOk result (IsEventOf side action.now) }
+{
+    match action {
+        Action::Tick(moment) => Ok(Event::Tick(side, *moment)),
+        Action::Emit => Ok(Event::Emit(side)),
+        Action::Deliver { index, isn } => Ok(Event::Deliver(side, *index, *isn)),
+        Action::Socket => Ok(Event::Call(side, Call::Socket(Kind::Tcp))),
+        Action::Bind { id, port } => {
+            let local = endpoint(side, *port);
+            Ok(Event::Call(side, Call::Bind { id: *id, local }))
+        }
+        Action::Listen { id, backlog } => {
+            let backlog = *backlog;
+            Ok(Event::Call(side, Call::Listen { id: *id, backlog }))
+        }
+        Action::Accept { id } => Ok(Event::Call(side, Call::Accept { id: *id })),
+        Action::Connect { id, port, isn } => {
+            let peer = endpoint(other(side), *port);
+            Ok(Event::Call(
+                side,
+                Call::Connect {
+                    isn: *isn,
+                    id: *id,
+                    peer,
+                },
+            ))
+        }
+        Action::Send { id, text } => {
+            let octets = Vec::from_slice(alloc, text.octets())?;
+            Ok(Event::Call(side, Call::Send { id: *id, octets }))
+        }
+        Action::Fill { id, count } => {
+            let octets = vec![in alloc; b'x'; *count]?;
+            Ok(Event::Call(side, Call::Send { id: *id, octets }))
+        }
+        Action::Recv { id, most } => Ok(Event::Call(
+            side,
+            Call::Recv {
+                id: *id,
+                len: *most,
+            },
+        )),
+        Action::Count { id, most } => Ok(Event::Call(
+            side,
+            Call::Recv {
+                id: *id,
+                len: *most,
+            },
+        )),
+        Action::Shutdown { id } => Ok(Event::Call(side, Call::Shutdown { id: *id })),
+        Action::Close { id } => Ok(Event::Call(side, Call::Close { id: *id })),
+        Action::State { id } => Ok(Event::Call(side, Call::State { id: *id })),
+    }
+}
+
+fn endpoint(side: Side, port: u16) -> Endpoint
+    ensures { result ≡ endpoint_of side port }
+{
+    Endpoint {
+        addr: address(side),
+        port,
+    }
+}
