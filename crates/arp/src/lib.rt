@@ -10,6 +10,3 @@ mod packet;
 pub use cache::ArpCache;
 pub use moment::Moment;
 pub use packet::{ArpFault, ArpPacket, LEN, Operation};
-
-#[cfg(test)]
-mod tests;

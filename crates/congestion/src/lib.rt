@@ -5,6 +5,3 @@ pub mod laws;
 mod window;
 
 pub use window::Cwnd;
-
-#[cfg(test)]
-mod tests;

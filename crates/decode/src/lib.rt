@@ -12,6 +12,3 @@ mod words;
 pub use drop::DropCause;
 pub use layers::decode;
 pub use pairs::{HexFault, octets_of};
-
-#[cfg(test)]
-mod tests;

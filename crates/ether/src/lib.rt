@@ -9,6 +9,3 @@ mod view;
 pub use head::{Head, LEAST_PAYLOAD, MOST_PAYLOAD, SPACE};
 pub use mac::Mac;
 pub use view::{EtherView, FrameFault};
-
-#[cfg(test)]
-mod tests;

@@ -17,6 +17,3 @@ pub use head::HEADER_LEN;
 pub use kind::Kind;
 pub use quote::Quote;
 pub use view::IcmpView;
-
-#[cfg(test)]
-mod tests;

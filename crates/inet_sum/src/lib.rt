@@ -93,6 +93,3 @@ fn folded(total: u64) -> u16
         ((total - 1) % 65_535 + 1) as u16
     }
 }
-
-#[cfg(test)]
-mod tests;

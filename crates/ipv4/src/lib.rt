@@ -16,6 +16,3 @@ pub use head::{HEADER_LEN, Head};
 pub use prefix::{Prefix, PrefixFault};
 pub use protocol::Protocol;
 pub use view::Ipv4View;
-
-#[cfg(test)]
-mod tests;

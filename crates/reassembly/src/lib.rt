@@ -21,6 +21,3 @@ pub use moment::Moment;
 pub use pool::{PLACES, Pool};
 pub use quote::Quote;
 pub use taken::{Loss, Taken};
-
-#[cfg(test)]
-mod tests;

@@ -9,6 +9,3 @@ mod timers;
 pub use moment::Moment;
 pub use rto::{Estimate, Rto};
 pub use timers::Timers;
-
-#[cfg(test)]
-mod tests;

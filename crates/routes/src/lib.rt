@@ -7,6 +7,3 @@ mod table;
 
 pub use route::{Hop, Route};
 pub use table::{AddFault, MOST, RemoveFault, Routes};
-
-#[cfg(test)]
-mod tests;

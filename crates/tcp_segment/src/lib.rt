@@ -26,6 +26,3 @@ pub use flags::Flags;
 pub use head::Head;
 pub use seq::Seq;
 pub use view::TcpView;
-
-#[cfg(test)]
-mod tests;

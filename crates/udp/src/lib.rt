@@ -15,6 +15,3 @@ pub use fault::UdpFault;
 pub use head::{HEADER_LEN, Head};
 pub use view::UdpView;
 pub use waiting::{CAPACITY, COUNTED_BESIDE, Entry, MOST_WAITING, Queue, QueueFault};
-
-#[cfg(test)]
-mod tests;

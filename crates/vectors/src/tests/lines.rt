@@ -1,12 +1,13 @@
-//! Frames and what is printed of them. The octets and the lines are those that the RFCs' formats give.
+//! What is printed of frames. The octets and the lines are those that the RFCs' formats give.
 
-use super::*;
-use std::alloc::Global;
-use std::process::Abort;
+use decode::{DropCause, HexFault, decode, octets_of};
 use std::test::Fail;
 
+/// A frame, the lines that are printed of it, and why it is dropped.
+type Row = (&'static str, &'static str, Option<DropCause>);
+
 // A request, padded to 60 octets, and the reply to it (RFC 826).
-const ARP: [(&str, &str, Option<DropCause>); 2] = [
+const ARP: [Row; 2] = [
     (
         "ffffffffffff020000000001 0806 0001080006040001 020000000001 0a000001 000000000000 0a000002 000000000000000000000000000000000000",
         "ether ff:ff:ff:ff:ff:ff 02:00:00:00:00:01 0806
@@ -24,7 +25,7 @@ arp reply 0a:1b:2c:3d:4e:5f 192.168.1.254 02:00:00:00:00:01 10.0.0.1
 ];
 
 // A SYN with a size (RFC 793, 3.1), padded; data; every control bit; none of them; three of them and then the others; the size behind another option.
-const SEGMENTS: [(&str, &str, Option<DropCause>); 6] = [
+const SEGMENTS: [Row; 6] = [
     (
         "020000000002020000000001 0800 4500002c00004000400626ca0a0000010a000002 c0000050ffffffff000000006002ffffc3d30000020405b4 0000",
         "ether 02:00:00:00:00:02 02:00:00:00:00:01 0800
@@ -76,7 +77,7 @@ tcp 1 65535 seq 7 ack 9 flags SPA win 256 mss 536 data 0
 ];
 
 // A user datagram with a checksum, and one without (RFC 768), and one behind options of IPv4; an echo request and an unreachable (RFC 792).
-const OTHERS: [(&str, &str, Option<DropCause>); 5] = [
+const OTHERS: [Row; 5] = [
     (
         "020000000002020000000001 0800 4500001e00004000401126cd0a0000010a000002 13881389000a5c5d6869",
         "ether 02:00:00:00:00:02 02:00:00:00:00:01 0800
@@ -120,7 +121,7 @@ icmp type 3 code 4 data 0
 ];
 
 // Fragments (RFC 791): the first, the last, one between, and one that may not be fragmented again. And another protocol.
-const PARTS: [(&str, &str, Option<DropCause>); 6] = [
+const PARTS: [Row; 6] = [
     (
         "020000000002020000000001 0800 4500002401022000401145c50a0000010a000002 1388138900185c416162636465666768",
         "ether 02:00:00:00:00:02 02:00:00:00:00:01 0800
@@ -166,7 +167,7 @@ ipv4 10.0.0.1 10.0.0.2 proto 89 ttl 64 id 7 off 0 flags - payload 3
 ];
 
 // What cannot be read, behind the lines of the layers below, which can.
-const DROPS: [(&str, &str, Option<DropCause>); 15] = [
+const DROPS: [Row; 15] = [
     (
         "020000000002020000000001 08",
         "drop F1
@@ -297,44 +298,16 @@ const NO_PAIRS: [&str; 10] = [
     "0", "00 1", "0 0", "000", "0g", "G0", "+0", "-1", "0x00", "00,01",
 ];
 
-// Prints each frame, and compares the lines and the cause.
-fn told(
-    rt: &impl Abort,
-    alloc: Global,
-    frames: &[(&str, &str, Option<DropCause>)],
-) -> Result<(), Fail> {
-    for (text, want, cause) in frames {
-        let frame = octets_of(alloc, text.as_bytes())?;
-        let mut lines = String::new(alloc);
+#[test]
+fn frames_are_told(rt: HostRuntime) -> Result<(), Fail> {
+    let tables = [ARP.as_slice(), &SEGMENTS, &OTHERS, &PARTS, &DROPS];
+    for (text, want, cause) in tables.into_iter().flatten() {
+        let frame = octets_of(rt.alloc(), text.as_bytes())?;
+        let mut lines = String::new(rt.alloc());
         let found = decode(frame.as_slice(), &mut lines)?;
         assert_eq!(rt; (lines.as_str(), found), (*want, *cause), "{text}");
     }
     Ok(())
-}
-
-#[test]
-fn arp_packets(rt: HostRuntime) -> Result<(), Fail> {
-    told(&rt, rt.alloc(), &ARP)
-}
-
-#[test]
-fn segments(rt: HostRuntime) -> Result<(), Fail> {
-    told(&rt, rt.alloc(), &SEGMENTS)
-}
-
-#[test]
-fn user_datagrams_and_messages(rt: HostRuntime) -> Result<(), Fail> {
-    told(&rt, rt.alloc(), &OTHERS)
-}
-
-#[test]
-fn nothing_above_a_part_or_another_protocol(rt: HostRuntime) -> Result<(), Fail> {
-    told(&rt, rt.alloc(), &PARTS)
-}
-
-#[test]
-fn drops(rt: HostRuntime) -> Result<(), Fail> {
-    told(&rt, rt.alloc(), &DROPS)
 }
 
 #[test]
@@ -343,25 +316,6 @@ fn lines_are_added(rt: HostRuntime) -> Result<(), Fail> {
     lines.push_str("frame 0\n")?;
     assert_eq!(rt; decode(b"hello", &mut lines)?, Some(DropCause::Short));
     assert_eq!(rt; lines.as_str(), "frame 0\ndrop F1\n");
-    Ok(())
-}
-
-// The causes by their numbers.
-const CAUSES: [(DropCause, u8, &str); 6] = [
-    (DropCause::Short, 1, "F1 Short"),
-    (DropCause::OtherType, 3, "F3 OtherType"),
-    (DropCause::IpHeader, 4, "F4 IpHeader"),
-    (DropCause::IpSum, 5, "F5 IpSum"),
-    (DropCause::UpperHeader, 7, "F7 UpperHeader"),
-    (DropCause::UpperSum, 8, "F8 UpperSum"),
-];
-
-#[test]
-fn causes_are_named(rt: HostRuntime) -> Result<(), Fail> {
-    for (cause, number, name) in CAUSES {
-        assert_eq!(rt; cause.number(), number);
-        assert_eq!(rt; cause.to_string(rt.alloc())?.as_str(), name);
-    }
     Ok(())
 }
 

@@ -1,0 +1,6 @@
+//! The formats and the parts that hosts are made of, compared with vectors from outside: worked examples of the RFCs, and octets
+//! whose checksums were summed apart. It has no code of its own.
+#![tactic(auto)]
+
+#[cfg(test)]
+mod tests;

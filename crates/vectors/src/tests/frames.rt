@@ -1,0 +1,68 @@
+//! Frames of Ethernet (RFC 894).
+
+use decode::octets_of;
+use ether::{EtherView, FrameFault, Head, Mac, SPACE};
+use std::test::Fail;
+
+/// Destination, source, type and payload, or the fault.
+type Read<'a> = Result<(Mac, Mac, u16, &'a [u8]), FrameFault>;
+
+const SOURCE: Mac = Mac([2, 0, 0, 0, 0, 1]);
+
+/// The type of a frame with an ARP packet (RFC 826).
+const ARP: u16 = 0x0806;
+
+/// The head of a request.
+const HEAD: Head = Head {
+    destination: Mac::BROADCAST,
+    source: SOURCE,
+    kind: ARP,
+};
+
+const FRAMES: [(&str, Read<'static>); 3] = [
+    (
+        "ffffffffffff 020000000001 0806",
+        Ok((Mac::BROADCAST, SOURCE, ARP, b"")),
+    ),
+    (
+        "020000000002 0a1b2c3d4e5f 0800 6162",
+        Ok((
+            Mac([2, 0, 0, 0, 0, 2]),
+            Mac([0x0a, 0x1b, 0x2c, 0x3d, 0x4e, 0x5f]),
+            0x0800,
+            b"ab",
+        )),
+    ),
+    ("ffffffffffff 020000000001 08", Err(FrameFault::Short)),
+];
+
+fn read(octets: &[u8]) -> Read<'_> {
+    let frame = EtherView::parse(octets)?;
+    Ok((
+        frame.destination(),
+        frame.source(),
+        frame.kind(),
+        frame.payload(),
+    ))
+}
+
+#[test]
+fn frames(rt: HostRuntime) -> Result<(), Fail> {
+    for (text, want) in FRAMES {
+        let octets = octets_of(rt.alloc(), text.as_bytes())?;
+        assert_eq!(rt; read(octets.as_slice()), want, "{text}");
+    }
+    Ok(())
+}
+
+#[test]
+fn short_payloads_are_padded(rt: HostRuntime) {
+    let mut want = [7; SPACE];
+    want[..14].copy_from_slice(b"\xff\xff\xff\xff\xff\xff\x02\0\0\0\0\x01\x08\x06");
+    for (payload_len, end) in [(1_500, 1_514), (46, 60), (28, 60)] {
+        let mut out = [7; SPACE];
+        want[14 + payload_len..end].fill(0);
+        assert_eq!(rt; HEAD.emit(payload_len, &mut out), end);
+        assert_eq!(rt; out, want);
+    }
+}

@@ -1,0 +1,306 @@
+//! The Address Resolution Protocol: its packets (RFC 826), and the cache of what they tell.
+
+use super::{A, B};
+use arp::{ArpCache, ArpFault, ArpPacket, LEN, Moment, Operation};
+use decode::octets_of;
+use ether::{EtherView, Head, Mac, SPACE};
+use ipv4::Addr;
+use std::test::Fail;
+
+const MAC_A: Mac = Mac([2, 0, 0, 0, 0, 1]);
+
+const MAC_B: Mac = Mac([2, 0, 0, 0, 0, 2]);
+
+/// The type of a frame with a packet.
+const ARP: u16 = 0x0806;
+
+/// The request of `A` for the MAC of `B`.
+const REQUEST: ArpPacket = ArpPacket {
+    operation: Operation::Request,
+    sender_mac: MAC_A,
+    sender_addr: A,
+    target_mac: Mac([0; 6]),
+    target_addr: B,
+};
+
+/// The reply of `B`.
+const REPLY: ArpPacket = ArpPacket {
+    operation: Operation::Reply,
+    sender_mac: MAC_B,
+    sender_addr: B,
+    target_mac: MAC_A,
+    target_addr: A,
+};
+
+const PACKETS: [(&str, Result<ArpPacket, ArpFault>); 13] = [
+    (
+        "0001080006040001 020000000001 0a000001 000000000000 0a000002",
+        Ok(REQUEST),
+    ),
+    (
+        "0001080006040001 020000000001 0a000001 000000000000 0a000002 000000000000000000000000000000000000",
+        Ok(REQUEST),
+    ),
+    (
+        "0001080006040002 020000000002 0a000002 020000000001 0a000001",
+        Ok(REPLY),
+    ),
+    // an octet less
+    (
+        "0001080006040001 020000000001 0a000001 000000000000 0a0000",
+        Err(ArpFault::UpperHeader),
+    ),
+    // another hardware
+    (
+        "0101080006040001 020000000001 0a000001 000000000000 0a000002",
+        Err(ArpFault::UpperHeader),
+    ),
+    (
+        "0006080006040001 020000000001 0a000001 000000000000 0a000002",
+        Err(ArpFault::UpperHeader),
+    ),
+    // another protocol
+    (
+        "0001860006040001 020000000001 0a000001 000000000000 0a000002",
+        Err(ArpFault::UpperHeader),
+    ),
+    (
+        "000108dd06040001 020000000001 0a000001 000000000000 0a000002",
+        Err(ArpFault::UpperHeader),
+    ),
+    // other lengths of addresses
+    (
+        "0001080008040001 020000000001 0a000001 000000000000 0a000002",
+        Err(ArpFault::UpperHeader),
+    ),
+    (
+        "0001080006100001 020000000001 0a000001 000000000000 0a000002",
+        Err(ArpFault::UpperHeader),
+    ),
+    // other operations
+    (
+        "0001080006040101 020000000001 0a000001 000000000000 0a000002",
+        Err(ArpFault::UpperHeader),
+    ),
+    (
+        "0001080006040000 020000000001 0a000001 000000000000 0a000002",
+        Err(ArpFault::UpperHeader),
+    ),
+    (
+        "0001080006040003 020000000001 0a000001 000000000000 0a000002",
+        Err(ArpFault::UpperHeader),
+    ),
+];
+
+#[test]
+fn packets(rt: HostRuntime) -> Result<(), Fail> {
+    for (text, want) in PACKETS {
+        let octets = octets_of(rt.alloc(), text.as_bytes())?;
+        assert_eq!(rt; ArpPacket::parse(octets.as_slice()), want, "{text}");
+    }
+    Ok(())
+}
+
+/// The packet of a frame, where there is one.
+fn packet_in(frame: &[u8]) -> Option<ArpPacket> {
+    match EtherView::parse(frame) {
+        Ok(frame) if frame.kind() == ARP => ArpPacket::parse(frame.payload()).ok(),
+        _ => None,
+    }
+}
+
+/// The frame of a packet, padded.
+fn frame_of(packet: ArpPacket, destination: Mac) -> [u8; SPACE] {
+    let mut frame = [0; SPACE];
+    packet.emit(&mut frame[14..]);
+    let head = Head {
+        destination,
+        source: packet.sender_mac,
+        kind: ARP,
+    };
+    head.emit(LEN, &mut frame);
+    frame
+}
+
+#[test]
+fn frames_both_ways(rt: HostRuntime) -> Result<(), Fail> {
+    let rows = [
+        (
+            ArpPacket::request(MAC_A, A, B),
+            Mac::BROADCAST,
+            "ffffffffffff 020000000001 0806 0001080006040001 020000000001 0a000001 000000000000 0a000002 000000000000000000000000000000000000",
+        ),
+        (
+            REQUEST.reply(MAC_B),
+            MAC_A,
+            "020000000001 020000000002 0806 0001080006040002 020000000002 0a000002 020000000001 0a000001 000000000000000000000000000000000000",
+        ),
+    ];
+    for (packet, destination, text) in rows {
+        let frame = octets_of(rt.alloc(), text.as_bytes())?;
+        assert_eq!(rt; packet_in(frame.as_slice()), Some(packet), "{text}");
+        assert!(rt;
+            frame_of(packet, destination).starts_with(frame.as_slice()),
+            "{text}"
+        );
+    }
+    Ok(())
+}
+
+/// What happens to the cache of `A`, and what that answers.
+#[derive(Clone, Copy)]
+enum Event {
+    /// It hears a packet, to which it owes a reply or not.
+    Hear(ArpPacket, bool),
+    /// It looks an address up.
+    Look(Addr, Option<Mac>),
+    /// It asks for an address, and may or not.
+    Ask(Addr, bool),
+    /// It forgets what is old.
+    Age,
+}
+
+/// Whether the event answers what it says.
+fn answers(cache: &mut ArpCache, now: u64, event: Event) -> bool {
+    let now = Moment(now);
+    match event {
+        Event::Hear(packet, want) => cache.hear(now, &packet, A) == want,
+        Event::Look(addr, want) => cache.look(now, addr) == want,
+        Event::Ask(addr, want) => cache.ask(now, addr) == want,
+        Event::Age => {
+            cache.age(now);
+            true
+        }
+    }
+}
+
+const FIRST: Addr = Addr([10, 0, 1, 1]);
+
+const FIRST_MAC: Mac = Mac([2, 0, 0, 0, 1, 1]);
+
+const OTHER_MAC: Mac = Mac([2, 0, 0, 0, 1, 9]);
+
+const SECOND: Addr = Addr([10, 0, 1, 2]);
+
+const SECOND_MAC: Mac = Mac([2, 0, 0, 0, 1, 2]);
+
+/// `FIRST` asks for `A`.
+const FOR_A: ArpPacket = ArpPacket {
+    sender_mac: FIRST_MAC,
+    sender_addr: FIRST,
+    target_addr: A,
+    ..REQUEST
+};
+
+/// `FIRST` asks for `B`.
+const FOR_B: ArpPacket = ArpPacket {
+    target_addr: B,
+    ..FOR_A
+};
+
+/// It does so with another MAC.
+const MOVED: ArpPacket = ArpPacket {
+    sender_mac: OTHER_MAC,
+    ..FOR_B
+};
+
+/// `A` replies to `SECOND`.
+const OF_A: ArpPacket = ArpPacket {
+    sender_mac: MAC_A,
+    sender_addr: A,
+    target_mac: SECOND_MAC,
+    target_addr: SECOND,
+    ..REPLY
+};
+
+/// `SECOND` replies to `A`.
+const TO_A: ArpPacket = ArpPacket {
+    sender_mac: SECOND_MAC,
+    sender_addr: SECOND,
+    ..REPLY
+};
+
+const LEARNT: [(u64, Event); 14] = [
+    (0, Event::Hear(FOR_B, false)),
+    (0, Event::Look(FIRST, None)),
+    (5, Event::Hear(FOR_A, true)),
+    (5, Event::Look(FIRST, Some(FIRST_MAC))),
+    (10, Event::Hear(MOVED, false)),
+    (10, Event::Look(FIRST, Some(OTHER_MAC))),
+    (20, Event::Hear(OF_A, false)),
+    (20, Event::Look(A, None)),
+    (20, Event::Hear(TO_A, false)),
+    (20, Event::Look(SECOND, Some(SECOND_MAC))),
+    (1_200_010, Event::Age),
+    (0, Event::Look(FIRST, None)),
+    (1_200_019, Event::Look(SECOND, Some(SECOND_MAC))),
+    (1_200_020, Event::Look(SECOND, None)),
+];
+
+#[test]
+fn pairs_are_learnt_updated_and_forgotten(rt: HostRuntime) {
+    let mut cache = ArpCache::new();
+    for (now, event) in LEARNT {
+        assert!(rt; answers(&mut cache, now, event), "at {now}");
+    }
+}
+
+fn addr_of(number: u8) -> Addr {
+    Addr([10, 0, 2, number])
+}
+
+/// The packet by which the host with this number asks for `A`.
+fn request_of(number: u8) -> ArpPacket {
+    ArpPacket {
+        sender_addr: addr_of(number),
+        ..FOR_A
+    }
+}
+
+/// Two by two, the later ones were heard earlier; those behind the 64th come last.
+fn heard_at(number: u8) -> Moment {
+    Moment(match number {
+        64..=66 => u64::from(number) * 100,
+        _ => u64::from(u8::MAX - number) / 2,
+    })
+}
+
+#[test]
+fn the_longest_unheard_gives_way(rt: HostRuntime) {
+    let mut cache = ArpCache::new();
+    for number in 0..67 {
+        assert!(rt; cache.hear(heard_at(number), &request_of(number), A));
+    }
+    for number in 0..67 {
+        let known = cache.look(Moment(6_600), addr_of(number)).is_some();
+        assert_eq!(rt; known, !matches!(number, 60 | 62 | 63), "of {number}");
+    }
+}
+
+const ASKED: [(u64, Event); 3] = [
+    (7, Event::Ask(B, true)),
+    (1_006, Event::Ask(B, false)),
+    (1_007, Event::Ask(B, true)),
+];
+
+/// After 63 others at 1,500.
+const ASKED_LATER: [(u64, Event); 4] = [
+    (2_006, Event::Ask(FIRST, false)),
+    (2_007, Event::Ask(FIRST, true)),
+    (2_007, Event::Ask(SECOND, false)),
+    (2_500, Event::Ask(SECOND, true)),
+];
+
+#[test]
+fn requests_are_few(rt: HostRuntime) {
+    let mut cache = ArpCache::new();
+    for (now, event) in ASKED {
+        assert!(rt; answers(&mut cache, now, event), "at {now}");
+    }
+    for number in 0..63 {
+        assert!(rt; cache.ask(Moment(1_500), addr_of(number)));
+    }
+    for (now, event) in ASKED_LATER {
+        assert!(rt; answers(&mut cache, now, event), "at {now}");
+    }
+}

@@ -1,0 +1,32 @@
+//! The Internet checksum (RFC 1071).
+
+use inet_sum::{Pseudo, checksum, sum};
+
+/// Octets and their sum; the first are those of RFC 1071 section 3.
+const SUMS: [(&[u8], u16); 3] = [
+    (&[0x00, 0x01, 0xf2, 0x03, 0xf4, 0xf5, 0xf6, 0xf7], 0xddf2),
+    (&[], 0x0000),
+    (&[0x01], 0x0100),
+];
+
+/// A user datagram from 10.0.0.1 to 10.0.0.2, and its sum with the pseudo header (RFC 768): with the right checksum, and with none.
+const WITH_PSEUDO: [([u8; 10], u16); 2] = [
+    (*b"\x13\x88\x13\x89\x00\x0a\x5c\x5dhi", 0xffff),
+    (*b"\x13\x88\x13\x89\x00\x0a\x00\x00hi", 0xa3a2),
+];
+
+#[test]
+fn sums(rt: HostRuntime) {
+    for (octets, want) in SUMS {
+        assert_eq!(rt; (sum(octets), checksum(octets)), (want, !want));
+    }
+    let pseudo = Pseudo {
+        src: [10, 0, 0, 1],
+        dst: [10, 0, 0, 2],
+        protocol: 17,
+        length: 10,
+    };
+    for (octets, want) in WITH_PSEUDO {
+        assert_eq!(rt; pseudo.sum_with(&octets), want);
+    }
+}

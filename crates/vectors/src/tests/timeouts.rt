@@ -1,0 +1,66 @@
+//! The retransmission timeout and the timers (RFC 6298).
+
+use retransmit::{Moment, Rto, Timers};
+
+/// What happens to a timeout.
+enum Event {
+    Sample(u64),
+    Expire,
+    EstablishedAfterLostSyn,
+}
+
+fn take(rto: &mut Rto, event: &Event) {
+    match event {
+        Event::Sample(milliseconds) => rto.sample(*milliseconds),
+        Event::Expire => rto.expire(),
+        Event::EstablishedAfterLostSyn => rto.established_after_lost_syn(),
+    }
+}
+
+/// Samples, a short sample, and expiries: each with the timeout after it, in milliseconds.
+const RUNS: [&[(Event, u32)]; 3] = [
+    &[(Event::Sample(800), 2_400), (Event::Sample(1_200), 2_450)],
+    &[(Event::Sample(100), 1_000)],
+    &[
+        (Event::Expire, 2_000),
+        (Event::Expire, 4_000),
+        (Event::Expire, 8_000),
+        (Event::Expire, 16_000),
+        (Event::Expire, 32_000),
+        (Event::Expire, 60_000),
+        (Event::Expire, 60_000),
+        (Event::EstablishedAfterLostSyn, 3_000),
+    ],
+];
+
+#[test]
+fn timeouts(rt: HostRuntime) {
+    for run in RUNS {
+        let mut rto = Rto::new();
+        assert_eq!(rt; rto.rto(), 1_000);
+        for (event, want) in run {
+            take(&mut rto, event);
+            assert_eq!(rt; rto.rto(), *want);
+        }
+    }
+}
+
+#[test]
+fn deadlines(rt: HostRuntime) {
+    let mut timers = Timers::<3>::new();
+    assert_eq!(rt; timers.next(), None);
+    timers.set(0, Moment(500).after(1_000));
+    timers.set(2, Moment(900));
+    for (kind, now, want) in [
+        (2, 899, false),
+        (2, 900, true),
+        (0, 900, false),
+        (1, 9_999, false),
+    ] {
+        assert_eq!(rt; timers.due(kind, Moment(now)), want, "of {kind} at {now}");
+    }
+    assert_eq!(rt; timers.next(), Some(Moment(900)));
+    timers.clear(2);
+    assert_eq!(rt; timers.next(), Some(Moment(1_500)));
+    assert_eq!(rt; Moment(9).after(u64::MAX), Moment(u64::MAX));
+}
