@@ -13,8 +13,6 @@ mod ports;
 mod refusal;
 mod replies;
 mod table;
-#[cfg(test)]
-mod tests;
 
 use arrayvec::ArrayVec;
 use entry::Entry;

@@ -20,6 +20,3 @@ pub use connection::{Connection, Fate, Resend};
 pub use emission::{Due, FRAME};
 pub use moment::Moment;
 pub use state::State;
-
-#[cfg(test)]
-mod tests;

@@ -4,8 +4,6 @@
 mod event;
 pub mod laws;
 mod room;
-#[cfg(test)]
-mod tests;
 mod world;
 
 pub use event::{Answer, Call, Event, Happening, Opening, Side, Unfair, WorldFault};

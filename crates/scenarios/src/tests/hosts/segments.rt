@@ -1,8 +1,8 @@
 //! The frames that hosts send and take, octet by octet.
 
-use super::hosts::Side::{A, B};
-use super::hosts::{Act, LISTENING, ONE, SERVER, Step, Told, plays};
-use crate::{DropCause, Refusal};
+use super::stations::Side::{A, B};
+use super::stations::{Act, LISTENING, ONE, SERVER, Scenario, Step, Told, plays};
+use host::{DropCause, Refusal};
 use std::test::Fail;
 
 const SYN: &[u8] =
@@ -32,11 +32,6 @@ const STANDARD: &[Step] = &[
     ),
 ];
 
-#[test]
-fn segments_are_those_of_the_standard(rt: HostRuntime) -> Result<(), Fail> {
-    plays(&rt, rt.alloc(), &[LISTENING, STANDARD])
-}
-
 const DAMAGED: &[Step] = &[
     (A, Act::Socket, Told::Id(ONE)),
     (A, Act::Connect(0, ONE, SERVER), Told::Done),
@@ -44,11 +39,6 @@ const DAMAGED: &[Step] = &[
     (A, Act::Damage, Told::Done),
     (A, Act::Arrive(7), Told::Dropped(DropCause::UpperSum)),
 ];
-
-#[test]
-fn damaged_segments_are_dropped(rt: HostRuntime) -> Result<(), Fail> {
-    plays(&rt, rt.alloc(), &[DAMAGED])
-}
 
 /// The reset of a SYN with the number 5 that nobody waits for.
 const REFUSAL: &[u8] =
@@ -88,7 +78,13 @@ const UNHEARD: &[Step] = &[
     (B, Act::HasSent(ANSWER), Told::Is(true)),
 ];
 
+const SCENARIOS: &[Scenario] = &[
+    ("segments are those of the standard", &[LISTENING, STANDARD]),
+    ("damaged segments are dropped", &[DAMAGED]),
+    ("strays are answered by resets", &[REFUSED, HEARD, UNHEARD]),
+];
+
 #[test]
-fn strays_are_answered_by_resets(rt: HostRuntime) -> Result<(), Fail> {
-    plays(&rt, rt.alloc(), &[REFUSED, HEARD, UNHEARD])
+fn segments_are_those_of_the_standard(rt: HostRuntime) -> Result<(), Fail> {
+    plays(&rt, rt.alloc(), SCENARIOS)
 }

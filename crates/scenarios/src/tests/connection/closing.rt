@@ -1,9 +1,9 @@
 //! Connections that close, and the waits that end them.
 
 use super::ends::Side::{A, B};
-use super::ends::{Act, HANDSHAKE, STAYS, Step, Told, plays};
-use crate::{Fate, Moment, Received, Refusal, State};
+use super::ends::{Act, HANDSHAKE, STAYS, Scenario, Step, Told, plays};
 use std::test::Fail;
+use tcp_state::{Fate, Moment, Received, Refusal, State};
 
 /// A closes its side behind its octets.
 const FIRST_SIDE: &[Step] = &[
@@ -35,11 +35,6 @@ const SECOND_SIDE: &[Step] = &[
     (A, Act::Recv, Told::Received(Received::EndOfStream)),
 ];
 
-#[test]
-fn both_sides_close(rt: HostRuntime) -> Result<(), Fail> {
-    plays(&rt, rt.alloc(), &[HANDSHAKE, FIRST_SIDE, SECOND_SIDE])
-}
-
 /// The FINs cross.
 const BOTH_SIDES: &[Step] = &[
     (A, Act::Shutdown, Told::Done),
@@ -54,11 +49,6 @@ const BOTH_SIDES: &[Step] = &[
     (A, Act::State, Told::State(State::TimeWait)),
     (B, Act::State, Told::State(State::TimeWait)),
 ];
-
-#[test]
-fn both_sides_close_at_once(rt: HostRuntime) -> Result<(), Fail> {
-    plays(&rt, rt.alloc(), &[HANDSHAKE, BOTH_SIDES])
-}
 
 /// A's caller leaves, so that A waits a minute for B's FIN.
 const FIRST_CALLER: &[Step] = &[
@@ -92,11 +82,6 @@ const SECOND_CALLER: &[Step] = &[
     (A, Act::IsOver, Told::Is(true)),
 ];
 
-#[test]
-fn callers_close_both_ends(rt: HostRuntime) -> Result<(), Fail> {
-    plays(&rt, rt.alloc(), &[HANDSHAKE, FIRST_CALLER, SECOND_CALLER])
-}
-
 const WAITS_A_MINUTE: &[Step] = &[
     (A, Act::Shutdown, Told::Done),
     (A, Act::Pass(0), STAYS),
@@ -111,11 +96,6 @@ const WAITS_A_MINUTE: &[Step] = &[
     (A, Act::Due, Told::Due(None)),
 ];
 
-#[test]
-fn fin_wait_2_ends_by_the_clock_after_close_alone(rt: HostRuntime) -> Result<(), Fail> {
-    plays(&rt, rt.alloc(), &[HANDSHAKE, WAITS_A_MINUTE])
-}
-
 /// The acknowledgement of A's FIN comes at a later moment than the one at which A's caller then leaves.
 const LATER_STATE: &[Step] = &[
     (A, Act::Shutdown, Told::Done),
@@ -126,7 +106,24 @@ const LATER_STATE: &[Step] = &[
     (A, Act::Deadline, Told::Deadline(Some(Moment(60_700)))),
 ];
 
+const SCENARIOS: &[Scenario] = &[
+    ("both sides close", &[HANDSHAKE, FIRST_SIDE, SECOND_SIDE]),
+    ("both sides close at once", &[HANDSHAKE, BOTH_SIDES]),
+    (
+        "callers close both ends",
+        &[HANDSHAKE, FIRST_CALLER, SECOND_CALLER],
+    ),
+    (
+        "FIN-WAIT-2 ends by the clock after close alone",
+        &[HANDSHAKE, WAITS_A_MINUTE],
+    ),
+    (
+        "a wait begins with the later of close and state",
+        &[HANDSHAKE, LATER_STATE],
+    ),
+];
+
 #[test]
-fn a_wait_begins_with_the_later_of_close_and_state(rt: HostRuntime) -> Result<(), Fail> {
-    plays(&rt, rt.alloc(), &[HANDSHAKE, LATER_STATE])
+fn connections_close(rt: HostRuntime) -> Result<(), Fail> {
+    plays(&rt, rt.alloc(), SCENARIOS)
 }

@@ -1,9 +1,9 @@
 //! Connections that open, and what goes out again.
 
 use super::ends::Side::{A, B};
-use super::ends::{ACK, Act, HANDSHAKE, STAYS, SYN_SEGMENT, Step, Told, plays};
-use crate::{Due, Fate, Moment, Received, Refusal, State};
+use super::ends::{ACK, Act, HANDSHAKE, STAYS, SYN_SEGMENT, Scenario, Step, Told, plays};
 use std::test::Fail;
+use tcp_state::{Due, Fate, Moment, Received, Refusal, State};
 
 /// The segment that carries `hello` from A to B after the handshake.
 const HELLO_SEGMENT: [u8; 25] = [
@@ -26,11 +26,6 @@ const OCTETS: &[Step] = &[
     (B, Act::Recv, Told::Refused(Refusal::EAGAIN)),
 ];
 
-#[test]
-fn hands_shake_and_octets_arrive(rt: HostRuntime) -> Result<(), Fail> {
-    plays(&rt, rt.alloc(), &[HANDSHAKE, OCTETS])
-}
-
 const SYN_AGAIN: &[Step] = &[
     (A, Act::Deadline, Told::Deadline(None)),
     (A, Act::Emit(500), Told::Length(24)),
@@ -43,11 +38,6 @@ const SYN_AGAIN: &[Step] = &[
     (A, Act::Deadline, Told::Deadline(Some(Moment(u64::MAX)))),
 ];
 
-#[test]
-fn what_is_outstanding_goes_again_after_a_second(rt: HostRuntime) -> Result<(), Fail> {
-    plays(&rt, rt.alloc(), &[SYN_AGAIN])
-}
-
 /// Before A's SYN is out nothing can acknowledge it, and then the number behind it does.
 const WRONG_ACKNOWLEDGEMENTS: &[Step] = &[
     (A, Act::Hear(7, 0, ACK, 0), Told::Becomes(Fate::Refused)),
@@ -56,11 +46,6 @@ const WRONG_ACKNOWLEDGEMENTS: &[Step] = &[
     (A, Act::Hear(7, 1, ACK, 0), Told::Becomes(Fate::Refused)),
     (A, Act::State, Told::State(State::SynSent)),
 ];
-
-#[test]
-fn a_wrong_acknowledgement_of_a_syn_is_refused(rt: HostRuntime) -> Result<(), Fail> {
-    plays(&rt, rt.alloc(), &[WRONG_ACKNOWLEDGEMENTS])
-}
 
 /// The window of 0 in an acknowledgement from before the last one leaves B's window open.
 const OLD_WINDOW: &[Step] = &[
@@ -74,7 +59,23 @@ const OLD_WINDOW: &[Step] = &[
     (A, Act::Due, Told::Due(None)),
 ];
 
+const SCENARIOS: &[Scenario] = &[
+    ("hands shake and octets arrive", &[HANDSHAKE, OCTETS]),
+    (
+        "what is outstanding goes again after a second",
+        &[SYN_AGAIN],
+    ),
+    (
+        "a wrong acknowledgement of a SYN is refused",
+        &[WRONG_ACKNOWLEDGEMENTS],
+    ),
+    (
+        "an old acknowledgement tells no window",
+        &[HANDSHAKE, OLD_WINDOW],
+    ),
+];
+
 #[test]
-fn an_old_acknowledgement_tells_no_window(rt: HostRuntime) -> Result<(), Fail> {
-    plays(&rt, rt.alloc(), &[HANDSHAKE, OLD_WINDOW])
+fn connections_open(rt: HostRuntime) -> Result<(), Fail> {
+    plays(&rt, rt.alloc(), SCENARIOS)
 }

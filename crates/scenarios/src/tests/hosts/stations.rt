@@ -1,6 +1,6 @@
 //! Two hosts, each the other's neighbour, what is done at each, and what that tells.
 
-use crate::{Config, DropCause, Host, Kind, Refusal, SocketId};
+use host::{Config, DropCause, Host, Kind, Refusal, SocketId};
 use ipv4::{Addr, Endpoint, Pair};
 use std::alloc::Global;
 use std::process::Abort;
@@ -116,6 +116,9 @@ pub(super) enum Told {
 
 /// What is done at a host, and what that is to tell.
 pub(super) type Step = (Side, Act, Told);
+
+/// A name, and the steps of two hosts from their setting up on, part after part.
+pub(super) type Scenario = (&'static str, &'static [&'static [Step]]);
 
 /// One host, and the frame that went out last.
 #[derive(Drop)]
@@ -244,9 +247,13 @@ impl Hosts {
     }
 
     /// Does each step of a part in turn, which tells what it is to tell.
-    fn play(&mut self, rt: &impl Abort, part: usize, steps: &[Step]) {
+    fn play(&mut self, rt: &impl Abort, name: &str, part: usize, steps: &[Step]) {
         for (index, (side, act, told)) in steps.iter().enumerate() {
-            assert_eq!(rt; self.act(*side, *act), *told, "part {part}, step {index}");
+            assert_eq!(rt;
+                self.act(*side, *act),
+                *told,
+                "{name}: part {part}, step {index}"
+            );
         }
     }
 
@@ -299,11 +306,13 @@ pub(super) const LISTENING: &[Step] = &[
     (Side::A, Act::Socket, Told::Id(ONE)),
 ];
 
-/// Plays two hosts from their setting up on, part after part.
-pub(super) fn plays(rt: &impl Abort, alloc: Global, parts: &[&[Step]]) -> Result<(), Fail> {
-    let mut hosts = Hosts::new(alloc)?;
-    for (part, steps) in parts.iter().enumerate() {
-        hosts.play(rt, part, steps);
+/// Plays each scenario with two hosts of its own.
+pub(super) fn plays(rt: &impl Abort, alloc: Global, scenarios: &[Scenario]) -> Result<(), Fail> {
+    for (name, parts) in scenarios {
+        let mut hosts = Hosts::new(alloc)?;
+        for (part, steps) in parts.iter().enumerate() {
+            hosts.play(rt, name, part, steps);
+        }
     }
     Ok(())
 }

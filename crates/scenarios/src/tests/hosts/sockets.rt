@@ -1,8 +1,10 @@
 //! Sockets, and the connections that they open and close.
 
-use super::hosts::Side::{A, B};
-use super::hosts::{Act, CLIENT, LISTENING, ONE, PAIR, SERVER, Step, THREE, TWO, Told, plays};
-use crate::{Refusal, SocketId};
+use super::stations::Side::{A, B};
+use super::stations::{
+    Act, CLIENT, LISTENING, ONE, PAIR, SERVER, Scenario, Step, THREE, TWO, Told, plays,
+};
+use host::{Refusal, SocketId};
 use std::test::Fail;
 use tcp_state::{Received, State};
 
@@ -17,11 +19,6 @@ const NINE_SOCKETS: &[Step] = &[
     (A, Act::Socket, Told::Id(SocketId(8))),
     (A, Act::Socket, Told::Refused(Refusal::EMFILE)),
 ];
-
-#[test]
-fn the_table_has_eight_places(rt: HostRuntime) -> Result<(), Fail> {
-    plays(&rt, rt.alloc(), &[NINE_SOCKETS])
-}
 
 /// A calls, and the hands are shaken: each frame is the one that was due.
 const CONNECTED: &[Step] = &[
@@ -57,11 +54,6 @@ const CLOSED: &[Step] = &[
     (A, Act::Holder(PAIR), Told::Holder(None)),
 ];
 
-#[test]
-fn both_sides_close(rt: HostRuntime) -> Result<(), Fail> {
-    plays(&rt, rt.alloc(), &[LISTENING, CONNECTED, CLOSED])
-}
-
 /// The reset of the connection that nobody accepted.
 const RESET: &[u8] =
     b"\x00\x50\xc0\x00\x00\x00\x00\x08\x00\x00\x00\x00\x50\x04\x00\x00\xdb\x85\x00\x00";
@@ -82,7 +74,16 @@ const LISTENER_CLOSED: &[Step] = &[
     (A, Act::Recv(ONE), Told::Refused(Refusal::ECONNRESET)),
 ];
 
+const SCENARIOS: &[Scenario] = &[
+    ("the table has eight places", &[NINE_SOCKETS]),
+    ("both sides close", &[LISTENING, CONNECTED, CLOSED]),
+    (
+        "a closed listener aborts what waits",
+        &[LISTENING, CONNECTED, LISTENER_CLOSED],
+    ),
+];
+
 #[test]
-fn a_closed_listener_aborts_what_waits(rt: HostRuntime) -> Result<(), Fail> {
-    plays(&rt, rt.alloc(), &[LISTENING, CONNECTED, LISTENER_CLOSED])
+fn sockets_open_and_close(rt: HostRuntime) -> Result<(), Fail> {
+    plays(&rt, rt.alloc(), SCENARIOS)
 }

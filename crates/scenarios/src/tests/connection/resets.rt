@@ -1,9 +1,9 @@
 //! Resets, heard and sent.
 
 use super::ends::Side::{A, B};
-use super::ends::{Act, HANDSHAKE, RST, STAYS, SYN, Side, Step, Told, plays};
-use crate::{Due, Fate, Refusal, State};
+use super::ends::{Act, HANDSHAKE, RST, STAYS, SYN, Scenario, Step, Told, plays};
 use std::test::Fail;
+use tcp_state::{Due, Fate, Refusal, State};
 
 /// A goes on, and acknowledges what it heard.
 const ANSWERED: &[Step] = &[
@@ -46,26 +46,23 @@ const NEXT_NUMBER: &[Step] = &[
     (A, Act::Due, Told::Due(None)),
 ];
 
-#[test]
-fn a_reset_acts_at_the_next_number_alone(rt: HostRuntime) -> Result<(), Fail> {
-    plays(&rt, rt.alloc(), OTHER_NUMBERS)
-}
-
-/// One end owes a reset with this number and nothing else, which ends the other with an error.
-fn reset(from: Side, number: u32, to: Side) -> [Step; 11] {
-    [
-        (from, Act::State, Told::State(State::Closed)),
-        (from, Act::Due, Told::Due(Some(Due::Rst))),
-        (from, Act::Deadline, Told::Deadline(None)),
-        (from, Act::Emit(0), Told::Length(20)),
-        (from, Act::Sent, Told::Sent(number, 0, RST, 0)),
-        (from, Act::IsOver, Told::Is(true)),
-        (from, Act::Due, Told::Due(None)),
-        (from, Act::Arrive(0), STAYS),
-        (to, Act::State, Told::State(State::Closed)),
-        (to, Act::Error, Told::Refused(Refusal::ECONNRESET)),
-        (to, Act::Close(0), Told::Becomes(Fate::Removed)),
-    ]
+/// The steps in which one end owes a reset with this number and nothing else, which ends the other with an error.
+macro_rules! reset {
+    ($from:expr, $number:expr, $to:expr) => {
+        &[
+            ($from, Act::State, Told::State(State::Closed)),
+            ($from, Act::Due, Told::Due(Some(Due::Rst))),
+            ($from, Act::Deadline, Told::Deadline(None)),
+            ($from, Act::Emit(0), Told::Length(20)),
+            ($from, Act::Sent, Told::Sent($number, 0, RST, 0)),
+            ($from, Act::IsOver, Told::Is(true)),
+            ($from, Act::Due, Told::Due(None)),
+            ($from, Act::Arrive(0), STAYS),
+            ($to, Act::State, Told::State(State::Closed)),
+            ($to, Act::Error, Told::Refused(Refusal::ECONNRESET)),
+            ($to, Act::Close(0), Told::Becomes(Fate::Removed)),
+        ]
+    };
 }
 
 /// B's caller leaves A's octets unread.
@@ -84,12 +81,6 @@ const AFTER_CLOSE: &[Step] = &[
     (B, Act::Pass(0), STAYS),
 ];
 
-#[test]
-fn unread_octets_and_octets_after_close_reset(rt: HostRuntime) -> Result<(), Fail> {
-    plays(&rt, rt.alloc(), &[HANDSHAKE, UNREAD, &reset(B, 8, A)])?;
-    plays(&rt, rt.alloc(), &[HANDSHAKE, AFTER_CLOSE, &reset(A, 1, B)])
-}
-
 const ABORTED: &[Step] = &[
     (A, Act::Send(b"hello"), Told::Count(5)),
     (A, Act::Pass(0), STAYS),
@@ -101,12 +92,24 @@ const ABORTED_AGAIN: &[Step] = &[(A, Act::Abort, Told::Becomes(Fate::Removed))];
 /// A's SYN has not gone out.
 const CLOSED_UNHEARD: &[Step] = &[(A, Act::Close(0), Told::Becomes(Fate::Removed))];
 
+const SCENARIOS: &[Scenario] = &[
+    ("a reset acts at the next number alone", OTHER_NUMBERS),
+    ("unread octets reset", &[HANDSHAKE, UNREAD, reset!(B, 8, A)]),
+    (
+        "octets after close reset",
+        &[HANDSHAKE, AFTER_CLOSE, reset!(A, 1, B)],
+    ),
+    (
+        "an abort resets at the next number",
+        &[HANDSHAKE, ABORTED, reset!(A, 5, B), ABORTED_AGAIN],
+    ),
+    (
+        "a close before the SYN is out is not heard of",
+        &[CLOSED_UNHEARD],
+    ),
+];
+
 #[test]
-fn an_abort_resets_at_the_next_number(rt: HostRuntime) -> Result<(), Fail> {
-    plays(
-        &rt,
-        rt.alloc(),
-        &[HANDSHAKE, ABORTED, &reset(A, 5, B), ABORTED_AGAIN],
-    )?;
-    plays(&rt, rt.alloc(), &[CLOSED_UNHEARD])
+fn connections_are_reset(rt: HostRuntime) -> Result<(), Fail> {
+    plays(&rt, rt.alloc(), SCENARIOS)
 }

@@ -1,11 +1,11 @@
 //! The two ends of a connection, what is done at each, and what that tells.
 
-use crate::{Buffers, Connection, Due, FRAME, Fate, Moment, Received, Refusal, State};
 use ipv4::{Addr, Endpoint};
 use std::alloc::Global;
 use std::process::Abort;
 use std::test::Fail;
 use tcp_segment::{Flags, Head, Seq, TcpView};
+use tcp_state::{Buffers, Connection, Due, FRAME, Fate, Moment, Received, Refusal, State};
 
 const CALLER: Endpoint = Endpoint {
     addr: Addr([10, 0, 0, 1]),
@@ -127,6 +127,9 @@ pub(super) const STAYS: Told = Told::Becomes(Fate::Stays);
 
 /// What is done at an end, and what that is to tell.
 pub(super) type Step = (Side, Act, Told);
+
+/// A name, and the steps of a connection from its first call on, part after part.
+pub(super) type Scenario = (&'static str, &'static [&'static [Step]]);
 
 /// One end, the segment that it sent last, and the buffer that its caller read into.
 #[derive(Drop)]
@@ -265,9 +268,13 @@ impl Ends {
     }
 
     /// Does each step of a part in turn, which tells what it is to tell.
-    fn play(&mut self, rt: &impl Abort, part: usize, steps: &[Step]) {
+    fn play(&mut self, rt: &impl Abort, name: &str, part: usize, steps: &[Step]) {
         for (index, (side, act, told)) in steps.iter().enumerate() {
-            assert_eq!(rt; self.act(*side, *act), *told, "part {part}, step {index}");
+            assert_eq!(rt;
+                self.act(*side, *act),
+                *told,
+                "{name}: part {part}, step {index}"
+            );
         }
     }
 
@@ -323,11 +330,13 @@ pub(super) const HANDSHAKE: &[Step] = &[
     (Side::A, Act::Pass(0), STAYS),
 ];
 
-/// Plays a connection from its first call on, part after part.
-pub(super) fn plays(rt: &impl Abort, alloc: Global, parts: &[&[Step]]) -> Result<(), Fail> {
-    let mut ends = Ends::new(alloc)?;
-    for (part, steps) in parts.iter().enumerate() {
-        ends.play(rt, part, steps);
+/// Plays each scenario with two ends of its own.
+pub(super) fn plays(rt: &impl Abort, alloc: Global, scenarios: &[Scenario]) -> Result<(), Fail> {
+    for (name, parts) in scenarios {
+        let mut ends = Ends::new(alloc)?;
+        for (part, steps) in parts.iter().enumerate() {
+            ends.play(rt, name, part, steps);
+        }
     }
     Ok(())
 }

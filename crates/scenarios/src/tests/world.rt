@@ -1,0 +1,136 @@
+//! A run of a world beside its steps. Whole scripts are run by `hostd`'s tests.
+
+use host::{Config, Kind, SocketId};
+use ipv4::{Addr, Endpoint};
+use std::alloc::{AllocError, Global};
+use std::process::Abort;
+use std::test::Fail;
+use tcp_segment::Seq;
+use wire_sim::Side::{A, B};
+use wire_sim::{Answer, Call, Event, Side, Unfair, World};
+
+const AT_A: Addr = Addr([10, 0, 0, 1]);
+
+const AT_B: Addr = Addr([10, 0, 0, 2]);
+
+const SERVER: Endpoint = Endpoint {
+    addr: AT_B,
+    port: 80,
+};
+
+const ONE: SocketId = SocketId(1);
+
+const TWO: SocketId = SocketId(2);
+
+/// What is done at a side.
+#[derive(Clone, Copy)]
+enum Act {
+    /// Its caller makes a socket.
+    Socket,
+    /// Its caller binds a socket.
+    Bind(SocketId, Endpoint),
+    /// Its caller lets a socket take connections, of which one may wait.
+    Listen(SocketId),
+    /// Its caller takes a connection that waits at a socket.
+    Accept(SocketId),
+    /// Its caller opens a connection with this initial number to a peer.
+    Connect(u32, SocketId, Endpoint),
+    /// Its caller writes octets.
+    Send(SocketId, &'static [u8]),
+    /// Its caller reads so many octets at most.
+    Recv(SocketId, usize),
+    /// Its frame that is due goes out.
+    Emit,
+    /// The frame with this index reaches it, with the initial number of what it may open.
+    Deliver(usize, u32),
+}
+
+/// A frame comes that nobody sent; then b listens at port 80, a connects, the three segments of the handshake are exchanged,
+/// and b reads what a writes.
+const ACTS: &[(Side, Act)] = &[
+    (A, Act::Deliver(0, 0)),
+    (B, Act::Socket),
+    (B, Act::Bind(ONE, SERVER)),
+    (B, Act::Listen(ONE)),
+    (A, Act::Socket),
+    (A, Act::Connect(4_294_967_295, ONE, SERVER)),
+    (A, Act::Emit),
+    (A, Act::Emit),
+    (B, Act::Deliver(0, 7)),
+    (B, Act::Emit),
+    (B, Act::Emit),
+    (A, Act::Deliver(1, 7)),
+    (A, Act::Emit),
+    (A, Act::Emit),
+    (B, Act::Deliver(2, 7)),
+    (B, Act::Emit),
+    (B, Act::Accept(ONE)),
+    (A, Act::Send(ONE, b"hello")),
+    (A, Act::Emit),
+    (B, Act::Deliver(3, 0)),
+    (B, Act::Recv(TWO, 100)),
+];
+
+/// The event that an act is.
+fn event(alloc: Global, side: Side, act: Act) -> Result<Event, AllocError> {
+    let call = match act {
+        Act::Socket => Call::Socket(Kind::Tcp),
+        Act::Bind(id, local) => Call::Bind { id, local },
+        Act::Listen(id) => Call::Listen { id, backlog: 1 },
+        Act::Accept(id) => Call::Accept { id },
+        Act::Connect(isn, id, peer) => Call::Connect {
+            isn: Seq(isn),
+            id,
+            peer,
+        },
+        Act::Send(id, octets) => Call::Send {
+            id,
+            octets: Vec::from_slice(alloc, octets)?,
+        },
+        Act::Recv(id, len) => Call::Recv { id, len },
+        Act::Emit => return Ok(Event::Emit(side)),
+        Act::Deliver(index, isn) => return Ok(Event::Deliver(side, index, Seq(isn))),
+    };
+    Ok(Event::Call(side, call))
+}
+
+/// The events of the table.
+fn events(alloc: Global) -> Result<Vec<Event>, AllocError> {
+    let mut events = Vec::new(alloc);
+    for (side, act) in ACTS {
+        events.push(event(alloc, *side, *act)?)?;
+    }
+    Ok(events)
+}
+
+/// Gives each event in turn to the world, whose outcome is to be the one beside it.
+fn steps(
+    rt: &impl Abort,
+    world: &mut World,
+    events: &[Event],
+    outcomes: &[Result<Answer, Unfair>],
+) -> Result<(), Fail> {
+    assert_eq!(rt; outcomes.len(), events.len());
+    for (event, outcome) in events.iter().zip(outcomes.iter()) {
+        assert!(rt; world.step(event.clone()?) == *outcome, "{event:?}");
+    }
+    Ok(())
+}
+
+#[test]
+fn run_is_step_by_step(rt: HostRuntime) -> Result<(), Fail> {
+    let alloc = rt.alloc();
+    let (a, b) = (Config::new(AT_A)?, Config::new(AT_B)?);
+    let events = events(alloc)?;
+    let mut together = World::with_limit(alloc, a, b, 1 << 30)?;
+    let mut outcomes = Vec::new(alloc);
+    together.run(events.as_slice(), &mut outcomes)?;
+    let hello = Answer::Octets(Vec::from_slice(alloc, b"hello")?);
+    assert!(rt; outcomes.first() == Some(&Err(Unfair::NoSuchFrame)));
+    assert!(rt; outcomes.last() == Some(&Ok(hello)));
+    let mut single = World::new(alloc, a, b)?;
+    steps(&rt, &mut single, events.as_slice(), outcomes.as_slice())?;
+    assert_eq!(rt; together.trace(), single.trace());
+    assert_eq!(rt; together.openings(), single.openings());
+    Ok(())
+}
