@@ -1,6 +1,6 @@
 //! A world: two hosts and all that happened to them.
 
-ghost use Rattle.std.specs.Prelude.{◌≡◌, ◌<◌, ◌≤◌, ◌+◌, true, length, take, drop, ◌^◌, ◌↔◌, vec_len, vec_capacity, OnOk, OnErr, IfOk, IfErr, MatchOption};
+ghost use Rattle.std.specs.Prelude.{◌≡◌, ◌<◌, ◌≤◌, ◌+◌, true, [], ◌∷◌, ◌++◌, length, take, drop, ◌^◌, ◌↔◌, vec_len, vec_capacity, OnOk, OnErr, IfOk, IfErr, MatchOption};
 ghost use Rattle.wire_sim.specs.declared.event.Answer.{Answer};
 ghost use Rattle.wire_sim.specs.Steps.{asked_by, is_emission};
 ghost use Rattle.wire_sim.specs.WorldView.{network_view};
@@ -95,7 +95,7 @@ impl World {
         let Room { octets, copy } = room;
         let answer = self.network.perform(&event, self.trace.len(), octets);
         let told = answer.copied(copy);
-        self.trace.push_reserved(Happening { event, answer });
+        note(&mut self.trace, event, answer);
         Ok(told)
     }
 
@@ -123,7 +123,7 @@ impl World {
                 // Only a send owns octets that take memory, and no rule refuses a send.
                 Err(_) => Err(Unfair::NoMemory),
             };
-            results.push_reserved(outcome);
+            tell(results, outcome);
         }
         Ok(())
     }
@@ -165,4 +165,22 @@ fn reserve(
     network.reserve()?;
     trace.reserve(1)?;
     Room::for_event(alloc, event)
+}
+
+/// Puts an event with its answer at the end of the trace, which has room for it.
+fn note(trace: &mut Vec<Happening>, event: Event, answer: Answer)
+    requires { vec_len trace.old < vec_capacity trace.old }
+    ensures { trace.new.items ≡ trace.old.items ++ record { event = event; answer = answer } ∷ [] }
+{
+    trace.push_reserved(Happening { event, answer });
+}
+
+/// Puts the outcome of an event behind the others, which have room for it.
+fn tell(results: &mut Vec<Result<Answer, Unfair>>, outcome: Result<Answer, Unfair>)
+    requires { vec_len results.old < vec_capacity results.old }
+    ensures items { results.new.items ≡ results.old.items ++ outcome ∷ [] }
+    ensures len { vec_len results.new ≡ vec_len results.old + 1 }
+    ensures room { vec_capacity results.new ≡ vec_capacity results.old }
+{
+    results.push_reserved(outcome);
 }

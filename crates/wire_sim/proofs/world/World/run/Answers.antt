@@ -26,10 +26,10 @@ pub returns-then-is_err-clause-lawful : goal.returns-then-is_err-clause-lawful
 returns-then-is_err-clause-lawful c = lawful _ (record { network = network_view c.self.inside.network; trace = c.self.inside.trace.items }) c.args.self.now (sym c.self.view_is) c.self.invariant.1
 
 -- the outcomes so far and one more, where a step led to this world
-abbrev Goes : goal.After-push_reserved → Result Answer Unfair → WorldView → Type 0
+abbrev Goes : goal.After-tell → Result Answer Unfair → WorldView → Type 0
 Goes c o v = RunsTo (take (c.loop-event.event-index + 1) c.args.events.now) (drop (length c.reserve.new.self.items) (c.loop-event.results.items ++ o ∷ [])) c.args.self.now v
 
-goes_on : (c : goal.After-push_reserved) (given : Event) (o : Result Answer Unfair) (v : WorldView) → SameEvent given c.event-item.result → IsOutcome given o c.loop-event.self v → Goes c o v
+goes_on : (c : goal.After-tell) (given : Event) (o : Result Answer Unfair) (v : WorldView) → SameEvent given c.event-item.result → IsOutcome given o c.loop-event.self v → Goes c o v
 goes_on c given o v same outcome =
     runs-next c.args.events.now c.loop-event.event-index c.event-item.result given (length c.reserve.new.self.items) c.loop-event.results.items o c.args.self.now c.loop-event.self v c.loop-event-test.true c.event-item.is
     (omega (arith, c.loop-event.invariant.1)) c.loop-event.invariant.5 same outcome
@@ -47,7 +47,7 @@ loop-event-preserved c = (
     | in-Ok w ↦ subst (λ (x : WorldView). StreamLaw x.trace x.network.openings) (sym w.self-is) w.step-outcome.ensures.lawful
     | in-Err w ↦ subst (λ (x : WorldView). StreamLaw x.trace x.network.openings) (sym w.self-is) c.loop-event.invariant.4
   ],
-  subst (λ l. RunsTo (take (c.loop-event.event-index + 1) c.args.events.now) (drop (length c.reserve.new.self.items) l) c.args.self.now c.match-clone.self) (sym c.push_reserved.ensures.items)
+  subst (λ l. RunsTo (take (c.loop-event.event-index + 1) c.args.events.now) (drop (length c.reserve.new.self.items) l) c.args.self.now c.match-clone.self) (sym c.tell.ensures.items)
       (elim c.match-clone.branch [
         | in-Ok w ↦
             let given = w.in-Ok.event in

@@ -16,11 +16,11 @@ abbrev after : Inside → WorldView
 after w = record { network = network_view w.network; trace = w.trace.items }
 
 -- the event broke no rule, by what is counted
-counted_fair : (c : goal.After-push_reserved) → unfair_counted (network_view c.self.inside.network) c.args.event ≡ None
+counted_fair : (c : goal.After-note) → unfair_counted (network_view c.self.inside.network) c.args.event ≡ None
 counted_fair c = search rules
 
 -- the event was taken
-taken : (c : goal.After-push_reserved) → IsStep c.args.event c.perform-answer.result (after c.self.inside) (record { network = network_view c.perform-answer.new.self; trace = c.push_reserved.new.self.items })
+taken : (c : goal.After-note) → IsStep c.args.event c.perform-answer.result (after c.self.inside) (record { network = network_view c.perform-answer.new.self; trace = c.note.new.trace.items })
 taken c = record {
   fair = sym (same_unfair (after c.self.inside) c.args.event (run_tallied _ (after c.self.inside) c.self.invariant.1)) ∙ counted_fair c;
   numbered = c.perform-answer.ensures.numbered;
@@ -39,11 +39,11 @@ invariant_of-self-2 c = (
       let kept : get_or c.reserve.new.network.ledger.written.items i 0 ≡ get_or c.self.inside.network.ledger.written.items i 0 =
       ap (λ (n : NetworkView). get_or n.written i 0) c.reserve.ensures.network
       in
-      let traced : length c.push_reserved.new.self.items ≡ length c.self.inside.trace.items + 1 =
-      ap (length {A = Happening}) c.push_reserved.ensures.items ∙ length-append c.reserve.new.trace.items _ ∙ ap (λ hs. length {A = Happening} hs + 1) c.reserve.ensures.trace
+      let traced : length c.note.new.trace.items ≡ length c.self.inside.trace.items + 1 =
+      ap (length {A = Happening}) c.note.ensures ∙ length-append c.reserve.new.trace.items _ ∙ ap (λ hs. length {A = Happening} hs + 1) c.reserve.ensures.trace
       in
       omega (arith, grown, kept, traced, c.self.invariant.0 i),
-  reached-next (after c.self.inside) (record { network = network_view c.perform-answer.new.self; trace = c.push_reserved.new.self.items }) c.args.event c.perform-answer.result c.self.invariant.1 (taken c),
+  reached-next (after c.self.inside) (record { network = network_view c.perform-answer.new.self; trace = c.note.new.trace.items }) c.args.event c.perform-answer.result c.self.invariant.1 (taken c),
 )
 
 pub returns-clause-unfair : goal.returns-clause-unfair
@@ -72,7 +72,7 @@ returns-clause-taken c =
     (c.perform-answer.result, record { octets = c.copied-told.ensures.octets; others = c.copied-told.ensures.others }, step_from c.args.event c.perform-answer.result (after c.self.inside) c.args.self.now _ (sym c.self.view_is) step)
 
 pub returns-clause-reached : goal.returns-clause-reached
-returns-clause-reached c = reached-next (after c.self.inside) (record { network = network_view c.perform-answer.new.self; trace = c.push_reserved.new.self.items }) c.args.event c.perform-answer.result c.self.invariant.1 (taken c)
+returns-clause-reached c = reached-next (after c.self.inside) (record { network = network_view c.perform-answer.new.self; trace = c.note.new.trace.items }) c.args.event c.perform-answer.result c.self.invariant.1 (taken c)
 
 pub returns-in_err-admits-clause-reached : goal.returns-in_err-admits-clause-reached
 returns-in_err-admits-clause-reached c = reached-again (after c.self.inside) c.args.self.now (sym c.self.view_is) c.self.invariant.1
@@ -82,7 +82,7 @@ returns-in_default-clause-reached c = reached-again (after c.self.inside) (recor
 
 pub returns-clause-lawful : goal.returns-clause-lawful
 returns-clause-lawful c =
-    let next : WorldView = record { network = network_view c.perform-answer.new.self; trace = c.push_reserved.new.self.items } in
+    let next : WorldView = record { network = network_view c.perform-answer.new.self; trace = c.note.new.trace.items } in
     lawful _ next next refl (reached-next (after c.self.inside) next c.args.event c.perform-answer.result c.self.invariant.1 (taken c))
 
 pub returns-in_err-admits-clause-lawful : goal.returns-in_err-admits-clause-lawful
