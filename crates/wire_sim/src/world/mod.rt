@@ -48,9 +48,11 @@ impl World {
     ghost use Rattle.wire_sim.specs.Trace.{StreamLaw};
     ghost use Rattle.wire_sim.specs.WorldView.{WorldView, SameAnswer, fresh_world};
 
-    /// Two hosts that know each other, no frames, and nothing happened. SameAddress where both have one address; NoMemory.
+    /// Two hosts that know each other, no frames, and nothing happened. SameAddress where both have one address, and no other fault: a fresh
+    /// world takes no memory.
     pub fn new(alloc: Global, a: Config, b: Config) -> Result<World, WorldFault>
         ensures same { (result ≡ Err WorldFault.SameAddress) ↔ (a ≡ b) }
+        ensures fault { IfErr result (λ fault. fault ≡ WorldFault.SameAddress) }
         ensures fresh { IfOk result (λ world. world ≡ fresh_world a b (2 ^ 30)) }
         ensures reached { IfOk result (λ world. IsReached (2 ^ 30) world) }
         ensures lawful { IfOk result (λ world. StreamLaw world.trace world.network.openings) }
@@ -62,6 +64,7 @@ impl World {
     pub fn with_limit(alloc: Global, a: Config, b: Config, limit: u64) -> Result<World, WorldFault>
         requires { (1 ≤ limit) × (limit ≤ 2 ^ 30) }
         ensures same { (result ≡ Err WorldFault.SameAddress) ↔ (a ≡ b) }
+        ensures fault { IfErr result (λ fault. fault ≡ WorldFault.SameAddress) }
         ensures fresh { IfOk result (λ world. world ≡ fresh_world a b limit) }
         ensures reached { IfOk result (λ world. IsReached limit world) }
         ensures lawful { IfOk result (λ world. StreamLaw world.trace world.network.openings) }
@@ -99,7 +102,8 @@ impl World {
         Ok(told)
     }
 
-    /// Gives each event in turn to `step`, and appends its result. NoMemory, with nothing done, where `results` cannot grow.
+    /// Gives each event in turn to `step`, and appends its result. NoMemory, with nothing done, where `results` has no room for them all and cannot
+    /// grow.
     pub fn run(
         &mut self,
         events: &[Event],
@@ -110,6 +114,7 @@ impl World {
         ensures steps { OnOk result (RunsTo events.now (drop (length results.old.items) results.new.items) self.old self.new) }
         ensures err { OnErr result ((self.new ≡ self.old) × (results.new.items ≡ results.old.items)) }
         ensures fault { IfErr result (λ fault. fault ≡ WorldFault.NoMemory) }
+        ensures full { OnErr result (vec_capacity results.old < vec_len results.old + length events.now) }
         ensures reached { IsReached self.new.network.limit self.new }
         ensures lawful { StreamLaw self.new.trace self.new.network.openings }
     {
