@@ -185,12 +185,14 @@ impl Network {
         self.b.sound();
     }
 
-    /// Makes room for one more frame and one more opening.
+    /// Makes room for one more frame and one more opening. It fails only where that room was missing.
     pub(super) fn reserve(&mut self) -> Result<(), AllocError>
         ensures kept { network_view self.new ≡ network_view self.old }
         ensures bag { OnOk result (vec_len self.new.bag < vec_capacity self.new.bag) }
         ensures openings { OnOk result (vec_len self.new.ledger.openings < vec_capacity self.new.ledger.openings) }
         ensures written { OnOk result (vec_len self.new.ledger.written < vec_capacity self.new.ledger.written) }
+        ensures room { vec_len self.old.bag < vec_capacity self.old.bag → vec_len self.old.ledger.openings < vec_capacity self.old.ledger.openings
+            → vec_len self.old.ledger.written < vec_capacity self.old.ledger.written → IsOk result }
     {
         self.bag.reserve(1)?;
         self.ledger.reserve()

@@ -7,7 +7,7 @@ use Rattle.wire_sim.specs.Fairness.{unfair_counted}
 use Rattle.wire_sim.specs.WorldView.{NetworkView, WorldView, network_view}
 use Rattle.wire_sim.proofs.Fair.{same_unfair}
 use Rattle.wire_sim.proofs.WorldLaw.{run_tallied}
-use Rattle.wire_sim.proofs.StepReached.{reached-next, same-parts, reached-again, lawful, step_from}
+use Rattle.wire_sim.proofs.StepReached.{reached-next, same-parts, reached-again, lawful, step_from, seen-is}
 use Rattle.wire_sim.proofs.CountGrowth.{Steps-grows}
 use Rattle.wire_sim.proofs.world.World.step.Goals as goal
 
@@ -48,34 +48,43 @@ invariant_of-self-2 c = (
 
 pub returns-clause-unfair : goal.returns-clause-unfair
 returns-clause-unfair c =
-    let e : unfair_counted (network_view c.self.inside.network) c.args.event ≡ unfair c.args.self.now c.args.event =
-    same_unfair (after c.self.inside) c.args.event (run_tallied _ (after c.self.inside) c.self.invariant.1) ∙ ap (λ (w : WorldView). unfair w c.args.event) c.self.view_is in
-    let n : unfair c.args.self.now c.args.event ≡ None = sym e ∙ counted_fair c in
+    let e : unfair_counted (network_view c.self.inside.network) c.args.event ≡ unfair c.args.self.now.seen c.args.event =
+    same_unfair (after c.self.inside) c.args.event (run_tallied _ (after c.self.inside) c.self.invariant.1) ∙ ap (λ (w : WorldView). unfair w c.args.event) (seen-is c.self.view_is) in
+    let n : unfair c.args.self.now.seen c.args.event ≡ None = sym e ∙ counted_fair c in
     search rules
 
 pub returns-in_default-clause-unfair : goal.returns-in_default-clause-unfair
 returns-in_default-clause-unfair c =
-    let e : unfair_counted (network_view c.self.inside.network) c.args.event ≡ unfair c.args.self.now c.args.event =
-    same_unfair (after c.self.inside) c.args.event (run_tallied _ (after c.self.inside) c.self.invariant.1) ∙ ap (λ (w : WorldView). unfair w c.args.event) c.self.view_is in
-    let n : unfair c.args.self.now c.args.event ≡ None = sym e ∙ search rules in
+    let e : unfair_counted (network_view c.self.inside.network) c.args.event ≡ unfair c.args.self.now.seen c.args.event =
+    same_unfair (after c.self.inside) c.args.event (run_tallied _ (after c.self.inside) c.self.invariant.1) ∙ ap (λ (w : WorldView). unfair w c.args.event) (seen-is c.self.view_is) in
+    let n : unfair c.args.self.now.seen c.args.event ≡ None = sym e ∙ search rules in
     search rules
 
 pub returns-in_err-admits-clause-unfair : goal.returns-in_err-admits-clause-unfair
 returns-in_err-admits-clause-unfair c =
-    let e : unfair_counted (network_view c.self.inside.network) c.args.event ≡ unfair c.args.self.now c.args.event =
-    same_unfair (after c.self.inside) c.args.event (run_tallied _ (after c.self.inside) c.self.invariant.1) ∙ ap (λ (w : WorldView). unfair w c.args.event) c.self.view_is in
+    let e : unfair_counted (network_view c.self.inside.network) c.args.event ≡ unfair c.args.self.now.seen c.args.event =
+    same_unfair (after c.self.inside) c.args.event (run_tallied _ (after c.self.inside) c.self.invariant.1) ∙ ap (λ (w : WorldView). unfair w c.args.event) (seen-is c.self.view_is) in
+    search rules
+
+-- an event that breaks no rule is admitted
+pub returns-in_err-admits-clause-memory : goal.returns-in_err-admits-clause-memory
+returns-in_err-admits-clause-memory c =
+    let e : unfair_counted (network_view c.self.inside.network) c.args.event ≡ unfair c.args.self.now.seen c.args.event =
+    same_unfair (after c.self.inside) c.args.event (run_tallied _ (after c.self.inside) c.self.invariant.1) ∙ ap (λ (w : WorldView). unfair w c.args.event) (seen-is c.self.view_is) in
+    λ fair _ _.
+    let admitted : unfair_counted (network_view c.self.inside.network) c.args.event ≡ None = e ∙ fair in
     search rules
 
 pub returns-clause-taken : goal.returns-clause-taken
 returns-clause-taken c =
     let step = taken c in
-    (c.perform-answer.result, record { octets = c.copied-told.ensures.octets; others = c.copied-told.ensures.others }, step_from c.args.event c.perform-answer.result (after c.self.inside) c.args.self.now _ (sym c.self.view_is) step)
+    (c.perform-answer.result, record { octets = c.copied-told.ensures.octets; others = c.copied-told.ensures.others }, step_from c.args.event c.perform-answer.result (after c.self.inside) c.args.self.now.seen _ (sym (seen-is c.self.view_is)) step)
 
 pub returns-clause-reached : goal.returns-clause-reached
 returns-clause-reached c = reached-next (after c.self.inside) (record { network = network_view c.perform-answer.new.self; trace = c.note.new.trace.items }) c.args.event c.perform-answer.result c.self.invariant.1 (taken c)
 
 pub returns-in_err-admits-clause-reached : goal.returns-in_err-admits-clause-reached
-returns-in_err-admits-clause-reached c = reached-again (after c.self.inside) c.args.self.now (sym c.self.view_is) c.self.invariant.1
+returns-in_err-admits-clause-reached c = reached-again (after c.self.inside) c.args.self.now.seen (sym (seen-is c.self.view_is)) c.self.invariant.1
 
 pub returns-in_default-clause-reached : goal.returns-in_default-clause-reached
 returns-in_default-clause-reached c = reached-again (after c.self.inside) (record { network = network_view c.reserve.new.network; trace = c.reserve.new.trace.items }) (same-parts _ _ _ _ c.reserve.ensures.network c.reserve.ensures.trace) c.self.invariant.1
@@ -86,7 +95,7 @@ returns-clause-lawful c =
     lawful _ next next refl (reached-next (after c.self.inside) next c.args.event c.perform-answer.result c.self.invariant.1 (taken c))
 
 pub returns-in_err-admits-clause-lawful : goal.returns-in_err-admits-clause-lawful
-returns-in_err-admits-clause-lawful c = lawful _ (after c.self.inside) c.args.self.now (sym c.self.view_is) c.self.invariant.1
+returns-in_err-admits-clause-lawful c = lawful _ (after c.self.inside) c.args.self.now.seen (sym (seen-is c.self.view_is)) c.self.invariant.1
 
 pub returns-in_default-clause-lawful : goal.returns-in_default-clause-lawful
 returns-in_default-clause-lawful c = lawful _ (after c.self.inside) (record { network = network_view c.reserve.new.network; trace = c.reserve.new.trace.items }) (same-parts _ _ _ _ c.reserve.ensures.network c.reserve.ensures.trace) c.self.invariant.1
