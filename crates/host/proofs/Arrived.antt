@@ -1,6 +1,5 @@
 -- What a segment that arrives makes of a host.
-use Rattle.std.proofs.Common.{◌≡◌, ◌≢◌, ◌<◌, ◌+◌, ◌^◌, count_by, arith, ℕ, Bool, true, false, if◌then◌else◌, List, length, get_or, set, Some, None, Result, Ok, refl, ap, sym, subst, ◌∙◌}
-use Rattle.std.proofs.lemmas.Grind.{common_steps}
+use Rattle.std.proofs.Common.{◌≡◌, ℕ, Bool, true, false, if◌then◌else◌, List, length, get_or, set, Some, None, Result, Ok, refl, ap, sym, subst, ◌∙◌}
 use Rattle.std.specs.List.{find, position, refill, remove}
 use Rattle.tcp_segment.specs.declared.head.Head.{Head}
 use Rattle.tcp_segment.specs.Segment.{Segment}
@@ -10,9 +9,9 @@ use Rattle.tcp_state.specs.declared.moment.Moment.{Moment}
 use Rattle.host.specs.declared.entry.Role.{Role}
 use Rattle.host.specs.declared.entry.Entry.{Entry}
 use Rattle.host.specs.declared.refusal.DropCause.{DropCause}
-use Rattle.host.specs.Dispatch.{Arrival, Becomes, Opens, local_end, peer_end, is_opening, has_no_place, after_opening, answered, arrival_alone, arrival_at_connection, arrival, Meets}
+use Rattle.host.specs.Dispatch.{Arrival, Becomes, local_end, peer_end, is_opening, answered, arrival_alone, arrival_at_connection, arrival, Meets}
 use Rattle.host.specs.Replies.{reset_at_ack, answer_to, answer_at_listener}
-use Rattle.host.specs.Entries.{is_between, is_listening_at, is_waiting_at, backlog_of, arrived, fate_of, is_kept, settled, with_role}
+use Rattle.host.specs.Entries.{is_between, is_listening_at, arrived, fate_of, is_kept, settled, with_role}
 use Rattle.host.specs.HostView.{HostView, later}
 use Rattle.host.specs.Lists.{change_first, remove_first}
 use Rattle.host.proofs.Firsts.{refill_set, remove_first-position, remove-set}
@@ -60,11 +59,6 @@ taken h now isn s e Stays found is other = rw (found, is)
 taken h now isn s e Removed found is other = rw (found, is)
 taken h now isn s e Refused found is other = absurd (other refl)
 
--- a segment that opens a connection where there is a place
-pub opening-placed : (h : HostView) (isn : ℕ) (s : Segment) (listener : Entry) → find (is_listening_at s.destination) h.entries ≡ Some listener → is_opening s.flags ≡ true → has_no_place h listener ≡ false
-    → arrival_alone h isn s ≡ Opens (after_opening h isn listener s)
-opening-placed h isn s listener found opens place = rw (found, opens, place)
-
 -- a segment for a listener that opens nothing
 pub listener-answers : (h : HostView) (isn : ℕ) (s : Segment) (listener : Entry) → find (is_listening_at s.destination) h.entries ≡ Some listener → is_opening s.flags ≡ false
     → arrival_alone h isn s ≡ answered h (answer_at_listener s)
@@ -90,12 +84,3 @@ pub meets_becomes : (a : Arrival) (h new next : HostView) → a ≡ Becomes next
 meets_becomes a h new next same becomes =
     let P : Arrival → Type 0 = λ b. Meets b h (Ok tt) new in
     subst P (sym same) (refl, becomes)
-
-pub meets_opens : (a : Arrival) (h new next : HostView) → a ≡ Opens next → new ≡ next → Meets a h (Ok tt) new
-meets_opens a h new next same opens =
-    let P : Arrival → Type 0 = λ b. Meets b h (Ok tt) new in
-    subst P (sym same) opens
-
--- there is a place at the listener
-pub has_place : (h : HostView) (listener : Entry) → count_by (is_waiting_at listener.id) h.entries < backlog_of listener.role → length h.entries ≢ 8 → h.last_id + 1 < 2 ^ 64 → has_no_place h listener ≡ false
-has_place h listener waiting full last = grind (arith, common_steps)

@@ -1,7 +1,7 @@
 //! One host: a table of sockets and connections over one address, and one neighbour.
 #![tactic(auto)]
 
-ghost use Rattle.std.specs.Prelude.{ℕ, ◌≡◌, ◌≤◌, ◌<◌, ◌↔◌, true, [], length, position, IfSome, OnSome, IfNone, IfOk, IfErr, IsOk, Ok};
+ghost use Rattle.std.specs.Prelude.{ℕ, ◌≡◌, ◌≤◌, ◌<◌, ◌↔◌, true, false, [], length, position, IfSome, OnSome, IfNone, IfOk, IfErr, OnOk, OnErr, IsOk, Ok};
 ghost use Rattle.host.specs.Dispatch.{is_opening};
 ghost use Rattle.host.specs.Entries.{is_between, is_listening_at};
 
@@ -20,7 +20,7 @@ pub use entry::SocketId;
 use ipv4::{Addr, Endpoint, Pair};
 pub use refusal::{DropCause, Refusal};
 use replies::{REPLIES, Reply};
-use std::alloc::Global;
+use std::alloc::{AllocError, Global};
 use std::marker::Model;
 use tcp_segment::{Flags, Seq, TcpView};
 use tcp_state::{Buffers, Connection, Fate, Moment};
@@ -112,7 +112,7 @@ impl Model for Host {
 }
 
 impl Host {
-    ghost use Rattle.host.specs.Dispatch.{local_end, peer_end, arrival, arrival_alone, answered, Meets, IsDelivered, IsForeseen, pair_opened, pair_at_listener, has_no_place};
+    ghost use Rattle.host.specs.Dispatch.{after_opening, local_end, peer_end, arrival, arrival_alone, answered, Meets, IsDelivered, IsForeseen, pair_opened, pair_at_listener, has_no_place};
     ghost use Rattle.host.specs.Pairs.{socket_pair, due_pair, reply_pair};
     ghost use Rattle.host.specs.Sound.{IsSoundHost};
     ghost use Rattle.host.specs.HostView.{HostView, later, holder_id, fresh, emission_len, after_emission, emission_front, after_tick, least_deadline};
@@ -297,7 +297,8 @@ impl Host {
 
     /// Whether a further connection has no place at this listener.
     fn has_no_place(&self, listener: &Entry) -> bool
-        ensures { result ≡ has_no_place self.now listener.now }
+        ensures value { result ≡ has_no_place self.now listener.now }
+        ensures bound { length self.now.entries ≤ ENTRIES }
     {
         table::waiting_at(&self.entries, listener.id) >= listener.backlog()
             || self.entries.is_full()
@@ -389,30 +390,44 @@ impl Host {
         Ok(())
     }
 
-    /// Opens a connection for `syn` at the listener in this place (RFC 9293 section 3.10.7.2).
+    /// Opens a connection for `syn` at the listener in this place (RFC 9293 section 3.10.7.2), where that has a place for it.
     #[tactic(auto, using(crate::proofs::Firsts::firsts))]
     fn open(&mut self, isn: Seq, place: usize, syn: &TcpView<'_>) -> Result<(), DropCause>
         requires place { position (is_listening_at syn.now.destination) self.old.entries ≡ Some place }
         requires opens { is_opening syn.now.flags ≡ true }
         ensures { Meets (arrival_alone self.old isn.0 syn.now) self.old result self.new }
     {
-        let entry = &self.entries[place];
-        let listener = entry.id;
-        let backlog = entry.backlog();
-        if table::waiting_at(&self.entries, listener) >= backlog || self.entries.is_full() {
+        let listener = &self.entries[place];
+        if self.has_no_place(listener) {
             return Err(DropCause::NoRoom);
         }
-        let Some(id) = self.last_id.checked_add(1) else {
-            return Err(DropCause::NoRoom);
-        };
-        let Ok(buffers) = Buffers::new(self.alloc) else {
+        let listener = listener.id;
+        self.open_with(Buffers::new(self.alloc), isn, listener, syn)
+    }
+
+    /// Opens a connection for `syn` in these buffers, where the listener at its port has a place for it. NoRoom exactly where memory was
+    /// refused them.
+    fn open_with(
+        &mut self,
+        buffers: Result<Buffers, AllocError>,
+        isn: Seq,
+        listener: SocketId,
+        syn: &TcpView<'_>,
+    ) -> Result<(), DropCause>
+        requires place { length self.old.entries < ENTRIES }
+        requires id { self.old.last_id < u64.MAX }
+        ensures memory { IsOk result ↔ IsOk buffers }
+        ensures opened { OnOk result ((entry : Entry) → entry.id ≡ listener → self.new ≡ after_opening self.old isn.0 entry syn.now) }
+        ensures refused { OnErr result (self.new ≡ self.old) }
+        ensures cause { IfErr result (λ cause. cause ≡ DropCause.NoRoom) }
+    {
+        let Ok(buffers) = buffers else {
             return Err(DropCause::NoRoom);
         };
         let (local, peer) = self.ends(syn);
         let connection = Connection::passive(buffers, local, peer, isn, syn);
-        self.last_id = id;
-        self.entries
-            .push(Entry::passive(SocketId(id), listener, connection));
+        self.last_id += 1;
+        self.entries.push(Entry::passive(SocketId(self.last_id), listener, connection));
         Ok(())
     }
 }

@@ -7,6 +7,7 @@ use Rattle.wire_sim.specs.declared.event.Happening.{Happening}
 use Rattle.host.specs.Endpoints.{same_addr}
 use Rattle.wire_sim.specs.Runs.{IsStep, IsReached, begins, goes_on}
 use Rattle.wire_sim.specs.Trace.{StreamLaw}
+use Rattle.wire_sim.specs.WorldRoom.{RoomyWorld}
 use Rattle.wire_sim.specs.WorldView.{NetworkView, WorldView, fresh_network}
 use Rattle.wire_sim.proofs.WorldLaw.{orderly, run_lawful}
 
@@ -30,6 +31,10 @@ reached-next old new happens answer reached step =
     let run = goes_on old new happens answer reached step in
     let o = orderly old.network.limit new run in
     subst (λ l. IsReached l new) (sym o.is_limit) run
+
+-- the same worlds were reached, whatever room they have
+pub seen-is : {w v : RoomyWorld} → w ≡ v → w.seen ≡ v.seen
+seen-is same = ap (λ (x : RoomyWorld). x.seen) same
 
 -- a world by its parts
 pub same-parts : (n m : NetworkView) (t u : List Happening) → n ≡ m → t ≡ u → ◌≡◌ {A = WorldView} (record { network = n; trace = t }) (record { network = m; trace = u })

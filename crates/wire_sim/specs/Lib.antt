@@ -4,6 +4,7 @@ pub mod Openings
 pub mod Fairness
 pub mod WorldView
 pub mod Steps
+pub mod WorldRoom
 pub mod Trace
 pub mod Runs
 pub mod Coverage

@@ -1,6 +1,6 @@
 //! Memory that is taken before a host is touched.
 
-ghost use Rattle.std.specs.Prelude.{◌≡◌, ◌≤◌, true, length, vec_len, vec_capacity, IfOk};
+ghost use Rattle.std.specs.Prelude.{◌≡◌, ◌≤◌, true, false, length, vec_len, vec_capacity, IsOk, IfOk};
 
 use crate::event::{Call, Event};
 use std::alloc::{AllocError, Global};
@@ -25,18 +25,19 @@ pub(crate) struct Room {
 impl Room {
     ghost use Rattle.wire_sim.specs.Steps.{asked_by, is_emission};
 
-    /// What `event` needs.
+    /// What `event` needs. An event that neither reads octets nor emits a frame needs nothing, and so is refused nothing.
     pub(crate) fn for_event(alloc: Global, event: &Event) -> Result<Room, AllocError>
         ensures read { IfOk result (λ room. vec_len room.octets ≡ asked_by event.now) }
         ensures room { IfOk result (λ room. is_emission event.now ≡ true → 1514 ≤ vec_capacity room.octets) }
+        ensures plain { asked_by event.now ≡ 0 → is_emission event.now ≡ false → IsOk result }
     {
         match event {
             Event::Call(_, Call::Recv { len, .. }) => {
                 let len = (*len).min(MOST_READ);
-                Ok(Room {
-                    octets: vec![in alloc; 0; len]?,
-                    copy: Vec::with_capacity(alloc, len)?,
-                })
+                let mut octets = Vec::with_capacity(alloc, len)?;
+                octets.resize(len, 0)?;
+                let copy = Vec::with_capacity(alloc, len)?;
+                Ok(Room { octets, copy })
             }
             Event::Emit(_) => Ok(Room {
                 octets: Vec::with_capacity(alloc, MOST_FRAME)?,

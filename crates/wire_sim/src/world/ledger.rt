@@ -1,6 +1,6 @@
 //! The openings so far, and how many octets each took from its caller.
 
-ghost use Rattle.std.specs.Prelude.{◌≡◌, ℕ, ◌+◌, ◌<◌, ◌≤◌, ◌^◌, [], ◌∷◌, ◌++◌, vec_len, vec_capacity, slice_index_or, OnOk};
+ghost use Rattle.std.specs.Prelude.{◌≡◌, ℕ, ◌+◌, ◌<◌, ◌≤◌, ◌^◌, [], ◌∷◌, ◌++◌, vec_len, vec_capacity, slice_index_or, IsOk, OnOk};
 ghost use Rattle.ipv4.specs.declared.addr.Pair.{Pair};
 ghost use Rattle.std.specs.List.{list_any};
 ghost use Rattle.wire_sim.specs.Tallies.{is_opening_of, written_by, counted};
@@ -31,12 +31,13 @@ impl Ledger {
         }
     }
 
-    /// Makes room for one more opening.
+    /// Makes room for one more opening. It fails only where that room was missing.
     pub(super) fn reserve(&mut self) -> Result<(), AllocError>
         ensures openings_room { OnOk result (vec_len self.new.openings < vec_capacity self.new.openings) }
         ensures written_room { OnOk result (vec_len self.new.written < vec_capacity self.new.written) }
         ensures openings { self.new.openings.items ≡ self.old.openings.items }
         ensures written { self.new.written.items ≡ self.old.written.items }
+        ensures room { vec_len self.old.openings < vec_capacity self.old.openings → vec_len self.old.written < vec_capacity self.old.written → IsOk result }
     {
         self.openings.reserve(1)?;
         self.written.reserve(1)

@@ -1,6 +1,6 @@
 //! A world: two hosts and all that happened to them.
 
-ghost use Rattle.std.specs.Prelude.{◌≡◌, ◌<◌, ◌≤◌, ◌+◌, true, length, take, drop, ◌^◌, ◌↔◌, vec_len, vec_capacity, OnOk, OnErr, IfOk, IfErr, MatchOption};
+ghost use Rattle.std.specs.Prelude.{◌≡◌, ◌<◌, ◌≤◌, ◌+◌, true, false, [], ◌∷◌, ◌++◌, length, take, drop, ◌^◌, ◌↔◌, vec_len, vec_capacity, None, IsOk, OnOk, OnErr, IfOk, IfErr, MatchOption};
 ghost use Rattle.wire_sim.specs.declared.event.Answer.{Answer};
 ghost use Rattle.wire_sim.specs.Steps.{asked_by, is_emission};
 ghost use Rattle.wire_sim.specs.WorldView.{network_view};
@@ -29,13 +29,22 @@ pub struct World {
 }
 
 impl Model for World {
-    ghost use Rattle.std.specs.Prelude.{ℕ, ◌*◌, ◌≤◌, length, slice_index_or};
-    ghost use Rattle.wire_sim.specs.WorldView.{WorldView, network_view};
+    ghost use Rattle.std.specs.Prelude.{ℕ, ◌*◌, ◌≤◌, length, slice_index_or, vec_capacity};
+    ghost use Rattle.wire_sim.specs.WorldView.{network_view};
+    ghost use Rattle.wire_sim.specs.WorldRoom.{RoomyWorld};
     ghost use Rattle.wire_sim.specs.Runs.{IsReached};
 
-    ghost Value = { WorldView };
+    ghost Value = { RoomyWorld };
 
-    ghost view = { λ w. record { network = network_view w.network; trace = w.trace.items } };
+    ghost view = { λ w. record {
+      seen = record { network = network_view w.network; trace = w.trace.items };
+      room = record {
+        frames = vec_capacity w.network.bag;
+        openings = vec_capacity w.network.ledger.openings;
+        written = vec_capacity w.network.ledger.written;
+        trace = vec_capacity w.trace;
+      };
+    } };
 
     // One event adds at most 65,535 octets to a count, which is what a connection's buffer holds. What stands in the fields is what
     // a run of the definitions leads to.
@@ -46,14 +55,17 @@ impl Model for World {
 impl World {
     ghost use Rattle.wire_sim.specs.Runs.{unfair, IsStep, IsReached, RunsTo};
     ghost use Rattle.wire_sim.specs.Trace.{StreamLaw};
-    ghost use Rattle.wire_sim.specs.WorldView.{WorldView, SameAnswer, fresh_world};
+    ghost use Rattle.wire_sim.specs.WorldRoom.{HasRoom, IsPlain};
+    ghost use Rattle.wire_sim.specs.WorldView.{SameAnswer, fresh_world};
 
-    /// Two hosts that know each other, no frames, and nothing happened. SameAddress where both have one address; NoMemory.
+    /// Two hosts that know each other, no frames, and nothing happened. SameAddress where both have one address, and no other fault: a fresh
+    /// world takes no memory.
     pub fn new(alloc: Global, a: Config, b: Config) -> Result<World, WorldFault>
         ensures same { (result ≡ Err WorldFault.SameAddress) ↔ (a ≡ b) }
-        ensures fresh { IfOk result (λ world. world ≡ fresh_world a b (2 ^ 30)) }
-        ensures reached { IfOk result (λ world. IsReached (2 ^ 30) world) }
-        ensures lawful { IfOk result (λ world. StreamLaw world.trace world.network.openings) }
+        ensures fault { IfErr result (λ fault. fault ≡ WorldFault.SameAddress) }
+        ensures fresh { IfOk result (λ world. world.seen ≡ fresh_world a b (2 ^ 30)) }
+        ensures reached { IfOk result (λ world. IsReached (2 ^ 30) world.seen) }
+        ensures lawful { IfOk result (λ world. StreamLaw world.seen.trace world.seen.network.openings) }
     {
         World::with_limit(alloc, a, b, LIMIT)
     }
@@ -62,9 +74,10 @@ impl World {
     pub fn with_limit(alloc: Global, a: Config, b: Config, limit: u64) -> Result<World, WorldFault>
         requires { (1 ≤ limit) × (limit ≤ 2 ^ 30) }
         ensures same { (result ≡ Err WorldFault.SameAddress) ↔ (a ≡ b) }
-        ensures fresh { IfOk result (λ world. world ≡ fresh_world a b limit) }
-        ensures reached { IfOk result (λ world. IsReached limit world) }
-        ensures lawful { IfOk result (λ world. StreamLaw world.trace world.network.openings) }
+        ensures fault { IfErr result (λ fault. fault ≡ WorldFault.SameAddress) }
+        ensures fresh { IfOk result (λ world. world.seen ≡ fresh_world a b limit) }
+        ensures reached { IfOk result (λ world. IsReached limit world.seen) }
+        ensures lawful { IfOk result (λ world. StreamLaw world.seen.trace world.seen.network.openings) }
     {
         if a.addr() == b.addr() {
             return Err(WorldFault::SameAddress);
@@ -78,14 +91,16 @@ impl World {
 
     /// Gives one event to the host that it names, and answers what the host answers.
     ///
-    /// NoSuchFrame, OtherEpoch, Stale, SecondOpening, NoMemory, tested in this order; the world is then as it was.
+    /// NoSuchFrame, OtherEpoch, Stale, SecondOpening, NoMemory, tested in this order; the world is then as it was. NoMemory comes only where
+    /// one of the world's lists has no room for one element more, or the event wants octets of its own: a receive, or an emission.
     pub fn step(&mut self, event: Event) -> Result<Answer, Unfair>
-        ensures unfair { MatchOption (unfair self.old event)
+        ensures unfair { MatchOption (unfair self.old.seen event)
             (IfErr result (λ refusal. refusal ≡ Unfair.NoMemory)) (λ refusal. result ≡ Err refusal) }
-        ensures refused { OnErr result (self.new ≡ self.old) }
-        ensures taken { IfOk result (λ told. (answer : Answer) × SameAnswer told answer × IsStep event answer self.old self.new) }
-        ensures reached { IsReached self.new.network.limit self.new }
-        ensures lawful { StreamLaw self.new.trace self.new.network.openings }
+        ensures memory { unfair self.old.seen event ≡ None → HasRoom self.old → IsPlain event → IsOk result }
+        ensures refused { OnErr result (self.new.seen ≡ self.old.seen) }
+        ensures taken { IfOk result (λ told. (answer : Answer) × SameAnswer told answer × IsStep event answer self.old.seen self.new.seen) }
+        ensures reached { IsReached self.new.seen.network.limit self.new.seen }
+        ensures lawful { StreamLaw self.new.seen.trace self.new.seen.network.openings }
     {
         self.network.sound();
         self.network.admits(&event)?;
@@ -95,11 +110,12 @@ impl World {
         let Room { octets, copy } = room;
         let answer = self.network.perform(&event, self.trace.len(), octets);
         let told = answer.copied(copy);
-        self.trace.push_reserved(Happening { event, answer });
+        note(&mut self.trace, event, answer);
         Ok(told)
     }
 
-    /// Gives each event in turn to `step`, and appends its result. NoMemory, with nothing done, where `results` cannot grow.
+    /// Gives each event in turn to `step`, and appends its result. NoMemory, with nothing done, where `results` has no room for them all and cannot
+    /// grow.
     pub fn run(
         &mut self,
         events: &[Event],
@@ -107,11 +123,12 @@ impl World {
     ) -> Result<(), WorldFault>
         ensures kept { take (length results.old.items) results.new.items ≡ results.old.items }
         ensures one_each { OnOk result (length results.new.items ≡ length results.old.items + length events.now) }
-        ensures steps { OnOk result (RunsTo events.now (drop (length results.old.items) results.new.items) self.old self.new) }
+        ensures steps { OnOk result (RunsTo events.now (drop (length results.old.items) results.new.items) self.old.seen self.new.seen) }
         ensures err { OnErr result ((self.new ≡ self.old) × (results.new.items ≡ results.old.items)) }
         ensures fault { IfErr result (λ fault. fault ≡ WorldFault.NoMemory) }
-        ensures reached { IsReached self.new.network.limit self.new }
-        ensures lawful { StreamLaw self.new.trace self.new.network.openings }
+        ensures full { OnErr result (vec_capacity results.old < vec_len results.old + length events.now) }
+        ensures reached { IsReached self.new.seen.network.limit self.new.seen }
+        ensures lawful { StreamLaw self.new.seen.trace self.new.seen.network.openings }
     {
         let _ = &self.alloc;
         if results.reserve(events.len()).is_err() {
@@ -123,30 +140,30 @@ impl World {
                 // Only a send owns octets that take memory, and no rule refuses a send.
                 Err(_) => Err(Unfair::NoMemory),
             };
-            results.push_reserved(outcome);
+            tell(results, outcome);
         }
         Ok(())
     }
 
     /// When a host came to hold a pair, in order.
     pub fn openings(&self) -> &[Opening]
-        ensures openings { result.now ≡ self.now.network.openings }
-        ensures reached { IsReached self.now.network.limit self.now }
+        ensures openings { result.now ≡ self.now.seen.network.openings }
+        ensures reached { IsReached self.now.seen.network.limit self.now.seen }
     {
         self.network.openings()
     }
 
     /// The events that were taken, with their answers, in order.
     pub fn trace(&self) -> &[Happening]
-        ensures trace { result.now ≡ self.now.trace }
-        ensures reached { IsReached self.now.network.limit self.now }
-        ensures lawful { StreamLaw result.now self.now.network.openings }
+        ensures trace { result.now ≡ self.now.seen.trace }
+        ensures reached { IsReached self.now.seen.network.limit self.now.seen }
+        ensures lawful { StreamLaw result.now self.now.seen.network.openings }
     {
         self.trace.as_slice()
     }
 }
 
-/// Takes all memory that `event` may need.
+/// Takes all memory that `event` may need. It fails only where a list has no room for one element more, or the event wants octets of its own.
 fn reserve(
     alloc: Global,
     network: &mut Network,
@@ -161,8 +178,29 @@ fn reserve(
     ensures happening { OnOk result (vec_len trace.new < vec_capacity trace.new) }
     ensures read { IfOk result (λ room. vec_len room.octets ≡ asked_by event.now) }
     ensures room { IfOk result (λ room. is_emission event.now ≡ true → 1514 ≤ vec_capacity room.octets) }
+    ensures memory { vec_len network.old.bag < vec_capacity network.old.bag → vec_len network.old.ledger.openings < vec_capacity network.old.ledger.openings
+        → vec_len network.old.ledger.written < vec_capacity network.old.ledger.written → vec_len trace.old < vec_capacity trace.old
+        → asked_by event.now ≡ 0 → is_emission event.now ≡ false → IsOk result }
 {
     network.reserve()?;
     trace.reserve(1)?;
     Room::for_event(alloc, event)
+}
+
+/// Puts an event with its answer at the end of the trace, which has room for it.
+fn note(trace: &mut Vec<Happening>, event: Event, answer: Answer)
+    requires { vec_len trace.old < vec_capacity trace.old }
+    ensures { trace.new.items ≡ trace.old.items ++ record { event = event; answer = answer } ∷ [] }
+{
+    trace.push_reserved(Happening { event, answer });
+}
+
+/// Puts the outcome of an event behind the others, which have room for it.
+fn tell(results: &mut Vec<Result<Answer, Unfair>>, outcome: Result<Answer, Unfair>)
+    requires { vec_len results.old < vec_capacity results.old }
+    ensures items { results.new.items ≡ results.old.items ++ outcome ∷ [] }
+    ensures len { vec_len results.new ≡ vec_len results.old + 1 }
+    ensures room { vec_capacity results.new ≡ vec_capacity results.old }
+{
+    results.push_reserved(outcome);
 }

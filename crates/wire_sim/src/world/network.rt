@@ -1,6 +1,6 @@
 //! Two hosts, the frames that they emitted, and the openings of their connections.
 
-ghost use Rattle.std.specs.Prelude.{◌≡◌, ℕ, ◌<◌, ◌≤◌, ◌+◌, ◌^◌, true, None, vec_len, vec_capacity, slice_index_or, option_map, option_and_then, OnOk, IfOk, IfErr};
+ghost use Rattle.std.specs.Prelude.{◌≡◌, ℕ, ◌<◌, ◌≤◌, ◌+◌, ◌^◌, true, None, vec_len, vec_capacity, slice_index_or, option_map, option_and_then, OnOk, IsOk, IfOk};
 ghost use Rattle.std.specs.Result.{result_err};
 
 use super::bag::{Frame, Note};
@@ -36,15 +36,15 @@ impl Network {
     ghost use Rattle.host.specs.Calls.{pair_connected};
     ghost use Rattle.host.specs.Sound.{IsSoundHost};
 
-    /// Two hosts with no frames between them. NoMemory.
+    /// Two hosts with no frames between them. They take no memory, so there are two.
     pub(super) fn new(
         alloc: Global,
         a: Config,
         b: Config,
         limit: u64,
     ) -> Result<Network, WorldFault>
+        ensures made { IsOk result }
         ensures fresh { IfOk result (λ network. network_view network ≡ fresh_network a b limit) }
-        ensures fault { IfErr result (λ fault. fault ≡ WorldFault.NoMemory) }
     {
         Ok(Network {
             limit,
@@ -185,12 +185,14 @@ impl Network {
         self.b.sound();
     }
 
-    /// Makes room for one more frame and one more opening.
+    /// Makes room for one more frame and one more opening. It fails only where that room was missing.
     pub(super) fn reserve(&mut self) -> Result<(), AllocError>
         ensures kept { network_view self.new ≡ network_view self.old }
         ensures bag { OnOk result (vec_len self.new.bag < vec_capacity self.new.bag) }
         ensures openings { OnOk result (vec_len self.new.ledger.openings < vec_capacity self.new.ledger.openings) }
         ensures written { OnOk result (vec_len self.new.ledger.written < vec_capacity self.new.ledger.written) }
+        ensures room { vec_len self.old.bag < vec_capacity self.old.bag → vec_len self.old.ledger.openings < vec_capacity self.old.ledger.openings
+            → vec_len self.old.ledger.written < vec_capacity self.old.ledger.written → IsOk result }
     {
         self.bag.reserve(1)?;
         self.ledger.reserve()

@@ -1,6 +1,6 @@
 //! A host with its clock.
 
-ghost use Rattle.std.specs.Prelude.{◌≡◌, ◌<◌, ◌≤◌, IfSome, OnSome, IfNone, IfOk, IfErr, vec_len, MatchResult};
+ghost use Rattle.std.specs.Prelude.{◌≡◌, ◌<◌, ◌≤◌, IfSome, OnSome, IfNone, IsOk, IfOk, vec_len, MatchResult};
 ghost use Rattle.wire_sim.specs.WorldView.{octets_len};
 ghost use Rattle.std.specs.Result.{ForOk};
 ghost use Rattle.host.specs.Calls.{recv_answer};
@@ -30,10 +30,10 @@ impl Station {
     ghost use Rattle.host.specs.Sound.{IsSoundHost};
     ghost use Rattle.wire_sim.specs.Runs.{IsNumberedCall};
 
-    /// A host whose clock stands at 0.
+    /// A host whose clock stands at 0. It takes no memory, so there is one.
     pub(super) fn new(alloc: Global, config: Config, neighbour: Addr) -> Result<Station, WorldFault>
+        ensures made { IsOk result }
         ensures fresh { IfOk result (λ station. station ≡ fresh_station config neighbour) }
-        ensures fault { IfErr result (λ fault. fault ≡ WorldFault.NoMemory) }
     {
         match Host::new(alloc, config, neighbour) {
             Ok(host) => Ok(Station {

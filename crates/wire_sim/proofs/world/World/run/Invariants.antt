@@ -9,6 +9,6 @@ invariant-loop-event l =
     (vec_len l.results + length l.events ≤ vec_capacity l.results + l.event-index)
     × (length l.results.items ≡ length l.initial.results.items + l.event-index)
     × (take (length l.initial.results.items) l.results.items ≡ l.initial.results.items)
-    × IsReached l.self.network.limit l.self
-    × StreamLaw l.self.trace l.self.network.openings
-    × RunsTo (take l.event-index l.events) (drop (length l.initial.results.items) l.results.items) l.initial.self l.self
+    × IsReached l.self.seen.network.limit l.self.seen
+    × StreamLaw l.self.seen.trace l.self.seen.network.openings
+    × RunsTo (take l.event-index l.events) (drop (length l.initial.results.items) l.results.items) l.initial.self.seen l.self.seen

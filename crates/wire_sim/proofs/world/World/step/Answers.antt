@@ -7,7 +7,7 @@ use Rattle.wire_sim.specs.Fairness.{unfair_counted}
 use Rattle.wire_sim.specs.WorldView.{NetworkView, WorldView, network_view}
 use Rattle.wire_sim.proofs.Fair.{same_unfair}
 use Rattle.wire_sim.proofs.WorldLaw.{run_tallied}
-use Rattle.wire_sim.proofs.StepReached.{reached-next, same-parts, reached-again, lawful, step_from}
+use Rattle.wire_sim.proofs.StepReached.{reached-next, same-parts, reached-again, lawful, step_from, seen-is}
 use Rattle.wire_sim.proofs.CountGrowth.{Steps-grows}
 use Rattle.wire_sim.proofs.world.World.step.Goals as goal
 
@@ -16,11 +16,11 @@ abbrev after : Inside → WorldView
 after w = record { network = network_view w.network; trace = w.trace.items }
 
 -- the event broke no rule, by what is counted
-counted_fair : (c : goal.After-push_reserved) → unfair_counted (network_view c.self.inside.network) c.args.event ≡ None
+counted_fair : (c : goal.After-note) → unfair_counted (network_view c.self.inside.network) c.args.event ≡ None
 counted_fair c = search rules
 
 -- the event was taken
-taken : (c : goal.After-push_reserved) → IsStep c.args.event c.perform-answer.result (after c.self.inside) (record { network = network_view c.perform-answer.new.self; trace = c.push_reserved.new.self.items })
+taken : (c : goal.After-note) → IsStep c.args.event c.perform-answer.result (after c.self.inside) (record { network = network_view c.perform-answer.new.self; trace = c.note.new.trace.items })
 taken c = record {
   fair = sym (same_unfair (after c.self.inside) c.args.event (run_tallied _ (after c.self.inside) c.self.invariant.1)) ∙ counted_fair c;
   numbered = c.perform-answer.ensures.numbered;
@@ -39,54 +39,63 @@ invariant_of-self-2 c = (
       let kept : get_or c.reserve.new.network.ledger.written.items i 0 ≡ get_or c.self.inside.network.ledger.written.items i 0 =
       ap (λ (n : NetworkView). get_or n.written i 0) c.reserve.ensures.network
       in
-      let traced : length c.push_reserved.new.self.items ≡ length c.self.inside.trace.items + 1 =
-      ap (length {A = Happening}) c.push_reserved.ensures.items ∙ length-append c.reserve.new.trace.items _ ∙ ap (λ hs. length {A = Happening} hs + 1) c.reserve.ensures.trace
+      let traced : length c.note.new.trace.items ≡ length c.self.inside.trace.items + 1 =
+      ap (length {A = Happening}) c.note.ensures ∙ length-append c.reserve.new.trace.items _ ∙ ap (λ hs. length {A = Happening} hs + 1) c.reserve.ensures.trace
       in
       omega (arith, grown, kept, traced, c.self.invariant.0 i),
-  reached-next (after c.self.inside) (record { network = network_view c.perform-answer.new.self; trace = c.push_reserved.new.self.items }) c.args.event c.perform-answer.result c.self.invariant.1 (taken c),
+  reached-next (after c.self.inside) (record { network = network_view c.perform-answer.new.self; trace = c.note.new.trace.items }) c.args.event c.perform-answer.result c.self.invariant.1 (taken c),
 )
 
 pub returns-clause-unfair : goal.returns-clause-unfair
 returns-clause-unfair c =
-    let e : unfair_counted (network_view c.self.inside.network) c.args.event ≡ unfair c.args.self.now c.args.event =
-    same_unfair (after c.self.inside) c.args.event (run_tallied _ (after c.self.inside) c.self.invariant.1) ∙ ap (λ (w : WorldView). unfair w c.args.event) c.self.view_is in
-    let n : unfair c.args.self.now c.args.event ≡ None = sym e ∙ counted_fair c in
+    let e : unfair_counted (network_view c.self.inside.network) c.args.event ≡ unfair c.args.self.now.seen c.args.event =
+    same_unfair (after c.self.inside) c.args.event (run_tallied _ (after c.self.inside) c.self.invariant.1) ∙ ap (λ (w : WorldView). unfair w c.args.event) (seen-is c.self.view_is) in
+    let n : unfair c.args.self.now.seen c.args.event ≡ None = sym e ∙ counted_fair c in
     search rules
 
 pub returns-in_default-clause-unfair : goal.returns-in_default-clause-unfair
 returns-in_default-clause-unfair c =
-    let e : unfair_counted (network_view c.self.inside.network) c.args.event ≡ unfair c.args.self.now c.args.event =
-    same_unfair (after c.self.inside) c.args.event (run_tallied _ (after c.self.inside) c.self.invariant.1) ∙ ap (λ (w : WorldView). unfair w c.args.event) c.self.view_is in
-    let n : unfair c.args.self.now c.args.event ≡ None = sym e ∙ search rules in
+    let e : unfair_counted (network_view c.self.inside.network) c.args.event ≡ unfair c.args.self.now.seen c.args.event =
+    same_unfair (after c.self.inside) c.args.event (run_tallied _ (after c.self.inside) c.self.invariant.1) ∙ ap (λ (w : WorldView). unfair w c.args.event) (seen-is c.self.view_is) in
+    let n : unfair c.args.self.now.seen c.args.event ≡ None = sym e ∙ search rules in
     search rules
 
 pub returns-in_err-admits-clause-unfair : goal.returns-in_err-admits-clause-unfair
 returns-in_err-admits-clause-unfair c =
-    let e : unfair_counted (network_view c.self.inside.network) c.args.event ≡ unfair c.args.self.now c.args.event =
-    same_unfair (after c.self.inside) c.args.event (run_tallied _ (after c.self.inside) c.self.invariant.1) ∙ ap (λ (w : WorldView). unfair w c.args.event) c.self.view_is in
+    let e : unfair_counted (network_view c.self.inside.network) c.args.event ≡ unfair c.args.self.now.seen c.args.event =
+    same_unfair (after c.self.inside) c.args.event (run_tallied _ (after c.self.inside) c.self.invariant.1) ∙ ap (λ (w : WorldView). unfair w c.args.event) (seen-is c.self.view_is) in
+    search rules
+
+-- an event that breaks no rule is admitted
+pub returns-in_err-admits-clause-memory : goal.returns-in_err-admits-clause-memory
+returns-in_err-admits-clause-memory c =
+    let e : unfair_counted (network_view c.self.inside.network) c.args.event ≡ unfair c.args.self.now.seen c.args.event =
+    same_unfair (after c.self.inside) c.args.event (run_tallied _ (after c.self.inside) c.self.invariant.1) ∙ ap (λ (w : WorldView). unfair w c.args.event) (seen-is c.self.view_is) in
+    λ fair _ _.
+    let admitted : unfair_counted (network_view c.self.inside.network) c.args.event ≡ None = e ∙ fair in
     search rules
 
 pub returns-clause-taken : goal.returns-clause-taken
 returns-clause-taken c =
     let step = taken c in
-    (c.perform-answer.result, record { octets = c.copied-told.ensures.octets; others = c.copied-told.ensures.others }, step_from c.args.event c.perform-answer.result (after c.self.inside) c.args.self.now _ (sym c.self.view_is) step)
+    (c.perform-answer.result, record { octets = c.copied-told.ensures.octets; others = c.copied-told.ensures.others }, step_from c.args.event c.perform-answer.result (after c.self.inside) c.args.self.now.seen _ (sym (seen-is c.self.view_is)) step)
 
 pub returns-clause-reached : goal.returns-clause-reached
-returns-clause-reached c = reached-next (after c.self.inside) (record { network = network_view c.perform-answer.new.self; trace = c.push_reserved.new.self.items }) c.args.event c.perform-answer.result c.self.invariant.1 (taken c)
+returns-clause-reached c = reached-next (after c.self.inside) (record { network = network_view c.perform-answer.new.self; trace = c.note.new.trace.items }) c.args.event c.perform-answer.result c.self.invariant.1 (taken c)
 
 pub returns-in_err-admits-clause-reached : goal.returns-in_err-admits-clause-reached
-returns-in_err-admits-clause-reached c = reached-again (after c.self.inside) c.args.self.now (sym c.self.view_is) c.self.invariant.1
+returns-in_err-admits-clause-reached c = reached-again (after c.self.inside) c.args.self.now.seen (sym (seen-is c.self.view_is)) c.self.invariant.1
 
 pub returns-in_default-clause-reached : goal.returns-in_default-clause-reached
 returns-in_default-clause-reached c = reached-again (after c.self.inside) (record { network = network_view c.reserve.new.network; trace = c.reserve.new.trace.items }) (same-parts _ _ _ _ c.reserve.ensures.network c.reserve.ensures.trace) c.self.invariant.1
 
 pub returns-clause-lawful : goal.returns-clause-lawful
 returns-clause-lawful c =
-    let next : WorldView = record { network = network_view c.perform-answer.new.self; trace = c.push_reserved.new.self.items } in
+    let next : WorldView = record { network = network_view c.perform-answer.new.self; trace = c.note.new.trace.items } in
     lawful _ next next refl (reached-next (after c.self.inside) next c.args.event c.perform-answer.result c.self.invariant.1 (taken c))
 
 pub returns-in_err-admits-clause-lawful : goal.returns-in_err-admits-clause-lawful
-returns-in_err-admits-clause-lawful c = lawful _ (after c.self.inside) c.args.self.now (sym c.self.view_is) c.self.invariant.1
+returns-in_err-admits-clause-lawful c = lawful _ (after c.self.inside) c.args.self.now.seen (sym (seen-is c.self.view_is)) c.self.invariant.1
 
 pub returns-in_default-clause-lawful : goal.returns-in_default-clause-lawful
 returns-in_default-clause-lawful c = lawful _ (after c.self.inside) (record { network = network_view c.reserve.new.network; trace = c.reserve.new.trace.items }) (same-parts _ _ _ _ c.reserve.ensures.network c.reserve.ensures.trace) c.self.invariant.1

@@ -1,0 +1,29 @@
+-- How much a world can take in before it asks for memory. That is no part of what a run leads to: no definition of a run or of the law names it.
+use Rattle.std.specs.Prelude.{◌≡◌, ℕ, ◌<◌, false, length}
+use Rattle.wire_sim.specs.declared.event.Event.{Event}
+use Rattle.wire_sim.specs.Steps.{asked_by, is_emission}
+use Rattle.wire_sim.specs.WorldView.{WorldView}
+
+-- how many elements each list of a world has room for, those that it holds counted: the frames, the openings, the counts beside these, and the trace
+pub record ListRoom : Type 0 where
+  pub frames : ℕ
+  pub openings : ℕ
+  pub written : ℕ
+  pub trace : ℕ
+
+-- what a caller sees of a world: what a run led to, and the room of its lists
+pub record RoomyWorld : Type 0 where
+  pub seen : WorldView
+  pub room : ListRoom
+
+-- each list has room for one element more
+pub record HasRoom (w : RoomyWorld) : Type 0 where
+  pub frames : length w.seen.network.frames < w.room.frames
+  pub openings : length w.seen.network.openings < w.room.openings
+  pub written : length w.seen.network.written < w.room.written
+  pub trace : length w.seen.trace < w.room.trace
+
+-- the event wants no octets of its own: it reads none, and puts no frame into the network
+pub record IsPlain (happens : Event) : Type 0 where
+  pub unread : asked_by happens ≡ 0
+  pub unsent : is_emission happens ≡ false
