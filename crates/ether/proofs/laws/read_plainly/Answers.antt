@@ -1,0 +1,8 @@
+use Rattle.ether.proofs.Reading.{read_ok, read_err}
+use Rattle.ether.proofs.laws.read_plainly.Goals as goal
+
+pub returns-clause-ok : goal.returns-clause-ok
+returns-clause-ok c = read_ok
+
+pub returns-clause-err : goal.returns-clause-err
+returns-clause-err c = read_err
