@@ -1,12 +1,13 @@
 -- The plain reading of octets finds the frame that they spell.
-use Rattle.std.proofs.Common.{◌≡◌, ℕ, ◌^◌, ◌<◌, true, false, nat_lt, cond, List, [], ◌∷◌, length, All, Option, Some, None, Result, Ok, Err, arith, sym, ◌∙◌, ap}
+use Rattle.std.proofs.Common.{◌≡◌, ℕ, ◌^◌, ◌<◌, ◌≤◌, true, false, nat_lt, cond, List, [], ◌∷◌, length, All, Option, Some, None, Result, Ok, Err, arith, sym, ◌∙◌, ap, subst, ⊎_elim}
 use Rattle.std.proofs.lemmas.Bool.Decides.{nat_tests}
+use Rattle.std.proofs.lemmas.Bool.{cases_lt}
 use Rattle.byteorder.specs.Endian.{big_bytes, big_number}
 use Rattle.ether.specs.declared.view.FrameFault.{FrameFault}
 use Rattle.ether.specs.declared.view.FrameFault.TheVariants.{Short}
 use Rattle.ether.specs.Frame.{Frame, IsParsed, Spells, spelling}
 use Rattle.ether.specs.Reading.{frame_in, frame_of}
-use Rattle.ether.proofs.Answering.{short}
+use Rattle.ether.proofs.Answering.{read, short}
 
 -- a frame by its parts
 abbrev made : List ℕ → List ℕ → ℕ → List ℕ → Frame
@@ -36,3 +37,20 @@ read_err octets each none =
     let few : length octets < 14 = (short octets each).0 none in
     let is : nat_lt (length octets) 14 ≡ true = grind (arith, nat_tests, few) in
     ap (λ b. cond b None (Some (frame_of octets))) is
+
+-- octets that are read spell what is read
+pub is_spelled : (octets : List ℕ) (frame : Frame) → All (λ octet. octet < 256) octets → frame_in octets ≡ Some frame → Spells frame octets
+is_spelled octets frame each found = ⊎_elim few enough (cases_lt (length octets) 14)
+  where
+    few : length octets < 14 → Spells frame octets
+    few less =
+        let is : nat_lt (length octets) 14 ≡ true = grind (arith, nat_tests, less) in
+        let none : None ≡ Some frame = sym (ap (λ b. cond b None (Some (frame_of octets))) is) ∙ found in
+        cc
+
+    enough : 14 ≤ length octets → Spells frame octets
+    enough least =
+        let own = read octets each least in
+        let same : Some own.0 ≡ Some frame = sym (read_ok octets own.0 own.1) ∙ found in
+        let is : own.0 ≡ frame = cc in
+        subst (λ f. Spells f octets) is own.1

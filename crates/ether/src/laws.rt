@@ -24,6 +24,7 @@ pub fn one_answer()
 pub fn read_plainly()
     ensures ok { (octets : List ℕ) (frame : Frame) → IsParsed octets (Ok frame) → frame_in octets ≡ Some frame }
     ensures err { (octets : List ℕ) → All (λ octet. octet < 256) octets → IsParsed octets (Err Short) → frame_in octets ≡ None }
+    ensures spelled { (octets : List ℕ) (frame : Frame) → All (λ octet. octet < 256) octets → frame_in octets ≡ Some frame → Spells frame octets }
 {}
 
 /// What `Head::emit` writes spells the frame that is meant, and so parses to it; its payload has 46 octets at least (RFC 894).
