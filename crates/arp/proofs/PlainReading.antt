@@ -85,3 +85,7 @@ read_err octets each none = by_tests (nat_lt (length octets) 28) (starts_with na
     by_tests false true (Some o) is_few is_front is =
         let room : 28 ≤ length octets = grind (arith, nat_tests, is_few) in
         absurd (none (packet_of octets o) (spelled octets each o room is_front is))
+
+-- there is one fault
+pub is_fault : (fault : ArpFault) → fault ≡ UpperHeader
+is_fault UpperHeader = refl

@@ -1,5 +1,5 @@
 -- The plain reading of octets finds the frame that they spell.
-use Rattle.std.proofs.Common.{◌≡◌, ℕ, ◌^◌, ◌<◌, ◌≤◌, true, false, nat_lt, cond, List, [], ◌∷◌, length, All, Option, Some, None, Result, Ok, Err, arith, sym, ◌∙◌, ap, subst, ⊎_elim}
+use Rattle.std.proofs.Common.{◌≡◌, ℕ, ◌^◌, ◌<◌, ◌≤◌, true, false, nat_lt, cond, List, [], ◌∷◌, length, All, Option, Some, None, Result, Ok, Err, arith, refl, sym, ◌∙◌, ap, subst, ⊎_elim}
 use Rattle.std.proofs.lemmas.Bool.Decides.{nat_tests}
 use Rattle.std.proofs.lemmas.Bool.{cases_lt}
 use Rattle.byteorder.specs.Endian.{big_bytes, big_number}
@@ -54,3 +54,7 @@ is_spelled octets frame each found = ⊎_elim few enough (cases_lt (length octet
         let same : Some own.0 ≡ Some frame = sym (read_ok octets own.0 own.1) ∙ found in
         let is : own.0 ≡ frame = cc in
         subst (λ f. Spells f octets) is own.1
+
+-- there is one fault
+pub is_fault : (fault : FrameFault) → fault ≡ Short
+is_fault Short = refl
