@@ -9,3 +9,4 @@ pub mod OnePacket
 pub mod Reading
 pub mod Spelling
 pub mod Unheard
+pub mod PlainReading

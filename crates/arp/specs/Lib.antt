@@ -1,3 +1,4 @@
 pub mod Packet
 pub mod Cache
 pub mod Events
+pub mod Reading

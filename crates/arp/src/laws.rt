@@ -1,16 +1,18 @@
 //! Laws of the definitions that the contracts of this crate cite: each is the contract of a function
 //! that does nothing.
 
-ghost use Rattle.std.specs.Prelude.{◌≡◌, ◌≢◌, ℕ, List, ◌++◌, ◌<◌, ◌≤◌, length, take, filter, fold, All, false, IsTrue, Some, Result, Ok};
+ghost use Rattle.std.specs.Prelude.{◌≡◌, ◌≢◌, ℕ, List, ◌++◌, ◌<◌, ◌≤◌, length, take, filter, fold, All, false, IsTrue, Some, None, Result, Ok, Err};
 ghost use Rattle.ether.specs.declared.mac.Mac.{Mac};
 ghost use Rattle.ipv4.specs.declared.addr.Addr.{Addr};
 ghost use Rattle.arp.specs.declared.packet.ArpFault.{ArpFault};
+ghost use Rattle.arp.specs.declared.packet.ArpFault.TheVariants.{UpperHeader};
 ghost use Rattle.arp.specs.declared.packet.ArpPacket.{ArpPacket};
 ghost use Rattle.arp.specs.declared.entry.Asked.{Asked};
 ghost use Rattle.arp.specs.declared.moment.Moment.{Moment};
 ghost use Rattle.arp.specs.Cache.{Cache, same_addr, is_live, is_pair_of, after_hear, look, after_age, may_ask, asked_after, after_ask};
 ghost use Rattle.arp.specs.Events.{Event, moment_of, after_event, cache_after, IsLastFrom};
 ghost use Rattle.arp.specs.Packet.{spelling, HasWidths, Spells, IsParsed};
+ghost use Rattle.arp.specs.Reading.{packet_in};
 
 /// Octets spell at most one packet.
 pub fn one_packet()
@@ -21,6 +23,14 @@ pub fn one_packet()
 pub fn one_answer()
     ensures { (octets : List ℕ) (first second : Result ArpPacket ArpFault)
         → IsParsed octets first → IsParsed octets second → first ≡ second }
+{}
+
+/// The plain reading of octets from left to right finds the packet that `ArpPacket::parse` answers, and none where it answers
+/// `UpperHeader` (RFC 826).
+pub fn read_plainly()
+    ensures ok { (octets : List ℕ) (packet : ArpPacket) → IsParsed octets (Ok packet) → packet_in octets ≡ Some packet }
+    ensures err { (octets : List ℕ) → All (λ octet. octet < 256) octets → IsParsed octets (Err UpperHeader) → packet_in octets ≡ None }
+    ensures spelled { (octets : List ℕ) (packet : ArpPacket) → All (λ octet. octet < 256) octets → packet_in octets ≡ Some packet → Spells packet octets }
 {}
 
 /// What `ArpPacket::emit` writes parses to its packet, whatever stands behind it.

@@ -17,7 +17,7 @@ spelled_least f octets s =
     omega (arith, ap length s.spelled, length-append (head_octets f.destination f.source f.kind) f.payload, length-head_octets f s.destination s.source)
 
 -- fourteen octets or more spell a frame
-read : (octets : List ℕ) → All (λ octet. octet < 256) octets → 14 ≤ length octets → (f : Frame) × Spells f octets
+pub read : (octets : List ℕ) → All (λ octet. octet < 256) octets → 14 ≤ length octets → (f : Frame) × Spells f octets
 read (d0 ∷ d1 ∷ d2 ∷ d3 ∷ d4 ∷ d5 ∷ s0 ∷ s1 ∷ s2 ∷ s3 ∷ s4 ∷ s5 ∷ high ∷ low ∷ payload) each least =
     let of_high : high < 256 = each 12 0 (omega arith) in
     let of_low : low < 256 = each 13 0 (omega arith) in

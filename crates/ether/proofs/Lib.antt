@@ -1,3 +1,4 @@
 pub mod Framing
 pub mod OneFrame
 pub mod Answering
+pub mod Reading

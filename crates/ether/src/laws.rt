@@ -1,10 +1,11 @@
 //! Laws of the definitions that the contracts of this crate cite: each is the contract of a function that does nothing.
 
-ghost use Rattle.std.specs.Prelude.{◌≡◌, ◌↔◌, List, ℕ, ◌+◌, ◌<◌, ◌^◌, length, max, All, Result, Ok, Err};
+ghost use Rattle.std.specs.Prelude.{◌≡◌, ◌↔◌, List, ℕ, ◌+◌, ◌<◌, ◌^◌, length, max, All, Some, None, Result, Ok, Err};
 ghost use Rattle.ether.specs.declared.head.Head.{Head};
 ghost use Rattle.ether.specs.declared.view.FrameFault.{FrameFault};
 ghost use Rattle.ether.specs.declared.view.FrameFault.TheVariants.{Short};
 ghost use Rattle.ether.specs.Frame.{Frame, Spells, IsParsed, sent, spelling};
+ghost use Rattle.ether.specs.Reading.{frame_in};
 
 /// Octets spell at most one frame (RFC 894).
 pub fn one_frame()
@@ -16,6 +17,14 @@ pub fn one_frame()
 pub fn one_answer()
     ensures one { (octets : List ℕ) (first second : Result Frame FrameFault) → IsParsed octets first → IsParsed octets second → first ≡ second }
     ensures short { (octets : List ℕ) → All (λ octet. octet < 256) octets → (IsParsed octets (Err Short) ↔ (length octets < 14)) }
+{}
+
+/// The plain reading of octets from left to right finds the frame that `EtherView::parse` answers, and none where it answers
+/// `Short` (RFC 894).
+pub fn read_plainly()
+    ensures ok { (octets : List ℕ) (frame : Frame) → IsParsed octets (Ok frame) → frame_in octets ≡ Some frame }
+    ensures err { (octets : List ℕ) → All (λ octet. octet < 256) octets → IsParsed octets (Err Short) → frame_in octets ≡ None }
+    ensures spelled { (octets : List ℕ) (frame : Frame) → All (λ octet. octet < 256) octets → frame_in octets ≡ Some frame → Spells frame octets }
 {}
 
 /// What `Head::emit` writes spells the frame that is meant, and so parses to it; its payload has 46 octets at least (RFC 894).

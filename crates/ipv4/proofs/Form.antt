@@ -89,7 +89,7 @@ are_parts (x0 ∷ x1 ∷ x2 ∷ x3 ∷ x4 ∷ x5 ∷ x6 ∷ x7 ∷ x8 ∷ x9 ∷
 are_parts header payload b least version words total place = absurd (omega (arith, least))
 
 -- what is read of the beginning of a list
-same_start : (header rest : List ℕ) → 20 ≤ length header
+pub same_start : (header rest : List ℕ) → 20 ≤ length header
     → (slice_index (header ++ rest) 0 ≡ slice_index header 0) × (word_at (header ++ rest) 2 ≡ word_at header 2) × (word_at (header ++ rest) 6 ≡ word_at header 6)
 same_start (x0 ∷ x1 ∷ x2 ∷ x3 ∷ x4 ∷ x5 ∷ x6 ∷ x7 ∷ more) rest least = (refl, refl, refl)
 same_start header rest least = absurd (omega (arith, least))

@@ -1,7 +1,10 @@
 -- The datagram that octets spell, as the plain reading of them from left to right (RFC 791 section 3.1). The contract of
 -- `Ipv4View::parse` does not rest on this page: it says what is read by the spelling alone.
-use Rattle.std.specs.Prelude.{◌≡◌, ℕ, ◌+◌, ◌*◌, ◌/◌, ◌%◌, ◌<◌, ◌≤◌, ◌^◌, ◌==◌, nat_lt, ◌||◌, if◌then◌else◌, List, length, take, drop, slice_index, Option, Some, None}
+use Rattle.std.specs.Prelude.{◌≡◌, ℕ, ◌+◌, ◌-◌, ◌*◌, ◌/◌, ◌%◌, ◌<◌, ◌≤◌, ◌^◌, ◌==◌, nat_lt, nat_le, Bool, not, ◌&&◌, ◌||◌, if◌then◌else◌, List, length, take, drop, slice_index, Option, Some, None, Result, Ok, Err}
 use Rattle.byteorder.specs.Endian.{big_number}
+use Rattle.inet_sum.specs.Sum.{sum_of}
+use Rattle.ipv4.specs.declared.fault.Ipv4Fault.{Ipv4Fault}
+use Rattle.ipv4.specs.declared.fault.Ipv4Fault.TheVariants.{IpHeader, IpSum}
 use Rattle.ipv4.specs.Datagram.{Datagram, IsDatagram, header_octets}
 
 -- the number of sixteen bits at a place
@@ -44,3 +47,25 @@ lengths_in octets =
     else if nat_lt (told_header octets) 20 || nat_lt (word_at octets 2) (told_header octets) || nat_lt (length octets) (word_at octets 2) then None
     else if slice_index octets 0 / 16 == 4 then Some (told_header octets, word_at octets 2)
     else None
+
+-- whether a payload of this length has a place at this offset, in units of eight octets
+abbrev pub has_place : Bool → ℕ → ℕ → Bool
+has_place more_fragments offset len = (not more_fragments || (nat_lt 0 len && len % 8 == 0)) && nat_le (8 * offset + len) 65515
+
+-- the datagram, if its payload has its place
+abbrev pub placed : Datagram → Option Datagram
+placed d = if has_place d.more_fragments d.offset (length d.payload) then Some d else None
+
+-- the datagram of these lengths of header and whole, if there are such
+abbrev pub datagram_with : List ℕ → Option (ℕ × ℕ) → Option Datagram
+datagram_with octets None = None
+datagram_with octets (Some (header, total)) = placed (datagram_of (take header octets) (take (total - header) (drop header octets)))
+
+-- a datagram whose checksum is right, or the first fault
+abbrev pub checked : Option Datagram → Result Datagram Ipv4Fault
+checked None = Err IpHeader
+checked (Some d) = if sum_of (header_octets d) == 65535 then Ok d else Err IpSum
+
+-- the datagram that octets spell, or the first fault: one of the form comes before the checksum
+abbrev pub datagram_in : List ℕ → Result Datagram Ipv4Fault
+datagram_in octets = checked (datagram_with octets (lengths_in octets))

@@ -1,9 +1,11 @@
 -- The segment that octets spell, as the plain reading of them from left to right (RFC 9293 sections 3.1 and 3.2). The
 -- contract of `TcpView::parse` does not rest on this page: it says what is read by the spelling alone. What a world
 -- foresees of a frame rests on it.
-use Rattle.std.specs.Prelude.{ℕ, zero, suc, ◌-◌, ◌*◌, ◌/◌, ◌%◌, ◌==◌, nat_lt, ◌||◌, if◌then◌else◌, List, [], ◌∷◌, length, take, drop, slice_index, Option, Some, None}
+use Rattle.std.specs.Prelude.{ℕ, zero, suc, ◌-◌, ◌*◌, ◌/◌, ◌%◌, ◌==◌, nat_lt, ◌||◌, Bool, if◌then◌else◌, List, [], ◌∷◌, length, take, drop, slice_index, Option, Some, None, Result, Ok, Err}
 use Rattle.std.specs.Option.{option_map}
 use Rattle.byteorder.specs.Endian.{big_number}
+use Rattle.tcp_segment.specs.declared.fault.SegmentFault.{SegmentFault}
+use Rattle.tcp_segment.specs.declared.fault.SegmentFault.TheVariants.{UpperHeader, UpperSum}
 use Rattle.tcp_segment.specs.declared.flags.Flags.{Flags}
 use Rattle.tcp_segment.specs.Options.{HeaderOption, EndOfOptions, NoOperation, MaximumSegmentSize, Other}
 use Rattle.ipv4.specs.declared.addr.Addr.{Addr}
@@ -86,3 +88,12 @@ in_header octets (Some header) = with_options octets header (options_behind (tak
 -- the segment that octets from src for dst spell, if they do and their checksum is right
 abbrev pub segment_in : Addr → Addr → List ℕ → Option Segment
 segment_in src dst octets = if sum_of (summed src dst octets) == 65535 then in_header octets (header_in octets) else None
+
+-- a segment that was read, if its checksum is right, or the first fault
+abbrev pub checked : Bool → Option Segment → Result Segment SegmentFault
+checked right None = Err UpperHeader
+checked right (Some segment) = if right then Ok segment else Err UpperSum
+
+-- the segment that octets from src for dst spell, or the first fault: one of the header comes before the checksum
+abbrev pub segment_or_fault : Addr → Addr → List ℕ → Result Segment SegmentFault
+segment_or_fault src dst octets = checked (sum_of (summed src dst octets) == 65535) (in_header octets (header_in octets))

@@ -7,7 +7,7 @@ ghost use Rattle.tcp_segment.specs.declared.fault.SegmentFault.{SegmentFault};
 ghost use Rattle.tcp_segment.specs.declared.head.Head.{Head};
 ghost use Rattle.tcp_segment.specs.Options.{HeaderOption, MaximumSegmentSize, TellsNoSize, last_told};
 ghost use Rattle.tcp_segment.specs.Segment.{Segment, HasForm, IsParsed, SumIsRight, Spells};
-ghost use Rattle.tcp_segment.specs.Reading.{segment_in};
+ghost use Rattle.tcp_segment.specs.Reading.{segment_in, segment_or_fault};
 ghost use Rattle.tcp_segment.specs.Sent.{CanBeSent, sent, sent_offset, sent_octets};
 ghost use Rattle.tcp_segment.specs.Wire.{wire, past, difference, IsBefore, IsAtMost};
 
@@ -37,6 +37,15 @@ pub fn one_answer()
 pub fn read_plainly()
     ensures ok { (src dst : Addr) (octets : List ℕ) (segment : Segment) → IsParsed src dst octets (Ok segment) → segment_in src dst octets ≡ Some segment }
     ensures err { (src dst : Addr) (octets : List ℕ) (fault : SegmentFault) → ((i : ℕ) → get_or octets i 0 < 256) → IsParsed src dst octets (Err fault) → segment_in src dst octets ≡ None }
+{}
+
+/// The plain reading of octets that tells a fault too finds what `TcpView::parse` answers, a segment or the same fault, and a
+/// segment exactly where the reading above finds that one (RFC 9293 sections 3.1 and 3.2).
+pub fn faults_read_plainly()
+    ensures ok { (src dst : Addr) (octets : List ℕ) (segment : Segment) → IsParsed src dst octets (Ok segment) → segment_or_fault src dst octets ≡ Ok segment }
+    ensures err { (src dst : Addr) (octets : List ℕ) (fault : SegmentFault) → All (λ octet. octet < 256) octets → IsParsed src dst octets (Err fault) → segment_or_fault src dst octets ≡ Err fault }
+    ensures parsed { (src dst : Addr) (octets : List ℕ) → All (λ octet. octet < 256) octets → IsParsed src dst octets (segment_or_fault src dst octets) }
+    ensures alike { (src dst : Addr) (octets : List ℕ) (segment : Segment) → (segment_or_fault src dst octets ≡ Ok segment) ↔ (segment_in src dst octets ≡ Some segment) }
 {}
 
 /// Of the options that tell a maximum segment size the last one stands, whatever stands before it, and without one none is

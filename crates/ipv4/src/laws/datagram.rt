@@ -1,14 +1,23 @@
 //! Laws of datagrams and of the octets that spell them.
 
-ghost use Rattle.std.specs.Prelude.{◌≡◌, ℕ, ◌+◌, ◌≤◌, List, ◌++◌, length, take, Result, Ok};
+ghost use Rattle.std.specs.Prelude.{◌≡◌, ℕ, ◌+◌, ◌<◌, ◌≤◌, List, ◌++◌, All, length, take, Result, Ok, Err};
 ghost use Rattle.ipv4.specs.declared.fault.Ipv4Fault.{Ipv4Fault};
 ghost use Rattle.ipv4.specs.declared.head.Head.{Head};
 ghost use Rattle.ipv4.specs.Datagram.{Datagram, IsDatagram, IsParsed, Spells, spelling, total_len};
+ghost use Rattle.ipv4.specs.Reading.{datagram_in};
 ghost use Rattle.ipv4.specs.Sent.{sent};
 
 /// For all octets there is one answer that `Ipv4View::parse` may give.
 pub fn one_answer()
     ensures { (octets : List ℕ) (first second : Result Datagram Ipv4Fault) → IsParsed octets first → IsParsed octets second → first ≡ second }
+{}
+
+/// The plain reading of octets from left to right finds the datagram that `Ipv4View::parse` answers, or the same fault (RFC 791
+/// section 3.1).
+pub fn read_plainly()
+    ensures ok { (octets : List ℕ) (d : Datagram) → IsParsed octets (Ok d) → datagram_in octets ≡ Ok d }
+    ensures err { (octets : List ℕ) (fault : Ipv4Fault) → All (λ octet. octet < 256) octets → IsParsed octets (Err fault) → datagram_in octets ≡ Err fault }
+    ensures parsed { (octets : List ℕ) → All (λ octet. octet < 256) octets → IsParsed octets (datagram_in octets) }
 {}
 
 /// A datagram has one spelling, up to the padding behind it.

@@ -1,0 +1,96 @@
+-- What octets are to a host with this MAC and this address, or the first cause to drop them. They are tested layer by layer,
+-- from the lowest up: the frame (RFC 894), the ARP packet (RFC 826) or the datagram (RFC 791), its addresses (RFC 1122
+-- section 3.2.1.3), and the segment (RFC 9293 section 3.1).
+use Rattle.std.specs.Prelude.{ℕ, ◌==◌, nat_eq, nat_lt, nat_le, Bool, not, ◌&&◌, ◌||◌, if◌then◌else◌, List, length, replicate, slice_index, Option, Some, None, Result, Ok, Err}
+use Rattle.std.specs.Cmp.Lexicographic.{pointwise}
+use Rattle.ether.specs.declared.mac.Mac.{Mac}
+use Rattle.ether.specs.Frame.{Frame}
+use Rattle.ether.specs.Reading.{frame_in}
+use Rattle.arp.specs.declared.packet.ArpPacket.{ArpPacket}
+use Rattle.arp.specs.Reading.{packet_in}
+use Rattle.ipv4.specs.declared.addr.Addr.{Addr}
+use Rattle.ipv4.specs.declared.fault.Ipv4Fault.{Ipv4Fault}
+use Rattle.ipv4.specs.declared.fault.Ipv4Fault.TheVariants as datagram
+use Rattle.ipv4.specs.Datagram.{Datagram}
+use Rattle.ipv4.specs.Reading.{datagram_in}
+use Rattle.tcp_segment.specs.declared.fault.SegmentFault.{SegmentFault}
+use Rattle.tcp_segment.specs.declared.fault.SegmentFault.TheVariants as segment
+use Rattle.tcp_segment.specs.Segment.{Segment}
+use Rattle.tcp_segment.specs.Reading.{segment_or_fault}
+use Rattle.frames.specs.declared.drop.DropCause.{DropCause}
+use Rattle.frames.specs.declared.drop.DropCause.TheVariants.{Short, OtherMac, OtherType, IpHeader, IpSum, OtherAddress, UpperHeader, UpperSum, Fragment}
+use Rattle.frames.specs.declared.meaning.Meaning.{Meaning}
+use Rattle.frames.specs.declared.meaning.Meaning.TheVariants.{Arp, Tcp, Other}
+
+-- the types of frames that carry IPv4 (RFC 894) and ARP (RFC 826)
+abbrev pub ipv4_type : ℕ
+ipv4_type = 0x0800
+
+abbrev pub arp_type : ℕ
+arp_type = 0x0806
+
+-- the address of every interface on a link
+abbrev pub broadcast : Mac
+broadcast = record { 0 = replicate 6 255 }
+
+abbrev pub same_mac : Mac → Mac → Bool
+same_mac a b = pointwise nat_eq a.0 b.0
+
+abbrev pub same_addr : Addr → Addr → Bool
+same_addr a b = pointwise nat_eq a.0 b.0
+
+-- one host may have this address
+abbrev pub is_single_host : Addr → Bool
+is_single_host addr = let first = slice_index addr.0 0 in nat_le 1 first && nat_le first 223 && not (first == 127)
+
+-- the frame is for this interface: by its MAC, or for all of the link where it carries ARP
+abbrev pub is_for : Mac → Frame → Bool
+is_for mac f = same_mac f.destination mac || (same_mac f.destination broadcast && f.kind == arp_type)
+
+-- another host may send from this address
+abbrev pub may_send : Addr → Addr → Bool
+may_send ours source = is_single_host source && not (same_addr source ours)
+
+-- a part of a datagram
+abbrev pub is_fragment : Datagram → Bool
+is_fragment d = d.more_fragments || not (d.offset == 0)
+
+-- an ARP packet, whoever its target is
+abbrev pub packet_heard : Addr → Option ArpPacket → Result Meaning DropCause
+packet_heard ours None = Err UpperHeader
+packet_heard ours (Some p) = if may_send ours p.sender_addr then Ok (Arp p) else Err OtherAddress
+
+-- a segment from this address
+abbrev pub segment_heard : Addr → Result Segment SegmentFault → Result Meaning DropCause
+segment_heard source (Err segment.UpperHeader) = Err UpperHeader
+segment_heard source (Err segment.UpperSum) = Err UpperSum
+segment_heard source (Ok s) = Ok (Tcp (record { source = source; segment = s }))
+
+-- a datagram for us: TCP (6) is read, a whole one of another protocol and a fragment of UDP (17) are left as they are
+abbrev pub upper_heard : Datagram → Result Meaning DropCause
+upper_heard d =
+    if is_fragment d && not (d.protocol == 17) then Err Fragment
+    else if d.protocol == 6 then segment_heard d.source (segment_or_fault d.source d.destination d.payload)
+    else Ok (Other d)
+
+-- a datagram
+abbrev pub datagram_heard : Addr → Result Datagram Ipv4Fault → Result Meaning DropCause
+datagram_heard ours (Err datagram.IpHeader) = Err IpHeader
+datagram_heard ours (Err datagram.IpSum) = Err IpSum
+datagram_heard ours (Ok d) = if same_addr d.destination ours && may_send ours d.source then upper_heard d else Err OtherAddress
+
+-- the payload of a frame for us
+abbrev pub payload_heard : Addr → ℕ → List ℕ → Result Meaning DropCause
+payload_heard ours kind payload =
+    if kind == arp_type then packet_heard ours (packet_in payload)
+    else if kind == ipv4_type then datagram_heard ours (datagram_in payload)
+    else Err OtherType
+
+-- a frame
+abbrev pub frame_heard : Mac → Addr → Option Frame → Result Meaning DropCause
+frame_heard mac ours None = Err Short
+frame_heard mac ours (Some f) = if is_for mac f then payload_heard ours f.kind f.payload else Err OtherMac
+
+-- octets: a frame has 1,514 at most
+unfoldable pub heard : Mac → Addr → List ℕ → Result Meaning DropCause
+heard mac ours octets = if nat_lt 1514 (length octets) then Err Short else frame_heard mac ours (frame_in octets)

@@ -1,0 +1,47 @@
+-- The frames that go out (RFC 894): a segment in a datagram that is no fragment (RFC 791 section 3.1), and an ARP packet (RFC 826).
+use Rattle.std.specs.Prelude.{ℕ, List, false, true}
+use Rattle.ether.specs.declared.mac.Mac.{Mac}
+use Rattle.ether.specs.declared.head.Head.{Head as EtherHead}
+use Rattle.ether.specs.Frame.{sent as frame_sent, spelling as frame_octets}
+use Rattle.arp.specs.declared.packet.ArpPacket.{ArpPacket}
+use Rattle.arp.specs.declared.packet.Operation.{Operation}
+use Rattle.arp.specs.declared.packet.Operation.TheVariants.{Request, Reply}
+use Rattle.arp.specs.Packet.{spelling as packet_octets}
+use Rattle.ipv4.specs.declared.head.Head.{Head as Ipv4Head}
+use Rattle.ipv4.specs.Datagram.{Datagram, spelling as datagram_octets}
+use Rattle.ipv4.specs.Sent.{sent as datagram_sent}
+use Rattle.frames.specs.declared.emission.FrameHead.{FrameHead}
+use Rattle.frames.specs.Meaning.{ipv4_type, arp_type, broadcast}
+
+-- the header of a datagram that carries TCP (6): it isn't to be cut into fragments, so its identification is 0 (RFC 6864 section 4.1)
+abbrev pub ipv4_head : FrameHead → Ipv4Head
+ipv4_head h = record {
+  source = h.from;
+  destination = h.to;
+  protocol = record { 0 = 6 };
+  identification = 0;
+  dont_fragment = true;
+  more_fragments = false;
+  offset = 0;
+}
+
+-- the datagram of these octets of a segment
+abbrev pub datagram_of_segment : FrameHead → List ℕ → Datagram
+datagram_of_segment h segment = datagram_sent (ipv4_head h) segment
+
+-- the octets of the frame, with the padding of a short one
+abbrev pub segment_frame : FrameHead → List ℕ → List ℕ
+segment_frame h segment =
+    let head : EtherHead = record { destination = h.destination; source = h.source; kind = ipv4_type } in
+    frame_octets (frame_sent head (datagram_octets (datagram_of_segment h segment)))
+
+-- a request is for all of the link, a reply for its target
+abbrev pub packet_destination : Operation → Mac → Mac
+packet_destination Request target = broadcast
+packet_destination Reply target = target
+
+-- the octets of the frame of a packet, from its sender's interface
+abbrev pub packet_frame : ArpPacket → List ℕ
+packet_frame p =
+    let head : EtherHead = record { destination = packet_destination p.operation p.target_mac; source = p.sender_mac; kind = arp_type } in
+    frame_octets (frame_sent head (packet_octets p))

@@ -1,0 +1,84 @@
+//! The frames that go out.
+
+ghost use Rattle.std.specs.Prelude.{◌≡◌, ◌+◌, ◌≤◌, ◌++◌, drop, max, slice_range};
+ghost use Rattle.frames.specs.Sent.{ipv4_head, segment_frame, packet_frame, packet_destination};
+
+use crate::reading::{ARP, IPV4};
+use arp::{ArpPacket, Operation};
+use ether::{Mac, SPACE};
+use ipv4::{Addr, Protocol};
+
+/// The length of the head of a frame, in octets (RFC 894).
+const HEAD: usize = 14;
+
+/// What stands before a segment in a frame, but for what the stack determines.
+#[derive(Clone, Copy, PartialEq, Eq, Debug)]
+pub struct FrameHead {
+    /// The interface that the frame is for.
+    pub destination: Mac,
+    /// The interface that it comes from.
+    pub source: Mac,
+    /// The address that the segment comes from.
+    pub from: Addr,
+    /// The address that it is for.
+    pub to: Addr,
+}
+
+impl FrameHead {
+    /// Writes the heads of frame and datagram before a segment of so many octets, at most 1,480, which stands at `out[34..]`
+    /// already, pads a short frame with zeros, and answers its length, 60 octets at least (RFC 894, RFC 791 section 3.1). What
+    /// stands behind it in `out` stays.
+    pub fn emit_tcp(&self, segment_len: usize, out: &mut [u8; SPACE]) -> usize
+        requires { segment_len ≤ 1480 }
+        ensures len { result ≡ max (34 + segment_len) 60 }
+        ensures octets { out.new ≡ segment_frame self.now (slice_range out.old 34 (34 + segment_len)) ++ drop result out.old }
+    {
+        let datagram_len = self.ipv4_head().emit(segment_len, &mut out[HEAD..]);
+        ether::Head {
+            destination: self.destination,
+            source: self.source,
+            kind: IPV4,
+        }
+        .emit(datagram_len, out)
+    }
+
+    /// The header of the datagram that carries the segment.
+    fn ipv4_head(&self) -> ipv4::Head
+        ensures { result ≡ ipv4_head self.now }
+    {
+        ipv4::Head {
+            source: self.from,
+            destination: self.to,
+            protocol: Protocol::TCP,
+            identification: 0,
+            dont_fragment: true,
+            more_fragments: false,
+            offset: 0,
+        }
+    }
+}
+
+/// Writes the frame of a packet, from its sender's interface: a request for all of the link, a reply for its target (RFC 826).
+/// Answers its length, 60 octets. What stands behind it in `out` stays.
+pub fn emit_arp(packet: &ArpPacket, out: &mut [u8; SPACE]) -> usize
+    ensures len { result ≡ 60 }
+    ensures octets { out.new ≡ packet_frame packet.now ++ drop 60 out.old }
+{
+    packet.emit(&mut out[HEAD..]);
+    ether::Head {
+        destination: packet_destination(packet.operation, packet.target_mac),
+        source: packet.sender_mac,
+        kind: ARP,
+    }
+    .emit(arp::LEN, out)
+}
+
+/// The interface that the frame of a packet is for.
+fn packet_destination(operation: Operation, target: Mac) -> Mac
+    ensures { result ≡ packet_destination operation target }
+{
+    match operation {
+        Operation::Request => Mac::BROADCAST,
+        Operation::Reply => target,
+    }
+}

@@ -1,0 +1,13 @@
+//! What octets are to a host with a MAC and an address (an ARP packet, a TCP segment, another datagram, or the cause to drop
+//! them), and the frames that carry what it sends. It knows the formats alone (RFC 894, RFC 826, RFC 791, RFC 9293), and no host.
+#![tactic(auto)]
+
+mod drop;
+mod emission;
+mod meaning;
+mod reading;
+
+pub use drop::DropCause;
+pub use emission::{FrameHead, emit_arp};
+pub use meaning::{Meaning, Received};
+pub use reading::read;

@@ -1,0 +1,25 @@
+//! What octets are to a host.
+
+use arp::ArpPacket;
+use ipv4::{Addr, Ipv4View};
+use tcp_segment::TcpView;
+
+/// What octets are to a host, its octets lent from the frame.
+#[derive(Drop)]
+pub enum Meaning<'a> {
+    /// An ARP packet, whoever its target is (RFC 826).
+    Arp(ArpPacket),
+    /// A TCP segment for us (RFC 9293 section 3.1).
+    Tcp(Received<'a>),
+    /// Another datagram for us: a whole one of another protocol, or a fragment of a user datagram (RFC 791 section 3.1).
+    Other(Ipv4View<'a>),
+}
+
+/// A segment, and the address that it comes from.
+#[derive(Drop)]
+pub struct Received<'a> {
+    /// The address that it comes from.
+    pub source: Addr,
+    /// The segment.
+    pub segment: TcpView<'a>,
+}

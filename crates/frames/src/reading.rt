@@ -1,0 +1,133 @@
+//! Octets, layer by layer.
+
+ghost use Rattle.std.specs.Prelude.{◌≡◌, Ok};
+ghost use Rattle.ether.specs.Frame.{Frame};
+ghost use Rattle.ether.specs.Reading.{frame_in};
+ghost use Rattle.arp.specs.Reading.{packet_in};
+ghost use Rattle.ipv4.specs.Reading.{datagram_in};
+ghost use Rattle.tcp_segment.specs.Reading.{segment_or_fault};
+ghost use Rattle.frames.specs.Meaning.{heard, frame_heard, payload_heard, packet_heard, datagram_heard, upper_heard, segment_heard, is_for, is_fragment, may_send};
+
+use crate::drop::DropCause;
+use crate::meaning::{Meaning, Received};
+use arp::ArpPacket;
+use ether::{EtherView, Mac, SPACE};
+use ipv4::{Addr, Ipv4Fault, Ipv4View, Protocol};
+use tcp_segment::{SegmentFault, TcpView};
+
+/// The type of a frame that carries IPv4 (RFC 894).
+pub(crate) const IPV4: u16 = 0x0800;
+
+/// The type of a frame that carries ARP (RFC 826).
+pub(crate) const ARP: u16 = 0x0806;
+
+/// What these octets are to a host with this MAC and this address, or the first cause to drop them, from the lowest layer up:
+/// the frame (RFC 894), the ARP packet (RFC 826) or the datagram (RFC 791), its addresses (RFC 1122 section 3.2.1.3), and the
+/// segment (RFC 9293 section 3.1). It is never `NoRoom`.
+pub fn read(mac: Mac, addr: Addr, octets: &[u8]) -> Result<Meaning<'_>, DropCause>
+    ensures { result ≡ heard mac addr octets.now }
+{
+    if octets.len() > SPACE {
+        return Err(DropCause::Short);
+    }
+    match EtherView::parse(octets) {
+        Ok(frame) if is_for(mac, &frame) => read_payload(addr, frame.kind(), frame.payload()),
+        Ok(_) => Err(DropCause::OtherMac),
+        Err(_) => Err(DropCause::Short),
+    }
+}
+
+/// Whether a frame is for the interface with this MAC: by that MAC, or for all of the link where it carries ARP.
+fn is_for(mac: Mac, frame: &EtherView<'_>) -> bool
+    ensures { result ≡ is_for mac frame.now }
+{
+    let destination = frame.destination();
+    destination == mac || (destination == Mac::BROADCAST && frame.kind() == ARP)
+}
+
+/// What the payload of a frame for us is.
+fn read_payload(addr: Addr, kind: u16, octets: &[u8]) -> Result<Meaning<'_>, DropCause>
+    ensures { result ≡ payload_heard addr kind octets.now }
+{
+    match kind {
+        ARP => read_packet(addr, octets),
+        IPV4 => read_datagram(addr, octets),
+        _ => Err(DropCause::OtherType),
+    }
+}
+
+/// What an ARP packet is.
+fn read_packet(addr: Addr, octets: &[u8]) -> Result<Meaning<'_>, DropCause>
+    ensures { result ≡ packet_heard addr (packet_in octets.now) }
+{
+    match ArpPacket::parse(octets) {
+        Ok(packet) if may_send(addr, packet.sender_addr) => Ok(Meaning::Arp(packet)),
+        Ok(_) => Err(DropCause::OtherAddress),
+        Err(_) => Err(DropCause::UpperHeader),
+    }
+}
+
+/// What a datagram is.
+fn read_datagram(addr: Addr, octets: &[u8]) -> Result<Meaning<'_>, DropCause>
+    ensures { result ≡ datagram_heard addr (datagram_in octets.now) }
+{
+    match Ipv4View::parse(octets) {
+        Ok(datagram) => read_parsed(addr, datagram),
+        Err(Ipv4Fault::IpHeader) => Err(DropCause::IpHeader),
+        Err(Ipv4Fault::IpSum) => Err(DropCause::IpSum),
+    }
+}
+
+/// What a datagram is that was parsed.
+fn read_parsed<'a>(addr: Addr, datagram: Ipv4View<'a>) -> Result<Meaning<'a>, DropCause>
+    ensures { result ≡ datagram_heard addr (Ok datagram.entry) }
+{
+    if datagram.destination() == addr && may_send(addr, datagram.source()) {
+        read_upper(datagram)
+    } else {
+        Err(DropCause::OtherAddress)
+    }
+}
+
+/// What a datagram for us carries.
+fn read_upper<'a>(datagram: Ipv4View<'a>) -> Result<Meaning<'a>, DropCause>
+    ensures { result ≡ upper_heard datagram.entry }
+{
+    if is_fragment(&datagram) && datagram.protocol() != Protocol::UDP {
+        return Err(DropCause::Fragment);
+    }
+    if datagram.protocol() == Protocol::TCP {
+        read_segment(
+            datagram.source(),
+            datagram.destination(),
+            datagram.payload(),
+        )
+    } else {
+        Ok(Meaning::Other(datagram))
+    }
+}
+
+/// What a segment between these addresses is.
+fn read_segment(source: Addr, destination: Addr, octets: &[u8]) -> Result<Meaning<'_>, DropCause>
+    ensures { result ≡ segment_heard source (segment_or_fault source destination octets.now) }
+{
+    match TcpView::parse(source, destination, octets) {
+        Ok(segment) => Ok(Meaning::Tcp(Received { source, segment })),
+        Err(SegmentFault::UpperHeader) => Err(DropCause::UpperHeader),
+        Err(SegmentFault::UpperSum) => Err(DropCause::UpperSum),
+    }
+}
+
+/// Whether another host may send from this address.
+fn may_send(addr: Addr, source: Addr) -> bool
+    ensures { result ≡ may_send addr source }
+{
+    source.is_single_host() && source != addr
+}
+
+/// Whether a datagram is a part of one.
+fn is_fragment(datagram: &Ipv4View<'_>) -> bool
+    ensures { result ≡ is_fragment datagram.now }
+{
+    datagram.more_fragments() || datagram.offset() != 0
+}
