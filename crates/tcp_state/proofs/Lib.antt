@@ -5,3 +5,5 @@ pub mod Errors
 pub mod Unchanged
 pub mod Released
 pub mod SilentEnds
+pub mod Positions
+pub mod Resets
