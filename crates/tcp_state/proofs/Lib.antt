@@ -7,3 +7,4 @@ pub mod Released
 pub mod SilentEnds
 pub mod Positions
 pub mod Resets
+pub mod Gains
