@@ -7,4 +7,5 @@ pub mod Released
 pub mod SilentEnds
 pub mod Positions
 pub mod Resets
+pub mod Windows
 pub mod Gains

@@ -109,7 +109,15 @@ pub fn resets_act_at_the_next_number()
     ensures others { (v : View) (s : Segment) (now : Moment) → is_syn_sent v.state ≡ false → s.flags.rst ≡ true → (s.number == v.receiving.rnext) ≡ false
         → after_segment_at v s now ≡ record v { owes_ack = (after_segment_at v s now).owes_ack } }
 {}
-/// SND.UNA, SND.NXT, RCV.NXT and the right edge of the window told never go back (RFC 9293 sections 3.4 and 3.8.6), whatever happens to a connection.
-pub fn numbers_never_go_back()
-    ensures { (v : View) (e : Event) → IsSound v → HasNumber e → NeverBack v (after_event v e) }
+
+/// A window is believed exactly from a segment that is no older than the one that told the last, by the position of its first number and then by that of its
+/// acknowledgement, and that acknowledges no less than is acknowledged (RFC 9293 section 3.10.7.4, fifth).
+pub fn no_older_window_is_believed()
+    ensures { (peer own una last latest number ack : ℕ) (s : Sending) → s.una ≡ wire own una → s.wl1 ≡ wire peer last → s.wl2 ≡ wire own latest
+        → AreNear ack una → AreNear last number → AreNear ack latest
+        → (tells_window s (wire peer number) (wire own ack) ≡ true) ↔ ((una ≤ ack) × ((last < number) ⊎ ((last ≡ number) × (latest ≤ ack)))) }
+{}
+/// While the peer's window is open, what is held and a FIN that is not acknowledged are due or have a deadline, and so has a SYN that is not acknowledged.
+pub fn what_waits_goes_out()
+    ensures { (v : View) → IsSound v → HasToSend v → (is_some (first_due v) || is_some (deadline v)) ≡ true }
 {}
