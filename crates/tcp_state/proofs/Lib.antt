@@ -8,4 +8,5 @@ pub mod SilentEnds
 pub mod Positions
 pub mod Resets
 pub mod Windows
+pub mod Onward
 pub mod Gains

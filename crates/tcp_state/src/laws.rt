@@ -117,7 +117,8 @@ pub fn no_older_window_is_believed()
         → AreNear ack una → AreNear last number → AreNear ack latest
         → (tells_window s (wire peer number) (wire own ack) ≡ true) ↔ ((una ≤ ack) × ((last < number) ⊎ ((last ≡ number) × (latest ≤ ack)))) }
 {}
-/// While the peer's window is open, what is held and a FIN that is not acknowledged are due or have a deadline, and so has a SYN that is not acknowledged.
-pub fn what_waits_goes_out()
-    ensures { (v : View) → IsSound v → HasToSend v → (is_some (first_due v) || is_some (deadline v)) ≡ true }
+
+/// SND.UNA, SND.NXT, RCV.NXT and the right edge of the window told never go back (RFC 9293 sections 3.4 and 3.8.6), whatever happens to a connection.
+pub fn numbers_never_go_back()
+    ensures { (v : View) (e : Event) → IsSound v → HasNumber e → NeverBack v (after_event v e) }
 {}
