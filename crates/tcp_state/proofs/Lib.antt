@@ -9,4 +9,5 @@ pub mod Positions
 pub mod Resets
 pub mod Windows
 pub mod Onward
+pub mod Waiting
 pub mod Gains

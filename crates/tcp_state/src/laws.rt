@@ -122,3 +122,8 @@ pub fn no_older_window_is_believed()
 pub fn numbers_never_go_back()
     ensures { (v : View) (e : Event) → IsSound v → HasNumber e → NeverBack v (after_event v e) }
 {}
+
+/// While the peer's window is open, what is held and a FIN that is not acknowledged are due or have a deadline, and so has a SYN that is not acknowledged.
+pub fn what_waits_goes_out()
+    ensures { (v : View) → IsSound v → HasToSend v → (is_some (first_due v) || is_some (deadline v)) ≡ true }
+{}
