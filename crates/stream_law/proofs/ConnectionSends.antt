@@ -6,10 +6,11 @@ use Rattle.tcp_segment.specs.Sent.{sent}
 use Rattle.tcp_state.specs.declared.moment.Moment.{Moment}
 use Rattle.tcp_state.specs.declared.emission.Due.TheVariants.{Syn, Text, Fin}
 use Rattle.tcp_state.specs.View.{View, is_opening, is_syn_sent, is_syn_received, is_fin_acknowledged, is_write_closed}
+use Rattle.tcp_state.specs.Numbers.{later_number}
 use Rattle.tcp_state.specs.Stream.{outstanding}
 use Rattle.tcp_state.specs.Calls.{taken, after_send}
 use Rattle.tcp_state.specs.Due.{head_of, octets_of, after_emitted, after_ack_paid, after_numbers}
-use Rattle.stream_law.specs.Channel.{Open, Waiting, Synchronised, Channel, later}
+use Rattle.stream_law.specs.Channel.{Open, Waiting, Synchronised, Channel}
 use Rattle.stream_law.specs.ChannelSteps.{Step, writes, emits_syn, emits_text, emits_ack, span, nothing_kept}
 use Rattle.stream_law.specs.ChannelViews.{sender_of, SendsInto, ReceivesFrom, frame_of}
 use Rattle.stream_law.proofs.KeepingText.{chosen}
@@ -37,29 +38,35 @@ sends cap limit v c octets room untold opened unclosed held shows =
     same false e = refl
 
 -- the SYN goes out
-pub emits-syn : (cap limit : ℕ) (v : View) (c : Channel) (now : Moment) → is_opening v.state ≡ true → SendsInto v c
+pub emits-syn : (cap limit : ℕ) (v : View) (c : Channel) (now : Moment) → is_opening v.state ≡ true → v.sending.una < 2 ^ 32 → outstanding v.sending ≤ 1 → SendsInto v c
     → Step cap limit c (record c {
       sending = Open (sender_of (after_emitted v Syn now));
       frames = frame_of (sent (head_of v Syn) (octets_of v Syn)) (length c.written) ∷ c.frames;
     })
-emits-syn cap limit v c now opening shows =
+emits-syn cap limit v c now opening una whole shows =
     let s = sender_of v in
     let unacked : s.syn_acked ≡ false = ap not opening in
+    let end = (s.una + 1) % 2 ^ 32 in
+    let next : end ≡ later_number s.una s.nxt end =
+    sym (chosen (past s.nxt s.una) (past end s.una) s.nxt end end (λ le. refl) (λ lt. let reach : past end s.una ≡ 1 = omega (arith, una) in absurd (omega (arith, lt, reach, whole)))) in
     subst (λ w. Step cap limit c (record c { sending = Open w; frames = frame_of (sent (head_of v Syn) (octets_of v Syn)) (length c.written) ∷ c.frames })) (same (is_syn_received v.state))
-    (emits_syn c s shows.sending unacked)
+    (subst (λ n. Step cap limit c (record c {
+      sending = Open (record s { nxt = n });
+      frames = frame_of (sent (head_of v Syn) (octets_of v Syn)) (length c.written) ∷ c.frames;
+    })) next (emits_syn c s shows.sending unacked))
   where
-    same : (reply : Bool) → record (sender_of v) { nxt = (v.sending.una + 1) % 2 ^ 32 } ≡ sender_of (if reply then after_ack_paid (after_numbers v 1 now) else after_numbers v 1 now)
+    same : (reply : Bool) → record (sender_of v) { nxt = later_number v.sending.una v.sending.nxt ((v.sending.una + 1) % 2 ^ 32) }
+        ≡ sender_of (if reply then after_ack_paid (after_numbers v 1 now) else after_numbers v 1 now)
     same true = refl
     same false = refl
 
--- what is outstanding, or where nothing is the next octets, go out
-pub emits-text : (cap limit : ℕ) (v : View) (c : Channel) (now : Moment) (count : ℕ) → is_opening v.state ≡ false → is_fin_acknowledged v.state ≡ false → v.sending.una < 2 ^ 32 → outstanding v.sending ≤ count → count ≤ length v.sending.held
-    → count ≤ 1460 → SendsInto v c
+-- octets that are held go out
+pub emits-text : (cap limit : ℕ) (v : View) (c : Channel) (now : Moment) (count : ℕ) → is_opening v.state ≡ false → is_fin_acknowledged v.state ≡ false → v.sending.una < 2 ^ 32 → count ≤ length v.sending.held → SendsInto v c
     → Step cap limit c (record c {
       sending = Open (sender_of (after_emitted v (Text count) now));
       frames = frame_of (sent (head_of v (Text count)) (octets_of v (Text count))) (length c.written) ∷ c.frames;
     })
-emits-text cap limit v c now count opened unfinished una whole held small shows =
+emits-text cap limit v c now count opened unfinished una held shows =
     let s = sender_of v in
     let octets = take count s.held in
     let none : List ℕ = [] in
@@ -67,47 +74,34 @@ emits-text cap limit v c now count opened unfinished una whole held small shows 
     let len : length octets ≡ count = length-take count s.held ∙ omega (arith, held) in
     let cut : s.held ≡ (none ++ octets) ++ drop count s.held = sym (take-append-drop count s.held) in
     let first : (s.una + length none) % 2 ^ 32 ≡ s.una = omega (arith, una) in
-    let end : (s.una + (length none + span octets false)) % 2 ^ 32 ≡ (s.una + count) % 2 ^ 32 = ap (λ n. (s.una + n) % 2 ^ 32) (omega (arith, len)) in
-    let next : later s.una s.nxt ((s.una + (length none + span octets false)) % 2 ^ 32) ≡ (s.una + count) % 2 ^ 32 =
-    ap (later s.una s.nxt) end
-    ∙ chosen (past s.nxt s.una) (past ((s.una + count) % 2 ^ 32) s.una) s.nxt ((s.una + count) % 2 ^ 32) ((s.una + count) % 2 ^ 32) (λ le. refl)
-    (λ lt. let reach : past ((s.una + count) % 2 ^ 32) s.una ≡ count = omega (arith, una, small) in absurd (omega (arith, lt, reach, whole))) in
+    let reach : length none + span octets false ≡ count = omega (arith, len) in
     let step = emits_text c s none octets (drop count s.held) false shows.sending acked unfinished cut (λ e. let bad : false ≡ true = e in cc) in
     subst (λ n. Step cap limit c (record c {
-      sending = Open (record s { nxt = n });
+      sending = Open (record s { nxt = later_number s.una s.nxt ((s.una + n) % 2 ^ 32) });
       frames = frame_of (sent (head_of v (Text count)) (octets_of v (Text count))) (length c.written) ∷ c.frames;
-    })) next
+    })) reach
     (subst (λ n. Step cap limit c (record c {
-      sending = Open (record s { nxt = later s.una s.nxt ((s.una + (length none + span octets false)) % 2 ^ 32) });
+      sending = Open (record s { nxt = later_number s.una s.nxt ((s.una + (length none + span octets false)) % 2 ^ 32) });
       frames = record { number = n; octets = octets; syn = false; fin = false; written_at = length c.written } ∷ c.frames;
     })) first step)
 
 -- the FIN goes out behind all octets, first or again
 pub emits-fin : (cap limit : ℕ) (v : View) (c : Channel) (now : Moment) → is_opening v.state ≡ false → is_fin_acknowledged v.state ≡ false → is_write_closed v.state ≡ true → v.sending.held ≡ []
-    → v.sending.una < 2 ^ 32 → outstanding v.sending ≤ 1 → SendsInto v c
+    → v.sending.una < 2 ^ 32 → SendsInto v c
     → Step cap limit c (record c {
       sending = Open (sender_of (after_emitted v Fin now));
       frames = frame_of (sent (head_of v Fin) (octets_of v Fin)) (length c.written) ∷ c.frames;
     })
-emits-fin cap limit v c now opened unfinished closed empty una whole shows =
+emits-fin cap limit v c now opened unfinished closed empty una shows =
     let s = sender_of v in
     let none : List ℕ = [] in
     let acked : s.syn_acked ≡ true = ap not opened in
     let first : (s.una + length none) % 2 ^ 32 ≡ s.una = omega (arith, una) in
-    let end : (s.una + (length none + span none true)) % 2 ^ 32 ≡ (s.una + 1) % 2 ^ 32 = refl in
-    let next : later s.una s.nxt ((s.una + (length none + span none true)) % 2 ^ 32) ≡ (s.una + 1) % 2 ^ 32 =
-    ap (later s.una s.nxt) end
-    ∙ chosen (past s.nxt s.una) (past ((s.una + 1) % 2 ^ 32) s.una) s.nxt ((s.una + 1) % 2 ^ 32) ((s.una + 1) % 2 ^ 32) (λ le. refl)
-    (λ lt. let reach : past ((s.una + 1) % 2 ^ 32) s.una ≡ 1 = omega (arith, una) in absurd (omega (arith, lt, reach, whole))) in
     let step = emits_text c s none none none true shows.sending acked unfinished empty (λ e. (shows.closed ∙ closed, refl)) in
     subst (λ n. Step cap limit c (record c {
-      sending = Open (record s { nxt = n });
-      frames = frame_of (sent (head_of v Fin) (octets_of v Fin)) (length c.written) ∷ c.frames;
-    })) next
-    (subst (λ n. Step cap limit c (record c {
-      sending = Open (record s { nxt = later s.una s.nxt ((s.una + (length none + span none true)) % 2 ^ 32) });
+      sending = Open (record s { nxt = later_number s.una s.nxt ((s.una + (length none + span none true)) % 2 ^ 32) });
       frames = record { number = n; octets = none; syn = false; fin = true; written_at = length c.written } ∷ c.frames;
-    })) first step)
+    })) first step
 
 -- a segment with ACK acknowledges
 pub emits-ack : (cap limit : ℕ) (v : View) (d : Channel) → is_syn_sent v.state ≡ false → ReceivesFrom v d

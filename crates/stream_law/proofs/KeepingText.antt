@@ -4,7 +4,8 @@ use Rattle.std.specs.List.{slice_get}
 use Rattle.std.proofs.lemmas.Bool.{cond-true, cond-false}
 use Rattle.std.proofs.lemmas.Bool.Decides.{leb_tells}
 use Rattle.tcp_segment.specs.Wire.{wire, past}
-use Rattle.stream_law.specs.Channel.{Sender, Open, Channel, number_of, later}
+use Rattle.tcp_state.specs.Numbers.{later_number}
+use Rattle.stream_law.specs.Channel.{Sender, Open, Channel, number_of}
 use Rattle.stream_law.specs.ChannelSteps.{span}
 use Rattle.stream_law.proofs.Invariant.{StandsAt, SenderFits, SendingFits, FrameFits, Holds}
 use Rattle.stream_law.proofs.Lists.{slice_get-append_left, slice_get-append_right}
@@ -15,7 +16,7 @@ pub chosen : (x y a b c : ℕ) → (x ≤ y → b ≡ c) → (y < x → a ≡ c)
 chosen x y a b c if_le if_lt = elim (leb_tells x y) [ inl le ↦ cond-true (nat_le x y) b a le.0 ∙ if_le le.1 | inr lt ↦ cond-false (nat_le x y) b a lt.0 ∙ if_lt lt.1 ]
 
 -- the later of two numbers is that of the later position
-pub later-wire : (isn u n e : ℕ) → u ≤ n → n < u + 2 ^ 31 → e < 2 ^ 31 → later (wire isn u) (wire isn n) ((wire isn u + e) % 2 ^ 32) ≡ wire isn (max n (u + e))
+pub later-wire : (isn u n e : ℕ) → u ≤ n → n < u + 2 ^ 31 → e < 2 ^ 31 → later_number (wire isn u) (wire isn n) ((wire isn u + e) % 2 ^ 32) ≡ wire isn (max n (u + e))
 later-wire isn u n e first near short =
     let p : past (wire isn n) (wire isn u) ≡ n - u = omega arith in
     let q : past ((wire isn u + e) % 2 ^ 32) (wire isn u) ≡ e = omega arith in
@@ -41,7 +42,7 @@ fin-le false closed h = omega arith
 pub keeps-emits_text : (cap : ℕ) → cap + 2 ≤ 2 ^ 30 → (c : Channel) (s : Sender) (before octets after : List ℕ) (fin : Bool) → c.sending ≡ Open s → s.syn_acked ≡ true → s.fin_acked ≡ false
     → s.held ≡ (before ++ octets) ++ after → (fin ≡ true → (c.closed ≡ true) × (after ≡ [])) → Holds cap c
     → Holds cap (record c {
-      sending = Open (record s { nxt = later s.una s.nxt ((s.una + (length before + span octets fin)) % 2 ^ 32) });
+      sending = Open (record s { nxt = later_number s.una s.nxt ((s.una + (length before + span octets fin)) % 2 ^ 32) });
       frames = record { number = (s.una + length before) % 2 ^ 32; octets = octets; syn = false; fin = fin; written_at = length c.written } ∷ c.frames;
     })
 keeps-emits_text cap small c s before octets after fin is acked unfinished held last h =
@@ -71,7 +72,7 @@ keeps-emits_text cap small c s before octets after fin is acked unfinished held 
       text = h.text;
       sending = record {
         una = k.una;
-        nxt = ap (λ v. later v s.nxt ((v + e) % 2 ^ 32)) k.una ∙ (ap (λ v. later (wire h.isn h.u) v ((wire h.isn h.u + e) % 2 ^ 32)) k.nxt ∙ later-wire h.isn h.u h.n e first near short);
+        nxt = ap (λ v. later_number v s.nxt ((v + e) % 2 ^ 32)) k.una ∙ (ap (λ v. later_number (wire h.isn h.u) v ((wire h.isn h.u + e) % 2 ^ 32)) k.nxt ∙ later-wire h.isn h.u h.n e first near short);
         taken = k.taken;
         text = k.text;
         room = k.room;

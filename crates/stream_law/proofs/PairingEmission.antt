@@ -1,5 +1,5 @@
 -- A segment that goes out is steps of the two channels.
-use Rattle.std.proofs.Common.{◌≡◌, ℕ, ◌<◌, ◌≤◌, not, ◌||◌, ◌==◌, nat_lt, if◌then◌else◌, Bool, true, false, List, [], ◌∷◌, length, Option, Some, None, arith, refl, sym, ◌∙◌, ap, subst}
+use Rattle.std.proofs.Common.{◌≡◌, ℕ, ◌<◌, ◌≤◌, ◌||◌, ◌==◌, min, if◌then◌else◌, Bool, true, false, List, [], ◌∷◌, length, arith, refl, sym, ◌∙◌, ap, subst}
 use Rattle.std.proofs.lemmas.Bool.{eqb-true}
 use Rattle.tcp_segment.specs.Segment.{Segment}
 use Rattle.tcp_segment.specs.Sent.{sent}
@@ -8,17 +8,16 @@ use Rattle.tcp_state.specs.declared.emission.Due.TheVariants.{Rst, Syn, Text, Fi
 use Rattle.tcp_state.specs.declared.moment.Moment.{Moment}
 use Rattle.tcp_state.specs.declared.state.State.{State}
 use Rattle.tcp_state.specs.declared.state.State.TheVariants.{Closed, SynSent, SynReceived, FinWait1, Closing, LastAck}
-use Rattle.tcp_state.specs.View.{View, IsSound, is_opening, is_syn_sent, is_syn_received, is_closed, is_listening, is_write_closed, is_end_seen, is_fin_acknowledged, awaits_fin_ack, is_due}
+use Rattle.tcp_state.specs.View.{View, IsSound, is_opening, is_syn_sent, is_syn_received, is_closed, is_listening, is_write_closed, is_end_seen, is_fin_acknowledged, awaits_fin_ack}
 use Rattle.tcp_state.specs.Stream.{outstanding}
-use Rattle.tcp_state.specs.Windows.{sendable}
-use Rattle.tcp_state.specs.Due.{MayGoOut, first_due, flags_of, head_of, octets_of, after_emitted, after_ack_paid, after_numbers}
+use Rattle.tcp_state.specs.Due.{MayGoOut, flags_of, head_of, octets_of, after_emitted, after_ack_paid, after_numbers}
 use Rattle.tcp_state.specs.Arrival.{is_fin_next}
 use Rattle.stream_law.specs.Channel.{Channel, Ack, Open, IsAmong, here, there}
 use Rattle.stream_law.specs.ChannelSteps.{Step, steps, emits_bare}
 use Rattle.stream_law.specs.ChannelViews.{Leads, stays, goes, sender_of, receiving_of, SendsInto, ReceivesFrom, IsOfWidth, frame_of, ack_of}
 use Rattle.stream_law.specs.Pairing.{Present, Emission, Pairing, with_connection}
 use Rattle.stream_law.proofs.ConnectionSends.{emits-syn, emits-text, emits-fin, emits-ack}
-use Rattle.stream_law.proofs.ConnectionArrival.{and_left, and_right, fin_flight}
+use Rattle.stream_law.proofs.ConnectionArrival.{and_left, and_right}
 use Rattle.stream_law.proofs.PairingInvariant.{Shown, runs_on, other_stays, connected, living, receives}
 
 -- the acknowledgement that a segment carries joins those of the channel from which the end receives
@@ -56,23 +55,6 @@ opened_past : (t : State) → is_opening t ≡ false → is_syn_sent t ≡ false
 opened_past SynSent e = cc
 opened_past SynReceived e = cc
 opened_past _ e = refl
-
--- where a segment of octets goes out first, it covers all that is outstanding
-text_covers : (opening repeats none more owes unsent fin : Bool) (o few count : ℕ) → (none ≡ true → o ≡ 0)
-    → (if opening then (if unsent then Some Syn else (if owes then Some AckAlone else None)) else if repeats then Some (if fin then Fin else Text o)
-    else if not none then (if owes then Some AckAlone else None) else if more then Some (Text few) else if fin then Some Fin else (if owes then Some AckAlone else None)) ≡ Some (Text count)
-    → o ≤ count
-text_covers true repeats none more owes true fin o few count empty e = let bad : Some Syn ≡ Some (Text count) = e in cc
-text_covers true repeats none more true false fin o few count empty e = let bad : Some AckAlone ≡ Some (Text count) = e in cc
-text_covers true repeats none more false false fin o few count empty e = let nothing : Option Due = None in let bad : nothing ≡ Some (Text count) = e in cc
-text_covers false true none more owes unsent true o few count empty e = let bad : Some Fin ≡ Some (Text count) = e in cc
-text_covers false true none more owes unsent false o few count empty e = let same : Some (Text o) ≡ Some (Text count) = e in let is : o ≡ count = cc in omega (arith, is)
-text_covers false false true true owes unsent fin o few count empty e = let is = empty refl in omega (arith, is)
-text_covers false false true false owes unsent true o few count empty e = let bad : Some Fin ≡ Some (Text count) = e in cc
-text_covers false false true false true unsent false o few count empty e = let bad : Some AckAlone ≡ Some (Text count) = e in cc
-text_covers false false true false false unsent false o few count empty e = let nothing : Option Due = None in let bad : nothing ≡ Some (Text count) = e in cc
-text_covers false false false more true unsent fin o few count empty e = let bad : Some AckAlone ≡ Some (Text count) = e in cc
-text_covers false false false more false unsent fin o few count empty e = let nothing : Option Due = None in let bad : nothing ≡ Some (Text count) = e in cc
 
 -- what became of the sending half, when this view became that one and a segment went out
 record Went (cap limit : ℕ) (v w : View) (into : Channel) (s : Segment) : Type 0 where
@@ -129,9 +111,13 @@ assembled cap limit p v w s width unreset unclosed is h went =
     emissions _ _ first rest _ (here _ _) = first
     emissions _ _ first rest _ (there e _ _ among) = rest e among
 
-went-syn : (cap limit : ℕ) (v : View) (into : Channel) (now : Moment) → is_opening v.state ≡ true → SendsInto v into → Went cap limit v (after_emitted v Syn now) into (sent (head_of v Syn) (octets_of v Syn))
-went-syn cap limit v into now opening shows = record {
-  step = emits-syn cap limit v into now opening shows;
+-- the SYN alone is outstanding while a connection opens
+syn_flight : (v : View) → IsSound v → is_opening v.state ≡ true → outstanding v.sending ≤ 1
+syn_flight v sound opening = subst (λ b. outstanding v.sending ≤ (if b || is_fin_next v then 1 else min (length v.sending.held) 1460)) opening sound.flight
+
+went-syn : (cap limit : ℕ) (v : View) (into : Channel) (now : Moment) → IsSound v → is_opening v.state ≡ true → SendsInto v into → Went cap limit v (after_emitted v Syn now) into (sent (head_of v Syn) (octets_of v Syn))
+went-syn cap limit v into now sound opening shows = record {
+  step = emits-syn cap limit v into now opening sound.una (syn_flight v sound opening) shows;
   receiving = same_receiving (is_syn_received v.state);
   readable = same_readable (is_syn_received v.state);
   state = same_state (is_syn_received v.state);
@@ -159,24 +145,15 @@ unfinished v count sound opened some held =
     none_left true len count most some held = absurd (omega (arith, most, some, held))
     none_left false len count most some held = refl
 
--- where no reset went out, none was owed
-no_reset : (owed : Bool) (rest : Option Due) {count : ℕ} → (if owed then Some Rst else rest) ≡ Some (Text count) → rest ≡ Some (Text count)
-no_reset true rest e = cc
-no_reset false rest e = e
-
-went-text : (cap limit : ℕ) (v : View) (into : Channel) (count : ℕ) (now : Moment) → IsSound v → first_due v ≡ Some (Text count) → MayGoOut v (Text count) → SendsInto v into
+went-text : (cap limit : ℕ) (v : View) (into : Channel) (count : ℕ) (now : Moment) → IsSound v → MayGoOut v (Text count) → SendsInto v into
     → Went cap limit v (after_emitted v (Text count) now) into (sent (head_of v (Text count)) (octets_of v (Text count)))
-went-text cap limit v into count now sound first may shows =
-    let whole : outstanding v.sending ≤ count =
-    text_covers (is_opening v.state) (is_due v.resend) (outstanding v.sending == 0) (nat_lt 0 (sendable v.sending)) v.owes_ack ((outstanding v.sending == 0) || is_due v.resend) (is_fin_next v) (outstanding v.sending)
-    (sendable v.sending) count (eqb-true (outstanding v.sending) 0) (no_reset v.owes_reset _ first) in
-    record {
-      step = emits-text cap limit v into now count may.0 (unfinished v count sound may.0 may.1 may.2) sound.una whole may.2 may.3 shows;
-      receiving = refl;
-      readable = refl;
-      state = refl;
-      acknowledges = λ e. (opened_past v.state may.0, refl);
-    }
+went-text cap limit v into count now sound may shows = record {
+  step = emits-text cap limit v into now count may.0 (unfinished v count sound may.0 may.1 may.2) sound.una may.2 shows;
+  receiving = refl;
+  readable = refl;
+  state = refl;
+  acknowledges = λ e. (opened_past v.state may.0, refl);
+}
 
 went-fin : (cap limit : ℕ) (v : View) (into : Channel) (now : Moment) → IsSound v → MayGoOut v Fin → SendsInto v into
     → Went cap limit v (after_emitted v Fin now) into (sent (head_of v Fin) (octets_of v Fin))
@@ -185,7 +162,7 @@ went-fin cap limit v into now sound may shows =
     let empty = no_octets v.sending.held (eqb-true (length v.sending.held) 0 (and_right (awaits_fin_ack v.state) (length v.sending.held == 0) may)) in
     let t = awaiting v.state waits in
     record {
-      step = emits-fin cap limit v into now t.0 t.1 t.2 empty sound.una (fin_flight v sound t.0 may) shows;
+      step = emits-fin cap limit v into now t.0 t.1 t.2 empty sound.una shows;
       receiving = refl;
       readable = refl;
       state = refl;
@@ -236,19 +213,19 @@ unclosed_goes v Fin sound may unreset = awaiting_unclosed v.state (and_left (awa
     awaiting_unclosed _ e = refl
 unclosed_goes v AckAlone sound may unreset = (neither (is_syn_sent v.state) (is_closed v.state) may).1
 
-pub moves-emits : (cap limit : ℕ) (p : Pairing) (v : View) (due : Due) (now : Moment) → p.own.connection ≡ Present v → IsSound v → first_due v ≡ Some due → MayGoOut v due
+pub moves-emits : (cap limit : ℕ) (p : Pairing) (v : View) (due : Due) (now : Moment) → p.own.connection ≡ Present v → IsSound v → MayGoOut v due
     → (let f = flags_of v due in f.rst) ≡ false → IsOfWidth (sent (head_of v due) (octets_of v due)) → Shown cap limit p
     → Shown cap limit (record (with_connection p (after_emitted v due now)) {
       sent = record { segment = sent (head_of v due) (octets_of v due); own_written = length p.own.written; other_written = length p.other.written } ∷ p.sent;
     })
-moves-emits cap limit p v due now is sound first may unreset width h =
+moves-emits cap limit p v due now is sound may unreset width h =
     let unclosed = unclosed_goes v due sound may unreset in
     let shows = (connected p.own.connection v h.into h.from is h.own.connection).sends unclosed in
-    assembled cap limit p v (after_emitted v due now) (sent (head_of v due) (octets_of v due)) width unreset unclosed is h (went due first may unreset shows)
+    assembled cap limit p v (after_emitted v due now) (sent (head_of v due) (octets_of v due)) width unreset unclosed is h (went due may unreset shows)
   where
-    went : (due : Due) → first_due v ≡ Some due → MayGoOut v due → (let f = flags_of v due in f.rst) ≡ false → SendsInto v h.into → Went cap limit v (after_emitted v due now) h.into (sent (head_of v due) (octets_of v due))
-    went Rst first may reset shows = let bad : true ≡ false = reset in cc
-    went Syn first may reset shows = went-syn cap limit v h.into now may shows
-    went (Text count) first may reset shows = went-text cap limit v h.into count now sound first may shows
-    went Fin first may reset shows = went-fin cap limit v h.into now sound may shows
-    went AckAlone first may reset shows = went-ack cap limit v h.into now (neither (is_syn_sent v.state) (is_closed v.state) may).0 shows
+    went : (due : Due) → MayGoOut v due → (let f = flags_of v due in f.rst) ≡ false → SendsInto v h.into → Went cap limit v (after_emitted v due now) h.into (sent (head_of v due) (octets_of v due))
+    went Rst may reset shows = let bad : true ≡ false = reset in cc
+    went Syn may reset shows = went-syn cap limit v h.into now sound may shows
+    went (Text count) may reset shows = went-text cap limit v h.into count now sound may shows
+    went Fin may reset shows = went-fin cap limit v h.into now sound may shows
+    went AckAlone may reset shows = went-ack cap limit v h.into now (neither (is_syn_sent v.state) (is_closed v.state) may).0 shows

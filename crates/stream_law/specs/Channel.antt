@@ -1,6 +1,6 @@
 -- A channel is one direction x -> y of one pair of endpoints in one epoch. It says what the two callers did, what each
 -- half keeps of it, and what ever went out; of a host's timers, windows and policies it says nothing.
-use Rattle.std.specs.Prelude.{◌≡◌, ℕ, ◌+◌, ◌<◌, ◌^◌, nat_le, Bool, if◌then◌else◌, List, ◌∷◌, length, Option, Some, ◌⊎◌, slice_get}
+use Rattle.std.specs.Prelude.{◌≡◌, ℕ, ◌+◌, ◌<◌, ◌^◌, Bool, if◌then◌else◌, List, ◌∷◌, length, Option, Some, ◌⊎◌, slice_get}
 use Rattle.tcp_segment.specs.Wire.{past}
 
 -- a segment that went out with numbers of this direction, and how much was written when it did
@@ -73,7 +73,3 @@ abbrev pub IsKnown : Receiver → Frame → ℕ → ℕ → Type 0
 IsKnown r frame distance octet =
     (r.kept distance ≡ Some octet)
     ⊎ ((j : ℕ) × (slice_get frame.octets j ≡ Some octet) × (past (frame.number + j) r.rnext ≡ distance) × (distance < 2 ^ 31))
-
--- the later of two numbers, both at or past una
-abbrev pub later : ℕ → ℕ → ℕ → ℕ
-later una a b = if nat_le (past a una) (past b una) then b else a

@@ -1,7 +1,8 @@
 -- What may happen in a channel, one event at a time. Each free choice of a host or of the network is a step of its own.
 use Rattle.std.specs.Prelude.{◌≡◌, ℕ, ◌+◌, ◌-◌, ◌<◌, ◌≤◌, ◌%◌, ◌^◌, nat_lt, Bool, true, false, ◌||◌, if◌then◌else◌, List, [], ◌∷◌, ◌++◌, length, drop, Option, Some, None, slice_get}
 use Rattle.tcp_segment.specs.Wire.{past}
-use Rattle.stream_law.specs.Channel.{Frame, Ack, Sender, Receiver, Unopened, Open, Stopped, Waiting, Synchronised, Gone, Channel, IsAmong, IsRecent, IsKnown, number_of, later}
+use Rattle.tcp_state.specs.Numbers.{later_number}
+use Rattle.stream_law.specs.Channel.{Frame, Ack, Sender, Receiver, Unopened, Open, Stopped, Waiting, Synchronised, Gone, Channel, IsAmong, IsRecent, IsKnown, number_of}
 
 -- nothing has happened: neither host has opened the pair in this epoch
 abbrev pub fresh : Channel
@@ -63,7 +64,7 @@ pub data Step (cap limit : ℕ) : Channel → Channel → Type 0 where
   emits_text : (c : Channel) (s : Sender) (before octets after : List ℕ) (fin : Bool) → c.sending ≡ Open s → s.syn_acked ≡ true → s.fin_acked ≡ false
       → s.held ≡ (before ++ octets) ++ after → (fin ≡ true → (c.closed ≡ true) × (after ≡ []))
       → Step cap limit c (record c {
-        sending = Open (record s { nxt = later s.una s.nxt ((s.una + (length before + span octets fin)) % 2 ^ 32) });
+        sending = Open (record s { nxt = later_number s.una s.nxt ((s.una + (length before + span octets fin)) % 2 ^ 32) });
         frames = record { number = (s.una + length before) % 2 ^ 32; octets = octets; syn = false; fin = fin; written_at = length c.written } ∷ c.frames;
       })
   -- a segment without octets, SYN or FIN goes out at SND.NXT

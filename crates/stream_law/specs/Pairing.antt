@@ -1,6 +1,6 @@
 -- One pair of endpoints: what stands at each end, what the two callers did, and every segment without RST that ever went out between them.
 -- The network loses, repeats and reorders: any of them may arrive never, once or often, in any order, and a reset at any moment.
-use Rattle.std.specs.Prelude.{◌≡◌, ℕ, ◌+◌, ◌<◌, ◌≤◌, ◌^◌, Bool, true, false, List, [], ◌∷◌, ◌++◌, length, take, Some, is_some, Ok}
+use Rattle.std.specs.Prelude.{◌≡◌, ℕ, ◌+◌, ◌<◌, ◌≤◌, ◌^◌, Bool, true, false, List, [], ◌∷◌, ◌++◌, length, take, is_some, Ok}
 use Rattle.tcp_state.specs.declared.calls.Received.TheVariants.{EndOfStream}
 use Rattle.ipv4.specs.declared.addr.Endpoint.{Endpoint}
 use Rattle.tcp_segment.specs.Segment.{Segment}
@@ -12,7 +12,7 @@ use Rattle.tcp_state.specs.declared.moment.Moment.{Moment}
 use Rattle.tcp_state.specs.View.{View, IsSound, is_opening, is_write_closed, opened_actively}
 use Rattle.tcp_state.specs.Calls.{taken, after_send, moved, recv_answer, after_recv, after_shutdown}
 use Rattle.tcp_state.specs.Arrival.{opened_passively, after_segment, fate}
-use Rattle.tcp_state.specs.Due.{MayGoOut, first_due, flags_of, head_of, octets_of, after_emitted}
+use Rattle.tcp_state.specs.Due.{MayGoOut, flags_of, head_of, octets_of, after_emitted}
 use Rattle.stream_law.specs.Channel.{IsAmong}
 use Rattle.stream_law.specs.ChannelViews.{IsOfWidth, SameStream, Stops}
 use Rattle.stream_law.specs.Begins.{Begins}
@@ -90,8 +90,8 @@ pub data Move (limit : ℕ) : Pairing → Pairing → Type 0 where
   ends : (p : Pairing) (v : View) (len : ℕ) → p.own.connection ≡ Present v → v.released ≡ false → recv_answer v len ≡ Ok EndOfStream → Move limit p (record p { own = record p.own { ended = true } })
   -- the clock moves, or something else happens that changes nothing of the stream
   rests : (p : Pairing) (v w : View) → p.own.connection ≡ Present v → SameStream v w → Move limit p (with_connection p w)
-  -- the segment that is due first goes out; none with RST is among those
-  emits : (p : Pairing) (v : View) (due : Due) (now : Moment) → p.own.connection ≡ Present v → IsSound v → first_due v ≡ Some due → MayGoOut v due
+  -- a segment that may go out does, whichever and whenever; none with RST is among those
+  emits : (p : Pairing) (v : View) (due : Due) (now : Moment) → p.own.connection ≡ Present v → IsSound v → MayGoOut v due
       → (let f = flags_of v due in f.rst) ≡ false → IsOfWidth (sent (head_of v due) (octets_of v due))
       → Move limit p (record (with_connection p (after_emitted v due now)) {
         sent = record { segment = sent (head_of v due) (octets_of v due); own_written = length p.own.written; other_written = length p.other.written } ∷ p.sent;

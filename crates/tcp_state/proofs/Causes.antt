@@ -177,7 +177,7 @@ caused_by_opening v s e =
     let ends : ends_by_syn v s ≡ true = sym (ap (λ b. if b then ends_by_reset v s else ends_by_syn v s) no_rst) ∙ chosen in
     or_left (is_reset_by v s || (not s.flags.rst && ends_by_syn v s) || is_lost v s) (ends_by_ack v s) (or_left (is_reset_by v s || (not s.flags.rst && ends_by_syn v s)) (is_lost v s) (or_right (is_reset_by v s) (not s.flags.rst && ends_by_syn v s) (both (not s.flags.rst) (ends_by_syn v s) (of_false s.flags.rst no_rst) ends))))
 
-segment-cause : (v : View) (s : Segment) (now : Moment) → ends_by v (Hears s now) ≡ true → is_cause v (Hears s now) ≡ true
+pub segment-cause : (v : View) (s : Segment) (now : Moment) → ends_by v (Hears s now) ≡ true → is_cause v (Hears s now) ≡ true
 segment-cause v s now e =
     let C : Type 0 = (is_reset_by v s || (not s.flags.rst && ends_by_syn v s) || is_lost v s || ends_by_ack v s) ≡ true in
     by C (is_lost v s)

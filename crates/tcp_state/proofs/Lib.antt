@@ -5,3 +5,9 @@ pub mod Errors
 pub mod Unchanged
 pub mod Released
 pub mod SilentEnds
+pub mod Positions
+pub mod Resets
+pub mod Windows
+pub mod Onward
+pub mod Waiting
+pub mod Gains

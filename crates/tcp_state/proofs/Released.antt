@@ -18,7 +18,7 @@ use Rattle.tcp_state.proofs.Causes.{both, of_false}
 use Rattle.tcp_state.proofs.Unchanged.{clash}
 
 -- an acknowledgement leaves the receiving half
-unheard : (v : View) (ack : ℕ) → (after_ack v ack).receiving ≡ v.receiving
+pub unheard : (v : View) (ack : ℕ) → (after_ack v ack).receiving ≡ v.receiving
 unheard v ack =
     let P : View → Type 0 = λ w. w.receiving ≡ v.receiving in
     either View P (is_syn_received v.state) _ _
@@ -78,7 +78,7 @@ or_false true b e = cc
 or_false false true e = (refl, refl)
 or_false false false e = cc
 
-readable_by_fin : (w : View) (s : Segment) → (after_fin w s).receiving.readable ≡ w.receiving.readable
+pub readable_by_fin : (w : View) (s : Segment) → (after_fin w s).receiving.readable ≡ w.receiving.readable
 readable_by_fin w s = either View (λ x. x.receiving.readable ≡ w.receiving.readable) (counts_fin w s) _ w (λ counts. refl) (λ none. refl)
 
 -- what a segment has to be for its octets to matter

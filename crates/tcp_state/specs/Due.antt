@@ -7,8 +7,8 @@ use Rattle.tcp_state.specs.declared.emission.Due.{Due}
 use Rattle.tcp_state.specs.declared.emission.Due.TheVariants.{Rst, Syn, Text, Fin, Ack}
 use Rattle.tcp_state.specs.declared.moment.Moment.{Moment}
 use Rattle.tcp_state.specs.declared.connection.Resend.TheVariants.{At}
-use Rattle.tcp_state.specs.Stream.{outstanding, after_sent}
-use Rattle.tcp_state.specs.Windows.{sendable, free, after_told}
+use Rattle.tcp_state.specs.Stream.{outstanding, after_sent, receive_window}
+use Rattle.tcp_state.specs.Windows.{sendable, after_told}
 use Rattle.tcp_state.specs.View.{View, later, is_opening, is_syn_sent, is_syn_received, is_closed, is_due}
 use Rattle.tcp_state.specs.Arrival.{is_fin_next}
 
@@ -31,10 +31,10 @@ abbrev pub octets_of : View → Due → List ℕ
 octets_of v (Text count) = take count v.sending.held
 octets_of v _ = []
 
--- the free room, and none in a reset
+-- the window up to the edge that it tells, and none in a reset
 abbrev pub window_of : View → Due → ℕ
 window_of v Rst = 0
-window_of v _ = free v.receiving
+window_of v _ = receive_window (after_told v.receiving)
 
 -- the header: the acknowledgement is RCV.NXT
 abbrev pub head_of : View → Due → Head

@@ -18,3 +18,8 @@ pub record Receiving : Type 0 where
   pub readable : List ℕ
   pub rnext : ℕ
   pub edge : ℕ
+
+-- the octets that the two buffers of a connection have room for
+pub record Room : Type 0 where
+  pub send : ℕ
+  pub receive : ℕ

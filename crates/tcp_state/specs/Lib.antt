@@ -7,4 +7,5 @@ pub mod Calls
 pub mod Arrival
 pub mod Due
 pub mod Edges
+pub mod Positions
 pub mod Inside

@@ -2,7 +2,7 @@
 -- much the peer takes, or of what goes out first; later rules for those leave this page as it is.
 use Rattle.std.specs.Prelude.{ℕ, zero, suc, ◌+◌, ◌-◌, ◌%◌, ◌^◌, ◌≤◌, ◌==◌, ◌&&◌, ◌||◌, nat_lt, nat_le, Bool, if◌then◌else◌, List, [], ◌++◌, length, take, drop}
 use Rattle.tcp_segment.specs.Wire.{past}
-use Rattle.tcp_state.specs.Numbers.{is_before}
+use Rattle.tcp_state.specs.Numbers.{is_before, later_number}
 use Rattle.tcp_state.specs.declared.buffers.TheConstants.{CAPACITY}
 use Rattle.tcp_state.specs.Halves.{Sending, Receiving}
 
@@ -38,9 +38,9 @@ after_syn_acknowledged s = record s { una = s.nxt; wl2 = s.nxt }
 abbrev pub after_acknowledged : Sending → ℕ → Sending
 after_acknowledged s ack = record s { held = drop (past ack s.una) s.held; una = ack }
 
--- so many numbers went out from SND.UNA on
+-- so many numbers went out from SND.UNA on: SND.NXT is the later of what it was and the number after them
 abbrev pub after_sent : Sending → ℕ → Sending
-after_sent s count = record s { nxt = (s.una + count) % 2 ^ 32 }
+after_sent s count = record s { nxt = later_number s.una s.nxt ((s.una + count) % 2 ^ 32) }
 
 -- RCV.WND: what is told and not used up
 abbrev pub receive_window : Receiving → ℕ

@@ -182,7 +182,7 @@ most_outstanding v =
     if is_opening v.state || (awaits_fin_ack v.state && (length v.sending.held == 0)) then 1 else min (length v.sending.held) 1460
 
 -- What holds of every connection. While it opens, nothing is held or readable, and nothing is held once our FIN is acknowledged. At most
--- one segment is outstanding; its timer runs exactly while it is. An acknowledgement is owed once a SYN came, and none when all is closed.
+-- one segment is outstanding; its timer runs exactly while it is. A segment may have 64 octets at least, so that what is held can always go out. An acknowledgement is owed once a SYN came, and none when all is closed.
 -- An error is told, and a reset owed, only where all is closed; what its caller closed is closed on our side.
 pub record IsSound (v : View) : Type 0 where
   pub una : v.sending.una < 2 ^ 32
@@ -195,6 +195,7 @@ pub record IsSound (v : View) : Type 0 where
   pub timer : is_idle v.resend ≡ (outstanding v.sending == 0)
   pub connection : is_listening v.state ≡ false
   pub segment : v.sending.smss ≤ 1460
+  pub segment_least : 64 ≤ v.sending.smss
   pub ack : ((is_syn_sent v.state || is_closed v.state) && v.owes_ack) ≡ false
   pub error : (is_some v.told && not (is_closed v.state)) ≡ false
   pub reset : (v.owes_reset && not (is_closed v.state && v.released)) ≡ false

@@ -17,13 +17,14 @@ pub struct Buffers {
 }
 
 impl Model for Buffers {
-    ghost use Rattle.std.specs.Prelude.{◌≡◌, ◌≤◌, ℕ, []};
+    ghost use Rattle.std.specs.Prelude.{◌≡◌, ◌≤◌, []};
     ghost use Rattle.std.specs.Vec.{vec_capacity};
     ghost use Rattle.tcp_state.specs.declared.buffers.TheConstants.{CAPACITY};
+    ghost use Rattle.tcp_state.specs.Halves.{Room};
 
-    ghost Value = { ℕ };
+    ghost Value = { Room };
 
-    ghost view = { λ _. CAPACITY };
+    ghost view = { λ b. record { send = vec_capacity b.send; receive = vec_capacity b.receive } };
 
     ghost invariant = { λ b. (b.send.items ≡ []) × (CAPACITY ≤ vec_capacity b.send) × (b.receive.items ≡ []) × (CAPACITY ≤ vec_capacity b.receive) };
 }
@@ -31,7 +32,8 @@ impl Model for Buffers {
 impl Buffers {
     /// Two empty buffers of `CAPACITY` octets each. Fails only where memory is refused.
     pub fn new(alloc: Global) -> Result<Buffers, AllocError>
-        ensures { IfOk result (λ buffers. buffers ≡ CAPACITY) }
+        ensures send { IfOk result (λ buffers. buffers.send ≡ CAPACITY) }
+        ensures receive { IfOk result (λ buffers. buffers.receive ≡ CAPACITY) }
     {
         let send = Vec::with_capacity(alloc, CAPACITY)?;
         let receive = Vec::with_capacity(alloc, CAPACITY)?;

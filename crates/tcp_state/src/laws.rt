@@ -1,15 +1,19 @@
 //! Laws over the definitions alone: functions with nothing to do, whose contracts are the laws.
 
-ghost use Rattle.std.specs.Prelude.{◌≡◌, ℕ, ◌+◌, ◌<◌, ◌^◌, ◌⊎◌, ◌↔◌, ◌||◌, length, true, false, if◌then◌else◌, Some, None, is_some};
-ghost use Rattle.tcp_segment.specs.Segment.{Segment};
+ghost use Rattle.std.specs.Prelude.{◌≡◌, ℕ, ◌+◌, ◌-◌, ◌<◌, ◌≤◌, ◌==◌, nat_lt, ◌^◌, ◌⊎◌, ◌↔◌, ◌||◌, List, [], ◌++◌, slice_get, length, true, false, if◌then◌else◌, Some, None, is_some};
+ghost use Rattle.tcp_segment.specs.Segment.{Segment, span_of};
 ghost use Rattle.tcp_state.specs.declared.calls.Refusal.{Refusal};
 ghost use Rattle.tcp_state.specs.declared.moment.Moment.{Moment};
 ghost use Rattle.tcp_state.specs.declared.connection.Fate.{Fate};
 ghost use Rattle.tcp_state.specs.declared.emission.Due.{Due};
-ghost use Rattle.tcp_state.specs.View.{View, IsSound, is_closed, is_over, is_due, is_end_seen, is_reached, deadline, after_tick};
+ghost use Rattle.tcp_state.specs.View.{View, IsSound, is_closed, is_syn_sent, is_over, is_due, is_end_seen, is_reached, deadline, after_tick};
 ghost use Rattle.tcp_segment.specs.Wire.{wire, IsBefore};
 ghost use Rattle.tcp_state.specs.Numbers.{is_before};
-ghost use Rattle.tcp_state.specs.Arrival.{fate, after_segment_at};
+ghost use Rattle.tcp_state.specs.Halves.{Sending, Receiving};
+ghost use Rattle.tcp_state.specs.Stream.{gained};
+ghost use Rattle.tcp_state.specs.Windows.{tells_window};
+ghost use Rattle.tcp_state.specs.Positions.{ReceivesAt, IsNear, MeetsWindow, AreNear, NeverBack, HasNumber, HasToSend};
+ghost use Rattle.tcp_state.specs.Arrival.{fate, is_accepted, is_receiving, is_read, after_segment_at};
 ghost use Rattle.tcp_state.specs.Due.{first_due};
 ghost use Rattle.tcp_state.specs.Edges.{Event, after_event, state_after, IsEdge, ends_by, is_cause, may_tell};
 
@@ -69,4 +73,57 @@ pub fn closed_owes_a_reset_alone()
 pub fn released_takes_no_octets()
     ensures { (v : View) (s : Segment) (now : Moment) → IsSound v → v.released ≡ true → s.number < 2 ^ 32 → length s.octets < 2 ^ 16
         → (after_segment_at v s now).receiving.readable ≡ v.receiving.readable }
+{}
+
+/// Which segments are acceptable, by positions (RFC 9293 section 3.10.7.4, first): of those that take numbers the ones that meet the window told, from RCV.NXT
+/// up to its edge; of the others those at RCV.NXT and those in the window. What is not acceptable changes at most what is owed, and the wait of TIME-WAIT.
+pub fn acceptable_segments_meet_the_window()
+    ensures filled { (initial next edge first : ℕ) (v : View) (s : Segment) → ReceivesAt initial next edge v.receiving → s.number ≡ wire initial first → IsNear next first (span_of s)
+        → 0 < span_of s → (is_accepted v s ≡ true) ↔ MeetsWindow next edge first (span_of s) }
+    ensures empty { (initial next edge first : ℕ) (v : View) (s : Segment) → ReceivesAt initial next edge v.receiving → s.number ≡ wire initial first → IsNear next first 0
+        → span_of s ≡ 0 → (is_accepted v s ≡ true) ↔ ((first ≡ next) ⊎ ((next ≤ first) × (first < edge))) }
+    ensures others { (v : View) (s : Segment) (now : Moment) → is_syn_sent v.state ≡ false → is_accepted v s ≡ false
+        → after_segment_at v s now ≡ record v { owes_ack = (after_segment_at v s now).owes_ack; since = (after_segment_at v s now).since } }
+{}
+
+/// Which octets are gained, by positions (RFC 9293 section 3.10.7.4, seventh): where a segment begins at RCV.NXT or before it, its octets at RCV.NXT or past it
+/// and before the edge, each in its place, and else none. Nothing else of a segment can be read, and all of that where the segment is read to its octets.
+pub fn octets_in_the_window_are_gained()
+    ensures each { (initial next edge first position : ℕ) (r : Receiving) (octets : List ℕ) → ReceivesAt initial next edge r → first ≤ next → next < first + 2 ^ 31 → next ≤ position
+        → slice_get (gained r (wire initial first) octets) (position - next) ≡ (if nat_lt position edge then slice_get octets (position - first) else None) }
+    ensures gap { (initial next edge first : ℕ) (r : Receiving) (octets : List ℕ) → ReceivesAt initial next edge r → next < first → first < next + 2 ^ 31
+        → gained r (wire initial first) octets ≡ [] }
+    ensures alone { (v : View) (s : Segment) (now : Moment) → ((after_segment_at v s now).receiving.readable ≡ v.receiving.readable)
+        ⊎ ((after_segment_at v s now).receiving.readable ≡ v.receiving.readable ++ gained v.receiving s.number s.octets) }
+    ensures all { (v : View) (s : Segment) (now : Moment) → v.released ≡ false → is_receiving v.state ≡ true → is_read v s ≡ true
+        → (after_segment_at v s now).receiving.readable ≡ v.receiving.readable ++ gained v.receiving s.number s.octets }
+{}
+
+/// A reset acts only in SYN-SENT where it acknowledges all that was sent, and later only at RCV.NXT exactly; there any other draws at most an acknowledgement (RFC 9293
+/// sections 3.10.7.3, second, and 3.10.7.4, second).
+pub fn resets_act_at_the_next_number()
+    ensures opening { (v : View) (s : Segment) (now : Moment) → IsSound v → s.acknowledgement < 2 ^ 32 → is_syn_sent v.state ≡ true → s.flags.rst ≡ true → ends_by v (Event.Hears s now) ≡ true
+        → (s.flags.ack ≡ true) × (s.acknowledgement ≡ v.sending.nxt) }
+    ensures later { (v : View) (s : Segment) (now : Moment) → is_syn_sent v.state ≡ false → s.flags.rst ≡ true → ends_by v (Event.Hears s now) ≡ true
+        → s.number ≡ v.receiving.rnext }
+    ensures others { (v : View) (s : Segment) (now : Moment) → is_syn_sent v.state ≡ false → s.flags.rst ≡ true → (s.number == v.receiving.rnext) ≡ false
+        → after_segment_at v s now ≡ record v { owes_ack = (after_segment_at v s now).owes_ack } }
+{}
+
+/// A window is believed exactly from a segment that is no older than the one that told the last, by the position of its first number and then by that of its
+/// acknowledgement, and that acknowledges no less than is acknowledged (RFC 9293 section 3.10.7.4, fifth).
+pub fn no_older_window_is_believed()
+    ensures { (peer own una last latest number ack : ℕ) (s : Sending) → s.una ≡ wire own una → s.wl1 ≡ wire peer last → s.wl2 ≡ wire own latest
+        → AreNear ack una → AreNear last number → AreNear ack latest
+        → (tells_window s (wire peer number) (wire own ack) ≡ true) ↔ ((una ≤ ack) × ((last < number) ⊎ ((last ≡ number) × (latest ≤ ack)))) }
+{}
+
+/// SND.UNA, SND.NXT, RCV.NXT and the right edge of the window told never go back (RFC 9293 sections 3.4 and 3.8.6), whatever happens to a connection.
+pub fn numbers_never_go_back()
+    ensures { (v : View) (e : Event) → IsSound v → HasNumber e → NeverBack v (after_event v e) }
+{}
+
+/// While the peer's window is open, what is held and a FIN that is not acknowledged are due or have a deadline, and so has a SYN that is not acknowledged.
+pub fn what_waits_goes_out()
+    ensures { (v : View) → IsSound v → HasToSend v → (is_some (first_due v) || is_some (deadline v)) ≡ true }
 {}

@@ -172,10 +172,13 @@ impl Sender {
             .min(self.window as usize)
     }
 
-    /// So many numbers from the oldest unacknowledged one on went out.
+    /// So many numbers from the oldest unacknowledged one on went out: SND.NXT is the later of what it was and the number after them.
     pub(crate) fn sent(&mut self, count: u32)
         ensures { self.new ≡ after_sent self.old count }
     {
-        self.nxt = self.una + count;
+        let end = self.una + count;
+        if self.outstanding() <= end.past(self.una) {
+            self.nxt = end;
+        }
     }
 }

@@ -193,12 +193,12 @@ offset_fits : (b : Bool) → (if b then 6 else 5) ≤ 6
 offset_fits true = omega arith
 offset_fits false = omega arith
 
-window_fits : (v : View) (due : Due) → window_of v due < 2 ^ 16
-window_fits v Rst = omega arith
-window_fits v Syn = omega arith
-window_fits v (Text count) = omega arith
-window_fits v Fin = omega arith
-window_fits v Ack = omega arith
+window_fits : (v : View) (due : Due) → IsSound v → window_of v due < 2 ^ 16
+window_fits v Rst sound = omega arith
+window_fits v Syn sound = omega (arith, sound.rnext)
+window_fits v (Text count) sound = omega (arith, sound.rnext)
+window_fits v Fin sound = omega (arith, sound.rnext)
+window_fits v Ack sound = omega (arith, sound.rnext)
 
 fields_fit : (v : View) (due : Due) → IsSoundConnection v → FieldsFit (sent (head_of v due) (octets_of v due))
 fields_fit v due k = record {
@@ -206,7 +206,7 @@ fields_fit v due k = record {
   destination = k.peer.port;
   number = number_fits v due k.sound;
   acknowledgement = acknowledgement_fits (flags_of v due).ack v.receiving.rnext k.sound.rnext;
-  window = window_fits v due;
+  window = window_fits v due k.sound;
   urgent = omega arith;
 }
 

@@ -147,7 +147,7 @@ projects-sent limit hs ts a b own other n trace now f e c l due m unreset tallie
     subst (λ v. Meets limit (pairing v there_end (new ∷ h.out p0 e0) (h.arrived p0 e0))) (sym now_end)
     (here_moves (pairing (end_with (Present c) account) there_end (h.out p0 e0) (h.arrived p0 e0)) (pairing (end_with (Present w) account) there_end (new ∷ h.out p0 e0) (h.arrived p0 e0))
     (subst (λ v. Meets limit (pairing v there_end (h.out p0 e0) (h.arrived p0 e0))) own_end (h.meets p0 e0))
-    (emits (pairing (end_with (Present c) account) there_end (h.out p0 e0) (h.arrived p0 e0)) c due now refl solid.sound m.first may unreset (due-width c due solid may))) in
+    (emits (pairing (end_with (Present c) account) there_end (h.out p0 e0) (h.arrived p0 e0)) c due now refl solid.sound may unreset (due-width c due solid may))) in
     record {
       opposite = h.opposite;
       back = h.back;

@@ -1,0 +1,147 @@
+-- Why a reset acts only at RCV.NXT, and a segment that is not acceptable changes nothing.
+use Rattle.std.proofs.Common.{◌≡◌, ◌^◌, ◌<◌, ◌≤◌, ◌==◌, ◌||◌, ◌&&◌, not, min, nat_lt, if◌then◌else◌, Bool, true, false, length, inl, inr, arith, refl, ◌∙◌, ap, subst}
+use Rattle.std.proofs.lemmas.Bool.{eqb-true, ltb-true, leb-true}
+use Rattle.tcp_segment.specs.Wire.{past}
+use Rattle.tcp_segment.specs.Segment.{Segment}
+use Rattle.tcp_state.specs.declared.moment.Moment.{Moment}
+use Rattle.tcp_state.specs.declared.state.State.{State}
+use Rattle.tcp_state.specs.declared.state.State.TheVariants.{SynSent, FinWait2, TimeWait}
+use Rattle.tcp_state.specs.Stream.{outstanding, is_new_ack, is_in_window}
+use Rattle.tcp_state.specs.View.{View, IsSound, is_opening, is_syn_sent, is_closed, is_time_wait}
+use Rattle.tcp_state.specs.Arrival.{owing_ack, is_accepted, is_acting_reset, is_fin_next, is_read, is_lost, after_lost, ends_by_syn, after_refusal, after_rst, after_syn_ack, after_accepted, after_segment, begins_wait, repeats_fin, after_segment_at, after_heard}
+use Rattle.tcp_state.specs.Edges.{Hears, is_reset_by, ends_by, ends_by_ack}
+use Rattle.tcp_state.proofs.Edges.{either, and_left, and_right}
+use Rattle.tcp_state.proofs.Causes.{or_else, not_true, by, segment-cause}
+use Rattle.tcp_state.proofs.Unchanged.{clash}
+
+-- a segment that is read has no RST
+pub read_is_no_rst : (v : View) (s : Segment) → is_read v s ≡ true → s.flags.rst ≡ false
+read_is_no_rst v s e =
+    let acks = and_left (not s.flags.rst && is_accepted v s && not s.flags.syn && s.flags.ack) _ e in
+    let plain = and_left (not s.flags.rst && is_accepted v s && not s.flags.syn) s.flags.ack acks in
+    let accepted = and_left (not s.flags.rst && is_accepted v s) (not s.flags.syn) plain in
+    not_true s.flags.rst (and_left (not s.flags.rst) (is_accepted v s) accepted)
+
+pub read_is_accepted : (v : View) (s : Segment) → is_read v s ≡ true → is_accepted v s ≡ true
+read_is_accepted v s e =
+    let acks = and_left (not s.flags.rst && is_accepted v s && not s.flags.syn && s.flags.ack) _ e in
+    let plain = and_left (not s.flags.rst && is_accepted v s && not s.flags.syn) s.flags.ack acks in
+    let accepted = and_left (not s.flags.rst && is_accepted v s) (not s.flags.syn) plain in
+    and_right (not s.flags.rst) (is_accepted v s) accepted
+
+pub lost_is_read : (v : View) (s : Segment) → is_lost v s ≡ true → is_read v s ≡ true
+lost_is_read v s e = and_right _ (is_read v s) (and_left _ _ e)
+
+-- a segment with RST that ends a connection is a reset that acts
+reset_by : (v : View) (s : Segment) (now : Moment) → s.flags.rst ≡ true → ends_by v (Hears s now) ≡ true → is_reset_by v s ≡ true
+reset_by v s now rst e =
+    elim (or_else (is_reset_by v s || (not s.flags.rst && ends_by_syn v s) || is_lost v s) (ends_by_ack v s) (segment-cause v s now e)) [
+      | inl three ↦ elim (or_else (is_reset_by v s || (not s.flags.rst && ends_by_syn v s)) (is_lost v s) three) [
+        | inl two ↦ elim (or_else (is_reset_by v s) (not s.flags.rst && ends_by_syn v s) two) [
+          | inl acts ↦ acts
+          | inr syn ↦ clash s.flags.rst rst (not_true s.flags.rst (and_left (not s.flags.rst) (ends_by_syn v s) syn))
+        ]
+        | inr lost ↦ clash s.flags.rst rst (read_is_no_rst v s (lost_is_read v s lost))
+      ]
+      | inr ack ↦ clash s.flags.rst rst (read_is_no_rst v s (and_right _ (is_read v s) (and_left _ (is_new_ack v.sending s.acknowledgement) (and_left _ (is_fin_next v) ack))))
+    ]
+
+chosen_else : (t a b : Bool) → t ≡ false → (if t then a else b) ≡ true → b ≡ true
+chosen_else true a b e f = cc
+chosen_else false a b e f = f
+
+chosen_then : (t a b : Bool) → t ≡ true → (if t then a else b) ≡ true → a ≡ true
+chosen_then true a b e f = f
+chosen_then false a b e f = cc
+
+pub acts_at_rnext : (v : View) (s : Segment) (now : Moment) → is_syn_sent v.state ≡ false → s.flags.rst ≡ true → ends_by v (Hears s now) ≡ true → s.number ≡ v.receiving.rnext
+acts_at_rnext v s now past_opening rst e =
+    let chosen = and_right s.flags.rst _ (reset_by v s now rst e) in
+    let acts : is_acting_reset v s ≡ true = chosen_else (is_syn_sent v.state) (s.flags.ack && is_new_ack v.sending s.acknowledgement) (is_acting_reset v s) past_opening chosen in
+    eqb-true s.number v.receiving.rnext (and_right (is_accepted v s) (s.number == v.receiving.rnext) acts)
+
+syn_sent_opens : (t : State) → is_syn_sent t ≡ true → is_opening t ≡ true
+syn_sent_opens SynSent e = refl
+syn_sent_opens _ e = cc
+
+pub acts_at_nxt : (v : View) (s : Segment) (now : Moment) → IsSound v → s.acknowledgement < 2 ^ 32 → is_syn_sent v.state ≡ true → s.flags.rst ≡ true → ends_by v (Hears s now) ≡ true
+    → (s.flags.ack ≡ true) × (s.acknowledgement ≡ v.sending.nxt)
+acts_at_nxt v s now sound fits waits rst e =
+    let chosen = and_right s.flags.rst _ (reset_by v s now rst e) in
+    let acts = chosen_then (is_syn_sent v.state) (s.flags.ack && is_new_ack v.sending s.acknowledgement) (is_acting_reset v s) waits chosen in
+    let new = and_right s.flags.ack (is_new_ack v.sending s.acknowledgement) acts in
+    let one : outstanding v.sending ≤ 1 = subst (λ b. outstanding v.sending ≤ (if b || is_fin_next v then 1 else min (length v.sending.held) 1460)) (syn_sent_opens v.state waits) sound.flight in
+    let some : 0 < past s.acknowledgement v.sending.una = ltb-true 0 (past s.acknowledgement v.sending.una) (and_left (nat_lt 0 (past s.acknowledgement v.sending.una)) _ new) in
+    let most : past s.acknowledgement v.sending.una ≤ outstanding v.sending = leb-true (past s.acknowledgement v.sending.una) (outstanding v.sending) (and_right (nat_lt 0 (past s.acknowledgement v.sending.una)) _ new) in
+    (and_left s.flags.ack (is_new_ack v.sending s.acknowledgement) acts, omega (arith, one, some, most, fits, sound.una, sound.nxt))
+
+-- no wait begins where the state stays
+begins_none : (t : State) → begins_wait t t ≡ false
+begins_none FinWait2 = refl
+begins_none TimeWait = refl
+begins_none _ = refl
+
+-- what changes nothing but what is owed
+abbrev Owing : View → View → Type 0
+Owing v w = w ≡ record v { owes_ack = w.owes_ack }
+
+unaccepted_segment : (v : View) (s : Segment) → is_syn_sent v.state ≡ false → is_accepted v s ≡ false → Owing v (after_segment v s)
+unaccepted_segment v s past_opening refused =
+    let P : View → Type 0 = λ w. Owing v w in
+    either View P (is_closed v.state) v _
+    (λ closed. refl)
+    (λ lives. either View P s.flags.rst _ _
+    (λ rst. either View P (is_syn_sent v.state) (after_refusal v s) (after_rst v s)
+    (λ waits. clash (is_syn_sent v.state) waits past_opening)
+    (λ past. either View P (is_acting_reset v s) _ _
+    (λ acts. clash (is_accepted v s) (and_left (is_accepted v s) (s.number == v.receiving.rnext) acts) refused)
+    (λ elsewhere. either View P (is_in_window v.receiving s.number) (owing_ack v) v (λ drawn. refl) (λ dropped. refl))))
+    (λ no_rst. either View P (is_syn_sent v.state) (after_syn_ack v s) _
+    (λ waits. clash (is_syn_sent v.state) waits past_opening)
+    (λ past. either View P (is_accepted v s) (after_accepted v s) (owing_ack v)
+    (λ accepted. clash (is_accepted v s) accepted refused)
+    (λ unaccepted. refl))))
+
+pub unaccepted_changes : (v : View) (s : Segment) (now : Moment) → is_syn_sent v.state ≡ false → is_accepted v s ≡ false
+    → after_segment_at v s now ≡ record v { owes_ack = (after_segment_at v s now).owes_ack; since = (after_segment_at v s now).since }
+unaccepted_changes v s now past_opening refused =
+    let same : Owing v (after_heard v s) = either View (λ w. Owing v w) (is_lost v s) (after_lost v s) (after_segment v s)
+    (λ lost. clash (is_accepted v s) (read_is_accepted v s (lost_is_read v s lost)) refused)
+    (λ kept. unaccepted_segment v s past_opening refused) in
+    ap (λ (w : View). record w { since = (after_segment_at v s now).since }) same
+
+-- an RST whose number is not RCV.NXT
+elsewhere_segment : (v : View) (s : Segment) → is_syn_sent v.state ≡ false → s.flags.rst ≡ true → (s.number == v.receiving.rnext) ≡ false → Owing v (after_segment v s)
+elsewhere_segment v s past_opening rst apart =
+    let P : View → Type 0 = λ w. Owing v w in
+    either View P (is_closed v.state) v _
+    (λ closed. refl)
+    (λ lives. either View P s.flags.rst _ _
+    (λ is_rst. either View P (is_syn_sent v.state) (after_refusal v s) (after_rst v s)
+    (λ waits. clash (is_syn_sent v.state) waits past_opening)
+    (λ past. either View P (is_acting_reset v s) _ _
+    (λ acts. clash (s.number == v.receiving.rnext) (and_right (is_accepted v s) (s.number == v.receiving.rnext) acts) apart)
+    (λ stays. either View P (is_in_window v.receiving s.number) (owing_ack v) v (λ drawn. refl) (λ dropped. refl))))
+    (λ no_rst. clash s.flags.rst rst no_rst))
+
+repeats_no_rst : (v : View) (s : Segment) → s.flags.rst ≡ true → repeats_fin v s ≡ false
+repeats_no_rst v s rst =
+    by (repeats_fin v s ≡ false) (repeats_fin v s)
+    (λ repeats. clash s.flags.rst rst
+    (not_true s.flags.rst (and_right (is_time_wait v.state) (not s.flags.rst) (and_left (is_time_wait v.state && not s.flags.rst) (not (is_accepted v s)) (and_left (is_time_wait v.state && not s.flags.rst && not (is_accepted v s)) s.flags.fin
+    (and_left (is_time_wait v.state && not s.flags.rst && not (is_accepted v s) && s.flags.fin) _ repeats))))))
+    (λ none. none)
+
+no_wait : (v w : View) (now : Moment) (repeats : Bool) → repeats ≡ false → Owing v w → (if repeats || begins_wait v.state w.state then now else w.since) ≡ w.since
+no_wait v w now repeats none same =
+    let begins : begins_wait v.state w.state ≡ false = ap (λ (x : View). begins_wait v.state x.state) same ∙ begins_none v.state in
+    ap (λ b. if b || begins_wait v.state w.state then now else w.since) none ∙ ap (λ b. if b then now else w.since) begins
+
+pub elsewhere_changes : (v : View) (s : Segment) (now : Moment) → is_syn_sent v.state ≡ false → s.flags.rst ≡ true → (s.number == v.receiving.rnext) ≡ false
+    → after_segment_at v s now ≡ record v { owes_ack = (after_segment_at v s now).owes_ack }
+elsewhere_changes v s now past_opening rst apart =
+    let w = after_heard v s in
+    let same : Owing v w = either View (λ x. Owing v x) (is_lost v s) (after_lost v s) (after_segment v s)
+    (λ lost. clash s.flags.rst rst (read_is_no_rst v s (lost_is_read v s lost)))
+    (λ kept. elsewhere_segment v s past_opening rst apart) in
+    ap (λ (n : Moment). record w { since = n }) (no_wait v w now (repeats_fin v s) (repeats_no_rst v s rst) same) ∙ same

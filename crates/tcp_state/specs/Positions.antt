@@ -1,0 +1,51 @@
+-- The halves of a connection by positions in their streams (RFC 9293 sections 3.4, 3.8.6 and 3.10.7.4): what the tests by sequence number stand
+-- for. A position is a whole number without bound, and `wire initial position` is its sequence number.
+use Rattle.std.specs.Prelude.{◌≡◌, ℕ, ◌+◌, ◌<◌, ◌≤◌, ◌^◌, ◌⊎◌, false, true, length, ⊤}
+use Rattle.tcp_segment.specs.Wire.{wire}
+use Rattle.tcp_state.specs.Halves.{Receiving}
+use Rattle.tcp_state.specs.View.{View, is_opening, is_syn_sent, awaits_fin_ack}
+use Rattle.tcp_state.specs.Edges.{Event, Hears}
+
+-- RCV.NXT is the number of one position, and the window that is told reaches up to another
+pub record ReceivesAt (initial next edge : ℕ) (r : Receiving) : Type 0 where
+  pub next_number : r.rnext ≡ wire initial next
+  pub edge_number : r.edge ≡ wire initial edge
+  pub order : next ≤ edge
+  pub near : edge < next + 2 ^ 31
+
+-- so many positions from the first on are less than 2^31 away from `next`, so that their numbers tell their order
+pub record IsNear (next first len : ℕ) : Type 0 where
+  pub behind : next < first + 2 ^ 31
+  pub ahead : first + len < next + 2 ^ 31
+
+-- One of so many positions from the first on lies in the window, from RCV.NXT up to the edge, and they do not reach out of it at both ends: the
+-- table of section 3.10.7.4 asks for the first of them or for the last.
+pub record MeetsWindow (next edge first len : ℕ) : Type 0 where
+  pub common : (p : ℕ) × (first ≤ p) × (p < first + len) × (next ≤ p) × (p < edge)
+  pub within : (next ≤ first) ⊎ (first + len ≤ edge)
+
+-- two positions are less than 2^31 apart, so that their numbers tell their order
+pub record AreNear (p q : ℕ) : Type 0 where
+  pub one : p < q + 2 ^ 31
+  pub other : q < p + 2 ^ 31
+
+-- at whatever position the one number stands, the other stands there or less than 2^31 further on
+abbrev pub GoesOn : ℕ → ℕ → Type 0
+GoesOn before after = (initial position : ℕ) → before ≡ wire initial position → (further : ℕ) × (further < 2 ^ 31) × (after ≡ wire initial (position + further))
+
+-- No number that the halves keep of their streams goes back. Those of the peer's stream begin with its SYN, which the connection that its caller opened
+-- has not heard in SYN-SENT.
+pub record NeverBack (v w : View) : Type 0 where
+  pub una : GoesOn v.sending.una w.sending.una
+  pub nxt : GoesOn v.sending.nxt w.sending.nxt
+  pub rnext : is_syn_sent v.state ≡ false → GoesOn v.receiving.rnext w.receiving.rnext
+  pub edge : is_syn_sent v.state ≡ false → GoesOn v.receiving.edge w.receiving.edge
+
+-- the acknowledgement field of a segment that comes has 32 bits
+abbrev pub HasNumber : Event → Type 0
+HasNumber (Hears s now) = s.acknowledgement < 2 ^ 32
+HasNumber _ = ⊤
+
+-- something waits to be acknowledged, and may go out: the SYN; or octets that are held or the FIN behind them, while the peer's window is open
+abbrev pub HasToSend : View → Type 0
+HasToSend v = (is_opening v.state ≡ true) ⊎ ((0 < v.sending.window) × ((0 < length v.sending.held) ⊎ (awaits_fin_ack v.state ≡ true)))
