@@ -16,11 +16,11 @@ passed_on (Ok x) f is = absurd is
 passed_on (Err e) f is = ap Err is
 
 -- what a bad script is told as
-pub told_as : (fault : ScriptFault) (o : Option ℕ) → (fault ≡ script.NoMemory) ⊎ IsSomeAnd o (λ n. fault ≡ script.Line n) →
+pub passed_as : (fault : ScriptFault) (o : Option ℕ) → (fault ≡ script.NoMemory) ⊎ IsSomeAnd o (λ n. fault ≡ script.Line n) →
     (fault_by fault ≡ NoMemory) ⊎ IsSomeAnd o (λ n. fault_by fault ≡ Line n)
-told_as fault o (inl memory) = inl (ap fault_by memory)
-told_as fault None (inr bad) = absurd bad
-told_as fault (Some n) (inr bad) = inr (ap fault_by bad)
+passed_as fault o (inl memory) = inl (ap fault_by memory)
+passed_as fault None (inr bad) = absurd bad
+passed_as fault (Some n) (inr bad) = inr (ap fault_by bad)
 
 -- what speaks against octets that are not too many
 fault_of_short : (octets : List ℕ) → length octets ≤ 1000000 → fault_of octets ≡ option_map Line (first_bad_line octets)
