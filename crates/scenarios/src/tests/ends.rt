@@ -75,7 +75,7 @@ pub(super) enum Act {
 }
 
 /// What an act tells.
-#[derive(Clone, Copy, Debug, PartialEq)]
+#[derive(Clone, Copy, PartialEq)]
 pub(super) enum Told {
     /// It is done.
     Done,
@@ -284,10 +284,9 @@ impl Ends {
     /// Does each step of a part in turn, which tells what it is to tell.
     fn play(&mut self, rt: &impl Abort, name: &str, part: usize, steps: &[Step]) {
         for (index, (side, act, want)) in steps.iter().enumerate() {
-            let told = self.act(*side, *act);
             assert!(rt;
-                told == *want,
-                "{name}: part {part}, step {index} tells {told:?}"
+                self.act(*side, *act) == *want,
+                "{name}: part {part}, step {index}"
             );
         }
     }

@@ -13,7 +13,7 @@ use wire_sim::Unfair;
 fn prints<T: Display>(rt: &impl Abort, alloc: Global, rows: &[(T, &str)]) -> Result<(), Fail> {
     for (value, want) in rows {
         let text = format!(in alloc; "{value}")?;
-        assert_eq!(rt; text.as_str(), *want);
+        assert!(rt; text.as_str() == *want, "{text} in place of {want}");
     }
     Ok(())
 }
@@ -57,8 +57,6 @@ fn texts_are_those_of_the_documents(rt: HostRuntime) -> Result<(), Fail> {
 #[test]
 fn refusals_have_their_numbers(rt: HostRuntime) {
     assert_eq!(rt; DropCause::NoRoom.number(), 9);
-    assert_eq!(rt;
-        Config::new(Addr([127, 0, 0, 1])).err(),
-        Some(Refusal::EINVAL)
-    );
+    let loopback = Config::new(Addr([127, 0, 0, 1]));
+    assert!(rt; matches!(loopback, Err(Refusal::EINVAL)));
 }

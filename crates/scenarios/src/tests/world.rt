@@ -102,16 +102,16 @@ fn add_events(alloc: Global, events: &mut Vec<Event>) -> Result<(), AllocError> 
     Ok(())
 }
 
-/// Gives each event in turn to the world, whose outcome is to be the one beside it.
+/// Gives each event of the table in turn to the world, whose outcome is to be the one beside it.
 fn steps(
     rt: &impl Abort,
+    alloc: Global,
     world: &mut World,
-    events: &[Event],
     outcomes: &[Result<Answer, Unfair>],
 ) -> Result<(), AllocError> {
-    assert_eq!(rt; outcomes.len(), events.len());
-    for (index, (event, outcome)) in events.iter().zip(outcomes.iter()).enumerate() {
-        let event = event.clone()?;
+    assert_eq!(rt; outcomes.len(), ACTS.len());
+    for (index, ((side, act), outcome)) in ACTS.iter().zip(outcomes.iter()).enumerate() {
+        let event = event(alloc, *side, *act)?;
         assert!(rt; world.step(event) == *outcome, "event {index}");
     }
     Ok(())
@@ -119,10 +119,14 @@ fn steps(
 
 /// No frame of that index was there, and in the end five octets are read.
 fn first_and_last(rt: &impl Abort, outcomes: &[Result<Answer, Unfair>]) {
-    assert!(rt; matches!(outcomes.first(), Some(Err(Unfair::NoSuchFrame))));
-    match outcomes.last() {
-        Some(Ok(Answer::Octets(octets))) => assert_eq!(rt; octets.as_slice(), b"hello".as_slice()),
-        _ => panic!(rt; "no octets are read"),
+    match outcomes {
+        [Err(Unfair::NoSuchFrame), .., Ok(Answer::Octets(octets))] => {
+            assert!(rt;
+                octets.as_slice() == b"hello".as_slice(),
+                "other octets are read"
+            );
+        }
+        _ => panic!(rt; "the first or the last outcome is another"),
     }
 }
 
@@ -134,11 +138,11 @@ fn compare(
     single: &mut World,
 ) -> Result<(), Fail> {
     let mut events = Vec::new(alloc);
-    let mut outcomes = Vec::new(alloc);
     add_events(alloc, &mut events)?;
+    let mut outcomes = Vec::new(alloc);
     together.run(events.as_slice(), &mut outcomes)?;
     first_and_last(rt, outcomes.as_slice());
-    steps(rt, single, events.as_slice(), outcomes.as_slice())?;
+    steps(rt, alloc, single, outcomes.as_slice())?;
     assert!(rt; together.trace() == single.trace());
     assert!(rt; together.openings() == single.openings());
     Ok(())
