@@ -1,6 +1,11 @@
 //! Tables of steps, and the harnesses that play them.
 
-mod connection;
-mod hosts;
+mod closing;
+mod ends;
 mod names;
+mod opening;
+mod resets;
+mod segments;
+mod sockets;
+mod stations;
 mod world;

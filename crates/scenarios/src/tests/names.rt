@@ -1,53 +1,62 @@
-//! The names of states, and the numbers of refusals.
+//! The names of states, and the texts of refusals.
 
 use host::{Config, DropCause, Refusal};
 use ipv4::Addr;
+use std::alloc::Global;
+use std::fmt::Display;
+use std::process::Abort;
 use std::test::Fail;
 use tcp_state::State;
 use wire_sim::Unfair;
 
-#[test]
-fn states_have_the_names_of_the_rfc(rt: HostRuntime) -> Result<(), Fail> {
-    let rows = [
-        (State::Closed, "CLOSED"),
-        (State::Listen, "LISTEN"),
-        (State::SynSent, "SYN-SENT"),
-        (State::SynReceived, "SYN-RECEIVED"),
-        (State::Established, "ESTABLISHED"),
-        (State::FinWait1, "FIN-WAIT-1"),
-        (State::FinWait2, "FIN-WAIT-2"),
-        (State::CloseWait, "CLOSE-WAIT"),
-        (State::Closing, "CLOSING"),
-        (State::LastAck, "LAST-ACK"),
-        (State::TimeWait, "TIME-WAIT"),
-    ];
-    for (state, name) in rows {
-        assert_eq!(rt; state.to_string(rt.alloc())?.as_str(), name);
+/// Each value is printed as the text beside it.
+fn prints<T: Display>(rt: &impl Abort, alloc: Global, rows: &[(T, &str)]) -> Result<(), Fail> {
+    for (value, want) in rows {
+        let text = format!(in alloc; "{value}")?;
+        assert!(rt; text.as_str() == *want, "{text} in place of {want}");
     }
     Ok(())
 }
 
+const STATES: &[(State, &str)] = &[
+    (State::Closed, "CLOSED"),
+    (State::Listen, "LISTEN"),
+    (State::SynSent, "SYN-SENT"),
+    (State::SynReceived, "SYN-RECEIVED"),
+    (State::Established, "ESTABLISHED"),
+    (State::FinWait1, "FIN-WAIT-1"),
+    (State::FinWait2, "FIN-WAIT-2"),
+    (State::CloseWait, "CLOSE-WAIT"),
+    (State::Closing, "CLOSING"),
+    (State::LastAck, "LAST-ACK"),
+    (State::TimeWait, "TIME-WAIT"),
+];
+
+const REFUSALS: &[(Refusal, &str)] = &[
+    (Refusal::EAGAIN, "E8 EAGAIN"),
+    (Refusal::EDESTADDRREQ, "E18 EDESTADDRREQ"),
+];
+
+const UNFAIR: &[(Unfair, &str)] = &[
+    (Unfair::NoSuchFrame, "U1 NoSuchFrame"),
+    (Unfair::Stale, "U2 Stale"),
+    (Unfair::OtherEpoch, "U3 OtherEpoch"),
+    (Unfair::SecondOpening, "U4 SecondOpening"),
+    (Unfair::NoMemory, "U5 NoMemory"),
+];
+
 #[test]
-fn refusals_have_their_numbers(rt: HostRuntime) -> Result<(), Fail> {
-    let text = format!(in rt.alloc();
-        "{} {} {}, {} {} {} {} {}",
-        Refusal::EAGAIN,
-        Refusal::EDESTADDRREQ,
-        DropCause::NoRoom,
-        Unfair::NoSuchFrame,
-        Unfair::Stale,
-        Unfair::OtherEpoch,
-        Unfair::SecondOpening,
-        Unfair::NoMemory
-    )?;
-    assert_eq!(rt;
-        text.as_str(),
-        "E8 EAGAIN E18 EDESTADDRREQ F9 NoRoom, U1 NoSuchFrame U2 Stale U3 OtherEpoch U4 SecondOpening U5 NoMemory"
-    );
+fn texts_are_those_of_the_documents(rt: HostRuntime) -> Result<(), Fail> {
+    let alloc = rt.alloc();
+    prints(&rt, alloc, STATES)?;
+    prints(&rt, alloc, REFUSALS)?;
+    prints(&rt, alloc, &[(DropCause::NoRoom, "F9 NoRoom")])?;
+    prints(&rt, alloc, UNFAIR)
+}
+
+#[test]
+fn refusals_have_their_numbers(rt: HostRuntime) {
     assert_eq!(rt; DropCause::NoRoom.number(), 9);
-    assert_eq!(rt;
-        Config::new(Addr([127, 0, 0, 1])).err(),
-        Some(Refusal::EINVAL)
-    );
-    Ok(())
+    let loopback = Config::new(Addr([127, 0, 0, 1]));
+    assert!(rt; matches!(loopback, Err(Refusal::EINVAL)));
 }

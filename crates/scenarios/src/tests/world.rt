@@ -94,26 +94,57 @@ fn event(alloc: Global, side: Side, act: Act) -> Result<Event, AllocError> {
     Ok(Event::Call(side, call))
 }
 
-/// The events of the table.
-fn events(alloc: Global) -> Result<Vec<Event>, AllocError> {
-    let mut events = Vec::new(alloc);
+/// Adds the events of the table.
+fn add_events(alloc: Global, events: &mut Vec<Event>) -> Result<(), AllocError> {
     for (side, act) in ACTS {
         events.push(event(alloc, *side, *act)?)?;
     }
-    Ok(events)
+    Ok(())
 }
 
-/// Gives each event in turn to the world, whose outcome is to be the one beside it.
+/// Gives each event of the table in turn to the world, whose outcome is to be the one beside it.
 fn steps(
     rt: &impl Abort,
+    alloc: Global,
     world: &mut World,
-    events: &[Event],
     outcomes: &[Result<Answer, Unfair>],
-) -> Result<(), Fail> {
-    assert_eq!(rt; outcomes.len(), events.len());
-    for (event, outcome) in events.iter().zip(outcomes.iter()) {
-        assert!(rt; world.step(event.clone()?) == *outcome, "{event:?}");
+) -> Result<(), AllocError> {
+    assert_eq!(rt; outcomes.len(), ACTS.len());
+    for (index, ((side, act), outcome)) in ACTS.iter().zip(outcomes.iter()).enumerate() {
+        let event = event(alloc, *side, *act)?;
+        assert!(rt; world.step(event) == *outcome, "event {index}");
     }
+    Ok(())
+}
+
+/// No frame of that index was there, and in the end five octets are read.
+fn first_and_last(rt: &impl Abort, outcomes: &[Result<Answer, Unfair>]) {
+    match outcomes {
+        [Err(Unfair::NoSuchFrame), .., Ok(Answer::Octets(octets))] => {
+            assert!(rt;
+                octets.as_slice() == b"hello".as_slice(),
+                "other octets are read"
+            );
+        }
+        _ => panic!(rt; "the first or the last outcome is another"),
+    }
+}
+
+/// A run in one world is what its steps are in another.
+fn compare(
+    rt: &impl Abort,
+    alloc: Global,
+    together: &mut World,
+    single: &mut World,
+) -> Result<(), Fail> {
+    let mut events = Vec::new(alloc);
+    add_events(alloc, &mut events)?;
+    let mut outcomes = Vec::new(alloc);
+    together.run(events.as_slice(), &mut outcomes)?;
+    first_and_last(rt, outcomes.as_slice());
+    steps(rt, alloc, single, outcomes.as_slice())?;
+    assert!(rt; together.trace() == single.trace());
+    assert!(rt; together.openings() == single.openings());
     Ok(())
 }
 
@@ -121,16 +152,7 @@ fn steps(
 fn run_is_step_by_step(rt: HostRuntime) -> Result<(), Fail> {
     let alloc = rt.alloc();
     let (a, b) = (Config::new(AT_A)?, Config::new(AT_B)?);
-    let events = events(alloc)?;
-    let mut together = World::with_limit(alloc, a, b, 1 << 30)?;
-    let mut outcomes = Vec::new(alloc);
-    together.run(events.as_slice(), &mut outcomes)?;
-    let hello = Answer::Octets(Vec::from_slice(alloc, b"hello")?);
-    assert!(rt; outcomes.first() == Some(&Err(Unfair::NoSuchFrame)));
-    assert!(rt; outcomes.last() == Some(&Ok(hello)));
-    let mut single = World::new(alloc, a, b)?;
-    steps(&rt, &mut single, events.as_slice(), outcomes.as_slice())?;
-    assert_eq!(rt; together.trace(), single.trace());
-    assert_eq!(rt; together.openings(), single.openings());
-    Ok(())
+    let mut together = World::with_limit(alloc, a, b, 1 << 30).expect(&rt, "memory for a world");
+    let mut single = World::new(alloc, a, b).expect(&rt, "memory for a world");
+    compare(&rt, alloc, &mut together, &mut single)
 }

@@ -1,8 +1,8 @@
 //! Resets, heard and sent.
 
 use super::ends::Side::{A, B};
-use super::ends::{Act, HANDSHAKE, RST, STAYS, SYN, Scenario, Step, Told, plays};
-use std::test::Fail;
+use super::ends::Start::{Called, Open};
+use super::ends::{Act, RST, STAYS, SYN, Scenario, Step, Told, plays};
 use tcp_state::{Due, Fate, Refusal, State};
 
 /// A goes on, and acknowledges what it heard.
@@ -21,7 +21,6 @@ const IGNORED: &[Step] = &[
 
 /// B's next number is 8, and A's window ends before 65543.
 const OTHER_NUMBERS: &[&[Step]] = &[
-    HANDSHAKE,
     &[(A, Act::Hear(9, 0, RST, 0), STAYS)],
     ANSWERED,
     &[(A, Act::Hear(7, 0, RST, 0), STAYS)],
@@ -93,23 +92,26 @@ const ABORTED_AGAIN: &[Step] = &[(A, Act::Abort, Told::Becomes(Fate::Removed))];
 const CLOSED_UNHEARD: &[Step] = &[(A, Act::Close(0), Told::Becomes(Fate::Removed))];
 
 const SCENARIOS: &[Scenario] = &[
-    ("a reset acts at the next number alone", OTHER_NUMBERS),
-    ("unread octets reset", &[HANDSHAKE, UNREAD, reset!(B, 8, A)]),
+    ("a reset acts at the next number alone", Open, OTHER_NUMBERS),
+    ("unread octets reset", Open, &[UNREAD, reset!(B, 8, A)]),
     (
         "octets after close reset",
-        &[HANDSHAKE, AFTER_CLOSE, reset!(A, 1, B)],
+        Open,
+        &[AFTER_CLOSE, reset!(A, 1, B)],
     ),
     (
         "an abort resets at the next number",
-        &[HANDSHAKE, ABORTED, reset!(A, 5, B), ABORTED_AGAIN],
+        Open,
+        &[ABORTED, reset!(A, 5, B), ABORTED_AGAIN],
     ),
     (
         "a close before the SYN is out is not heard of",
+        Called,
         &[CLOSED_UNHEARD],
     ),
 ];
 
 #[test]
-fn connections_are_reset(rt: HostRuntime) -> Result<(), Fail> {
-    plays(&rt, rt.alloc(), SCENARIOS)
+fn connections_are_reset(rt: HostRuntime) {
+    plays(&rt, rt.alloc(), SCENARIOS);
 }

@@ -1,8 +1,8 @@
 //! Connections that close, and the waits that end them.
 
 use super::ends::Side::{A, B};
-use super::ends::{Act, HANDSHAKE, STAYS, Scenario, Step, Told, plays};
-use std::test::Fail;
+use super::ends::Start::Open;
+use super::ends::{Act, STAYS, Scenario, Step, Told, plays};
 use tcp_state::{Fate, Moment, Received, Refusal, State};
 
 /// A closes its side behind its octets.
@@ -107,23 +107,26 @@ const LATER_STATE: &[Step] = &[
 ];
 
 const SCENARIOS: &[Scenario] = &[
-    ("both sides close", &[HANDSHAKE, FIRST_SIDE, SECOND_SIDE]),
-    ("both sides close at once", &[HANDSHAKE, BOTH_SIDES]),
+    ("both sides close", Open, &[FIRST_SIDE, SECOND_SIDE]),
+    ("both sides close at once", Open, &[BOTH_SIDES]),
     (
         "callers close both ends",
-        &[HANDSHAKE, FIRST_CALLER, SECOND_CALLER],
+        Open,
+        &[FIRST_CALLER, SECOND_CALLER],
     ),
     (
         "FIN-WAIT-2 ends by the clock after close alone",
-        &[HANDSHAKE, WAITS_A_MINUTE],
+        Open,
+        &[WAITS_A_MINUTE],
     ),
     (
         "a wait begins with the later of close and state",
-        &[HANDSHAKE, LATER_STATE],
+        Open,
+        &[LATER_STATE],
     ),
 ];
 
 #[test]
-fn connections_close(rt: HostRuntime) -> Result<(), Fail> {
-    plays(&rt, rt.alloc(), SCENARIOS)
+fn connections_close(rt: HostRuntime) {
+    plays(&rt, rt.alloc(), SCENARIOS);
 }

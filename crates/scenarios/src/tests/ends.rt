@@ -3,7 +3,6 @@
 use ipv4::{Addr, Endpoint};
 use std::alloc::Global;
 use std::process::Abort;
-use std::test::Fail;
 use tcp_segment::{Flags, Head, Seq, TcpView};
 use tcp_state::{Buffers, Connection, Due, FRAME, Fate, Moment, Received, Refusal, State};
 
@@ -76,7 +75,7 @@ pub(super) enum Act {
 }
 
 /// What an act tells.
-#[derive(Clone, Copy, Debug, PartialEq)]
+#[derive(Clone, Copy, PartialEq)]
 pub(super) enum Told {
     /// It is done.
     Done,
@@ -128,8 +127,17 @@ pub(super) const STAYS: Told = Told::Becomes(Fate::Stays);
 /// What is done at an end, and what that is to tell.
 pub(super) type Step = (Side, Act, Told);
 
-/// A name, and the steps of a connection from its first call on, part after part.
-pub(super) type Scenario = (&'static str, &'static [&'static [Step]]);
+/// How far a connection is when a scenario begins.
+#[derive(Clone, Copy)]
+pub(super) enum Start {
+    /// A calls, and B has its SYN before it ever went out.
+    Called,
+    /// The hands are shaken.
+    Open,
+}
+
+/// A name, where the scenario begins, and its steps from there on, part after part.
+pub(super) type Scenario = (&'static str, Start, &'static [&'static [Step]]);
 
 /// One end, the segment that it sent last, and the buffer that its caller read into.
 #[derive(Drop)]
@@ -248,6 +256,11 @@ impl End {
     }
 }
 
+/// The buffers of one end.
+fn buffers(rt: &impl Abort, alloc: Global) -> Buffers {
+    Buffers::new(alloc).expect(rt, "memory for two buffers")
+}
+
 /// The two ends of a connection.
 #[derive(Drop)]
 struct Ends {
@@ -257,22 +270,22 @@ struct Ends {
 
 impl Ends {
     /// A calls, and its SYN has reached B.
-    fn new(alloc: Global) -> Result<Ends, Fail> {
-        let a = Connection::active(Buffers::new(alloc)?, CALLER, LISTENER, Seq(4_294_967_295));
-        let syn = TcpView::parse(CALLER.addr, LISTENER.addr, &SYN_SEGMENT)?;
-        let b = Connection::passive(Buffers::new(alloc)?, LISTENER, CALLER, Seq(7), &syn);
-        Ok(Ends {
+    fn new(rt: &impl Abort, alloc: Global) -> Ends {
+        let (ours, theirs) = (buffers(rt, alloc), buffers(rt, alloc));
+        let syn = TcpView::parse(CALLER.addr, LISTENER.addr, &SYN_SEGMENT).expect(rt, "a segment");
+        let a = Connection::active(ours, CALLER, LISTENER, Seq(4_294_967_295));
+        let b = Connection::passive(theirs, LISTENER, CALLER, Seq(7), &syn);
+        Ends {
             a: End::new(a),
             b: End::new(b),
-        })
+        }
     }
 
     /// Does each step of a part in turn, which tells what it is to tell.
     fn play(&mut self, rt: &impl Abort, name: &str, part: usize, steps: &[Step]) {
-        for (index, (side, act, told)) in steps.iter().enumerate() {
-            assert_eq!(rt;
-                self.act(*side, *act),
-                *told,
+        for (index, (side, act, want)) in steps.iter().enumerate() {
+            assert!(rt;
+                self.act(*side, *act) == *want,
                 "{name}: part {part}, step {index}"
             );
         }
@@ -323,7 +336,7 @@ fn pass(from: &mut End, to: &mut End, now: u64) -> Told {
 }
 
 /// A's SYN goes out, and B's SYN and A's acknowledgement pass.
-pub(super) const HANDSHAKE: &[Step] = &[
+const HANDSHAKE: &[Step] = &[
     (Side::A, Act::Emit(0), Told::Length(24)),
     (Side::A, Act::HasSent(&SYN_SEGMENT), Told::Is(true)),
     (Side::B, Act::Pass(0), STAYS),
@@ -331,12 +344,14 @@ pub(super) const HANDSHAKE: &[Step] = &[
 ];
 
 /// Plays each scenario with two ends of its own.
-pub(super) fn plays(rt: &impl Abort, alloc: Global, scenarios: &[Scenario]) -> Result<(), Fail> {
-    for (name, parts) in scenarios {
-        let mut ends = Ends::new(alloc)?;
+pub(super) fn plays(rt: &impl Abort, alloc: Global, scenarios: &[Scenario]) {
+    for (name, start, parts) in scenarios {
+        let mut ends = Ends::new(rt, alloc);
+        if let Start::Open = start {
+            ends.play(rt, "the handshake", 0, HANDSHAKE);
+        }
         for (part, steps) in parts.iter().enumerate() {
             ends.play(rt, name, part, steps);
         }
     }
-    Ok(())
 }

@@ -1,8 +1,8 @@
 //! Connections that open, and what goes out again.
 
 use super::ends::Side::{A, B};
-use super::ends::{ACK, Act, HANDSHAKE, STAYS, SYN_SEGMENT, Scenario, Step, Told, plays};
-use std::test::Fail;
+use super::ends::Start::{Called, Open};
+use super::ends::{ACK, Act, STAYS, SYN_SEGMENT, Scenario, Step, Told, plays};
 use tcp_state::{Due, Fate, Moment, Received, Refusal, State};
 
 /// The segment that carries `hello` from A to B after the handshake.
@@ -60,22 +60,25 @@ const OLD_WINDOW: &[Step] = &[
 ];
 
 const SCENARIOS: &[Scenario] = &[
-    ("hands shake and octets arrive", &[HANDSHAKE, OCTETS]),
+    ("hands shake and octets arrive", Open, &[OCTETS]),
     (
         "what is outstanding goes again after a second",
+        Called,
         &[SYN_AGAIN],
     ),
     (
         "a wrong acknowledgement of a SYN is refused",
+        Called,
         &[WRONG_ACKNOWLEDGEMENTS],
     ),
     (
         "an old acknowledgement tells no window",
-        &[HANDSHAKE, OLD_WINDOW],
+        Open,
+        &[OLD_WINDOW],
     ),
 ];
 
 #[test]
-fn connections_open(rt: HostRuntime) -> Result<(), Fail> {
-    plays(&rt, rt.alloc(), SCENARIOS)
+fn connections_open(rt: HostRuntime) {
+    plays(&rt, rt.alloc(), SCENARIOS);
 }
