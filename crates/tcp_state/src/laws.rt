@@ -99,13 +99,16 @@ pub fn octets_in_the_window_are_gained()
         → (after_segment_at v s now).receiving.readable ≡ v.receiving.readable ++ gained v.receiving s.number s.octets }
 {}
 
-/// A reset acts only in SYN-SENT where it acknowledges all that was sent, and later only at RCV.NXT exactly; there any other draws at most an acknowledgement (RFC 9293
+/// A reset acts only in SYN-SENT where it acknowledges all that was sent, and later only at RCV.NXT exactly, where one without octets always acts; any other changes
+/// at most that an acknowledgement is owed (RFC 9293
 /// sections 3.10.7.3, second, and 3.10.7.4, second).
 pub fn resets_act_at_the_next_number()
     ensures opening { (v : View) (s : Segment) (now : Moment) → IsSound v → s.acknowledgement < 2 ^ 32 → is_syn_sent v.state ≡ true → s.flags.rst ≡ true → ends_by v (Event.Hears s now) ≡ true
         → (s.flags.ack ≡ true) × (s.acknowledgement ≡ v.sending.nxt) }
     ensures later { (v : View) (s : Segment) (now : Moment) → is_syn_sent v.state ≡ false → s.flags.rst ≡ true → ends_by v (Event.Hears s now) ≡ true
         → s.number ≡ v.receiving.rnext }
+    ensures acts { (v : View) (s : Segment) (now : Moment) → IsSound v → is_syn_sent v.state ≡ false → is_closed v.state ≡ false → s.flags.rst ≡ true
+        → s.number ≡ v.receiving.rnext → span_of s ≡ 0 → ends_by v (Event.Hears s now) ≡ true }
     ensures others { (v : View) (s : Segment) (now : Moment) → is_syn_sent v.state ≡ false → s.flags.rst ≡ true → (s.number == v.receiving.rnext) ≡ false
         → after_segment_at v s now ≡ record v { owes_ack = (after_segment_at v s now).owes_ack } }
 {}
