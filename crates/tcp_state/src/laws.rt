@@ -13,7 +13,7 @@ ghost use Rattle.tcp_state.specs.Halves.{Sending, Receiving};
 ghost use Rattle.tcp_state.specs.Stream.{gained};
 ghost use Rattle.tcp_state.specs.Windows.{tells_window};
 ghost use Rattle.tcp_state.specs.Positions.{ReceivesAt, IsNear, MeetsWindow, AreNear, NeverBack, HasNumber, HasToSend};
-ghost use Rattle.tcp_state.specs.Arrival.{fate, is_accepted, is_receiving, is_read, after_segment_at};
+ghost use Rattle.tcp_state.specs.Arrival.{fate, is_accepted, is_receiving, is_read, after_ack, after_segment_at};
 ghost use Rattle.tcp_state.specs.Due.{first_due};
 ghost use Rattle.tcp_state.specs.Edges.{Event, after_event, state_after, IsEdge, ends_by, is_cause, may_tell};
 
@@ -114,11 +114,16 @@ pub fn resets_act_at_the_next_number()
 {}
 
 /// A window is believed exactly from a segment that is no older than the one that told the last, by the position of its first number and then by that of its
-/// acknowledgement, and that acknowledges no less than is acknowledged (RFC 9293 section 3.10.7.4, fifth).
+/// acknowledgement, and that acknowledges no less than is acknowledged (RFC 9293 section 3.10.7.4, fifth); but for the SYN that opens a connection, no segment
+/// changes it otherwise.
 pub fn no_older_window_is_believed()
-    ensures { (peer own una last latest number ack : ℕ) (s : Sending) → s.una ≡ wire own una → s.wl1 ≡ wire peer last → s.wl2 ≡ wire own latest
+    ensures test { (peer own una last latest number ack : ℕ) (s : Sending) → s.una ≡ wire own una → s.wl1 ≡ wire peer last → s.wl2 ≡ wire own latest
         → AreNear ack una → AreNear last number → AreNear ack latest
         → (tells_window s (wire peer number) (wire own ack) ≡ true) ↔ ((una ≤ ack) × ((last < number) ⊎ ((last ≡ number) × (latest ≤ ack)))) }
+    ensures alone { (v : View) (s : Segment) (now : Moment)
+        → (((after_segment_at v s now).sending.window ≡ v.sending.window) × ((after_segment_at v s now).sending.wl1 ≡ v.sending.wl1))
+        ⊎ (((after_segment_at v s now).sending.window ≡ s.window) × ((after_segment_at v s now).sending.wl1 ≡ s.number)
+        × ((is_syn_sent v.state ≡ true) ⊎ ((tells_window (after_ack v s.acknowledgement).sending s.number s.acknowledgement ≡ true) × ((after_segment_at v s now).sending.wl2 ≡ s.acknowledgement)))) }
 {}
 
 /// SND.UNA, SND.NXT, RCV.NXT and the right edge of the window told never go back (RFC 9293 sections 3.4 and 3.8.6), whatever happens to a connection.
