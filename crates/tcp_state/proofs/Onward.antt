@@ -138,10 +138,10 @@ advanced_fin r w s small a =
     (λ none. a)
 
 -- octets and a FIN leave the sending half
-text_sends : (w : View) (s : Segment) → (after_text w s).sending ≡ w.sending
+pub text_sends : (w : View) (s : Segment) → (after_text w s).sending ≡ w.sending
 text_sends w s = either View (λ x. x.sending ≡ w.sending) ((length s.octets == 0) || not (is_receiving w.state)) w _ (λ none. refl) (λ some. refl)
 
-fin_sends : (w : View) (s : Segment) → (after_fin w s).sending ≡ w.sending
+pub fin_sends : (w : View) (s : Segment) → (after_fin w s).sending ≡ w.sending
 fin_sends w s = either View (λ x. x.sending ≡ w.sending) (counts_fin w s) _ w (λ counts. refl) (λ none. refl)
 
 heard : (v w : View) → IsSound v → GoesOn v.sending.una w.sending.una → w.sending.nxt ≡ v.sending.nxt → Advances v.receiving w.receiving → NeverBack v w

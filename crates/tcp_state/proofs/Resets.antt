@@ -1,17 +1,20 @@
 -- Why a reset acts only at RCV.NXT, and a segment that is not acceptable changes nothing.
-use Rattle.std.proofs.Common.{◌≡◌, ◌^◌, ◌<◌, ◌≤◌, ◌==◌, ◌||◌, ◌&&◌, not, min, nat_lt, if◌then◌else◌, Bool, true, false, length, inl, inr, arith, refl, ◌∙◌, ap, subst}
-use Rattle.std.proofs.lemmas.Bool.{eqb-true, ltb-true, leb-true}
+use Rattle.std.proofs.Common.{◌≡◌, ℕ, ◌^◌, ◌<◌, ◌≤◌, ◌==◌, ◌||◌, ◌&&◌, not, min, nat_lt, if◌then◌else◌, Bool, true, false, length, inl, inr, arith, refl, ◌∙◌, ap, subst}
+use Rattle.std.proofs.lemmas.Bool.{eqb-true, ltb-true, leb-true, lt-ltb, eq-eqb}
+use Rattle.std.proofs.lemmas.Bool.Decides.{eqb_tells}
 use Rattle.tcp_segment.specs.Wire.{past}
-use Rattle.tcp_segment.specs.Segment.{Segment}
+use Rattle.tcp_segment.specs.Segment.{Segment, span_of}
 use Rattle.tcp_state.specs.declared.moment.Moment.{Moment}
+use Rattle.tcp_state.specs.declared.connection.Fate.TheVariants.{Stays, Removed, Refused}
 use Rattle.tcp_state.specs.declared.state.State.{State}
 use Rattle.tcp_state.specs.declared.state.State.TheVariants.{SynSent, FinWait2, TimeWait}
-use Rattle.tcp_state.specs.Stream.{outstanding, is_new_ack, is_in_window}
-use Rattle.tcp_state.specs.View.{View, IsSound, is_opening, is_syn_sent, is_closed, is_time_wait}
-use Rattle.tcp_state.specs.Arrival.{owing_ack, is_accepted, is_acting_reset, is_fin_next, is_read, is_lost, after_lost, ends_by_syn, after_refusal, after_rst, after_syn_ack, after_accepted, after_segment, begins_wait, repeats_fin, after_segment_at, after_heard}
-use Rattle.tcp_state.specs.Edges.{Hears, is_reset_by, ends_by, ends_by_ack}
+use Rattle.tcp_state.specs.Halves.{Receiving}
+use Rattle.tcp_state.specs.Stream.{outstanding, is_new_ack, is_in_window, receive_window, is_acceptable}
+use Rattle.tcp_state.specs.View.{View, IsSound, is_opening, is_syn_sent, is_closed, is_over, is_time_wait}
+use Rattle.tcp_state.specs.Arrival.{owing_ack, is_accepted, is_acting_reset, is_fin_next, is_read, is_lost, after_lost, ends_by_syn, ends_by_reset, ends_opening, acknowledges_unsent, is_refused, after_reset, reset_error, after_refusal, after_rst, after_syn_ack, after_accepted, after_segment, begins_wait, repeats_fin, after_segment_at, after_heard}
+use Rattle.tcp_state.specs.Edges.{Hears, after_event, fate_by, is_removed, is_reset_by, ends_by, ends_by_ack}
 use Rattle.tcp_state.proofs.Edges.{either, and_left, and_right}
-use Rattle.tcp_state.proofs.Causes.{or_else, not_true, by, segment-cause}
+use Rattle.tcp_state.proofs.Causes.{both, or_left, or_right, or_else, not_true, of_false, by, segment-cause}
 use Rattle.tcp_state.proofs.Unchanged.{clash}
 
 -- a segment that is read has no RST
@@ -145,3 +148,65 @@ elsewhere_changes v s now past_opening rst apart =
     (λ lost. clash s.flags.rst rst (read_is_no_rst v s (lost_is_read v s lost)))
     (λ kept. elsewhere_segment v s past_opening rst apart) in
     ap (λ (n : Moment). record w { since = n }) (no_wait v w now (repeats_fin v s) (repeats_no_rst v s rst) same) ∙ same
+
+-- A reset at RCV.NXT that takes no numbers acts.
+
+next_accepted : (r : Receiving) (number span : ℕ) → r.rnext < 2 ^ 32 → number ≡ r.rnext → span ≡ 0 → is_acceptable r number span ≡ true
+next_accepted r number span small same none =
+    let window = receive_window r in
+    ap (is_acceptable r number) none
+    ∙ elim (eqb_tells window 0) [
+      | inl shut ↦ ap (λ b. if b then number == r.rnext else is_in_window r number) shut.0 ∙ eq-eqb number r.rnext same
+      | inr open_yet ↦
+          let here : past number r.rnext ≡ 0 = omega (arith, small, same) in
+          ap (λ b. if b then number == r.rnext else is_in_window r number) open_yet.0 ∙ lt-ltb (past number r.rnext) window (omega (arith, here, open_yet.1))
+    ]
+
+taken_out : (closed lost over refused opening : Bool) → closed ≡ false → lost ≡ false → refused ≡ false → opening ≡ true
+    → is_removed (if closed || lost then Stays else if over then Removed else if refused then Refused else if opening then Removed else Stays) ≡ true
+taken_out false false true refused opening a b c d = refl
+taken_out false false false false true a b c d = refl
+taken_out true lost over refused opening a b c d = cc
+taken_out false true over refused opening a b c d = cc
+taken_out false false false true opening a b c d = cc
+taken_out false false false false false a b c d = cc
+
+rst_not_lost : (v : View) (s : Segment) → s.flags.rst ≡ true → is_lost v s ≡ false
+rst_not_lost v s rst = by (is_lost v s ≡ false) (is_lost v s) (λ lost. clash s.flags.rst rst (read_is_no_rst v s (lost_is_read v s lost))) (λ kept. kept)
+
+rst_not_refused : (v : View) (s : Segment) → s.flags.rst ≡ true → is_refused v s ≡ false
+rst_not_refused v s rst =
+    by (is_refused v s ≡ false) (is_refused v s)
+    (λ refused. clash s.flags.rst rst
+    (not_true s.flags.rst (and_left (not s.flags.rst) s.flags.ack (and_left (not s.flags.rst && s.flags.ack) (not (is_new_ack v.sending s.acknowledgement)) (and_left (acknowledges_unsent v s) _ refused)))))
+    (λ none. none)
+
+closed_by_reset : (v : View) (s : Segment) → is_closed v.state ≡ false → is_syn_sent v.state ≡ false → s.flags.rst ≡ true → is_acting_reset v s ≡ true → ends_by_reset v s ≡ false
+    → is_closed (after_segment v s).state ≡ true
+closed_by_reset v s lives past_opening rst acts kept =
+    let P : View → Type 0 = λ w. is_closed w.state ≡ true in
+    either View P (is_closed v.state) v _
+    (λ closed. closed)
+    (λ open_yet. either View P s.flags.rst _ _
+    (λ is_rst. either View P (is_syn_sent v.state) (after_refusal v s) (after_rst v s)
+    (λ waits. clash (is_syn_sent v.state) waits past_opening)
+    (λ past. either View P (is_acting_reset v s) _ _
+    (λ acting. either View P (ends_by_reset v s) v (after_reset v (reset_error v.state)) (λ removed. clash (ends_by_reset v s) removed kept) (λ reset. refl))
+    (λ stays. clash (is_acting_reset v s) acts stays)))
+    (λ no_rst. clash s.flags.rst rst no_rst))
+
+pub next_acts : (v : View) (s : Segment) (now : Moment) → IsSound v → is_syn_sent v.state ≡ false → is_closed v.state ≡ false → s.flags.rst ≡ true → s.number ≡ v.receiving.rnext → span_of s ≡ 0
+    → ends_by v (Hears s now) ≡ true
+next_acts v s now sound past_opening lives rst same none =
+    let accepted : is_accepted v s ≡ true = next_accepted v.receiving s.number (span_of s) sound.rnext same none in
+    let acts : is_acting_reset v s ≡ true = both (is_accepted v s) (s.number == v.receiving.rnext) accepted (eq-eqb s.number v.receiving.rnext same) in
+    let kept = rst_not_lost v s rst in
+    let out = is_removed (fate_by v (Hears s now)) in
+    let closes = not (is_closed v.state) && is_closed (after_event v (Hears s now)).state in
+    by (ends_by v (Hears s now) ≡ true) (ends_by_reset v s)
+    (λ removes.
+    let opening : ends_opening v s ≡ true = both (not (is_syn_sent v.state)) _ (of_false (is_syn_sent v.state) past_opening) (ap (λ b. if b then ends_by_reset v s else ends_by_syn v s) rst ∙ removes) in
+    or_left out closes (taken_out (is_closed v.state) (is_lost v s) (is_over (after_segment v s)) (is_refused v s) (ends_opening v s) lives kept (rst_not_refused v s rst) opening))
+    (λ stays.
+    let heard : (after_heard v s).state ≡ (after_segment v s).state = ap (λ b. (if b then after_lost v s else after_segment v s).state) kept in
+    or_right out closes (both (not (is_closed v.state)) _ (of_false (is_closed v.state) lives) (ap is_closed heard ∙ closed_by_reset v s lives past_opening rst acts stays)))

@@ -1,7 +1,9 @@
 -- The halves of a connection by positions in their streams (RFC 9293 sections 3.4, 3.8.6 and 3.10.7.4): what the tests by sequence number stand
 -- for. A position is a whole number without bound, and `wire initial position` is its sequence number.
-use Rattle.std.specs.Prelude.{◌≡◌, ℕ, ◌+◌, ◌<◌, ◌≤◌, ◌^◌, ◌⊎◌, false, true, length, ⊤}
+use Rattle.std.specs.Prelude.{◌≡◌, ℕ, ◌+◌, ◌<◌, ◌≤◌, ◌^◌, ◌⊎◌, Bool, false, true, length, Option, Some, ⊤}
 use Rattle.tcp_segment.specs.Wire.{wire}
+use Rattle.tcp_state.specs.declared.emission.Due.{Due}
+use Rattle.tcp_state.specs.declared.emission.Due.TheVariants.{Syn, Text, Fin}
 use Rattle.tcp_state.specs.Halves.{Receiving}
 use Rattle.tcp_state.specs.View.{View, is_opening, is_syn_sent, awaits_fin_ack}
 use Rattle.tcp_state.specs.Edges.{Event, Hears}
@@ -49,3 +51,10 @@ HasNumber _ = ⊤
 -- something waits to be acknowledged, and may go out: the SYN; or octets that are held or the FIN behind them, while the peer's window is open
 abbrev pub HasToSend : View → Type 0
 HasToSend v = (is_opening v.state ≡ true) ⊎ ((0 < v.sending.window) × ((0 < length v.sending.held) ⊎ (awaits_fin_ack v.state ≡ true)))
+
+-- a SYN, octets or a FIN are due, and not a reset or an acknowledgement alone
+abbrev pub takes_numbers : Option Due → Bool
+takes_numbers (Some Syn) = true
+takes_numbers (Some (Text count)) = true
+takes_numbers (Some Fin) = true
+takes_numbers _ = false

@@ -12,8 +12,8 @@ ghost use Rattle.tcp_state.specs.Numbers.{is_before};
 ghost use Rattle.tcp_state.specs.Halves.{Sending, Receiving};
 ghost use Rattle.tcp_state.specs.Stream.{gained};
 ghost use Rattle.tcp_state.specs.Windows.{tells_window};
-ghost use Rattle.tcp_state.specs.Positions.{ReceivesAt, IsNear, MeetsWindow, AreNear, NeverBack, HasNumber, HasToSend};
-ghost use Rattle.tcp_state.specs.Arrival.{fate, is_accepted, is_receiving, is_read, after_segment_at};
+ghost use Rattle.tcp_state.specs.Positions.{ReceivesAt, IsNear, MeetsWindow, AreNear, NeverBack, HasNumber, HasToSend, takes_numbers};
+ghost use Rattle.tcp_state.specs.Arrival.{fate, is_accepted, is_receiving, is_read, after_ack, after_segment_at};
 ghost use Rattle.tcp_state.specs.Due.{first_due};
 ghost use Rattle.tcp_state.specs.Edges.{Event, after_event, state_after, IsEdge, ends_by, is_cause, may_tell};
 
@@ -99,23 +99,30 @@ pub fn octets_in_the_window_are_gained()
         → (after_segment_at v s now).receiving.readable ≡ v.receiving.readable ++ gained v.receiving s.number s.octets }
 {}
 
-/// A reset acts only in SYN-SENT where it acknowledges all that was sent, and later only at RCV.NXT exactly; there any other draws at most an acknowledgement (RFC 9293
-/// sections 3.10.7.3, second, and 3.10.7.4, second).
+/// A reset acts only in SYN-SENT where it acknowledges all that was sent, and later only at RCV.NXT exactly, where one without octets always acts; any
+/// other changes at most that an acknowledgement is owed (RFC 9293 sections 3.10.7.3, second, and 3.10.7.4, second).
 pub fn resets_act_at_the_next_number()
     ensures opening { (v : View) (s : Segment) (now : Moment) → IsSound v → s.acknowledgement < 2 ^ 32 → is_syn_sent v.state ≡ true → s.flags.rst ≡ true → ends_by v (Event.Hears s now) ≡ true
         → (s.flags.ack ≡ true) × (s.acknowledgement ≡ v.sending.nxt) }
     ensures later { (v : View) (s : Segment) (now : Moment) → is_syn_sent v.state ≡ false → s.flags.rst ≡ true → ends_by v (Event.Hears s now) ≡ true
         → s.number ≡ v.receiving.rnext }
+    ensures acts { (v : View) (s : Segment) (now : Moment) → IsSound v → is_syn_sent v.state ≡ false → is_closed v.state ≡ false → s.flags.rst ≡ true
+        → s.number ≡ v.receiving.rnext → span_of s ≡ 0 → ends_by v (Event.Hears s now) ≡ true }
     ensures others { (v : View) (s : Segment) (now : Moment) → is_syn_sent v.state ≡ false → s.flags.rst ≡ true → (s.number == v.receiving.rnext) ≡ false
         → after_segment_at v s now ≡ record v { owes_ack = (after_segment_at v s now).owes_ack } }
 {}
 
 /// A window is believed exactly from a segment that is no older than the one that told the last, by the position of its first number and then by that of its
-/// acknowledgement, and that acknowledges no less than is acknowledged (RFC 9293 section 3.10.7.4, fifth).
+/// acknowledgement, and that acknowledges no less than is acknowledged (RFC 9293 section 3.10.7.4, fifth); but for the SYN that opens a connection, no segment
+/// changes it otherwise.
 pub fn no_older_window_is_believed()
-    ensures { (peer own una last latest number ack : ℕ) (s : Sending) → s.una ≡ wire own una → s.wl1 ≡ wire peer last → s.wl2 ≡ wire own latest
+    ensures test { (peer own una last latest number ack : ℕ) (s : Sending) → s.una ≡ wire own una → s.wl1 ≡ wire peer last → s.wl2 ≡ wire own latest
         → AreNear ack una → AreNear last number → AreNear ack latest
         → (tells_window s (wire peer number) (wire own ack) ≡ true) ↔ ((una ≤ ack) × ((last < number) ⊎ ((last ≡ number) × (latest ≤ ack)))) }
+    ensures alone { (v : View) (s : Segment) (now : Moment)
+        → (((after_segment_at v s now).sending.window ≡ v.sending.window) × ((after_segment_at v s now).sending.wl1 ≡ v.sending.wl1))
+        ⊎ (((after_segment_at v s now).sending.window ≡ s.window) × ((after_segment_at v s now).sending.wl1 ≡ s.number)
+        × ((is_syn_sent v.state ≡ true) ⊎ ((tells_window (after_ack v s.acknowledgement).sending s.number s.acknowledgement ≡ true) × ((after_segment_at v s now).sending.wl2 ≡ s.acknowledgement)))) }
 {}
 
 /// SND.UNA, SND.NXT, RCV.NXT and the right edge of the window told never go back (RFC 9293 sections 3.4 and 3.8.6), whatever happens to a connection.
@@ -123,7 +130,8 @@ pub fn numbers_never_go_back()
     ensures { (v : View) (e : Event) → IsSound v → HasNumber e → NeverBack v (after_event v e) }
 {}
 
-/// While the peer's window is open, what is held and a FIN that is not acknowledged are due or have a deadline, and so has a SYN that is not acknowledged.
+/// While the peer's window is open, and octets are held or our FIN is not acknowledged, a segment that takes numbers is due, or there is a deadline; so it is
+/// whatever the window while our SYN is not acknowledged.
 pub fn what_waits_goes_out()
-    ensures { (v : View) → IsSound v → HasToSend v → (is_some (first_due v) || is_some (deadline v)) ≡ true }
+    ensures { (v : View) → IsSound v → HasToSend v → (takes_numbers (first_due v) || is_some (deadline v)) ≡ true }
 {}

@@ -1,5 +1,5 @@
-use Rattle.tcp_state.proofs.Windows.{told_by_positions}
+use Rattle.tcp_state.proofs.Windows.{told_by_positions, believes}
 use Rattle.tcp_state.proofs.laws.no_older_window_is_believed.Goals as goal
 
 pub returns : goal.returns
-returns c = told_by_positions
+returns c = record { test = told_by_positions; alone = believes }
