@@ -89,3 +89,7 @@ read_err octets each none = by_tests (nat_lt (length octets) 28) (starts_with na
 -- there is one fault
 pub is_fault : (fault : ArpFault) → fault ≡ UpperHeader
 is_fault UpperHeader = refl
+
+-- octets of which nothing is read spell no packet
+pub unread : (octets : List ℕ) → packet_in octets ≡ None → IsParsed octets (Err UpperHeader)
+unread octets none p spells = let no : None ≡ Some p = sym none ∙ read_ok octets p spells in cc

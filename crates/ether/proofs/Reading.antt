@@ -1,5 +1,5 @@
 -- The plain reading of octets finds the frame that they spell.
-use Rattle.std.proofs.Common.{◌≡◌, ℕ, ◌^◌, ◌<◌, ◌≤◌, true, false, nat_lt, cond, List, [], ◌∷◌, length, All, Option, Some, None, Result, Ok, Err, arith, refl, sym, ◌∙◌, ap, subst, ⊎_elim}
+use Rattle.std.proofs.Common.{◌≡◌, ℕ, ◌^◌, ◌<◌, ◌≤◌, Bool, true, false, nat_lt, cond, List, [], ◌∷◌, length, All, Option, Some, None, Result, Ok, Err, arith, refl, sym, ◌∙◌, ap, subst, ⊎_elim}
 use Rattle.std.proofs.lemmas.Bool.Decides.{nat_tests}
 use Rattle.std.proofs.lemmas.Bool.{cases_lt}
 use Rattle.byteorder.specs.Endian.{big_bytes, big_number}
@@ -31,12 +31,15 @@ pub read_ok : (octets : List ℕ) (frame : Frame) → IsParsed octets (Ok frame)
 read_ok octets frame spells =
     ap frame_in spells.spelled ∙ spelling_read frame.destination.0 frame.source.0 frame.kind frame.payload spells.destination spells.source spells.kind
 
--- .. and nothing where a fault is
-pub read_err : (octets : List ℕ) → All (λ octet. octet < 256) octets → IsParsed octets (Err Short) → frame_in octets ≡ None
-read_err octets each none =
-    let few : length octets < 14 = (short octets each).0 none in
+-- too few octets for a head are read as nothing
+pub unread : (octets : List ℕ) → length octets < 14 → frame_in octets ≡ None
+unread octets few =
     let is : nat_lt (length octets) 14 ≡ true = grind (arith, nat_tests, few) in
     ap (λ b. cond b None (Some (frame_of octets))) is
+
+-- .. and nothing where a fault is
+pub read_err : (octets : List ℕ) → All (λ octet. octet < 256) octets → IsParsed octets (Err Short) → frame_in octets ≡ None
+read_err octets each none = unread octets ((short octets each).0 none)
 
 -- octets that are read spell what is read
 pub is_spelled : (octets : List ℕ) (frame : Frame) → All (λ octet. octet < 256) octets → frame_in octets ≡ Some frame → Spells frame octets
@@ -44,8 +47,7 @@ is_spelled octets frame each found = ⊎_elim few enough (cases_lt (length octet
   where
     few : length octets < 14 → Spells frame octets
     few less =
-        let is : nat_lt (length octets) 14 ≡ true = grind (arith, nat_tests, less) in
-        let none : None ≡ Some frame = sym (ap (λ b. cond b None (Some (frame_of octets))) is) ∙ found in
+        let none : None ≡ Some frame = sym (unread octets less) ∙ found in
         cc
 
     enough : 14 ≤ length octets → Spells frame octets
@@ -58,3 +60,11 @@ is_spelled octets frame each found = ⊎_elim few enough (cases_lt (length octet
 -- there is one fault
 pub is_fault : (fault : FrameFault) → fault ≡ Short
 is_fault Short = refl
+
+-- octets of which nothing is read are too few for a head
+pub too_few : (octets : List ℕ) → frame_in octets ≡ None → length octets < 14
+too_few octets none = by_test (nat_lt (length octets) 14) refl none
+  where
+    by_test : (b : Bool) → nat_lt (length octets) 14 ≡ b → cond b None (Some (frame_of octets)) ≡ None → length octets < 14
+    by_test true is e = grind (arith, nat_tests, is)
+    by_test false is e = cc

@@ -1,6 +1,6 @@
 -- A payload that was written behind the place of a frame's head.
 use Rattle.std.proofs.Common.{◌≡◌, ℕ, ◌+◌, ◌-◌, ◌≤◌, List, [], ◌++◌, length, take, drop, slice_range, arith, sym, ◌∙◌, ap, append_assoc, length-append, length-drop}
-use Rattle.std.proofs.lemmas.List.{append-nil, drop_all, drop_at, drop-drop, length-take, take_all, take_at, take-append-drop}
+use Rattle.std.proofs.lemmas.List.{append-nil, drop_all, drop_at, drop-drop, length-take, take_all, take_at}
 use borrow.Rule.Slice.PartMut.{mid_of, put_mid}
 
 -- what stands in the frame then, from its head on

@@ -1,5 +1,5 @@
 -- What octets are to a host, one layer at a time.
-use Rattle.std.proofs.Common.{◌≡◌, ℕ, ◌<◌, ◌≤◌, ◌==◌, ◌&&◌, not, Bool, true, false, nat_lt, cond, List, length, get_or, All, Option, Some, None, Result, Ok, Err, arith, ◌∙◌, ap}
+use Rattle.std.proofs.Common.{◌≡◌, ℕ, ◌<◌, ◌≤◌, true, false, nat_lt, cond, List, length, get_or, All, Option, Some, Ok, Err, arith, ◌∙◌, ap}
 use Rattle.std.proofs.lemmas.Bool.Decides.{nat_tests}
 use Rattle.std.proofs.lemmas.List.Elements.{All-from_get_or}
 use Rattle.ether.specs.declared.mac.Mac.{Mac}
@@ -7,9 +7,7 @@ use Rattle.ether.specs.Frame.{Frame}
 use Rattle.ether.specs.Reading.{frame_in}
 use Rattle.arp.specs.declared.packet.ArpPacket.{ArpPacket}
 use Rattle.ipv4.specs.declared.addr.Addr.{Addr}
-use Rattle.frames.specs.declared.drop.DropCause.{DropCause}
 use Rattle.frames.specs.declared.drop.DropCause.TheVariants.{Short, OtherMac, OtherAddress}
-use Rattle.frames.specs.declared.meaning.Meaning.{Meaning}
 use Rattle.frames.specs.declared.meaning.Meaning.TheVariants.{Arp}
 use Rattle.frames.specs.Meaning.{heard, frame_heard, payload_heard, packet_heard, is_for, may_send}
 

@@ -4,6 +4,7 @@
 
 mod drop;
 mod emission;
+pub mod laws;
 mod meaning;
 mod reading;
 

@@ -1,7 +1,5 @@
-use Rattle.std.proofs.Common.{◌≡◌, ◌++◌, ℕ, List, drop, rules, arith, ◌∙◌, ap}
-use Rattle.ether.specs.declared.mac.Mac.{Mac}
-use Rattle.ether.specs.Frame.{spelling as frame_octets, sent as frame_sent}
-use Rattle.arp.specs.Packet.{spelling as packet_octets, HasWidths}
+use Rattle.std.proofs.Common.{rules, arith}
+use Rattle.arp.specs.Packet.{spelling as packet_octets}
 use Rattle.arp.proofs.OnePacket.{length-spelling}
 use Rattle.frames.proofs.Emitted.{framed_payload, kept_behind}
 use Rattle.frames.proofs.emission.emit_arp.Goals as goal

@@ -1,4 +1,4 @@
-use Rattle.std.proofs.Common.{Some, None, Ok, Err, sym, subst, ◌∙◌, arith}
+use Rattle.std.proofs.Common.{Some, None, Err, sym, subst, ◌∙◌, arith}
 use Rattle.ether.specs.Frame.{IsParsed}
 use Rattle.ether.proofs.Reading.{read_ok, read_err, is_fault}
 use Rattle.frames.proofs.Layers.{all_octets, as_frame, for_another, for_us, too_many}

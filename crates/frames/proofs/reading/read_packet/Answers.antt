@@ -1,4 +1,4 @@
-use Rattle.std.proofs.Common.{Ok, Err, sym, subst, ◌∙◌, ap, arith}
+use Rattle.std.proofs.Common.{Err, sym, subst, ◌∙◌, ap, arith}
 use Rattle.arp.specs.Packet.{IsParsed}
 use Rattle.arp.proofs.PlainReading.{read_ok, read_err, is_fault}
 use Rattle.frames.specs.Meaning.{packet_heard}

@@ -1,4 +1,4 @@
-use Rattle.std.proofs.Common.{Ok, Err, sym, subst, ap, arith}
+use Rattle.std.proofs.Common.{sym, ap, arith}
 use Rattle.tcp_segment.specs.declared.fault.SegmentFault.TheVariants.{UpperHeader, UpperSum}
 use Rattle.tcp_segment.proofs.Answering.{fault_ok, fault_err}
 use Rattle.frames.specs.Meaning.{segment_heard}

@@ -1,12 +1,14 @@
-use Rattle.std.proofs.Common.{◌≡◌, ◌+◌, ◌++◌, ℕ, List, length, drop, slice_range, arith, refl, ◌∙◌, ap, subst}
+use Rattle.std.proofs.Common.{◌≡◌, ◌+◌, ◌++◌, ℕ, List, length, drop, slice_range, arith, ◌∙◌, ap, subst}
+use Rattle.ether.specs.declared.head.Head.{Head as EtherHead}
 use Rattle.ether.specs.Frame.{spelling as frame_octets, sent as frame_sent}
 use Rattle.ipv4.specs.Datagram.{IsDatagram, spelling as datagram_octets}
 use Rattle.ipv4.specs.Sent.{sent as datagram_sent}
 use Rattle.ipv4.specs.declared.head.Head.{Head as Ipv4Head}
 use Rattle.ipv4.proofs.Answering.{sent_len}
+use Rattle.frames.specs.Meaning.{ipv4_type}
 use Rattle.frames.specs.Sent.{ipv4_head}
 use Rattle.frames.proofs.Emitted.{framed_payload, kept_behind, segment_at, segment_len}
-use borrow.Rule.Slice.PartMut.{mid_of}
+use borrow.Rule.Slice.PartMut.{mid_of, put_mid}
 use Rattle.frames.proofs.emission.FrameHead.emit_tcp.Goals as goal
 
 pub returns-clause-octets : goal.returns-clause-octets
@@ -30,4 +32,8 @@ returns-clause-octets c =
     written ∙ ap (λ d. datagram_octets d ++ drop total (mid_of 14 1500 out)) same in
     let payload = framed_payload out c.emit-datagram_len.new.out (datagram_octets (datagram_sent head segment)) total c.told-out new len (omega (arith, is_total, c.requires)) in
     let kept = kept_behind out c.emit-datagram_len.new.out (datagram_octets (datagram_sent head segment)) total c.emit.result c.told-out new len (omega (arith, is_total, c.requires)) (omega (arith, c.emit.ensures.len)) in
-    rw (c.emit.ensures.octets, payload, kept) refl
+    let frame_head : EtherHead = record { destination = c.args.self.now.destination; source = c.args.self.now.source; kind = ipv4_type } in
+    let before : List ℕ = put_mid 14 1500 out c.emit-datagram_len.new.out in
+    c.emit.ensures.octets
+    ∙ ap (λ (l : List ℕ). frame_octets (frame_sent frame_head l) ++ drop c.emit.result before) payload
+    ∙ ap (λ (l : List ℕ). frame_octets (frame_sent frame_head (datagram_octets (datagram_sent head segment))) ++ l) kept

@@ -1,0 +1,101 @@
+-- What goes out is heard as what was meant.
+use Rattle.std.proofs.Common.{◌≡◌, ◌⊎◌, inl, inr, ℕ, ◌+◌, ◌*◌, ◌≤◌, List, ◌++◌, length, false, true, Ok, arith, refl, ap}
+use Rattle.ether.specs.declared.mac.Mac.{Mac}
+use Rattle.ether.specs.declared.head.Head.{Head as EtherHead}
+use Rattle.ether.specs.Frame.{padding, sent as frame_sent}
+use Rattle.ether.proofs.Answering.{sent_spelled as frame_spelled, length-sent}
+use Rattle.arp.specs.declared.packet.ArpPacket.{ArpPacket}
+use Rattle.arp.specs.declared.packet.Operation.{Operation}
+use Rattle.arp.specs.declared.packet.Operation.TheVariants.{Request, Reply}
+use Rattle.arp.specs.Packet.{HasWidths, spelling as packet_octets}
+use Rattle.arp.proofs.OnePacket.{length-spelling}
+use Rattle.ipv4.specs.declared.addr.Addr.{Addr}
+use Rattle.ipv4.specs.Datagram.{Datagram, IsDatagram, spelling as datagram_octets}
+use Rattle.ipv4.proofs.Answering.{sent_len, sent_spelled as datagram_spelled}
+use Rattle.tcp_segment.specs.declared.head.Head.{Head}
+use Rattle.tcp_segment.specs.Sent.{CanBeSent, sent, sent_octets, sent_offset}
+use Rattle.tcp_segment.proofs.Checksum.{sent_octets_len, sent_spelled as segment_spelled}
+use Rattle.frames.specs.declared.emission.FrameHead.{FrameHead}
+use Rattle.frames.specs.declared.meaning.Meaning.TheVariants.{Arp, Tcp}
+use Rattle.frames.specs.Heard.{Brings, BringsDatagram, MaySend}
+use Rattle.frames.specs.Meaning.{arp_type, broadcast, heard, ipv4_type}
+use Rattle.frames.specs.Sent.{datagram_of_segment, ipv4_head, packet_destination, packet_frame, segment_frame}
+use Rattle.frames.proofs.Meanings.{heard_packet, heard_segment}
+
+-- the fields of the datagram that goes out
+fields : (h : FrameHead) (segment : List ℕ) → length h.from.0 ≡ 4 → length h.to.0 ≡ 4 → length segment ≤ 1480 → IsDatagram (datagram_of_segment h segment)
+fields h segment from to most = record {
+  service = omega arith;
+  identification = omega arith;
+  offset = omega arith;
+  ttl = omega arith;
+  protocol = omega arith;
+  checksum = omega arith;
+  source = from;
+  destination = to;
+  words = omega arith;
+  header = omega arith;
+  total = omega (arith, most);
+  place = record { units = λ more. let no : false ≡ true = more in cc; reach = omega (arith, most) };
+}
+
+pub segments_heard : (h : FrameHead) (head : Head) (octets : List ℕ) → CanBeSent h.from h.to head octets → length h.destination.0 ≡ 6 → length h.source.0 ≡ 6
+    → MaySend h.to h.from → 4 * sent_offset head + length octets ≤ 1480
+    → heard h.destination h.to (segment_frame h (sent_octets h.from h.to head octets)) ≡ Ok (Tcp (record { source = h.from; segment = sent head octets }))
+segments_heard h head octets can destination source may most =
+    let segment : List ℕ = sent_octets h.from h.to head octets in
+    let segment_most : length segment ≤ 1480 = omega (arith, sent_octets_len h.from h.to head octets, most) in
+    let d : Datagram = datagram_of_segment h segment in
+    let are : IsDatagram d = fields h segment can.src_octets can.dst_octets segment_most in
+    let frame_head : EtherHead = record { destination = h.destination; source = h.source; kind = ipv4_type } in
+    let len : length (datagram_octets d) ≡ 20 + length segment = sent_len (ipv4_head h) segment are in
+    let whole : Brings h.destination (segment_frame h segment) ipv4_type (datagram_octets d ++ padding (datagram_octets d)) = record {
+      frame = frame_sent frame_head (datagram_octets d);
+      spelled = frame_spelled frame_head (datagram_octets d) destination source (omega arith);
+      most = omega (arith, length-sent frame_head (datagram_octets d) destination source, len, segment_most);
+      ours = inl refl;
+      type = refl;
+      carried = refl;
+    } in
+    let brings : BringsDatagram h.destination h.to (segment_frame h segment) d = record {
+      payload = datagram_octets d ++ padding (datagram_octets d);
+      brought = whole;
+      spelled = datagram_spelled (ipv4_head h) segment (padding (datagram_octets d)) are;
+      destination = refl;
+      source = may;
+    } in
+    heard_segment h.destination h.to (segment_frame h segment) d (sent head octets) (brings, (refl, refl), refl) (segment_spelled h.from h.to head octets can)
+
+-- where a packet goes
+destination_len : (o : Operation) (target : Mac) → length target.0 ≡ 6 → length (packet_destination o target).0 ≡ 6
+destination_len Request target six = refl
+destination_len Reply target six = six
+
+-- a packet that is for us
+packet_heard : (p : ArpPacket) (mac : Mac) (ours : Addr) → HasWidths p → MaySend ours p.sender_addr
+    → (packet_destination p.operation p.target_mac ≡ mac) ⊎ ((packet_destination p.operation p.target_mac ≡ broadcast) × (arp_type ≡ arp_type))
+    → heard mac ours (packet_frame p) ≡ Ok (Arp p)
+packet_heard p mac ours widths may for =
+    let head : EtherHead = record { destination = packet_destination p.operation p.target_mac; source = p.sender_mac; kind = arp_type } in
+    let destination = destination_len p.operation p.target_mac widths.target_mac in
+    let brings : Brings mac (packet_frame p) arp_type (packet_octets p ++ padding (packet_octets p)) = record {
+      frame = frame_sent head (packet_octets p);
+      spelled = frame_spelled head (packet_octets p) destination widths.sender_mac (omega arith);
+      most = omega (arith, length-sent head (packet_octets p) destination widths.sender_mac, length-spelling p widths);
+      ours = for;
+      type = refl;
+      carried = refl;
+    } in
+    heard_packet mac ours (packet_frame p) p (
+      packet_octets p ++ padding (packet_octets p),
+      brings,
+      record { padding = padding (packet_octets p); widths = widths; spelled = refl },
+      may,
+    )
+
+-- a request is heard by every interface, a reply by that of its target
+pub requests_heard : (p : ArpPacket) (mac : Mac) (ours : Addr) → HasWidths p → MaySend ours p.sender_addr → p.operation ≡ Request → heard mac ours (packet_frame p) ≡ Ok (Arp p)
+requests_heard p mac ours widths may is = packet_heard p mac ours widths may (inr (ap (λ (o : Operation). packet_destination o p.target_mac) is, refl))
+
+pub replies_heard : (p : ArpPacket) (ours : Addr) → HasWidths p → MaySend ours p.sender_addr → p.operation ≡ Reply → heard p.target_mac ours (packet_frame p) ≡ Ok (Arp p)
+replies_heard p ours widths may is = packet_heard p p.target_mac ours widths may (inl (ap (λ (o : Operation). packet_destination o p.target_mac) is))

@@ -1,0 +1,194 @@
+-- What octets are to a host is what they spell.
+use Rattle.std.proofs.Common.{◌≡◌, ◌⊎◌, ℕ, ◌<◌, ◌==◌, ◌&&◌, not, Bool, true, false, cond, List, ◌++◌, length, All, Option, Some, None, Result, Ok, Err, arith, refl, sym, ◌∙◌, ap, subst, ⊎_elim}
+use Rattle.std.proofs.lemmas.Bool.{eqb-true, eq-eqb}
+use Rattle.std.proofs.lemmas.List.{drop_at, take_at}
+use Rattle.std.proofs.lemmas.List.Elements.{All-drop, All-take}
+use Rattle.ether.specs.declared.mac.Mac.{Mac}
+use Rattle.ether.specs.Frame.{Frame, head_octets, Spells as SpellsFrame}
+use Rattle.ether.proofs.Reading.{read_ok as frame_found, unread as frame_unread}
+use Rattle.arp.specs.declared.packet.ArpFault.TheVariants as packet
+use Rattle.arp.specs.declared.packet.ArpPacket.{ArpPacket}
+use Rattle.arp.specs.Packet.{Spells as SpellsPacket, IsParsed as IsPacket}
+use Rattle.arp.specs.Reading.{packet_in}
+use Rattle.arp.proofs.PlainReading.{read_ok as packet_found, read_err as packet_malformed}
+use Rattle.ipv4.specs.declared.addr.Addr.{Addr}
+use Rattle.ipv4.specs.declared.fault.Ipv4Fault.{Ipv4Fault}
+use Rattle.ipv4.specs.declared.fault.Ipv4Fault.TheVariants as datagram
+use Rattle.ipv4.specs.Datagram.{Datagram, header_octets, spelling, Spells as SpellsDatagram}
+use Rattle.ipv4.specs.Reading.{datagram_in}
+use Rattle.ipv4.proofs.Octets.{each_octet}
+use Rattle.ipv4.proofs.Reading.{read_ok as datagram_found, read_err as datagram_fault}
+use Rattle.tcp_segment.specs.declared.fault.SegmentFault.{SegmentFault}
+use Rattle.tcp_segment.specs.declared.fault.SegmentFault.TheVariants as segment
+use Rattle.tcp_segment.specs.Segment.{Segment, Spells as SpellsSegment, IsParsed as IsSegment}
+use Rattle.tcp_segment.specs.Reading.{segment_or_fault}
+use Rattle.tcp_segment.proofs.Answering.{fault_ok, fault_err}
+use Rattle.frames.specs.declared.drop.DropCause.{DropCause}
+use Rattle.frames.specs.declared.drop.DropCause.TheVariants.{Short, OtherMac, OtherType, IpHeader, IpSum, OtherAddress, UpperHeader, UpperSum, NoRoom, Fragment}
+use Rattle.frames.specs.declared.meaning.Meaning.{Meaning}
+use Rattle.frames.specs.declared.meaning.Meaning.TheVariants.{Arp, Tcp, Other}
+use Rattle.frames.specs.Heard.{Brings, BringsDatagram, BringsTcp, IsHeard, MaySend}
+use Rattle.frames.specs.Meaning.{arp_type, datagram_heard, heard, ipv4_type, is_for, is_fragment, may_send, packet_heard, payload_heard, same_addr, segment_heard, upper_heard}
+use Rattle.frames.proofs.Layers.{as_frame, for_another, for_us, from_none, from_other, too_many}
+use Rattle.frames.proofs.Tests.{ends-Decides, for-Decides, fragmented, number-Decides, refuted, send-Decides, unfragmented}
+
+-- each is an octet
+abbrev pub AreOctets : List ℕ → Type 0
+AreOctets octets = All (λ octet. octet < 256) octets
+
+-- what stands behind a front
+tail_octets : (front rest : List ℕ) → AreOctets (front ++ rest) → AreOctets rest
+tail_octets front rest each = subst AreOctets (drop_at front rest (length front) refl) (All-drop (λ octet. octet < 256) (length front) (front ++ rest) each)
+
+front_octets : (front rest : List ℕ) → AreOctets (front ++ rest) → AreOctets front
+front_octets front rest each = subst AreOctets (take_at front rest (length front) refl) (All-take (λ octet. octet < 256) (length front) (front ++ rest) each)
+
+pub payload_octets : (f : Frame) (octets : List ℕ) → SpellsFrame f octets → AreOctets octets → AreOctets f.payload
+payload_octets f octets spells each = tail_octets (head_octets f.destination f.source f.kind) f.payload (subst AreOctets spells.spelled each)
+
+pub brought_octets : (mac : Mac) (octets : List ℕ) (kind : ℕ) (payload : List ℕ) → Brings mac octets kind payload → AreOctets octets → AreOctets payload
+brought_octets mac octets kind payload brings each = subst AreOctets brings.carried (payload_octets brings.frame octets brings.spelled each)
+
+pub datagram_octets : (d : Datagram) (payload : List ℕ) → SpellsDatagram d payload → AreOctets payload → AreOctets d.payload
+datagram_octets d payload spells each =
+    let form = spells.form in
+    tail_octets (header_octets d) d.payload (front_octets (spelling d) form.padding (subst AreOctets form.spelled each))
+
+pub upper_octets : (mac : Mac) (ours : Addr) (octets : List ℕ) (d : Datagram) → BringsDatagram mac ours octets d → AreOctets octets → AreOctets d.payload
+upper_octets mac ours octets d brings each =
+    datagram_octets d brings.payload brings.spelled (brought_octets mac octets ipv4_type brings.payload brings.brought each)
+
+-- what is heard of a frame for us
+brought : (mac : Mac) (ours : Addr) (octets : List ℕ) (kind : ℕ) (payload : List ℕ) → Brings mac octets kind payload → heard mac ours octets ≡ payload_heard ours kind payload
+brought mac ours octets kind payload brings =
+    let f : Frame = brings.frame in
+    as_frame mac ours octets (Some f) brings.most (frame_found octets f brings.spelled)
+    ∙ for_us mac ours f ((for-Decides mac f).1 brings.ours)
+    ∙ ap (λ n. payload_heard ours n f.payload) brings.type
+    ∙ ap (payload_heard ours kind) brings.carried
+
+-- of a packet, and of a datagram
+brought_packet : (mac : Mac) (ours : Addr) (octets payload : List ℕ) (read : Option ArpPacket) → Brings mac octets arp_type payload → packet_in payload ≡ read
+    → heard mac ours octets ≡ packet_heard ours read
+brought_packet mac ours octets payload read brings found = brought mac ours octets arp_type payload brings ∙ ap (packet_heard ours) found
+
+brought_datagram : (mac : Mac) (ours : Addr) (octets payload : List ℕ) (read : Result Datagram Ipv4Fault) → Brings mac octets ipv4_type payload → datagram_in payload ≡ read
+    → heard mac ours octets ≡ datagram_heard ours read
+brought_datagram mac ours octets payload read brings found = brought mac ours octets ipv4_type payload brings ∙ ap (datagram_heard ours) found
+
+pub source_len : (d : Datagram) (payload : List ℕ) → SpellsDatagram d payload → length d.source.0 ≡ 4
+source_len d payload spells = spells.form.fields.source
+
+-- of a datagram for us
+for_host : (mac : Mac) (ours : Addr) (octets : List ℕ) (d : Datagram) → BringsDatagram mac ours octets d → heard mac ours octets ≡ upper_heard d
+for_host mac ours octets d brings =
+    let may = (ends-Decides ours d (source_len d brings.payload brings.spelled)).1 (brings.destination, brings.source) in
+    brought_datagram mac ours octets brings.payload (Ok d) brings.brought (datagram_found brings.payload d brings.spelled)
+    ∙ ap (λ b. cond b (upper_heard d) (Err OtherAddress)) may
+
+-- of a segment for us
+for_socket : (mac : Mac) (ours : Addr) (octets : List ℕ) (d : Datagram) (read : Result Segment SegmentFault) → BringsTcp mac ours octets d
+    → segment_or_fault d.source d.destination d.payload ≡ read → heard mac ours octets ≡ segment_heard d.source read
+for_socket mac ours octets d read brings found =
+    let tcp = eq-eqb d.protocol 6 brings.2 in
+    let one : Result Meaning DropCause = segment_heard d.source (segment_or_fault d.source d.destination d.payload) in
+    for_host mac ours octets d brings.0
+    ∙ ap (λ b. cond (b && not (d.protocol == 17)) (Err Fragment) (cond (d.protocol == 6) one (Ok (Other d)))) (unfragmented d brings.1)
+    ∙ ap (λ b. cond b one (Ok (Other d))) tcp
+    ∙ ap (segment_heard d.source) found
+
+-- what octets spell is heard: a packet, a segment, another datagram
+pub heard_packet : (mac : Mac) (ours : Addr) (octets : List ℕ) (p : ArpPacket) → IsHeard mac ours octets (Ok (Arp p)) → heard mac ours octets ≡ Ok (Arp p)
+heard_packet mac ours octets p is =
+    brought_packet mac ours octets is.0 (Some p) is.1 (packet_found is.0 p is.2) ∙ from_other ours p ((send-Decides ours p.sender_addr is.2.widths.sender_addr).1 is.3)
+
+pub heard_segment : (mac : Mac) (ours : Addr) (octets : List ℕ) (d : Datagram) (s : Segment) → BringsTcp mac ours octets d → SpellsSegment d.source d.destination s d.payload
+    → heard mac ours octets ≡ Ok (Tcp (record { source = d.source; segment = s }))
+heard_segment mac ours octets d s brings spells = for_socket mac ours octets d (Ok s) brings (fault_ok d.source d.destination d.payload s spells)
+
+heard_other : (mac : Mac) (ours : Addr) (octets : List ℕ) (d : Datagram) → IsHeard mac ours octets (Ok (Other d)) → heard mac ours octets ≡ Ok (Other d)
+heard_other mac ours octets d is = for_host mac ours octets d is.0 ∙ by_tests (is_fragment d) (d.protocol == 17) (d.protocol == 6) refl refl refl
+  where
+    by_tests : (part user tcp : Bool) → is_fragment d ≡ part → (d.protocol == 17) ≡ user → (d.protocol == 6) ≡ tcp
+        → cond (part && not user) (Err Fragment) (cond tcp (segment_heard d.source (segment_or_fault d.source d.destination d.payload)) (Ok (Other d))) ≡ Ok (Other d)
+    by_tests part user true is_part is_user is_tcp = absurd (is.1 (eqb-true d.protocol 6 is_tcp))
+    by_tests false user false is_part is_user is_tcp = refl
+    by_tests true true false is_part is_user is_tcp = refl
+    by_tests true false false is_part is_user is_tcp =
+        let no : false ≡ true = sym (unfragmented d (is.2 (λ e. let other : true ≡ false = sym (eq-eqb d.protocol 17 e) ∙ is_user in cc))) ∙ is_part in
+        cc
+
+-- .. and each cause to drop it
+heard_short : (mac : Mac) (ours : Addr) (octets : List ℕ) → AreOctets octets → (length octets < 14) ⊎ (1514 < length octets) → heard mac ours octets ≡ Err Short
+heard_short mac ours octets each = ⊎_elim few (too_many mac ours octets)
+  where
+    few : length octets < 14 → heard mac ours octets ≡ Err Short
+    few less = as_frame mac ours octets None (omega (arith, less)) (frame_unread octets less)
+
+heard_other_type : (mac : Mac) (ours : Addr) (octets : List ℕ) → IsHeard mac ours octets (Err OtherType) → heard mac ours octets ≡ Err OtherType
+heard_other_type mac ours octets is =
+    let kind : ℕ = is.0 in
+    let no_arp : (kind == arp_type) ≡ false = refuted (kind == arp_type) (number-Decides kind arp_type) is.4 in
+    let no_ipv4 : (kind == ipv4_type) ≡ false = refuted (kind == ipv4_type) (number-Decides kind ipv4_type) is.3 in
+    let datagrams : Result Meaning DropCause = cond (kind == ipv4_type) (datagram_heard ours (datagram_in is.1)) (Err OtherType) in
+    brought mac ours octets kind is.1 is.2
+    ∙ ap (λ b. cond b (packet_heard ours (packet_in is.1)) datagrams) no_arp
+    ∙ ap (λ b. cond b (datagram_heard ours (datagram_in is.1)) (Err OtherType)) no_ipv4
+
+heard_fragment : (mac : Mac) (ours : Addr) (octets : List ℕ) → IsHeard mac ours octets (Err Fragment) → heard mac ours octets ≡ Err Fragment
+heard_fragment mac ours octets is =
+    let d : Datagram = is.0 in
+    let part : is_fragment d ≡ true = fragmented d is.2 in
+    let other : (d.protocol == 17) ≡ false = refuted (d.protocol == 17) (number-Decides d.protocol 17) is.3 in
+    let rest : Result Meaning DropCause = cond (d.protocol == 6) (segment_heard d.source (segment_or_fault d.source d.destination d.payload)) (Ok (Other d)) in
+    for_host mac ours octets d is.1
+    ∙ ap (λ b. cond (b && not (d.protocol == 17)) (Err Fragment) rest) part
+    ∙ ap (λ b. cond (not b) (Err Fragment) rest) other
+
+heard_address : (mac : Mac) (ours : Addr) (octets : List ℕ) → IsHeard mac ours octets (Err OtherAddress) → heard mac ours octets ≡ Err OtherAddress
+heard_address mac ours octets = ⊎_elim of_packet of_datagram
+  where
+    of_packet : ((payload : List ℕ) × (p : ArpPacket) × Brings mac octets arp_type payload × SpellsPacket p payload × (MaySend ours p.sender_addr → ⊥)) → heard mac ours octets ≡ Err OtherAddress
+    of_packet is =
+        brought_packet mac ours octets is.0 (Some is.1) is.2 (packet_found is.0 is.1 is.3)
+        ∙ from_none ours is.1 (refuted (may_send ours is.1.sender_addr) (send-Decides ours is.1.sender_addr is.3.widths.sender_addr) is.4)
+
+    of_datagram : ((payload : List ℕ) × (d : Datagram) × Brings mac octets ipv4_type payload × SpellsDatagram d payload × ((d.destination ≡ ours) × MaySend ours d.source → ⊥))
+        → heard mac ours octets ≡ Err OtherAddress
+    of_datagram is =
+        let d : Datagram = is.1 in
+        let no = refuted (same_addr d.destination ours && may_send ours d.source) (ends-Decides ours d (source_len d is.0 is.3)) is.4 in
+        brought_datagram mac ours octets is.0 (Ok d) is.2 (datagram_found is.0 d is.3) ∙ ap (λ b. cond b (upper_heard d) (Err OtherAddress)) no
+
+heard_malformed : (mac : Mac) (ours : Addr) (octets : List ℕ) → AreOctets octets → IsHeard mac ours octets (Err UpperHeader) → heard mac ours octets ≡ Err UpperHeader
+heard_malformed mac ours octets each = ⊎_elim of_packet of_segment
+  where
+    of_packet : ((payload : List ℕ) × Brings mac octets arp_type payload × IsPacket payload (Err packet.UpperHeader)) → heard mac ours octets ≡ Err UpperHeader
+    of_packet is = brought_packet mac ours octets is.0 None is.1 (packet_malformed is.0 (brought_octets mac octets arp_type is.0 is.1 each) is.2)
+
+    of_segment : ((d : Datagram) × BringsTcp mac ours octets d × IsSegment d.source d.destination d.payload (Err segment.UpperHeader)) → heard mac ours octets ≡ Err UpperHeader
+    of_segment is =
+        let d : Datagram = is.0 in
+        for_socket mac ours octets d (Err segment.UpperHeader) is.1 (fault_err d.source d.destination d.payload segment.UpperHeader (each_octet d.payload (upper_octets mac ours octets d is.1.0 each)) is.2)
+
+-- what octets spell is what they are to a host
+pub spelled_heard : (mac : Mac) (ours : Addr) (octets : List ℕ) (answer : Result Meaning DropCause) → AreOctets octets → IsHeard mac ours octets answer → heard mac ours octets ≡ answer
+spelled_heard mac ours octets (Ok (Arp p)) each is = heard_packet mac ours octets p is
+spelled_heard mac ours octets (Ok (Tcp t)) each is =
+    heard_segment mac ours octets is.0 t.segment is.1 is.2 ∙ ap (λ (a : Addr). Ok (Tcp (record { source = a; segment = t.segment }))) (sym is.3)
+spelled_heard mac ours octets (Ok (Other d)) each is = heard_other mac ours octets d is
+spelled_heard mac ours octets (Err Short) each is = heard_short mac ours octets each is
+spelled_heard mac ours octets (Err OtherMac) each is =
+    as_frame mac ours octets (Some is.0) is.2 (frame_found octets is.0 is.1) ∙ for_another mac ours is.0 (refuted (is_for mac is.0) (for-Decides mac is.0) is.3)
+spelled_heard mac ours octets (Err OtherType) each is = heard_other_type mac ours octets is
+spelled_heard mac ours octets (Err IpHeader) each is =
+    brought_datagram mac ours octets is.0 (Err datagram.IpHeader) is.1 (datagram_fault is.0 datagram.IpHeader (brought_octets mac octets ipv4_type is.0 is.1 each) is.2)
+spelled_heard mac ours octets (Err IpSum) each is =
+    brought_datagram mac ours octets is.0 (Err datagram.IpSum) is.1 (datagram_fault is.0 datagram.IpSum (brought_octets mac octets ipv4_type is.0 is.1 each) is.2)
+spelled_heard mac ours octets (Err OtherAddress) each is = heard_address mac ours octets is
+spelled_heard mac ours octets (Err UpperHeader) each is = heard_malformed mac ours octets each is
+spelled_heard mac ours octets (Err UpperSum) each is =
+    let d : Datagram = is.0 in
+    for_socket mac ours octets d (Err segment.UpperSum) is.1 (fault_err d.source d.destination d.payload segment.UpperSum (each_octet d.payload (upper_octets mac ours octets d is.1.0 each)) is.2)
+spelled_heard mac ours octets (Err NoRoom) each is = absurd is
+spelled_heard mac ours octets (Err Fragment) each is = heard_fragment mac ours octets is

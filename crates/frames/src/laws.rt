@@ -1,0 +1,59 @@
+//! Laws of the definitions that the contracts of this crate cite: each is the contract of a function that does nothing.
+
+ghost use Rattle.std.specs.Prelude.{◌≡◌, ◌↔◌, ℕ, ◌+◌, ◌*◌, ◌<◌, ◌≤◌, List, length, All, Some, Result, Ok};
+ghost use Rattle.ether.specs.declared.mac.Mac.{Mac};
+ghost use Rattle.arp.specs.declared.packet.ArpPacket.{ArpPacket};
+ghost use Rattle.arp.specs.declared.packet.Operation.TheVariants.{Request, Reply};
+ghost use Rattle.arp.specs.Packet.{HasWidths};
+ghost use Rattle.ipv4.specs.declared.addr.Addr.{Addr};
+ghost use Rattle.ipv4.specs.declared.addr.Pair.{Pair};
+ghost use Rattle.tcp_segment.specs.declared.head.Head.{Head};
+ghost use Rattle.tcp_segment.specs.Sent.{CanBeSent, sent, sent_octets, sent_offset};
+ghost use Rattle.frames.specs.declared.drop.DropCause.{DropCause};
+ghost use Rattle.frames.specs.declared.emission.FrameHead.{FrameHead};
+ghost use Rattle.frames.specs.declared.meaning.Meaning.{Meaning};
+ghost use Rattle.frames.specs.declared.meaning.Received.{Received};
+ghost use Rattle.frames.specs.declared.meaning.Meaning.TheVariants.{Arp, Tcp};
+ghost use Rattle.frames.specs.Heard.{IsHeard, MaySend};
+ghost use Rattle.frames.specs.Meaning.{heard};
+ghost use Rattle.frames.specs.Pairs.{CarryPair, pair_in, pair_between};
+ghost use Rattle.frames.specs.Sent.{segment_frame, packet_frame};
+
+/// What octets are to a host is what they spell, layer by layer (RFC 894, RFC 826, RFC 791 section 3.1, RFC 9293 section 3.1): the
+/// answer is determined for all octets, and is no other than the one whose records they spell.
+pub fn one_meaning()
+    ensures spelled { (mac : Mac) (ours : Addr) (octets : List ℕ) (answer : Result Meaning DropCause) → All (λ octet. octet < 256) octets
+        → (IsHeard mac ours octets answer ↔ (heard mac ours octets ≡ answer)) }
+    ensures one { (mac : Mac) (ours : Addr) (octets : List ℕ) (first second : Result Meaning DropCause) → All (λ octet. octet < 256) octets
+        → IsHeard mac ours octets first → IsHeard mac ours octets second → first ≡ second }
+{}
+
+/// A frame that is heard as a segment carries the pair of the segment's two ends (RFC 9293 section 4).
+pub fn heard_pairs()
+    ensures { (mac : Mac) (ours : Addr) (octets : List ℕ) (received : Received) → heard mac ours octets ≡ Ok (Tcp received)
+        → pair_in octets ≡ Some (pair_between received.source ours received.segment) }
+{}
+
+/// The pair that is read of octets, whoever they are for, is that of the segment that they carry, and none is read where they carry
+/// none (RFC 9293 section 4).
+pub fn carried_pairs()
+    ensures { (octets : List ℕ) (pair : Pair) → All (λ octet. octet < 256) octets → (CarryPair octets pair ↔ (pair_in octets ≡ Some pair)) }
+{}
+
+/// A frame that `FrameHead::emit_tcp` writes is heard, where it is for, as the very segment that is meant, from the address that
+/// sends it: whatever its octets and whether it is padded, where that address may send and the segment, with its header, has the
+/// 1,480 octets that a datagram has room for (RFC 9293 section 3.1).
+pub fn emitted_segments_are_heard()
+    ensures { (h : FrameHead) (head : Head) (octets : List ℕ) → CanBeSent h.from h.to head octets
+        → length h.destination.0 ≡ 6 → length h.source.0 ≡ 6 → MaySend h.to h.from → 4 * sent_offset head + length octets ≤ 1480
+        → heard h.destination h.to (segment_frame h (sent_octets h.from h.to head octets)) ≡ Ok (Tcp (record { source = h.from; segment = sent head octets })) }
+{}
+
+/// A frame that `emit_arp` writes is heard as its packet, where its sender may send: a request by every interface, a reply by
+/// that of its target (RFC 826).
+pub fn emitted_packets_are_heard()
+    ensures request { (packet : ArpPacket) (mac : Mac) (ours : Addr) → HasWidths packet → MaySend ours packet.sender_addr → packet.operation ≡ Request
+        → heard mac ours (packet_frame packet) ≡ Ok (Arp packet) }
+    ensures reply { (packet : ArpPacket) (ours : Addr) → HasWidths packet → MaySend ours packet.sender_addr → packet.operation ≡ Reply
+        → heard packet.target_mac ours (packet_frame packet) ≡ Ok (Arp packet) }
+{}
