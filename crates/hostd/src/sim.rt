@@ -93,8 +93,8 @@ fn play<W: Sink>(
 ) -> Result<(), TextFault>
     ensures written { W.failures out.new ≡ counted (write_fails_in result) (W.failures out.old) }
     ensures faults { IfErr result (λ fault. is_before_run fault ≡ false) }
-    ensures played { OnOk result (IsPlayed world.old world.new commands.now (W.taken out.old) (W.taken out.new) (string_bytes lines.old) (string_bytes lines.new)) }
-    ensures cut { IfErr result (λ fault. IsCutShort fault world.old commands.now (W.taken out.old) (W.taken out.new) (string_bytes lines.old) (string_bytes lines.new)) }
+    ensures played { OnOk result (IsPlayed world.old.seen world.new.seen commands.now (W.taken out.old) (W.taken out.new) (string_bytes lines.old) (string_bytes lines.new)) }
+    ensures cut { IfErr result (λ fault. IsCutShort fault world.old.seen commands.now (W.taken out.old) (W.taken out.new) (string_bytes lines.old) (string_bytes lines.new)) }
 {
     for command in commands {
         let line = execute(alloc, command, world)?;
@@ -121,7 +121,7 @@ fn add_line<W: Sink>(line: &str, lines: &mut String, out: &mut W) -> Result<(), 
 // A fresh world. The two addresses are those of single hosts and differ, so it is made unless there is no memory.
 fn new_world(alloc: Global, limit: Option<u64>) -> Result<World, TextFault>
     requires { ForSome limit (λ n. (1 ≤ n) × (n ≤ 2 ^ 30)) }
-    ensures world { IfOk result (λ world. world ≡ first_world limit) }
+    ensures world { IfOk result (λ world. world.seen ≡ first_world limit) }
     ensures faults { IfErr result (λ fault. fault ≡ TextFault.NoMemory) }
 {
     let (Ok(a), Ok(b)) = (Config::new(address(Side::A)), Config::new(address(Side::B))) else {
@@ -136,7 +136,7 @@ fn new_world(alloc: Global, limit: Option<u64>) -> Result<World, TextFault>
 
 // Runs one command and answers the line that it prints.
 fn execute(alloc: Global, command: &Command<'_>, world: &mut World) -> Result<String, AllocError>
-    ensures { IfOk result (λ line. Prints command.now (string_bytes line) world.old world.new) }
+    ensures { IfOk result (λ line. Prints command.now (string_bytes line) world.old.seen world.new.seen) }
 {
     match command {
         Command::At(side, action) => act(alloc, *side, action, world),
@@ -151,7 +151,7 @@ fn act(
     action: &Action<'_>,
     world: &mut World,
 ) -> Result<String, AllocError>
-    ensures { IfOk result (λ line. Prints (Command.At side action.now) (string_bytes line) world.old world.new) }
+    ensures { IfOk result (λ line. Prints (Command.At side action.now) (string_bytes line) world.old.seen world.new.seen) }
 {
     let outcome = world.step(event(alloc, side, action)?);
     line_of(alloc, &outcome, style(action))
@@ -159,7 +159,7 @@ fn act(
 
 // Frames go from a to b, then from b to a. Answers the line that tells how many.
 fn pass(alloc: Global, isn: Seq, world: &mut World) -> Result<String, AllocError>
-    ensures { IfOk result (λ line. Prints (Command.Pass isn) (string_bytes line) world.old world.new) }
+    ensures { IfOk result (λ line. Prints (Command.Pass isn) (string_bytes line) world.old.seen world.new.seen) }
 {
     let from_a = carry(world, Side::A, isn);
     let from_b = carry(world, Side::B, isn);
@@ -207,7 +207,7 @@ fn style(action: &Action<'_>) -> Style
 // many there were.
 fn carry(world: &mut World, from: Side, isn: Seq) -> usize
     ensures few { result ≤ MOST_FRAMES }
-    ensures carried { Carries from isn result world.old world.new }
+    ensures carried { Carries from isn result world.old.seen world.new.seen }
 {
     let mut frames = [0usize; MOST_FRAMES];
     let count = emit(world, from, &mut frames);
@@ -219,7 +219,7 @@ fn carry(world: &mut World, from: Side, isn: Seq) -> usize
 // the front of `frames`, and it answers how many there are.
 fn emit(world: &mut World, from: Side, frames: &mut [usize; MOST_FRAMES]) -> usize
     ensures few { result ≤ MOST_FRAMES }
-    ensures emitted { Emits from (take result frames.new) world.old world.new }
+    ensures emitted { Emits from (take result frames.new) world.old.seen world.new.seen }
 {
     let mut count = 0;
     for _ in 0..MOST_FRAMES {
@@ -237,7 +237,7 @@ fn emit(world: &mut World, from: Side, frames: &mut [usize; MOST_FRAMES]) -> usi
 
 // One side takes these frames in order, whatever comes of each.
 fn deliver(world: &mut World, to: Side, frames: &[usize], isn: Seq)
-    ensures { Delivers to isn frames.now world.old world.new }
+    ensures { Delivers to isn frames.now world.old.seen world.new.seen }
 {
     for index in frames {
         let _ = world.step(Event::Deliver(to, *index, isn));

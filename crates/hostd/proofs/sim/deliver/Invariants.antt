@@ -3,4 +3,4 @@ use Rattle.hostd.specs.Play.{Delivers}
 use Rattle.hostd.proofs.sim.deliver.Given as goal
 
 abbrev pub invariant-loop-index : goal.invariant-loop-index
-invariant-loop-index l = Delivers l.to l.isn (take l.index-index l.frames) l.initial.world l.world
+invariant-loop-index l = Delivers l.to l.isn (take l.index-index l.frames) l.initial.world.seen l.world.seen

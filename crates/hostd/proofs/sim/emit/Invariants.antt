@@ -5,5 +5,5 @@ use Rattle.hostd.proofs.sim.emit.Given as goal
 abbrev pub invariant-loop : goal.invariant-loop
 invariant-loop l = record {
   few : l.count ≤ l.counter;
-  emitted : HasEmitted l.from l.initial.world l.counter (take l.count l.frames) l.world;
+  emitted : HasEmitted l.from l.initial.world.seen l.counter (take l.count l.frames) l.world.seen;
 }
