@@ -1,10 +1,8 @@
 //! Datagrams put together from their fragments (RFC 791 section 3.2), within a time (RFC 1122 section 3.3.2).
 
 use super::A;
-use decode::octets_of;
 use ipv4::Ipv4View;
 use reassembly::{Expired, Loss, Moment, Pool, Taken};
-use std::alloc::Global;
 use std::process::Abort;
 use std::test::Fail;
 
@@ -17,18 +15,19 @@ enum Came<'a> {
 }
 
 /// A moment, a fragment, what it comes to, and the next deadline after it.
-type Row = (u64, &'static str, Came<'static>, Option<u64>);
+type Row = (u64, &'static [u8], Came<'static>, Option<u64>);
 
 /// The first fragment of number 7: a UDP header with length 24 and no checksum, and `AAAAAAAA`.
-const FIRST: &str =
-    "45000024 00072000 401146c0 0a000001 0a000002 1388138900180000 4141414141414141";
+const FIRST: &[u8] =
+    b"\x45\0\0\x24\0\x07\x20\0\x40\x11\x46\xc0\x0a\0\0\x01\x0a\0\0\x02\x13\x88\x13\x89\0\x18\0\0\x41\x41\x41\x41\x41\x41\x41\x41";
 
 /// The last one, from the second unit on: `BBBBBBBBCCCCCCCC`.
-const LAST: &str = "45000024 00070001 401166bf 0a000001 0a000002 4242424242424242 4343434343434343";
+const LAST: &[u8] =
+    b"\x45\0\0\x24\0\x07\0\x01\x40\x11\x66\xbf\x0a\0\0\x01\x0a\0\0\x02\x42\x42\x42\x42\x42\x42\x42\x42\x43\x43\x43\x43\x43\x43\x43\x43";
 
 /// That one a unit later.
-const LATER: &str =
-    "45000024 00070002 401166be 0a000001 0a000002 4242424242424242 4343434343434343";
+const LATER: &[u8] =
+    b"\x45\0\0\x24\0\x07\0\x02\x40\x11\x66\xbe\x0a\0\0\x01\x0a\0\0\x02\x42\x42\x42\x42\x42\x42\x42\x42\x43\x43\x43\x43\x43\x43\x43\x43";
 
 /// In whichever order they come, the octets that came last stand.
 const OVERLAPS: [Row; 4] = [
@@ -55,44 +54,45 @@ const CONTRADICTIONS: [Row; 6] = [
     (0, LATER, Came::Waiting, Some(60_000)),
     (
         0,
-        "45000024 00070003 401166bd 0a000001 0a000002 4242424242424242 4343434343434343",
+        b"\x45\0\0\x24\0\x07\0\x03\x40\x11\x66\xbd\x0a\0\0\x01\x0a\0\0\x02\x42\x42\x42\x42\x42\x42\x42\x42\x43\x43\x43\x43\x43\x43\x43\x43",
         Came::Dropped(Loss::GivenUp),
         None,
     ),
     (0, LATER, Came::Waiting, Some(60_000)),
     (
         0,
-        "45000024 00072003 401146bd 0a000001 0a000002 4242424242424242 4343434343434343",
+        b"\x45\0\0\x24\0\x07\x20\x03\x40\x11\x46\xbd\x0a\0\0\x01\x0a\0\0\x02\x42\x42\x42\x42\x42\x42\x42\x42\x43\x43\x43\x43\x43\x43\x43\x43",
         Came::Dropped(Loss::GivenUp),
         None,
     ),
 ];
 
 /// The first fragment of number 0.
-const ZERO: &str = "45000024 00002000 401146c7 0a000001 0a000002 1388138900180000 4141414141414141";
+const ZERO: &[u8] =
+    b"\x45\0\0\x24\0\0\x20\0\x40\x11\x46\xc7\x0a\0\0\x01\x0a\0\0\x02\x13\x88\x13\x89\0\x18\0\0\x41\x41\x41\x41\x41\x41\x41\x41";
 
 /// That of number 4.
-const FIFTH: &str =
-    "45000024 00042000 401146c3 0a000001 0a000002 1388138900180000 4141414141414141";
+const FIFTH: &[u8] =
+    b"\x45\0\0\x24\0\x04\x20\0\x40\x11\x46\xc3\x0a\0\0\x01\x0a\0\0\x02\x13\x88\x13\x89\0\x18\0\0\x41\x41\x41\x41\x41\x41\x41\x41";
 
 /// Fragments of five datagrams; of the first alone it is the fragment zero.
 const FIVE: [Row; 5] = [
     (0, ZERO, Came::Waiting, Some(60_000)),
     (
         10,
-        "45000024 00012001 401146c5 0a000001 0a000002 1388138900180000 4141414141414141",
+        b"\x45\0\0\x24\0\x01\x20\x01\x40\x11\x46\xc5\x0a\0\0\x01\x0a\0\0\x02\x13\x88\x13\x89\0\x18\0\0\x41\x41\x41\x41\x41\x41\x41\x41",
         Came::Waiting,
         Some(60_000),
     ),
     (
         20,
-        "45000024 00022002 401146c3 0a000001 0a000002 1388138900180000 4141414141414141",
+        b"\x45\0\0\x24\0\x02\x20\x02\x40\x11\x46\xc3\x0a\0\0\x01\x0a\0\0\x02\x13\x88\x13\x89\0\x18\0\0\x41\x41\x41\x41\x41\x41\x41\x41",
         Came::Waiting,
         Some(60_000),
     ),
     (
         30,
-        "45000024 00032003 401146c1 0a000001 0a000002 1388138900180000 4141414141414141",
+        b"\x45\0\0\x24\0\x03\x20\x03\x40\x11\x46\xc1\x0a\0\0\x01\x0a\0\0\x02\x13\x88\x13\x89\0\x18\0\0\x41\x41\x41\x41\x41\x41\x41\x41",
         Came::Waiting,
         Some(60_000),
     ),
@@ -112,27 +112,23 @@ fn comes_to(pool: &mut Pool, now: u64, octets: &[u8], want: Came) -> bool {
 }
 
 /// Plays the rows.
-fn play(rt: &impl Abort, alloc: Global, pool: &mut Pool, rows: &[Row]) -> Result<(), Fail> {
-    for (now, text, want, deadline) in rows {
-        let octets = octets_of(alloc, text.as_bytes())?;
-        assert!(rt;
-            comes_to(pool, *now, octets.as_slice(), *want),
-            "{text} at {now}"
-        );
+fn play(rt: &impl Abort, pool: &mut Pool, rows: &[Row]) {
+    for (now, octets, want, deadline) in rows {
+        assert!(rt; comes_to(pool, *now, octets, *want), "{octets:?} at {now}");
         assert_eq!(rt;
             pool.next_deadline(),
             deadline.map(Moment),
-            "{text} at {now}"
+            "{octets:?} at {now}"
         );
     }
-    Ok(())
 }
 
 #[test]
 fn overlaps_and_contradictions(rt: HostRuntime) -> Result<(), Fail> {
     let mut pool = Pool::new(rt.alloc())?;
-    play(&rt, rt.alloc(), &mut pool, &OVERLAPS)?;
-    play(&rt, rt.alloc(), &mut pool, &CONTRADICTIONS)
+    play(&rt, &mut pool, &OVERLAPS);
+    play(&rt, &mut pool, &CONTRADICTIONS);
+    Ok(())
 }
 
 /// Moments, how many datagrams are told then whose time ran out, and the next deadline after that.
@@ -147,20 +143,15 @@ fn quotes(datagram: &Expired, fragment: &[u8]) -> bool {
 #[test]
 fn a_fifth_datagram_has_no_place(rt: HostRuntime) -> Result<(), Fail> {
     let mut pool = Pool::new(rt.alloc())?;
-    play(&rt, rt.alloc(), &mut pool, &FIVE)?;
-    let zero = octets_of(rt.alloc(), ZERO.as_bytes())?;
+    play(&rt, &mut pool, &FIVE);
     for (now, count, deadline) in AGES {
         let expired = pool.age(Moment(now));
         assert_eq!(rt; expired.len(), count, "at {now}");
-        assert!(rt;
-            expired
-                .iter()
-                .all(|datagram| quotes(datagram, zero.as_slice()))
-        );
+        assert!(rt; expired.iter().all(|datagram| quotes(datagram, ZERO)));
         assert_eq!(rt; pool.next_deadline(), deadline.map(Moment), "at {now}");
     }
     let place = [(60_000, FIFTH, Came::Waiting, Some(60_010))];
-    play(&rt, rt.alloc(), &mut pool, &place)?;
+    play(&rt, &mut pool, &place);
     assert_eq!(rt; pool.age(Moment(90_000)).len(), 0);
     Ok(())
 }

@@ -1,10 +1,8 @@
 //! Control messages (RFC 792, RFC 1122 section 3.2.2).
 
 use super::{A, B};
-use decode::octets_of;
 use icmp::{IcmpFault, IcmpView, Kind, Quote, Reason, emit_error, may_answer};
 use ipv4::{Endpoint, Ipv4View, Protocol};
-use std::test::Fail;
 
 /// An echo request with the data `abc`.
 const REQUEST: [u8; 11] = *b"\x08\x00\x33\x9b\x00\x01\x00\x01abc";
@@ -42,27 +40,28 @@ fn an_echo_request_is_answered(rt: HostRuntime) {
     );
 }
 
-const FAULTS: [(&str, Option<IcmpFault>); 11] = [
-    ("", Some(IcmpFault::UpperHeader)),
-    ("08", Some(IcmpFault::UpperHeader)),
-    ("0800", Some(IcmpFault::UpperHeader)),
-    ("0800 33", Some(IcmpFault::UpperHeader)),
-    ("0800 339b", Some(IcmpFault::UpperHeader)),
-    ("0800 339b 00", Some(IcmpFault::UpperHeader)),
-    ("0800 339b 0001", Some(IcmpFault::UpperHeader)),
-    ("0800 339b 0001 00", Some(IcmpFault::UpperHeader)),
-    ("0300 339b 0001 00", Some(IcmpFault::UpperHeader)),
-    ("0800 339b 0001 0001 616262", Some(IcmpFault::UpperSum)),
-    ("0800 339b 0001 0001 616263", None),
+const FAULTS: [(&[u8], Option<IcmpFault>); 11] = [
+    (b"", Some(IcmpFault::UpperHeader)),
+    (b"\x08", Some(IcmpFault::UpperHeader)),
+    (b"\x08\0", Some(IcmpFault::UpperHeader)),
+    (b"\x08\0\x33", Some(IcmpFault::UpperHeader)),
+    (b"\x08\0\x33\x9b", Some(IcmpFault::UpperHeader)),
+    (b"\x08\0\x33\x9b\0", Some(IcmpFault::UpperHeader)),
+    (b"\x08\0\x33\x9b\0\x01", Some(IcmpFault::UpperHeader)),
+    (b"\x08\0\x33\x9b\0\x01\0", Some(IcmpFault::UpperHeader)),
+    (b"\x03\0\x33\x9b\0\x01\0", Some(IcmpFault::UpperHeader)),
+    (
+        b"\x08\0\x33\x9b\0\x01\0\x01\x61\x62\x62",
+        Some(IcmpFault::UpperSum),
+    ),
+    (b"\x08\0\x33\x9b\0\x01\0\x01\x61\x62\x63", None),
 ];
 
 #[test]
-fn faults(rt: HostRuntime) -> Result<(), Fail> {
-    for (text, want) in FAULTS {
-        let octets = octets_of(rt.alloc(), text.as_bytes())?;
-        assert_eq!(rt; IcmpView::parse(octets.as_slice()).err(), want, "{text}");
+fn faults(rt: HostRuntime) {
+    for (octets, want) in FAULTS {
+        assert_eq!(rt; IcmpView::parse(octets).err(), want, "{octets:?}");
     }
-    Ok(())
 }
 
 /// The header of a SYN from 10.0.0.1 to 10.0.0.2.
@@ -82,37 +81,34 @@ const SYN_QUOTE: Quote = Quote {
 
 /// Errors about it: the reason, the octets behind its header that are given, the error with octets of 7 behind it, its length and
 /// what it quotes.
-const ERRORS: [(Reason, &str, &str, usize, Option<Quote>); 2] = [
+const ERRORS: [(Reason, &[u8], [u8; 40], usize, Option<Quote>); 2] = [
     (
         Reason::PortUnreachable,
-        "c0000050 ffffffff 00000000",
-        "03033cac 00000000 4500002c 00004000 400626ca 0a000001 0a000002 c0000050 ffffffff 07070707",
+        b"\xc0\0\0\x50\xff\xff\xff\xff\0\0\0\0",
+        *b"\x03\x03\x3c\xac\0\0\0\0\x45\0\0\x2c\0\0\x40\0\x40\x06\x26\xca\x0a\0\0\x01\x0a\0\0\x02\xc0\0\0\x50\xff\xff\xff\xff\x07\x07\x07\x07",
         36,
         Some(SYN_QUOTE),
     ),
     (
         Reason::ReassemblyTimeExceeded,
-        "c00000",
-        "0b0134fe 00000000 4500002c 00004000 400626ca 0a000001 0a000002 c00000 070707070707070707",
+        b"\xc0\0\0",
+        *b"\x0b\x01\x34\xfe\0\0\0\0\x45\0\0\x2c\0\0\x40\0\x40\x06\x26\xca\x0a\0\0\x01\x0a\0\0\x02\xc0\0\0\x07\x07\x07\x07\x07\x07\x07\x07\x07",
         31,
         None,
     ),
 ];
 
 #[test]
-fn errors_quote_their_cause(rt: HostRuntime) -> Result<(), Fail> {
+fn errors_quote_their_cause(rt: HostRuntime) {
     for (reason, payload, want, want_len, quote) in ERRORS {
-        let payload = octets_of(rt.alloc(), payload.as_bytes())?;
-        let want = octets_of(rt.alloc(), want.as_bytes())?;
         let mut out = [7; 40];
-        let len = emit_error(reason, &SYN_HEADER, payload.as_slice(), &mut out);
-        assert_eq!(rt; (len, out.as_slice()), (want_len, want.as_slice()));
+        let len = emit_error(reason, &SYN_HEADER, payload, &mut out);
+        assert_eq!(rt; (len, out), (want_len, want));
         let Ok(error) = IcmpView::parse(&out[..len]) else {
             panic!(&rt; "what was written is a message")
         };
         assert_eq!(rt; (error.reason(), error.quote()), (Some(reason), quote));
     }
-    Ok(())
 }
 
 /// The type and the code of each reason.
@@ -144,122 +140,120 @@ fn reasons(rt: HostRuntime) {
 }
 
 /// Datagrams, whether they came in a broadcast of the link, and whether they may be answered by an error.
-const ANSWERED: [(&str, bool, bool); 20] = [
+const ANSWERED: [(&[u8], bool, bool); 20] = [
     (
-        "4500001c 00000000 0011a6cf 0a000001 0a000002 0300000000000000",
+        b"\x45\0\0\x1c\0\0\0\0\0\x11\xa6\xcf\x0a\0\0\x01\x0a\0\0\x02\x03\0\0\0\0\0\0\0",
         false,
         true,
     ),
     // in a link broadcast
     (
-        "4500001c 00000000 0011a6cf 0a000001 0a000002 0300000000000000",
+        b"\x45\0\0\x1c\0\0\0\0\0\x11\xa6\xcf\x0a\0\0\x01\x0a\0\0\x02\x03\0\0\0\0\0\0\0",
         true,
         false,
     ),
     // a later fragment
     (
-        "4500001c 00000001 0011a6ce 0a000001 0a000002 0300000000000000",
+        b"\x45\0\0\x1c\0\0\0\x01\0\x11\xa6\xce\x0a\0\0\x01\x0a\0\0\x02\x03\0\0\0\0\0\0\0",
         false,
         false,
     ),
     // for no single host, and for the last that is one
     (
-        "4500001c 00000000 0011b0d1 0a000001 ffffffff 0300000000000000",
+        b"\x45\0\0\x1c\0\0\0\0\0\x11\xb0\xd1\x0a\0\0\x01\xff\xff\xff\xff\x03\0\0\0\0\0\0\0",
         false,
         false,
     ),
     (
-        "4500001c 00000000 0011d0cf 0a000001 e0000001 0300000000000000",
+        b"\x45\0\0\x1c\0\0\0\0\0\x11\xd0\xcf\x0a\0\0\x01\xe0\0\0\x01\x03\0\0\0\0\0\0\0",
         false,
         false,
     ),
     (
-        "4500001c 00000000 0011c0d1 0a000001 efffffff 0300000000000000",
+        b"\x45\0\0\x1c\0\0\0\0\0\x11\xc0\xd1\x0a\0\0\x01\xef\xff\xff\xff\x03\0\0\0\0\0\0\0",
         false,
         false,
     ),
     (
-        "4500001c 00000000 0011d0d1 0a000001 dfffffff 0300000000000000",
+        b"\x45\0\0\x1c\0\0\0\0\0\x11\xd0\xd1\x0a\0\0\x01\xdf\xff\xff\xff\x03\0\0\0\0\0\0\0",
         false,
         true,
     ),
     // from no single host
     (
-        "4500001c 00000000 0011b0d0 00000000 0a000002 0300000000000000",
+        b"\x45\0\0\x1c\0\0\0\0\0\x11\xb0\xd0\0\0\0\0\x0a\0\0\x02\x03\0\0\0\0\0\0\0",
         false,
         false,
     ),
     (
-        "4500001c 00000000 001131cf 7f000001 0a000002 0300000000000000",
+        b"\x45\0\0\x1c\0\0\0\0\0\x11\x31\xcf\x7f\0\0\x01\x0a\0\0\x02\x03\0\0\0\0\0\0\0",
         false,
         false,
     ),
     (
-        "4500001c 00000000 0011d0ce e0000001 0a000002 0300000000000000",
+        b"\x45\0\0\x1c\0\0\0\0\0\x11\xd0\xce\xe0\0\0\x01\x0a\0\0\x02\x03\0\0\0\0\0\0\0",
         false,
         false,
     ),
     (
-        "4500001c 00000000 0011c0ce f0000001 0a000002 0300000000000000",
+        b"\x45\0\0\x1c\0\0\0\0\0\x11\xc0\xce\xf0\0\0\x01\x0a\0\0\x02\x03\0\0\0\0\0\0\0",
         false,
         false,
     ),
     (
-        "4500001c 00000000 0011b0d0 ffffffff 0a000002 0300000000000000",
+        b"\x45\0\0\x1c\0\0\0\0\0\x11\xb0\xd0\xff\xff\xff\xff\x0a\0\0\x02\x03\0\0\0\0\0\0\0",
         false,
         false,
     ),
     // control messages: errors, and others
     (
-        "4500001c 00000000 0001a6df 0a000001 0a000002 0000000000000000",
+        b"\x45\0\0\x1c\0\0\0\0\0\x01\xa6\xdf\x0a\0\0\x01\x0a\0\0\x02\0\0\0\0\0\0\0\0",
         false,
         true,
     ),
     (
-        "4500001c 00000000 0001a6df 0a000001 0a000002 0300000000000000",
+        b"\x45\0\0\x1c\0\0\0\0\0\x01\xa6\xdf\x0a\0\0\x01\x0a\0\0\x02\x03\0\0\0\0\0\0\0",
         false,
         false,
     ),
     (
-        "4500001c 00000000 0001a6df 0a000001 0a000002 0400000000000000",
+        b"\x45\0\0\x1c\0\0\0\0\0\x01\xa6\xdf\x0a\0\0\x01\x0a\0\0\x02\x04\0\0\0\0\0\0\0",
         false,
         false,
     ),
     (
-        "4500001c 00000000 0001a6df 0a000001 0a000002 0500000000000000",
+        b"\x45\0\0\x1c\0\0\0\0\0\x01\xa6\xdf\x0a\0\0\x01\x0a\0\0\x02\x05\0\0\0\0\0\0\0",
         false,
         false,
     ),
     (
-        "4500001c 00000000 0001a6df 0a000001 0a000002 0800000000000000",
+        b"\x45\0\0\x1c\0\0\0\0\0\x01\xa6\xdf\x0a\0\0\x01\x0a\0\0\x02\x08\0\0\0\0\0\0\0",
         false,
         true,
     ),
     (
-        "4500001c 00000000 0001a6df 0a000001 0a000002 0b00000000000000",
+        b"\x45\0\0\x1c\0\0\0\0\0\x01\xa6\xdf\x0a\0\0\x01\x0a\0\0\x02\x0b\0\0\0\0\0\0\0",
         false,
         false,
     ),
     (
-        "4500001c 00000000 0001a6df 0a000001 0a000002 0c00000000000000",
+        b"\x45\0\0\x1c\0\0\0\0\0\x01\xa6\xdf\x0a\0\0\x01\x0a\0\0\x02\x0c\0\0\0\0\0\0\0",
         false,
         false,
     ),
     (
-        "4500001c 00000000 0001a6df 0a000001 0a000002 0d00000000000000",
+        b"\x45\0\0\x1c\0\0\0\0\0\x01\xa6\xdf\x0a\0\0\x01\x0a\0\0\x02\x0d\0\0\0\0\0\0\0",
         false,
         true,
     ),
 ];
 
 #[test]
-fn answers(rt: HostRuntime) -> Result<(), Fail> {
-    for (text, link_broadcast, want) in ANSWERED {
-        let octets = octets_of(rt.alloc(), text.as_bytes())?;
-        let Ok(view) = Ipv4View::parse(octets.as_slice()) else {
-            panic!(&rt; "{text} is a datagram")
+fn answers(rt: HostRuntime) {
+    for (octets, link_broadcast, want) in ANSWERED {
+        let Ok(view) = Ipv4View::parse(octets) else {
+            panic!(&rt; "{octets:?} is a datagram")
         };
-        assert_eq!(rt; may_answer(&view, link_broadcast), want, "{text}");
+        assert_eq!(rt; may_answer(&view, link_broadcast), want, "{octets:?}");
     }
-    Ok(())
 }

@@ -2,10 +2,8 @@
 
 use super::{A, B};
 use arp::{ArpCache, ArpFault, ArpPacket, LEN, Moment, Operation};
-use decode::octets_of;
 use ether::{EtherView, Head, Mac, SPACE};
 use ipv4::Addr;
-use std::test::Fail;
 
 const MAC_A: Mac = Mac([2, 0, 0, 0, 0, 1]);
 
@@ -32,73 +30,71 @@ const REPLY: ArpPacket = ArpPacket {
     target_addr: A,
 };
 
-const PACKETS: [(&str, Result<ArpPacket, ArpFault>); 13] = [
+const PACKETS: [(&[u8], Result<ArpPacket, ArpFault>); 13] = [
     (
-        "0001080006040001 020000000001 0a000001 000000000000 0a000002",
+        b"\0\x01\x08\0\x06\x04\0\x01\x02\0\0\0\0\x01\x0a\0\0\x01\0\0\0\0\0\0\x0a\0\0\x02",
         Ok(REQUEST),
     ),
     (
-        "0001080006040001 020000000001 0a000001 000000000000 0a000002 000000000000000000000000000000000000",
+        b"\0\x01\x08\0\x06\x04\0\x01\x02\0\0\0\0\x01\x0a\0\0\x01\0\0\0\0\0\0\x0a\0\0\x02\0\0\0\0\0\0\0\0\0\0\0\0\0\0\0\0\0\0",
         Ok(REQUEST),
     ),
     (
-        "0001080006040002 020000000002 0a000002 020000000001 0a000001",
+        b"\0\x01\x08\0\x06\x04\0\x02\x02\0\0\0\0\x02\x0a\0\0\x02\x02\0\0\0\0\x01\x0a\0\0\x01",
         Ok(REPLY),
     ),
     // an octet less
     (
-        "0001080006040001 020000000001 0a000001 000000000000 0a0000",
+        b"\0\x01\x08\0\x06\x04\0\x01\x02\0\0\0\0\x01\x0a\0\0\x01\0\0\0\0\0\0\x0a\0\0",
         Err(ArpFault::UpperHeader),
     ),
     // another hardware
     (
-        "0101080006040001 020000000001 0a000001 000000000000 0a000002",
+        b"\x01\x01\x08\0\x06\x04\0\x01\x02\0\0\0\0\x01\x0a\0\0\x01\0\0\0\0\0\0\x0a\0\0\x02",
         Err(ArpFault::UpperHeader),
     ),
     (
-        "0006080006040001 020000000001 0a000001 000000000000 0a000002",
+        b"\0\x06\x08\0\x06\x04\0\x01\x02\0\0\0\0\x01\x0a\0\0\x01\0\0\0\0\0\0\x0a\0\0\x02",
         Err(ArpFault::UpperHeader),
     ),
     // another protocol
     (
-        "0001860006040001 020000000001 0a000001 000000000000 0a000002",
+        b"\0\x01\x86\0\x06\x04\0\x01\x02\0\0\0\0\x01\x0a\0\0\x01\0\0\0\0\0\0\x0a\0\0\x02",
         Err(ArpFault::UpperHeader),
     ),
     (
-        "000108dd06040001 020000000001 0a000001 000000000000 0a000002",
+        b"\0\x01\x08\xdd\x06\x04\0\x01\x02\0\0\0\0\x01\x0a\0\0\x01\0\0\0\0\0\0\x0a\0\0\x02",
         Err(ArpFault::UpperHeader),
     ),
     // other lengths of addresses
     (
-        "0001080008040001 020000000001 0a000001 000000000000 0a000002",
+        b"\0\x01\x08\0\x08\x04\0\x01\x02\0\0\0\0\x01\x0a\0\0\x01\0\0\0\0\0\0\x0a\0\0\x02",
         Err(ArpFault::UpperHeader),
     ),
     (
-        "0001080006100001 020000000001 0a000001 000000000000 0a000002",
+        b"\0\x01\x08\0\x06\x10\0\x01\x02\0\0\0\0\x01\x0a\0\0\x01\0\0\0\0\0\0\x0a\0\0\x02",
         Err(ArpFault::UpperHeader),
     ),
     // other operations
     (
-        "0001080006040101 020000000001 0a000001 000000000000 0a000002",
+        b"\0\x01\x08\0\x06\x04\x01\x01\x02\0\0\0\0\x01\x0a\0\0\x01\0\0\0\0\0\0\x0a\0\0\x02",
         Err(ArpFault::UpperHeader),
     ),
     (
-        "0001080006040000 020000000001 0a000001 000000000000 0a000002",
+        b"\0\x01\x08\0\x06\x04\0\0\x02\0\0\0\0\x01\x0a\0\0\x01\0\0\0\0\0\0\x0a\0\0\x02",
         Err(ArpFault::UpperHeader),
     ),
     (
-        "0001080006040003 020000000001 0a000001 000000000000 0a000002",
+        b"\0\x01\x08\0\x06\x04\0\x03\x02\0\0\0\0\x01\x0a\0\0\x01\0\0\0\0\0\0\x0a\0\0\x02",
         Err(ArpFault::UpperHeader),
     ),
 ];
 
 #[test]
-fn packets(rt: HostRuntime) -> Result<(), Fail> {
-    for (text, want) in PACKETS {
-        let octets = octets_of(rt.alloc(), text.as_bytes())?;
-        assert_eq!(rt; ArpPacket::parse(octets.as_slice()), want, "{text}");
+fn packets(rt: HostRuntime) {
+    for (octets, want) in PACKETS {
+        assert_eq!(rt; ArpPacket::parse(octets), want, "{octets:?}");
     }
-    Ok(())
 }
 
 /// The packet of a frame, where there is one.
@@ -123,28 +119,26 @@ fn frame_of(packet: ArpPacket, destination: Mac) -> [u8; SPACE] {
 }
 
 #[test]
-fn frames_both_ways(rt: HostRuntime) -> Result<(), Fail> {
-    let rows = [
+fn frames_both_ways(rt: HostRuntime) {
+    let rows: [(ArpPacket, Mac, &[u8]); 2] = [
         (
             ArpPacket::request(MAC_A, A, B),
             Mac::BROADCAST,
-            "ffffffffffff 020000000001 0806 0001080006040001 020000000001 0a000001 000000000000 0a000002 000000000000000000000000000000000000",
+            b"\xff\xff\xff\xff\xff\xff\x02\0\0\0\0\x01\x08\x06\0\x01\x08\0\x06\x04\0\x01\x02\0\0\0\0\x01\x0a\0\0\x01\0\0\0\0\0\0\x0a\0\0\x02\0\0\0\0\0\0\0\0\0\0\0\0\0\0\0\0\0\0",
         ),
         (
             REQUEST.reply(MAC_B),
             MAC_A,
-            "020000000001 020000000002 0806 0001080006040002 020000000002 0a000002 020000000001 0a000001 000000000000000000000000000000000000",
+            b"\x02\0\0\0\0\x01\x02\0\0\0\0\x02\x08\x06\0\x01\x08\0\x06\x04\0\x02\x02\0\0\0\0\x02\x0a\0\0\x02\x02\0\0\0\0\x01\x0a\0\0\x01\0\0\0\0\0\0\0\0\0\0\0\0\0\0\0\0\0\0",
         ),
     ];
-    for (packet, destination, text) in rows {
-        let frame = octets_of(rt.alloc(), text.as_bytes())?;
-        assert_eq!(rt; packet_in(frame.as_slice()), Some(packet), "{text}");
+    for (packet, destination, frame) in rows {
+        assert_eq!(rt; packet_in(frame), Some(packet), "{frame:?}");
         assert!(rt;
-            frame_of(packet, destination).starts_with(frame.as_slice()),
-            "{text}"
+            frame_of(packet, destination).starts_with(frame),
+            "{frame:?}"
         );
     }
-    Ok(())
 }
 
 /// What happens to the cache of `A`, and what that answers.

@@ -1,15 +1,13 @@
 //! Segments of TCP and its sequence numbers (RFC 9293 sections 3.1 and 3.4).
 
 use super::{A, B};
-use decode::octets_of;
-use std::test::Fail;
 use tcp_segment::{Flags, Head, SegmentFault, Seq, TcpView};
 
 /// The told, the counted and the used maximum segment size, and the length in sequence numbers.
 type Sizes = (Option<u16>, u16, u16, u32);
 
 /// A SYN, and a segment with `hello`: header, payload, octets with two or three more of 7, the segment's length, and its sizes.
-const SEGMENTS: [(Head, &[u8], &str, usize, Sizes); 2] = [
+const SEGMENTS: [(Head, &[u8], [u8; 27], usize, Sizes); 2] = [
     (
         Head {
             source: 49_152,
@@ -27,7 +25,7 @@ const SEGMENTS: [(Head, &[u8], &str, usize, Sizes); 2] = [
             window: 65_535,
         },
         b"",
-        "c0000050 ffffffff 00000000 6002ffff c3d30000 020405b4 070707",
+        *b"\xc0\0\0\x50\xff\xff\xff\xff\0\0\0\0\x60\x02\xff\xff\xc3\xd3\0\0\x02\x04\x05\xb4\x07\x07\x07",
         24,
         (Some(1_460), 1_460, 1_460, 1),
     ),
@@ -48,7 +46,7 @@ const SEGMENTS: [(Head, &[u8], &str, usize, Sizes); 2] = [
             window: 65_535,
         },
         b"hello",
-        "c0000050 00000000 00000008 5018ffff 979a0000 68656c6c6f 0707",
+        *b"\xc0\0\0\x50\0\0\0\0\0\0\0\x08\x50\x18\xff\xff\x97\x9a\0\0\x68\x65\x6c\x6c\x6f\x07\x07",
         25,
         (None, 536, 536, 5),
     ),
@@ -67,133 +65,125 @@ fn head_of(view: &TcpView) -> Head {
 }
 
 #[test]
-fn segments_are_written_and_read_again(rt: HostRuntime) -> Result<(), Fail> {
-    for (head, payload, text, want_len, sizes) in SEGMENTS {
-        let want = octets_of(rt.alloc(), text.as_bytes())?;
+fn segments_are_written_and_read_again(rt: HostRuntime) {
+    for (head, payload, want, want_len, sizes) in SEGMENTS {
         let begin = head.len();
         assert!(rt; begin + payload.len() <= 27);
         let mut out = [7; 27];
         out[begin..begin + payload.len()].copy_from_slice(payload);
         let len = head.emit(A, B, payload.len(), &mut out);
         assert_eq!(rt;
-            (begin + payload.len(), len, out.as_slice()),
-            (want_len, want_len, want.as_slice()),
-            "{text}"
+            (begin + payload.len(), len, out),
+            (want_len, want_len, want),
+            "{out:?}"
         );
         let Ok(view) = TcpView::parse(A, B, &out[..len]) else {
-            panic!(&rt; "{text} is a segment")
+            panic!(&rt; "{out:?} is a segment")
         };
         assert_eq!(rt;
             (head_of(&view), view.urgent(), view.payload()),
             (head, 0, payload),
-            "{text}"
+            "{out:?}"
         );
         assert_eq!(rt;
             (view.told(), view.mss(), view.smss(), view.span()),
             sizes,
-            "{text}"
+            "{out:?}"
         );
     }
-    Ok(())
 }
 
 /// Octets, and why they are no segment. Malformed ones are so with a right checksum and with a wrong one.
-const FAULTS: [(&str, Option<SegmentFault>); 20] = [
+const FAULTS: [(&[u8], Option<SegmentFault>); 20] = [
     // a data offset of four words, and one past the segment
     (
-        "c0000050 ffffffff 00000000 4002ffff e3d30000 020405b4",
+        b"\xc0\0\0\x50\xff\xff\xff\xff\0\0\0\0\x40\x02\xff\xff\xe3\xd3\0\0\x02\x04\x05\xb4",
         Some(SegmentFault::UpperHeader),
     ),
     (
-        "c0000050 ffffffff 00000000 4002ffff e2d30000 020405b4",
+        b"\xc0\0\0\x50\xff\xff\xff\xff\0\0\0\0\x40\x02\xff\xff\xe2\xd3\0\0\x02\x04\x05\xb4",
         Some(SegmentFault::UpperHeader),
     ),
     (
-        "c0000050 ffffffff 00000000 f002ffff 33d30000 020405b4",
+        b"\xc0\0\0\x50\xff\xff\xff\xff\0\0\0\0\xf0\x02\xff\xff\x33\xd3\0\0\x02\x04\x05\xb4",
         Some(SegmentFault::UpperHeader),
     ),
     (
-        "c0000050 ffffffff 00000000 f002ffff 32d30000 020405b4",
+        b"\xc0\0\0\x50\xff\xff\xff\xff\0\0\0\0\xf0\x02\xff\xff\x32\xd3\0\0\x02\x04\x05\xb4",
         Some(SegmentFault::UpperHeader),
     ),
     // other options: their lengths are 0, 1 and past the header, or not there
     (
-        "c0000050 ffffffff 00000000 6002ffff c68b0000 05000000",
+        b"\xc0\0\0\x50\xff\xff\xff\xff\0\0\0\0\x60\x02\xff\xff\xc6\x8b\0\0\x05\0\0\0",
         Some(SegmentFault::UpperHeader),
     ),
     (
-        "c0000050 ffffffff 00000000 6002ffff c78b0000 05000000",
+        b"\xc0\0\0\x50\xff\xff\xff\xff\0\0\0\0\x60\x02\xff\xff\xc7\x8b\0\0\x05\0\0\0",
         Some(SegmentFault::UpperHeader),
     ),
     (
-        "c0000050 ffffffff 00000000 6002ffff c68a0000 05010000",
+        b"\xc0\0\0\x50\xff\xff\xff\xff\0\0\0\0\x60\x02\xff\xff\xc6\x8a\0\0\x05\x01\0\0",
         Some(SegmentFault::UpperHeader),
     ),
     (
-        "c0000050 ffffffff 00000000 6002ffff c78a0000 05010000",
+        b"\xc0\0\0\x50\xff\xff\xff\xff\0\0\0\0\x60\x02\xff\xff\xc7\x8a\0\0\x05\x01\0\0",
         Some(SegmentFault::UpperHeader),
     ),
     (
-        "c0000050 ffffffff 00000000 6002ffff c6860000 05050000",
+        b"\xc0\0\0\x50\xff\xff\xff\xff\0\0\0\0\x60\x02\xff\xff\xc6\x86\0\0\x05\x05\0\0",
         Some(SegmentFault::UpperHeader),
     ),
     (
-        "c0000050 ffffffff 00000000 6002ffff c7860000 05050000",
+        b"\xc0\0\0\x50\xff\xff\xff\xff\0\0\0\0\x60\x02\xff\xff\xc7\x86\0\0\x05\x05\0\0",
         Some(SegmentFault::UpperHeader),
     ),
     (
-        "c0000050 ffffffff 00000000 6002ffff c9850000 01010105",
+        b"\xc0\0\0\x50\xff\xff\xff\xff\0\0\0\0\x60\x02\xff\xff\xc9\x85\0\0\x01\x01\x01\x05",
         Some(SegmentFault::UpperHeader),
     ),
     (
-        "c0000050 ffffffff 00000000 6002ffff c8850000 01010105",
+        b"\xc0\0\0\x50\xff\xff\xff\xff\0\0\0\0\x60\x02\xff\xff\xc8\x85\0\0\x01\x01\x01\x05",
         Some(SegmentFault::UpperHeader),
     ),
     // maximum segment sizes of other lengths
     (
-        "c0000050 ffffffff 00000000 6002ffff c3d70000 020005b4",
+        b"\xc0\0\0\x50\xff\xff\xff\xff\0\0\0\0\x60\x02\xff\xff\xc3\xd7\0\0\x02\0\x05\xb4",
         Some(SegmentFault::UpperHeader),
     ),
     (
-        "c0000050 ffffffff 00000000 6002ffff c2d70000 020005b4",
+        b"\xc0\0\0\x50\xff\xff\xff\xff\0\0\0\0\x60\x02\xff\xff\xc2\xd7\0\0\x02\0\x05\xb4",
         Some(SegmentFault::UpperHeader),
     ),
     (
-        "c0000050 ffffffff 00000000 6002ffff c4880000 02030500",
+        b"\xc0\0\0\x50\xff\xff\xff\xff\0\0\0\0\x60\x02\xff\xff\xc4\x88\0\0\x02\x03\x05\0",
         Some(SegmentFault::UpperHeader),
     ),
     (
-        "c0000050 ffffffff 00000000 6002ffff c5880000 02030500",
+        b"\xc0\0\0\x50\xff\xff\xff\xff\0\0\0\0\x60\x02\xff\xff\xc5\x88\0\0\x02\x03\x05\0",
         Some(SegmentFault::UpperHeader),
     ),
     // an octet less than a header, and no octets
     (
-        "c0000050 ffffffff 00000000 6002ffff c3d300",
+        b"\xc0\0\0\x50\xff\xff\xff\xff\0\0\0\0\x60\x02\xff\xff\xc3\xd3\0",
         Some(SegmentFault::UpperHeader),
     ),
-    ("", Some(SegmentFault::UpperHeader)),
+    (b"", Some(SegmentFault::UpperHeader)),
     // a wrong checksum, and the end of the options
     (
-        "c0000050 ffffffff 00000000 6002ffff c3d30000 020405b5",
+        b"\xc0\0\0\x50\xff\xff\xff\xff\0\0\0\0\x60\x02\xff\xff\xc3\xd3\0\0\x02\x04\x05\xb5",
         Some(SegmentFault::UpperSum),
     ),
     (
-        "c0000050 ffffffff 00000000 6002ffff c98a0000 01010100",
+        b"\xc0\0\0\x50\xff\xff\xff\xff\0\0\0\0\x60\x02\xff\xff\xc9\x8a\0\0\x01\x01\x01\0",
         None,
     ),
 ];
 
 #[test]
-fn faults(rt: HostRuntime) -> Result<(), Fail> {
-    for (text, want) in FAULTS {
-        let octets = octets_of(rt.alloc(), text.as_bytes())?;
-        assert_eq!(rt;
-            TcpView::parse(A, B, octets.as_slice()).err(),
-            want,
-            "{text}"
-        );
+fn faults(rt: HostRuntime) {
+    for (octets, want) in FAULTS {
+        assert_eq!(rt; TcpView::parse(A, B, octets).err(), want, "{octets:?}");
     }
-    Ok(())
 }
 
 const LAST: Seq = Seq(u32::MAX);

@@ -1,7 +1,6 @@
 //! User datagrams (RFC 768), the fragments that they go out in (RFC 791 section 3.2), and the queues in which they wait.
 
 use super::{A, B};
-use decode::octets_of;
 use ipv4::Endpoint;
 use std::test::Fail;
 use udp::{CAPACITY, Head, Queue, QueueFault, UdpFault, UdpView, fragments};
@@ -10,20 +9,32 @@ use udp::{CAPACITY, Head, Queue, QueueFault, UdpFault, UdpView, fragments};
 type Read<'a> = Result<(u16, u16, u16, u16, &'a [u8]), UdpFault>;
 
 /// With the payload `hi`: with two octets of padding, without a checksum, and with what is wrong.
-const DATAGRAMS: [(&str, Read<'static>); 7] = [
+const DATAGRAMS: [(&[u8], Read<'static>); 7] = [
     (
-        "13881389 000a5c5d 6869",
+        b"\x13\x88\x13\x89\0\x0a\x5c\x5d\x68\x69",
         Ok((5_000, 5_001, 10, 0x5c5d, b"hi")),
     ),
     (
-        "13881389 000a5c5d 6869 0707",
+        b"\x13\x88\x13\x89\0\x0a\x5c\x5d\x68\x69\x07\x07",
         Ok((5_000, 5_001, 10, 0x5c5d, b"hi")),
     ),
-    ("13881389 000a0000 6869", Ok((5_000, 5_001, 10, 0, b"hi"))),
-    ("13881389 000a5c5e 6869", Err(UdpFault::UpperSum)),
-    ("13881389 000b5c5d 6869", Err(UdpFault::UpperHeader)),
-    ("13881389 00075c5d 6869", Err(UdpFault::UpperHeader)),
-    ("13881389 000a5c", Err(UdpFault::UpperHeader)),
+    (
+        b"\x13\x88\x13\x89\0\x0a\0\0\x68\x69",
+        Ok((5_000, 5_001, 10, 0, b"hi")),
+    ),
+    (
+        b"\x13\x88\x13\x89\0\x0a\x5c\x5e\x68\x69",
+        Err(UdpFault::UpperSum),
+    ),
+    (
+        b"\x13\x88\x13\x89\0\x0b\x5c\x5d\x68\x69",
+        Err(UdpFault::UpperHeader),
+    ),
+    (
+        b"\x13\x88\x13\x89\0\x07\x5c\x5d\x68\x69",
+        Err(UdpFault::UpperHeader),
+    ),
+    (b"\x13\x88\x13\x89\0\x0a\x5c", Err(UdpFault::UpperHeader)),
 ];
 
 fn read(octets: &[u8]) -> Read<'_> {
@@ -38,12 +49,10 @@ fn read(octets: &[u8]) -> Read<'_> {
 }
 
 #[test]
-fn datagrams_are_read(rt: HostRuntime) -> Result<(), Fail> {
-    for (text, want) in DATAGRAMS {
-        let octets = octets_of(rt.alloc(), text.as_bytes())?;
-        assert_eq!(rt; read(octets.as_slice()), want, "{text}");
+fn datagrams_are_read(rt: HostRuntime) {
+    for (octets, want) in DATAGRAMS {
+        assert_eq!(rt; read(octets), want, "{octets:?}");
     }
-    Ok(())
 }
 
 /// Payloads of datagrams, and what goes out with two octets of 7 behind it; the checksum of the second is 0.
