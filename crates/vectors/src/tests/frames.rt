@@ -50,7 +50,7 @@ fn read(octets: &[u8]) -> Read<'_> {
 #[test]
 fn frames(rt: HostRuntime) {
     for (octets, want) in FRAMES {
-        assert_eq!(rt; read(octets), want, "{octets:?}");
+        assert!(rt; read(octets) == want);
     }
 }
 
@@ -61,7 +61,7 @@ fn short_payloads_are_padded(rt: HostRuntime) {
     for (payload_len, end) in [(1_500, 1_514), (46, 60), (28, 60)] {
         let mut out = [7; SPACE];
         want[14 + payload_len..end].fill(0);
-        assert_eq!(rt; HEAD.emit(payload_len, &mut out), end);
-        assert_eq!(rt; out, want);
+        assert!(rt; HEAD.emit(payload_len, &mut out) == end);
+        assert!(rt; out == want);
     }
 }

@@ -12,7 +12,7 @@ fn an_echo_request_is_answered(rt: HostRuntime) {
     let Ok(request) = IcmpView::parse(&REQUEST) else {
         panic!(&rt; "the octets are a message")
     };
-    assert_eq!(rt;
+    assert!(rt;
         (
             request.kind(),
             request.code(),
@@ -20,24 +20,19 @@ fn an_echo_request_is_answered(rt: HostRuntime) {
             request.identifier(),
             request.number(),
             request.payload()
-        ),
-        (Kind::ECHO, 0, 0x339b, 1, 1, b"abc".as_slice())
+        ) == (Kind::ECHO, 0, 0x339b, 1, 1, b"abc".as_slice())
     );
-    assert_eq!(rt;
+    assert!(rt;
         (
             request.is_echo_request(),
             request.kind().is_error(),
             request.reason(),
             request.quote()
-        ),
-        (true, false, None, None)
+        ) == (true, false, None, None)
     );
     let mut out = [7; 13];
     let len = request.emit_reply(&mut out);
-    assert_eq!(rt;
-        (len, out),
-        (11, *b"\x00\x00\x3b\x9b\x00\x01\x00\x01abc\x07\x07")
-    );
+    assert!(rt; (len, out) == (11, *b"\x00\x00\x3b\x9b\x00\x01\x00\x01abc\x07\x07"));
 }
 
 const FAULTS: [(&[u8], Option<IcmpFault>); 11] = [
@@ -60,7 +55,7 @@ const FAULTS: [(&[u8], Option<IcmpFault>); 11] = [
 #[test]
 fn faults(rt: HostRuntime) {
     for (octets, want) in FAULTS {
-        assert_eq!(rt; IcmpView::parse(octets).err(), want, "{octets:?}");
+        assert!(rt; IcmpView::parse(octets).err() == want);
     }
 }
 
@@ -103,11 +98,11 @@ fn errors_quote_their_cause(rt: HostRuntime) {
     for (reason, payload, want, want_len, quote) in ERRORS {
         let mut out = [7; 40];
         let len = emit_error(reason, &SYN_HEADER, payload, &mut out);
-        assert_eq!(rt; (len, out), (want_len, want));
+        assert!(rt; (len, out) == (want_len, want));
         let Ok(error) = IcmpView::parse(&out[..len]) else {
             panic!(&rt; "what was written is a message")
         };
-        assert_eq!(rt; (error.reason(), error.quote()), (Some(reason), quote));
+        assert!(rt; (error.reason(), error.quote()) == (Some(reason), quote));
     }
 }
 
@@ -128,13 +123,12 @@ const REASONS: [(u8, u8, Option<Reason>); 10] = [
 #[test]
 fn reasons(rt: HostRuntime) {
     for (kind, code, want) in REASONS {
-        assert_eq!(rt;
-            Reason::with_numbers(Kind(kind), code),
-            want,
+        assert!(rt;
+            Reason::with_numbers(Kind(kind), code) == want,
             "{kind} {code}"
         );
         if let Some(reason) = want {
-            assert_eq!(rt; (reason.kind(), reason.code()), (Kind(kind), code));
+            assert!(rt; (reason.kind(), reason.code()) == (Kind(kind), code));
         }
     }
 }
@@ -252,8 +246,8 @@ const ANSWERED: [(&[u8], bool, bool); 20] = [
 fn answers(rt: HostRuntime) {
     for (octets, link_broadcast, want) in ANSWERED {
         let Ok(view) = Ipv4View::parse(octets) else {
-            panic!(&rt; "{octets:?} is a datagram")
+            panic!(&rt; "the octets are a datagram")
         };
-        assert_eq!(rt; may_answer(&view, link_broadcast), want, "{octets:?}");
+        assert!(rt; may_answer(&view, link_broadcast) == want);
     }
 }

@@ -72,24 +72,12 @@ fn segments_are_written_and_read_again(rt: HostRuntime) {
         let mut out = [7; 27];
         out[begin..begin + payload.len()].copy_from_slice(payload);
         let len = head.emit(A, B, payload.len(), &mut out);
-        assert_eq!(rt;
-            (begin + payload.len(), len, out),
-            (want_len, want_len, want),
-            "{out:?}"
-        );
+        assert!(rt; (begin + payload.len(), len, out) == (want_len, want_len, want));
         let Ok(view) = TcpView::parse(A, B, &out[..len]) else {
-            panic!(&rt; "{out:?} is a segment")
+            panic!(&rt; "what was written is a segment")
         };
-        assert_eq!(rt;
-            (head_of(&view), view.urgent(), view.payload()),
-            (head, 0, payload),
-            "{out:?}"
-        );
-        assert_eq!(rt;
-            (view.told(), view.mss(), view.smss(), view.span()),
-            sizes,
-            "{out:?}"
-        );
+        assert!(rt; (head_of(&view), view.urgent(), view.payload()) == (head, 0, payload));
+        assert!(rt; (view.told(), view.mss(), view.smss(), view.span()) == sizes);
     }
 }
 
@@ -182,7 +170,7 @@ const FAULTS: [(&[u8], Option<SegmentFault>); 20] = [
 #[test]
 fn faults(rt: HostRuntime) {
     for (octets, want) in FAULTS {
-        assert_eq!(rt; TcpView::parse(A, B, octets).err(), want, "{octets:?}");
+        assert!(rt; TcpView::parse(A, B, octets).err() == want);
     }
 }
 
@@ -198,16 +186,15 @@ const NUMBERS: [(Seq, Seq, u32, i32, bool, bool); 2] = [
 
 #[test]
 fn numbers(rt: HostRuntime) {
-    assert_eq!(rt; LAST + 1, FIRST);
+    assert!(rt; LAST + 1 == FIRST);
     for (one, other, past, difference, is_before, is_at_most) in NUMBERS {
-        assert_eq!(rt;
+        assert!(rt;
             (
                 one.past(other),
                 one.difference(other),
                 one.is_before(other),
                 one.is_at_most(other)
-            ),
-            (past, difference, is_before, is_at_most)
+            ) == (past, difference, is_before, is_at_most)
         );
     }
 }

@@ -22,10 +22,7 @@ fn addresses_and_numbers(rt: HostRuntime) -> Result<(), Fail> {
         Protocol::UDP,
         Kind::TIME_EXCEEDED
     )?;
-    assert_eq!(rt;
-        text.as_str(),
-        "10.0.0.1 192.168.1.7 10.0.0.0/8 02:00:00:00:00:01 17 11"
-    );
+    assert!(rt; text.as_str() == "10.0.0.1 192.168.1.7 10.0.0.0/8 02:00:00:00:00:01 17 11");
     Ok(())
 }
 
@@ -44,9 +41,9 @@ fn refusals(rt: HostRuntime) -> Result<(), Fail> {
         SegmentFault::UpperHeader,
         SegmentFault::UpperSum
     )?;
-    assert_eq!(rt;
-        text.as_str(),
-        "F1 Short, F4 IpHeader, F5 IpSum, F7 UpperHeader, F7 UpperHeader, F8 UpperSum, F7 UpperHeader, F8 UpperSum, F7 UpperHeader, F8 UpperSum"
+    assert!(rt;
+        text.as_str()
+            == "F1 Short, F4 IpHeader, F5 IpSum, F7 UpperHeader, F7 UpperHeader, F8 UpperSum, F7 UpperHeader, F8 UpperSum, F7 UpperHeader, F8 UpperSum"
     );
     let text = format!(in rt.alloc();
         "{}, {}, {}, {}, {}, {}, {}, {}, {}, {}",
@@ -61,9 +58,9 @@ fn refusals(rt: HostRuntime) -> Result<(), Fail> {
         HexFault::NotHex,
         HexFault::NoMemory
     )?;
-    assert_eq!(rt;
-        text.as_str(),
-        "E2 EINVAL, E16 ENOMEM, F9 NoRoom, F9 NoRoom, given up, G1 Full, G2 SamePrefix, G3 NoSuch, not hex, out of memory"
+    assert!(rt;
+        text.as_str()
+            == "E2 EINVAL, E16 ENOMEM, F9 NoRoom, F9 NoRoom, given up, G1 Full, G2 SamePrefix, G3 NoSuch, not hex, out of memory"
     );
     Ok(())
 }
@@ -81,8 +78,8 @@ const CAUSES: [(DropCause, u8, &str); 6] = [
 #[test]
 fn causes_are_named(rt: HostRuntime) -> Result<(), Fail> {
     for (cause, number, name) in CAUSES {
-        assert_eq!(rt; cause.number(), number);
-        assert_eq!(rt; cause.to_string(rt.alloc())?.as_str(), name);
+        assert!(rt; cause.number() == number);
+        assert!(rt; cause.to_string(rt.alloc())?.as_str() == name);
     }
     Ok(())
 }

@@ -37,10 +37,10 @@ const RUNS: [&[(Event, u32)]; 3] = [
 fn timeouts(rt: HostRuntime) {
     for run in RUNS {
         let mut rto = Rto::new();
-        assert_eq!(rt; rto.rto(), 1_000);
+        assert!(rt; rto.rto() == 1_000);
         for (event, want) in run {
             take(&mut rto, event);
-            assert_eq!(rt; rto.rto(), *want);
+            assert!(rt; rto.rto() == *want);
         }
     }
 }
@@ -48,7 +48,7 @@ fn timeouts(rt: HostRuntime) {
 #[test]
 fn deadlines(rt: HostRuntime) {
     let mut timers = Timers::<3>::new();
-    assert_eq!(rt; timers.next(), None);
+    assert!(rt; timers.next() == None);
     timers.set(0, Moment(500).after(1_000));
     timers.set(2, Moment(900));
     for (kind, now, want) in [
@@ -57,10 +57,10 @@ fn deadlines(rt: HostRuntime) {
         (0, 900, false),
         (1, 9_999, false),
     ] {
-        assert_eq!(rt; timers.due(kind, Moment(now)), want, "of {kind} at {now}");
+        assert!(rt; timers.due(kind, Moment(now)) == want, "of {kind} at {now}");
     }
-    assert_eq!(rt; timers.next(), Some(Moment(900)));
+    assert!(rt; timers.next() == Some(Moment(900)));
     timers.clear(2);
-    assert_eq!(rt; timers.next(), Some(Moment(1_500)));
-    assert_eq!(rt; Moment(9).after(u64::MAX), Moment(u64::MAX));
+    assert!(rt; timers.next() == Some(Moment(1_500)));
+    assert!(rt; Moment(9).after(u64::MAX) == Moment(u64::MAX));
 }

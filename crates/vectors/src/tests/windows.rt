@@ -63,9 +63,8 @@ const RUNS: [&[(Event, u32)]; 3] = [
 fn windows(rt: HostRuntime) {
     for (smss, resent, want) in FIRST_WINDOWS {
         assert!(rt; 64 <= smss && smss <= 1_460);
-        assert_eq!(rt;
-            Cwnd::new(smss, resent).window(),
-            want,
+        assert!(rt;
+            Cwnd::new(smss, resent).window() == want,
             "with segments of {smss}"
         );
     }
@@ -73,7 +72,7 @@ fn windows(rt: HostRuntime) {
         let mut cwnd = Cwnd::new(1_460, false);
         for (event, want) in run {
             assert!(rt; answers(&mut cwnd, event), "before a window of {want}");
-            assert_eq!(rt; cwnd.window(), *want);
+            assert!(rt; cwnd.window() == *want);
         }
     }
 }
