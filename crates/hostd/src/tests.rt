@@ -61,7 +61,7 @@ const TRANSCRIPTS: [&[&[&str]]; 7] = [
 ];
 
 // What is asked of the program: to run a text as a script, or to print what the frame says that it spells.
-#[derive(Clone, Copy, PartialEq, Eq, Debug)]
+#[derive(Clone, Copy)]
 enum Asked {
     Sim,
     Decode,

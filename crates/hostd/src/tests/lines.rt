@@ -131,7 +131,7 @@ fn texts_are_refused_before_anything_is_run(rt: HostRuntime) -> Result<(), Fail>
         text.extend_from_slice(vec![in alloc; octet; count]?.as_slice())?;
         text.extend_from_slice(back.as_bytes())?;
         let end = ended(alloc, asked, text.as_slice(), GOOD, GOOD);
-        assert_eq!(rt; end.answer, want, "{asked:?} {count}");
+        assert_eq!(rt; end.answer, want, "{front} {count}");
     }
     Ok(())
 }

@@ -7,7 +7,7 @@ use std::process::Abort;
 use std::test::Fail;
 
 // What becomes of the frames of a dialogue: all but one arrive once.
-#[derive(Clone, Copy, Debug, PartialEq, Eq)]
+#[derive(Clone, Copy, Debug)]
 enum Network {
     // The frame with this index never arrives.
     Losing(usize),
