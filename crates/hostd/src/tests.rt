@@ -61,7 +61,7 @@ const TRANSCRIPTS: [&[&[&str]]; 7] = [
 ];
 
 // What is asked of the program: to run a text as a script, or to print what the frame says that it spells.
-#[derive(Clone, Copy, PartialEq, Eq, Debug)]
+#[derive(Clone, Copy)]
 enum Asked {
     Sim,
     Decode,
@@ -80,17 +80,13 @@ const GOOD: Device = Device {
 };
 
 // How a command ended: its answer, how often its source and its sink failed, and what the sink took.
+type Told<'a> = (Result<Option<DropCause>, TextFault>, (u64, u64), &'a [u8]);
+
 #[derive(Drop)]
 struct End {
     answer: Result<Option<DropCause>, TextFault>,
     failures: (u64, u64),
     sink: MemorySink,
-}
-
-impl End {
-    fn told(&self) -> (Result<Option<DropCause>, TextFault>, (u64, u64), &[u8]) {
-        (self.answer, self.failures, self.sink.taken())
-    }
 }
 
 // Does what is asked of a text.
@@ -102,7 +98,10 @@ fn ended(alloc: Global, asked: Asked, text: &[u8], from: Device, to: Device) -> 
         .in_pieces(to.most)
         .failing_at(to.fails_at);
     let answer = match asked {
-        Asked::Sim => sim(alloc, &mut source, &mut sink).map(|()| None),
+        Asked::Sim => match sim(alloc, &mut source, &mut sink) {
+            Ok(()) => Ok(None),
+            Err(fault) => Err(fault),
+        },
         Asked::Decode => frame::decode(alloc, &mut source, &mut sink),
     };
     End {
@@ -110,6 +109,25 @@ fn ended(alloc: Global, asked: Asked, text: &[u8], from: Device, to: Device) -> 
         failures: (source.failures(), sink.failures()),
         sink,
     }
+}
+
+// Does what is asked of a text, from one device to another, and compares how it ends.
+fn ends(
+    rt: &impl Abort,
+    alloc: Global,
+    (asked, text): (Asked, &str),
+    devices: (Device, Device),
+    told: Told<'_>,
+) {
+    let (from, to) = devices;
+    let end = ended(alloc, asked, text.as_bytes(), from, to);
+    assert_eq!(rt;
+        (end.answer, end.failures, end.sink.taken()),
+        told,
+        "{text} {} {}",
+        from.fails_at,
+        to.fails_at
+    );
 }
 
 // Plays a transcript.

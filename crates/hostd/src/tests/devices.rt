@@ -1,6 +1,6 @@
 //! What a script and frames print, on sources and sinks that fail or move a few octets at a time.
 
-use super::{Asked, Device, GOOD, ended};
+use super::{Asked, Device, GOOD, ended, ends};
 use crate::fault::TextFault;
 use decode::DropCause;
 use std::alloc::Global;
@@ -84,45 +84,44 @@ fn failing(call: usize) -> Device {
 fn moves_in_pieces(rt: &impl Abort, alloc: Global, (asked, text, want, prints): Row) {
     for most in PIECES {
         let device = Device { most, fails_at: 0 };
-        let end = ended(alloc, asked, text.as_bytes(), device, device);
-        assert_eq!(rt; end.told(), (want, (0, 0), prints.as_bytes()), "{text}");
+        let told = (want, (0, 0), prints.as_bytes());
+        ends(rt, alloc, (asked, text), (device, device), told);
     }
 }
 
-// A source fails at each of its calls, that for the end too: then nothing is run.
+// A source fails at each of its calls, that for the end too: then nothing is run. No call comes after that.
 fn reads_fail(rt: &impl Abort, alloc: Global, (asked, text, want, prints): Row) {
-    let calls = text.len() + 1;
-    let nothing: &[u8] = &[];
-    for call in 1..=calls {
-        let end = ended(alloc, asked, text.as_bytes(), failing(call), GOOD);
-        let told = (Err(TextFault::Read), (1, 0), nothing);
-        assert_eq!(rt; end.told(), told, "{text} at {call}");
+    for call in 0..=text.len() + 2 {
+        let told = if call == 0 || call == text.len() + 2 {
+            (want, (0, 0), prints.as_bytes())
+        } else {
+            (Err(TextFault::Read), (1, 0), b"".as_slice())
+        };
+        ends(rt, alloc, (asked, text), (failing(call), GOOD), told);
     }
-    let end = ended(alloc, asked, text.as_bytes(), failing(calls + 1), GOOD);
-    assert_eq!(rt; end.told(), (want, (0, 0), prints.as_bytes()), "{text}");
 }
 
-// A sink fails at each of its calls, the flush too, and keeps what it took before. To take nothing of some octets is a failure.
+// A sink fails at each of its calls, the flush too, and keeps what it took before. No call comes after that.
 fn writes_fail(rt: &impl Abort, alloc: Global, (asked, text, want, prints): Row) {
-    let calls = prints.len() + 1;
-    for call in 1..=calls {
-        let end = ended(alloc, asked, text.as_bytes(), GOOD, failing(call));
-        let (taken, _) = prints.as_bytes().split_at(call - 1);
-        let told = (Err(TextFault::Write), (0, 1), taken);
-        assert_eq!(rt; end.told(), told, "{text} at {call}");
+    for call in 0..=prints.len() + 2 {
+        let told = if call == 0 || call == prints.len() + 2 {
+            (want, (0, 0), prints.as_bytes())
+        } else {
+            let (taken, _) = prints.as_bytes().split_at(call - 1);
+            (Err(TextFault::Write), (0, 1), taken)
+        };
+        ends(rt, alloc, (asked, text), (GOOD, failing(call)), told);
     }
-    let end = ended(alloc, asked, text.as_bytes(), GOOD, failing(calls + 1));
-    assert_eq!(rt; end.told(), (want, (0, 0), prints.as_bytes()), "{text}");
+}
+
+// To take nothing of some octets is a failure.
+fn takes_nothing(rt: &impl Abort, alloc: Global, (asked, text, _, _): Row) {
     let none = Device {
         most: 0,
         fails_at: 0,
     };
-    let end = ended(alloc, asked, text.as_bytes(), GOOD, none);
-    assert_eq!(rt;
-        (end.answer, end.failures),
-        (Err(TextFault::Write), (0, 1)),
-        "{text}"
-    );
+    let told = (Err(TextFault::Write), (0, 1), b"".as_slice());
+    ends(rt, alloc, (asked, text), (GOOD, none), told);
 }
 
 #[test]
@@ -134,6 +133,7 @@ fn devices_change_nothing_unless_they_fail(rt: HostRuntime) {
         moves_in_pieces(&rt, rt.alloc(), row);
         reads_fail(&rt, rt.alloc(), row);
         writes_fail(&rt, rt.alloc(), row);
+        takes_nothing(&rt, rt.alloc(), row);
     }
 }
 

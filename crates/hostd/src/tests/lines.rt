@@ -1,6 +1,6 @@
 //! Lines that are bad, texts that are too long, and the text of octets.
 
-use super::{Asked, GOOD, ended};
+use super::{Asked, GOOD, ended, ends};
 use crate::fault::TextFault;
 use decode::DropCause;
 use script::{Style, show};
@@ -8,55 +8,53 @@ use std::test::Fail;
 use wire_sim::Answer;
 
 // Each of these is bad wherever it stands.
-const BAD: [&str; 47] = [
-    " ",
-    "c emit",
-    "A emit",
-    "a",
-    "a ",
-    "a  emit",
-    " a emit",
-    "a emit ",
-    "a emit\r",
-    "a\temit",
-    "a emit 1",
-    "a send 1",
-    "a send 1 ",
-    "a send 1 two words",
-    "a send 1 \u{7f}",
-    "a send 1 \u{e9}",
-    "# \u{e9}",
-    "a socket",
-    "a socket udp",
-    "a socket TCP",
-    "a bind 1 65536",
-    "a bind 1 -1",
-    "a bind 1 +80",
-    "a bind 1 0x50",
-    "a bind 1",
-    "a bind 18446744073709551616 80",
-    "a connect 1 80 4294967296",
-    "a connect 1 80",
-    "a listen 1 18446744073709551616",
-    "a fill 1 2000001",
-    "a recv 1 2000001",
-    "a count 1 2000001",
-    "a recv 1 ",
-    "a tick 18446744073709551616",
-    "a tick",
-    "a deliver 0",
-    "a deliver 0 4294967296",
-    "pass",
-    "pass 4294967296",
-    "pass 1 1",
-    "limit 0",
-    "limit 1073741825",
-    "a shutdown",
-    "a shutdown 1 1",
-    "a close",
-    "a close 1 1",
-    "a sendto 1 5001 hello",
-];
+const BAD: &str = " \n\
+    c emit\n\
+    A emit\n\
+    a\n\
+    a \n\
+    a  emit\n\
+    \x20a emit\n\
+    a emit \n\
+    a emit\r\n\
+    a\temit\n\
+    a emit 1\n\
+    a send 1\n\
+    a send 1 \n\
+    a send 1 two words\n\
+    a send 1 \u{7f}\n\
+    a send 1 \u{e9}\n\
+    # \u{e9}\n\
+    a socket\n\
+    a socket udp\n\
+    a socket TCP\n\
+    a bind 1 65536\n\
+    a bind 1 -1\n\
+    a bind 1 +80\n\
+    a bind 1 0x50\n\
+    a bind 1\n\
+    a bind 18446744073709551616 80\n\
+    a connect 1 80 4294967296\n\
+    a connect 1 80\n\
+    a listen 1 18446744073709551616\n\
+    a fill 1 2000001\n\
+    a recv 1 2000001\n\
+    a count 1 2000001\n\
+    a recv 1 \n\
+    a tick 18446744073709551616\n\
+    a tick\n\
+    a deliver 0\n\
+    a deliver 0 4294967296\n\
+    pass\n\
+    pass 4294967296\n\
+    pass 1 1\n\
+    limit 0\n\
+    limit 1073741825\n\
+    a shutdown\n\
+    a shutdown 1 1\n\
+    a close\n\
+    a close 1 1\n\
+    a sendto 1 5001 hello";
 
 // A script without commands, how it ends and what it prints: the limit comes first, or is bad.
 const SCRIPTS: [(&str, Result<Option<DropCause>, TextFault>, &str); 8] = [
@@ -111,27 +109,38 @@ const LONG: [(
 ];
 
 #[test]
-fn texts_are_refused_before_anything_is_run(rt: HostRuntime) -> Result<(), Fail> {
-    let alloc = rt.alloc();
-    for line in BAD {
-        let script = format!(in alloc; "a socket tcp\n\n# comment\n{line}\nbad too\n")?;
-        let end = ended(alloc, Asked::Sim, script.as_bytes(), GOOD, GOOD);
-        assert_eq!(rt;
-            end.told(),
-            (Err(TextFault::Line(4)), (0, 0), b"".as_slice()),
-            "{line}"
+fn bad_lines_end_before_anything_is_run(rt: HostRuntime) -> Result<(), Fail> {
+    for line in BAD.split('\n') {
+        let script = format!(in rt.alloc(); "a socket tcp\n\n# comment\n{line}\nbad too\n")?;
+        let told = (Err(TextFault::Line(4)), (0, 0), b"".as_slice());
+        ends(
+            &rt,
+            rt.alloc(),
+            (Asked::Sim, script.as_str()),
+            (GOOD, GOOD),
+            told,
         );
     }
+    Ok(())
+}
+
+#[test]
+fn scripts_without_commands_end(rt: HostRuntime) {
     for (script, want, prints) in SCRIPTS {
-        let end = ended(alloc, Asked::Sim, script.as_bytes(), GOOD, GOOD);
-        assert_eq!(rt; end.told(), (want, (0, 0), prints.as_bytes()), "{script}");
+        let told = (want, (0, 0), prints.as_bytes());
+        ends(&rt, rt.alloc(), (Asked::Sim, script), (GOOD, GOOD), told);
     }
+}
+
+#[test]
+fn texts_have_a_million_octets_at_most(rt: HostRuntime) -> Result<(), Fail> {
+    let alloc = rt.alloc();
     for (asked, front, (count, octet), back, want) in LONG {
         let mut text = Vec::from_slice(alloc, front.as_bytes())?;
         text.extend_from_slice(vec![in alloc; octet; count]?.as_slice())?;
         text.extend_from_slice(back.as_bytes())?;
         let end = ended(alloc, asked, text.as_slice(), GOOD, GOOD);
-        assert_eq!(rt; end.answer, want, "{asked:?} {count}");
+        assert_eq!(rt; end.answer, want, "{front} {count}");
     }
     Ok(())
 }

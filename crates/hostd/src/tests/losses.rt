@@ -7,7 +7,7 @@ use std::process::Abort;
 use std::test::Fail;
 
 // What becomes of the frames of a dialogue: all but one arrive once.
-#[derive(Clone, Copy, Debug, PartialEq, Eq)]
+#[derive(Clone, Copy, Debug)]
 enum Network {
     // The frame with this index never arrives.
     Losing(usize),
@@ -188,6 +188,12 @@ impl Dialogue {
         self.say(format_args!("a tick {seconds}000\nb tick {seconds}000"))
     }
 
+    // Compares what a line printed.
+    fn was_told(&self, rt: &impl Abort, line: &str, said: &str, want: &str) {
+        let (network, script) = (self.network, self.script.as_str());
+        assert_eq!(rt; said, want, "{line}, {network:?}: {script}");
+    }
+
     // Makes a call until it is answered, a second apart.
     fn insist(&mut self, line: &str) -> Result<String, Fail> {
         for _ in 0..TRIES {
@@ -223,29 +229,20 @@ fn plays_through(
         turns: 0,
     };
     for (line, want) in LISTENING {
-        assert_eq!(rt; dialogue.ask(line)?.as_str(), want, "{line}");
+        let said = dialogue.ask(line)?;
+        dialogue.was_told(rt, line, said.as_str(), want);
     }
     dialogue.say(format_args!("a connect 1 80 {isn}"))?;
     for (line, want) in course.rows {
         let said = dialogue.insist(line)?;
-        assert_eq!(rt;
-            said.as_str(),
-            *want,
-            "{line}, {network:?}, from {isn}: {}",
-            dialogue.script
-        );
+        dialogue.was_told(rt, line, said.as_str(), want);
     }
     for _ in 0..TRIES {
         dialogue.turn()?;
     }
     for (line, want) in course.ends {
         let said = dialogue.ask(line)?;
-        assert_eq!(rt;
-            said.as_str(),
-            *want,
-            "{line}, {network:?}, from {isn}: {}",
-            dialogue.script
-        );
+        dialogue.was_told(rt, line, said.as_str(), want);
     }
     Ok(())
 }
