@@ -89,21 +89,24 @@ const OF_THE_REQUEST: [Row; 8] = [
     (&[(28, 0)], Err(DropCause::OtherAddress)),
 ];
 
+/// The frame with these octets in the place of its own.
+fn changed(frame: [u8; 60], changes: &[(usize, u8)]) -> [u8; 60] {
+    let mut frame = frame;
+    for (place, new) in changes {
+        if let Some(octet) = frame.get_mut(*place) {
+            *octet = *new;
+        }
+    }
+    frame
+}
+
 #[test]
 fn frames_are_heard(rt: HostRuntime) {
     for (changes, want) in OF_THE_SYN {
-        let mut frame = SYN;
-        for (place, octet) in changes {
-            frame[*place] = *octet;
-        }
-        assert_eq!(rt; heard_as(&frame), want, "{changes:?}");
+        assert_eq!(rt; heard_as(&changed(SYN, changes)), want, "{changes:?}");
     }
     for (changes, want) in OF_THE_REQUEST {
-        let mut frame = REQUEST;
-        for (place, octet) in changes {
-            frame[*place] = *octet;
-        }
-        assert_eq!(rt; heard_as(&frame), want, "{changes:?}");
+        assert_eq!(rt; heard_as(&changed(REQUEST, changes)), want, "{changes:?}");
     }
     assert_eq!(rt; heard_as(&SYN[..13]), Err(DropCause::Short));
     assert_eq!(rt; heard_as(&[2; SPACE + 1]), Err(DropCause::Short));
