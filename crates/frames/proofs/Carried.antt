@@ -23,7 +23,7 @@ use Rattle.frames.specs.Sent.{datagram_of_segment, ipv4_head, packet_destination
 use Rattle.frames.proofs.Meanings.{heard_packet, heard_segment}
 
 -- the fields of the datagram that goes out
-fields : (h : FrameHead) (segment : List ℕ) → length h.from.0 ≡ 4 → length h.to.0 ≡ 4 → length segment ≤ 1480 → IsDatagram (datagram_of_segment h segment)
+pub fields : (h : FrameHead) (segment : List ℕ) → length h.from.0 ≡ 4 → length h.to.0 ≡ 4 → length segment ≤ 1480 → IsDatagram (datagram_of_segment h segment)
 fields h segment from to most = record {
   service = omega arith;
   identification = omega arith;
@@ -67,7 +67,7 @@ segments_heard h head octets can destination source may most =
     heard_segment h.destination h.to (segment_frame h segment) d (sent head octets) (brings, (refl, refl), refl) (segment_spelled h.from h.to head octets can)
 
 -- where a packet goes
-destination_len : (o : Operation) (target : Mac) → length target.0 ≡ 6 → length (packet_destination o target).0 ≡ 6
+pub destination_len : (o : Operation) (target : Mac) → length target.0 ≡ 6 → length (packet_destination o target).0 ≡ 6
 destination_len Request target six = refl
 destination_len Reply target six = six
 

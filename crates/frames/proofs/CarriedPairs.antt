@@ -16,10 +16,10 @@ use Rattle.tcp_segment.proofs.Answering.{alike, fault_parsed, read_ok as segment
 use Rattle.frames.specs.Meaning.{ipv4_type, is_fragment}
 use Rattle.frames.specs.Pairs.{CarryPair, datagram_pair, frame_pair, pair_between, pair_in, segment_pair}
 use Rattle.frames.proofs.Meanings.{AreOctets, datagram_octets, payload_octets}
-use Rattle.frames.proofs.Tests.{unfragmented, whole}
+use Rattle.frames.proofs.Deciding.{unfragmented, whole}
 
 -- the pair of a segment that octets carry is read
-carried_read : (octets : List ℕ) (pair : Pair) → CarryPair octets pair → pair_in octets ≡ Some pair
+pub carried_read : (octets : List ℕ) (pair : Pair) → CarryPair octets pair → pair_in octets ≡ Some pair
 unfolding pair_in
 carried_read octets pair carries =
     let f : Frame = carries.frame in

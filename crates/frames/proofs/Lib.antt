@@ -1,8 +1,9 @@
 pub mod Layers
 pub mod Emitted
-pub mod Tests
+pub mod Deciding
 pub mod Meanings
 pub mod Spelled
 pub mod PairLemmas
 pub mod Carried
 pub mod CarriedPairs
+pub mod EmittedPairs

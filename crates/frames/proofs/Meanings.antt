@@ -30,7 +30,7 @@ use Rattle.frames.specs.declared.meaning.Meaning.TheVariants.{Arp, Tcp, Other}
 use Rattle.frames.specs.Heard.{Brings, BringsDatagram, BringsTcp, IsHeard, MaySend}
 use Rattle.frames.specs.Meaning.{arp_type, datagram_heard, heard, ipv4_type, is_for, is_fragment, may_send, packet_heard, payload_heard, same_addr, segment_heard, upper_heard}
 use Rattle.frames.proofs.Layers.{as_frame, for_another, for_us, from_none, from_other, too_many}
-use Rattle.frames.proofs.Tests.{ends-Decides, for-Decides, fragmented, number-Decides, refuted, send-Decides, unfragmented}
+use Rattle.frames.proofs.Deciding.{ends-Decides, for-Decides, fragmented, number-Decides, refuted, send-Decides, unfragmented}
 
 -- each is an octet
 abbrev pub AreOctets : List ℕ → Type 0

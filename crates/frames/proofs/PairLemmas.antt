@@ -21,7 +21,7 @@ use Rattle.frames.specs.declared.meaning.Meaning.TheVariants.{Arp, Tcp, Other}
 use Rattle.frames.specs.declared.meaning.Received.{Received}
 use Rattle.frames.specs.Meaning.{arp_type, datagram_heard, frame_heard, heard, ipv4_type, is_for, is_fragment, may_send, packet_heard, same_addr, segment_heard, upper_heard}
 use Rattle.frames.specs.Pairs.{datagram_pair, frame_pair, pair_between, pair_in, segment_pair}
-use Rattle.frames.proofs.Tests.{addr-Decides}
+use Rattle.frames.proofs.Deciding.{addr-Decides}
 
 -- of a segment
 of_segment : (source destination : Addr) (octets : List ℕ) (r : Received) (read : Result Segment SegmentFault) → segment_or_fault source destination octets ≡ read

@@ -29,7 +29,7 @@ use Rattle.frames.specs.Heard.{Brings, BringsDatagram, BringsTcp, IsHeard}
 use Rattle.frames.specs.Meaning.{arp_type, datagram_heard, frame_heard, heard, ipv4_type, is_for, is_fragment, may_send, packet_heard, payload_heard, same_addr, segment_heard, upper_heard}
 use Rattle.frames.proofs.Layers.{as_frame, too_many}
 use Rattle.frames.proofs.Meanings.{AreOctets, brought_octets, source_len, spelled_heard, upper_octets}
-use Rattle.frames.proofs.Tests.{ends-Decides, for-Decides, never, number-Decides, send-Decides, unfragmented, whole}
+use Rattle.frames.proofs.Deciding.{ends-Decides, for-Decides, never, number-Decides, send-Decides, unfragmented, whole}
 
 -- a segment
 of_segment : (mac : Mac) (ours : Addr) (octets : List ℕ) (d : Datagram) (read : Result Segment SegmentFault) → BringsTcp mac ours octets d

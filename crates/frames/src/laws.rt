@@ -1,6 +1,6 @@
 //! Laws of the definitions that the contracts of this crate cite: each is the contract of a function that does nothing.
 
-ghost use Rattle.std.specs.Prelude.{◌≡◌, ◌↔◌, ℕ, ◌+◌, ◌*◌, ◌<◌, ◌≤◌, List, length, All, Some, Result, Ok};
+ghost use Rattle.std.specs.Prelude.{◌≡◌, ◌↔◌, ℕ, ◌+◌, ◌*◌, ◌<◌, ◌≤◌, List, length, All, Some, None, Result, Ok};
 ghost use Rattle.ether.specs.declared.mac.Mac.{Mac};
 ghost use Rattle.arp.specs.declared.packet.ArpPacket.{ArpPacket};
 ghost use Rattle.arp.specs.declared.packet.Operation.TheVariants.{Request, Reply};
@@ -41,8 +41,8 @@ pub fn carried_pairs()
 {}
 
 /// A frame that `FrameHead::emit_tcp` writes is heard, where it is for, as the very segment that is meant, from the address that
-/// sends it: whatever its octets and whether it is padded, where that address may send and the segment, with its header, has the
-/// 1,480 octets that a datagram has room for (RFC 9293 section 3.1).
+/// sends it, padded or not. That address is one that may send, and the segment fits into a frame: with its header it has at most
+/// 1,480 octets (RFC 9293 section 3.1).
 pub fn emitted_segments_are_heard()
     ensures { (h : FrameHead) (head : Head) (octets : List ℕ) → CanBeSent h.from h.to head octets
         → length h.destination.0 ≡ 6 → length h.source.0 ≡ 6 → MaySend h.to h.from → 4 * sent_offset head + length octets ≤ 1480
@@ -56,4 +56,13 @@ pub fn emitted_packets_are_heard()
         → heard mac ours (packet_frame packet) ≡ Ok (Arp packet) }
     ensures reply { (packet : ArpPacket) (ours : Addr) → HasWidths packet → MaySend ours packet.sender_addr → packet.operation ≡ Reply
         → heard packet.target_mac ours (packet_frame packet) ≡ Ok (Arp packet) }
+{}
+
+/// What goes out carries the pair of its two ends, whoever it is for, where it is a segment, and no pair where it is an ARP packet
+/// (RFC 9293 section 4).
+pub fn emitted_pairs()
+    ensures segment { (h : FrameHead) (head : Head) (octets : List ℕ) → CanBeSent h.from h.to head octets
+        → length h.destination.0 ≡ 6 → length h.source.0 ≡ 6 → 4 * sent_offset head + length octets ≤ 1480
+        → pair_in (segment_frame h (sent_octets h.from h.to head octets)) ≡ Some (pair_between h.from h.to (sent head octets)) }
+    ensures packet { (packet : ArpPacket) → HasWidths packet → pair_in (packet_frame packet) ≡ None }
 {}

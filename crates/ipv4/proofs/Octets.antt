@@ -1,5 +1,5 @@
 -- Lists of octets.
-use Rattle.std.proofs.Common.{ℕ, ◌<◌, ◌≤◌, List, length, All, get_or, arith, sym, ⊎_elim, subst}
+use Rattle.std.proofs.Common.{ℕ, ◌<◌, List, length, All, get_or, arith, sym, ⊎_elim, subst}
 use Rattle.std.proofs.lemmas.Bool.{cases_lt}
 use Rattle.std.proofs.lemmas.List.{get_or_past}
 

@@ -1,12 +1,12 @@
 -- The plain reading of octets finds the datagram that they spell.
-use Rattle.std.proofs.Common.{◌≡◌, ℕ, ◌-◌, ◌+◌, ◌*◌, ◌/◌, ◌%◌, ◌^◌, ◌<◌, ◌≤◌, ◌==◌, ◌&&◌, ◌||◌, not, Bool, true, false, nat_lt, nat_le, IsTrue, cond, List, length, take, drop, All, Option, Some, None, Result, Ok, Err, arith, refl, sym, ◌∙◌, ap, subst}
+use Rattle.std.proofs.Common.{◌≡◌, ℕ, ◌-◌, ◌+◌, ◌*◌, ◌/◌, ◌%◌, ◌^◌, ◌<◌, ◌==◌, ◌&&◌, ◌||◌, not, Bool, true, false, nat_lt, nat_le, IsTrue, cond, List, length, take, drop, All, Option, Some, None, Ok, Err, arith, refl, sym, ◌∙◌, ap, subst}
 use Rattle.std.proofs.lemmas.Bool.{eqb-true, eq-eqb}
 use Rattle.std.proofs.lemmas.Bool.Decides.{nat_tests}
 use Rattle.std.proofs.lemmas.List.{length-take, length-drop, take-append-drop}
 use Rattle.inet_sum.specs.Sum.{sum_of}
 use Rattle.ipv4.specs.declared.fault.Ipv4Fault.{Ipv4Fault}
 use Rattle.ipv4.specs.declared.fault.Ipv4Fault.TheVariants.{IpHeader, IpSum}
-use Rattle.ipv4.specs.Datagram.{Datagram, HasForm, HasPlace, IsParsed, SumIsRight, header_len, header_octets, total_len}
+use Rattle.ipv4.specs.Datagram.{Datagram, HasForm, HasPlace, IsParsed, SumIsRight, header_octets}
 use Rattle.ipv4.specs.Reading.{checked, datagram_in, datagram_of, datagram_with, has_place, lengths_in, placed, word_at}
 use Rattle.ipv4.proofs.Form.{are_read, form_read, has_form, lengths_facts, same_start}
 use Rattle.ipv4.proofs.Octets.{each_octet}

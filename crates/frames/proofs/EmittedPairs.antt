@@ -1,0 +1,47 @@
+-- The pair of what goes out.
+use Rattle.std.proofs.Common.{◌≡◌, ℕ, ◌+◌, ◌*◌, ◌≤◌, List, length, Some, None, arith, refl, ap}
+use Rattle.ether.specs.declared.head.Head.{Head as EtherHead}
+use Rattle.ether.specs.Frame.{padding, sent as frame_sent}
+use Rattle.ether.proofs.Answering.{sent_spelled as frame_spelled}
+use Rattle.ether.proofs.Reading.{read_ok as frame_found}
+use Rattle.arp.specs.declared.packet.ArpPacket.{ArpPacket}
+use Rattle.arp.specs.Packet.{HasWidths, spelling as packet_octets}
+use Rattle.ipv4.specs.Datagram.{Datagram, IsDatagram, spelling as datagram_octets}
+use Rattle.ipv4.proofs.Answering.{sent_spelled as datagram_spelled}
+use Rattle.tcp_segment.specs.declared.head.Head.{Head}
+use Rattle.tcp_segment.specs.Sent.{CanBeSent, sent, sent_octets, sent_offset}
+use Rattle.tcp_segment.proofs.Checksum.{sent_octets_len, sent_spelled as segment_spelled}
+use Rattle.frames.specs.declared.emission.FrameHead.{FrameHead}
+use Rattle.frames.specs.Meaning.{arp_type, ipv4_type}
+use Rattle.frames.specs.Pairs.{frame_pair, pair_between, pair_in}
+use Rattle.frames.specs.Sent.{datagram_of_segment, ipv4_head, packet_destination, packet_frame, segment_frame}
+use Rattle.frames.proofs.Carried.{destination_len, fields}
+use Rattle.frames.proofs.CarriedPairs.{carried_read}
+
+pub segment_pairs : (h : FrameHead) (head : Head) (octets : List ℕ) → CanBeSent h.from h.to head octets → length h.destination.0 ≡ 6 → length h.source.0 ≡ 6
+    → 4 * sent_offset head + length octets ≤ 1480
+    → pair_in (segment_frame h (sent_octets h.from h.to head octets)) ≡ Some (pair_between h.from h.to (sent head octets))
+segment_pairs h head octets can destination source most =
+    let segment : List ℕ = sent_octets h.from h.to head octets in
+    let d : Datagram = datagram_of_segment h segment in
+    let are : IsDatagram d = fields h segment can.src_octets can.dst_octets (omega (arith, sent_octets_len h.from h.to head octets, most)) in
+    let frame_head : EtherHead = record { destination = h.destination; source = h.source; kind = ipv4_type } in
+    carried_read (segment_frame h segment) (pair_between h.from h.to (sent head octets)) (record {
+      frame = frame_sent frame_head (datagram_octets d);
+      datagram = d;
+      segment = sent head octets;
+      framed = frame_spelled frame_head (datagram_octets d) destination source (omega arith);
+      type = refl;
+      carried = datagram_spelled (ipv4_head h) segment (padding (datagram_octets d)) are;
+      whole = (refl, refl);
+      protocol = refl;
+      spelled = segment_spelled h.from h.to head octets can;
+      ends = refl;
+    })
+
+pub packet_pairs : (p : ArpPacket) → HasWidths p → pair_in (packet_frame p) ≡ None
+unfolding pair_in
+packet_pairs p widths =
+    let head : EtherHead = record { destination = packet_destination p.operation p.target_mac; source = p.sender_mac; kind = arp_type } in
+    let spells = frame_spelled head (packet_octets p) (destination_len p.operation p.target_mac widths.target_mac) widths.sender_mac (omega arith) in
+    ap frame_pair (frame_found (packet_frame p) (frame_sent head (packet_octets p)) spells)

@@ -1,0 +1,157 @@
+//! Frames from outside: the octets are those that the RFCs' formats give.
+
+use super::*;
+use arp::ArpPacket;
+use ether::{Mac, SPACE};
+use ipv4::Addr;
+use std::test::Fail;
+
+const MAC: Mac = Mac([2, 0, 0, 0, 0, 2]);
+
+const OURS: Addr = Addr([10, 0, 0, 2]);
+
+const OTHER_MAC: Mac = Mac([2, 0, 0, 0, 0, 1]);
+
+const OTHER: Addr = Addr([10, 0, 0, 1]);
+
+/// A SYN of 10.0.0.1 for 10.0.0.2, padded (RFC 9293 section 3.1).
+const SYN: [u8; 60] =
+    *b"\x02\0\0\0\0\x02\x02\0\0\0\0\x01\x08\0\x45\0\0\x2c\0\0\x40\0\x40\x06\x26\xca\x0a\0\0\x01\x0a\0\0\x02\xc0\0\0\x50\xff\xff\xff\xff\0\0\0\0\x60\x02\xff\xff\xc3\xd3\0\0\x02\x04\x05\xb4\0\0";
+
+/// A request of 10.0.0.1 for 10.0.0.2, padded (RFC 826).
+const REQUEST: [u8; 60] =
+    *b"\xff\xff\xff\xff\xff\xff\x02\0\0\0\0\x01\x08\x06\0\x01\x08\0\x06\x04\0\x01\x02\0\0\0\0\x01\x0a\0\0\x01\0\0\0\0\0\0\x0a\0\0\x02\0\0\0\0\0\0\0\0\0\0\0\0\0\0\0\0\0\0";
+
+/// What a frame is, by the parts that tell it apart: the packet's sender, the segment's source, or the protocol.
+#[derive(Clone, Copy, PartialEq, Eq, Debug)]
+enum Said {
+    Arp(Addr),
+    Tcp(Addr, u16),
+    Other(u8),
+}
+
+fn heard_as(octets: &[u8]) -> Result<Said, DropCause> {
+    match read(MAC, OURS, octets)? {
+        Meaning::Arp(packet) => Ok(Said::Arp(packet.sender_addr)),
+        Meaning::Tcp(received) => Ok(Said::Tcp(received.source, received.segment.source())),
+        Meaning::Other(datagram) => Ok(Said::Other(datagram.protocol().0)),
+    }
+}
+
+/// Octets of a frame that are others, and what it is then.
+type Row = (&'static [(usize, u8)], Result<Said, DropCause>);
+
+/// The checksum of the header is that of the changed octets, but where it is the fault.
+const OF_THE_SYN: [Row; 18] = [
+    (&[], Ok(Said::Tcp(OTHER, 49_152))),
+    (&[(5, 3)], Err(DropCause::OtherMac)),
+    (&[(5, 3), (13, 1)], Err(DropCause::OtherMac)),
+    (
+        &[(0, 255), (1, 255), (2, 255), (3, 255), (4, 255), (5, 255)],
+        Err(DropCause::OtherMac),
+    ),
+    (&[(13, 1)], Err(DropCause::OtherType)),
+    (&[(14, 0x55)], Err(DropCause::IpHeader)),
+    (&[(25, 0xcb)], Err(DropCause::IpSum)),
+    (&[(33, 3), (25, 0xc9)], Err(DropCause::OtherAddress)),
+    (&[(29, 2), (25, 0xc9)], Err(DropCause::OtherAddress)),
+    (
+        &[(26, 127), (24, 0xb1), (25, 0xc9)],
+        Err(DropCause::OtherAddress),
+    ),
+    (&[(20, 0x60), (24, 0x06)], Err(DropCause::Fragment)),
+    (
+        &[(20, 0x60), (24, 0x06), (46, 0x40)],
+        Err(DropCause::Fragment),
+    ),
+    (&[(21, 1), (25, 0xc9)], Err(DropCause::Fragment)),
+    (&[(46, 0x40)], Err(DropCause::UpperHeader)),
+    (&[(51, 0xd4)], Err(DropCause::UpperSum)),
+    (&[(23, 1), (25, 0xcf)], Ok(Said::Other(1))),
+    (&[(23, 17), (25, 0xbf)], Ok(Said::Other(17))),
+    (
+        &[(20, 0x60), (23, 17), (24, 0x06), (25, 0xbf)],
+        Ok(Said::Other(17)),
+    ),
+];
+
+const OF_THE_REQUEST: [Row; 8] = [
+    (&[], Ok(Said::Arp(OTHER))),
+    (&[(41, 9)], Ok(Said::Arp(OTHER))),
+    (
+        &[(0, 2), (1, 0), (2, 0), (3, 0), (4, 0), (5, 2)],
+        Ok(Said::Arp(OTHER)),
+    ),
+    (&[(5, 0xfe)], Err(DropCause::OtherMac)),
+    (&[(21, 3)], Err(DropCause::UpperHeader)),
+    (&[(21, 3), (31, 2)], Err(DropCause::UpperHeader)),
+    (&[(31, 2)], Err(DropCause::OtherAddress)),
+    (&[(28, 0)], Err(DropCause::OtherAddress)),
+];
+
+/// The frame with these octets in the place of its own.
+fn changed(frame: [u8; 60], changes: &[(usize, u8)]) -> [u8; 60] {
+    let mut frame = frame;
+    for (place, new) in changes {
+        if let Some(octet) = frame.get_mut(*place) {
+            *octet = *new;
+        }
+    }
+    frame
+}
+
+#[test]
+fn frames_are_heard(rt: HostRuntime) {
+    for (changes, want) in OF_THE_SYN {
+        assert_eq!(rt; heard_as(&changed(SYN, changes)), want, "{changes:?}");
+    }
+    for (changes, want) in OF_THE_REQUEST {
+        assert_eq!(rt; heard_as(&changed(REQUEST, changes)), want, "{changes:?}");
+    }
+    assert_eq!(rt; heard_as(&SYN[..13]), Err(DropCause::Short));
+    assert_eq!(rt; heard_as(&[2; SPACE + 1]), Err(DropCause::Short));
+    assert_eq!(rt; heard_as(&[2; SPACE]), Err(DropCause::OtherMac));
+}
+
+#[test]
+fn frames_go_out(rt: HostRuntime) {
+    let head = FrameHead {
+        destination: MAC,
+        source: OTHER_MAC,
+        from: OTHER,
+        to: OURS,
+    };
+    let mut out = [7; SPACE];
+    out[34..58].copy_from_slice(&SYN[34..58]);
+    assert_eq!(rt; head.emit_tcp(24, &mut out), 60);
+    assert!(rt; out.starts_with(&SYN));
+    assert_eq!(rt;
+        emit_arp(&ArpPacket::request(OTHER_MAC, OTHER, OURS), &mut out),
+        60
+    );
+    assert!(rt; out.starts_with(&REQUEST));
+    assert_eq!(rt; head.emit_tcp(1_480, &mut out), SPACE);
+}
+
+/// Each cause, its number and its text.
+const CAUSES: [(DropCause, u8, &str); 10] = [
+    (DropCause::Short, 1, "F1 Short"),
+    (DropCause::OtherMac, 2, "F2 OtherMac"),
+    (DropCause::OtherType, 3, "F3 OtherType"),
+    (DropCause::IpHeader, 4, "F4 IpHeader"),
+    (DropCause::IpSum, 5, "F5 IpSum"),
+    (DropCause::OtherAddress, 6, "F6 OtherAddress"),
+    (DropCause::UpperHeader, 7, "F7 UpperHeader"),
+    (DropCause::UpperSum, 8, "F8 UpperSum"),
+    (DropCause::NoRoom, 9, "F9 NoRoom"),
+    (DropCause::Fragment, 10, "F10 Fragment"),
+];
+
+#[test]
+fn causes_are_named(rt: HostRuntime) -> Result<(), Fail> {
+    for (cause, number, text) in CAUSES {
+        assert_eq!(rt; cause.number(), number);
+        assert_eq!(rt; cause.to_string(rt.alloc())?.as_str(), text);
+    }
+    Ok(())
+}
