@@ -12,6 +12,3 @@ pub use drop::DropCause;
 pub use emission::{FrameHead, emit_arp};
 pub use meaning::{Meaning, Received};
 pub use reading::read;
-
-#[cfg(test)]
-mod tests;

@@ -1,11 +1,12 @@
-//! Tables of vectors, a module for each format or part. Octets stand in them as hexadecimal digits.
+//! Tables of vectors, a module for each format or part. Octets stand in them as byte strings.
 
 mod constants;
 mod datagrams;
 mod fragments;
-mod frames;
+mod heard;
 mod hops;
 mod lines;
+mod link;
 mod messages;
 mod packets;
 mod prefixes;

@@ -1,8 +1,8 @@
-//! Frames from outside: the octets are those that the RFCs' formats give.
+//! What frames are to a host: the octets are those that the RFCs' formats give.
 
-use super::*;
 use arp::ArpPacket;
 use ether::{Mac, SPACE};
+use frames::{DropCause, FrameHead, Meaning, emit_arp, read};
 use ipv4::Addr;
 use std::test::Fail;
 
@@ -23,7 +23,7 @@ const REQUEST: [u8; 60] =
     *b"\xff\xff\xff\xff\xff\xff\x02\0\0\0\0\x01\x08\x06\0\x01\x08\0\x06\x04\0\x01\x02\0\0\0\0\x01\x0a\0\0\x01\0\0\0\0\0\0\x0a\0\0\x02\0\0\0\0\0\0\0\0\0\0\0\0\0\0\0\0\0\0";
 
 /// What a frame is, by the parts that tell it apart: the packet's sender, the segment's source, or the protocol.
-#[derive(Clone, Copy, PartialEq, Eq, Debug)]
+#[derive(Clone, Copy, PartialEq, Eq)]
 enum Said {
     Arp(Addr),
     Tcp(Addr, u16),
@@ -103,14 +103,14 @@ fn changed(frame: [u8; 60], changes: &[(usize, u8)]) -> [u8; 60] {
 #[test]
 fn frames_are_heard(rt: HostRuntime) {
     for (changes, want) in OF_THE_SYN {
-        assert_eq!(rt; heard_as(&changed(SYN, changes)), want, "{changes:?}");
+        assert!(rt; heard_as(&changed(SYN, changes)) == want);
     }
     for (changes, want) in OF_THE_REQUEST {
-        assert_eq!(rt; heard_as(&changed(REQUEST, changes)), want, "{changes:?}");
+        assert!(rt; heard_as(&changed(REQUEST, changes)) == want);
     }
-    assert_eq!(rt; heard_as(&SYN[..13]), Err(DropCause::Short));
-    assert_eq!(rt; heard_as(&[2; SPACE + 1]), Err(DropCause::Short));
-    assert_eq!(rt; heard_as(&[2; SPACE]), Err(DropCause::OtherMac));
+    assert!(rt; heard_as(&SYN[..13]) == Err(DropCause::Short));
+    assert!(rt; heard_as(&[2; SPACE + 1]) == Err(DropCause::Short));
+    assert!(rt; heard_as(&[2; SPACE]) == Err(DropCause::OtherMac));
 }
 
 #[test]
@@ -123,14 +123,11 @@ fn frames_go_out(rt: HostRuntime) {
     };
     let mut out = [7; SPACE];
     out[34..58].copy_from_slice(&SYN[34..58]);
-    assert_eq!(rt; head.emit_tcp(24, &mut out), 60);
+    assert!(rt; head.emit_tcp(24, &mut out) == 60);
     assert!(rt; out.starts_with(&SYN));
-    assert_eq!(rt;
-        emit_arp(&ArpPacket::request(OTHER_MAC, OTHER, OURS), &mut out),
-        60
-    );
+    assert!(rt; emit_arp(&ArpPacket::request(OTHER_MAC, OTHER, OURS), &mut out) == 60);
     assert!(rt; out.starts_with(&REQUEST));
-    assert_eq!(rt; head.emit_tcp(1_480, &mut out), SPACE);
+    assert!(rt; head.emit_tcp(1_480, &mut out) == SPACE);
 }
 
 /// Each cause, its number and its text.
@@ -150,8 +147,8 @@ const CAUSES: [(DropCause, u8, &str); 10] = [
 #[test]
 fn causes_are_named(rt: HostRuntime) -> Result<(), Fail> {
     for (cause, number, text) in CAUSES {
-        assert_eq!(rt; cause.number(), number);
-        assert_eq!(rt; cause.to_string(rt.alloc())?.as_str(), text);
+        assert!(rt; cause.number() == number);
+        assert!(rt; cause.to_string(rt.alloc())?.as_str() == text);
     }
     Ok(())
 }
