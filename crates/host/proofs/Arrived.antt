@@ -6,10 +6,10 @@ use Rattle.tcp_segment.specs.Segment.{Segment}
 use Rattle.tcp_state.specs.declared.connection.Fate.{Fate}
 use Rattle.tcp_state.specs.declared.connection.Fate.TheVariants.{Stays, Removed, Refused}
 use Rattle.clock.specs.declared.moment.Moment.{Moment}
-use Rattle.host.specs.declared.entry.Role.{Role}
+use Rattle.host.specs.declared.role.Role.{Role}
 use Rattle.host.specs.declared.entry.Entry.{Entry}
 use Rattle.host.specs.declared.refusal.DropCause.{DropCause}
-use Rattle.host.specs.Dispatch.{Arrival, Becomes, local_end, peer_end, is_opening, answered, arrival_alone, arrival_at_connection, arrival, Meets}
+use Rattle.host.specs.Arrival.{Arrival, Becomes, local_end, peer_end, is_opening, answered, arrival_alone, arrival_at_connection, arrival, Meets}
 use Rattle.host.specs.Replies.{reset_at_ack, answer_to, answer_at_listener}
 use Rattle.host.specs.Entries.{is_between, is_listening_at, arrived, fate_of, is_kept, settled, with_role}
 use Rattle.host.specs.HostView.{HostView, later}

@@ -8,11 +8,12 @@ use Rattle.tcp_state.specs.declared.connection.Resend.{Resend}
 use Rattle.tcp_state.specs.declared.connection.Resend.TheVariants.{Idle as Rests, At, Due}
 use Rattle.tcp_state.specs.View.{View, is_reached, is_at_end, ends_at, resend_at, resend_after, after_resend, after_tick, stopped, deadline}
 use Rattle.host.specs.declared.entry.Entry.{Entry}
-use Rattle.host.specs.declared.entry.Role.{Role}
-use Rattle.host.specs.declared.entry.Role.TheVariants.{Idle, Listener, Connected}
+use Rattle.host.specs.declared.role.Role.{Role}
+use Rattle.host.specs.declared.role.Role.TheVariants.{Idle, Listener, Connected}
 use Rattle.host.specs.Entries.{deadline_of, ticked, tick_fate_of, is_kept, with_role, all_settled}
-use Rattle.host.specs.HostView.{HostView, later, least_deadline, IsLeastDeadline, HasNoDeadline}
-use Rattle.host.specs.HostView as host
+use Rattle.host.specs.HostView.{HostView, later}
+use Rattle.host.specs.Ticks.{least_deadline, IsLeastDeadline, HasNoDeadline}
+use Rattle.host.specs.Ticks as host
 use Rattle.host.proofs.Followed.{by_test}
 
 -- The sooner of two moments.

@@ -10,11 +10,11 @@ use Rattle.tcp_state.specs.declared.connection.Fate.{Fate}
 use Rattle.tcp_state.specs.declared.connection.Fate.TheVariants.{Stays, Removed, Refused}
 use Rattle.host.specs.declared.entry.SocketId.{SocketId}
 use Rattle.host.specs.declared.entry.Entry.{Entry}
-use Rattle.host.specs.declared.entry.Role.{Role}
+use Rattle.host.specs.declared.role.Role.{Role}
 use Rattle.host.specs.declared.refusal.Refusal.{Refusal}
 use Rattle.host.specs.HostView.{HostView, role_of}
 use Rattle.host.specs.Entries.{is_between, is_listening_at, fate_of}
-use Rattle.host.specs.Dispatch.{local_end, peer_end, is_opening, has_no_place, answered, arrival, opened_by, pair_opened}
+use Rattle.host.specs.Arrival.{local_end, peer_end, is_opening, has_no_place, answered, arrival, opened_by, pair_opened}
 use Rattle.host.specs.Replies.{reset_at_ack, answer_to, answer_at_listener}
 use Rattle.host.specs.Calls.{open_answer, reach_refusal, port_for, connect_refusal, pair_connected}
 

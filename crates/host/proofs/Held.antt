@@ -15,12 +15,12 @@ use Rattle.tcp_state.specs.View.{View, is_closed}
 use Rattle.tcp_state.specs.Arrival.{opened_passively}
 use Rattle.host.specs.declared.entry.SocketId.{SocketId}
 use Rattle.host.specs.declared.entry.Entry.{Entry}
-use Rattle.host.specs.declared.entry.Role.{Role}
-use Rattle.host.specs.declared.entry.Role.TheVariants.{Idle, Listener, Connected}
+use Rattle.host.specs.declared.role.Role.{Role}
+use Rattle.host.specs.declared.role.Role.TheVariants.{Idle, Listener, Connected}
 use Rattle.host.specs.Endpoints.{same_addr, same_end}
 use Rattle.host.specs.Entries.{is_between, is_of_pair, is_listening_at, is_live_between, joins, fate_of, new_waiting}
 use Rattle.host.specs.HostView.{HostView, holder_id}
-use Rattle.host.specs.Dispatch.{Becomes, Opens, NoPlace, local_end, peer_end, is_opening, has_no_place, answered, after_opening, arrival}
+use Rattle.host.specs.Arrival.{Becomes, Opens, NoPlace, local_end, peer_end, is_opening, has_no_place, answered, after_opening, arrival}
 use Rattle.host.specs.Replies.{reset_at_ack, answer_to, answer_at_listener}
 use Rattle.host.specs.Order.{LiesBetween, IsOrdered}
 use Rattle.host.proofs.Ends.{same_end-same}

@@ -10,11 +10,12 @@ use Rattle.tcp_state.specs.declared.connection.Fate.TheVariants.{Stays, Removed,
 use Rattle.host.specs.declared.refusal.Refusal.{Refusal}
 use Rattle.host.specs.declared.entry.SocketId.{SocketId}
 use Rattle.host.specs.declared.entry.Entry.{Entry}
-use Rattle.host.specs.declared.entry.Role.{Role}
+use Rattle.host.specs.declared.role.Role.{Role}
 use Rattle.host.specs.Entries.{is_between, is_listening_at, fate_of}
-use Rattle.host.specs.HostView.{HostView, role_of, after_emission}
+use Rattle.host.specs.HostView.{HostView, role_of}
+use Rattle.host.specs.Emission.{after_emission}
 use Rattle.host.specs.Calls.{open_answer, port_for, after_connect, after_socket_closed}
-use Rattle.host.specs.Dispatch.{local_end, peer_end, is_opening as opens, has_no_place, answered, arrival, arrival_alone}
+use Rattle.host.specs.Arrival.{local_end, peer_end, is_opening as opens, has_no_place, answered, arrival, arrival_alone}
 use Rattle.host.specs.Replies.{reset_at_ack, answer_to, answer_at_listener}
 use Rattle.host.specs.Causes.{Event, Makes, Binds, Listens, Accepts, Connects, Sends, Receives, Shuts, Closes, Ticks, Hears, Emits, after_arrival, after_event}
 use Rattle.host.proofs.Followed.{by_test}

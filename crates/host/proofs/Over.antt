@@ -17,12 +17,13 @@ use Rattle.tcp_state.proofs.Causes.{not_true}
 use Rattle.host.specs.declared.refusal.Refusal.{Refusal}
 use Rattle.host.specs.declared.entry.SocketId.{SocketId}
 use Rattle.host.specs.declared.entry.Entry.{Entry}
-use Rattle.host.specs.declared.entry.Role.{Role}
-use Rattle.host.specs.declared.entry.Role.TheVariants.{Idle, Listener, Connected}
+use Rattle.host.specs.declared.role.Role.{Role}
+use Rattle.host.specs.declared.role.Role.TheVariants.{Idle, Listener, Connected}
 use Rattle.host.specs.Entries.{is_socket, waits_at, is_between, is_live_between, is_listening_at, is_due, is_offered_at, is_kept, settled, fate_of, arrived, ticked, tick_fate_of, emitted_at, emitted_fate, aborted, abort_fate_of, forsaken, forsaken_fate, closed, close_fate_of, bound_to, listening, connecting, accepted, sent, received, write_shut, with_role}
-use Rattle.host.specs.HostView.{HostView, later, role_of, after_emission}
+use Rattle.host.specs.HostView.{HostView, later, role_of}
+use Rattle.host.specs.Emission.{after_emission}
 use Rattle.host.specs.Calls.{open_answer, port_for, after_connect, after_socket_closed}
-use Rattle.host.specs.Dispatch.{local_end, peer_end, is_opening as opens, has_no_place, answered, arrival, arrival_alone}
+use Rattle.host.specs.Arrival.{local_end, peer_end, is_opening as opens, has_no_place, answered, arrival, arrival_alone}
 use Rattle.host.specs.Replies.{reset_at_ack, answer_to, answer_at_listener}
 use Rattle.host.specs.Sound.{is_over_in, NoneIsOver}
 use Rattle.host.specs.Lists.{change_first, remove_first}

@@ -9,8 +9,8 @@ use Rattle.tcp_state.specs.View.{View}
 use Rattle.tcp_state.specs.Calls.{send_answer, after_send}
 use Rattle.tcp_state.proofs.Unchanged.{refused_leaves}
 use Rattle.host.specs.declared.entry.Entry.{Entry}
-use Rattle.host.specs.declared.entry.Role.{Role}
-use Rattle.host.specs.declared.entry.Role.TheVariants.{Idle, Listener, Connected}
+use Rattle.host.specs.declared.role.Role.{Role}
+use Rattle.host.specs.declared.role.Role.TheVariants.{Idle, Listener, Connected}
 use Rattle.host.specs.declared.refusal.Refusal.{Refusal}
 use Rattle.host.specs.Entries.{sent, arrived, fate_of, with_role}
 use Rattle.host.specs.Calls.{sent_answer, of_connection}

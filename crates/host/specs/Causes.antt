@@ -10,12 +10,14 @@ use Rattle.tcp_state.specs.declared.calls.Refusal.{Refusal as Error}
 use Rattle.tcp_state.specs.Edges as edge
 use Rattle.host.specs.declared.entry.SocketId.{SocketId}
 use Rattle.host.specs.declared.entry.Entry.{Entry}
-use Rattle.host.specs.declared.entry.Role.{Role}
-use Rattle.host.specs.declared.entry.Role.TheVariants.{Idle, Listener, Connected}
+use Rattle.host.specs.declared.role.Role.{Role}
+use Rattle.host.specs.declared.role.Role.TheVariants.{Idle, Listener, Connected}
 use Rattle.host.specs.Entries.{is_socket, is_waiting_at, is_between, is_listening_at, is_due, shown_state, new_socket}
-use Rattle.host.specs.HostView.{HostView, later, after_tick, after_emission}
+use Rattle.host.specs.HostView.{HostView, later}
+use Rattle.host.specs.Ticks.{after_tick}
+use Rattle.host.specs.Emission.{after_emission}
 use Rattle.host.specs.Calls.{after_socket, after_bind, after_listen, after_accept, after_connect, after_send, after_recv, after_shutdown, after_close}
-use Rattle.host.specs.Dispatch.{Arrival, Becomes, Opens, NoPlace, local_end, peer_end, is_opening, arrival}
+use Rattle.host.specs.Arrival.{Arrival, Becomes, Opens, NoPlace, local_end, peer_end, is_opening, arrival}
 
 -- what may happen to a host: a call that is not refused, a tick, a segment from the neighbour, or what is due first goes out
 pub data Event : Type 0 where

@@ -3,9 +3,11 @@ pub mod Endpoints
 pub mod Replies
 pub mod Entries
 pub mod HostView
+pub mod Ticks
+pub mod Emission
 pub mod Ports
 pub mod Calls
-pub mod Dispatch
+pub mod Arrival
 pub mod Pairs
 pub mod Sound
 pub mod Causes

@@ -4,8 +4,8 @@ use Rattle.std.specs.List.{AllByRecursion}
 use Rattle.ipv4.specs.declared.addr.Addr.{Addr}
 use Rattle.ipv4.specs.declared.addr.Endpoint.{Endpoint}
 use Rattle.host.specs.declared.entry.Entry.{Entry}
-use Rattle.host.specs.declared.entry.Role.{Role}
-use Rattle.host.specs.declared.entry.Role.TheVariants.{Idle, Listener, Connected}
+use Rattle.host.specs.declared.role.Role.{Role}
+use Rattle.host.specs.declared.role.Role.TheVariants.{Idle, Listener, Connected}
 use Rattle.host.specs.Entries.{is_between}
 use Rattle.host.specs.HostView.{HostView}
 use Rattle.host.specs.Ports.{IsDynamic}

@@ -7,8 +7,11 @@ ghost use Rattle.std.specs.Option.{ok_or};
 ghost use Rattle.host.specs.Endpoints.{is_single_host};
 ghost use Rattle.host.specs.Calls.{open_answer};
 
-use crate::entry::{Entry, Role};
-use crate::{Host, Kind, Refusal, SocketId, ports, table};
+use crate::entry::{Entry, Kind, SocketId};
+use crate::host::Host;
+use crate::refusal::Refusal;
+use crate::role::Role;
+use crate::{ports, table};
 use clock::Moment;
 use ipv4::{Addr, Endpoint, Pair};
 use tcp_segment::Seq;
@@ -17,7 +20,7 @@ use tcp_state::{Buffers, Received, State};
 /// The address that stands for every address of the host.
 const ANY: Addr = Addr([0; 4]);
 
-/// How many connections may wait at a listener, at this stage.
+/// How many connections may wait at a listener.
 const BACKLOG: usize = 1;
 
 impl Host {
@@ -132,7 +135,7 @@ impl Host {
         };
         let place = table::next_accepted(&self.entries, id).ok_or(Refusal::EAGAIN)?;
         let entry = &mut self.entries[place];
-        let peer = entry.offered_peer(id).ok_or(Refusal::EAGAIN)?;
+        let peer = entry.role.offered_peer(id).ok_or(Refusal::EAGAIN)?;
         entry.accept();
         Ok((entry.id, peer))
     }
@@ -292,7 +295,7 @@ impl Host {
         ensures { result ≡ state_answer self.now id }
     {
         let place = self.socket_place(id)?;
-        Ok(self.entries[place].state())
+        Ok(self.entries[place].role.state())
     }
 
     /// The place of the socket `id`; EBADF where there is none.

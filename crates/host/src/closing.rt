@@ -3,7 +3,10 @@
 ghost use Rattle.std.specs.Prelude.{◌≡◌};
 ghost use Rattle.std.specs.Result.{result_err, OnOk, OnErr};
 
-use crate::{Host, Refusal, SocketId, table};
+use crate::entry::SocketId;
+use crate::host::Host;
+use crate::refusal::Refusal;
+use crate::table;
 
 impl Host {
     ghost use Rattle.host.specs.Calls.{close_refusal, after_close, after_socket_closed};

@@ -89,7 +89,7 @@ pub enum DropCause {
 
 impl DropCause {
     ghost use Rattle.std.specs.Prelude.{◌≡◌};
-    ghost use Rattle.host.specs.Dispatch.{number_of};
+    ghost use Rattle.host.specs.Arrival.{number_of};
 
     /// The number behind the F of its text.
     pub fn number(self) -> u8
@@ -105,7 +105,7 @@ impl DropCause {
 
 impl From<SegmentFault> for DropCause {
     ghost use Rattle.std.specs.Prelude.{◌≡◌};
-    ghost use Rattle.host.specs.Dispatch.{cause_of};
+    ghost use Rattle.host.specs.Arrival.{cause_of};
 
     ghost from_gives = { λ fault cause. cause ≡ cause_of fault };
 

@@ -2,16 +2,19 @@
 
 ghost use Rattle.std.specs.Prelude.{◌≡◌, ◌<◌, ◌≤◌, ◌&&◌, not, if◌then◌else◌, length, remove, position, count_by, fold, None, IfSome};
 ghost use Rattle.std.specs.List.{list_any, AllByRecursion};
-ghost use Rattle.clock.specs.Moments.{sooner};
 ghost use Rattle.host.specs.Entries.{is_kept, all_settled, tick_fate_of, forsaken, forsaken_fate, is_socket, is_between, is_of_pair, has_port, is_bound_at, is_waiting_at, is_offered_at, is_due, is_listening_at, deadline_of, ticked, with_role};
+ghost use Rattle.clock.specs.Moments.{sooner};
 ghost use Rattle.host.specs.Sound.{IsSoundRole};
 
-use crate::entry::{Entry, is_kept};
-use crate::{ENTRIES, SocketId};
+use crate::entry::{Entry, SocketId};
+use crate::role::is_kept;
 use arrayvec::ArrayVec;
 use clock::{Moment, sooner};
 use ipv4::{Endpoint, Pair};
 use tcp_state::Fate;
+
+/// How many entries the table of one host holds.
+pub(crate) const ENTRIES: usize = 8;
 
 /// The place of the socket `id`.
 pub(crate) fn socket_of(entries: &[Entry], id: SocketId) -> Option<usize>
@@ -30,14 +33,14 @@ pub(crate) fn connection_between(
 {
     entries
         .iter()
-        .position(|entry| entry.is_live_between(local, peer))
+        .position(|entry| entry.role.is_live_between(local, peer))
 }
 
 /// The place of the connection of `pair`, in any state but CLOSED.
 pub(crate) fn holder(entries: &[Entry], pair: Pair) -> Option<usize>
     ensures { result ≡ position (is_of_pair pair) entries.now }
 {
-    entries.iter().position(|entry| entry.joins(pair))
+    entries.iter().position(|entry| entry.role.joins(pair))
 }
 
 /// Whether there is a connection from `local` to `peer`, in any state but CLOSED.
@@ -46,14 +49,14 @@ pub(crate) fn is_pair_held(entries: &[Entry], local: Endpoint, peer: Endpoint) -
 {
     entries
         .iter()
-        .any(|entry| entry.is_live_between(local, peer))
+        .any(|entry| entry.role.is_live_between(local, peer))
 }
 
 /// Whether an entry has this local port.
 pub(crate) fn is_port_taken(entries: &[Entry], port: u16) -> bool
     ensures { result ≡ list_any (has_port port) entries.now }
 {
-    entries.iter().any(|entry| entry.uses_port(port))
+    entries.iter().any(|entry| entry.role.uses_port(port))
 }
 
 /// Whether a socket has this local port.
@@ -62,14 +65,14 @@ pub(crate) fn is_port_bound(entries: &[Entry], port: u16) -> bool
 {
     entries
         .iter()
-        .any(|entry| entry.has_socket() && entry.uses_port(port))
+        .any(|entry| entry.role.has_socket() && entry.role.uses_port(port))
 }
 
 /// The place of the listener at a local port.
 pub(crate) fn listener_at(entries: &[Entry], port: u16) -> Option<usize>
     ensures { result ≡ position (is_listening_at port) entries.now }
 {
-    entries.iter().position(|entry| entry.listens_at(port))
+    entries.iter().position(|entry| entry.role.listens_at(port))
 }
 
 /// How many connections wait at a listener, in SYN-RECEIVED or past it.
@@ -78,7 +81,7 @@ pub(crate) fn waiting_at(entries: &[Entry], listener: SocketId) -> usize
 {
     entries
         .iter()
-        .filter(|entry| entry.waits_at(listener))
+        .filter(|entry| entry.role.waits_at(listener))
         .count()
 }
 
@@ -88,14 +91,14 @@ pub(crate) fn next_accepted(entries: &[Entry], listener: SocketId) -> Option<usi
 {
     entries
         .iter()
-        .position(|entry| entry.offered_peer(listener).is_some())
+        .position(|entry| entry.role.offered_peer(listener).is_some())
 }
 
 /// The place of the first entry that has a segment due.
 pub(crate) fn first_due(entries: &[Entry]) -> Option<usize>
     ensures { result ≡ position is_due entries.now }
 {
-    entries.iter().position(|entry| entry.is_due())
+    entries.iter().position(|entry| entry.role.is_due())
 }
 
 /// Lets the timers of every entry act whose moment has come, and takes out those whose connection is gone then.
@@ -118,7 +121,7 @@ pub(crate) fn least_deadline(entries: &[Entry]) -> Option<Moment>
 {
     entries
         .iter()
-        .fold(None, |least, entry| sooner(least, entry.deadline()))
+        .fold(None, |least, entry| sooner(least, entry.role.deadline()))
 }
 
 /// What each connection keeps of itself, for the contracts above; it changes nothing.
@@ -126,7 +129,7 @@ pub(crate) fn sound(entries: &[Entry])
     ensures { AllByRecursion (λ e. IsSoundRole e.role) entries.now }
 {
     for entry in entries {
-        entry.sound();
+        entry.role.sound();
     }
 }
 

@@ -7,7 +7,7 @@ use Rattle.wire_sim.specs.declared.event.Side.TheVariants.{A, B}
 use Rattle.wire_sim.specs.declared.event.Event.{Event}
 use Rattle.wire_sim.specs.declared.event.Event.TheVariants as event
 use Rattle.wire_sim.specs.declared.event.Call.TheVariants as call
-use Rattle.host.specs.declared.Kind.TheVariants.{Tcp}
+use Rattle.host.specs.declared.entry.Kind.TheVariants.{Tcp}
 use Rattle.script.specs.declared.action.Action.{Action}
 use Rattle.script.specs.declared.action.Action.TheVariants.{Socket, Bind, Listen, Accept, Connect, Send, Fill, Recv, Count, Shutdown, Close, State, Tick, Emit, Deliver}
 

@@ -9,7 +9,7 @@ use Rattle.tcp_state.specs.declared.state.State.{State as TcpState}
 use Rattle.tcp_state.specs.declared.state.State.TheVariants as state
 use Rattle.host.specs.declared.refusal.Refusal.{Refusal}
 use Rattle.host.specs.declared.refusal.Refusal.TheVariants as refusal
-use Rattle.host.specs.Dispatch.{number_of}
+use Rattle.host.specs.Arrival.{number_of}
 use Rattle.wire_sim.specs.declared.event.Unfair.{Unfair}
 use Rattle.wire_sim.specs.declared.event.Unfair.TheVariants.{NoSuchFrame, OtherEpoch, Stale, SecondOpening, NoMemory}
 use Rattle.script.specs.declared.action.Action.{Action}

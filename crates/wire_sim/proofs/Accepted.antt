@@ -18,8 +18,8 @@ use Rattle.tcp_state.specs.Stream.{send_room}
 use Rattle.tcp_state.specs.View.{View, is_opening, is_write_closed, is_end_seen, opened_actively}
 use Rattle.host.specs.declared.entry.SocketId.{SocketId}
 use Rattle.host.specs.declared.entry.Entry.{Entry}
-use Rattle.host.specs.declared.entry.Role.{Role}
-use Rattle.host.specs.declared.entry.Role.TheVariants.{Idle, Listener, Connected}
+use Rattle.host.specs.declared.role.Role.{Role}
+use Rattle.host.specs.declared.role.Role.TheVariants.{Idle, Listener, Connected}
 use Rattle.host.specs.declared.refusal.Refusal.{Refusal}
 use Rattle.host.specs.declared.refusal.Refusal.TheVariants.{EBADF, EINVAL, EADDRINUSE, EADDRNOTAVAIL, EISCONN, ENOTCONN, EALREADY, ENETUNREACH}
 use Rattle.wire_sim.specs.declared.event.Answer.{Answer}

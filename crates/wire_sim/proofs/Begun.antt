@@ -9,7 +9,7 @@ use Rattle.tcp_segment.specs.declared.seq.Seq.{Seq}
 use Rattle.tcp_state.specs.View.{opened_actively}
 use Rattle.host.specs.declared.entry.SocketId.{SocketId}
 use Rattle.host.specs.declared.entry.Entry.{Entry}
-use Rattle.host.specs.declared.entry.Role.TheVariants.{Idle}
+use Rattle.host.specs.declared.role.Role.TheVariants.{Idle}
 use Rattle.host.specs.Calls.{unless_refused, connect_refusal, after_connect, counted_port}
 use Rattle.host.specs.Entries.{is_socket, is_between, is_of_pair, connecting, with_role}
 use Rattle.host.specs.HostView.{HostView, holder_id}

@@ -8,7 +8,7 @@ use Rattle.ipv4.specs.Addresses.{pair_of}
 use Rattle.tcp_state.specs.View.{View}
 use Rattle.host.specs.declared.entry.SocketId.{SocketId}
 use Rattle.host.specs.declared.entry.Entry.{Entry}
-use Rattle.host.specs.declared.entry.Role.{Role}
+use Rattle.host.specs.declared.role.Role.{Role}
 use Rattle.stream_law.specs.Pairing.{End, Emission, Meets}
 use Rattle.wire_sim.specs.declared.event.Side.{Side}
 use Rattle.wire_sim.specs.declared.event.Opening.{Opening}

@@ -8,8 +8,8 @@ use Rattle.tcp_state.specs.declared.calls.Refusal.{Refusal as ConnectionRefusal}
 use Rattle.tcp_state.specs.declared.calls.Refusal.TheVariants as connection
 use Rattle.tcp_state.specs.Calls.{unless_told, taken}
 use Rattle.host.specs.declared.entry.SocketId.{SocketId}
-use Rattle.host.specs.declared.entry.Role.{Role}
-use Rattle.host.specs.declared.entry.Role.TheVariants.{Idle, Listener, Connected}
+use Rattle.host.specs.declared.role.Role.{Role}
+use Rattle.host.specs.declared.role.Role.TheVariants.{Idle, Listener, Connected}
 use Rattle.host.specs.declared.refusal.Refusal.{Refusal}
 use Rattle.wire_sim.specs.declared.event.Side.{Side}
 use Rattle.wire_sim.specs.declared.event.Side.TheVariants.{A, B}
@@ -24,7 +24,8 @@ use Rattle.wire_sim.specs.declared.world.bag.Frame.{Frame}
 use Rattle.wire_sim.specs.declared.world.bag.Note.{Note}
 use Rattle.wire_sim.specs.declared.world.station.Station.{Station}
 use Rattle.host.specs.Calls.{of_connection, sent_answer, send_answer}
-use Rattle.host.specs.HostView.{HostView, role_of, after_emission}
+use Rattle.host.specs.HostView.{HostView, role_of}
+use Rattle.host.specs.Emission.{after_emission}
 use Rattle.wire_sim.specs.Openings.{opened_by_connect, opened_by_frame}
 use Rattle.wire_sim.specs.Sides.{other_side}
 use Rattle.wire_sim.specs.Steps.{ticked_station, with_station, with_host, with_openings, Answers, MeetsCall, called, delivered, Steps}

@@ -6,7 +6,7 @@ use Rattle.std.proofs.lemmas.List.{append-nil}
 use Rattle.tcp_state.specs.View.{View}
 use Rattle.host.specs.declared.entry.SocketId.{SocketId}
 use Rattle.host.specs.declared.entry.Entry.{Entry}
-use Rattle.host.specs.declared.entry.Role.TheVariants.{Connected}
+use Rattle.host.specs.declared.role.Role.TheVariants.{Connected}
 use Rattle.host.specs.Calls.{send_answer, after_send}
 use Rattle.host.specs.Entries.{is_socket}
 use Rattle.host.specs.HostView.{HostView}

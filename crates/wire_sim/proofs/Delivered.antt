@@ -12,12 +12,12 @@ use Rattle.tcp_state.specs.Arrival.{fate}
 use Rattle.tcp_state.specs.View.{View}
 use Rattle.host.specs.declared.entry.SocketId.{SocketId}
 use Rattle.host.specs.declared.entry.Entry.{Entry}
-use Rattle.host.specs.declared.entry.Role.{Role}
-use Rattle.host.specs.declared.entry.Role.TheVariants.{Idle, Listener, Connected}
+use Rattle.host.specs.declared.role.Role.{Role}
+use Rattle.host.specs.declared.role.Role.TheVariants.{Idle, Listener, Connected}
 use Rattle.host.specs.declared.refusal.DropCause.{DropCause}
 use Rattle.wire_sim.specs.declared.event.Answer.{Answer}
 use Rattle.wire_sim.specs.declared.event.Answer.TheVariants as reply
-use Rattle.host.specs.Dispatch.{Becomes, Opens, NoPlace, local_end, peer_end, is_opening, has_no_place, after_opening, answered, opening, arrival_at, arrival_alone, arrival_at_connection, arrival, pair_opened, Meets, MeetsParsed, IsDelivered}
+use Rattle.host.specs.Arrival.{Becomes, Opens, NoPlace, local_end, peer_end, is_opening, has_no_place, after_opening, answered, opening, arrival_at, arrival_alone, arrival_at_connection, arrival, pair_opened, Meets, MeetsParsed, IsDelivered}
 use Rattle.host.specs.Entries.{is_live_between, is_between, is_listening_at, arrived, fate_of, settled}
 use Rattle.host.specs.Replies.{reset_at_ack, answer_to, answer_at_listener}
 use Rattle.host.specs.HostView.{HostView, later}

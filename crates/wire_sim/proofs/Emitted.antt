@@ -5,11 +5,12 @@ use Rattle.std.specs.List.{find}
 use Rattle.tcp_state.specs.Due.{first_due, emitted_len, emitted}
 use Rattle.tcp_segment.specs.declared.head.Head.{Head}
 use Rattle.host.specs.declared.entry.Entry.{Entry}
-use Rattle.host.specs.declared.entry.Role.{Role}
-use Rattle.host.specs.declared.entry.Role.TheVariants.{Idle, Listener, Connected}
+use Rattle.host.specs.declared.role.Role.{Role}
+use Rattle.host.specs.declared.role.Role.TheVariants.{Idle, Listener, Connected}
 use Rattle.host.specs.Entries.{is_due, due_len, due_octets, framed}
 use Rattle.host.specs.Replies.{reply_len, reply_octets, reply_framed}
-use Rattle.host.specs.HostView.{HostView, emission_len, emission_octets, emission_front}
+use Rattle.host.specs.HostView.{HostView}
+use Rattle.host.specs.Emission.{emission_len, emission_octets, emission_front}
 
 -- the front of a buffer into which so many octets were written
 pub take_written : (xs zs : List ℕ) (n : ℕ) → n ≤ length zs → length (xs ++ drop n zs) ≡ length zs → take n (xs ++ drop n zs) ≡ xs

@@ -4,7 +4,7 @@ use Rattle.ipv4.specs.declared.addr.Pair.{Pair}
 use Rattle.tcp_segment.specs.declared.fault.SegmentFault.{SegmentFault}
 use Rattle.tcp_segment.specs.Segment.{Segment, IsParsed}
 use Rattle.tcp_segment.proofs.Answering.{read_ok, read_err}
-use Rattle.host.specs.Dispatch.{pair_opened, foreseen, IsForeseen}
+use Rattle.host.specs.Arrival.{pair_opened, foreseen, IsForeseen}
 use Rattle.host.specs.HostView.{HostView}
 use Rattle.wire_sim.specs.Fairness.{pair_foreseen}
 

@@ -6,7 +6,8 @@ use Rattle.wire_sim.specs.declared.event.Side.{Side}
 use Rattle.wire_sim.specs.declared.event.Side.TheVariants.{A, B}
 use Rattle.wire_sim.specs.declared.world.bag.Frame.{Frame}
 use Rattle.wire_sim.specs.declared.world.station.Station.{Station}
-use Rattle.host.specs.HostView.{HostView, after_emission, emission_len, emission_octets, emission_front}
+use Rattle.host.specs.HostView.{HostView}
+use Rattle.host.specs.Emission.{after_emission, emission_len, emission_octets, emission_front}
 use Rattle.host.specs.Pairs.{due_pair}
 use Rattle.wire_sim.specs.Steps.{with_station, with_host, noted, EmitsFrame}
 use Rattle.wire_sim.specs.WorldView.{NetworkView, station_of, host_of}

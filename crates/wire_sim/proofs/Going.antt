@@ -22,11 +22,12 @@ use Rattle.tcp_state.specs.Due.{MayGoOut, first_due, head_of, octets_of, number_
 use Rattle.tcp_state.specs.Arrival.{is_fin_next}
 use Rattle.host.specs.declared.entry.SocketId.{SocketId}
 use Rattle.host.specs.declared.entry.Entry.{Entry}
-use Rattle.host.specs.declared.entry.Role.{Role}
-use Rattle.host.specs.declared.entry.Role.TheVariants.{Idle, Listener, Connected}
+use Rattle.host.specs.declared.role.Role.{Role}
+use Rattle.host.specs.declared.role.Role.TheVariants.{Idle, Listener, Connected}
 use Rattle.stream_law.specs.ChannelViews.{IsOfWidth}
 use Rattle.host.specs.Entries.{is_due, due_len, due_octets, emitted_at}
-use Rattle.host.specs.HostView.{HostView, emission_len, emission_octets}
+use Rattle.host.specs.HostView.{HostView}
+use Rattle.host.specs.Emission.{emission_len, emission_octets}
 use Rattle.host.specs.Pairs.{due_pair, pair_in}
 use Rattle.host.specs.Sound.{IsSoundConnection}
 

@@ -17,8 +17,8 @@ use Rattle.tcp_state.specs.Due.{first_due, after_emitted}
 use Rattle.tcp_state.specs.Arrival.{after_segment_at}
 use Rattle.host.specs.declared.entry.SocketId.{SocketId}
 use Rattle.host.specs.declared.entry.Entry.{Entry}
-use Rattle.host.specs.declared.entry.Role.{Role}
-use Rattle.host.specs.declared.entry.Role.TheVariants.{Idle, Listener, Connected}
+use Rattle.host.specs.declared.role.Role.{Role}
+use Rattle.host.specs.declared.role.Role.TheVariants.{Idle, Listener, Connected}
 use Rattle.host.specs.Endpoints.{same_end}
 use Rattle.host.specs.Entries.{is_live_between, connecting, is_between, joins, is_of_pair, is_kept, settled, all_settled, with_role, bound_to, listening, accepted, ticked, arrived, sent, write_shut, received, emitted_at, closed, aborted, forsaken, waits_at}
 use Rattle.host.specs.Lists.{change_first, remove_first}

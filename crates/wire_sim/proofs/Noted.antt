@@ -11,12 +11,14 @@ use Rattle.clock.specs.declared.moment.Moment.{Moment}
 use Rattle.tcp_state.specs.Arrival.{fate, opened_passively}
 use Rattle.host.specs.declared.entry.SocketId.{SocketId}
 use Rattle.host.specs.declared.entry.Entry.{Entry}
-use Rattle.host.specs.declared.entry.Role.TheVariants.{Idle, Connected}
+use Rattle.host.specs.declared.role.Role.TheVariants.{Idle, Connected}
 use Rattle.host.specs.Calls.{unless_refused, after_socket, bind_refusal, after_bind, listen_refusal, after_listen, accept_answer, after_accept, connect_refusal, after_connect, send_answer, after_send, after_recv, shutdown_refusal, after_shutdown, close_refusal, after_close, after_socket_closed, state_answer}
 use Rattle.host.specs.declared.refusal.Refusal.{Refusal}
-use Rattle.host.specs.Dispatch.{local_end, peer_end, after_opening}
+use Rattle.host.specs.Arrival.{local_end, peer_end, after_opening}
 use Rattle.host.specs.Entries.{is_socket, is_between, arrived, is_offered_at, is_of_pair, is_due, bound_to, listening, accepted, sent, received, write_shut, closed, close_fate_of, forsaken, forsaken_fate, ticked, tick_fate_of, emitted_at, emitted_fate, settled}
-use Rattle.host.specs.HostView.{HostView, holder_id, later, after_tick, after_emission, after_segment_sent}
+use Rattle.host.specs.HostView.{HostView, holder_id, later}
+use Rattle.host.specs.Ticks.{after_tick}
+use Rattle.host.specs.Emission.{after_emission, after_segment_sent}
 use Rattle.wire_sim.specs.declared.event.Side.{Side}
 use Rattle.wire_sim.specs.declared.event.Side.TheVariants.{A, B}
 use Rattle.wire_sim.specs.declared.event.Call.{Call}

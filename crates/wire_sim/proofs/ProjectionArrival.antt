@@ -19,14 +19,14 @@ use Rattle.wire_sim.specs.declared.event.Opening.{Opening}
 use Rattle.wire_sim.specs.declared.event.Happening.{Happening}
 use Rattle.host.specs.declared.entry.SocketId.{SocketId}
 use Rattle.host.specs.declared.entry.Entry.{Entry}
-use Rattle.host.specs.declared.entry.Role.{Role}
-use Rattle.host.specs.declared.entry.Role.TheVariants.{Connected}
+use Rattle.host.specs.declared.role.Role.{Role}
+use Rattle.host.specs.declared.role.Role.TheVariants.{Connected}
 use Rattle.wire_sim.specs.declared.world.bag.Frame.{Frame}
 use Rattle.wire_sim.specs.declared.world.bag.Note.{Note}
 use Rattle.stream_law.specs.Channel.{IsAmong}
 use Rattle.stream_law.specs.ChannelViews.{SameStream}
 use Rattle.stream_law.proofs.PairingEndings.{stops-left}
-use Rattle.host.specs.Dispatch.{local_end, peer_end, after_opening, is_opening, pair_opened}
+use Rattle.host.specs.Arrival.{local_end, peer_end, after_opening, is_opening, pair_opened}
 use Rattle.host.specs.Endpoints.{same_end}
 use Rattle.host.specs.Entries.{is_between, is_of_pair, is_kept, arrived, settled}
 use Rattle.host.specs.HostView.{HostView, later, holder_id}

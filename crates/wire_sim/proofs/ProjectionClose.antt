@@ -16,8 +16,8 @@ use Rattle.wire_sim.specs.declared.event.Opening.{Opening}
 use Rattle.wire_sim.specs.declared.event.Happening.{Happening}
 use Rattle.host.specs.declared.entry.SocketId.{SocketId}
 use Rattle.host.specs.declared.entry.Entry.{Entry}
-use Rattle.host.specs.declared.entry.Role.{Role}
-use Rattle.host.specs.declared.entry.Role.TheVariants.{Idle, Listener, Connected}
+use Rattle.host.specs.declared.role.Role.{Role}
+use Rattle.host.specs.declared.role.Role.TheVariants.{Idle, Listener, Connected}
 use Rattle.host.specs.declared.refusal.Refusal.TheVariants.{EBADF}
 use Rattle.host.specs.Calls.{close_refusal, after_socket_closed, after_close}
 use Rattle.host.specs.Entries.{is_socket, is_kept, waits_at, closed, close_fate_of, aborted, abort_fate_of, forsaken, forsaken_fate, settled}

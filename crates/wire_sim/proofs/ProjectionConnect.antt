@@ -17,8 +17,8 @@ use Rattle.wire_sim.specs.declared.event.Opening.{Opening}
 use Rattle.wire_sim.specs.declared.event.Happening.{Happening}
 use Rattle.host.specs.declared.entry.SocketId.{SocketId}
 use Rattle.host.specs.declared.entry.Entry.{Entry}
-use Rattle.host.specs.declared.entry.Role.{Role}
-use Rattle.host.specs.declared.entry.Role.TheVariants.{Idle, Listener, Connected}
+use Rattle.host.specs.declared.role.Role.{Role}
+use Rattle.host.specs.declared.role.Role.TheVariants.{Idle, Listener, Connected}
 use Rattle.host.specs.Calls.{unless_refused, after_socket, bind_refusal, after_bind, listen_refusal, after_listen, accept_answer, after_accept, connect_refusal, after_connect, counted_port, pair_connected, send_answer, after_send, shutdown_refusal, after_shutdown, close_refusal, after_close, state_answer}
 use Rattle.host.specs.Entries.{is_socket, is_between, is_of_pair, bound_to, listening, accepted, connecting, with_role}
 use Rattle.host.specs.HostView.{HostView, holder_id}

@@ -23,13 +23,14 @@ use Rattle.wire_sim.specs.declared.event.Opening.{Opening}
 use Rattle.wire_sim.specs.declared.event.Happening.{Happening}
 use Rattle.host.specs.declared.entry.SocketId.{SocketId}
 use Rattle.host.specs.declared.entry.Entry.{Entry}
-use Rattle.host.specs.declared.entry.Role.TheVariants.{Connected}
+use Rattle.host.specs.declared.role.Role.TheVariants.{Connected}
 use Rattle.wire_sim.specs.declared.world.bag.Frame.{Frame}
 use Rattle.stream_law.specs.Channel.{IsAmong, here, there}
 use Rattle.host.specs.Entries.{is_due, emitted_at, emitted_fate, settled, with_role}
 use Rattle.host.specs.Replies.{reply_octets}
 use Rattle.host.proofs.Emitted.{emission-of_entry}
-use Rattle.host.specs.HostView.{HostView, later, emission_len, emission_octets, after_emission}
+use Rattle.host.specs.HostView.{HostView, later}
+use Rattle.host.specs.Emission.{emission_len, emission_octets, after_emission}
 use Rattle.host.specs.Lists.{change_first, remove_first}
 use Rattle.host.specs.Pairs.{due_pair, reply_pair}
 use Rattle.wire_sim.specs.Openings.{epoch_of}

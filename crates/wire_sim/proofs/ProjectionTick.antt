@@ -11,11 +11,11 @@ use Rattle.wire_sim.specs.declared.event.Side.{Side}
 use Rattle.wire_sim.specs.declared.event.Opening.{Opening}
 use Rattle.wire_sim.specs.declared.event.Happening.{Happening}
 use Rattle.host.specs.declared.entry.SocketId.{SocketId}
-use Rattle.host.specs.declared.entry.Role.{Role}
-use Rattle.host.specs.declared.entry.Role.TheVariants.{Idle, Listener, Connected}
+use Rattle.host.specs.declared.role.Role.{Role}
+use Rattle.host.specs.declared.role.Role.TheVariants.{Idle, Listener, Connected}
 use Rattle.host.specs.Entries.{is_kept, all_settled, ticked, tick_fate_of}
 use Rattle.wire_sim.specs.declared.world.bag.Frame.{Frame}
-use Rattle.host.specs.HostView as host_view
+use Rattle.host.specs.Ticks as host_ticks
 use Rattle.host.specs.HostView.{HostView, later}
 use Rattle.stream_law.specs.Pairing.{Present, Departed, Meets, rests, stops, leaves}
 use Rattle.stream_law.proofs.PairingEndings.{stops-at_end}
@@ -92,10 +92,10 @@ role_goes limit now t (Listener b n) there out arrived = end-stays limit (end_wi
 role_goes limit now t (Idle b n) there out arrived = end-stays limit (end_with Departed t) (end_with Departed t) refl there out arrived
 
 pub projects-ticked : (limit : ℕ) (hs ts : Side) (a b : Addr) (own other : HostView) (frames : List Frame) (openings : List Opening) (trace : List Happening) (moment : Moment)
-    → Projects limit hs ts a b own other frames openings trace → Projects limit hs ts a b (host_view.after_tick own moment) other frames openings trace
+    → Projects limit hs ts a b own other frames openings trace → Projects limit hs ts a b (host_ticks.after_tick own moment) other frames openings trace
 projects-ticked limit hs ts a b own other frames openings trace moment h =
     let now = later own moment in
-    projects-settled limit hs ts a b own (host_view.after_tick own moment) other frames openings trace (tick_fate_of now) (ticked now) refl refl refl refl (noted now) (role_goes limit now) h
+    projects-settled limit hs ts a b own (host_ticks.after_tick own moment) other frames openings trace (tick_fate_of now) (ticked now) refl refl refl refl (noted now) (role_goes limit now) h
   where
     noted : (now : Moment) (id : SocketId) (r : Role) → IsNoted hs a b openings id r → IsNoted hs a b openings id (ticked now r)
     noted now id (Connected c l) k = opened-kept hs a b openings id c (after_tick c now) (keeps-tick c now) k

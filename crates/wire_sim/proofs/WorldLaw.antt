@@ -22,11 +22,12 @@ use Rattle.wire_sim.specs.declared.world.bag.Frame.{Frame}
 use Rattle.wire_sim.specs.declared.world.bag.Note.{Note}
 use Rattle.wire_sim.specs.declared.world.station.Station.{Station}
 use Rattle.host.specs.declared.entry.Entry.{Entry}
-use Rattle.host.specs.declared.entry.Role.{Role}
+use Rattle.host.specs.declared.role.Role.{Role}
 use Rattle.host.specs.Endpoints.{same_addr}
 use Rattle.wire_sim.specs.Fairness.{is_stale, late_note, second_by_frame, pair_foreseen, unfair_frame, unfair_call, unfair_counted}
 use Rattle.host.specs.HostView.{HostView}
-use Rattle.host.specs.HostView as host_view
+use Rattle.host.specs.Ticks as host_ticks
+use Rattle.host.specs.Emission as host_emission
 use Rattle.stream_law.specs.Pairing.{IsStream, begins}
 use Rattle.wire_sim.specs.Runs.{IsNumbered, IsStep, IsReached}
 use Rattle.host.specs.Sound.{IsSoundHost}
@@ -156,9 +157,9 @@ orderly-ticked : (limit : ℕ) (hs ts : Side) (old new : NetworkView) (trace : L
 orderly-ticked limit hs ts old new trace moment answer opposite step w =
     let x = ticked_station (station_of old hs) moment in
     let e : Happening = record { event = event.Tick hs moment; answer = answer } in
-    let p = projects-silent limit hs ts w.a w.b (host_view.after_tick (host_of old hs) moment) (host_of old ts) old.frames old.openings trace e (λ s i. quiet-tick hs moment answer s i)
+    let p = projects-silent limit hs ts w.a w.b (host_ticks.after_tick (host_of old hs) moment) (host_of old ts) old.frames old.openings trace e (λ s i. quiet-tick hs moment answer s i)
     (projects-ticked limit hs ts w.a w.b (host_of old hs) (host_of old ts) old.frames old.openings trace moment w.projects) in
-    orderly-of limit hs ts w.a w.b (host_view.after_tick (host_of old hs) moment) (host_of old ts) old.frames old.openings (trace ++ e ∷ []) new
+    orderly-of limit hs ts w.a w.b (host_ticks.after_tick (host_of old hs) moment) (host_of old ts) old.frames old.openings (trace ++ e ∷ []) new
     (ap (λ (m : NetworkView). m.limit) step.1 ∙ (limit-with old hs x ∙ w.is_limit)) (ap (λ m. host_of m hs) step.1 ∙ own-with old hs x) (ap (λ m. host_of m ts) step.1 ∙ other-with old hs ts x opposite)
     (ap (λ (m : NetworkView). m.frames) step.1 ∙ frames-with old hs x) (ap (λ (m : NetworkView). m.openings) step.1 ∙ openings-with old hs x)
     (ap (λ (m : NetworkView). m.written) step.1 ∙ (written-with old hs x ∙ (w.tallied ∙ sym (tallies-quiet trace old.openings e (λ s i. (quiet-tick hs moment answer s i).0))))) p
@@ -187,7 +188,7 @@ orderly-emitted limit hs ts old new trace (reply.State s) opposite sound step w 
 orderly-emitted limit hs ts old new trace (reply.Frame i l) opposite sound step w =
     let answer : Answer = reply.Frame i l in
     let station = station_of old hs in
-    let own' = host_view.after_emission (host_of old hs) station.clock in
+    let own' = host_emission.after_emission (host_of old hs) station.clock in
     let x : Station = record station { host = own' } in
     let e : Happening = record { event = event.Emit hs; answer = answer } in
     let next : NetworkView = record (with_station old hs x) { frames = old.frames ++ step.frame ∷ [] } in

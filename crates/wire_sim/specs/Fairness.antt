@@ -6,7 +6,7 @@ use Rattle.std.specs.Option.{option_or}
 use Rattle.ipv4.specs.declared.addr.Pair.{Pair}
 use Rattle.tcp_segment.specs.Reading.{segment_in}
 use Rattle.host.specs.Calls.{pair_connected}
-use Rattle.host.specs.Dispatch.{pair_opened}
+use Rattle.host.specs.Arrival.{pair_opened}
 use Rattle.host.specs.HostView.{HostView}
 use Rattle.wire_sim.specs.declared.event.Side.{Side}
 use Rattle.wire_sim.specs.declared.event.Side.TheVariants.{A, B}

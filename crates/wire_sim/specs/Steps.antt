@@ -7,8 +7,8 @@ use Rattle.tcp_state.specs.declared.buffers.Buffers.{Buffers}
 use Rattle.tcp_state.specs.declared.calls.Received.{Received}
 use Rattle.tcp_state.specs.declared.calls.Received.TheVariants as received
 use Rattle.host.specs.declared.entry.SocketId.{SocketId}
-use Rattle.host.specs.declared.entry.Role.{Role}
-use Rattle.host.specs.declared.entry.Role.TheVariants.{Connected}
+use Rattle.host.specs.declared.role.Role.{Role}
+use Rattle.host.specs.declared.role.Role.TheVariants.{Connected}
 use Rattle.host.specs.declared.refusal.Refusal.{Refusal}
 use Rattle.host.specs.declared.refusal.Refusal.TheVariants.{EMFILE, ENOMEM}
 use Rattle.wire_sim.specs.declared.event.Side.{Side}
@@ -24,8 +24,10 @@ use Rattle.wire_sim.specs.declared.world.bag.Frame.{Frame}
 use Rattle.wire_sim.specs.declared.world.bag.Note.{Note}
 use Rattle.wire_sim.specs.declared.world.station.Station.{Station}
 use Rattle.host.specs.Calls.{unless_refused, is_table_full, after_socket, bind_refusal, after_bind, listen_refusal, after_listen, accept_answer, after_accept, connect_refusal, after_connect, send_answer, after_send, recv_answer, after_recv, shutdown_refusal, after_shutdown, close_refusal, after_close, state_answer}
-use Rattle.host.specs.Dispatch.{IsDelivered}
-use Rattle.host.specs.HostView.{HostView, role_of, after_tick, after_emission, emission_len, emission_octets}
+use Rattle.host.specs.Arrival.{IsDelivered}
+use Rattle.host.specs.HostView.{HostView, role_of}
+use Rattle.host.specs.Ticks.{after_tick}
+use Rattle.host.specs.Emission.{after_emission, emission_len, emission_octets}
 use Rattle.wire_sim.specs.Sides.{other_side}
 use Rattle.wire_sim.specs.Tallies.{counted}
 use Rattle.wire_sim.specs.Openings.{epoch_of, opened_by_connect, opened_by_frame}

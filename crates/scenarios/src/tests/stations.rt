@@ -142,7 +142,7 @@ impl Station {
     fn new(rt: &impl Abort, alloc: Global, addr: Addr, neighbour: Addr) -> Station {
         let config = Config::new(addr).expect(rt, "a host's address");
         Station {
-            host: Host::new(alloc, config, neighbour).expect(rt, "memory for a host"),
+            host: Host::new(alloc, config, neighbour),
             frame: [0; 1514],
             len: 0,
         }

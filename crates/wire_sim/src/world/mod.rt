@@ -84,7 +84,7 @@ impl World {
         }
         Ok(World {
             alloc,
-            network: Network::new(alloc, a, b, limit)?,
+            network: Network::new(alloc, a, b, limit),
             trace: Vec::new(alloc),
         })
     }

@@ -1,12 +1,12 @@
 //! Two hosts, the frames that they emitted, and the openings of their connections.
 
-ghost use Rattle.std.specs.Prelude.{◌≡◌, ℕ, ◌<◌, ◌≤◌, ◌+◌, ◌^◌, true, None, vec_len, vec_capacity, slice_index_or, option_map, option_and_then, OnOk, IsOk, IfOk};
+ghost use Rattle.std.specs.Prelude.{◌≡◌, ℕ, ◌<◌, ◌≤◌, ◌+◌, ◌^◌, true, None, vec_len, vec_capacity, slice_index_or, option_map, option_and_then, OnOk, IsOk};
 ghost use Rattle.std.specs.Result.{result_err};
 
 use super::bag::{Frame, Note};
 use super::ledger::Ledger;
 use super::station::Station;
-use crate::event::{Answer, Call, Event, Opening, Side, Unfair, WorldFault};
+use crate::event::{Answer, Call, Event, Opening, Side, Unfair};
 use crate::room::{MOST_FRAME, filled};
 use clock::Moment;
 use host::{Config, SocketId};
@@ -36,23 +36,17 @@ impl Network {
     ghost use Rattle.host.specs.Calls.{pair_connected};
     ghost use Rattle.host.specs.Sound.{IsSoundHost};
 
-    /// Two hosts with no frames between them. They take no memory, so there are two.
-    pub(super) fn new(
-        alloc: Global,
-        a: Config,
-        b: Config,
-        limit: u64,
-    ) -> Result<Network, WorldFault>
-        ensures made { IsOk result }
-        ensures fresh { IfOk result (λ network. network_view network ≡ fresh_network a b limit) }
+    /// Two hosts with no frames between them.
+    pub(super) fn new(alloc: Global, a: Config, b: Config, limit: u64) -> Network
+        ensures { network_view result ≡ fresh_network a b limit }
     {
-        Ok(Network {
+        Network {
             limit,
-            a: Station::new(alloc, a, b.addr())?,
-            b: Station::new(alloc, b, a.addr())?,
+            a: Station::new(alloc, a, b.addr()),
+            b: Station::new(alloc, b, a.addr()),
             bag: Vec::new(alloc),
             ledger: Ledger::new(alloc),
-        })
+        }
     }
 
     /// The openings, in order.

@@ -1,12 +1,12 @@
 //! A host with its clock.
 
-ghost use Rattle.std.specs.Prelude.{◌≡◌, ◌<◌, ◌≤◌, IfSome, OnSome, IfNone, IsOk, IfOk, vec_len, MatchResult};
+ghost use Rattle.std.specs.Prelude.{◌≡◌, ◌<◌, ◌≤◌, IfSome, OnSome, IfNone, vec_len, MatchResult};
 ghost use Rattle.wire_sim.specs.WorldView.{octets_len};
 ghost use Rattle.std.specs.Result.{ForOk};
 ghost use Rattle.host.specs.Calls.{recv_answer};
 ghost use Rattle.wire_sim.specs.Steps.{MeetsReceived};
 
-use crate::event::{Answer, Call, WorldFault};
+use crate::event::{Answer, Call};
 use clock::Moment;
 use host::{Config, Host, Refusal, SocketId};
 use ipv4::{Addr, Endpoint, Pair};
@@ -22,7 +22,8 @@ pub(super) struct Station {
 }
 
 impl Station {
-    ghost use Rattle.host.specs.HostView.{emission_len, emission_front, after_emission, holder_id};
+    ghost use Rattle.host.specs.HostView.{holder_id};
+    ghost use Rattle.host.specs.Emission.{emission_len, emission_front, after_emission};
     ghost use Rattle.wire_sim.specs.WorldView.{fresh_station};
     ghost use Rattle.wire_sim.specs.Steps.{ticked_station, asked_of, MeetsCall, MeetsFrame};
     ghost use Rattle.host.specs.Pairs.{socket_pair, due_pair};
@@ -31,17 +32,13 @@ impl Station {
     ghost use Rattle.host.specs.Sound.{IsSoundHost};
     ghost use Rattle.wire_sim.specs.Runs.{IsNumberedCall};
 
-    /// A host whose clock stands at 0. It takes no memory, so there is one.
-    pub(super) fn new(alloc: Global, config: Config, neighbour: Addr) -> Result<Station, WorldFault>
-        ensures made { IsOk result }
-        ensures fresh { IfOk result (λ station. station ≡ fresh_station config neighbour) }
+    /// A host whose clock stands at 0.
+    pub(super) fn new(alloc: Global, config: Config, neighbour: Addr) -> Station
+        ensures { result ≡ fresh_station config neighbour }
     {
-        match Host::new(alloc, config, neighbour) {
-            Ok(host) => Ok(Station {
-                host,
-                clock: Moment(0),
-            }),
-            Err(_) => Err(WorldFault::NoMemory),
+        Station {
+            host: Host::new(alloc, config, neighbour),
+            clock: Moment(0),
         }
     }
 

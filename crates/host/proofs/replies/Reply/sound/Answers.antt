@@ -1,9 +1,8 @@
 -- The fields of a header, and addresses, are of their width.
-use Rattle.std.proofs.Common.{◌≡◌, ◌*◌, ◌+◌, ◌<◌, ◌^◌, ℕ, [], Bool, true, false, if◌then◌else◌, length, arith, sym, ◌∙◌, ap, subst}
-use Rattle.ipv4.specs.declared.addr.Addr.{Addr}
+use Rattle.std.proofs.Common.{◌*◌, ◌+◌, ◌<◌, ◌^◌, [], Bool, true, false, if◌then◌else◌, arith, sym, ◌∙◌, ap, subst}
 use Rattle.tcp_segment.specs.declared.head.Head.{Head}
 use Rattle.tcp_segment.specs.Segment.{FieldsFit}
-use Rattle.tcp_segment.specs.Sent.{sent, sent_offset}
+use Rattle.tcp_segment.specs.Sent.{sent}
 use Rattle.host.specs.Sound.{IsSoundReply}
 use Rattle.host.proofs.replies.Reply.sound.Goals as goal
 

@@ -8,15 +8,15 @@ use Rattle.wire_sim.proofs.world.World.with_limit.Goals as goal
 
 pub invariant_of-result : goal.invariant_of-result
 invariant_of-result c =
-    let n = network_view c.in_ok-new.field-0 in
+    let n = network_view c.new.result in
     let apart = ap (λ (a : Addr). same_addr a c.args.b) (sym c.addr.ensures.value) ∙ (ap (same_addr c.addr.result) (sym c.addr-2.ensures.value) ∙ (sym c.eq.ensures ∙ c.if-eq.false)) in (
-      λ i. uncounted c.args.limit c.args.a c.args.b n i (65535 * length c.new-2.result.items) c.in_ok-new.ensures.fresh,
-      reached-fresh c.args.limit c.args.a c.args.b n c.new-2.result.items apart c.requires.1 c.in_ok-new.ensures.fresh c.new-2.ensures.items,
+      λ i. uncounted c.args.limit c.args.a c.args.b n i (65535 * length c.new-2.result.items) c.new.ensures,
+      reached-fresh c.args.limit c.args.a c.args.b n c.new-2.result.items apart c.requires.1 c.new.ensures c.new-2.ensures.items,
     )
 
 pub returns-clause-reached : goal.returns-clause-reached
 returns-clause-reached c =
-    let n = network_view c.in_ok-new.field-0 in
+    let n = network_view c.new.result in
     let apart = ap (λ (a : Addr). same_addr a c.args.b) (sym c.addr.ensures.value) ∙ (ap (same_addr c.addr.result) (sym c.addr-2.ensures.value) ∙ (sym c.eq.ensures ∙ c.if-eq.false)) in
-    reached-within c.args.limit c.args.a c.args.b n c.new-2.result.items c.in_ok-new.ensures.fresh
-    (reached-fresh c.args.limit c.args.a c.args.b n c.new-2.result.items apart c.requires.1 c.in_ok-new.ensures.fresh c.new-2.ensures.items)
+    reached-within c.args.limit c.args.a c.args.b n c.new-2.result.items c.new.ensures
+    (reached-fresh c.args.limit c.args.a c.args.b n c.new-2.result.items apart c.requires.1 c.new.ensures c.new-2.ensures.items)

@@ -5,13 +5,13 @@ use Rattle.tcp_segment.specs.declared.head.Head.{Head}
 use Rattle.tcp_segment.specs.Segment.{Segment}
 use Rattle.tcp_segment.specs.declared.flags.Flags.{Flags}
 use Rattle.host.specs.declared.entry.Entry.{Entry}
-use Rattle.host.specs.Dispatch.{is_opening, answered}
+use Rattle.host.specs.Arrival.{is_opening, answered}
 use Rattle.host.specs.Replies.{answer_at_listener}
 use Rattle.host.specs.Entries.{is_listening_at}
 use Rattle.host.specs.HostView.{HostView}
 use Rattle.host.proofs.Arrived.{listener-answers, meets_same}
 use Rattle.host.proofs.Firsts.{found_by_place}
-use Rattle.host.proofs.Host.take_alone.Goals as goal
+use Rattle.host.proofs.host.Host.take_alone.Goals as goal
 
 pub returns-in-Some-2 : goal.returns-in-Some-2
 returns-in-Some-2 c =

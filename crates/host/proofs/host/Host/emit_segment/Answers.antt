@@ -9,7 +9,7 @@ use Rattle.host.specs.HostView.{HostView, later}
 use Rattle.host.proofs.Arrived.{entry_settled}
 use Rattle.host.proofs.Emitted.{emission-of_entry}
 use Rattle.host.proofs.Firsts.{find-position}
-use Rattle.host.proofs.Host.emit_segment.Goals as goal
+use Rattle.host.proofs.host.Host.emit_segment.Goals as goal
 
 pub returns-clause-after : goal.returns-clause-after
 returns-clause-after c =

@@ -3,7 +3,7 @@ use Rattle.std.proofs.Common.{◌∙◌, sym}
 use Rattle.host.specs.Entries.{is_socket, sent, with_role}
 use Rattle.host.proofs.Written.{entry_written, entry_kept, on_ok, on_err}
 use Rattle.host.proofs.Refused.{entry_refused}
-use Rattle.host.proofs.Host.send.Goals as goal
+use Rattle.host.proofs.host.Host.send.Goals as goal
 
 pub returns-clause-ok : goal.returns-clause-ok
 returns-clause-ok c =

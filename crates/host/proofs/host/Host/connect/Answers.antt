@@ -9,7 +9,7 @@ use Rattle.host.specs.Calls.{open_answer, port_for, counted_port}
 use Rattle.host.proofs.Connected.{after_connect-accepted, some_from_ok}
 use Rattle.host.proofs.Firsts.{find-position}
 use Rattle.host.proofs.Written.{entry_written}
-use Rattle.host.proofs.Host.connect.Goals as goal
+use Rattle.host.proofs.host.Host.connect.Goals as goal
 
 pub returns-clause-ok : goal.returns-clause-ok
 returns-clause-ok c =

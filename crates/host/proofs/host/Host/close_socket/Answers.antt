@@ -9,7 +9,7 @@ use Rattle.host.specs.HostView.{HostView}
 use Rattle.host.proofs.Arrived.{entry_settled}
 use Rattle.host.proofs.Closed.{closed-found, close-allowed}
 use Rattle.host.proofs.Firsts.{find-position, found_by_place}
-use Rattle.host.proofs.Host.close_socket.Goals as goal
+use Rattle.host.proofs.host.Host.close_socket.Goals as goal
 
 pub returns-clause-ok : goal.returns-clause-ok
 returns-clause-ok c =

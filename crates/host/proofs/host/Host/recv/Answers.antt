@@ -2,7 +2,7 @@
 use Rattle.std.proofs.Common.{length}
 use Rattle.host.specs.Entries.{is_socket, received, with_role}
 use Rattle.host.proofs.Written.{entry_written, on_ok}
-use Rattle.host.proofs.Host.recv.Goals as goal
+use Rattle.host.proofs.host.Host.recv.Goals as goal
 
 pub returns-clause-ok : goal.returns-clause-ok
 returns-clause-ok c =

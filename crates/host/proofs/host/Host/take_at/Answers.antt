@@ -5,7 +5,7 @@ use Rattle.tcp_segment.specs.Segment.{Segment}
 use Rattle.tcp_state.specs.declared.connection.Fate.TheVariants.{Refused}
 use Rattle.clock.specs.declared.moment.Moment.{Moment}
 use Rattle.host.specs.declared.entry.Entry.{Entry}
-use Rattle.host.specs.Dispatch.{local_end, peer_end}
+use Rattle.host.specs.Arrival.{local_end, peer_end}
 use Rattle.host.specs.Replies.{reset_at_ack}
 use Rattle.host.specs.Entries.{is_between, fate_of, settled, arrived}
 use Rattle.host.specs.HostView.{HostView}
@@ -13,7 +13,7 @@ use Rattle.host.proofs.Arrived.{entry_settled, meets_becomes, meets_same, meets_
 use Rattle.host.proofs.Refused.{entry_refused_segment}
 use Rattle.host.proofs.Written.{entry_kept}
 use Rattle.host.proofs.Firsts.{find-position}
-use Rattle.host.proofs.Host.take_at.Goals as goal
+use Rattle.host.proofs.host.Host.take_at.Goals as goal
 
 pub returns-in-Refused : goal.returns-in-Refused
 returns-in-Refused c isn =

@@ -1,7 +1,7 @@
 -- The write at the socket's place is the change of the first entry that the id names.
 use Rattle.host.specs.Entries.{is_socket, bound_to, with_role}
 use Rattle.host.proofs.Written.{entry_written}
-use Rattle.host.proofs.Host.bind.Goals as goal
+use Rattle.host.proofs.host.Host.bind.Goals as goal
 
 pub returns-clause-ok : goal.returns-clause-ok
 returns-clause-ok c =

@@ -4,11 +4,11 @@ use Rattle.std.specs.List.{position}
 use Rattle.ipv4.specs.declared.addr.Endpoint.{Endpoint}
 use Rattle.tcp_segment.specs.Segment.{Segment}
 use Rattle.host.specs.declared.entry.Entry.{Entry}
-use Rattle.host.specs.Dispatch.{peer_end}
+use Rattle.host.specs.Arrival.{peer_end}
 use Rattle.host.specs.Entries.{is_between}
 use Rattle.host.specs.HostView.{HostView}
 use Rattle.host.proofs.Foreseen.{none-found}
-use Rattle.host.proofs.Host.pair_opened.Goals as goal
+use Rattle.host.proofs.host.Host.pair_opened.Goals as goal
 
 pub returns-in-Some : goal.returns-in-Some
 returns-in-Some c =

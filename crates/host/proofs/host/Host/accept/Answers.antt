@@ -5,7 +5,7 @@ use Rattle.std.specs.List.{position}
 use Rattle.host.specs.Entries.{is_offered_at, accepted, with_role}
 use Rattle.host.specs.HostView.{HostView}
 use Rattle.host.proofs.Written.{entry_written}
-use Rattle.host.proofs.Host.accept.Goals as goal
+use Rattle.host.proofs.host.Host.accept.Goals as goal
 
 pub returns-clause-ok : goal.returns-clause-ok
 returns-clause-ok c =

@@ -1,0 +1,26 @@
+-- What a tick makes of a host, and the moment from which it does something.
+use Rattle.std.specs.Prelude.{◌≡◌, ◌≤◌, fold, Option, Some, None}
+use Rattle.std.specs.List.{Contains, AllByRecursion}
+use Rattle.clock.specs.declared.moment.Moment.{Moment}
+use Rattle.clock.specs.Moments.{sooner}
+use Rattle.host.specs.declared.entry.Entry.{Entry}
+use Rattle.host.specs.Entries.{deadline_of, ticked, tick_fate_of, all_settled}
+use Rattle.host.specs.HostView.{HostView, later}
+
+-- each timer acts whose moment has come, at the later of the moment and the kept one, which is then kept; a connection that its
+-- caller closed is taken out where its wait is over
+abbrev pub after_tick : HostView → Moment → HostView
+after_tick h now = record h { kept = later h now; entries = all_settled (tick_fate_of (later h now)) (ticked (later h now)) h.entries }
+
+-- the least deadline of all entries
+abbrev pub least_deadline : HostView → Option Moment
+least_deadline h = fold (λ least e. sooner least (deadline_of e.role)) None h.entries
+
+-- an entry of the host has this deadline, and none has an earlier one
+pub record IsLeastDeadline (h : HostView) (moment : Moment) : Type 0 where
+  pub has : (e : Entry) × Contains h.entries e × (deadline_of e.role ≡ Some moment)
+  pub least : AllByRecursion (λ (e : Entry). (other : Moment) → deadline_of e.role ≡ Some other → moment.0 ≤ other.0) h.entries
+
+-- no entry of the host has a deadline
+abbrev pub HasNoDeadline : HostView → Type 0
+HasNoDeadline h = AllByRecursion (λ (e : Entry). deadline_of e.role ≡ None) h.entries
