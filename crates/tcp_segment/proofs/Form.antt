@@ -7,7 +7,7 @@ use Rattle.byteorder.specs.Endian.{big_number}
 use Rattle.tcp_segment.specs.declared.flags.Flags.{Flags}
 use Rattle.tcp_segment.specs.Options.{HeaderOption, joined, AreOptions}
 use Rattle.tcp_segment.specs.Segment.{Segment, bit, control_bits, spelling, FieldsFit, HasForm}
-use Rattle.tcp_segment.specs.Reading.{options_behind, flags_in, segment_with, header_len, header_in}
+use Rattle.tcp_segment.specs.Reading.{options_behind, flags_in, segment_with, offset_in, checksum_in, header_len, header_in}
 use Rattle.tcp_segment.proofs.OptionLists.{AreOctets, Walked, are_walked, are_read}
 
 -- the worth of a bit that is tested
@@ -245,6 +245,16 @@ form_read segment xs form =
     let len : length (spelling segment form.offset form.reserved form.checksum form.padding) < 2 ^ 16 = omega (arith, ap length form.spelled, form.len) in
     subst (λ (ys : List ℕ). ReadAs segment form.offset ys) (sym form.spelled)
     (spelled_read segment form.offset form.reserved form.checksum form.padding form.fields form.options form.offset_fits form.reserved_fits form.header len)
+
+-- the data offset and the checksum of a form are those that its octets tell
+pub offset_read : (segment : Segment) (xs : List ℕ) (form : HasForm segment xs) → offset_in xs ≡ form.offset
+offset_read segment xs form = omega (arith, (header_facts xs (4 * form.offset) (form_read segment xs form).header).4)
+
+pub checksum_read : (segment : Segment) (xs : List ℕ) (form : HasForm segment xs) → checksum_in xs ≡ form.checksum
+checksum_read segment xs form = ap checksum_in form.spelled ∙ same form.checksum form.checksum_fits
+  where
+    same : (checksum : ℕ) → checksum < 2 ^ 16 → checksum_in (spelling segment form.offset form.reserved checksum form.padding) ≡ checksum
+    same checksum fits = omega (arith, fits)
 
 -- octets whose header is refused have no form
 pub no_header : (segment : Segment) (xs : List ℕ) → header_in xs ≡ None → HasForm segment xs → ⊥

@@ -2,6 +2,7 @@
 use Rattle.std.proofs.Common.{◌≡◌, ℕ, ◌+◌, ◌-◌, ◌*◌, ◌≤◌, Bool, true, false, List, [], ◌∷◌, ◌++◌, length, drop, take, slice_range, cond, if◌then◌else◌, refl, sym, ◌∙◌, ap, append_assoc, length-append, arith}
 use Rattle.std.proofs.lemmas.List.{append-nil, take_at, drop_at, drop-drop, take-append-drop, length-take, length-drop}
 use borrow.Rule.Slice.PartMut.{put_mid}
+use Rattle.byteorder.specs.Endian.{big_bytes}
 use Rattle.inet_sum.specs.Sum.{sum_of}
 use Rattle.ipv4.specs.declared.addr.Addr.{Addr}
 use Rattle.tcp_segment.specs.declared.head.Head.{Head}
@@ -23,14 +24,14 @@ put_options first last out f l =
     rw (take_at first (drop 20 out) 20 f, drop_at first (drop 20 out) 20 f, drop-drop 4 20 out) (sym (append_assoc first last (drop 24 out)))
 
 -- what is written of a header with SYN
-pub with_option : (head : Head) (checksum : ℕ) (first last out : List ℕ) → head.flags.syn ≡ true
-    → first ≡ fixed_fields (sent head []) (sent_offset head) 0 checksum → last ≡ 2 ∷ 4 ∷ 5 ∷ 180 ∷ []
-    → put_mid 20 4 (first ++ drop 20 out) last ≡ sent_with head [] checksum ++ drop (4 * sent_offset head) out
-with_option head checksum first last out syn f l =
-    let header : first ++ last ≡ sent_with head [] checksum = rw (f, l, syn) refl in
+pub with_option : (head : Head) (first last out : List ℕ) → head.flags.syn ≡ true
+    → first ≡ fixed_fields (sent head []) (sent_offset head) 0 0 → last ≡ 2 ∷ 4 ∷ 5 ∷ 180 ∷ []
+    → put_mid 20 4 (first ++ drop 20 out) last ≡ sent_with head [] 0 ++ drop (4 * sent_offset head) out
+with_option head first last out syn f l =
+    let header : first ++ last ≡ sent_with head [] 0 = rw (f, l, syn) refl in
     let len : 24 ≡ 4 * sent_offset head = rw syn refl in
     put_options first last out (ap length f) (ap length l)
-    ∙ ap (λ (xs : List ℕ). xs ++ drop 24 out) header ∙ ap (λ (n : ℕ). sent_with head [] checksum ++ drop n out) len
+    ∙ ap (λ (xs : List ℕ). xs ++ drop 24 out) header ∙ ap (λ (n : ℕ). sent_with head [] 0 ++ drop n out) len
 
 pub option_len : (b : Bool) → 20 + length (joined (if b then MaximumSegmentSize 1460 ∷ [] else []) ++ []) ≡ 4 * (if b then 6 else 5)
 option_len true = refl
@@ -52,15 +53,20 @@ pub whole_len : (head : Head) (octets : List ℕ) (checksum : ℕ) → length (s
 whole_len head octets checksum =
     ap length (sent_before head octets checksum) ∙ omega (arith, length-append (sent_with head [] checksum) octets, sent_len head checksum)
 
--- What is written first has a checksum of zero; what is written then has the checksum of that.
-pub emitted : (src dst : Addr) (head : Head) (sum len : ℕ) (out first second : List ℕ)
+-- a checksum is put into a header whose checksum is zero
+put_checksum : (head : Head) (checksum : ℕ) (out : List ℕ) → put_mid 16 2 (sent_with head [] 0 ++ out) (big_bytes 2 checksum) ≡ sent_with head [] checksum ++ out
+put_checksum head checksum out = refl
+
+-- The header is written with a checksum of zero, and then the checksum of that is put into it.
+pub emitted : (src dst : Addr) (head : Head) (sum len : ℕ) (out first second checksum : List ℕ)
     → first ≡ sent_with head [] 0 ++ drop (4 * sent_offset head) out
     → sum ≡ sum_of (summed src dst (take len first))
-    → second ≡ sent_with head [] (65535 - sum) ++ drop (4 * sent_offset head) first
+    → checksum ≡ big_bytes 2 (65535 - sum)
+    → second ≡ put_mid 16 2 first checksum
     → 4 * sent_offset head ≤ len → len ≤ length out
     → second ≡ sent_octets src dst head (slice_range out (4 * sent_offset head) len) ++ drop len out
 unfolding sent_octets
-emitted src dst head sum len out first second is_first is_sum is_second long room =
+emitted src dst head sum len out first second checksum is_first is_sum is_checksum is_second long room =
     let header : ℕ = 4 * sent_offset head in
     let payload : List ℕ = slice_range out header len in
     let end : header + (len - header) ≡ len = omega arith in
@@ -75,9 +81,8 @@ emitted src dst head sum len out first second is_first is_sum is_second long roo
     let len_is : length (sent_with head payload 0) ≡ len = omega (arith, whole_len head payload 0, payload_len) in
     let taken : take len first ≡ sent_with head payload 0 =
     ap (λ (xs : List ℕ). take len xs) (is_first ∙ whole 0) ∙ take_at (sent_with head payload 0) (drop len out) len len_is in
-    let behind : drop header first ≡ drop header out =
-    ap (λ (xs : List ℕ). drop header xs) is_first ∙ drop_at (sent_with head [] 0) (drop header out) header (sent_len head 0) in
     let sum_is : sum ≡ sum_of (summed src dst (sent_with head payload 0)) =
     is_sum ∙ ap (λ (xs : List ℕ). sum_of (summed src dst xs)) taken in
-    is_second ∙ ap (λ (xs : List ℕ). sent_with head [] (65535 - sum) ++ xs) behind ∙ whole (65535 - sum)
+    is_second ∙ ap (λ (xs : List ℕ). put_mid 16 2 first xs) is_checksum ∙ ap (λ (xs : List ℕ). put_mid 16 2 xs (big_bytes 2 (65535 - sum))) is_first
+    ∙ put_checksum head (65535 - sum) (drop header out) ∙ whole (65535 - sum)
     ∙ ap (λ (n : ℕ). sent_with head payload (65535 - n) ++ drop len out) sum_is

@@ -4,6 +4,7 @@
 use Rattle.std.specs.Prelude.{ℕ, zero, suc, ◌-◌, ◌*◌, ◌/◌, ◌%◌, ◌==◌, nat_lt, ◌||◌, Bool, if◌then◌else◌, List, [], ◌∷◌, length, take, drop, slice_index, Option, Some, None, Result, Ok, Err}
 use Rattle.std.specs.Option.{option_map}
 use Rattle.byteorder.specs.Endian.{big_number}
+use Rattle.tcp_segment.specs.declared.TheConstants.{FIXED_LEN}
 use Rattle.tcp_segment.specs.declared.fault.SegmentFault.{SegmentFault}
 use Rattle.tcp_segment.specs.declared.fault.SegmentFault.TheVariants.{UpperHeader, UpperSum}
 use Rattle.tcp_segment.specs.declared.flags.Flags.{Flags}
@@ -64,15 +65,23 @@ segment_with octets header options = record {
   octets = drop header octets;
 }
 
+-- the data offset: the length of the header in words of four octets
+abbrev pub offset_in : List ℕ → ℕ
+offset_in octets = slice_index octets 12 / 16
+
+-- the checksum in the header
+abbrev pub checksum_in : List ℕ → ℕ
+checksum_in octets = big_number 2 (drop 16 octets)
+
 -- the length of the header in octets
 abbrev pub header_len : List ℕ → ℕ
-header_len octets = 4 * (slice_index octets 12 / 16)
+header_len octets = 4 * offset_in octets
 
 -- the length of the header, if the octets have room for it and it for the fixed fields
 abbrev pub header_in : List ℕ → Option ℕ
 header_in octets =
-    if nat_lt (length octets) 20 || nat_lt 65535 (length octets) then None
-    else if nat_lt (header_len octets) 20 || nat_lt (length octets) (header_len octets) then None
+    if nat_lt (length octets) FIXED_LEN || nat_lt 65535 (length octets) then None
+    else if nat_lt (header_len octets) FIXED_LEN || nat_lt (length octets) (header_len octets) then None
     else Some (header_len octets)
 
 -- the segment with these options, if they are well-formed
@@ -83,7 +92,7 @@ with_options octets header (Some options) = Some (segment_with octets header opt
 -- the segment behind a header of this length, if there is one
 abbrev pub in_header : List ℕ → Option ℕ → Option Segment
 in_header octets None = None
-in_header octets (Some header) = with_options octets header (options_behind (take (header - 20) (drop 20 octets)) 0)
+in_header octets (Some header) = with_options octets header (options_behind (take (header - FIXED_LEN) (drop FIXED_LEN octets)) 0)
 
 -- the segment that octets from src for dst spell, if they do and their checksum is right
 abbrev pub segment_in : Addr → Addr → List ℕ → Option Segment

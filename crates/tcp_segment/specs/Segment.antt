@@ -3,6 +3,7 @@ use Rattle.std.specs.Prelude.{◌≡◌, ℕ, ◌+◌, ◌*◌, ◌<◌, ◌^◌
 use Rattle.byteorder.specs.Endian.{big_bytes}
 use Rattle.inet_sum.specs.Sum.{sum_of, pseudo_octets}
 use Rattle.ipv4.specs.declared.addr.Addr.{Addr}
+use Rattle.tcp_segment.specs.declared.TheConstants.{FIXED_LEN, MSS, DEFAULT_MSS, LEAST_MSS}
 use Rattle.tcp_segment.specs.declared.fault.SegmentFault.{SegmentFault}
 use Rattle.tcp_segment.specs.declared.fault.SegmentFault.TheVariants.{UpperHeader, UpperSum}
 use Rattle.tcp_segment.specs.declared.flags.Flags.{Flags}
@@ -65,7 +66,7 @@ pub record HasForm (segment : Segment) (octets : List ℕ) : Type 0 where
   pub offset_fits : offset < 2 ^ 4
   pub reserved_fits : reserved < 2 ^ 6
   pub checksum_fits : checksum < 2 ^ 16
-  pub header : 4 * offset ≡ 20 + length (joined segment.options ++ padding)
+  pub header : 4 * offset ≡ FIXED_LEN + length (joined segment.options ++ padding)
   pub len : length octets < 2 ^ 16
   pub spelled : octets ≡ spelling segment offset reserved checksum padding
 
@@ -96,11 +97,11 @@ told_of segment = if segment.flags.syn then last_told None segment.options else 
 
 -- the size that counts as told: 536 where none is told, and never under 64
 abbrev pub told_mss : Segment → ℕ
-told_mss segment = max (unwrap_or (told_of segment) 536) 64
+told_mss segment = max (unwrap_or (told_of segment) DEFAULT_MSS) LEAST_MSS
 
 -- SMSS, the most octets that are sent to this peer in one segment (RFC 5681 section 2, RFC 9293 section 3.7.1)
 abbrev pub smss_of : Segment → ℕ
-smss_of segment = min (told_mss segment) 1460
+smss_of segment = min (told_mss segment) MSS
 
 -- the length in sequence numbers (RFC 9293 section 3.4): the octets, and one each for SYN and FIN
 abbrev pub span_of : Segment → ℕ

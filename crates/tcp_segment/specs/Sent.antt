@@ -2,11 +2,12 @@
 use Rattle.std.specs.Prelude.{◌≡◌, ℕ, ◌+◌, ◌*◌, ◌<◌, ◌^◌, List, [], ◌∷◌, length, if◌then◌else◌}
 use Rattle.inet_sum.specs.Sum.{checksum_of}
 use Rattle.ipv4.specs.declared.addr.Addr.{Addr}
+use Rattle.tcp_segment.specs.declared.TheConstants.{MSS}
 use Rattle.tcp_segment.specs.declared.head.Head.{Head}
 use Rattle.tcp_segment.specs.Options.{MaximumSegmentSize}
 use Rattle.tcp_segment.specs.Segment.{Segment, FieldsFit, spelling, summed}
 
--- a segment as this stack sends it: with SYN it tells 1460 (RFC 9293 section 3.7.1), else it has no option
+-- a segment as this stack sends it: with SYN it tells the maximum segment size of this stack, 1460 (RFC 9293 section 3.7.1), else it has no option
 abbrev pub sent : Head → List ℕ → Segment
 sent head octets = record {
   source = head.source;
@@ -16,7 +17,7 @@ sent head octets = record {
   flags = head.flags;
   window = head.window;
   urgent = 0;
-  options = if head.flags.syn then MaximumSegmentSize 1460 ∷ [] else [];
+  options = if head.flags.syn then MaximumSegmentSize MSS ∷ [] else [];
   octets = octets;
 }
 

@@ -59,6 +59,7 @@ pub(crate) fn octet_of(flags: Flags) -> u8
         + bit(flags.urg, URG)
 }
 
+/// What a control bit is worth where it is set, and else 0.
 fn bit(set: bool, worth: u8) -> u8
     ensures value { result ≡ bit set worth }
     ensures bound { result ≤ worth }

@@ -32,6 +32,9 @@ pub struct Head {
 /// The length of the option that tells the maximum segment size, in octets.
 const MSS_OPTION_LEN: usize = 4;
 
+/// Where the two octets of the checksum stand in a header (RFC 9293 section 3.1).
+const CHECKSUM: usize = 16;
+
 impl Head {
     /// The length of the header, in octets: with SYN it tells the maximum segment size.
     pub fn len(&self) -> usize
@@ -55,9 +58,9 @@ impl Head {
             out.new ≡ sent_octets src dst self.now payload ++ drop result out.old }
     {
         let len = self.len() + payload_len;
-        self.write(0, out);
+        self.write(out);
         let checksum = u16::MAX - sum_between(src, dst, &out[..len]);
-        self.write(checksum, out);
+        out[CHECKSUM..CHECKSUM + 2].copy_from_slice(&checksum.to_be_bytes());
         len
     }
 
@@ -68,13 +71,13 @@ impl Head {
         self.flags.syn
     }
 
-    /// Writes the header with this checksum.
-    fn write(&self, checksum: u16, out: &mut [u8])
+    /// Writes the header with a checksum of 0.
+    fn write(&self, out: &mut [u8])
         requires { 4 * sent_offset self.now ≤ length out.old }
-        ensures octets { out.new ≡ sent_with self.now [] checksum ++ drop (4 * sent_offset self.now) out.old }
+        ensures octets { out.new ≡ sent_with self.now [] 0 ++ drop (4 * sent_offset self.now) out.old }
         ensures fit { FieldsFit (sent self.now []) }
     {
-        out[..FIXED_LEN].copy_from_slice(&self.fixed(checksum));
+        out[..FIXED_LEN].copy_from_slice(&self.fixed());
         if self.tells_mss() {
             let [high, low] = MSS.to_be_bytes();
             let option = [MAXIMUM_SEGMENT_SIZE, MSS_OPTION_LEN as u8, high, low];
@@ -82,9 +85,9 @@ impl Head {
         }
     }
 
-    /// The fields of the header before its options.
-    fn fixed(&self, checksum: u16) -> [u8; 20]
-        ensures octets { result ≡ fixed_fields (sent self.now []) (sent_offset self.now) 0 checksum }
+    /// The fields of the header before its options, with a checksum of 0.
+    fn fixed(&self) -> [u8; FIXED_LEN]
+        ensures octets { result ≡ fixed_fields (sent self.now []) (sent_offset self.now) 0 0 }
         ensures fit { FieldsFit (sent self.now []) }
     {
         let Head {
@@ -102,7 +105,6 @@ impl Head {
         let offset = if self.tells_mss() { 0x60 } else { 0x50 };
         let flags = octet_of(flags);
         let [window_high, window_low] = window.to_be_bytes();
-        let [checksum_high, checksum_low] = checksum.to_be_bytes();
         [
             source_high,
             source_low,
@@ -120,8 +122,8 @@ impl Head {
             flags,
             window_high,
             window_low,
-            checksum_high,
-            checksum_low,
+            0,
+            0,
             0,
             0,
         ]

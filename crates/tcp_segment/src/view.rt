@@ -5,7 +5,7 @@ ghost use Rattle.std.specs.Option.{ok_or};
 ghost use Rattle.byteorder.specs.Endian.{big_number};
 ghost use Rattle.tcp_segment.specs.declared.fault.SegmentFault.TheVariants.{UpperHeader};
 ghost use Rattle.tcp_segment.specs.Segment.{Segment, HasForm, IsParsed, told_of, told_mss, smss_of, span_of};
-ghost use Rattle.tcp_segment.specs.Reading.{header_in};
+ghost use Rattle.tcp_segment.specs.Reading.{header_in, offset_in, checksum_in};
 
 use crate::fault::SegmentFault;
 use crate::flags::{Flags, flags_of};
@@ -85,6 +85,25 @@ impl<'a> TcpView<'a> {
             options,
             payload: &segment[header..],
         })
+    }
+
+    /// The data offset that octets tell which have room for a header: its length in words of four octets (RFC 9293 section
+    /// 3.1).
+    pub fn offset_in(segment: &[u8]) -> u8
+        requires { FIXED_LEN ≤ length segment.now }
+        ensures value { result ≡ offset_in segment.now }
+        ensures spelled { (view : Segment) (form : HasForm view segment.now) → result ≡ form.offset }
+    {
+        segment[12] >> 4
+    }
+
+    /// The checksum that octets tell which have room for a header, right or wrong (RFC 9293 section 3.1).
+    pub fn checksum_in(segment: &[u8]) -> u16
+        requires { FIXED_LEN ≤ length segment.now }
+        ensures value { result ≡ checksum_in segment.now }
+        ensures spelled { (view : Segment) (form : HasForm view segment.now) → result ≡ form.checksum }
+    {
+        u16_at(segment, 16)
     }
 
     /// The port that it comes from.
@@ -187,13 +206,14 @@ fn header_len(segment: &[u8]) -> Result<usize, SegmentFault>
     if segment.len() < FIXED_LEN || segment.len() > usize::from(u16::MAX) {
         return Err(SegmentFault::UpperHeader);
     }
-    let header = 4 * usize::from(segment[12] >> 4);
+    let header = 4 * usize::from(TcpView::offset_in(segment));
     if header < FIXED_LEN || segment.len() < header {
         return Err(SegmentFault::UpperHeader);
     }
     Ok(header)
 }
 
+/// The number of two octets at a place of a segment, in network order.
 fn u16_at(segment: &[u8], at: usize) -> u16
     requires { at + 2 ≤ length segment.now }
     ensures { result ≡ big_number 2 (drop at segment.now) }
@@ -201,6 +221,7 @@ fn u16_at(segment: &[u8], at: usize) -> u16
     BigEndian::read_u16(&segment[at..])
 }
 
+/// The number of four octets at a place of a segment, in network order.
 fn u32_at(segment: &[u8], at: usize) -> u32
     requires { at + 4 ≤ length segment.now }
     ensures { result ≡ big_number 4 (drop at segment.now) }

@@ -1,4 +1,4 @@
-use Rattle.std.proofs.Common.{◌+◌, ◌-◌, ◌*◌, drop, arith}
+use Rattle.std.proofs.Common.{◌+◌, ◌-◌, ◌*◌, drop, refl, ◌∙◌, arith}
 use Rattle.std.proofs.lemmas.List.{length-take, length-drop}
 use Rattle.tcp_segment.specs.Sent.{sent_offset}
 use Rattle.tcp_segment.proofs.Sending.{emitted}
@@ -6,8 +6,8 @@ use Rattle.tcp_segment.proofs.head.Head.emit.Goals as goal
 
 pub returns-clause-octets : goal.returns-clause-octets
 returns-clause-octets c =
-    emitted c.args.src c.args.dst c.args.self.now c.sum_between-checksum.result _ c.args.out.now c.write.new.out c.write-2.new.out
-    c.write.ensures.octets c.sum_between-checksum.ensures.sum c.write-2.ensures.octets (omega arith) (omega arith)
+    emitted c.args.src c.args.dst c.args.self.now c.sum_between-checksum.result _ c.args.out.now c.write.new.out _ c.copy_from_slice.new.self
+    c.write.ensures.octets c.sum_between-checksum.ensures.sum (c.copy_from_slice.ensures.after ∙ c.to_be_bytes.ensures) refl (omega arith) (omega arith)
 
 pub returns-clause-sendable : goal.returns-clause-sendable
 returns-clause-sendable c =
