@@ -188,15 +188,9 @@ impl Dialogue {
         self.say(format_args!("a tick {seconds}000\nb tick {seconds}000"))
     }
 
-    // Compares what a line printed.
-    fn was_told(&self, rt: &impl Abort, line: &str, said: &str, want: &str) {
-        let (network, script) = (self.network, self.script.as_str());
-        assert_eq!(rt; said, want, "{line}, {network:?}: {script}");
-    }
-
-    // Makes a call until it is answered, a second apart.
-    fn insist(&mut self, line: &str) -> Result<String, Fail> {
-        for _ in 0..TRIES {
+    // Makes a call until it is answered, a second apart, and so many times more at most.
+    fn insist(&mut self, line: &str, more: usize) -> Result<String, Fail> {
+        for _ in 0..more {
             let said = self.ask(line)?;
             if said.as_str() != "E8 EAGAIN" {
                 return Ok(said);
@@ -204,6 +198,16 @@ impl Dialogue {
             self.turn()?;
         }
         self.ask(line)
+    }
+
+    // Makes these calls one after another, and compares what each is answered.
+    fn calls(&mut self, rt: &impl Abort, rows: &[(&str, &str)], more: usize) -> Result<(), Fail> {
+        for (line, want) in rows {
+            let said = self.insist(line, more)?;
+            let (network, script) = (self.network, self.script.as_str());
+            assert_eq!(rt; said.as_str(), *want, "{line}, {network:?}: {script}");
+        }
+        Ok(())
     }
 }
 
@@ -228,23 +232,13 @@ fn plays_through(
         isn,
         turns: 0,
     };
-    for (line, want) in LISTENING {
-        let said = dialogue.ask(line)?;
-        dialogue.was_told(rt, line, said.as_str(), want);
-    }
+    dialogue.calls(rt, &LISTENING, 0)?;
     dialogue.say(format_args!("a connect 1 80 {isn}"))?;
-    for (line, want) in course.rows {
-        let said = dialogue.insist(line)?;
-        dialogue.was_told(rt, line, said.as_str(), want);
-    }
+    dialogue.calls(rt, course.rows, TRIES)?;
     for _ in 0..TRIES {
         dialogue.turn()?;
     }
-    for (line, want) in course.ends {
-        let said = dialogue.ask(line)?;
-        dialogue.was_told(rt, line, said.as_str(), want);
-    }
-    Ok(())
+    dialogue.calls(rt, course.ends, 0)
 }
 
 // Numbers that pass the last one of 32 bits at each place of a dialogue.
