@@ -10,9 +10,9 @@ use Rattle.tcp_state.specs.declared.state.State.TheVariants.{Closed, Listen, Syn
 use Rattle.tcp_state.specs.declared.calls.Refusal.{Refusal}
 use Rattle.tcp_state.specs.declared.calls.Refusal.TheVariants.{ECONNREFUSED, ECONNRESET}
 use Rattle.tcp_state.specs.Stream.{is_new_ack}
-use Rattle.tcp_state.specs.View.{View, is_syn_sent, is_syn_received, is_closed, is_at_end, is_over, after_tick, tick_fate}
+use Rattle.tcp_state.specs.View.{View, is_syn_sent, is_syn_received, is_closed, is_at_end, is_fin_next, is_over, after_tick, tick_fate}
 use Rattle.tcp_state.specs.Calls.{after_send, after_recv, shutdown_refusal, after_shutdown, after_abort, abort_fate, is_removed_by_close, is_aborted_by_close, after_close, close_fate}
-use Rattle.tcp_state.specs.Arrival.{is_acting_reset, ends_by_reset, ends_by_syn, is_fin_next, is_lost, is_read, after_segment_at, fate}
+use Rattle.tcp_state.specs.Arrival.{is_acting_reset, ends_by_reset, ends_by_syn, is_lost, is_read, after_segment_at, fate}
 use Rattle.tcp_state.specs.Due.{first_due, after_emitted}
 
 -- the edges of the diagram of states (figure 5) but those of a listener that sends and of a close in SYN-RECEIVED, which is aborted here;

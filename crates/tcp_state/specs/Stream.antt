@@ -1,6 +1,7 @@
 -- The stream part: what octets taken, sent, acknowledged, arrived and read make of the two halves. Nothing here knows of timers, of how
 -- much the peer takes, or of what goes out first; later rules for those leave this page as it is.
 use Rattle.std.specs.Prelude.{ℕ, zero, suc, ◌+◌, ◌-◌, ◌%◌, ◌^◌, ◌≤◌, ◌==◌, ◌&&◌, ◌||◌, nat_lt, nat_le, Bool, if◌then◌else◌, List, [], ◌++◌, length, take, drop}
+use Rattle.tcp_segment.specs.declared.TheConstants.{DEFAULT_MSS}
 use Rattle.tcp_segment.specs.Wire.{past}
 use Rattle.tcp_state.specs.Numbers.{is_before, later_number}
 use Rattle.tcp_state.specs.declared.buffers.TheConstants.{CAPACITY}
@@ -28,7 +29,7 @@ is_new_ack s ack = nat_lt 0 (past ack s.una) && nat_le (past ack s.una) (outstan
 
 -- nothing sent yet, and the SYN will have the number isn
 abbrev pub sending_from : ℕ → Sending
-sending_from isn = record { held = []; una = isn; nxt = isn; window = 0; wl1 = isn; wl2 = isn; smss = 536 }
+sending_from isn = record { held = []; una = isn; nxt = isn; window = 0; wl1 = isn; wl2 = isn; smss = DEFAULT_MSS }
 
 -- our SYN is acknowledged, the one number that is outstanding
 abbrev pub after_syn_acknowledged : Sending → Sending

@@ -1,9 +1,11 @@
 -- A connection as its callers see it (RFC 9293 section 3.3).
 use Rattle.std.specs.Prelude.{◌≡◌, ℕ, ◌+◌, ◌-◌, ◌≤◌, ◌^◌, ◌==◌, ◌&&◌, ◌||◌, ◌<◌, not, nat_le, min, Bool, true, false, if◌then◌else◌, [], length, Option, Some, None, is_some}
 use Rattle.ipv4.specs.declared.addr.Endpoint.{Endpoint}
+use Rattle.tcp_segment.specs.declared.TheConstants.{MSS, LEAST_MSS}
 use Rattle.tcp_state.specs.declared.buffers.TheConstants.{CAPACITY}
 use Rattle.tcp_state.specs.declared.state.State.{State}
 use Rattle.tcp_state.specs.declared.state.State.TheVariants.{Closed, Listen, SynSent, SynReceived, FinWait1, FinWait2, CloseWait, Closing, LastAck, TimeWait}
+use Rattle.tcp_state.specs.declared.ending.TheConstants.{TIME_WAIT, FIN_WAIT_2}
 use Rattle.tcp_state.specs.declared.moment.Moment.{Moment}
 use Rattle.tcp_state.specs.declared.calls.Refusal.{Refusal}
 use Rattle.tcp_state.specs.declared.connection.Fate.{Fate}
@@ -108,8 +110,8 @@ later moment milliseconds = record { 0 = min (moment.0 + milliseconds) (2 ^ 64 -
 -- when a wait that began at a moment ends: TIME-WAIT lasts twice the two minutes that a segment may live (section 3.4.2), FIN-WAIT-2
 -- a minute where no caller is left to read
 abbrev pub end_of_wait : State → Bool → Moment → Option Moment
-end_of_wait TimeWait released since = Some (later since 240000)
-end_of_wait FinWait2 true since = Some (later since 60000)
+end_of_wait TimeWait released since = Some (later since TIME_WAIT)
+end_of_wait FinWait2 true since = Some (later since FIN_WAIT_2)
 end_of_wait FinWait2 false since = None
 end_of_wait _ released since = None
 
@@ -176,13 +178,17 @@ opened_actively local peer isn = record {
   since = record { 0 = 0 };
 }
 
+-- all octets are acknowledged, so that of what may be outstanding the FIN alone is left
+abbrev pub is_fin_next : View → Bool
+is_fin_next v = awaits_fin_ack v.state && (length v.sending.held == 0)
+
 -- how many numbers may be outstanding: that of the SYN, as many octets that are held as one segment has, or that of the FIN behind them
 abbrev pub most_outstanding : View → ℕ
 most_outstanding v =
-    if is_opening v.state || (awaits_fin_ack v.state && (length v.sending.held == 0)) then 1 else min (length v.sending.held) 1460
+    if is_opening v.state || is_fin_next v then 1 else min (length v.sending.held) MSS
 
 -- What holds of every connection. While it opens, nothing is held or readable, and nothing is held once our FIN is acknowledged. At most
--- one segment is outstanding; its timer runs exactly while it is. A segment may have 64 octets at least, so that what is held can always go out. An acknowledgement is owed once a SYN came, and none when all is closed.
+-- one segment is outstanding; its timer runs exactly while it is. A segment may have `LEAST_MSS` octets at least, so that what is held can always go out. An acknowledgement is owed once a SYN came, and none when all is closed.
 -- An error is told, and a reset owed, only where all is closed; what its caller closed is closed on our side.
 pub record IsSound (v : View) : Type 0 where
   pub una : v.sending.una < 2 ^ 32
@@ -194,8 +200,8 @@ pub record IsSound (v : View) : Type 0 where
   pub flight : outstanding v.sending ≤ most_outstanding v
   pub timer : is_idle v.resend ≡ (outstanding v.sending == 0)
   pub connection : is_listening v.state ≡ false
-  pub segment : v.sending.smss ≤ 1460
-  pub segment_least : 64 ≤ v.sending.smss
+  pub segment : v.sending.smss ≤ MSS
+  pub segment_least : LEAST_MSS ≤ v.sending.smss
   pub ack : ((is_syn_sent v.state || is_closed v.state) && v.owes_ack) ≡ false
   pub error : (is_some v.told && not (is_closed v.state)) ≡ false
   pub reset : (v.owes_reset && not (is_closed v.state && v.released)) ≡ false

@@ -1,10 +1,11 @@
 //! What an arriving segment does (RFC 9293 section 3.10.7).
 
 ghost use Rattle.std.specs.Prelude.{◌≡◌, true, false, ◌&&◌, ◌||◌, not, if◌then◌else◌, IsTrue, ◌==◌};
-ghost use Rattle.tcp_state.specs.View.{is_opening, is_syn_sent, is_syn_received, is_closed};
-ghost use Rattle.tcp_state.specs.Arrival.{after_segment, after_syn_ack, owing_ack, established, after_ack, is_read_on, after_window, after_text, after_acceptable, after_accepted, ends_by_syn, is_accepted, is_fin_next, fin_acknowledged, after_new_ack, after_fin, after_reset, reset_error, after_refusal, after_rst, is_acting_reset, ends_by_reset, is_right_syn_ack, fate, after_segment_at, after_heard, is_lost, is_read, brings_more, after_lost, repeats_fin, is_refused, ends_opening};
+ghost use Rattle.tcp_state.specs.View.{is_opening, is_syn_sent, is_syn_received, is_closed, is_fin_next};
+ghost use Rattle.tcp_state.specs.Arrival.{after_segment, after_syn_ack, owing_ack, established, after_ack, is_read_on, after_window, after_text, after_acceptable, after_accepted, ends_by_syn, is_accepted, fin_acknowledged, after_new_ack, after_fin, after_reset, reset_error, after_refusal, after_rst, is_acting_reset, ends_by_reset, is_right_syn_ack, fate, after_segment_at, after_heard, is_lost, is_read, brings_more, after_lost, repeats_fin, is_refused, ends_opening};
 ghost use Rattle.tcp_state.specs.Stream.{is_new_ack};
 
+use crate::buffers::CAPACITY;
 use crate::connection::{Connection, Fate, Resend};
 use crate::moment::Moment;
 use crate::state::State;
@@ -229,7 +230,7 @@ impl Connection {
         self.sender
             .hear_syn(segment.number(), segment.window(), segment.smss());
         self.sender.acknowledge_syn();
-        self.receiver.hear_syn(segment.number(), u16::MAX);
+        self.receiver.hear_syn(segment.number(), CAPACITY as u16);
         self.state = State::Established;
         self.resend = Resend::Idle;
         self.owes_ack = true;
@@ -255,22 +256,18 @@ impl Connection {
         ensures opened { result ≡ true → is_opening self.new.state ≡ false }
         ensures after { self.new ≡ after_ack self.old acknowledgement.0 }
     {
+        let is_read_on = self.is_read_on(acknowledgement);
         let is_new = self.sender.is_new(acknowledgement);
         if self.state == State::SynReceived {
             if is_new {
                 self.establish();
             }
-            return is_new;
-        }
-        if is_new {
+        } else if is_new {
             self.hear_new_ack(acknowledgement);
-            return true;
-        }
-        if self.sender.nxt().is_before(acknowledgement) {
+        } else if !is_read_on {
             self.owes_ack = true;
-            return false;
         }
-        true
+        is_read_on
     }
 
     /// Numbers that were outstanding are acknowledged: octets, or the FIN once they all were.
@@ -290,13 +287,6 @@ impl Connection {
                 self.owes_ack = false;
             }
         }
-    }
-
-    /// Whether all octets are acknowledged, and the FIN of a closed side is not.
-    pub(crate) fn is_fin_next(&self) -> bool
-        ensures { result ≡ is_fin_next self.now }
-    {
-        self.state.awaits_fin_ack() && self.sender.is_empty()
     }
 
     /// Our SYN is acknowledged.

@@ -1,3 +1,5 @@
+//! What a caller does with a connection that is open: it sends, receives and closes its side (RFC 9293 section 3.10).
+
 ghost use Rattle.std.specs.Prelude.{◌≡◌, ◌<◌, ◌++◌, length, take, drop, if◌then◌else◌, ◌||◌, ◌==◌, Ok, Err, OnOk, OnErr, is_some};
 ghost use Rattle.std.specs.Result.{result_err};
 ghost use Rattle.tcp_state.specs.View.{is_opening, is_end_seen};

@@ -54,6 +54,7 @@ impl Receiver {
         self.readable.is_empty()
     }
 
+    /// RCV.NXT, the number that is expected next.
     pub(crate) fn rnext(&self) -> Seq
         ensures { result.0 ≡ self.now.rnext }
     {

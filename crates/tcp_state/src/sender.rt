@@ -9,10 +9,7 @@ ghost use Rattle.tcp_state.specs.Windows.{after_syn_heard, after_window_told, se
 
 use crate::buffers::CAPACITY;
 use std::marker::Model;
-use tcp_segment::Seq;
-
-/// The size of the segments that a peer takes which does not tell it (RFC 9293 section 3.7.1).
-const DEFAULT_MSS: u16 = 536;
+use tcp_segment::{DEFAULT_MSS, Seq};
 
 /// The sending half of a connection.
 #[derive(Drop)]
@@ -72,12 +69,14 @@ impl Sender {
         self.held.is_empty()
     }
 
+    /// SND.UNA, the oldest number that is not acknowledged.
     pub(crate) fn una(&self) -> Seq
         ensures { result.0 ≡ self.now.una }
     {
         self.una
     }
 
+    /// SND.NXT, the number after the highest that was sent.
     pub(crate) fn nxt(&self) -> Seq
         ensures { result.0 ≡ self.now.nxt }
     {

@@ -1,3 +1,5 @@
+//! The states of a connection, and where its closing leads from each (RFC 9293 section 3.3.2).
+
 ghost use Rattle.std.specs.Prelude.{◌≡◌};
 
 use crate::calls::Refusal;
