@@ -20,7 +20,7 @@ use Rattle.tcp_state.specs.Calls.{aborted}
 abbrev pub owing_ack : View → View
 owing_ack v = record v { owes_ack = true }
 
--- a connection that a SYN opens at a listener (section 3.10.7.2): nothing is told to the peer yet
+-- a connection that a SYN opens at a listener (section 3.10.7.2): no window is advertised yet
 abbrev pub opened_passively : Endpoint → Endpoint → ℕ → Segment → View
 opened_passively local peer isn syn = record {
   local = local;
@@ -37,7 +37,7 @@ opened_passively local peer isn syn = record {
   since = record { 0 = 0 };
 }
 
--- A reset ends the connection: what is held goes out no more, nothing is owed, and every call is told why from now on.
+-- A reset ends the connection: what is held goes out no more, nothing is owed, and every call reports why from now on.
 abbrev pub after_reset : View → Option Refusal → View
 after_reset v error = record (stopped v) { told = error }
 
@@ -56,7 +56,7 @@ abbrev pub after_refusal : View → Segment → View
 after_refusal v s =
     if s.flags.ack && is_new_ack v.sending s.acknowledgement then after_reset v (reset_error v.state) else v
 
--- in SYN-SENT only a SYN that acknowledges ours is taken (section 3.10.7.3); our SYN told the whole room of an empty buffer
+-- in SYN-SENT only a SYN that acknowledges ours is taken (section 3.10.7.3); our SYN advertised the whole room of an empty buffer
 abbrev pub is_right_syn_ack : View → Segment → Bool
 is_right_syn_ack v s = s.flags.syn && s.flags.ack && is_new_ack v.sending s.acknowledgement
 
@@ -213,7 +213,7 @@ timed v s now w = record w { since = if repeats_fin v s || begins_wait v.state w
 abbrev pub after_segment_at : View → Segment → Moment → View
 after_segment_at v s now = timed v s now (after_heard v s)
 
--- While the connection opens, an acknowledgement of what was not sent is refused: it is answered by a reset at its number
+-- While the connection opens, an acknowledgement of what was not sent is rejected: it is answered by a reset at its number
 -- (section 3.10.7.3, first, and section 3.10.7.4, fifth), and changes nothing.
 abbrev pub acknowledges_unsent : View → Segment → Bool
 acknowledges_unsent v s = not s.flags.rst && s.flags.ack && not (is_new_ack v.sending s.acknowledgement)

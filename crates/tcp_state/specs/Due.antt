@@ -32,7 +32,7 @@ abbrev pub octets_of : View → Due → List ℕ
 octets_of v (Text count) = take count v.sending.held
 octets_of v _ = []
 
--- the window up to the edge that it tells, and none in a reset
+-- the window up to the edge that is advertised with it, and none in a reset
 abbrev pub window_of : View → Due → ℕ
 window_of v Rst = 0
 window_of v _ = receive_window (after_told v.receiving)
@@ -58,7 +58,7 @@ emitted_len v due = 4 * sent_offset (head_of v due) + length (octets_of v due)
 abbrev pub emitted : View → Due → List ℕ
 emitted v due = sent_octets v.local.addr v.peer.addr (head_of v due) (octets_of v due)
 
--- an acknowledgement that goes out tells the whole free room, and none is owed any more
+-- an acknowledgement that goes out advertises the whole room, and none is owed any more
 abbrev pub after_ack_paid : View → View
 after_ack_paid v = record v { receiving = after_told v.receiving; owes_ack = false }
 

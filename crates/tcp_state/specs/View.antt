@@ -27,7 +27,7 @@ pub record View : Type 0 where
   pub owes_ack : Bool
   -- whether and when what is outstanding goes out again
   pub resend : Resend
-  -- the error that every call is told from now on
+  -- the error that every call reports from now on
   pub told : Option Refusal
   -- its caller closed it: no socket names it any more
   pub released : Bool
@@ -57,7 +57,7 @@ awaits_fin_ack Closing = true
 awaits_fin_ack LastAck = true
 awaits_fin_ack _ = false
 
--- our side is closed, and our FIN is acknowledged
+-- our side is closed, and nothing of ours waits to be acknowledged: our FIN is, or the connection is CLOSED
 abbrev pub is_fin_acknowledged : State → Bool
 is_fin_acknowledged FinWait2 = true
 is_fin_acknowledged TimeWait = true
@@ -68,7 +68,7 @@ is_fin_acknowledged _ = false
 abbrev pub is_write_closed : State → Bool
 is_write_closed state = awaits_fin_ack state || is_fin_acknowledged state
 
--- the peer's FIN has come, behind all its octets
+-- nothing more comes from the peer: its FIN has come, behind all its octets, or the connection is CLOSED
 abbrev pub is_end_seen : State → Bool
 is_end_seen CloseWait = true
 is_end_seen Closing = true
@@ -187,9 +187,9 @@ abbrev pub most_outstanding : View → ℕ
 most_outstanding v =
     if is_opening v.state || is_fin_next v then 1 else min (length v.sending.held) MSS
 
--- What holds of every connection. While it opens, nothing is held or readable, and nothing is held once our FIN is acknowledged. At most
+-- What holds of every connection. While it opens, nothing is held or readable, and nothing is held once our FIN is acknowledged or all is closed. At most
 -- one segment is outstanding; its timer runs exactly while it is. A segment may have `LEAST_MSS` octets at least, so that what is held can always go out. An acknowledgement is owed once a SYN came, and none when all is closed.
--- An error is told, and a reset owed, only where all is closed; what its caller closed is closed on our side.
+-- An error is pending, and a reset owed, only where all is closed; what its caller closed is closed on our side.
 pub record IsSound (v : View) : Type 0 where
   pub una : v.sending.una < 2 ^ 32
   pub nxt : v.sending.nxt < 2 ^ 32

@@ -194,7 +194,7 @@ impl Connection {
         }
     }
 
-    /// Takes the window that the segment tells.
+    /// Takes the window of the segment, where it is no older than the one that is known.
     fn hear_window(&mut self, segment: &TcpView<'_>)
         ensures { self.new ≡ after_window self.old segment.now }
     {

@@ -105,7 +105,7 @@ impl Sender {
         self.held.extend_from_slice(octets).unwrap();
     }
 
-    /// Takes what the peer's SYN tells of it: its window and the segments that it takes.
+    /// Takes what the peer's SYN says of it: its window and the segments that it takes.
     pub(crate) fn hear_syn(&mut self, number: Seq, window: u16, smss: u16)
         ensures { self.new ≡ after_syn_heard self.old number.0 window smss }
     {
@@ -147,7 +147,7 @@ impl Sender {
         self.una = acknowledgement;
     }
 
-    /// Takes the window of a segment whose acknowledgement is not below SND.UNA, and that is no older than the one that told the
+    /// Takes the window of a segment whose acknowledgement is not below SND.UNA, and that is no older than the one that gave the
     /// present window (RFC 9293 section 3.10.7.4).
     pub(crate) fn update_window(&mut self, number: Seq, acknowledgement: Seq, window: u16)
         ensures { self.new ≡ after_window_told self.old number.0 acknowledgement.0 window }
