@@ -55,7 +55,7 @@ impl Connection {
         if self.state == State::SynSent {
             return self.hear_syn_ack(segment);
         }
-        if !self.receiver.accepts(segment.number(), segment.span()) {
+        if !self.is_acceptable(segment) {
             self.owes_ack = true;
             return Fate::Stays;
         }
@@ -66,6 +66,14 @@ impl Connection {
             return self.hear_accepted(segment);
         }
         Fate::Stays
+    }
+
+    /// Whether a segment is acceptable (RFC 9293 section 3.10.7.4, first).
+    fn is_acceptable(&self, segment: &TcpView<'_>) -> bool
+        ensures { result ≡ is_accepted self.now segment.now }
+    {
+        let (number, span) = (segment.number(), segment.span());
+        self.receiver.accepts(number, span)
     }
 
     /// Whether octets of a segment would be lost: its caller closed the connection, and one stands at RCV.NXT or past it.
@@ -84,7 +92,7 @@ impl Connection {
     {
         let flags = segment.flags();
         !flags.rst
-            && self.receiver.accepts(segment.number(), segment.span())
+            && self.is_acceptable(segment)
             && !flags.syn
             && flags.ack
             && self.is_read_on(segment.acknowledgement())
@@ -125,12 +133,12 @@ impl Connection {
         ensures { result ≡ repeats_fin self.now segment.now }
     {
         let flags = segment.flags();
-        let (number, span) = (segment.number(), segment.span());
+        let end = segment.number() + segment.span();
         self.state == State::TimeWait
             && !flags.rst
-            && !self.receiver.accepts(number, span)
+            && !self.is_acceptable(segment)
             && flags.fin
-            && number + span == self.receiver.rnext()
+            && end == self.receiver.rnext()
     }
 
     /// Takes a segment with RST.
@@ -162,8 +170,7 @@ impl Connection {
     fn is_acting_reset(&self, segment: &TcpView<'_>) -> bool
         ensures { result ≡ is_acting_reset self.now segment.now }
     {
-        let number = segment.number();
-        self.receiver.accepts(number, segment.span()) && number == self.receiver.rnext()
+        self.is_acceptable(segment) && segment.number() == self.receiver.rnext()
     }
 
     /// The peer's reset ends the connection.
