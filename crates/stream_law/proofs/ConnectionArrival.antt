@@ -5,11 +5,11 @@ use Rattle.tcp_segment.specs.Segment.{Segment}
 use Rattle.tcp_state.specs.declared.state.State.{State}
 use Rattle.tcp_state.specs.declared.state.State.TheVariants.{SynSent, SynReceived, Established, FinWait1, FinWait2, Closing, LastAck}
 use Rattle.tcp_state.specs.Numbers.{is_before}
-use Rattle.tcp_state.specs.View.{View, IsSound, is_opening, is_syn_sent, is_syn_received, is_closed, is_write_closed, is_end_seen, is_fin_acknowledged, awaits_fin_ack}
+use Rattle.tcp_state.specs.View.{View, IsSound, is_opening, is_syn_sent, is_syn_received, is_closed, is_write_closed, is_end_seen, is_fin_acknowledged, awaits_fin_ack, is_fin_next}
 use Rattle.tcp_state.specs.Halves.{Receiving as ReceivingHalf}
 use Rattle.tcp_state.specs.Stream.{outstanding, is_new_ack, after_acknowledged, after_octets, stands_next, after_end}
 use Rattle.tcp_state.specs.Windows.{tells_window}
-use Rattle.tcp_state.specs.Arrival.{after_segment, after_syn_ack, is_right_syn_ack, is_accepted, after_accepted, after_acceptable, after_ack, is_read_on, after_window, after_text, owing_ack, established, ends_by_syn, is_fin_next, fin_acknowledged, after_new_ack, beyond_fin, beyond_end, is_receiving, counts_fin, after_fin}
+use Rattle.tcp_state.specs.Arrival.{after_segment, after_syn_ack, is_right_syn_ack, is_accepted, after_accepted, after_acceptable, after_ack, is_read_on, after_window, after_text, owing_ack, established, ends_by_syn, fin_acknowledged, after_new_ack, beyond_fin, beyond_end, is_receiving, counts_fin, after_fin}
 use Rattle.stream_law.specs.Channel.{Channel, Sending, Open, Receiving, Waiting, Synchronised, IsAmong, IsRecent}
 use Rattle.stream_law.specs.ChannelSteps.{Step, nothing_kept}
 use Rattle.stream_law.specs.ChannelViews.{frame_of, Leads, stays, goes, sender_of, receiving_of, SendsInto, ReceivesFrom, Follows, IsOfWidth, CameFrom}

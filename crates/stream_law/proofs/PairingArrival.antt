@@ -4,9 +4,9 @@ use Rattle.tcp_segment.specs.Segment.{Segment}
 use Rattle.tcp_state.specs.declared.state.State.{State}
 use Rattle.tcp_state.specs.declared.state.State.TheVariants.{Established, FinWait1, FinWait2, Closing, LastAck}
 use Rattle.tcp_state.specs.Numbers.{is_before}
-use Rattle.tcp_state.specs.View.{View, IsSound, is_closed, is_listening, is_syn_sent, is_syn_received}
+use Rattle.tcp_state.specs.View.{View, IsSound, is_closed, is_listening, is_syn_sent, is_syn_received, is_fin_next}
 use Rattle.tcp_state.specs.Stream.{is_new_ack}
-use Rattle.tcp_state.specs.Arrival.{after_segment, fate, after_syn_ack, is_right_syn_ack, is_accepted, after_accepted, after_acceptable, after_ack, is_read_on, after_window, after_text, after_fin, counts_fin, is_receiving, owing_ack, established, ends_by_syn, is_fin_next, fin_acknowledged, after_new_ack, beyond_fin, beyond_end}
+use Rattle.tcp_state.specs.Arrival.{after_segment, fate, after_syn_ack, is_right_syn_ack, is_accepted, after_accepted, after_acceptable, after_ack, is_read_on, after_window, after_text, after_fin, counts_fin, is_receiving, owing_ack, established, ends_by_syn, fin_acknowledged, after_new_ack, beyond_fin, beyond_end}
 use Rattle.stream_law.specs.Channel.{Channel, IsAmong}
 use Rattle.stream_law.specs.ChannelViews.{CameFrom}
 use Rattle.stream_law.specs.Pairing.{Present, Emission, Pairing, IsTimely, remains}

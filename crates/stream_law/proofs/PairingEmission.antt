@@ -8,10 +8,9 @@ use Rattle.tcp_state.specs.declared.emission.Due.TheVariants.{Rst, Syn, Text, Fi
 use Rattle.clock.specs.declared.moment.Moment.{Moment}
 use Rattle.tcp_state.specs.declared.state.State.{State}
 use Rattle.tcp_state.specs.declared.state.State.TheVariants.{Closed, SynSent, SynReceived, FinWait1, Closing, LastAck}
-use Rattle.tcp_state.specs.View.{View, IsSound, is_opening, is_syn_sent, is_syn_received, is_closed, is_listening, is_write_closed, is_end_seen, is_fin_acknowledged, awaits_fin_ack}
+use Rattle.tcp_state.specs.View.{View, IsSound, is_opening, is_syn_sent, is_syn_received, is_closed, is_listening, is_write_closed, is_end_seen, is_fin_acknowledged, awaits_fin_ack, is_fin_next}
 use Rattle.tcp_state.specs.Stream.{outstanding}
 use Rattle.tcp_state.specs.Due.{MayGoOut, flags_of, head_of, octets_of, after_emitted, after_ack_paid, after_numbers}
-use Rattle.tcp_state.specs.Arrival.{is_fin_next}
 use Rattle.stream_law.specs.Channel.{Channel, Ack, Open, IsAmong, here, there}
 use Rattle.stream_law.specs.ChannelSteps.{Step, steps, emits_bare}
 use Rattle.stream_law.specs.ChannelViews.{Leads, stays, goes, sender_of, receiving_of, SendsInto, ReceivesFrom, IsOfWidth, frame_of, ack_of}

@@ -36,12 +36,12 @@ AreOptions [] padding = padding ≡ []
 AreOptions (EndOfOptions ∷ rest) padding = rest ≡ []
 AreOptions (option ∷ rest) padding = IsOption option × AreOptions rest padding
 
--- an option that tells no maximum segment size
+-- an option other than the MSS option
 abbrev pub TellsNoSize : HeaderOption → Type 0
 TellsNoSize (MaximumSegmentSize size) = ⊥
 TellsNoSize option = Unit {0}
 
--- The maximum segment size that a list of options tells, read from left to right with the one told so far: that of the
+-- The maximum segment size in a list of options, read from left to right with the one found so far: that of the
 -- last such option (RFC 9293 section 3.7.1). `laws::last_size_stands` says so without a walk.
 abbrev pub last_told : Option ℕ → List HeaderOption → Option ℕ
 last_told told [] = told

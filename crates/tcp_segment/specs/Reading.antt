@@ -22,7 +22,7 @@ abbrev pub body_in : List ℕ → Option (List ℕ × List ℕ)
 body_in [] = None
 body_in (len ∷ xs) = if nat_lt len 2 || nat_lt (length xs) (len - 2) then None else Some (take (len - 2) xs, drop (len - 2) xs)
 
--- the size that the body of an option tells
+-- the size in the body of an MSS option
 abbrev pub mss_in : List ℕ → Option ℕ
 mss_in body = if length body == 2 then Some (big_number 2 body) else None
 

@@ -91,11 +91,12 @@ IsParsed src dst octets (Ok segment) = Spells src dst segment octets
 IsParsed src dst octets (Err UpperHeader) = (segment : Segment) → HasForm segment octets → ⊥
 IsParsed src dst octets (Err UpperSum) = (segment : Segment) × HasForm segment octets × (SumIsRight src dst octets → ⊥)
 
--- the maximum segment size that a segment tells (RFC 9293 section 3.7.1): that of its last such option, read where SYN is set
+-- the maximum segment size in the options of a segment (RFC 9293 section 3.7.1): that of its last such option, read where SYN is set
 abbrev pub told_of : Segment → Option ℕ
 told_of segment = if segment.flags.syn then last_told None segment.options else None
 
--- the size that counts as told: 536 where none is told, and never under 64
+-- SendMSS, the size that the sender of a segment takes (RFC 9293 section 3.7.1): the default where it has no such option, and never
+-- under the least
 abbrev pub told_mss : Segment → ℕ
 told_mss segment = max (unwrap_or (told_of segment) DEFAULT_MSS) LEAST_MSS
 

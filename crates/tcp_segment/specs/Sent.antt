@@ -7,7 +7,7 @@ use Rattle.tcp_segment.specs.declared.head.Head.{Head}
 use Rattle.tcp_segment.specs.Options.{MaximumSegmentSize}
 use Rattle.tcp_segment.specs.Segment.{Segment, FieldsFit, spelling, summed}
 
--- a segment as this stack sends it: with SYN it tells the maximum segment size of this stack, 1460 (RFC 9293 section 3.7.1), else it has no option
+-- a segment as this stack sends it: with SYN it has the MSS option of this stack (RFC 9293 section 3.7.1), else it has no option
 abbrev pub sent : Head → List ℕ → Segment
 sent head octets = record {
   source = head.source;

@@ -29,14 +29,14 @@ pub struct Head {
     pub window: u16,
 }
 
-/// The length of the option that tells the maximum segment size, in octets.
+/// The length of the MSS option, in octets.
 const MSS_OPTION_LEN: usize = 4;
 
 /// Where the two octets of the checksum stand in a header (RFC 9293 section 3.1).
 const CHECKSUM: usize = 16;
 
 impl Head {
-    /// The length of the header, in octets: with SYN it tells the maximum segment size.
+    /// The length of the header, in octets: with SYN it has the MSS option.
     pub fn len(&self) -> usize
         ensures { result ≡ 4 * sent_offset self.now }
     {
@@ -64,7 +64,7 @@ impl Head {
         len
     }
 
-    /// Whether the header carries the option that tells the maximum segment size.
+    /// Whether the header carries the MSS option.
     fn tells_mss(&self) -> bool
         ensures { result ≡ self.now.flags.syn }
     {

@@ -39,7 +39,7 @@ pub fn read_plainly()
     ensures err { (src dst : Addr) (octets : List ℕ) (fault : SegmentFault) → ((i : ℕ) → get_or octets i 0 < 256) → IsParsed src dst octets (Err fault) → segment_in src dst octets ≡ None }
 {}
 
-/// The plain reading of octets that tells a fault too finds what `TcpView::parse` answers, a segment or the same fault, and a
+/// The plain reading of octets that finds a fault too answers what `TcpView::parse` answers, a segment or the same fault, and a
 /// segment exactly where the reading above finds that one (RFC 9293 sections 3.1 and 3.2).
 pub fn faults_read_plainly()
     ensures ok { (src dst : Addr) (octets : List ℕ) (segment : Segment) → IsParsed src dst octets (Ok segment) → segment_or_fault src dst octets ≡ Ok segment }
@@ -48,8 +48,8 @@ pub fn faults_read_plainly()
     ensures alike { (src dst : Addr) (octets : List ℕ) (segment : Segment) → (segment_or_fault src dst octets ≡ Ok segment) ↔ (segment_in src dst octets ≡ Some segment) }
 {}
 
-/// Of the options that tell a maximum segment size the last one stands, whatever stands before it, and without one none is
-/// told (RFC 9293 section 3.7.1).
+/// Of several MSS options the last one stands, whatever stands before it, and without one there is no such size (RFC 9293
+/// section 3.7.1).
 pub fn last_size_stands()
     ensures last { (before after : List HeaderOption) (size : ℕ) → All TellsNoSize after
         → last_told None (before ++ MaximumSegmentSize size ∷ after) ≡ Some size }

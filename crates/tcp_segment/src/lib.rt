@@ -14,13 +14,13 @@ mod view;
 /// The length of a header without options, in octets (RFC 9293 section 3.1).
 const FIXED_LEN: usize = 20;
 
-/// The maximum segment size that this stack tells, in octets (RFC 9293 section 3.7.1).
+/// The maximum segment size that this stack sends as an option, in octets (RFC 9293 section 3.7.1).
 pub const MSS: u16 = 1460;
 
-/// The maximum segment size of a peer that tells none (RFC 9293 section 3.7.1).
+/// The maximum segment size of a peer that sends no MSS option (RFC 9293 section 3.7.1).
 pub const DEFAULT_MSS: u16 = 536;
 
-/// A peer that tells less counts as telling this.
+/// A lesser MSS option counts as this.
 pub const LEAST_MSS: u16 = 64;
 
 pub use fault::SegmentFault;

@@ -13,10 +13,10 @@ const END_OF_OPTIONS: u8 = 0;
 
 const NO_OPERATION: u8 = 1;
 
-/// The kind of the option that tells a maximum segment size.
+/// The kind of the MSS option.
 pub(crate) const MAXIMUM_SEGMENT_SIZE: u8 = 2;
 
-/// Walks the options, and answers the maximum segment size that the last such option tells.
+/// Walks the options, and answers the maximum segment size of the last MSS option.
 pub(crate) fn told_mss(options: &[u8]) -> Result<Option<u16>, SegmentFault>
     ensures { result ≡ ok_or (option_map (last_told None) (options_behind options.now 0)) UpperHeader }
 {
@@ -52,7 +52,7 @@ fn body_of(octets: &[u8]) -> Result<(&[u8], &[u8]), SegmentFault>
     }
 }
 
-/// The maximum segment size that the body of such an option tells.
+/// The maximum segment size in the body of an MSS option.
 fn mss_of(body: &[u8]) -> Result<u16, SegmentFault>
     ensures { result ≡ ok_or (mss_in body.now) UpperHeader }
 {

@@ -87,7 +87,7 @@ impl<'a> TcpView<'a> {
         })
     }
 
-    /// The data offset that octets tell which have room for a header: its length in words of four octets (RFC 9293 section
+    /// The data offset in octets that have room for a header: its length in words of four octets (RFC 9293 section
     /// 3.1).
     pub fn offset_in(segment: &[u8]) -> u8
         requires { FIXED_LEN ≤ length segment.now }
@@ -97,7 +97,7 @@ impl<'a> TcpView<'a> {
         segment[12] >> 4
     }
 
-    /// The checksum that octets tell which have room for a header, right or wrong (RFC 9293 section 3.1).
+    /// The checksum in octets that have room for a header, right or wrong (RFC 9293 section 3.1).
     pub fn checksum_in(segment: &[u8]) -> u16
         requires { FIXED_LEN ≤ length segment.now }
         ensures value { result ≡ checksum_in segment.now }
@@ -155,8 +155,8 @@ impl<'a> TcpView<'a> {
         self.urgent
     }
 
-    /// The maximum segment size that the segment tells, in octets (RFC 9293 section 3.7.1): that of its last such option, and
-    /// none without SYN or without the option.
+    /// The maximum segment size in the options, in octets (RFC 9293 section 3.7.1): that of the last such option, and none without
+    /// SYN or without the option.
     pub fn told(&self) -> Option<u16>
         ensures { result ≡ told_of self.now }
     {
@@ -167,14 +167,15 @@ impl<'a> TcpView<'a> {
         }
     }
 
-    /// The maximum segment size that counts as told, in octets (RFC 9293 section 3.7.1): 536 where none is told, and at least 64.
+    /// SendMSS, the maximum segment size that the sender of this segment takes, in octets (RFC 9293 section 3.7.1): `DEFAULT_MSS`
+    /// without the option, and at least `LEAST_MSS`.
     pub fn mss(&self) -> u16
         ensures { result ≡ told_mss self.now }
     {
         self.told().unwrap_or(DEFAULT_MSS).max(LEAST_MSS)
     }
 
-    /// The most octets to send in one segment: what the peer told, and at most 1460.
+    /// The most octets to send it in one segment (RFC 5681 section 2): SendMSS, and at most `MSS`.
     pub fn smss(&self) -> u16
         ensures { result ≡ smss_of self.now }
     {

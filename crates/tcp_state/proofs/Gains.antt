@@ -14,8 +14,8 @@ use Rattle.tcp_state.specs.declared.state.State.TheVariants.{Established, FinWai
 use Rattle.tcp_state.specs.Numbers.{is_before}
 use Rattle.tcp_state.specs.Halves.{Receiving}
 use Rattle.tcp_state.specs.Stream.{is_new_ack, receive_window, is_in_window, gained}
-use Rattle.tcp_state.specs.View.{View, is_syn_sent, is_syn_received, is_closed}
-use Rattle.tcp_state.specs.Arrival.{owing_ack, established, is_receiving, beyond_fin, is_fin_next, fin_acknowledged, after_new_ack, after_ack, is_read_on, is_read, after_window, after_text, after_acceptable, after_accepted, ends_by_syn, ends_by_reset, is_acting_reset, is_accepted, after_reset, reset_error, after_refusal, after_rst, is_right_syn_ack, after_syn_ack, after_segment, is_lost, after_lost, after_segment_at}
+use Rattle.tcp_state.specs.View.{View, is_syn_sent, is_syn_received, is_closed, is_fin_next}
+use Rattle.tcp_state.specs.Arrival.{owing_ack, established, is_receiving, beyond_fin, fin_acknowledged, after_new_ack, after_ack, is_read_on, is_read, after_window, after_text, after_acceptable, after_accepted, ends_by_syn, ends_by_reset, is_acting_reset, is_accepted, after_reset, reset_error, after_refusal, after_rst, is_right_syn_ack, after_syn_ack, after_segment, is_lost, after_lost, after_segment_at}
 use Rattle.tcp_state.specs.Positions.{ReceivesAt}
 use Rattle.tcp_state.proofs.Edges.{either, and_left, and_right}
 use Rattle.tcp_state.proofs.Causes.{or_else, not_true}

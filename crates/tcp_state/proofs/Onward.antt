@@ -11,9 +11,9 @@ use Rattle.tcp_state.specs.Numbers.{is_before}
 use Rattle.tcp_state.specs.Halves.{Sending, Receiving}
 use Rattle.tcp_state.specs.Stream.{outstanding, is_new_ack, receive_window, gained, after_octets, stands_next, after_end, after_sent, is_in_window}
 use Rattle.tcp_state.specs.Windows.{tells_window, after_window_told, sendable, after_told}
-use Rattle.tcp_state.specs.View.{View, IsSound, is_opening, is_syn_sent, is_syn_received, is_closed, is_write_closed, is_at_end, stopped, after_resend, is_due}
+use Rattle.tcp_state.specs.View.{View, IsSound, is_opening, is_syn_sent, is_syn_received, is_closed, is_write_closed, is_at_end, stopped, after_resend, is_due, is_fin_next}
 use Rattle.tcp_state.specs.Calls.{shutdown_refusal, after_shutdown, aborted, after_release, is_removed_by_close, is_aborted_by_close}
-use Rattle.tcp_state.specs.Arrival.{owing_ack, established, is_receiving, is_fin_next, fin_acknowledged, after_new_ack, after_ack, is_read_on, after_window, after_text, counts_fin, after_fin, after_acceptable, after_accepted, ends_by_syn, ends_by_reset, is_acting_reset, is_accepted, after_reset, reset_error, after_refusal, after_rst, is_right_syn_ack, after_syn_ack, after_segment, is_lost, after_lost, after_heard}
+use Rattle.tcp_state.specs.Arrival.{owing_ack, established, is_receiving, fin_acknowledged, after_new_ack, after_ack, is_read_on, after_window, after_text, counts_fin, after_fin, after_acceptable, after_accepted, ends_by_syn, ends_by_reset, is_acting_reset, is_accepted, after_reset, reset_error, after_refusal, after_rst, is_right_syn_ack, after_syn_ack, after_segment, is_lost, after_lost, after_heard}
 use Rattle.tcp_state.specs.Due.{first_due, again, ack_due, after_ack_paid, after_numbers}
 use Rattle.tcp_state.specs.Edges.{Event, Hears, Ticks, Emits, Sends, Receives, Shuts, Closes, Aborts, after_first, after_event}
 use Rattle.tcp_state.specs.Positions.{GoesOn, NeverBack, HasNumber}

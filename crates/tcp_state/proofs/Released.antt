@@ -11,8 +11,8 @@ use Rattle.tcp_state.specs.declared.state.State.TheVariants.{FinWait1, Closing, 
 use Rattle.tcp_state.specs.Numbers.{is_before}
 use Rattle.tcp_state.specs.Halves.{Receiving}
 use Rattle.tcp_state.specs.Stream.{is_new_ack, gained, after_octets, receive_window, is_in_window}
-use Rattle.tcp_state.specs.View.{View, IsSound, is_syn_sent, is_syn_received, is_closed, is_write_closed}
-use Rattle.tcp_state.specs.Arrival.{owing_ack, established, is_receiving, beyond_fin, is_fin_next, fin_acknowledged, after_new_ack, after_ack, is_read_on, is_read, brings_more, after_window, after_text, counts_fin, after_fin, after_acceptable, after_accepted, ends_by_syn, ends_by_reset, is_acting_reset, is_accepted, after_reset, reset_error, after_refusal, after_rst, is_right_syn_ack, after_syn_ack, after_segment, is_lost, after_lost, after_segment_at}
+use Rattle.tcp_state.specs.View.{View, IsSound, is_syn_sent, is_syn_received, is_closed, is_write_closed, is_fin_next}
+use Rattle.tcp_state.specs.Arrival.{owing_ack, established, is_receiving, beyond_fin, fin_acknowledged, after_new_ack, after_ack, is_read_on, is_read, brings_more, after_window, after_text, counts_fin, after_fin, after_acceptable, after_accepted, ends_by_syn, ends_by_reset, is_acting_reset, is_accepted, after_reset, reset_error, after_refusal, after_rst, is_right_syn_ack, after_syn_ack, after_segment, is_lost, after_lost, after_segment_at}
 use Rattle.tcp_state.proofs.Edges.{either}
 use Rattle.tcp_state.proofs.Causes.{both, of_false}
 use Rattle.tcp_state.proofs.Unchanged.{clash}

@@ -10,8 +10,8 @@ use Rattle.tcp_state.specs.declared.state.State.{State}
 use Rattle.tcp_state.specs.declared.state.State.TheVariants.{SynSent, FinWait2, TimeWait}
 use Rattle.tcp_state.specs.Halves.{Receiving}
 use Rattle.tcp_state.specs.Stream.{outstanding, is_new_ack, is_in_window, receive_window, is_acceptable}
-use Rattle.tcp_state.specs.View.{View, IsSound, is_opening, is_syn_sent, is_closed, is_over, is_time_wait}
-use Rattle.tcp_state.specs.Arrival.{owing_ack, is_accepted, is_acting_reset, is_fin_next, is_read, is_lost, after_lost, ends_by_syn, ends_by_reset, ends_opening, acknowledges_unsent, is_refused, after_reset, reset_error, after_refusal, after_rst, after_syn_ack, after_accepted, after_segment, begins_wait, repeats_fin, after_segment_at, after_heard}
+use Rattle.tcp_state.specs.View.{View, IsSound, is_opening, is_syn_sent, is_closed, is_over, is_time_wait, is_fin_next}
+use Rattle.tcp_state.specs.Arrival.{owing_ack, is_accepted, is_acting_reset, is_read, is_lost, after_lost, ends_by_syn, ends_by_reset, ends_opening, acknowledges_unsent, is_refused, after_reset, reset_error, after_refusal, after_rst, after_syn_ack, after_accepted, after_segment, begins_wait, repeats_fin, after_segment_at, after_heard}
 use Rattle.tcp_state.specs.Edges.{Hears, after_event, fate_by, is_removed, is_reset_by, ends_by, ends_by_ack}
 use Rattle.tcp_state.proofs.Edges.{either, and_left, and_right}
 use Rattle.tcp_state.proofs.Causes.{both, or_left, or_right, or_else, not_true, of_false, by, segment-cause}

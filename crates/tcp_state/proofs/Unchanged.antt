@@ -12,8 +12,8 @@ use Rattle.tcp_state.specs.declared.state.State.TheVariants.{Closed, SynSent, Sy
 use Rattle.tcp_state.specs.Numbers.{is_before}
 use Rattle.tcp_state.specs.Stream.{outstanding, is_new_ack}
 use Rattle.tcp_state.specs.Windows.{sendable}
-use Rattle.tcp_state.specs.View.{View, IsSound, is_opening, is_syn_sent, is_syn_received, is_closed, is_over, is_due, is_idle, is_time_wait, awaits_fin_ack, is_fin_acknowledged}
-use Rattle.tcp_state.specs.Arrival.{owing_ack, established, is_fin_next, after_ack, is_read_on, after_acceptable, after_accepted, ends_opening, is_accepted, is_right_syn_ack, after_syn_ack, after_segment, is_lost, after_lost, after_heard, begins_wait, repeats_fin, timed, after_segment_at, acknowledges_unsent, is_refused, fate}
+use Rattle.tcp_state.specs.View.{View, IsSound, is_opening, is_syn_sent, is_syn_received, is_closed, is_over, is_due, is_idle, is_time_wait, awaits_fin_ack, is_fin_acknowledged, is_fin_next}
+use Rattle.tcp_state.specs.Arrival.{owing_ack, established, after_ack, is_read_on, after_acceptable, after_accepted, ends_opening, is_accepted, is_right_syn_ack, after_syn_ack, after_segment, is_lost, after_lost, after_heard, begins_wait, repeats_fin, timed, after_segment_at, acknowledges_unsent, is_refused, fate}
 use Rattle.tcp_state.specs.Due.{first_due, again}
 use Rattle.tcp_state.proofs.Edges.{either, and_left, and_right}
 use Rattle.tcp_state.proofs.Causes.{or_else, not_true}

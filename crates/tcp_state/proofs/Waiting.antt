@@ -12,8 +12,7 @@ use Rattle.tcp_state.specs.declared.emission.Due.{Due as Segment}
 use Rattle.tcp_state.specs.declared.emission.Due.TheVariants.{Rst, Syn, Text, Fin}
 use Rattle.tcp_state.specs.Stream.{outstanding}
 use Rattle.tcp_state.specs.Windows.{sendable}
-use Rattle.tcp_state.specs.View.{View, IsSound, is_opening, is_closed, awaits_fin_ack, is_fin_acknowledged, is_due, is_idle, resend_at, ends_at, deadline}
-use Rattle.tcp_state.specs.Arrival.{is_fin_next}
+use Rattle.tcp_state.specs.View.{View, IsSound, is_opening, is_closed, awaits_fin_ack, is_fin_acknowledged, is_due, is_idle, resend_at, ends_at, deadline, is_fin_next}
 use Rattle.tcp_state.specs.Due.{first_due, ack_due, again}
 use Rattle.tcp_state.specs.Positions.{HasToSend, takes_numbers}
 use Rattle.tcp_state.proofs.Edges.{either}

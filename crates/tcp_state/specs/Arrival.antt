@@ -7,19 +7,20 @@ use Rattle.tcp_segment.specs.Segment.{Segment, smss_of, span_of}
 use Rattle.tcp_state.specs.Numbers.{is_before}
 use Rattle.tcp_state.specs.declared.connection.Fate.{Fate}
 use Rattle.tcp_state.specs.declared.connection.Fate.TheVariants.{Stays, Removed, Refused}
+use Rattle.tcp_state.specs.declared.buffers.TheConstants.{CAPACITY}
 use Rattle.clock.specs.declared.moment.Moment.{Moment}
 use Rattle.tcp_state.specs.declared.connection.Resend.TheVariants.{Idle}
 use Rattle.tcp_state.specs.declared.state.State.{State}
 use Rattle.tcp_state.specs.declared.state.State.TheVariants.{SynSent, SynReceived, Established, FinWait1, FinWait2, CloseWait, Closing, LastAck, TimeWait, Closed}
 use Rattle.tcp_state.specs.Stream.{outstanding, is_new_ack, sending_from, receiving_nothing, after_syn_acknowledged, after_acknowledged, is_in_window, is_acceptable, synchronised, after_octets, stands_next, after_end}
 use Rattle.tcp_state.specs.Windows.{after_syn_heard, after_window_told}
-use Rattle.tcp_state.specs.View.{View, is_syn_sent, is_syn_received, awaits_fin_ack, is_closed, is_fin_wait_2, is_time_wait, stopped, is_over}
+use Rattle.tcp_state.specs.View.{View, is_syn_sent, is_syn_received, is_closed, is_fin_wait_2, is_time_wait, is_fin_next, stopped, is_over}
 use Rattle.tcp_state.specs.Calls.{aborted}
 
 abbrev pub owing_ack : View → View
 owing_ack v = record v { owes_ack = true }
 
--- a connection that a SYN opens at a listener (section 3.10.7.2): nothing is told to the peer yet
+-- a connection that a SYN opens at a listener (section 3.10.7.2): no window is advertised yet
 abbrev pub opened_passively : Endpoint → Endpoint → ℕ → Segment → View
 opened_passively local peer isn syn = record {
   local = local;
@@ -36,7 +37,7 @@ opened_passively local peer isn syn = record {
   since = record { 0 = 0 };
 }
 
--- A reset ends the connection: what is held goes out no more, nothing is owed, and every call is told why from now on.
+-- A reset ends the connection: what is held goes out no more, nothing is owed, and every call reports why from now on.
 abbrev pub after_reset : View → Option Refusal → View
 after_reset v error = record (stopped v) { told = error }
 
@@ -55,7 +56,7 @@ abbrev pub after_refusal : View → Segment → View
 after_refusal v s =
     if s.flags.ack && is_new_ack v.sending s.acknowledgement then after_reset v (reset_error v.state) else v
 
--- in SYN-SENT only a SYN that acknowledges ours is taken (section 3.10.7.3); our SYN told a window of 65,535
+-- in SYN-SENT only a SYN that acknowledges ours is taken (section 3.10.7.3); our SYN advertised the whole room of an empty buffer
 abbrev pub is_right_syn_ack : View → Segment → Bool
 is_right_syn_ack v s = s.flags.syn && s.flags.ack && is_new_ack v.sending s.acknowledgement
 
@@ -64,7 +65,7 @@ after_syn_ack v s =
     if is_right_syn_ack v s then record v {
       state = Established;
       sending = after_syn_acknowledged (after_syn_heard v.sending s.number s.window (smss_of s));
-      receiving = synchronised v.receiving s.number 65535;
+      receiving = synchronised v.receiving s.number CAPACITY;
       owes_ack = true;
       resend = Idle;
     } else v
@@ -106,10 +107,6 @@ beyond_fin state = state
 -- nothing is owed once all is closed
 abbrev pub fin_acknowledged : View → View
 fin_acknowledged v = record v { state = beyond_fin v.state; owes_ack = v.owes_ack && not (is_closed (beyond_fin v.state)) }
-
--- all octets are acknowledged, so that of what may be outstanding the FIN alone is left
-abbrev pub is_fin_next : View → Bool
-is_fin_next v = awaits_fin_ack v.state && (length v.sending.held == 0)
 
 -- numbers that were outstanding are acknowledged
 abbrev pub after_new_ack : View → ℕ → View
@@ -216,7 +213,7 @@ timed v s now w = record w { since = if repeats_fin v s || begins_wait v.state w
 abbrev pub after_segment_at : View → Segment → Moment → View
 after_segment_at v s now = timed v s now (after_heard v s)
 
--- While the connection opens, an acknowledgement of what was not sent is refused: it is answered by a reset at its number
+-- While the connection opens, an acknowledgement of what was not sent is rejected: it is answered by a reset at its number
 -- (section 3.10.7.3, first, and section 3.10.7.4, fifth), and changes nothing.
 abbrev pub acknowledges_unsent : View → Segment → Bool
 acknowledges_unsent v s = not s.flags.rst && s.flags.ack && not (is_new_ack v.sending s.acknowledgement)

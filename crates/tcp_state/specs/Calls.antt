@@ -17,7 +17,7 @@ use Rattle.tcp_state.specs.View.{View, is_opening, is_syn_sent, is_syn_received,
 abbrev pub taken : View → List ℕ → ℕ
 taken v octets = min (length octets) (send_room v.sending)
 
--- a call that may be told an error: it is refused so, or it is what it is without one
+-- a call while an error may be pending: it is refused with it, or it is what it is without one
 abbrev pub unless_told : {T : Type 0} → Option Refusal → Result T Refusal → Result T Refusal
 unless_told None answer = answer
 unless_told (Some error) answer = Err error
@@ -49,7 +49,7 @@ recv_answer v len =
     else Err EAGAIN
     )
 
--- Octets that were read make room. Where the window that the peer knows is used up, it is told of the room at once, but not
+-- Octets that were read make room. Where the window that the peer knows is used up, the room is advertised at once, but not
 -- where all is closed.
 abbrev pub after_recv : View → ℕ → View
 after_recv v len =

@@ -1,8 +1,10 @@
 -- What goes out, and what that makes of a connection (RFC 9293 section 3.8).
 use Rattle.std.specs.Prelude.{◌≡◌, ℕ, ◌+◌, ◌*◌, ◌<◌, ◌≤◌, ◌==◌, ◌||◌, not, nat_lt, true, false, if◌then◌else◌, List, [], length, take, Option, Some, None}
+use Rattle.tcp_segment.specs.declared.TheConstants.{MSS}
 use Rattle.tcp_segment.specs.declared.flags.Flags.{Flags}
 use Rattle.tcp_segment.specs.declared.head.Head.{Head}
 use Rattle.tcp_segment.specs.Sent.{sent_offset, sent_octets}
+use Rattle.tcp_state.specs.declared.emission.TheConstants.{RESEND_AFTER}
 use Rattle.tcp_state.specs.declared.emission.Due.{Due}
 use Rattle.tcp_state.specs.declared.emission.Due.TheVariants.{Rst, Syn, Text, Fin, Ack}
 use Rattle.clock.specs.declared.moment.Moment.{Moment}
@@ -10,8 +12,7 @@ use Rattle.clock.specs.Moments.{after}
 use Rattle.tcp_state.specs.declared.connection.Resend.TheVariants.{At}
 use Rattle.tcp_state.specs.Stream.{outstanding, after_sent, receive_window}
 use Rattle.tcp_state.specs.Windows.{sendable, after_told}
-use Rattle.tcp_state.specs.View.{View, is_opening, is_syn_sent, is_syn_received, is_closed, is_due}
-use Rattle.tcp_state.specs.Arrival.{is_fin_next}
+use Rattle.tcp_state.specs.View.{View, is_opening, is_syn_sent, is_syn_received, is_closed, is_due, is_fin_next}
 
 -- The segment that goes out for each thing that may be due.
 
@@ -32,7 +33,7 @@ abbrev pub octets_of : View → Due → List ℕ
 octets_of v (Text count) = take count v.sending.held
 octets_of v _ = []
 
--- the window up to the edge that it tells, and none in a reset
+-- the window up to the edge that is advertised with it, and none in a reset
 abbrev pub window_of : View → Due → ℕ
 window_of v Rst = 0
 window_of v _ = receive_window (after_told v.receiving)
@@ -58,13 +59,13 @@ emitted_len v due = 4 * sent_offset (head_of v due) + length (octets_of v due)
 abbrev pub emitted : View → Due → List ℕ
 emitted v due = sent_octets v.local.addr v.peer.addr (head_of v due) (octets_of v due)
 
--- an acknowledgement that goes out tells the whole free room, and none is owed any more
+-- an acknowledgement that goes out advertises the whole room, and none is owed any more
 abbrev pub after_ack_paid : View → View
 after_ack_paid v = record v { receiving = after_told v.receiving; owes_ack = false }
 
 -- what is outstanding goes out again after a second
 abbrev pub after_numbers : View → ℕ → Moment → View
-after_numbers v count now = record v { sending = after_sent v.sending count; resend = At (after now 1000) }
+after_numbers v count now = record v { sending = after_sent v.sending count; resend = At (after now RESEND_AFTER) }
 
 abbrev pub after_emitted : View → Due → Moment → View
 after_emitted v Rst now = record v { owes_reset = false }
@@ -79,7 +80,7 @@ after_emitted v Ack now = after_ack_paid v
 abbrev pub MayGoOut : View → Due → Type 0
 MayGoOut v Rst = v.owes_reset ≡ true
 MayGoOut v Syn = is_opening v.state ≡ true
-MayGoOut v (Text count) = (is_opening v.state ≡ false) × (0 < count) × (count ≤ length v.sending.held) × (count ≤ 1460)
+MayGoOut v (Text count) = (is_opening v.state ≡ false) × (0 < count) × (count ≤ length v.sending.held) × (count ≤ MSS)
 MayGoOut v Fin = is_fin_next v ≡ true
 MayGoOut v Ack = (is_syn_sent v.state || is_closed v.state) ≡ false
 

@@ -1,4 +1,4 @@
--- Which states one event of a connection may join, what ends a connection, and what tells an error (RFC 9293 sections 3.3.2 and 3.10).
+-- Which states one event of a connection may join, what ends a connection, and what raises an error (RFC 9293 sections 3.3.2 and 3.10).
 use Rattle.std.specs.Prelude.{◌≡◌, ℕ, ◌&&◌, ◌||◌, not, Bool, true, false, if◌then◌else◌, ◌⊎◌, List, Option, Some, None, is_some}
 use Rattle.tcp_segment.specs.Segment.{Segment}
 use Rattle.clock.specs.declared.moment.Moment.{Moment}
@@ -10,9 +10,9 @@ use Rattle.tcp_state.specs.declared.state.State.TheVariants.{Closed, Listen, Syn
 use Rattle.tcp_state.specs.declared.calls.Refusal.{Refusal}
 use Rattle.tcp_state.specs.declared.calls.Refusal.TheVariants.{ECONNREFUSED, ECONNRESET}
 use Rattle.tcp_state.specs.Stream.{is_new_ack}
-use Rattle.tcp_state.specs.View.{View, is_syn_sent, is_syn_received, is_closed, is_at_end, is_over, after_tick, tick_fate}
+use Rattle.tcp_state.specs.View.{View, is_syn_sent, is_syn_received, is_closed, is_at_end, is_fin_next, is_over, after_tick, tick_fate}
 use Rattle.tcp_state.specs.Calls.{after_send, after_recv, shutdown_refusal, after_shutdown, after_abort, abort_fate, is_removed_by_close, is_aborted_by_close, after_close, close_fate}
-use Rattle.tcp_state.specs.Arrival.{is_acting_reset, ends_by_reset, ends_by_syn, is_fin_next, is_lost, is_read, after_segment_at, fate}
+use Rattle.tcp_state.specs.Arrival.{is_acting_reset, ends_by_reset, ends_by_syn, is_lost, is_read, after_segment_at, fate}
 use Rattle.tcp_state.specs.Due.{first_due, after_emitted}
 
 -- the edges of the diagram of states (figure 5) but those of a listener that sends and of a close in SYN-RECEIVED, which is aborted here;
@@ -129,7 +129,7 @@ is_cause v Shuts = false
 abbrev pub ends_by : View → Event → Bool
 ends_by v e = is_removed (fate_by v e) || (not (is_closed v.state) && is_closed (after_event v e).state)
 
--- the error that a reset tells in a state
+-- the error that a reset raises in a state
 abbrev pub is_error_of : State → Refusal → Bool
 is_error_of SynSent ECONNREFUSED = true
 is_error_of SynReceived ECONNREFUSED = true
@@ -139,7 +139,7 @@ is_error_of FinWait2 ECONNRESET = true
 is_error_of CloseWait ECONNRESET = true
 is_error_of _ _ = false
 
--- an event tells this error: a reset that acts and leaves the connection its place, in a state that has it
+-- an event raises this error: a reset that acts and leaves the connection its place, in a state that has it
 abbrev pub may_tell : View → Event → Refusal → Bool
 may_tell v (Hears s now) error = is_reset_by v s && not (ends_by_reset v s) && is_error_of v.state error
 may_tell v (Ticks now) error = false

@@ -13,7 +13,7 @@ pub record Sending : Type 0 where
   pub smss : ℕ
 
 -- the receiving half: the octets in order that the caller has not read, RCV.NXT, and the number after the last that
--- a window told has room for
+-- a window advertised has room for
 pub record Receiving : Type 0 where
   pub readable : List ℕ
   pub rnext : ℕ

@@ -8,7 +8,7 @@ use Rattle.tcp_state.specs.Halves.{Receiving}
 use Rattle.tcp_state.specs.View.{View, is_opening, is_syn_sent, awaits_fin_ack}
 use Rattle.tcp_state.specs.Edges.{Event, Hears}
 
--- RCV.NXT is the number of one position, and the window that is told reaches up to another
+-- RCV.NXT is the number of one position, and the window that is advertised reaches up to another
 pub record ReceivesAt (initial next edge : ℕ) (r : Receiving) : Type 0 where
   pub next_number : r.rnext ≡ wire initial next
   pub edge_number : r.edge ≡ wire initial edge

@@ -1,16 +1,17 @@
 -- The stream part: what octets taken, sent, acknowledged, arrived and read make of the two halves. Nothing here knows of timers, of how
 -- much the peer takes, or of what goes out first; later rules for those leave this page as it is.
 use Rattle.std.specs.Prelude.{ℕ, zero, suc, ◌+◌, ◌-◌, ◌%◌, ◌^◌, ◌≤◌, ◌==◌, ◌&&◌, ◌||◌, nat_lt, nat_le, Bool, if◌then◌else◌, List, [], ◌++◌, length, take, drop}
+use Rattle.tcp_segment.specs.declared.TheConstants.{DEFAULT_MSS}
 use Rattle.tcp_segment.specs.Wire.{past}
 use Rattle.tcp_state.specs.Numbers.{is_before, later_number}
 use Rattle.tcp_state.specs.declared.buffers.TheConstants.{CAPACITY}
 use Rattle.tcp_state.specs.Halves.{Sending, Receiving}
 
--- nothing has come, and no window is told
+-- nothing has come, and no window is advertised
 abbrev pub receiving_nothing : Receiving
 receiving_nothing = record { readable = []; rnext = 0; edge = 0 }
 
--- the octets that are readable and those that the window told has room for never pass the buffer
+-- the octets that are readable and those that the window advertised has room for never pass the buffer
 abbrev pub ReceivingFits : Receiving → Type 0
 ReceivingFits r = length r.readable + past r.edge r.rnext ≤ CAPACITY
 
@@ -28,7 +29,7 @@ is_new_ack s ack = nat_lt 0 (past ack s.una) && nat_le (past ack s.una) (outstan
 
 -- nothing sent yet, and the SYN will have the number isn
 abbrev pub sending_from : ℕ → Sending
-sending_from isn = record { held = []; una = isn; nxt = isn; window = 0; wl1 = isn; wl2 = isn; smss = 536 }
+sending_from isn = record { held = []; una = isn; nxt = isn; window = 0; wl1 = isn; wl2 = isn; smss = DEFAULT_MSS }
 
 -- our SYN is acknowledged, the one number that is outstanding
 abbrev pub after_syn_acknowledged : Sending → Sending
@@ -42,7 +43,7 @@ after_acknowledged s ack = record s { held = drop (past ack s.una) s.held; una =
 abbrev pub after_sent : Sending → ℕ → Sending
 after_sent s count = record s { nxt = later_number s.una s.nxt ((s.una + count) % 2 ^ 32) }
 
--- RCV.WND: what is told and not used up
+-- RCV.WND: what is advertised and not used up
 abbrev pub receive_window : Receiving → ℕ
 receive_window r = past r.edge r.rnext
 
@@ -55,18 +56,18 @@ abbrev pub is_acceptable : Receiving → ℕ → ℕ → Bool
 is_acceptable r number zero = if receive_window r == 0 then number == r.rnext else is_in_window r number
 is_acceptable r number (suc more) = is_in_window r number || is_in_window r ((number + more) % 2 ^ 32)
 
--- the peer's SYN has this number, and it was told this window
+-- the peer's SYN has this number, and this window was advertised to it
 abbrev pub synchronised : Receiving → ℕ → ℕ → Receiving
-synchronised r number told = let rnext = (number + 1) % 2 ^ 32 in record r { rnext = rnext; edge = (rnext + told) % 2 ^ 32 }
+synchronised r number advertised = let rnext = (number + 1) % 2 ^ 32 in record r { rnext = rnext; edge = (rnext + advertised) % 2 ^ 32 }
 
--- the octets of a segment that stand next in order: what lies before RCV.NXT and past the window told is cut
+-- the octets of a segment that stand next in order: what lies before RCV.NXT and past the window advertised is cut
 abbrev pub gained : Receiving → ℕ → List ℕ → List ℕ
 gained r number octets = if is_before r.rnext number then [] else take (receive_window r) (drop (past r.rnext number) octets)
 
 abbrev pub after_octets : Receiving → ℕ → List ℕ → Receiving
 after_octets r number octets = let new = gained r number octets in record r { readable = r.readable ++ new; rnext = (r.rnext + length new) % 2 ^ 32 }
 
--- the number of a FIN stands next in order, and the window told has room for it
+-- the number of a FIN stands next in order, and the window advertised has room for it
 abbrev pub stands_next : Receiving → ℕ → Bool
 stands_next r number = (number == r.rnext) && nat_lt 0 (receive_window r)
 

@@ -1,9 +1,11 @@
 -- A connection as its callers see it (RFC 9293 section 3.3).
 use Rattle.std.specs.Prelude.{◌≡◌, ℕ, ◌≤◌, ◌^◌, ◌==◌, ◌&&◌, ◌||◌, ◌<◌, not, nat_le, min, Bool, true, false, if◌then◌else◌, [], length, Option, Some, None, is_some}
 use Rattle.ipv4.specs.declared.addr.Endpoint.{Endpoint}
+use Rattle.tcp_segment.specs.declared.TheConstants.{MSS, LEAST_MSS}
 use Rattle.tcp_state.specs.declared.buffers.TheConstants.{CAPACITY}
 use Rattle.tcp_state.specs.declared.state.State.{State}
 use Rattle.tcp_state.specs.declared.state.State.TheVariants.{Closed, Listen, SynSent, SynReceived, FinWait1, FinWait2, CloseWait, Closing, LastAck, TimeWait}
+use Rattle.tcp_state.specs.declared.ending.TheConstants.{TIME_WAIT, FIN_WAIT_2}
 use Rattle.clock.specs.declared.moment.Moment.{Moment}
 use Rattle.clock.specs.Moments.{after, sooner}
 use Rattle.tcp_state.specs.declared.calls.Refusal.{Refusal}
@@ -26,7 +28,7 @@ pub record View : Type 0 where
   pub owes_ack : Bool
   -- whether and when what is outstanding goes out again
   pub resend : Resend
-  -- the error that every call is told from now on
+  -- the error that every call reports from now on
   pub told : Option Refusal
   -- its caller closed it: no socket names it any more
   pub released : Bool
@@ -56,7 +58,7 @@ awaits_fin_ack Closing = true
 awaits_fin_ack LastAck = true
 awaits_fin_ack _ = false
 
--- our side is closed, and our FIN is acknowledged
+-- our side is closed, and nothing of ours waits to be acknowledged: our FIN is, or the connection is CLOSED
 abbrev pub is_fin_acknowledged : State → Bool
 is_fin_acknowledged FinWait2 = true
 is_fin_acknowledged TimeWait = true
@@ -67,7 +69,7 @@ is_fin_acknowledged _ = false
 abbrev pub is_write_closed : State → Bool
 is_write_closed state = awaits_fin_ack state || is_fin_acknowledged state
 
--- the peer's FIN has come, behind all its octets
+-- nothing more comes from the peer: its FIN has come, behind all its octets, or the connection is CLOSED
 abbrev pub is_end_seen : State → Bool
 is_end_seen CloseWait = true
 is_end_seen Closing = true
@@ -105,8 +107,8 @@ is_idle _ = false
 -- when a wait that began at a moment ends: TIME-WAIT lasts twice the two minutes that a segment may live (section 3.4.2), FIN-WAIT-2
 -- a minute where no caller is left to read
 abbrev pub end_of_wait : State → Bool → Moment → Option Moment
-end_of_wait TimeWait released since = Some (after since 240000)
-end_of_wait FinWait2 true since = Some (after since 60000)
+end_of_wait TimeWait released since = Some (after since TIME_WAIT)
+end_of_wait FinWait2 true since = Some (after since FIN_WAIT_2)
 end_of_wait FinWait2 false since = None
 end_of_wait _ released since = None
 
@@ -168,14 +170,18 @@ opened_actively local peer isn = record {
   since = record { 0 = 0 };
 }
 
+-- all octets are acknowledged, so that of what may be outstanding the FIN alone is left
+abbrev pub is_fin_next : View → Bool
+is_fin_next v = awaits_fin_ack v.state && (length v.sending.held == 0)
+
 -- how many numbers may be outstanding: that of the SYN, as many octets that are held as one segment has, or that of the FIN behind them
 abbrev pub most_outstanding : View → ℕ
 most_outstanding v =
-    if is_opening v.state || (awaits_fin_ack v.state && (length v.sending.held == 0)) then 1 else min (length v.sending.held) 1460
+    if is_opening v.state || is_fin_next v then 1 else min (length v.sending.held) MSS
 
--- What holds of every connection. While it opens, nothing is held or readable, and nothing is held once our FIN is acknowledged. At most
--- one segment is outstanding; its timer runs exactly while it is. A segment may have 64 octets at least, so that what is held can always go out. An acknowledgement is owed once a SYN came, and none when all is closed.
--- An error is told, and a reset owed, only where all is closed; what its caller closed is closed on our side.
+-- What holds of every connection. While it opens, nothing is held or readable, and nothing is held once our FIN is acknowledged or all is closed. At most
+-- one segment is outstanding; its timer runs exactly while it is. A segment may have `LEAST_MSS` octets at least, so that what is held can always go out. An acknowledgement is owed once a SYN came, and none when all is closed.
+-- An error is pending, and a reset owed, only where all is closed; what its caller closed is closed on our side.
 pub record IsSound (v : View) : Type 0 where
   pub una : v.sending.una < 2 ^ 32
   pub nxt : v.sending.nxt < 2 ^ 32
@@ -186,8 +192,8 @@ pub record IsSound (v : View) : Type 0 where
   pub flight : outstanding v.sending ≤ most_outstanding v
   pub timer : is_idle v.resend ≡ (outstanding v.sending == 0)
   pub connection : is_listening v.state ≡ false
-  pub segment : v.sending.smss ≤ 1460
-  pub segment_least : 64 ≤ v.sending.smss
+  pub segment : v.sending.smss ≤ MSS
+  pub segment_least : LEAST_MSS ≤ v.sending.smss
   pub ack : ((is_syn_sent v.state || is_closed v.state) && v.owes_ack) ≡ false
   pub error : (is_some v.told && not (is_closed v.state)) ≡ false
   pub reset : (v.owes_reset && not (is_closed v.state && v.released)) ≡ false

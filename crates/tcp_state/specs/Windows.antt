@@ -1,14 +1,14 @@
--- The windows that the two ends tell each other, and how much may go out at once (RFC 9293 sections 3.8.6 and 3.10.7.4).
+-- The windows that the two ends advertise to each other, and how much may go out at once (RFC 9293 sections 3.8.6 and 3.10.7.4).
 use Rattle.std.specs.Prelude.{ℕ, ◌+◌, ◌-◌, ◌%◌, ◌^◌, ◌==◌, ◌&&◌, ◌||◌, not, min, Bool, if◌then◌else◌, length}
 use Rattle.tcp_state.specs.Numbers.{is_before}
 use Rattle.tcp_state.specs.declared.buffers.TheConstants.{CAPACITY}
 use Rattle.tcp_state.specs.Halves.{Sending, Receiving}
 
--- the peer's SYN tells its window and the size of the segments that it takes
+-- the peer's SYN has its window and the size of the segments that it takes
 abbrev pub after_syn_heard : Sending → ℕ → ℕ → ℕ → Sending
 after_syn_heard s number window smss = record s { window = window; wl1 = number; smss = smss }
 
--- A segment tells the window where its acknowledgement is not below SND.UNA, and where it is no older than the one that told it last
+-- A segment updates the send window where its acknowledgement is not below SND.UNA, and where it is no older than the one that updated it last
 -- (section 3.10.7.4, fifth): SND.UNA =< SEG.ACK, and SND.WL1 < SEG.SEQ or (SND.WL1 = SEG.SEQ and SND.WL2 =< SEG.ACK)
 abbrev pub tells_window : Sending → ℕ → ℕ → Bool
 tells_window s number ack = not (is_before ack s.una) && (is_before s.wl1 number || (s.wl1 == number && not (is_before ack s.wl2)))
@@ -20,10 +20,10 @@ after_window_told s number ack window = if tells_window s number ack then record
 abbrev pub sendable : Sending → ℕ
 sendable s = min (min (length s.held) s.smss) s.window
 
--- how many octets can still come: the window to tell
+-- how many octets can still come: the window to advertise
 abbrev pub free : Receiving → ℕ
 free r = CAPACITY - length r.readable
 
--- the whole free room is told
+-- the whole room is advertised
 abbrev pub after_told : Receiving → Receiving
 after_told r = record r { edge = (r.rnext + free r) % 2 ^ 32 }

@@ -1,10 +1,11 @@
 //! What an arriving segment does (RFC 9293 section 3.10.7).
 
 ghost use Rattle.std.specs.Prelude.{◌≡◌, true, false, ◌&&◌, ◌||◌, not, if◌then◌else◌, IsTrue, ◌==◌};
-ghost use Rattle.tcp_state.specs.View.{is_opening, is_syn_sent, is_syn_received, is_closed};
-ghost use Rattle.tcp_state.specs.Arrival.{after_segment, after_syn_ack, owing_ack, established, after_ack, is_read_on, after_window, after_text, after_acceptable, after_accepted, ends_by_syn, is_accepted, is_fin_next, fin_acknowledged, after_new_ack, after_fin, after_reset, reset_error, after_refusal, after_rst, is_acting_reset, ends_by_reset, is_right_syn_ack, fate, after_segment_at, after_heard, is_lost, is_read, brings_more, after_lost, repeats_fin, is_refused, ends_opening};
+ghost use Rattle.tcp_state.specs.View.{is_opening, is_syn_sent, is_syn_received, is_closed, is_fin_next};
+ghost use Rattle.tcp_state.specs.Arrival.{after_segment, after_syn_ack, owing_ack, established, after_ack, is_read_on, after_window, after_text, after_acceptable, after_accepted, ends_by_syn, is_accepted, fin_acknowledged, after_new_ack, after_fin, after_reset, reset_error, after_refusal, after_rst, is_acting_reset, ends_by_reset, is_right_syn_ack, fate, after_segment_at, after_heard, is_lost, is_read, brings_more, after_lost, repeats_fin, is_refused, ends_opening};
 ghost use Rattle.tcp_state.specs.Stream.{is_new_ack};
 
+use crate::buffers::CAPACITY;
 use crate::connection::{Connection, Fate, Resend};
 use crate::state::State;
 use clock::Moment;
@@ -54,7 +55,7 @@ impl Connection {
         if self.state == State::SynSent {
             return self.hear_syn_ack(segment);
         }
-        if !self.receiver.accepts(segment.number(), segment.span()) {
+        if !self.is_acceptable(segment) {
             self.owes_ack = true;
             return Fate::Stays;
         }
@@ -65,6 +66,14 @@ impl Connection {
             return self.hear_accepted(segment);
         }
         Fate::Stays
+    }
+
+    /// Whether a segment is acceptable (RFC 9293 section 3.10.7.4, first).
+    fn is_acceptable(&self, segment: &TcpView<'_>) -> bool
+        ensures { result ≡ is_accepted self.now segment.now }
+    {
+        let (number, span) = (segment.number(), segment.span());
+        self.receiver.accepts(number, span)
     }
 
     /// Whether octets of a segment would be lost: its caller closed the connection, and one stands at RCV.NXT or past it.
@@ -83,7 +92,7 @@ impl Connection {
     {
         let flags = segment.flags();
         !flags.rst
-            && self.receiver.accepts(segment.number(), segment.span())
+            && self.is_acceptable(segment)
             && !flags.syn
             && flags.ack
             && self.is_read_on(segment.acknowledgement())
@@ -124,12 +133,12 @@ impl Connection {
         ensures { result ≡ repeats_fin self.now segment.now }
     {
         let flags = segment.flags();
-        let (number, span) = (segment.number(), segment.span());
+        let end = segment.number() + segment.span();
         self.state == State::TimeWait
             && !flags.rst
-            && !self.receiver.accepts(number, span)
+            && !self.is_acceptable(segment)
             && flags.fin
-            && number + span == self.receiver.rnext()
+            && end == self.receiver.rnext()
     }
 
     /// Takes a segment with RST.
@@ -161,8 +170,7 @@ impl Connection {
     fn is_acting_reset(&self, segment: &TcpView<'_>) -> bool
         ensures { result ≡ is_acting_reset self.now segment.now }
     {
-        let number = segment.number();
-        self.receiver.accepts(number, segment.span()) && number == self.receiver.rnext()
+        self.is_acceptable(segment) && segment.number() == self.receiver.rnext()
     }
 
     /// The peer's reset ends the connection.
@@ -193,7 +201,7 @@ impl Connection {
         }
     }
 
-    /// Takes the window that the segment tells.
+    /// Takes the window of the segment, where it is no older than the one that is known.
     fn hear_window(&mut self, segment: &TcpView<'_>)
         ensures { self.new ≡ after_window self.old segment.now }
     {
@@ -229,7 +237,7 @@ impl Connection {
         self.sender
             .hear_syn(segment.number(), segment.window(), segment.smss());
         self.sender.acknowledge_syn();
-        self.receiver.hear_syn(segment.number(), u16::MAX);
+        self.receiver.hear_syn(segment.number(), CAPACITY as u16);
         self.state = State::Established;
         self.resend = Resend::Idle;
         self.owes_ack = true;
@@ -255,22 +263,18 @@ impl Connection {
         ensures opened { result ≡ true → is_opening self.new.state ≡ false }
         ensures after { self.new ≡ after_ack self.old acknowledgement.0 }
     {
+        let is_read_on = self.is_read_on(acknowledgement);
         let is_new = self.sender.is_new(acknowledgement);
         if self.state == State::SynReceived {
             if is_new {
                 self.establish();
             }
-            return is_new;
-        }
-        if is_new {
+        } else if is_new {
             self.hear_new_ack(acknowledgement);
-            return true;
-        }
-        if self.sender.nxt().is_before(acknowledgement) {
+        } else if !is_read_on {
             self.owes_ack = true;
-            return false;
         }
-        true
+        is_read_on
     }
 
     /// Numbers that were outstanding are acknowledged: octets, or the FIN once they all were.
@@ -290,13 +294,6 @@ impl Connection {
                 self.owes_ack = false;
             }
         }
-    }
-
-    /// Whether all octets are acknowledged, and the FIN of a closed side is not.
-    pub(crate) fn is_fin_next(&self) -> bool
-        ensures { result ≡ is_fin_next self.now }
-    {
-        self.state.awaits_fin_ack() && self.sender.is_empty()
     }
 
     /// Our SYN is acknowledged.

@@ -1,3 +1,5 @@
+//! The memory of a connection: one buffer for each direction.
+
 ghost use Rattle.std.specs.Prelude.{◌≡◌, IfOk};
 ghost use Rattle.tcp_state.specs.declared.buffers.TheConstants.{CAPACITY};
 

@@ -1,3 +1,5 @@
+//! What a caller does with a connection that is open: it sends, receives and closes its side (RFC 9293 section 3.10).
+
 ghost use Rattle.std.specs.Prelude.{◌≡◌, ◌<◌, ◌++◌, length, take, drop, if◌then◌else◌, ◌||◌, ◌==◌, Ok, Err, OnOk, OnErr, is_some};
 ghost use Rattle.std.specs.Result.{result_err};
 ghost use Rattle.tcp_state.specs.View.{is_opening, is_end_seen};
@@ -59,7 +61,7 @@ impl Connection {
         Ok(count)
     }
 
-    /// Moves the first readable octets into `buffer`, which is not empty (POSIX `recv`). The end of the stream is told where nothing
+    /// Moves the first readable octets into `buffer`, which is not empty (POSIX `recv`). The end of the stream is answered where nothing
     /// is readable and the peer's FIN has come behind all its octets.
     ///
     /// `EAGAIN` while the connection is opening, and where nothing is readable before the end.
@@ -82,14 +84,14 @@ impl Connection {
         Ok(Received::Octets(self.receiver.read(buffer)))
     }
 
-    /// The error that every call is told from now on, if there is one.
+    /// The pending error, which every call reports from now on, if there is one.
     pub fn error(&self) -> Option<Refusal>
         ensures { result ≡ self.now.told }
     {
         self.told
     }
 
-    /// Refuses a call that is told an error.
+    /// Refuses a call with the pending error.
     fn ask_error(&self) -> Result<(), Refusal>
         ensures { result_err result ≡ self.now.told }
     {

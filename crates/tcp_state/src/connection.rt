@@ -1,5 +1,7 @@
+//! A connection: what it is made of, how it is opened, and what can be asked of it (RFC 9293 section 3.3).
+
 ghost use Rattle.std.specs.Prelude.{◌≡◌};
-ghost use Rattle.tcp_state.specs.View.{View, IsSound, opened_actively, is_over};
+ghost use Rattle.tcp_state.specs.View.{View, IsSound, opened_actively, is_fin_next, is_over};
 ghost use Rattle.tcp_state.specs.Arrival.{opened_passively};
 
 use crate::buffers::Buffers;
@@ -124,6 +126,13 @@ impl Connection {
         ensures sound { IsSound self.now }
     {
         self.state
+    }
+
+    /// Whether all octets are acknowledged, and the FIN of a closed side is not.
+    pub(crate) fn is_fin_next(&self) -> bool
+        ensures { result ≡ is_fin_next self.now }
+    {
+        self.state.awaits_fin_ack() && self.sender.is_empty()
     }
 
     /// Our end.

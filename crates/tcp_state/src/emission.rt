@@ -134,7 +134,7 @@ impl Connection {
         }
     }
 
-    /// The window that the segment for what is due tells.
+    /// The window that the segment for what is due advertises.
     fn window(&self, due: Due) -> u16
         ensures { result ≡ window_of self.now due }
     {
@@ -203,7 +203,7 @@ impl Connection {
         self.resend = Resend::At(now.after(RESEND_AFTER));
     }
 
-    /// An acknowledgement went out, and told the whole free room.
+    /// An acknowledgement went out, and advertised the whole room.
     fn pay_ack(&mut self)
         ensures { self.new ≡ after_ack_paid self.old }
     {

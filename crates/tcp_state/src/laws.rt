@@ -27,12 +27,12 @@ pub fn ends_have_causes()
     ensures { (v : View) (e : Event) → is_over v ≡ false → ends_by v e ≡ true → is_cause v e ≡ true }
 {}
 
-/// An error that is told was told before, or a reset tells it in a state that has it.
+/// An error that is pending was pending before, or a reset raises it in a state that has it.
 pub fn errors_have_causes()
     ensures { (v : View) (e : Event) (error : Refusal) → (after_event v e).told ≡ Some error → (v.told ≡ Some error) ⊎ (may_tell v e error ≡ true) }
 {}
 
-/// An error that was told stays told.
+/// An error that is pending stays so.
 pub fn errors_stay()
     ensures { (v : View) (e : Event) → IsSound v → is_some v.told ≡ true → (after_event v e).told ≡ v.told }
 {}
@@ -45,8 +45,8 @@ pub fn deadlines_are_exact()
         → (is_due (after_tick v now).resend || is_closed (after_tick v now).state) ≡ true }
 {}
 
-/// A connection that becomes CLOSED without an error, and that its caller has not left, had seen the peer's end: `recv` tells an end of
-/// stream of no other.
+/// A connection that becomes CLOSED without an error, and that its caller has not left, had seen the peer's end: `recv` answers an end of
+/// stream for no other.
 pub fn silent_ends_were_seen()
     ensures { (v : View) (e : Event) → IsSound v → is_closed v.state ≡ false → is_closed (after_event v e).state ≡ true
         → (after_event v e).told ≡ None → (after_event v e).released ≡ false → is_end_seen v.state ≡ true }
@@ -75,7 +75,7 @@ pub fn released_takes_no_octets()
         → (after_segment_at v s now).receiving.readable ≡ v.receiving.readable }
 {}
 
-/// Which segments are acceptable, by positions (RFC 9293 section 3.10.7.4, first): of those that take numbers the ones that meet the window told, from RCV.NXT
+/// Which segments are acceptable, by positions (RFC 9293 section 3.10.7.4, first): of those that take numbers the ones that meet the window advertised, from RCV.NXT
 /// up to its edge; of the others those at RCV.NXT and those in the window. What is not acceptable changes at most what is owed, and the wait of TIME-WAIT.
 pub fn acceptable_segments_meet_the_window()
     ensures filled { (initial next edge first : ℕ) (v : View) (s : Segment) → ReceivesAt initial next edge v.receiving → s.number ≡ wire initial first → IsNear next first (span_of s)
@@ -112,7 +112,7 @@ pub fn resets_act_at_the_next_number()
         → after_segment_at v s now ≡ record v { owes_ack = (after_segment_at v s now).owes_ack } }
 {}
 
-/// A window is believed exactly from a segment that is no older than the one that told the last, by the position of its first number and then by that of its
+/// A window is believed exactly from a segment that is no older than the one that updated it last, by the position of its first number and then by that of its
 /// acknowledgement, and that acknowledges no less than is acknowledged (RFC 9293 section 3.10.7.4, fifth); but for the SYN that opens a connection, no segment
 /// changes it otherwise.
 pub fn no_older_window_is_believed()
@@ -125,7 +125,7 @@ pub fn no_older_window_is_believed()
         × ((is_syn_sent v.state ≡ true) ⊎ ((tells_window (after_ack v s.acknowledgement).sending s.number s.acknowledgement ≡ true) × ((after_segment_at v s now).sending.wl2 ≡ s.acknowledgement)))) }
 {}
 
-/// SND.UNA, SND.NXT, RCV.NXT and the right edge of the window told never go back (RFC 9293 sections 3.4 and 3.8.6), whatever happens to a connection.
+/// SND.UNA, SND.NXT, RCV.NXT and the right edge of the window advertised never go back (RFC 9293 sections 3.4 and 3.8.6), whatever happens to a connection.
 pub fn numbers_never_go_back()
     ensures { (v : View) (e : Event) → IsSound v → HasNumber e → NeverBack v (after_event v e) }
 {}

@@ -33,7 +33,7 @@ impl Model for Receiver {
 }
 
 impl Receiver {
-    /// Nothing has come, and no window is told.
+    /// Nothing has come, and no window is advertised.
     pub(crate) fn new(buffer: Vec<u8>) -> Receiver
         requires empty { buffer.items ≡ [] }
         requires room { CAPACITY ≤ vec_capacity buffer }
@@ -54,37 +54,38 @@ impl Receiver {
         self.readable.is_empty()
     }
 
+    /// RCV.NXT, the number that is expected next.
     pub(crate) fn rnext(&self) -> Seq
         ensures { result.0 ≡ self.now.rnext }
     {
         self.rnext
     }
 
-    /// How many octets can still come: the window to tell.
+    /// How many octets can still come: the window to advertise.
     pub(crate) fn free(&self) -> u16
         ensures { result ≡ free self.now }
     {
         (CAPACITY - self.readable.len()) as u16
     }
 
-    /// The window that is told and not used up.
+    /// RCV.WND, the window that is advertised and not used up.
     pub(crate) fn window(&self) -> u32
         ensures { result ≡ receive_window self.now }
     {
         self.edge.past(self.rnext)
     }
 
-    /// The peer's SYN has this number. `told` is the window that it knows.
-    pub(crate) fn hear_syn(&mut self, number: Seq, told: u16)
-        requires { length self.old.readable + told ≤ CAPACITY }
-        ensures after { self.new ≡ synchronised self.old number.0 told }
+    /// The peer's SYN has this number. `advertised` is the window that it knows.
+    pub(crate) fn hear_syn(&mut self, number: Seq, advertised: u16)
+        requires { length self.old.readable + advertised ≤ CAPACITY }
+        ensures after { self.new ≡ synchronised self.old number.0 advertised }
         ensures fits { ReceivingFits self.new }
     {
         self.rnext = number + 1;
-        self.edge = self.rnext + u32::from(told);
+        self.edge = self.rnext + u32::from(advertised);
     }
 
-    /// Whether a number lies in the window that is told.
+    /// Whether a number lies in the window that is advertised.
     pub(crate) fn is_in_window(&self, number: Seq) -> bool
         ensures { result ≡ is_in_window self.now number.0 }
     {
@@ -105,7 +106,7 @@ impl Receiver {
         }
     }
 
-    /// Takes the octets that stand next in order, within the window that is told.
+    /// Takes the octets that stand next in order, within the window that is advertised.
     pub(crate) fn take(&mut self, number: Seq, octets: &[u8])
         requires { length octets.now < 2 ^ 31 }
         ensures after { self.new ≡ after_octets self.old number.0 octets.now }
@@ -121,7 +122,7 @@ impl Receiver {
         self.rnext = self.rnext + within.len() as u32;
     }
 
-    /// Whether the number of a FIN stands next in order, within the window that is told.
+    /// Whether the number of a FIN stands next in order, within the window that is advertised.
     pub(crate) fn stands_next(&self, number: Seq) -> bool
         ensures { result ≡ stands_next self.now number.0 }
     {
@@ -150,7 +151,7 @@ impl Receiver {
         count
     }
 
-    /// The whole free room is told.
+    /// The whole room is advertised.
     pub(crate) fn tell(&mut self)
         ensures after { self.new ≡ after_told self.old }
         ensures fits { ReceivingFits self.new }

@@ -9,10 +9,7 @@ ghost use Rattle.tcp_state.specs.Windows.{after_syn_heard, after_window_told, se
 
 use crate::buffers::CAPACITY;
 use std::marker::Model;
-use tcp_segment::Seq;
-
-/// The size of the segments that a peer takes which does not tell it (RFC 9293 section 3.7.1).
-const DEFAULT_MSS: u16 = 536;
+use tcp_segment::{DEFAULT_MSS, Seq};
 
 /// The sending half of a connection.
 #[derive(Drop)]
@@ -72,12 +69,14 @@ impl Sender {
         self.held.is_empty()
     }
 
+    /// SND.UNA, the oldest number that is not acknowledged.
     pub(crate) fn una(&self) -> Seq
         ensures { result.0 ≡ self.now.una }
     {
         self.una
     }
 
+    /// SND.NXT, the number after the highest that was sent.
     pub(crate) fn nxt(&self) -> Seq
         ensures { result.0 ≡ self.now.nxt }
     {
@@ -106,7 +105,7 @@ impl Sender {
         self.held.extend_from_slice(octets).unwrap();
     }
 
-    /// Takes what the peer's SYN tells of it: its window and the segments that it takes.
+    /// Takes what the peer's SYN says of it: its window and the segments that it takes.
     pub(crate) fn hear_syn(&mut self, number: Seq, window: u16, smss: u16)
         ensures { self.new ≡ after_syn_heard self.old number.0 window smss }
     {
@@ -148,7 +147,7 @@ impl Sender {
         self.una = acknowledgement;
     }
 
-    /// Takes the window of a segment whose acknowledgement is not below SND.UNA, and that is no older than the one that told the
+    /// Takes the window of a segment whose acknowledgement is not below SND.UNA, and that is no older than the one that gave the
     /// present window (RFC 9293 section 3.10.7.4).
     pub(crate) fn update_window(&mut self, number: Seq, acknowledgement: Seq, window: u16)
         ensures { self.new ≡ after_window_told self.old number.0 acknowledgement.0 window }

@@ -1,3 +1,5 @@
+//! The states of a connection, and where its closing leads from each (RFC 9293 section 3.3.2).
+
 ghost use Rattle.std.specs.Prelude.{◌≡◌};
 
 use crate::calls::Refusal;
@@ -56,7 +58,7 @@ impl State {
         self.awaits_fin_ack() || matches!(self, State::FinWait2 | State::TimeWait | State::Closed)
     }
 
-    /// Whether the peer's FIN has come, behind all its octets.
+    /// Whether nothing more comes from the peer: its FIN has come, behind all its octets, or the connection is CLOSED.
     pub(crate) fn is_end_seen(self) -> bool
         ensures { result ≡ is_end_seen self }
     {
@@ -84,7 +86,7 @@ impl State {
         }
     }
 
-    /// What a reset in this state tells the caller (RFC 9293 section 3.10.7.4).
+    /// The error that a reset in this state raises (RFC 9293 section 3.10.7.4).
     pub(crate) fn reset_error(self) -> Option<Refusal>
         ensures { result ≡ reset_error self }
     {

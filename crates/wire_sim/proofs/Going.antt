@@ -17,9 +17,8 @@ use Rattle.tcp_state.specs.Stream.{outstanding}
 use Rattle.tcp_state.specs.Windows.{sendable}
 use Rattle.tcp_state.specs.declared.state.State.{State}
 use Rattle.tcp_state.specs.declared.state.State.TheVariants.{Closed, Listen, SynSent, SynReceived, Established, FinWait1, FinWait2, CloseWait, Closing, LastAck, TimeWait}
-use Rattle.tcp_state.specs.View.{View, IsSound, is_opening, is_syn_sent, is_syn_received, is_closed, awaits_fin_ack, is_fin_acknowledged, is_due as is_resend_due, is_idle}
+use Rattle.tcp_state.specs.View.{View, IsSound, is_opening, is_syn_sent, is_syn_received, is_closed, awaits_fin_ack, is_fin_acknowledged, is_due as is_resend_due, is_idle, is_fin_next}
 use Rattle.tcp_state.specs.Due.{MayGoOut, first_due, head_of, octets_of, number_of, flags_of, window_of, emitted, emitted_len, after_emitted, after_ack_paid, after_numbers}
-use Rattle.tcp_state.specs.Arrival.{is_fin_next}
 use Rattle.host.specs.declared.entry.SocketId.{SocketId}
 use Rattle.host.specs.declared.entry.Entry.{Entry}
 use Rattle.host.specs.declared.role.Role.{Role}
