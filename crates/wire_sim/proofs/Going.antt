@@ -1,12 +1,11 @@
 -- What goes out of a connection and of a host.
-use Rattle.std.proofs.Common.{◌≡◌, ◌⊎◌, inl, inr, ℕ, ◌<◌, ◌≤◌, ◌^◌, ◌==◌, ◌&&◌, ◌||◌, not, nat_lt, min, if◌then◌else◌, Bool, true, false, List, [], length, Ok, arith, refl, sym, ◌∙◌, ap, subst, length-take}
+use Rattle.std.proofs.Common.{◌≡◌, ◌⊎◌, inl, inr, ℕ, ◌<◌, ◌≤◌, ◌^◌, ◌==◌, ◌&&◌, ◌||◌, not, nat_lt, min, if◌then◌else◌, Bool, true, false, List, [], length, arith, refl, sym, ◌∙◌, ap, subst, length-take}
 use Rattle.std.proofs.Common.{Option, Some, None, option_map, option_and_then}
 use Rattle.std.specs.List.{find}
 use Rattle.std.proofs.lemmas.Bool.Decides.{nat_tests}
 use Rattle.ipv4.specs.Addresses.{pair_of}
-use Rattle.tcp_segment.specs.Segment.{Segment, FieldsFit, IsParsed}
+use Rattle.tcp_segment.specs.Segment.{FieldsFit, Spells}
 use Rattle.tcp_segment.specs.Sent.{CanBeSent, sent}
-use Rattle.tcp_segment.proofs.Answering.{one_answer}
 use Rattle.tcp_segment.proofs.Checksum.{sent_spelled}
 use Rattle.tcp_state.specs.declared.emission.Due.{Due}
 use Rattle.tcp_state.specs.declared.emission.Due.TheVariants.{Rst, Syn, Text, Fin, Ack}
@@ -227,13 +226,9 @@ due-width v due k may = record {
   octets = omega (arith, text_fits v due may);
 }
 
--- its octets are parsed as itself
-pub emitted-parses : (v : View) (due : Due) (s : Segment) → IsSoundConnection v → MayGoOut v due → IsParsed v.local.addr v.peer.addr (emitted v due) (Ok s)
-    → s ≡ sent (head_of v due) (octets_of v due)
-emitted-parses v due s k may parsed =
-    let one = one_answer v.local.addr v.peer.addr (emitted v due) (Ok s) (Ok (sent (head_of v due) (octets_of v due))) parsed
-    (sent_spelled v.local.addr v.peer.addr (head_of v due) (octets_of v due) (due-can v due k may)) in
-    cc
+-- its octets spell it
+pub emitted-spelled : (v : View) (due : Due) → IsSoundConnection v → MayGoOut v due → Spells v.local.addr v.peer.addr (sent (head_of v due) (octets_of v due)) (emitted v due)
+emitted-spelled v due k may = sent_spelled v.local.addr v.peer.addr (head_of v due) (octets_of v due) (due-can v due k may)
 
 -- a segment that goes out is between the ports of its connection
 pub emitted-ports : (v : View) (due : Due) → ((sent (head_of v due) (octets_of v due)).source ≡ v.local.port) × ((sent (head_of v due) (octets_of v due)).destination ≡ v.peer.port)

@@ -34,5 +34,6 @@ pub mod Covered
 pub mod Held
 pub mod Begun
 pub mod Noted
+pub mod NotesTraced
 pub mod EventCopied
 pub mod RunGiven

@@ -3,7 +3,8 @@ use Rattle.std.proofs.Common.{◌≡◌, ℕ, ◌≤◌, ◌^◌, ◌⊎◌, inl
 use Rattle.std.specs.List.{AllByRecursion}
 use Rattle.ipv4.specs.declared.addr.Addr.{Addr}
 use Rattle.ipv4.specs.declared.addr.Pair.{Pair}
-use Rattle.tcp_segment.specs.Segment.{Segment, IsParsed}
+use Rattle.tcp_segment.specs.Segment.{Segment, IsParsed, Spells}
+use Rattle.tcp_segment.proofs.Answering.{one_answer}
 use Rattle.wire_sim.specs.declared.event.Side.{Side}
 use Rattle.wire_sim.specs.declared.event.Side.TheVariants.{A, B}
 use Rattle.wire_sim.specs.declared.event.Opening.{Opening}
@@ -48,9 +49,13 @@ pub record Carries (src dst : Addr) (from to : Side) (out : Sent) (f : Frame) : 
   pub note : Note
   pub noted : f.note ≡ Some note
   pub segment : Segment
-  pub parsed : (s : Segment) → IsParsed src dst f.octets.items (Ok s) → s ≡ segment
+  pub spelled : Spells src dst segment f.octets.items
   pub pair : note.pair ≡ pair_at src dst segment.source segment.destination
   pub kind : (segment.flags.rst ≡ true) ⊎ IsSent from to out note segment
+
+-- no other segment is parsed of it
+pub carries-one : (src dst : Addr) (from to : Side) (out : Sent) (f : Frame) (k : Carries src dst from to out f) (s : Segment) → IsParsed src dst f.octets.items (Ok s) → s ≡ k.segment
+carries-one src dst from to out f k s parsed = let one = one_answer src dst f.octets.items (Ok s) (Ok k.segment) parsed k.spelled in cc
 
 abbrev pub Carried : Side → Side → Addr → Addr → Sent → Sent → Frame → Type 0
 Carried here there a b out arrived f = ((f.sender ≡ here) × Carries a b here there out f) ⊎ ((f.sender ≡ there) × Carries b a there here arrived f)

@@ -45,7 +45,7 @@ use Rattle.host.proofs.KeptEnds.{keeps-segment}
 use Rattle.wire_sim.proofs.Makings.{Makes, free-later, end-unmade}
 use Rattle.wire_sim.proofs.Opened.{opening-found, opening-only, opening-at_parts}
 use Rattle.wire_sim.proofs.PairPorts.{pair_at, pair_at-swapped, same_end-true, joins-own, unheld-between, unheld-closed}
-use Rattle.wire_sim.proofs.Projection.{told, at_side, IsSent, Carries, Projects, projects-turned}
+use Rattle.wire_sim.proofs.Projection.{told, at_side, IsSent, Carries, carries-one, Projects, projects-turned}
 use Rattle.wire_sim.proofs.ProjectionConnect.{table-ours}
 use Rattle.wire_sim.proofs.ProjectionEmission.{IsTallied, written-end}
 use Rattle.wire_sim.proofs.ProjectionOpening.{not-second, projects-made}
@@ -95,7 +95,7 @@ pub record Reaches (limit : ℕ) (hs ts : Side) (a b : Addr) (own other : HostVi
 pub reached : (limit : ℕ) (hs ts : Side) (a b : Addr) (own other : HostView) (n : NetworkView) (trace : List Happening) (f : Frame)
     → (h : Projects limit hs ts a b own other n.frames n.openings trace) → (k : Carries b a ts hs h.arrived f) → (s : Segment) → IsParsed own.neighbour own.addr f.octets.items (Ok s) → Reaches limit hs ts a b own other n trace f h k s
 reached limit hs ts a b own other n trace f h k s parsed =
-    let same = k.parsed s (subst (λ x. IsParsed x a f.octets.items (Ok s)) h.own_neighbour (subst (λ x. IsParsed own.neighbour x f.octets.items (Ok s)) h.own_addr parsed)) in
+    let same = carries-one b a ts hs h.arrived f k s (subst (λ x. IsParsed x a f.octets.items (Ok s)) h.own_neighbour (subst (λ x. IsParsed own.neighbour x f.octets.items (Ok s)) h.own_addr parsed)) in
     record {
       segment = same;
       pair = k.pair

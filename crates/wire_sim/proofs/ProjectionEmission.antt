@@ -1,15 +1,14 @@
 -- A frame that a host emits is a move of the one pairing to which it belongs.
-use Rattle.std.proofs.Common.{◌≡◌, ℕ, ◌==◌, ◌&&◌, not, if◌then◌else◌, inl, inr, Bool, true, false, List, [], ◌∷◌, ◌++◌, length, Option, Some, None, Ok, option_map, refl, sym, ◌∙◌, ap, subst}
+use Rattle.std.proofs.Common.{◌≡◌, ℕ, ◌==◌, ◌&&◌, not, if◌then◌else◌, inl, inr, Bool, true, false, List, [], ◌∷◌, ◌++◌, length, Option, Some, None, option_map, refl, sym, ◌∙◌, ap, subst}
 use Rattle.std.specs.List.{find, AllByRecursion}
 use Rattle.std.proofs.lemmas.Bool.{eqb-true, and_parts, and_from}
 use Rattle.ipv4.specs.declared.addr.Addr.{Addr}
 use Rattle.ipv4.specs.declared.addr.Endpoint.{Endpoint}
 use Rattle.ipv4.specs.declared.addr.Pair.{Pair}
 use Rattle.ipv4.specs.Addresses.{pair_of}
-use Rattle.tcp_segment.specs.Segment.{IsParsed}
+use Rattle.tcp_segment.specs.Segment.{Spells}
 use Rattle.tcp_segment.specs.declared.head.Head.{Head}
 use Rattle.tcp_segment.specs.Sent.{sent, sent_octets, CanBeSent}
-use Rattle.tcp_segment.proofs.Answering.{one_answer}
 use Rattle.tcp_segment.proofs.Checksum.{sent_spelled}
 use Rattle.tcp_state.specs.declared.connection.Fate.TheVariants.{Stays, Removed}
 use Rattle.tcp_state.specs.declared.emission.Due.{Due}
@@ -43,7 +42,7 @@ use Rattle.wire_sim.specs.WorldView.{NetworkView, written_at}
 use Rattle.wire_sim.proofs.Changes.{by_test, end-its, end-another, table-becomes, opened-kept}
 use Rattle.wire_sim.proofs.EndMoves.{pairing, EndGoes, moved}
 use Rattle.wire_sim.proofs.Finding.{All-find, All-added, All-weaker, find-passes}
-use Rattle.wire_sim.proofs.Going.{due-may, due-live, due-kind, due-can, due-width, emitted-state, emitted-parses, emitted-ports, Emits, emits-some, emitted_at-connected}
+use Rattle.wire_sim.proofs.Going.{due-may, due-live, due-kind, due-can, due-width, emitted-state, emitted-spelled, emitted-ports, Emits, emits-some, emitted_at-connected}
 use Rattle.host.proofs.KeptEnds.{keeps-emitted}
 use Rattle.wire_sim.proofs.Opened.{opening-found, opening-only, opening-at_parts}
 use Rattle.wire_sim.proofs.PairPorts.{pair_at, same_pair-same, same_pair-true}
@@ -101,7 +100,7 @@ carries-more src dst from to pair epoch new out f c = record {
   note = c.note;
   noted = c.noted;
   segment = c.segment;
-  parsed = c.parsed;
+  spelled = c.spelled;
   pair = c.pair;
   kind = elim c.kind [
     | inl reset ↦ inl reset
@@ -184,8 +183,8 @@ projects-sent limit hs ts a b own other n trace now f e c l due m unreset tallie
               note = noted n pair;
               noted = note ∙ ap (option_map (noted n)) m.pair;
               segment = segment;
-              parsed = λ s is. emitted-parses c due s solid may
-                  (subst (λ o. IsParsed c.local.addr c.peer.addr o (Ok s)) (octets ∙ m.octets) (subst (λ y. IsParsed c.local.addr y f.octets.items (Ok s)) (sym k.peer) (subst (λ y. IsParsed y b f.octets.items (Ok s)) (sym k.local) is)));
+              spelled = subst (λ x. Spells x b segment f.octets.items) k.local
+                  (subst (λ y. Spells c.local.addr y segment f.octets.items) k.peer (subst (Spells c.local.addr c.peer.addr segment) (sym (octets ∙ m.octets)) (emitted-spelled c due solid may)));
               pair = is_pair ∙ (ap (λ i. pair_at a b i c.peer.port) (sym ports.0) ∙ ap (pair_at a b segment.source) (sym ports.1));
               kind = inr (record {
                 emission = new;
@@ -223,11 +222,8 @@ reset-carried hs ts a b own n f out arrived local peer head sender is_a is_b sou
     note = noted n (pair_of local peer);
     noted = note;
     segment = sent head [];
-    parsed = λ s is.
-        let one = one_answer local.addr peer.addr (sent_octets local.addr peer.addr head []) (Ok s) (Ok (sent head []))
-        (subst (λ o. IsParsed local.addr peer.addr o (Ok s)) octets (subst (λ y. IsParsed local.addr y f.octets.items (Ok s)) (sym is_b) (subst (λ y. IsParsed y b f.octets.items (Ok s)) (sym is_a) is)))
-        (sent_spelled local.addr peer.addr head [] can) in
-        cc;
+    spelled = subst (λ x. Spells x b (sent head []) f.octets.items) is_a
+        (subst (λ y. Spells local.addr y (sent head []) f.octets.items) is_b (subst (Spells local.addr peer.addr (sent head [])) (sym octets) (sent_spelled local.addr peer.addr head [] can)));
     pair = ap (λ x. pair_of (record { addr = x; port = local.port }) peer) is_a ∙ (ap (λ x. pair_of (record { addr = a; port = local.port }) (record { addr = x; port = peer.port })) is_b
         ∙ (ap (λ i. pair_at a b i peer.port) (sym source) ∙ ap (pair_at a b head.source) (sym destination)));
     kind = inl reset;

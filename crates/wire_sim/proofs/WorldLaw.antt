@@ -94,7 +94,7 @@ limit-with : (n : NetworkView) (s : Side) (x : Station) → (let m = with_statio
 limit-with n A x = refl
 limit-with n B x = refl
 
-frames-with : (n : NetworkView) (s : Side) (x : Station) → (let m = with_station n s x in m.frames) ≡ n.frames
+pub frames-with : (n : NetworkView) (s : Side) (x : Station) → (let m = with_station n s x in m.frames) ≡ n.frames
 frames-with n A x = refl
 frames-with n B x = refl
 

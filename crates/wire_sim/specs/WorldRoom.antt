@@ -1,14 +1,26 @@
 -- How much a world can take in before it asks for memory. That is no part of what a run leads to: no definition of a run or of the law names it.
-use Rattle.std.specs.Prelude.{◌≡◌, ℕ, ◌<◌, false, length}
+use Rattle.std.specs.Prelude.{◌≡◌, ℕ, ◌<◌, ◌≤◌, false, length, vec_capacity}
 use Rattle.wire_sim.specs.declared.event.Event.{Event}
+use Rattle.wire_sim.specs.declared.world.network.Network.{Network}
 use Rattle.wire_sim.specs.Steps.{asked_by, is_emission}
 use Rattle.wire_sim.specs.WorldView.{WorldView}
 
--- how many elements each list of a world has room for, those that it holds counted: the frames, the openings, the counts beside these, and the trace
-pub record ListRoom : Type 0 where
+-- how many elements each list of a network has room for, those that it holds counted: the frames, the openings, and the counts beside these
+pub record NetworkRoom : Type 0 where
   pub frames : ℕ
   pub openings : ℕ
   pub written : ℕ
+
+abbrev pub network_room : Network → NetworkRoom
+network_room n = record {
+  frames = vec_capacity n.bag;
+  openings = vec_capacity n.ledger.openings;
+  written = vec_capacity n.ledger.written;
+}
+
+-- and of a world: those of its network, and the trace
+pub record ListRoom : Type 0 where
+  pub network : NetworkRoom
   pub trace : ℕ
 
 -- what a caller sees of a world: what a run led to, and the room of its lists
@@ -18,10 +30,20 @@ pub record RoomyWorld : Type 0 where
 
 -- each list has room for one element more
 pub record HasRoom (w : RoomyWorld) : Type 0 where
-  pub frames : length w.seen.network.frames < w.room.frames
-  pub openings : length w.seen.network.openings < w.room.openings
-  pub written : length w.seen.network.written < w.room.written
+  pub frames : length w.seen.network.frames < w.room.network.frames
+  pub openings : length w.seen.network.openings < w.room.network.openings
+  pub written : length w.seen.network.written < w.room.network.written
   pub trace : length w.seen.trace < w.room.trace
+
+-- no list has less room than it had
+pub record KeepsNetworkRoom (old new : NetworkRoom) : Type 0 where
+  pub frames : old.frames ≤ new.frames
+  pub openings : old.openings ≤ new.openings
+  pub written : old.written ≤ new.written
+
+pub record KeepsRoom (old new : ListRoom) : Type 0 where
+  pub network : KeepsNetworkRoom old.network new.network
+  pub trace : old.trace ≤ new.trace
 
 -- the event wants no octets of its own: it reads none, and puts no frame into the network
 pub record IsPlain (happens : Event) : Type 0 where

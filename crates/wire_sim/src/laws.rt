@@ -3,6 +3,7 @@
 ghost use Rattle.wire_sim.specs.Runs.{EveryRunIsLawful, EveryRunIsTallied, EveryRunIsReached, EveryMomentIsLawful};
 ghost use Rattle.wire_sim.specs.Coverage.{EveryConnectionIsListed, EveryOpeningIsUnique, EveryOctetIsCovered};
 ghost use Rattle.wire_sim.specs.Holding.{EveryOpeningIsBegun, EveryHoldingIsNoted};
+ghost use Rattle.wire_sim.specs.Notes.{EveryNoteIsTraced, EveryDelayIsTraced};
 
 /// In every run of a world of two hosts, over every list of socket calls, ticks, emissions and fair deliveries in any order, for
 /// every pair of endpoints, every epoch and both directions, what was read at one end begins what was written at the other, and the
@@ -53,4 +54,16 @@ pub fn every_opening_is_begun()
 /// Wherever an event makes a side's host hold the pair of two endpoints that it did not hold, it adds just that opening.
 pub fn every_holding_is_noted()
     ensures { EveryHoldingIsNoted }
+{}
+
+/// Each frame in the network went out at one place in the trace. It has a note exactly where it carries a segment (RFC 9293 section 3.1), of that
+/// segment's pair: the epoch that the pair was in there, and how many octets each side had written for it in that epoch.
+pub fn every_note_is_traced()
+    ensures { EveryNoteIsTraced }
+{}
+
+/// Whether a frame is late can be told by the trace and the openings alone. A delivery is refused for another epoch exactly where the epoch of
+/// the frame's pair rose since the frame went out, and as stale exactly where it did not and a side wrote the limit or more since.
+pub fn every_delay_is_traced()
+    ensures { EveryDelayIsTraced }
 {}

@@ -38,6 +38,8 @@ impl Ledger {
         ensures openings { self.new.openings.items ≡ self.old.openings.items }
         ensures written { self.new.written.items ≡ self.old.written.items }
         ensures room { vec_len self.old.openings < vec_capacity self.old.openings → vec_len self.old.written < vec_capacity self.old.written → IsOk result }
+        ensures openings_kept { vec_capacity self.old.openings ≤ vec_capacity self.new.openings }
+        ensures written_kept { vec_capacity self.old.written ≤ vec_capacity self.new.written }
     {
         self.openings.reserve(1)?;
         self.written.reserve(1)
@@ -57,6 +59,8 @@ impl Ledger {
         requires epoch { opening.epoch ≤ vec_len self.old.openings + 1 }
         ensures openings { self.new.openings.items ≡ self.old.openings.items ++ opening ∷ [] }
         ensures written { self.new.written.items ≡ self.old.written.items ++ 0 ∷ [] }
+        ensures openings_room { vec_capacity self.new.openings ≡ vec_capacity self.old.openings }
+        ensures written_room { vec_capacity self.new.written ≡ vec_capacity self.old.written }
     {
         self.openings.push_reserved(opening);
         self.written.push_reserved(0);
@@ -91,6 +95,8 @@ impl Ledger {
         requires { (i : ℕ) → slice_index_or self.old.written.items i 0 < 2 ^ 127 }
         ensures openings { self.new.openings.items ≡ self.old.openings.items }
         ensures written { self.new.written.items ≡ counted self.old.openings.items self.old.written.items side id octets }
+        ensures openings_room { vec_capacity self.new.openings ≡ vec_capacity self.old.openings }
+        ensures written_room { vec_capacity self.new.written ≡ vec_capacity self.old.written }
     {
         count(
             self.openings.as_slice(),
@@ -135,7 +141,15 @@ fn count(openings: &[Opening], written: &mut [u128], side: Side, id: SocketId, o
 {
     for place in 0..openings.len().min(written.len()) {
         if openings[place].is_at(side, id) {
-            written[place] += octets as u128;
+            written[place] = grown(written[place], octets);
         }
     }
+}
+
+/// A count, once so many octets more were taken.
+fn grown(count: u128, octets: usize) -> u128
+    requires { count < 2 ^ 127 }
+    ensures { result ≡ count + octets }
+{
+    count + octets as u128
 }

@@ -4,6 +4,7 @@ ghost use Rattle.std.specs.Prelude.{◌≡◌, ◌<◌, ◌≤◌, ◌+◌, true
 ghost use Rattle.wire_sim.specs.declared.event.Answer.{Answer};
 ghost use Rattle.wire_sim.specs.Steps.{asked_by, is_emission};
 ghost use Rattle.wire_sim.specs.WorldView.{network_view};
+ghost use Rattle.wire_sim.specs.WorldRoom.{network_room, KeepsNetworkRoom};
 
 mod bag;
 mod ledger;
@@ -31,19 +32,14 @@ pub struct World {
 impl Model for World {
     ghost use Rattle.std.specs.Prelude.{ℕ, ◌*◌, ◌≤◌, length, slice_index_or, vec_capacity};
     ghost use Rattle.wire_sim.specs.WorldView.{network_view};
-    ghost use Rattle.wire_sim.specs.WorldRoom.{RoomyWorld};
+    ghost use Rattle.wire_sim.specs.WorldRoom.{RoomyWorld, network_room};
     ghost use Rattle.wire_sim.specs.Runs.{IsReached};
 
     ghost Value = { RoomyWorld };
 
     ghost view = { λ w. record {
       seen = record { network = network_view w.network; trace = w.trace.items };
-      room = record {
-        frames = vec_capacity w.network.bag;
-        openings = vec_capacity w.network.ledger.openings;
-        written = vec_capacity w.network.ledger.written;
-        trace = vec_capacity w.trace;
-      };
+      room = record { network = network_room w.network; trace = vec_capacity w.trace };
     } };
 
     // One event adds at most 65,535 octets to a count, which is what a connection's buffer holds. What stands in the fields is what
@@ -55,7 +51,7 @@ impl Model for World {
 impl World {
     ghost use Rattle.wire_sim.specs.Runs.{unfair, IsStep, IsReached, RunsTo};
     ghost use Rattle.wire_sim.specs.Trace.{StreamLaw};
-    ghost use Rattle.wire_sim.specs.WorldRoom.{HasRoom, IsPlain};
+    ghost use Rattle.wire_sim.specs.WorldRoom.{HasRoom, IsPlain, KeepsRoom};
     ghost use Rattle.wire_sim.specs.WorldView.{SameAnswer, fresh_world};
 
     /// Two hosts that know each other, no frames, and nothing happened. SameAddress where both have one address, and no other fault: a fresh
@@ -92,11 +88,13 @@ impl World {
     /// Gives one event to the host that it names, and answers what the host answers.
     ///
     /// NoSuchFrame, OtherEpoch, Stale, SecondOpening, NoMemory, tested in this order; the world is then as it was. NoMemory comes only where
-    /// one of the world's lists has no room for one element more, or the event wants octets of its own: a receive, or an emission.
+    /// one of the world's lists has no room for one element more, or the event wants octets of its own: a receive, or an emission. No list
+    /// ever has less room than it had.
     pub fn step(&mut self, event: Event) -> Result<Answer, Unfair>
         ensures unfair { MatchOption (unfair self.old.seen event)
             (IfErr result (λ refusal. refusal ≡ Unfair.NoMemory)) (λ refusal. result ≡ Err refusal) }
         ensures memory { unfair self.old.seen event ≡ None → HasRoom self.old → IsPlain event → IsOk result }
+        ensures room { KeepsRoom self.old.room self.new.room }
         ensures refused { OnErr result (self.new.seen ≡ self.old.seen) }
         ensures taken { IfOk result (λ told. (answer : Answer) × SameAnswer told answer × IsStep event answer self.old.seen self.new.seen) }
         ensures reached { IsReached self.new.seen.network.limit self.new.seen }
@@ -181,6 +179,8 @@ fn reserve(
     ensures memory { vec_len network.old.bag < vec_capacity network.old.bag → vec_len network.old.ledger.openings < vec_capacity network.old.ledger.openings
         → vec_len network.old.ledger.written < vec_capacity network.old.ledger.written → vec_len trace.old < vec_capacity trace.old
         → asked_by event.now ≡ 0 → is_emission event.now ≡ false → IsOk result }
+    ensures network_room { KeepsNetworkRoom (network_room network.old) (network_room network.new) }
+    ensures trace_room { vec_capacity trace.old ≤ vec_capacity trace.new }
 {
     network.reserve()?;
     trace.reserve(1)?;
@@ -190,7 +190,8 @@ fn reserve(
 /// Puts an event with its answer at the end of the trace, which has room for it.
 fn note(trace: &mut Vec<Happening>, event: Event, answer: Answer)
     requires { vec_len trace.old < vec_capacity trace.old }
-    ensures { trace.new.items ≡ trace.old.items ++ record { event = event; answer = answer } ∷ [] }
+    ensures items { trace.new.items ≡ trace.old.items ++ record { event = event; answer = answer } ∷ [] }
+    ensures room { vec_capacity trace.new ≡ vec_capacity trace.old }
 {
     trace.push_reserved(Happening { event, answer });
 }

@@ -1,6 +1,6 @@
 //! Two hosts, the frames that they emitted, and the openings of their connections.
 
-ghost use Rattle.std.specs.Prelude.{◌≡◌, ℕ, ◌<◌, ◌≤◌, ◌+◌, ◌^◌, true, None, vec_len, vec_capacity, slice_index_or, option_map, option_and_then, OnOk, IsOk};
+ghost use Rattle.std.specs.Prelude.{◌≡◌, ℕ, ◌<◌, ◌≤◌, ◌+◌, ◌^◌, true, None, take, vec_len, vec_capacity, slice_index_or, option_map, option_and_then, OnOk, IsOk, IfOk};
 ghost use Rattle.std.specs.Result.{result_err};
 
 use super::bag::{Frame, Note};
@@ -33,6 +33,7 @@ impl Network {
     ghost use Rattle.wire_sim.specs.Openings.{epoch_connected, opened_by_connect};
     ghost use Rattle.wire_sim.specs.WorldView.{network_view, station_of, host_of, written_at, fresh_network, octets_len};
     ghost use Rattle.wire_sim.specs.Fairness.{unfair_counted, unfair_call, late_note, second_in, second_by_frame, second_by_connect, pair_foreseen, is_stale};
+    ghost use Rattle.wire_sim.specs.WorldRoom.{network_room, KeepsNetworkRoom};
     ghost use Rattle.host.specs.Calls.{pair_connected};
     ghost use Rattle.host.specs.Sound.{IsSoundHost};
 
@@ -187,6 +188,7 @@ impl Network {
         ensures written { OnOk result (vec_len self.new.ledger.written < vec_capacity self.new.ledger.written) }
         ensures room { vec_len self.old.bag < vec_capacity self.old.bag → vec_len self.old.ledger.openings < vec_capacity self.old.ledger.openings
             → vec_len self.old.ledger.written < vec_capacity self.old.ledger.written → IsOk result }
+        ensures room_kept { KeepsNetworkRoom (network_room self.old) (network_room self.new) }
     {
         self.bag.reserve(1)?;
         self.ledger.reserve()
@@ -204,6 +206,7 @@ impl Network {
         ensures octets { octets_len result ≤ vec_len octets }
         ensures numbered { IsNumbered event.now }
         ensures step { Steps event.now place result (network_view self.old) (network_view self.new) }
+        ensures room { network_room self.new ≡ network_room self.old }
     {
         match event {
             Event::Call(side, call) => self.call(*side, call, place, octets),
@@ -215,7 +218,8 @@ impl Network {
 
     /// Ticks a side's host.
     fn tick(&mut self, side: Side, moment: Moment) -> Answer
-        ensures { Steps (Event.Tick side moment) 0 result (network_view self.old) (network_view self.new) }
+        ensures step { Steps (Event.Tick side moment) 0 result (network_view self.old) (network_view self.new) }
+        ensures room { network_room self.new ≡ network_room self.old }
     {
         match side {
             Side::A => self.a.tick(moment),
@@ -232,6 +236,7 @@ impl Network {
         ensures octets { octets_len result ≤ vec_len octets }
         ensures numbered { IsNumberedCall call.now }
         ensures step { Steps (Event.Call side call.now) place result (network_view self.old) (network_view self.new) }
+        ensures room { network_room self.new ≡ network_room self.old }
     {
         let answer = match side {
             Side::A => self.a.call(call, octets),
@@ -249,8 +254,9 @@ impl Network {
     fn note_connect(&mut self, side: Side, id: SocketId, place: usize)
         requires openings { vec_len self.old.ledger.openings < vec_capacity self.old.ledger.openings }
         requires written { vec_len self.old.ledger.written < vec_capacity self.old.ledger.written }
-        ensures { network_view self.new ≡ with_openings (network_view self.old)
+        ensures opened { network_view self.new ≡ with_openings (network_view self.old)
             (opened_by_connect self.old.ledger.openings.items side id place (host_of (network_view self.old) side) (host_of (network_view self.old) (other_side side))) }
+        ensures room { network_room self.new ≡ network_room self.old }
     {
         let Some(pair) = self.station(side).pair_of(id) else {
             return;
@@ -272,6 +278,7 @@ impl Network {
         requires room { 1514 ≤ vec_capacity octets }
         ensures octets { octets_len result ≡ 0 }
         ensures step { Steps (Event.Emit side) 0 result (network_view self.old) (network_view self.new) }
+        ensures room { network_room self.new ≡ network_room self.old }
     {
         let note = self.noted(side);
         let mut out = [0; MOST_FRAME];
@@ -282,8 +289,7 @@ impl Network {
         let Some(len) = emitted else {
             return Answer::NoFrame;
         };
-        let mut octets = filled(octets, &out[..len]);
-        octets.shrink_to_fit();
+        let octets = front(octets, &out, len);
         let index = self.bag.len();
         self.bag.push_reserved(Frame {
             sender: side,
@@ -315,6 +321,7 @@ impl Network {
         ensures octets { octets_len result ≡ 0 }
         ensures numbered { isn.0 < 2 ^ 32 }
         ensures step { Steps (Event.Deliver side index isn) place result (network_view self.old) (network_view self.new) }
+        ensures room { network_room self.new ≡ network_room self.old }
     {
         let note = self.bag[index].note;
         let held = self.holder(side, note);
@@ -343,4 +350,16 @@ impl Network {
     {
         self.station(side).holder(note?.pair)
     }
+}
+
+/// The first `len` octets of a buffer, in `room`, which holds nothing yet and is then given back but for what they take.
+fn front(room: Vec<u8>, out: &[u8; MOST_FRAME], len: usize) -> Vec<u8>
+    requires empty { vec_len room ≡ 0 }
+    requires fits { len ≤ vec_capacity room }
+    requires within { len ≤ 1514 }
+    ensures { result.items ≡ take len out.now }
+{
+    let mut octets = filled(room, &out[..len]);
+    octets.shrink_to_fit();
+    octets
 }

@@ -40,7 +40,7 @@ invariant_of-self-2 c = (
       ap (λ (n : NetworkView). get_or n.written i 0) c.reserve.ensures.network
       in
       let traced : length c.note.new.trace.items ≡ length c.self.inside.trace.items + 1 =
-      ap (length {A = Happening}) c.note.ensures ∙ length-append c.reserve.new.trace.items _ ∙ ap (λ hs. length {A = Happening} hs + 1) c.reserve.ensures.trace
+      ap (length {A = Happening}) c.note.ensures.items ∙ length-append c.reserve.new.trace.items _ ∙ ap (λ hs. length {A = Happening} hs + 1) c.reserve.ensures.trace
       in
       omega (arith, grown, kept, traced, c.self.invariant.0 i),
   reached-next (after c.self.inside) (record { network = network_view c.perform-answer.new.self; trace = c.note.new.trace.items }) c.args.event c.perform-answer.result c.self.invariant.1 (taken c),

@@ -5,8 +5,8 @@ use Rattle.wire_sim.proofs.LedgerCounts.{counted-rest, counted-here, counted-nex
 use Rattle.wire_sim.proofs.world.ledger.count.Goals as goal
 use Rattle.wire_sim.proofs.world.ledger.count.Goals.{then-is_at, else-is_at}
 
-pub overflow_add-written : goal.overflow_add-written
-overflow_add-written c =
+pub grown-requires : goal.grown-requires
+grown-requires c =
     let k = c.loop-place.place in
     let same : get_or c.loop-place.written k 0 ≡ get_or c.args.written.now k 0 =
     ap (λ (vs : List ℕ). get_or vs k 0) c.loop-place.invariant ∙ counted-rest c.args.openings.now c.args.written.now c.args.side c.args.id c.args.octets k 0
@@ -20,6 +20,7 @@ loop-place-preserved c =
     elim c.if-is_at.branch [
       | then-is_at w ↦
           w.written-is
+          ∙ ap (set c.loop-place.written k) w.grown.ensures
           ∙ ap (λ (vs : List ℕ). set vs k (get_or vs k 0 + c.args.octets)) c.loop-place.invariant
           ∙ ap (λ (v : ℕ). set (more k) k (v + c.args.octets)) (counted-rest c.args.openings.now c.args.written.now c.args.side c.args.id c.args.octets k 0)
           ∙ counted-here c.args.openings.now c.args.written.now c.args.side c.args.id c.args.octets k _ (omega arith) (omega arith) (sym c.is_at.ensures ∙ w.if-is_at.true)

@@ -16,4 +16,4 @@ deliver-requires-clause-frame c =
 
 pub returns-in-Tick-clause-step : goal.returns-in-Tick-clause-step
 returns-in-Tick-clause-step c =
-    subst (λ (e : Event). Steps e c.args.place c.tick.result (network_view c.args.self.now) (network_view c.tick.new.self)) (sym c.in-Tick.is) c.tick.ensures
+    subst (λ (e : Event). Steps e c.args.place c.tick.result (network_view c.args.self.now) (network_view c.tick.new.self)) (sym c.in-Tick.is) c.tick.ensures.step

@@ -1,0 +1,5 @@
+use Rattle.wire_sim.proofs.NotesTraced.{notes-traced}
+use Rattle.wire_sim.proofs.laws.every_note_is_traced.Goals as goal
+
+pub returns : goal.returns
+returns c = notes-traced
