@@ -9,9 +9,9 @@ use Rattle.tcp_state.specs.View.{View, is_closed}
 use Rattle.tcp_state.proofs.Causes.{not_true, of_false}
 use Rattle.host.specs.declared.entry.SocketId.{SocketId}
 use Rattle.host.specs.declared.entry.Entry.{Entry}
+use Rattle.ipv4.specs.Addresses.{same_end}
 use Rattle.host.specs.declared.role.Role.{Role}
 use Rattle.host.specs.declared.role.Role.TheVariants.{Connected}
-use Rattle.host.specs.Endpoints.{same_end}
 use Rattle.host.specs.Entries.{is_live_between, is_between}
 use Rattle.host.specs.HostView.{HostView}
 use Rattle.host.specs.Lists.{change_first}

@@ -17,9 +17,9 @@ use Rattle.tcp_state.specs.Due.{first_due, after_emitted, emitted_len, emitted}
 use Rattle.tcp_state.specs.declared.buffers.Buffers.{Buffers}
 use Rattle.host.specs.declared.entry.SocketId.{SocketId}
 use Rattle.host.specs.declared.entry.Entry.{Entry}
+use Rattle.ipv4.specs.Addresses.{same_end}
 use Rattle.host.specs.declared.role.Role.{Role}
 use Rattle.host.specs.declared.role.Role.TheVariants.{Idle, Listener, Connected}
-use Rattle.host.specs.Endpoints.{same_end}
 use Rattle.host.specs.Lists.{change_first, remove_first}
 
 -- a connection that nobody has accepted yet
