@@ -31,12 +31,12 @@ use Rattle.host.specs.declared.role.Role.TheVariants.{Idle, Listener, Connected}
 use Rattle.host.specs.Entries.{is_socket, waits_at, is_between, is_live_between, is_listening_at, is_due, has_due, has_socket, new_waiting, aborted, abort_fate_of, is_offered_at, shown_state, is_kept, settled, fate_of, arrived, ticked, tick_fate_of, emitted_at, emitted_fate, forsaken, forsaken_fate, closed, close_fate_of, bound_to, listening, connecting, accepted, sent, received, write_shut, with_role}
 use Rattle.host.specs.HostView.{HostView, later, role_of}
 use Rattle.host.specs.Emission.{after_emission}
-use Rattle.host.specs.Calls.{open_answer, port_for, after_connect, after_socket_closed, after_close}
+use Rattle.host.specs.Calls.{port_connected, after_connect, after_socket_closed, after_close}
 use Rattle.host.specs.Arrival.{local_end, peer_end, is_opening as opens, has_no_place, answered, arrival, arrival_alone}
 use Rattle.host.specs.Replies.{reset_at_ack, answer_to, answer_at_listener}
 use Rattle.host.specs.Sound.{IsSoundRole, IsSoundHost}
 use Rattle.host.specs.Lists.{change_first}
-use Rattle.host.specs.Causes.{Event, Makes, Binds, Listens, Accepts, Connects, Sends, Receives, Shuts, Closes, Ticks, Hears, Emits, after_arrival, after_event, is_connection_cause, becomes_closed, told_in, is_telling, is_telling_to, is_next_out, IsOpenedBy, IsAdded, IsStep, Follows}
+use Rattle.host.specs.Causes.{Event, Makes, Binds, Listens, Accepts, Connects, Sends, Receives, Shuts, Closes, Ticks, Hears, Emits, after_arrival, after_event, is_connection_cause, is_close_cause, becomes_closed, told_in, is_telling, is_telling_to, is_next_out, IsOpenedBy, IsAdded, IsStep, Follows}
 use Rattle.host.proofs.Emitted.{emission-of_entry}
 use Rattle.host.proofs.Ends.{eqb-same, same_end-same}
 use Rattle.host.proofs.Followed.{IsNothing, by_test, as_it_was, joined_by, first_changed, first_removed, each_followed, steps_joined}
@@ -233,21 +233,12 @@ shut_mute (Connected c l) error told =
     by_test (is_some c.told || is_opening c.state) (λ refused. ap of_test (sym refused) ∙ told) (λ shuts. ap of_test (sym shuts) ∙ told)
 
 connect_followed : (h : HostView) (isn : ℕ) (id : SocketId) (peer : Endpoint) → Follows (IsStep h (Connects isn id peer)) (IsAdded h (Connects isn id peer)) h.entries (let after = after_connect h isn id peer in after.entries)
-connect_followed h isn id peer = by_role (role_of h id) refl
+connect_followed h isn id peer = by_port (port_connected h id peer) refl
   where
-    by_port : (role : Role) (bound : Option Endpoint) → role_of h id ≡ Some role → open_answer role ≡ Ok bound → (o : Option ℕ) → port_for h bound peer ≡ o
-        → Follows (IsStep h (Connects isn id peer)) (IsAdded h (Connects isn id peer)) h.entries (let after = after_connect h isn id peer in after.entries)
-    by_port role bound is opens_by None given = rw (is, opens_by, given) (as_it_was (IsStep h (Connects isn id peer)) (IsAdded h (Connects isn id peer)) refl (same_step h (Connects isn id peer)) h.entries)
-    by_port role bound is opens_by (Some port) given =
-        rw (is, opens_by, given) (quiet_change h (Connects isn id peer) refl (is_socket id) (connecting (record { addr = h.addr; port = port }) peer isn) (quiet_connecting (record { addr = h.addr; port = port }) peer isn) (connecting_edge (record { addr = h.addr; port = port }) peer isn) (connecting_mute (record { addr = h.addr; port = port }) peer isn) h.entries)
-
-    by_open : (role : Role) → role_of h id ≡ Some role → (r : Result (Option Endpoint) Refusal) → open_answer role ≡ r → Follows (IsStep h (Connects isn id peer)) (IsAdded h (Connects isn id peer)) h.entries (let after = after_connect h isn id peer in after.entries)
-    by_open role is (Err refusal) opens_by = rw (is, opens_by) (as_it_was (IsStep h (Connects isn id peer)) (IsAdded h (Connects isn id peer)) refl (same_step h (Connects isn id peer)) h.entries)
-    by_open role is (Ok bound) opens_by = by_port role bound is opens_by (port_for h bound peer) refl
-
-    by_role : (o : Option Role) → role_of h id ≡ o → Follows (IsStep h (Connects isn id peer)) (IsAdded h (Connects isn id peer)) h.entries (let after = after_connect h isn id peer in after.entries)
-    by_role None is = rw is (as_it_was (IsStep h (Connects isn id peer)) (IsAdded h (Connects isn id peer)) refl (same_step h (Connects isn id peer)) h.entries)
-    by_role (Some role) is = by_open role is (open_answer role) refl
+    by_port : (r : Result ℕ Refusal) → port_connected h id peer ≡ r → Follows (IsStep h (Connects isn id peer)) (IsAdded h (Connects isn id peer)) h.entries (let after = after_connect h isn id peer in after.entries)
+    by_port (Err refusal) given = rw given (as_it_was (IsStep h (Connects isn id peer)) (IsAdded h (Connects isn id peer)) refl (same_step h (Connects isn id peer)) h.entries)
+    by_port (Ok port) given =
+        rw given (quiet_change h (Connects isn id peer) refl (is_socket id) (connecting (record { addr = h.addr; port = port }) peer isn) (quiet_connecting (record { addr = h.addr; port = port }) peer isn) (connecting_edge (record { addr = h.addr; port = port }) peer isn) (connecting_mute (record { addr = h.addr; port = port }) peer isn) h.entries)
 
 -- the first that passes takes a step
 pub settled_followed : (Step : Entry → Option Entry → Type 0) (Added : List Entry → Type 0) → Added [] → (r : Fate) (test : Entry → Bool) (change : Role → Role) (entries : List Entry) → ((x : Entry) → Step x (Some x))
@@ -261,28 +252,44 @@ settled_followed Step Added none r test change entries same changed gone =
 
 -- Closing.
 
-abbrev IsClosing : SocketId → Entry → Option Entry → Type 0
-IsClosing id x None = is_socket id x ≡ true
-IsClosing id x (Some y) = (y ≡ x) ⊎ ((y.id ≡ x.id) × (is_socket id x ≡ true) × edge.IsEdge (shown_state x.role) (shown_state y.role) × (waits_at id y.role ≡ false) × ((error : Error) → told_in y.role ≡ Some error → told_in x.role ≡ Some error))
+abbrev IsClosing : HostView → SocketId → Entry → Option Entry → Type 0
+IsClosing h id x None = (is_socket id x && is_close_cause h.kept x.role) ≡ true
+IsClosing h id x (Some y) = (y ≡ x) ⊎ ((y.id ≡ x.id) × (is_socket id x ≡ true) × edge.IsEdge (shown_state x.role) (shown_state y.role) × (waits_at id y.role ≡ false) × ((error : Error) → told_in y.role ≡ Some error → told_in x.role ≡ Some error) × (becomes_closed x.role y.role ≡ true → is_close_cause h.kept x.role ≡ true))
 
 -- a socket whose connection goes on waits at no listener
-socket_goes_on : (id : SocketId) (now : Moment) (role : Role) → has_socket role ≡ true → is_kept (close_fate_of role) ≡ true → edge.IsEdge (shown_state role) (shown_state (closed now role)) × (waits_at id (closed now role) ≡ false) × ((error : Error) → told_in (closed now role) ≡ Some error → told_in role ≡ Some error)
+socket_goes_on : (id : SocketId) (now : Moment) (role : Role) → has_socket role ≡ true → is_kept (close_fate_of role) ≡ true → edge.IsEdge (shown_state role) (shown_state (closed now role)) × (waits_at id (closed now role) ≡ false) × ((error : Error) → told_in (closed now role) ≡ Some error → told_in role ≡ Some error) × (becomes_closed role (closed now role) ≡ true → is_close_cause now role ≡ true)
 socket_goes_on id now (Idle buffers bound) socket kept = cc
 socket_goes_on id now (Listener l b) socket kept = cc
 socket_goes_on id now (Connected c (Some l)) socket kept = cc
-socket_goes_on id now (Connected c None) socket kept = (kept_edge c (edge.Closes now) kept, refl, λ error told. told_before (errors_caused c (edge.Closes now) error told))
+socket_goes_on id now (Connected c None) socket kept = (kept_edge c (edge.Closes now) kept, refl, λ error told. told_before (errors_caused c (edge.Closes now) error told), λ closes. closes_caused c (edge.Closes now) closes)
 
-socket_closing : (h : HostView) (id : SocketId) → Follows (IsClosing id) IsNothing h.entries (let after = after_socket_closed h id in after.entries)
+-- a connection whose caller has not closed it is not over
+held_not_over : (c : View) → not c.released ≡ true → is_over c ≡ false
+held_not_over c held =
+    false_from (is_over c) (λ over. let released : c.released ≡ true = and_right _ _ (and_left _ _ over) in let bad : not c.released ≡ false = ap not released in sym bad ∙ held)
+
+-- a socket is gone by its close only where that is a cause
+socket_gone : (now : Moment) (role : Role) → has_socket role ≡ true → is_kept (close_fate_of role) ≡ false → is_close_cause now role ≡ true
+socket_gone now (Idle buffers bound) socket gone = refl
+socket_gone now (Listener l b) socket gone = refl
+socket_gone now (Connected c (Some l)) socket gone = cc
+socket_gone now (Connected c None) socket gone = removed_caused c (edge.Closes now) (held_not_over c socket) (gone_removed _ gone)
+
+socket_closing : (h : HostView) (id : SocketId) → Follows (IsClosing h id) IsNothing h.entries (let after = after_socket_closed h id in after.entries)
 socket_closing h id = by_role (role_of h id) refl
   where
-    by_role : (o : Option Role) → role_of h id ≡ o → Follows (IsClosing id) IsNothing h.entries (let after = after_socket_closed h id in after.entries)
-    by_role None is = rw is (as_it_was (IsClosing id) IsNothing refl (λ x. inl refl) h.entries)
+    same_role : (role : Role) (x : Entry) → role_of h id ≡ Some role → find (is_socket id) h.entries ≡ Some x → role ≡ x.role
+    same_role role x is found = some_same (role_of h id) role x.role is (ap (λ (o : Option Entry). option_map (λ (e : Entry). e.role) o) found)
+
+    by_role : (o : Option Role) → role_of h id ≡ o → Follows (IsClosing h id) IsNothing h.entries (let after = after_socket_closed h id in after.entries)
+    by_role None is = rw is (as_it_was (IsClosing h id) IsNothing refl (λ x. inl refl) h.entries)
     by_role (Some role) is =
-        rw is (settled_followed (IsClosing id) IsNothing refl (close_fate_of role) (is_socket id) (closed h.kept) h.entries (λ x. inl refl) (λ kept x passes found.
-        let same : role ≡ x.role = some_same (role_of h id) role x.role is (ap (λ (o : Option Entry). option_map (λ (e : Entry). e.role) o) found) in
-        let on = socket_goes_on id h.kept x.role (and_right _ _ passes) (ap (λ (r : Role). is_kept (close_fate_of r)) (sym same) ∙ kept) in
-        inr (refl, passes, on.0, on.1, on.2))
-        (λ gone x passes found. passes))
+        rw is (settled_followed (IsClosing h id) IsNothing refl (close_fate_of role) (is_socket id) (closed h.kept) h.entries (λ x. inl refl)
+        (λ kept x passes found.
+        let on = socket_goes_on id h.kept x.role (and_right _ _ passes) (ap (λ (r : Role). is_kept (close_fate_of r)) (sym (same_role role x is found)) ∙ kept) in
+        inr (refl, passes, on.0, on.1, on.2, on.3))
+        (λ gone x passes found.
+        both _ _ passes (socket_gone h.kept x.role (and_right _ _ passes) (ap (λ (r : Role). is_kept (close_fate_of r)) (sym (same_role role x is found)) ∙ gone))))
 
 abbrev IsForsaking : SocketId → Entry → Option Entry → Type 0
 IsForsaking id y None = is_kept (forsaken_fate id y.role) ≡ false
@@ -314,7 +321,7 @@ forsaken_step h id x kept = (
   refl,
   forsaken_edge id x.role kept,
   λ closes. by_test (waits_at id x.role)
-      (λ waits. or_right (is_socket id x) _ waits)
+      (λ waits. or_right (is_socket id x && is_close_cause h.kept x.role) _ waits)
       (λ other. let same : forsaken id x.role ≡ x.role = rw other in
       let none : becomes_closed x.role (forsaken id x.role) ≡ false = ap (λ (r : Role). becomes_closed x.role r) same ∙ never (is_closed (shown_state x.role)) in cc),
   λ error told. inl (forsaken_mute id x.role error told),
@@ -323,20 +330,20 @@ forsaken_step h id x kept = (
 forsaken_gone : (h : HostView) (id : SocketId) (x : Entry) → is_kept (forsaken_fate id x.role) ≡ false → IsStep h (Closes id) x None
 forsaken_gone h id x gone =
     by_test (waits_at id x.role)
-    (λ waits. or_right (is_socket id x) _ waits)
+    (λ waits. or_right (is_socket id x && is_close_cause h.kept x.role) _ waits)
     (λ other. let kept : is_kept (forsaken_fate id x.role) ≡ true = rw other in cc)
 
 -- what waits at no listener is left alone
-socket_left : (h : HostView) (id : SocketId) (x y : Entry) → y.id ≡ x.id → is_socket id x ≡ true → edge.IsEdge (shown_state x.role) (shown_state y.role) → waits_at id y.role ≡ false → ((error : Error) → told_in y.role ≡ Some error → told_in x.role ≡ Some error) → IsStep h (Closes id) x (Some (with_role (forsaken id) y))
-socket_left h id x y ids socket along other mute =
+socket_left : (h : HostView) (id : SocketId) (x y : Entry) → y.id ≡ x.id → is_socket id x ≡ true → edge.IsEdge (shown_state x.role) (shown_state y.role) → waits_at id y.role ≡ false → ((error : Error) → told_in y.role ≡ Some error → told_in x.role ≡ Some error) → (becomes_closed x.role y.role ≡ true → is_close_cause h.kept x.role ≡ true) → IsStep h (Closes id) x (Some (with_role (forsaken id) y))
+socket_left h id x y ids socket along other mute caused =
     let same : forsaken id y.role ≡ y.role = rw other in
     let P : Role → Type 0 = λ r. edge.IsEdge (shown_state x.role) (shown_state r) in
-    (ids, subst P (sym same) along, λ closes. or_left _ _ socket, λ error told. inl (mute error (ap (λ (r : Role). told_in r) (sym same) ∙ told)))
+    (ids, subst P (sym same) along, λ closes. or_left _ _ (both _ _ socket (caused (ap (λ (r : Role). becomes_closed x.role r) (sym same) ∙ closes))), λ error told. inl (mute error (ap (λ (r : Role). told_in r) (sym same) ∙ told)))
 
 close_followed : (h : HostView) (id : SocketId) → Follows (IsStep h (Closes id)) (IsAdded h (Closes id)) h.entries (let after = after_close h id in after.entries)
 close_followed h id =
     let middle : List Entry = let after = after_socket_closed h id in after.entries in
-    steps_joined (IsClosing id) (IsForsaking id) (IsStep h (Closes id)) (λ x socket. or_left _ _ socket) joins h.entries middle _
+    steps_joined (IsClosing h id) (IsForsaking id) (IsStep h (Closes id)) (λ x cause. or_left _ _ cause) joins h.entries middle _
     (socket_closing h id)
     (each_followed (IsForsaking id) IsNothing refl (λ x. is_kept (forsaken_fate id x.role)) (with_role (forsaken id)) middle (λ x kept. (refl, kept)) (λ x gone. gone))
   where
@@ -344,12 +351,12 @@ close_followed h id =
     forsakes x None gone = forsaken_gone h id x gone
     forsakes x (Some z) step = let P : Entry → Type 0 = λ w. IsStep h (Closes id) x (Some w) in subst P (sym step.0) (forsaken_step h id x step.1)
 
-    joins : (x y : Entry) (o : Option Entry) → IsClosing id x (Some y) → IsForsaking id y o → IsStep h (Closes id) x o
+    joins : (x y : Entry) (o : Option Entry) → IsClosing h id x (Some y) → IsForsaking id y o → IsStep h (Closes id) x o
     joins x y o (inl same) step = let P : Entry → Type 0 = λ z. IsForsaking id z o in forsakes x o (subst P same step)
-    joins x y None (inr socket) step = or_left _ _ socket.1
+    joins x y None (inr socket) step = let kept : is_kept (forsaken_fate id y.role) ≡ true = rw socket.3 in cc
     joins x y (Some z) (inr socket) step =
         let P : Entry → Type 0 = λ w. IsStep h (Closes id) x (Some w) in
-        subst P (sym step.0) (socket_left h id x y socket.0 socket.1 socket.2 socket.3 socket.4)
+        subst P (sym step.0) (socket_left h id x y socket.0 socket.1 socket.2 socket.3 socket.4 socket.5)
 
 -- The clock.
 
@@ -469,13 +476,6 @@ segment_followed h now isn s = by_entry (find (is_between (local_end h s) (peer_
 
 -- What goes out.
 
-emitted_connection : (c : View) (l : Option SocketId) (now : Moment) → emitted_at now (Connected c l) ≡ Connected (edge.after_first c (first_due c) now) l
-emitted_connection c l now = by_due (first_due c) refl
-  where
-    by_due : (o : Option Due) → first_due c ≡ o → emitted_at now (Connected c l) ≡ Connected (edge.after_first c (first_due c) now) l
-    by_due None is = rw is
-    by_due (Some due) is = rw is
-
 due_not_over : (c : View) → IsSound c → is_some (first_due c) ≡ true → is_over c ≡ false
 due_not_over c sound due =
     false_from (is_over c) (λ over.
@@ -494,17 +494,17 @@ sent_step h now x next = (refl, along x.role, λ closes. both _ _ next (by_role 
     mute : IsMute (emitted_at (later h now))
     mute (Idle buffers bound) error told = told
     mute (Listener l b) error told = told
-    mute (Connected c l) error told = told_before (errors_caused c (edge.Emits (later h now)) error (ap (λ (r : Role). told_in r) (sym (emitted_connection c l (later h now))) ∙ told))
+    mute (Connected c l) error told = told_before (errors_caused c (edge.Emits (later h now)) error told)
 
     along : (role : Role) → edge.IsEdge (shown_state role) (shown_state (emitted_at (later h now) role))
     along (Idle buffers bound) = inl refl
     along (Listener l b) = inl refl
-    along (Connected c l) = inl (sym (emitted-state c (first_due c) (later h now)) ∙ ap (λ (r : Role). shown_state r) (sym (emitted_connection c l (later h now))))
+    along (Connected c l) = inl (sym (emitted-state c (first_due c) (later h now)))
 
     by_role : (role : Role) → becomes_closed role (emitted_at (later h now) role) ≡ true → is_connection_cause (edge.Emits (later h now)) role ≡ true
     by_role (Idle buffers bound) closes = cc
     by_role (Listener l b) closes = cc
-    by_role (Connected c l) closes = closes_caused c (edge.Emits (later h now)) (ap (λ (r : Role). becomes_closed (Connected c l) r) (sym (emitted_connection c l (later h now))) ∙ closes)
+    by_role (Connected c l) closes = closes_caused c (edge.Emits (later h now)) closes
 
 sent_gone : (h : HostView) (now : Moment) (x : Entry) → is_next_out h x ≡ true → IsSoundRole x.role → is_due x ≡ true → is_kept (emitted_fate (emitted_at (later h now) x.role)) ≡ false → IsStep h (Emits now) x None
 sent_gone h now x next sound due gone = both _ _ next (by_role x.role sound due gone)
@@ -513,8 +513,7 @@ sent_gone h now x next sound due gone = both _ _ next (by_role x.role sound due 
     by_role (Idle buffers bound) sound due gone = cc
     by_role (Listener l b) sound due gone = cc
     by_role (Connected c l) sound due gone =
-        removed_caused c (edge.Emits (later h now)) (due_not_over c sound.sound due)
-        (ap (λ (r : Role). emitted_fate r) (sym (emitted_connection c l (later h now))) ∙ gone_removed _ gone)
+        removed_caused c (edge.Emits (later h now)) (due_not_over c sound.sound due) (gone_removed _ gone)
 
 -- where nothing is due, and where a reply goes out, the table stays
 idle_emission : (h : HostView) (now : Moment) → h.replies ≡ [] → find is_due h.entries ≡ None → (let after = after_emission h now in after.entries) ≡ h.entries

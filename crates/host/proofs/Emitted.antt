@@ -5,9 +5,13 @@ use Rattle.clock.specs.declared.moment.Moment.{Moment}
 use Rattle.host.specs.declared.entry.Entry.{Entry}
 use Rattle.host.specs.Entries.{is_due, emitted_at, emitted_fate, settled}
 use Rattle.host.specs.HostView.{HostView, later}
-use Rattle.host.specs.Emission.{after_emission}
+use Rattle.host.specs.Emission.{after_segment_sent, after_emission}
 
 -- where no reply waits, the first entry that has a segment due changes, or is taken out
 pub emission-of_entry : (h : HostView) (now : Moment) (e : Entry) → h.replies ≡ [] → find is_due h.entries ≡ Some e
     → after_emission h now ≡ record h { entries = settled (emitted_fate (emitted_at (later h now) e.role)) is_due (emitted_at (later h now)) h.entries }
 emission-of_entry h now e none found = rw (none, found)
+
+-- the entry that sends changes, or is taken out
+pub segment_sent-found : (h : HostView) (now : Moment) (e : Entry) → find is_due h.entries ≡ Some e → after_segment_sent h now ≡ settled (emitted_fate (emitted_at now e.role)) is_due (emitted_at now) h.entries
+segment_sent-found h now e found = rw found

@@ -60,6 +60,10 @@ position-lt-length p xs i e = (IsFirst-position p xs i e).within
 pub find-position : {X : Type 0} (p : X → Bool) (xs : List X) (i : ℕ) (x : X) → position p xs ≡ Some i → x ≡ get_or xs i x → find p xs ≡ Some x
 find-position p xs i x e same = (IsFirst-position p xs i e).found x same
 
+-- and it passes
+pub passes-position : {X : Type 0} (p : X → Bool) (xs : List X) (i : ℕ) (x : X) → position p xs ≡ Some i → x ≡ get_or xs i x → p x ≡ true
+passes-position p xs i x e same = ap p same ∙ (position-Some p xs i x e).1
+
 -- an element that has a place is found
 pub found_by_place : {X : Type 0} (p : X → Bool) (xs : List X) (i : ℕ) → position p xs ≡ Some i → (x : X) × (find p xs ≡ Some x)
 found_by_place p [] i e = cc

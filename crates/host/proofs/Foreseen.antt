@@ -10,13 +10,12 @@ use Rattle.tcp_state.specs.declared.connection.Fate.{Fate}
 use Rattle.tcp_state.specs.declared.connection.Fate.TheVariants.{Stays, Removed, Refused}
 use Rattle.host.specs.declared.entry.SocketId.{SocketId}
 use Rattle.host.specs.declared.entry.Entry.{Entry}
-use Rattle.host.specs.declared.role.Role.{Role}
 use Rattle.host.specs.declared.refusal.Refusal.{Refusal}
-use Rattle.host.specs.HostView.{HostView, role_of}
+use Rattle.host.specs.HostView.{HostView}
 use Rattle.host.specs.Entries.{is_between, is_listening_at, fate_of}
 use Rattle.host.specs.Arrival.{local_end, peer_end, is_opening, has_no_place, answered, arrival, opened_by, pair_opened}
 use Rattle.host.specs.Replies.{reset_at_ack, answer_to, answer_at_listener}
-use Rattle.host.specs.Calls.{open_answer, reach_refusal, port_for, connect_refusal, pair_connected}
+use Rattle.host.specs.Calls.{port_connected, connect_refusal, pair_connected}
 
 -- an answer opens nothing, whether there is room for it or not
 answer-opens_nothing : (h : HostView) (s : Segment) (o : Option Head) → None ≡ opened_by h s (answered h o)
@@ -52,25 +51,11 @@ opening_foreseen h now isn s = by_entry (find (is_between (local_end h s) (peer_
     by_entry None found = by_listener found (is_opening s.flags) refl (find (is_listening_at s.destination) h.entries) refl
 
 pub connect_foreseen : (h : HostView) (id : SocketId) (peer : Endpoint) → is_some (pair_connected h id peer) ≡ not (is_some (connect_refusal h id peer))
-connect_foreseen h id peer = by_role (role_of h id) refl
+connect_foreseen h id peer = by_port (port_connected h id peer) refl
   where
-    by_port : (role : Role) (bound : Option Endpoint) → role_of h id ≡ Some role → open_answer role ≡ Ok bound → reach_refusal h peer ≡ None → (o : Option ℕ) → port_for h bound peer ≡ o
-        → is_some (pair_connected h id peer) ≡ not (is_some (connect_refusal h id peer))
-    by_port role bound is opens reached None given = rw (is, opens, reached, given)
-    by_port role bound is opens reached (Some port) given = rw (is, opens, reached, given)
-
-    by_reach : (role : Role) (bound : Option Endpoint) → role_of h id ≡ Some role → open_answer role ≡ Ok bound → (o : Option Refusal) → reach_refusal h peer ≡ o
-        → is_some (pair_connected h id peer) ≡ not (is_some (connect_refusal h id peer))
-    by_reach role bound is opens (Some refusal) reached = rw (is, opens, reached)
-    by_reach role bound is opens None reached = by_port role bound is opens reached (port_for h bound peer) refl
-
-    by_open : (role : Role) → role_of h id ≡ Some role → (r : Result (Option Endpoint) Refusal) → open_answer role ≡ r → is_some (pair_connected h id peer) ≡ not (is_some (connect_refusal h id peer))
-    by_open role is (Err refusal) opens = rw (is, opens)
-    by_open role is (Ok bound) opens = by_reach role bound is opens (reach_refusal h peer) refl
-
-    by_role : (o : Option Role) → role_of h id ≡ o → is_some (pair_connected h id peer) ≡ not (is_some (connect_refusal h id peer))
-    by_role None is = rw is
-    by_role (Some role) is = by_open role is (open_answer role) refl
+    by_port : (r : Result ℕ Refusal) → port_connected h id peer ≡ r → is_some (pair_connected h id peer) ≡ not (is_some (connect_refusal h id peer))
+    by_port (Err refusal) given = rw given
+    by_port (Ok port) given = rw given
 
 -- no pair is opened where a connection has a place
 pub none-found : (h : HostView) (s : Segment) (i : ℕ) → position (is_between (local_end h s) (peer_end h s)) h.entries ≡ Some i → None ≡ pair_opened h s

@@ -14,7 +14,7 @@ use Rattle.host.specs.declared.role.Role.{Role}
 use Rattle.host.specs.Entries.{is_between, is_listening_at, fate_of}
 use Rattle.host.specs.HostView.{HostView, role_of}
 use Rattle.host.specs.Emission.{after_emission}
-use Rattle.host.specs.Calls.{open_answer, port_for, after_connect, after_socket_closed}
+use Rattle.host.specs.Calls.{port_connected, after_connect, after_socket_closed}
 use Rattle.host.specs.Arrival.{local_end, peer_end, is_opening as opens, has_no_place, answered, arrival, arrival_alone}
 use Rattle.host.specs.Replies.{reset_at_ack, answer_to, answer_at_listener}
 use Rattle.host.specs.Causes.{Event, Makes, Binds, Listens, Accepts, Connects, Sends, Receives, Shuts, Closes, Ticks, Hears, Emits, after_arrival, after_event}
@@ -27,19 +27,11 @@ as_before : (h : HostView) → NotBefore h h
 as_before h = omega arith
 
 connect_numbered : (h : HostView) (isn : ℕ) (id : SocketId) (peer : Endpoint) → NotBefore h (after_connect h isn id peer)
-connect_numbered h isn id peer = by_role (role_of h id) refl
+connect_numbered h isn id peer = by_port (port_connected h id peer) refl
   where
-    by_port : (role : Role) (bound : Option Endpoint) → role_of h id ≡ Some role → open_answer role ≡ Ok bound → (o : Option ℕ) → port_for h bound peer ≡ o → NotBefore h (after_connect h isn id peer)
-    by_port role bound is opens_by None given = rw (is, opens_by, given) (as_before h)
-    by_port role bound is opens_by (Some port) given = rw (is, opens_by, given) (as_before h)
-
-    by_open : (role : Role) → role_of h id ≡ Some role → (r : Result (Option Endpoint) Refusal) → open_answer role ≡ r → NotBefore h (after_connect h isn id peer)
-    by_open role is (Err refusal) opens_by = rw (is, opens_by) (as_before h)
-    by_open role is (Ok bound) opens_by = by_port role bound is opens_by (port_for h bound peer) refl
-
-    by_role : (o : Option Role) → role_of h id ≡ o → NotBefore h (after_connect h isn id peer)
-    by_role None is = rw is (as_before h)
-    by_role (Some role) is = by_open role is (open_answer role) refl
+    by_port : (r : Result ℕ Refusal) → port_connected h id peer ≡ r → NotBefore h (after_connect h isn id peer)
+    by_port (Err refusal) given = rw given (as_before h)
+    by_port (Ok port) given = rw given (as_before h)
 
 close_numbered : (h : HostView) (id : SocketId) → NotBefore h (after_socket_closed h id)
 close_numbered h id = by_role (role_of h id) refl

@@ -5,21 +5,17 @@ use Rattle.std.proofs.lemmas.Bool.{and_parts, and_from}
 use Rattle.ipv4.specs.declared.addr.Endpoint.{Endpoint}
 use Rattle.ipv4.specs.declared.addr.Pair.{Pair}
 use Rattle.ipv4.specs.Addresses.{pair_of}
-use Rattle.tcp_state.specs.declared.state.State.{State}
-use Rattle.tcp_state.specs.declared.calls.Refusal.{Refusal as Error}
-use Rattle.tcp_state.specs.View.{is_opening}
 use Rattle.host.specs.declared.entry.SocketId.{SocketId}
 use Rattle.host.specs.declared.entry.Entry.{Entry}
 use Rattle.host.specs.declared.role.Role.{Role}
 use Rattle.host.specs.declared.role.Role.TheVariants.{Idle, Listener, Connected}
 use Rattle.host.specs.declared.refusal.Refusal.{Refusal}
-use Rattle.host.specs.declared.refusal.Refusal.TheVariants.{EALREADY, EISCONN}
 use Rattle.host.specs.Entries.{is_socket, has_socket, connecting, with_role}
 use Rattle.host.specs.HostView.{HostView}
 use Rattle.host.specs.Lists.{change_first}
 use Rattle.host.specs.Pairs.{pair_in, socket_pair}
-use Rattle.host.specs.Calls.{had_connection, open_answer, reach_refusal, port_for, after_connect, pair_connected}
-use Rattle.host.proofs.Connected.{after_connect-accepted}
+use Rattle.host.specs.Calls.{open_answer, reach_refusal, port_for, after_connect, pair_connected}
+use Rattle.host.proofs.Connected.{had_opens_none, after_connect-accepted}
 use Rattle.host.proofs.Followed.{by_test}
 
 -- the first that passes is found changed, where it passes still
@@ -41,14 +37,6 @@ found_passes test (y ∷ ys) x found =
     (λ here. let same : y ≡ x = (let some : Some y ≡ Some x = ap (λ b. cond b (Some y) (find test ys)) (sym here) ∙ found in cc) in ap test (sym same) ∙ here)
     (λ not_here. found_passes test ys x (ap (λ b. cond b (Some y) (find test ys)) (sym not_here) ∙ found))
 
-either_refused : (b : Bool) (x y : Refusal) (bound : Option Endpoint) → ◌≡◌ {A = Result (Option Endpoint) Refusal} (if b then Err x else Err y) (Ok bound) → ⊥
-either_refused true x y bound e = cc
-either_refused false x y bound e = cc
-
-had_opens_none : (state : State) (told : Option Error) (bound : Option Endpoint) → had_connection state told ≡ Ok bound → ⊥
-had_opens_none state (Some error) bound e = cc
-had_opens_none state None bound e = either_refused (is_opening state) EALREADY EISCONN bound e
-
 -- a role that may open a connection opens it
 opens_pair : (role : Role) (bound : Option Endpoint) (local peer : Endpoint) (isn : ℕ) → open_answer role ≡ Ok bound
     → (has_socket (connecting local peer isn role) ≡ true) × (pair_in (connecting local peer isn role) ≡ Some (pair_of local peer))
@@ -68,7 +56,7 @@ connect_opens h isn id peer pair = by_entry (find (is_socket id) h.entries) refl
         let still : is_socket id (with_role (connecting local peer isn) x) ≡ true = and_from (x.id.0 == id.0) (has_socket (connecting local peer isn x.role)) named.0 parts.0 in
         let after : find (is_socket id) (change_first (is_socket id) (with_role (connecting local peer isn)) h.entries) ≡ Some (with_role (connecting local peer isn) x) = found_changed (is_socket id) (with_role (connecting local peer isn)) h.entries x found still in
         let told : pair_connected h id peer ≡ Some (pair_of local peer) = rw (found, opens, reached, given) in
-        ap (λ (w : HostView). socket_pair w id) (after_connect-accepted h isn id peer x bound port found opens given)
+        ap (λ (w : HostView). socket_pair w id) (after_connect-accepted h isn id peer x bound port found opens reached given)
         ∙ ap (λ (o : Option Entry). option_and_then pair_in (option_map (λ (e : Entry). e.role) o)) after
         ∙ parts.1 ∙ sym told ∙ foreseen
 

@@ -32,6 +32,7 @@ use Rattle.host.specs.Ports.{IsDynamic, is_free_port}
 use Rattle.host.specs.Causes.{Event, Makes, Binds, Listens, Accepts, Connects, Sends, Receives, Shuts, Closes, Ticks, Hears, Emits, after_arrival, after_event}
 use Rattle.host.specs.Order.{has_for_itself, is_alone_at, LiesBetween, IsOrdered, IsAllowed}
 use Rattle.host.proofs.Caused.{settled_followed}
+use Rattle.host.proofs.Connected.{after_connect-given}
 use Rattle.host.proofs.Emitted.{emission-of_entry}
 use Rattle.host.proofs.Ends.{same_addr-true, same_end-true}
 use Rattle.host.proofs.FirstPorts.{given_passes, given_dynamic}
@@ -254,21 +255,22 @@ opened_ordered h id peer isn port last dynamic reached free o =
 connect_ordered : (h : HostView) (isn : ℕ) (id : SocketId) (peer : Endpoint) → connect_refusal h id peer ≡ None → IsOrdered h → IsOrdered (after_connect h isn id peer)
 connect_ordered h isn id peer allowed o = by_role (role_of h id) refl
   where
-    by_reach : (role : Role) (bound : Option Endpoint) → role_of h id ≡ Some role → open_answer role ≡ Ok bound → (r : Option Refusal) → reach_refusal h peer ≡ r → reach_refusal h peer ≡ None
-    by_reach role bound is opens_by None reached = reached
+    by_port : (role : Role) (bound : Option Endpoint) → role_of h id ≡ Some role → open_answer role ≡ Ok bound → reach_refusal h peer ≡ None → (o : Option ℕ) → port_for h bound peer ≡ o → IsOrdered (after_connect h isn id peer)
+    by_port role bound is opens_by reached None given = let refused : connect_refusal h id peer ≡ Some EADDRINUSE = rw (is, opens_by, reached, given) in cc
+    by_port role bound is opens_by reached (Some port) given =
+        subst IsOrdered (sym (after_connect-given h isn id peer role bound port is opens_by reached given))
+        (opened_ordered h id peer isn port (counted_port h bound port) (counted_dynamic h bound peer port o.last_port given) (neighbour_reached h peer reached) (port_free h bound peer port given) o)
+
+    by_reach : (role : Role) (bound : Option Endpoint) → role_of h id ≡ Some role → open_answer role ≡ Ok bound → (r : Option Refusal) → reach_refusal h peer ≡ r → IsOrdered (after_connect h isn id peer)
+    by_reach role bound is opens_by None reached = by_port role bound is opens_by reached (port_for h bound peer) refl
     by_reach role bound is opens_by (Some refusal) reached = let refused : connect_refusal h id peer ≡ Some refusal = rw (is, opens_by, reached) in cc
 
-    by_port : (role : Role) (bound : Option Endpoint) → role_of h id ≡ Some role → open_answer role ≡ Ok bound → (o : Option ℕ) → port_for h bound peer ≡ o → IsOrdered (after_connect h isn id peer)
-    by_port role bound is opens_by None given = rw (is, opens_by, given) o
-    by_port role bound is opens_by (Some port) given =
-        rw (is, opens_by, given) (opened_ordered h id peer isn port (counted_port h bound port) (counted_dynamic h bound peer port o.last_port given) (neighbour_reached h peer (by_reach role bound is opens_by (reach_refusal h peer) refl)) (port_free h bound peer port given) o)
-
     by_open : (role : Role) → role_of h id ≡ Some role → (r : Result (Option Endpoint) Refusal) → open_answer role ≡ r → IsOrdered (after_connect h isn id peer)
-    by_open role is (Err refusal) opens_by = rw (is, opens_by) o
-    by_open role is (Ok bound) opens_by = by_port role bound is opens_by (port_for h bound peer) refl
+    by_open role is (Err refusal) opens_by = let refused : connect_refusal h id peer ≡ Some refusal = rw (is, opens_by) in cc
+    by_open role is (Ok bound) opens_by = by_reach role bound is opens_by (reach_refusal h peer) refl
 
     by_role : (r : Option Role) → role_of h id ≡ r → IsOrdered (after_connect h isn id peer)
-    by_role None is = rw is o
+    by_role None is = let refused : connect_refusal h id peer ≡ Some EBADF = rw is in cc
     by_role (Some role) is = by_open role is (open_answer role) refl
 
 -- Closing.

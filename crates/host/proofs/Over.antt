@@ -22,7 +22,7 @@ use Rattle.host.specs.declared.role.Role.TheVariants.{Idle, Listener, Connected}
 use Rattle.host.specs.Entries.{is_socket, waits_at, is_between, is_live_between, is_listening_at, is_due, is_offered_at, is_kept, settled, fate_of, arrived, ticked, tick_fate_of, emitted_at, emitted_fate, aborted, abort_fate_of, forsaken, forsaken_fate, closed, close_fate_of, bound_to, listening, connecting, accepted, sent, received, write_shut, with_role}
 use Rattle.host.specs.HostView.{HostView, later, role_of}
 use Rattle.host.specs.Emission.{after_emission}
-use Rattle.host.specs.Calls.{open_answer, port_for, after_connect, after_socket_closed}
+use Rattle.host.specs.Calls.{port_connected, after_connect, after_socket_closed}
 use Rattle.host.specs.Arrival.{local_end, peer_end, is_opening as opens, has_no_place, answered, arrival, arrival_alone}
 use Rattle.host.specs.Replies.{reset_at_ack, answer_to, answer_at_listener}
 use Rattle.host.specs.Sound.{is_over_in, NoneIsOver}
@@ -177,20 +177,12 @@ emit_left now role kept = after (emitted_at now role) kept
 -- Events.
 
 connect_left : (h : HostView) (isn : ℕ) (id : SocketId) (peer : Endpoint) → NoneIsOver h → NoneIsOver (after_connect h isn id peer)
-connect_left h isn id peer all = by_role (role_of h id) refl
+connect_left h isn id peer all = by_port (port_connected h id peer) refl
   where
-    by_port : (role : Role) (bound : Option Endpoint) → role_of h id ≡ Some role → open_answer role ≡ Ok bound → (o : Option ℕ) → port_for h bound peer ≡ o → NoneIsOver (after_connect h isn id peer)
-    by_port role bound is opens_by None given = rw (is, opens_by, given) all
-    by_port role bound is opens_by (Some port) given =
-        rw (is, opens_by, given) (changed_left (is_socket id) (connecting (record { addr = h.addr; port = port }) peer isn) h.entries (connecting_left (record { addr = h.addr; port = port }) peer isn) all)
-
-    by_open : (role : Role) → role_of h id ≡ Some role → (r : Result (Option Endpoint) Refusal) → open_answer role ≡ r → NoneIsOver (after_connect h isn id peer)
-    by_open role is (Err refusal) opens_by = rw (is, opens_by) all
-    by_open role is (Ok bound) opens_by = by_port role bound is opens_by (port_for h bound peer) refl
-
-    by_role : (o : Option Role) → role_of h id ≡ o → NoneIsOver (after_connect h isn id peer)
-    by_role None is = rw is all
-    by_role (Some role) is = by_open role is (open_answer role) refl
+    by_port : (r : Result ℕ Refusal) → port_connected h id peer ≡ r → NoneIsOver (after_connect h isn id peer)
+    by_port (Err refusal) given = rw given all
+    by_port (Ok port) given =
+        rw given (changed_left (is_socket id) (connecting (record { addr = h.addr; port = port }) peer isn) h.entries (connecting_left (record { addr = h.addr; port = port }) peer isn) all)
 
 socket_closed_left : (h : HostView) (id : SocketId) → NoneIsOver h → NoneIsOver (after_socket_closed h id)
 socket_closed_left h id all = by_role (role_of h id) refl

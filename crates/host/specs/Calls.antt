@@ -1,6 +1,8 @@
 -- The call table: for each socket call its refusal, by the tests in their order, and what it makes of the host.
-use Rattle.std.specs.Prelude.{ℕ, ◌+◌, ◌^◌, Bool, ◌==◌, ◌&&◌, ◌||◌, not, if◌then◌else◌, List, [], ◌∷◌, ◌++◌, length, take, drop, Option, Some, None, find, Result, Ok, Err, is_some, option_map}
+use Rattle.std.specs.Prelude.{ℕ, ◌+◌, ◌^◌, Bool, ◌==◌, ◌&&◌, ◌||◌, not, if◌then◌else◌, List, [], ◌∷◌, ◌++◌, length, take, drop, Option, Some, None, find, Result, Ok, Err, is_some, option_map, option_and_then}
 use Rattle.std.specs.List.{list_any}
+use Rattle.std.specs.Option.{ok_or}
+use Rattle.std.specs.Result.{result_ok, result_err}
 use Rattle.ipv4.specs.declared.addr.Addr.{Addr}
 use Rattle.ipv4.specs.declared.addr.Endpoint.{Endpoint}
 use Rattle.ipv4.specs.declared.addr.Pair.{Pair}
@@ -22,6 +24,19 @@ use Rattle.host.specs.Ports.{first_port, is_free_port}
 use Rattle.host.specs.Entries.{is_socket, has_port, is_between, is_offered_at, offered_peer, shown_state, new_socket, bound_to, listening, connecting, accepted, sent, received, write_shut, closed, close_fate_of, forsaken, forsaken_fate, settled, all_settled, with_role}
 use Rattle.host.specs.HostView.{HostView, role_of, with_socket}
 use Rattle.host.specs.Lists.{change_first}
+
+-- What is said of the socket that an id names, and what where it names none.
+abbrev pub of_socket : {T : Type 0} → T → (Role → T) → Option Role → T
+of_socket none of None = none
+of_socket none of (Some role) = of role
+
+-- what a call answers of the socket that the id names; EBADF where it names none
+abbrev pub answer_at : {T : Type 0} → HostView → SocketId → (Role → Result T Refusal) → Result T Refusal
+answer_at h id answer = of_socket (Err EBADF) answer (role_of h id)
+
+-- what a call is refused for, of the socket that the id names; EBADF where it names none
+abbrev pub refusal_at : HostView → SocketId → (Role → Option Refusal) → Option Refusal
+refusal_at h id refusal = of_socket (Some EBADF) refusal (role_of h id)
 
 -- a refusal, or this value where there is none
 abbrev pub unless_refused : {T : Type 0} → Option Refusal → T → Result T Refusal
@@ -48,7 +63,7 @@ abbrev pub is_port_taken : HostView → ℕ → Bool
 is_port_taken h port = list_any (has_port port) h.entries
 
 abbrev pub bind_refusal : HostView → SocketId → Endpoint → Option Refusal
-bind_refusal h id local = of_role (role_of h id)
+bind_refusal h id local = refusal_at h id of_role
   where
     of_idle : Option Refusal
     of_idle =
@@ -57,43 +72,34 @@ bind_refusal h id local = of_role (role_of h id)
         else if is_port_taken h local.port then Some EADDRINUSE
         else None
 
-    of_role : Option Role → Option Refusal
-    of_role None = Some EBADF
-    of_role (Some (Idle buffers None)) = of_idle
-    of_role (Some (Idle buffers (Some bound))) = Some EINVAL
-    of_role (Some (Listener bound backlog)) = Some EINVAL
-    of_role (Some (Connected c listener)) = Some EINVAL
+    of_role : Role → Option Refusal
+    of_role (Idle buffers None) = of_idle
+    of_role (Idle buffers (Some bound)) = Some EINVAL
+    of_role (Listener bound backlog) = Some EINVAL
+    of_role (Connected c listener) = Some EINVAL
 
 abbrev pub after_bind : HostView → SocketId → Endpoint → HostView
 after_bind h id local = with_socket h id (bound_to local)
 
--- a backlog of 1 alone at this stage
+-- a backlog of 1 alone
 abbrev pub listen_refusal : HostView → SocketId → ℕ → Option Refusal
-listen_refusal h id backlog = of_role (role_of h id)
+listen_refusal h id backlog = refusal_at h id (λ role. if backlog == 1 then of_role role else Some EINVAL)
   where
-    of_one : Role → Option Refusal
-    of_one (Idle buffers None) = Some EDESTADDRREQ
-    of_one (Idle buffers (Some bound)) = None
-    of_one (Listener bound b) = Some EINVAL
-    of_one (Connected c listener) = Some EINVAL
-
-    of_role : Option Role → Option Refusal
-    of_role None = Some EBADF
-    of_role (Some role) = if backlog == 1 then of_one role else Some EINVAL
+    of_role : Role → Option Refusal
+    of_role (Idle buffers None) = Some EDESTADDRREQ
+    of_role (Idle buffers (Some bound)) = None
+    of_role (Listener bound b) = Some EINVAL
+    of_role (Connected c listener) = Some EINVAL
 
 abbrev pub after_listen : HostView → SocketId → ℕ → HostView
 after_listen h id backlog = with_socket h id (listening backlog)
 
 abbrev pub state_answer : HostView → SocketId → Result State Refusal
-state_answer h id = of_role (role_of h id)
-  where
-    of_role : Option Role → Result State Refusal
-    of_role None = Err EBADF
-    of_role (Some role) = Ok (shown_state role)
+state_answer h id = answer_at h id (λ role. Ok (shown_state role))
 
 -- the connection that a listener accepts next, and its peer
 abbrev pub accept_answer : HostView → SocketId → Result (SocketId × Endpoint) Refusal
-accept_answer h id = of_role (role_of h id)
+accept_answer h id = answer_at h id of_role
   where
     of_peer : SocketId → Option Endpoint → Result (SocketId × Endpoint) Refusal
     of_peer accepted_id None = Err EAGAIN
@@ -103,11 +109,10 @@ accept_answer h id = of_role (role_of h id)
     of_entry None = Err EAGAIN
     of_entry (Some e) = of_peer e.id (offered_peer id e.role)
 
-    of_role : Option Role → Result (SocketId × Endpoint) Refusal
-    of_role None = Err EBADF
-    of_role (Some (Listener bound backlog)) = of_entry (find (is_offered_at id) h.entries)
-    of_role (Some (Idle buffers bound)) = Err EINVAL
-    of_role (Some (Connected c listener)) = Err EINVAL
+    of_role : Role → Result (SocketId × Endpoint) Refusal
+    of_role (Listener bound backlog) = of_entry (find (is_offered_at id) h.entries)
+    of_role (Idle buffers bound) = Err EINVAL
+    of_role (Connected c listener) = Err EINVAL
 
 -- it waits no longer
 abbrev pub after_accept : HostView → SocketId → HostView
@@ -146,28 +151,16 @@ read_front (Listener bound backlog) buffer = buffer
 read_front (Idle buffers bound) buffer = buffer
 
 abbrev pub recv_front : HostView → SocketId → List ℕ → List ℕ
-recv_front h id buffer = of_role (role_of h id)
-  where
-    of_role : Option Role → List ℕ
-    of_role None = buffer
-    of_role (Some role) = read_front role buffer
+recv_front h id buffer = of_socket buffer (λ role. read_front role buffer) (role_of h id)
 
 abbrev pub send_answer : HostView → SocketId → List ℕ → Result ℕ Refusal
-send_answer h id octets = of_role (role_of h id)
-  where
-    of_role : Option Role → Result ℕ Refusal
-    of_role None = Err EBADF
-    of_role (Some role) = sent_answer role octets
+send_answer h id octets = answer_at h id (λ role. sent_answer role octets)
 
 abbrev pub after_send : HostView → SocketId → List ℕ → HostView
 after_send h id octets = with_socket h id (sent octets)
 
 abbrev pub recv_answer : HostView → SocketId → ℕ → Result Received Refusal
-recv_answer h id len = of_role (role_of h id)
-  where
-    of_role : Option Role → Result Received Refusal
-    of_role None = Err EBADF
-    of_role (Some role) = received_answer role len
+recv_answer h id len = answer_at h id (λ role. received_answer role len)
 
 abbrev pub after_recv : HostView → SocketId → ℕ → HostView
 after_recv h id len = with_socket h id (received len)
@@ -179,27 +172,19 @@ shut_refusal (Listener bound backlog) = Some EOPNOTSUPP
 shut_refusal (Connected c listener) = option_map refusal_of (connection_calls.shutdown_refusal c)
 
 abbrev pub shutdown_refusal : HostView → SocketId → Option Refusal
-shutdown_refusal h id = of_role (role_of h id)
-  where
-    of_role : Option Role → Option Refusal
-    of_role None = Some EBADF
-    of_role (Some role) = shut_refusal role
+shutdown_refusal h id = refusal_at h id shut_refusal
 
 abbrev pub after_shutdown : HostView → SocketId → HostView
 after_shutdown h id = with_socket h id write_shut
 
 -- close is refused only where the id names no socket
 abbrev pub close_refusal : HostView → SocketId → Option Refusal
-close_refusal h id = if is_some (role_of h id) then None else Some EBADF
+close_refusal h id = refusal_at h id (λ role. None)
 
 -- The socket is gone. Nothing is left of one without a connection; a connection goes on without a socket, or is aborted, or is gone,
 -- as its own rules say (RFC 9293 section 3.10.4; 3.6.1 where octets are unread; own in SYN-RECEIVED and at a listener).
 abbrev pub after_socket_closed : HostView → SocketId → HostView
-after_socket_closed h id = of_role (role_of h id)
-  where
-    of_role : Option Role → HostView
-    of_role None = h
-    of_role (Some role) = record h { entries = settled (close_fate_of role) (is_socket id) (closed h.kept) h.entries }
+after_socket_closed h id = of_socket h (λ role. record h { entries = settled (close_fate_of role) (is_socket id) (closed h.kept) h.entries }) (role_of h id)
 
 -- and each connection that waits at it, where it listens, is aborted
 abbrev pub after_close : HostView → SocketId → HostView
@@ -235,62 +220,40 @@ open_answer (Idle buffers bound) = Ok bound
 open_answer (Listener local backlog) = Err EOPNOTSUPP
 open_answer (Connected c listener) = had_connection c.state c.told
 
-abbrev pub connect_refusal : HostView → SocketId → Endpoint → Option Refusal
-connect_refusal h id peer = of_role (role_of h id)
+-- the port that a connect gives the socket's connection, or why it is refused: by what the socket is, by its peer, by the ports
+abbrev pub port_connected : HostView → SocketId → Endpoint → Result ℕ Refusal
+port_connected h id peer = answer_at h id (λ role. of_open (open_answer role))
   where
-    of_port : Option ℕ → Option Refusal
-    of_port None = Some EADDRINUSE
-    of_port (Some port) = None
+    of_reach : Option Endpoint → Option Refusal → Result ℕ Refusal
+    of_reach bound (Some refusal) = Err refusal
+    of_reach bound None = ok_or (port_for h bound peer) EADDRINUSE
 
-    of_reach : Option Endpoint → Option Refusal → Option Refusal
-    of_reach bound (Some refusal) = Some refusal
-    of_reach bound None = of_port (port_for h bound peer)
-
-    of_open : Result (Option Endpoint) Refusal → Option Refusal
-    of_open (Err refusal) = Some refusal
+    of_open : Result (Option Endpoint) Refusal → Result ℕ Refusal
+    of_open (Err refusal) = Err refusal
     of_open (Ok bound) = of_reach bound (reach_refusal h peer)
 
-    of_role : Option Role → Option Refusal
-    of_role None = Some EBADF
-    of_role (Some role) = of_open (open_answer role)
+abbrev pub connect_refusal : HostView → SocketId → Endpoint → Option Refusal
+connect_refusal h id peer = result_err (port_connected h id peer)
+
+-- the pair that a connect would open, where it is not refused
+abbrev pub pair_connected : HostView → SocketId → Endpoint → Option Pair
+pair_connected h id peer = option_map (λ port. pair_of (record { addr = h.addr; port = port }) peer) (result_ok (port_connected h id peer))
 
 -- the last port given: a dynamic one counts, that of a bound socket does not
 abbrev pub counted_port : HostView → Option Endpoint → ℕ → ℕ
 counted_port h (Some bound) port = h.last_port
 counted_port h None port = port
 
--- the socket is a connection in SYN-SENT from our address and that port
+-- where an idle socket is bound
+abbrev pub bound_of : Role → Option Endpoint
+bound_of (Idle buffers bound) = bound
+bound_of (Listener local backlog) = None
+bound_of (Connected c listener) = None
+
+-- the socket is a connection in SYN-SENT from our address and the port that it is given
 abbrev pub after_connect : HostView → ℕ → SocketId → Endpoint → HostView
-after_connect h isn id peer = of_role (role_of h id)
+after_connect h isn id peer = of_port (port_connected h id peer)
   where
-    of_port : Option Endpoint → Option ℕ → HostView
-    of_port bound None = h
-    of_port bound (Some port) = with_socket (record h { last_port = counted_port h bound port }) id (connecting (record { addr = h.addr; port = port }) peer isn)
-
-    of_open : Result (Option Endpoint) Refusal → HostView
-    of_open (Err refusal) = h
-    of_open (Ok bound) = of_port bound (port_for h bound peer)
-
-    of_role : Option Role → HostView
-    of_role None = h
-    of_role (Some role) = of_open (open_answer role)
-
--- the pair that a connect would open, where it is not refused
-abbrev pub pair_connected : HostView → SocketId → Endpoint → Option Pair
-pair_connected h id peer = of_role (role_of h id)
-  where
-    of_port : Option ℕ → Option Pair
-    of_port None = None
-    of_port (Some port) = Some (pair_of (record { addr = h.addr; port = port }) peer)
-
-    of_reach : Option Endpoint → Option Refusal → Option Pair
-    of_reach bound (Some refusal) = None
-    of_reach bound None = of_port (port_for h bound peer)
-
-    of_open : Result (Option Endpoint) Refusal → Option Pair
-    of_open (Err refusal) = None
-    of_open (Ok bound) = of_reach bound (reach_refusal h peer)
-
-    of_role : Option Role → Option Pair
-    of_role None = None
-    of_role (Some role) = of_open (open_answer role)
+    of_port : Result ℕ Refusal → HostView
+    of_port (Err refusal) = h
+    of_port (Ok port) = with_socket (record h { last_port = counted_port h (option_and_then bound_of (role_of h id)) port }) id (connecting (record { addr = h.addr; port = port }) peer isn)

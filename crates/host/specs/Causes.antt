@@ -11,8 +11,7 @@ use Rattle.tcp_state.specs.Edges as edge
 use Rattle.host.specs.declared.entry.SocketId.{SocketId}
 use Rattle.host.specs.declared.entry.Entry.{Entry}
 use Rattle.host.specs.declared.role.Role.{Role}
-use Rattle.host.specs.declared.role.Role.TheVariants.{Idle, Listener, Connected}
-use Rattle.host.specs.Entries.{is_socket, is_waiting_at, is_between, is_listening_at, is_due, shown_state, new_socket}
+use Rattle.host.specs.Entries.{in_connection, is_socket, is_waiting_at, is_between, is_listening_at, is_due, shown_state, new_socket}
 use Rattle.host.specs.HostView.{HostView, later}
 use Rattle.host.specs.Ticks.{after_tick}
 use Rattle.host.specs.Emission.{after_emission}
@@ -56,9 +55,7 @@ after_event h (Emits now) = after_emission h now
 
 -- an event of the entry's connection ends it
 abbrev pub is_connection_cause : edge.Event → Role → Bool
-is_connection_cause e (Connected c listener) = edge.is_cause c e
-is_connection_cause e (Listener local backlog) = false
-is_connection_cause e (Idle buffers bound) = false
+is_connection_cause e role = in_connection false (λ c. edge.is_cause c e) role
 
 -- it is what goes out next: no reply waits, and of the entries that have a segment due it is the first
 abbrev pub is_next_out : HostView → Entry → Bool
@@ -68,10 +65,14 @@ is_next_out h x = (length h.replies == 0) && of_entry (find is_due h.entries)
     of_entry None = false
     of_entry (Some first) = first.id.0 == x.id.0
 
--- What ends an entry: that its socket is closed, or the listener that it waits at; and for a connection a segment of its two ends, a tick
--- or the going out of its segment, each as its own rules say.
+-- a close of the socket ends it: nothing is left of one without a connection, and a connection ends as its own rules say
+abbrev pub is_close_cause : Moment → Role → Bool
+is_close_cause now role = in_connection true (λ c. edge.is_cause c (edge.Closes now)) role
+
+-- What ends an entry: that its socket is closed, as its role says, or the listener that it waits at; and for a connection a segment of its two
+-- ends, a tick or the going out of its segment, each as its own rules say.
 abbrev pub is_cause_for : HostView → Event → Entry → Bool
-is_cause_for h (Closes id) x = is_socket id x || is_waiting_at id x
+is_cause_for h (Closes id) x = (is_socket id x && is_close_cause h.kept x.role) || is_waiting_at id x
 is_cause_for h (Ticks now) x = is_connection_cause (edge.Ticks (later h now)) x.role
 is_cause_for h (Hears now isn s) x = is_between (local_end h s) (peer_end h s) x && is_connection_cause (edge.Hears s (later h now)) x.role
 is_cause_for h (Emits now) x = is_next_out h x && is_connection_cause (edge.Emits (later h now)) x.role
@@ -83,15 +84,11 @@ becomes_closed before after = not (is_closed (shown_state before)) && is_closed 
 
 -- the error that an entry's connection tells its caller
 abbrev pub told_in : Role → Option Error
-told_in (Connected c listener) = c.told
-told_in (Listener local backlog) = None
-told_in (Idle buffers bound) = None
+told_in role = in_connection None (λ c. c.told) role
 
 -- an event of the entry's connection makes it tell an error: a reset that acts, in a state that has it
 abbrev pub is_telling : edge.Event → Error → Role → Bool
-is_telling e error (Connected c listener) = edge.may_tell c e error
-is_telling e error (Listener local backlog) = false
-is_telling e error (Idle buffers bound) = false
+is_telling e error role = in_connection false (λ c. edge.may_tell c e error) role
 
 abbrev pub is_telling_to : HostView → Event → Error → Entry → Bool
 is_telling_to h (Hears now isn s) error x = is_between (local_end h s) (peer_end h s) x && is_telling (edge.Hears s (later h now)) error x.role

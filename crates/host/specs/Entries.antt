@@ -13,7 +13,8 @@ use Rattle.tcp_state.specs.declared.connection.Fate.TheVariants.{Stays, Removed,
 use Rattle.tcp_state.specs.Arrival.{after_segment_at, fate}
 use Rattle.tcp_state.specs.Calls.{after_send, after_recv, after_shutdown, after_close, close_fate, after_abort, abort_fate}
 use Rattle.tcp_state.specs.declared.emission.Due.{Due}
-use Rattle.tcp_state.specs.Due.{first_due, after_emitted, emitted_len, emitted}
+use Rattle.tcp_state.specs.Due.{first_due, emitted_len, emitted}
+use Rattle.tcp_state.specs.Edges.{after_first}
 use Rattle.tcp_state.specs.declared.buffers.Buffers.{Buffers}
 use Rattle.host.specs.declared.entry.SocketId.{SocketId}
 use Rattle.host.specs.declared.entry.Entry.{Entry}
@@ -21,6 +22,20 @@ use Rattle.ipv4.specs.Addresses.{same_end}
 use Rattle.host.specs.declared.role.Role.{Role}
 use Rattle.host.specs.declared.role.Role.TheVariants.{Idle, Listener, Connected}
 use Rattle.host.specs.Lists.{change_first, remove_first}
+
+-- what a connection makes of itself, and any other role stays
+abbrev pub on_connection : (View → View) → Role → Role
+on_connection change (Connected c listener) = Connected (change c) listener
+on_connection change (Listener local backlog) = Listener local backlog
+on_connection change (Idle buffers bound) = Idle buffers bound
+
+-- this of a connection, and that of any other role
+abbrev pub in_connection : {T : Type 0} → T → (View → T) → Role → T
+in_connection other of (Connected c listener) = of c
+in_connection other of (Listener local backlog) = other
+in_connection other of (Idle buffers bound) = other
+
+-- Tests of a role.
 
 -- a connection that nobody has accepted yet
 abbrev pub is_pending : Role → Bool
@@ -31,23 +46,15 @@ is_pending (Idle buffers bound) = false
 
 -- a connection that its caller closed
 abbrev pub is_left : Role → Bool
-is_left (Connected connection listener) = connection.released
-is_left (Listener local backlog) = false
-is_left (Idle buffers bound) = false
+is_left role = in_connection false (λ c. c.released) role
 
 -- a connection is no socket while it is not accepted, and once its caller closed it
 abbrev pub has_socket : Role → Bool
 has_socket role = not (is_pending role || is_left role)
 
--- the socket that the id names
-abbrev pub is_socket : SocketId → Entry → Bool
-is_socket id e = (e.id.0 == id.0) && has_socket e.role
-
 -- a connection from a local to a foreign endpoint, in any state but CLOSED
 abbrev pub is_live_between : Endpoint → Endpoint → Role → Bool
-is_live_between local peer (Connected c listener) = not (is_closed c.state) && (same_end c.local local && same_end c.peer peer)
-is_live_between local peer (Listener bound backlog) = false
-is_live_between local peer (Idle buffers bound) = false
+is_live_between local peer role = in_connection false (λ c. not (is_closed c.state) && (same_end c.local local && same_end c.peer peer)) role
 
 -- a connection of this pair of endpoints, in any state but CLOSED
 abbrev pub joins : Pair → Role → Bool
@@ -81,15 +88,11 @@ shown_state (Listener local backlog) = Listen
 shown_state (Idle buffers bound) = Closed
 
 abbrev pub deadline_of : Role → Option Moment
-deadline_of (Connected c listener) = deadline c
-deadline_of (Listener local backlog) = None
-deadline_of (Idle buffers bound) = None
+deadline_of role = in_connection None deadline role
 
 -- a segment is due
 abbrev pub has_due : Role → Bool
-has_due (Connected c listener) = is_some (first_due c)
-has_due (Listener local backlog) = false
-has_due (Idle buffers bound) = false
+has_due role = in_connection false (λ c. is_some (first_due c)) role
 
 -- how many connections may wait at a listener
 abbrev pub backlog_of : Role → ℕ
@@ -102,7 +105,11 @@ listens_at port (Listener local backlog) = local.port == port
 listens_at port (Connected c listener) = false
 listens_at port (Idle buffers bound) = false
 
--- Tests of an entry by its role.
+-- Tests of an entry by its id and its role.
+
+-- the socket that the id names
+abbrev pub is_socket : SocketId → Entry → Bool
+is_socket id e = (e.id.0 == id.0) && has_socket e.role
 
 abbrev pub is_listening_at : ℕ → Entry → Bool
 is_listening_at port e = listens_at port e.role
@@ -129,6 +136,8 @@ is_offered_at id e = is_some (offered_peer id e.role)
 abbrev pub is_due : Entry → Bool
 is_due e = has_due e.role
 
+-- New entries.
+
 -- an idle socket with empty buffers, not bound
 abbrev pub new_socket : SocketId → Buffers → Entry
 new_socket id buffers = record { id = id; role = Idle buffers None }
@@ -137,7 +146,7 @@ new_socket id buffers = record { id = id; role = Idle buffers None }
 abbrev pub new_waiting : SocketId → SocketId → View → Entry
 new_waiting id listener c = record { id = id; role = Connected c (Some listener) }
 
--- What the calls make of an entry's role. Each names the role that it is for, and leaves any other.
+-- What the calls make of a role. Each names the role that it is for, and leaves any other.
 
 abbrev pub bound_to : Endpoint → Role → Role
 bound_to local (Idle buffers bound) = Idle buffers (Some local)
@@ -161,120 +170,81 @@ accepted (Connected c listener) = Connected c None
 accepted (Listener l b) = Listener l b
 accepted (Idle buffers bound) = Idle buffers bound
 
-abbrev pub ticked : Moment → Role → Role
-ticked now (Connected c listener) = Connected (after_tick c now) listener
-ticked now (Listener l b) = Listener l b
-ticked now (Idle buffers bound) = Idle buffers bound
-
--- what a tick makes of the entry's place
-abbrev pub tick_fate_of : Moment → Role → Fate
-tick_fate_of now (Connected c listener) = tick_fate c now
-tick_fate_of now (Listener l b) = Stays
-tick_fate_of now (Idle buffers bound) = Stays
-
--- a segment arrives at the entry's connection
-abbrev pub arrived : Moment → Segment → Role → Role
-arrived now s (Connected c listener) = Connected (after_segment_at c s now) listener
-arrived now s (Listener l b) = Listener l b
-arrived now s (Idle buffers bound) = Idle buffers bound
-
--- what the segment makes of the entry's place
-abbrev pub fate_of : Segment → Role → Fate
-fate_of s (Connected c listener) = fate c s
-fate_of s (Listener l b) = Stays
-fate_of s (Idle buffers bound) = Stays
-
--- octets are given to the entry's connection, and as many are taken as there is room for
+-- octets are given to the connection, and as many are taken as there is room for
 abbrev pub sent : List ℕ → Role → Role
-sent octets (Connected c listener) = Connected (after_send c octets) listener
-sent octets (Listener l b) = Listener l b
-sent octets (Idle buffers bound) = Idle buffers bound
+sent octets role = on_connection (λ c. after_send c octets) role
 
--- our side of the entry's connection is closed, where it is past its opening and told no error
+-- our side of the connection is closed, where it is past its opening and told no error
 abbrev pub write_shut : Role → Role
-write_shut (Connected c listener) = Connected (if is_some c.told || is_opening c.state then c else after_shutdown c) listener
-write_shut (Listener l b) = Listener l b
-write_shut (Idle buffers bound) = Idle buffers bound
+write_shut role = on_connection (λ c. if is_some c.told || is_opening c.state then c else after_shutdown c) role
 
--- octets of the entry's connection are read into a buffer of this length, and none into an empty one
+-- octets of the connection are read into a buffer of this length, and none into an empty one
 abbrev pub received : ℕ → Role → Role
-received len (Connected c listener) = Connected (if len == 0 then c else after_recv c len) listener
-received len (Listener l b) = Listener l b
-received len (Idle buffers bound) = Idle buffers bound
+received len role = on_connection (λ c. if len == 0 then c else after_recv c len) role
 
--- the segment that is due goes out
-abbrev pub emitted_at : Moment → Role → Role
-emitted_at now (Connected c listener) = Connected (of_due (first_due c)) listener
-  where
-    of_due : Option Due → View
-    of_due None = c
-    of_due (Some due) = after_emitted c due now
-emitted_at now (Listener l b) = Listener l b
-emitted_at now (Idle buffers bound) = Idle buffers bound
+-- What else happens to a role: what becomes of it, and of the entry's place.
 
--- what that makes of the entry's place: an abort is over once its reset has gone out
-abbrev pub emitted_fate : Role → Fate
-emitted_fate (Connected c listener) = if is_over c then Removed else Stays
-emitted_fate (Listener l b) = Stays
-emitted_fate (Idle buffers bound) = Stays
+-- timers act
+abbrev pub ticked : Moment → Role → Role
+ticked now role = on_connection (λ c. after_tick c now) role
 
--- the caller closes the entry's connection
+abbrev pub tick_fate_of : Moment → Role → Fate
+tick_fate_of now role = in_connection Stays (λ c. tick_fate c now) role
+
+-- a segment arrives at the connection
+abbrev pub arrived : Moment → Segment → Role → Role
+arrived now s role = on_connection (λ c. after_segment_at c s now) role
+
+abbrev pub fate_of : Segment → Role → Fate
+fate_of s role = in_connection Stays (λ c. fate c s) role
+
+-- the caller closes the socket, and nothing is left of one without a connection
 abbrev pub closed : Moment → Role → Role
-closed now (Connected c listener) = Connected (after_close c now) listener
-closed now (Listener l b) = Listener l b
-closed now (Idle buffers bound) = Idle buffers bound
+closed now role = on_connection (λ c. after_close c now) role
 
--- what closing makes of the entry's place: nothing is left of a socket without a connection
 abbrev pub close_fate_of : Role → Fate
-close_fate_of (Connected c listener) = close_fate c
-close_fate_of (Listener l b) = Removed
-close_fate_of (Idle buffers bound) = Removed
+close_fate_of role = in_connection Removed close_fate role
 
--- the entry's connection is aborted
+-- the connection is aborted
 abbrev pub aborted : Role → Role
-aborted (Connected c listener) = Connected (after_abort c) listener
-aborted (Listener l b) = Listener l b
-aborted (Idle buffers bound) = Idle buffers bound
+aborted role = on_connection after_abort role
 
--- what that makes of the entry's place
 abbrev pub abort_fate_of : Role → Fate
-abort_fate_of (Connected c listener) = abort_fate c
-abort_fate_of (Listener l b) = Stays
-abort_fate_of (Idle buffers bound) = Stays
+abort_fate_of role = in_connection Stays abort_fate role
 
 -- a listener is closed: a connection that waits at it is aborted
 abbrev pub forsaken : SocketId → Role → Role
 forsaken id role = if waits_at id role then aborted role else role
 
--- what that makes of the entry's place
 abbrev pub forsaken_fate : SocketId → Role → Fate
 forsaken_fate id role = if waits_at id role then abort_fate_of role else Stays
 
+-- the segment that is due goes out; an abort is over once its reset has gone out
+abbrev pub emitted_at : Moment → Role → Role
+emitted_at now role = on_connection (λ c. after_first c (first_due c) now) role
+
+abbrev pub emitted_fate : Role → Fate
+emitted_fate role = in_connection Stays (λ c. if is_over c then Removed else Stays) role
+
 -- its length in octets
 abbrev pub due_len : Role → Option ℕ
-due_len (Connected c listener) = option_map (emitted_len c) (first_due c)
-due_len (Listener l b) = None
-due_len (Idle buffers bound) = None
+due_len role = in_connection None (λ c. option_map (emitted_len c) (first_due c)) role
 
 -- its octets
 abbrev pub due_octets : Role → List ℕ
-due_octets (Connected c listener) = of_due (first_due c)
+due_octets role = in_connection [] (λ c. of_due c (first_due c)) role
   where
-    of_due : Option Due → List ℕ
-    of_due None = []
-    of_due (Some due) = emitted c due
-due_octets (Listener l b) = []
-due_octets (Idle buffers bound) = []
+    of_due : View → Option Due → List ℕ
+    of_due c None = []
+    of_due c (Some due) = emitted c due
 
 -- its octets stand at the front of what was there
 abbrev pub framed : Role → List ℕ → List ℕ
-framed (Connected c listener) out = of_due (first_due c)
+framed role out = in_connection out (λ c. of_due c (first_due c)) role
   where
-    of_due : Option Due → List ℕ
-    of_due None = out
-    of_due (Some due) = emitted c due ++ drop (emitted_len c due) out
-framed (Listener l b) out = out
-framed (Idle buffers bound) out = out
+    of_due : View → Option Due → List ℕ
+    of_due c None = out
+    of_due c (Some due) = emitted c due ++ drop (emitted_len c due) out
 
 -- the entry with its role changed
 abbrev pub with_role : (Role → Role) → Entry → Entry

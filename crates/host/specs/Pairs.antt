@@ -5,15 +5,12 @@ use Rattle.ipv4.specs.Addresses.{pair_of}
 use Rattle.tcp_segment.specs.declared.head.Head.{Head}
 use Rattle.host.specs.declared.entry.SocketId.{SocketId}
 use Rattle.host.specs.declared.role.Role.{Role}
-use Rattle.host.specs.declared.role.Role.TheVariants.{Idle, Listener, Connected}
-use Rattle.host.specs.Entries.{is_due}
+use Rattle.host.specs.Entries.{in_connection, is_due}
 use Rattle.host.specs.HostView.{HostView, role_of}
 
 -- the pair of a connection
 abbrev pub pair_in : Role → Option Pair
-pair_in (Connected c listener) = Some (pair_of c.local c.peer)
-pair_in (Listener local backlog) = None
-pair_in (Idle buffers bound) = None
+pair_in role = in_connection None (λ c. Some (pair_of c.local c.peer)) role
 
 -- the pair of the connection that a socket has
 abbrev pub socket_pair : HostView → SocketId → Option Pair

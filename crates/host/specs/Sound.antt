@@ -9,6 +9,7 @@ use Rattle.tcp_state.specs.View.{View, IsSound, is_over}
 use Rattle.host.specs.declared.entry.Entry.{Entry}
 use Rattle.host.specs.declared.role.Role.{Role}
 use Rattle.host.specs.declared.role.Role.TheVariants.{Idle, Listener, Connected}
+use Rattle.host.specs.Entries.{in_connection}
 use Rattle.host.specs.HostView.{HostView}
 
 -- an endpoint's fields are of their width
@@ -38,9 +39,7 @@ pub record IsSoundHost (h : HostView) : Type 0 where
 
 -- a connection of which nothing is left: its caller closed it, it is CLOSED and owes no reset
 abbrev pub is_over_in : Role → Bool
-is_over_in (Connected c listener) = is_over c
-is_over_in (Listener local backlog) = false
-is_over_in (Idle buffers bound) = false
+is_over_in role = in_connection false is_over role
 
 -- no entry of the table is over
 abbrev pub NoneIsOver : HostView → Type 0

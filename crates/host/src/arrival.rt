@@ -12,7 +12,7 @@ use crate::table::{self, ENTRIES};
 use clock::Moment;
 use ipv4::{Endpoint, Pair};
 use std::alloc::AllocError;
-use tcp_segment::{Flags, Seq, TcpView};
+use tcp_segment::{Seq, TcpView};
 use tcp_state::{Buffers, Connection, Fate};
 
 impl Host {
@@ -20,7 +20,12 @@ impl Host {
 
     /// Takes a segment: it goes to the connection of its two ends, where there is one.
     #[tactic(auto, using(crate::proofs::Firsts::firsts))]
-    pub(crate) fn take(&mut self, now: Moment, isn: Seq, segment: &TcpView<'_>) -> Result<(), DropCause>
+    pub(crate) fn take(
+        &mut self,
+        now: Moment,
+        isn: Seq,
+        segment: &TcpView<'_>,
+    ) -> Result<(), DropCause>
         ensures { Meets (arrival self.old now isn.0 segment.now) self.old result self.new }
     {
         let (local, peer) = self.ends(segment);
@@ -53,7 +58,7 @@ impl Host {
     {
         match table::listener_at(&self.entries, segment.destination()) {
             None => self.answer(Reply::to_stray(segment)),
-            Some(place) if is_opening(segment.flags()) => self.open(isn, place, segment),
+            Some(place) if is_opening(segment) => self.open(isn, place, segment),
             Some(_) => self.answer(Reply::of_listener(segment)),
         }
     }
@@ -107,7 +112,7 @@ impl Host {
         let (local, peer) = self.ends(segment);
         match table::connection_between(&self.entries, local, peer) {
             Some(_) => None,
-            None if is_opening(segment.flags()) => self.pair_at_listener(segment),
+            None if is_opening(segment) => self.pair_at_listener(segment),
             None => None,
         }
     }
@@ -152,9 +157,10 @@ impl Host {
     }
 }
 
-/// Whether a segment with these flags opens a connection at a listener (RFC 9293 section 3.10.7.2): SYN with neither RST nor ACK.
-fn is_opening(flags: Flags) -> bool
-    ensures { result ≡ is_opening flags }
+/// Whether a segment opens a connection at a listener (RFC 9293 section 3.10.7.2): SYN with neither RST nor ACK.
+fn is_opening(segment: &TcpView<'_>) -> bool
+    ensures { result ≡ is_opening segment.now.flags }
 {
+    let flags = segment.flags();
     flags.syn && !flags.rst && !flags.ack
 }

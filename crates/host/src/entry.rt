@@ -1,7 +1,7 @@
 //! An entry of a host's table: a socket, or a connection that no socket names, not yet or no longer.
 
-ghost use Rattle.std.specs.Prelude.{◌≡◌, ◌≤◌, length, IfSome};
-ghost use Rattle.host.specs.Entries.{is_kept, is_socket, with_role};
+ghost use Rattle.std.specs.Prelude.{◌≡◌, ◌≤◌, length, true, Some};
+ghost use Rattle.host.specs.Entries.{is_kept, is_socket, is_due, with_role};
 
 use crate::refusal::Refusal;
 use crate::role::{Role, is_kept};
@@ -80,31 +80,35 @@ impl Entry {
     ghost use Rattle.host.specs.Entries.{bound_to, listening, connecting, accepted, sent, received, write_shut, arrived, fate_of, ticked, tick_fate_of, emitted_at, due_len, framed, closed, close_fate_of, forsaken, forsaken_fate};
     ghost use Rattle.host.specs.Calls.{sent_answer, received_answer, read_front};
 
+    /// Binds an idle socket to `local`.
     pub(crate) fn bind(&mut self, local: Endpoint)
         ensures { self.new ≡ with_role (bound_to local) self.old }
     {
         self.role.bind(local);
     }
 
+    /// Lets a bound socket listen.
     pub(crate) fn listen(&mut self, backlog: usize)
         ensures { self.new ≡ with_role (listening backlog) self.old }
     {
         self.role.listen(backlog);
     }
 
+    /// Lets an idle socket open a connection from `local` to `peer`.
     pub(crate) fn connect(&mut self, local: Endpoint, peer: Endpoint, isn: Seq)
         ensures { self.new ≡ with_role (connecting local peer isn.0) self.old }
     {
         self.role.connect(local, peer, isn);
     }
 
+    /// Lets a connection leave its listener.
     pub(crate) fn accept(&mut self)
         ensures { self.new ≡ with_role accepted self.old }
     {
         self.role.accept();
     }
 
-    /// Answers how many octets it took.
+    /// Gives octets to the connection, and answers how many it took.
     pub(crate) fn send(&mut self, octets: &[u8]) -> Result<usize, Refusal>
         ensures answer { result ≡ sent_answer self.old.role octets.now }
         ensures after { self.new ≡ with_role (sent octets.now) self.old }
@@ -112,6 +116,7 @@ impl Entry {
         self.role.send(octets)
     }
 
+    /// Reads octets of the connection into `buffer`.
     pub(crate) fn recv(&mut self, buffer: &mut [u8]) -> Result<Received, Refusal>
         ensures answer { result ≡ received_answer self.old.role (length buffer.old) }
         ensures after { self.new ≡ with_role (received (length buffer.old)) self.old }
@@ -120,13 +125,14 @@ impl Entry {
         self.role.recv(buffer)
     }
 
+    /// Closes our side of the connection.
     pub(crate) fn shut(&mut self)
         ensures { self.new ≡ with_role write_shut self.old }
     {
         self.role.shut();
     }
 
-    /// Answers what becomes of the entry.
+    /// The caller closes the socket. Answers what becomes of the entry.
     pub(crate) fn close(&mut self, now: Moment) -> Fate
         ensures fate { result ≡ close_fate_of self.old.role }
         ensures after { self.new ≡ with_role (closed now) self.old }
@@ -134,7 +140,7 @@ impl Entry {
         self.role.close(now)
     }
 
-    /// Answers whether the entry keeps its place.
+    /// The listener `id` is closed. Answers whether the entry keeps its place.
     pub(crate) fn forsake(&mut self, id: SocketId) -> bool
         ensures kept { result ≡ is_kept (forsaken_fate id self.old.role) }
         ensures after { self.new ≡ with_role (forsaken id) self.old }
@@ -142,7 +148,7 @@ impl Entry {
         is_kept(self.role.forsake(id))
     }
 
-    /// Answers what becomes of the entry.
+    /// Hands a segment to the connection, and answers what becomes of the entry.
     pub(crate) fn segment(&mut self, now: Moment, segment: &TcpView<'_>) -> Fate
         ensures fate { result ≡ fate_of segment.now self.old.role }
         ensures after { self.new ≡ with_role (arrived now segment.now) self.old }
@@ -150,7 +156,7 @@ impl Entry {
         self.role.segment(now, segment)
     }
 
-    /// Answers whether the entry keeps its place.
+    /// Lets the timers act whose moment has come, and answers whether the entry keeps its place.
     pub(crate) fn tick(&mut self, now: Moment) -> bool
         ensures kept { result ≡ is_kept (tick_fate_of now self.old.role) }
         ensures after { self.new ≡ with_role (ticked now) self.old }
@@ -158,10 +164,11 @@ impl Entry {
         is_kept(self.role.tick(now))
     }
 
-    /// Answers the length in octets of what it wrote from `out[0]` on.
-    pub(crate) fn emit(&mut self, now: Moment, out: &mut [u8; 1514]) -> Option<usize>
-        ensures answer { result ≡ due_len self.old.role }
-        ensures bound { IfSome result (λ len. len ≤ 1514) }
+    /// Writes the segment that is due from `out[0]` on, and answers its length in octets.
+    pub(crate) fn emit(&mut self, now: Moment, out: &mut [u8; 1514]) -> usize
+        requires { is_due self.old ≡ true }
+        ensures len { Some result ≡ due_len self.old.role }
+        ensures bound { result ≤ 1514 }
         ensures after { self.new ≡ with_role (emitted_at now) self.old }
         ensures frame { out.new ≡ framed self.old.role out.old }
     {

@@ -68,7 +68,8 @@ impl Host {
         if !self.replies.is_empty() {
             return Some(self.emit_reply(out));
         }
-        self.emit_segment(now, out)
+        let place = table::first_due(&self.entries)?;
+        Some(self.emit_at(now, place, out))
     }
 
     /// Writes the first of the replies, which then waits no more.

@@ -1,6 +1,6 @@
 //! What an entry of a host's table is: a socket without a connection, a listener, or a connection.
 
-ghost use Rattle.std.specs.Prelude.{◌≡◌, ◌≤◌, length, IfSome};
+ghost use Rattle.std.specs.Prelude.{◌≡◌, ◌≤◌, length, true, Some};
 ghost use Rattle.host.specs.Entries.{is_pending, is_left, has_socket, is_live_between, joins, uses_port, waits_at, offered_peer, shown_state, deadline_of, has_due, backlog_of, listens_at, is_kept};
 
 use crate::entry::SocketId;
@@ -245,7 +245,8 @@ impl Role {
         ensures { self.new ≡ listening backlog self.old }
     {
         if let Role::Idle {
-            bound: Some(local), ..
+            bound: Some(local),
+            ..
         } = self
         {
             let local = *local;
@@ -373,15 +374,16 @@ impl Role {
     }
 
     /// Writes the segment that is due from `out[0]` on, and answers its length in octets.
-    pub(crate) fn emit(&mut self, now: Moment, out: &mut [u8; 1514]) -> Option<usize>
-        ensures answer { result ≡ due_len self.old }
-        ensures bound { IfSome result (λ len. len ≤ 1514) }
+    pub(crate) fn emit(&mut self, now: Moment, out: &mut [u8; 1514]) -> usize
+        requires { has_due self.old ≡ true }
+        ensures len { Some result ≡ due_len self.old }
+        ensures bound { result ≤ 1514 }
         ensures after { self.new ≡ emitted_at now self.old }
         ensures frame { out.new ≡ framed self.old out.old }
     {
         match self {
-            Role::Connected { connection, .. } => connection.emit(now, out),
-            _ => None,
+            Role::Connected { connection, .. } => connection.emit(now, out).unwrap(),
+            _ => unreachable!(),
         }
     }
 

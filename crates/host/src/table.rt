@@ -63,9 +63,7 @@ pub(crate) fn is_port_taken(entries: &[Entry], port: u16) -> bool
 pub(crate) fn is_port_bound(entries: &[Entry], port: u16) -> bool
     ensures { result ≡ list_any (is_bound_at port) entries.now }
 {
-    entries
-        .iter()
-        .any(|entry| entry.role.has_socket() && entry.role.uses_port(port))
+    entries.iter().any(|entry| entry.role.has_socket() && entry.role.uses_port(port))
 }
 
 /// The place of the listener at a local port.

@@ -291,7 +291,7 @@ connects-on h id peer none = by_entry (find (is_socket id) h.entries) refl
           reached = reached-neighbour h peer near;
           free = port_for-free h bound peer port given;
           foreseen = rw (at, may, near, given);
-          becomes = λ isn. after_connect-accepted h isn id peer e bound port at may given;
+          becomes = λ isn. after_connect-accepted h isn id peer e bound port at may near given;
         }
 
     by_reach : (e : Entry) (bound : Option Endpoint) → find (is_socket id) h.entries ≡ Some e → open_answer e.role ≡ Ok bound → (o : Option Refusal) → reach_refusal h peer ≡ o

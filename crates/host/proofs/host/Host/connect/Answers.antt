@@ -1,11 +1,11 @@
 -- The write at the socket's place is the change of the first entry that the id names, from the port that is given.
-use Rattle.std.proofs.Common.{◌≡◌, ◌∙◌, ℕ, List, get_or, Some, Ok, ap, sym}
+use Rattle.std.proofs.Common.{◌≡◌, ◌∙◌, ℕ, List, get_or, Some, None, Ok, ap, sym}
 use Rattle.std.specs.List.{find}
 use Rattle.ipv4.specs.declared.addr.Addr.{Addr}
 use Rattle.host.specs.declared.entry.Entry.{Entry}
 use Rattle.host.specs.Entries.{is_socket, connecting, with_role}
 use Rattle.host.specs.HostView.{HostView, with_socket}
-use Rattle.host.specs.Calls.{open_answer, port_for, counted_port}
+use Rattle.host.specs.Calls.{open_answer, reach_refusal, port_for, counted_port}
 use Rattle.host.proofs.Connected.{after_connect-accepted, some_from_ok}
 use Rattle.host.proofs.Firsts.{find-position}
 use Rattle.host.proofs.Written.{entry_written}
@@ -24,6 +24,7 @@ returns-clause-ok c =
     let found : find (is_socket c.args.id) h.entries ≡ Some x = find-position (is_socket c.args.id) h.entries c.in_ok-place.place x place at in
     let opens : open_answer x.role ≡ Ok c.in_ok-bound.bound = ap (λ (e : Entry). open_answer e.role) c.index-deref-place.is ∙ sym c.in_ok-bound.ensures in
     let given : port_for h c.in_ok-bound.bound c.args.peer ≡ Some c.in_ok-port.port = some_from_ok _ _ _ c.in_ok-port.ensures.value in
+    let reached : reach_refusal h c.args.peer ≡ None = sym c.in_ok-may_reach.ensures in
     let counted : c.counted_port-self-inside.result ≡ counted_port h c.in_ok-bound.bound c.in_ok-port.port = c.counted_port-self-inside.ensures.value in
     let moved =
     ap (λ (w : HostView). let r : HostView = record w { last_port = c.counted_port-self-inside.result } in r) c.self.view_is
@@ -31,4 +32,4 @@ returns-clause-ok c =
     in
     entry_written _ _ (is_socket c.args.id) (with_role (connecting (record { addr = c.self.inside.addr; port = c.in_ok-port.port }) c.args.peer c.args.isn.0)) _ _ _ _ moved place c.deref_mut.ensures.value c.index-deref_mut-place.is c.connect.ensures
     ∙ ap (λ (a : Addr). with_socket (record h { last_port = counted_port h c.in_ok-bound.bound c.in_ok-port.port }) c.args.id (connecting (record { addr = a; port = c.in_ok-port.port }) c.args.peer c.args.isn.0)) addr
-    ∙ sym (after_connect-accepted h c.args.isn.0 c.args.id c.args.peer x c.in_ok-bound.bound c.in_ok-port.port found opens given)
+    ∙ sym (after_connect-accepted h c.args.isn.0 c.args.id c.args.peer x c.in_ok-bound.bound c.in_ok-port.port found opens reached given)

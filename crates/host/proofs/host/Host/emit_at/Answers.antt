@@ -1,0 +1,40 @@
+-- The write at the place is the change of the first entry that has a segment due, or it is taken out.
+use Rattle.std.proofs.Common.{◌≡◌, ◌∙◌, List, get_or, Some, ap, sym}
+use Rattle.std.specs.List.{find, position}
+use Rattle.tcp_state.specs.declared.connection.Fate.{Fate}
+use Rattle.clock.specs.declared.moment.Moment.{Moment}
+use Rattle.host.specs.declared.entry.Entry.{Entry}
+use Rattle.host.specs.Entries.{is_due, emitted_at, emitted_fate, settled, with_role}
+use Rattle.host.specs.HostView.{HostView, later}
+use Rattle.host.proofs.Arrived.{entry_settled}
+use Rattle.host.proofs.Emitted.{segment_sent-found}
+use Rattle.host.proofs.Firsts.{find-position, passes-position}
+use Rattle.host.proofs.host.Host.emit_at.Goals as goal
+
+-- the entry in the place has a segment due
+pub emit-len-requires : goal.emit-len-requires
+emit-len-requires c =
+    let h : HostView = c.args.self.now in
+    let x : Entry = c.index-deref_mut-place.result in
+    let at : x ≡ get_or h.entries c.args.place x =
+    c.index-deref_mut-place.is ∙ ap (λ (es : List Entry). get_or es c.args.place x) (c.deref_mut.ensures.value ∙ ap (λ (h : HostView). h.entries) c.self.view_is)
+    in
+    sym (ap is_due c.index-deref_mut-place.is) ∙ passes-position is_due h.entries c.args.place x c.requires at
+
+pub returns-clause-after : goal.returns-clause-after
+returns-clause-after c =
+    let h : HostView = c.args.self.now in
+    let now : Moment = later h c.args.now in
+    let entries = ap (λ (h : HostView). h.entries) c.self.view_is in
+    let place : position is_due h.entries ≡ Some c.args.place = c.requires in
+    let x : Entry = c.index-deref_mut-place.result in
+    let at : x ≡ get_or h.entries c.args.place x =
+    c.index-deref_mut-place.is ∙ ap (λ (es : List Entry). get_or es c.args.place x) (c.deref_mut.ensures.value ∙ entries)
+    in
+    let found : find is_due h.entries ≡ Some x = find-position is_due h.entries c.args.place x place at in
+    let sent : c.emit-len.new.self ≡ with_role (emitted_at now) x =
+    c.emit-len.ensures.after ∙ ap (λ (m : Moment). with_role (emitted_at m) (get_or c.deref_mut.result.now c.args.place x)) c.later-now.ensures ∙ ap (λ (e : Entry). with_role (emitted_at now) e) (sym c.index-deref_mut-place.is)
+    in
+    entry_settled _ _ is_due (emitted_at now) _ _ _ _ _ c.emitted_fate-fate.result c.self.view_is place c.deref_mut.ensures.value c.index-deref_mut-place.is (sent ∙ ap (λ (e : Entry). with_role (emitted_at now) e) c.index-deref_mut-place.is) c.settle.ensures
+    ∙ ap (λ (r : Fate). let w : HostView = record h { entries = settled r is_due (emitted_at now) h.entries } in w) (c.emitted_fate-fate.ensures ∙ ap (λ (e : Entry). emitted_fate e.role) sent)
+    ∙ ap (λ (es : List Entry). let w : HostView = record h { entries = es } in w) (sym (segment_sent-found h now x found))
