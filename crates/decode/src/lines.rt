@@ -130,6 +130,6 @@ pub(crate) fn push_tcp(segment: &TcpView<'_>, lines: &mut String) -> Result<(), 
     )?;
     push_flags(segment.flags(), lines)?;
     write!(lines, " win {} mss ", segment.window())?;
-    push_told(segment.told(), lines)?;
+    push_told(segment.mss_option(), lines)?;
     write!(lines, " data {}\n", segment.payload().len())
 }

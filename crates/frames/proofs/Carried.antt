@@ -13,7 +13,7 @@ use Rattle.ipv4.specs.declared.addr.Addr.{Addr}
 use Rattle.ipv4.specs.Datagram.{Datagram, IsDatagram, spelling as datagram_octets}
 use Rattle.ipv4.proofs.Answering.{sent_len, sent_spelled as datagram_spelled}
 use Rattle.tcp_segment.specs.declared.head.Head.{Head}
-use Rattle.tcp_segment.specs.Sent.{CanBeSent, sent, sent_octets, sent_offset}
+use Rattle.tcp_segment.specs.Sent.{CanBeSent, sent_segment, sent_octets, sent_offset}
 use Rattle.tcp_segment.proofs.Checksum.{sent_octets_len, sent_spelled as segment_spelled}
 use Rattle.frames.specs.declared.emission.FrameHead.{FrameHead}
 use Rattle.frames.specs.declared.meaning.Meaning.TheVariants.{Arp, Tcp}
@@ -41,7 +41,7 @@ fields h segment from to most = record {
 
 pub segments_heard : (h : FrameHead) (head : Head) (octets : List ℕ) → CanBeSent h.from h.to head octets → length h.destination.0 ≡ 6 → length h.source.0 ≡ 6
     → MaySend h.to h.from → 4 * sent_offset head + length octets ≤ 1480
-    → heard h.destination h.to (segment_frame h (sent_octets h.from h.to head octets)) ≡ Ok (Tcp (record { source = h.from; segment = sent head octets }))
+    → heard h.destination h.to (segment_frame h (sent_octets h.from h.to head octets)) ≡ Ok (Tcp (record { source = h.from; segment = sent_segment head octets }))
 segments_heard h head octets can destination source may most =
     let segment : List ℕ = sent_octets h.from h.to head octets in
     let segment_most : length segment ≤ 1480 = omega (arith, sent_octets_len h.from h.to head octets, most) in
@@ -64,7 +64,7 @@ segments_heard h head octets can destination source may most =
       destination = refl;
       source = may;
     } in
-    heard_segment h.destination h.to (segment_frame h segment) d (sent head octets) (brings, (refl, refl), refl) (segment_spelled h.from h.to head octets can)
+    heard_segment h.destination h.to (segment_frame h segment) d (sent_segment head octets) (brings, (refl, refl), refl) (segment_spelled h.from h.to head octets can)
 
 -- where a packet goes
 pub destination_len : (o : Operation) (target : Mac) → length target.0 ≡ 6 → length (packet_destination o target).0 ≡ 6

@@ -9,7 +9,7 @@ use Rattle.arp.specs.Packet.{HasWidths, spelling as packet_octets}
 use Rattle.ipv4.specs.Datagram.{Datagram, IsDatagram, spelling as datagram_octets}
 use Rattle.ipv4.proofs.Answering.{sent_spelled as datagram_spelled}
 use Rattle.tcp_segment.specs.declared.head.Head.{Head}
-use Rattle.tcp_segment.specs.Sent.{CanBeSent, sent, sent_octets, sent_offset}
+use Rattle.tcp_segment.specs.Sent.{CanBeSent, sent_segment, sent_octets, sent_offset}
 use Rattle.tcp_segment.proofs.Checksum.{sent_octets_len, sent_spelled as segment_spelled}
 use Rattle.frames.specs.declared.emission.FrameHead.{FrameHead}
 use Rattle.frames.specs.Meaning.{arp_type, ipv4_type}
@@ -20,16 +20,16 @@ use Rattle.frames.proofs.CarriedPairs.{carried_read}
 
 pub segment_pairs : (h : FrameHead) (head : Head) (octets : List ℕ) → CanBeSent h.from h.to head octets → length h.destination.0 ≡ 6 → length h.source.0 ≡ 6
     → 4 * sent_offset head + length octets ≤ 1480
-    → pair_in (segment_frame h (sent_octets h.from h.to head octets)) ≡ Some (pair_between h.from h.to (sent head octets))
+    → pair_in (segment_frame h (sent_octets h.from h.to head octets)) ≡ Some (pair_between h.from h.to (sent_segment head octets))
 segment_pairs h head octets can destination source most =
     let segment : List ℕ = sent_octets h.from h.to head octets in
     let d : Datagram = datagram_of_segment h segment in
     let are : IsDatagram d = fields h segment can.src_octets can.dst_octets (omega (arith, sent_octets_len h.from h.to head octets, most)) in
     let frame_head : EtherHead = record { destination = h.destination; source = h.source; kind = ipv4_type } in
-    carried_read (segment_frame h segment) (pair_between h.from h.to (sent head octets)) (record {
+    carried_read (segment_frame h segment) (pair_between h.from h.to (sent_segment head octets)) (record {
       frame = frame_sent frame_head (datagram_octets d);
       datagram = d;
-      segment = sent head octets;
+      segment = sent_segment head octets;
       framed = frame_spelled frame_head (datagram_octets d) destination source (omega arith);
       type = refl;
       carried = datagram_spelled (ipv4_head h) segment (padding (datagram_octets d)) are;

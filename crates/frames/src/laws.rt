@@ -8,7 +8,7 @@ ghost use Rattle.arp.specs.Packet.{HasWidths};
 ghost use Rattle.ipv4.specs.declared.addr.Addr.{Addr};
 ghost use Rattle.ipv4.specs.declared.addr.Pair.{Pair};
 ghost use Rattle.tcp_segment.specs.declared.head.Head.{Head};
-ghost use Rattle.tcp_segment.specs.Sent.{CanBeSent, sent, sent_octets, sent_offset};
+ghost use Rattle.tcp_segment.specs.Sent.{CanBeSent, sent_segment, sent_octets, sent_offset};
 ghost use Rattle.frames.specs.declared.drop.DropCause.{DropCause};
 ghost use Rattle.frames.specs.declared.emission.FrameHead.{FrameHead};
 ghost use Rattle.frames.specs.declared.meaning.Meaning.{Meaning};
@@ -46,7 +46,7 @@ pub fn carried_pairs()
 pub fn emitted_segments_are_heard()
     ensures { (h : FrameHead) (head : Head) (octets : List ℕ) → CanBeSent h.from h.to head octets
         → length h.destination.0 ≡ 6 → length h.source.0 ≡ 6 → MaySend h.to h.from → 4 * sent_offset head + length octets ≤ 1480
-        → heard h.destination h.to (segment_frame h (sent_octets h.from h.to head octets)) ≡ Ok (Tcp (record { source = h.from; segment = sent head octets })) }
+        → heard h.destination h.to (segment_frame h (sent_octets h.from h.to head octets)) ≡ Ok (Tcp (record { source = h.from; segment = sent_segment head octets })) }
 {}
 
 /// A frame that `emit_arp` writes is heard as its packet, where its sender may send: a request by every interface, a reply by
@@ -63,6 +63,6 @@ pub fn emitted_packets_are_heard()
 pub fn emitted_pairs()
     ensures segment { (h : FrameHead) (head : Head) (octets : List ℕ) → CanBeSent h.from h.to head octets
         → length h.destination.0 ≡ 6 → length h.source.0 ≡ 6 → 4 * sent_offset head + length octets ≤ 1480
-        → pair_in (segment_frame h (sent_octets h.from h.to head octets)) ≡ Some (pair_between h.from h.to (sent head octets)) }
+        → pair_in (segment_frame h (sent_octets h.from h.to head octets)) ≡ Some (pair_between h.from h.to (sent_segment head octets)) }
     ensures packet { (packet : ArpPacket) → HasWidths packet → pair_in (packet_frame packet) ≡ None }
 {}

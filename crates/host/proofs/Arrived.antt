@@ -4,7 +4,7 @@ use Rattle.std.specs.List.{find, position, refill, remove}
 use Rattle.tcp_segment.specs.declared.head.Head.{Head}
 use Rattle.tcp_segment.specs.Segment.{Segment}
 use Rattle.tcp_state.specs.declared.connection.Fate.{Fate}
-use Rattle.tcp_state.specs.declared.connection.Fate.TheVariants.{Stays, Removed, Refused}
+use Rattle.tcp_state.specs.declared.connection.Fate.TheVariants.{Stays, Removed, Rejected}
 use Rattle.clock.specs.declared.moment.Moment.{Moment}
 use Rattle.host.specs.declared.role.Role.{Role}
 use Rattle.host.specs.declared.entry.Entry.{Entry}
@@ -49,15 +49,15 @@ pub arrival-found : (h : HostView) (now : Moment) (isn : ℕ) (s : Segment) (e :
 arrival-found h now isn s e found = rw found
 
 -- .. which it takes, or refuses
-pub refusal-answered : (h : HostView) (now : Moment) (isn : ℕ) (s : Segment) (e : Entry) → find (is_between (local_end h s) (peer_end h s)) h.entries ≡ Some e → fate_of s e.role ≡ Refused
+pub refusal-answered : (h : HostView) (now : Moment) (isn : ℕ) (s : Segment) (e : Entry) → find (is_between (local_end h s) (peer_end h s)) h.entries ≡ Some e → fate_of s e.role ≡ Rejected
     → arrival h now isn s ≡ answered h (Some (reset_at_ack s))
 refusal-answered h now isn s e found refused = rw (found, refused)
 
-pub taken : (h : HostView) (now : Moment) (isn : ℕ) (s : Segment) (e : Entry) (r : Fate) → find (is_between (local_end h s) (peer_end h s)) h.entries ≡ Some e → fate_of s e.role ≡ r → (r ≡ Refused → ⊥)
+pub taken : (h : HostView) (now : Moment) (isn : ℕ) (s : Segment) (e : Entry) (r : Fate) → find (is_between (local_end h s) (peer_end h s)) h.entries ≡ Some e → fate_of s e.role ≡ r → (r ≡ Rejected → ⊥)
     → arrival h now isn s ≡ Becomes (record h { entries = settled r (is_between (local_end h s) (peer_end h s)) (arrived (later h now) s) h.entries })
 taken h now isn s e Stays found is other = rw (found, is)
 taken h now isn s e Removed found is other = rw (found, is)
-taken h now isn s e Refused found is other = absurd (other refl)
+taken h now isn s e Rejected found is other = absurd (other refl)
 
 -- a segment for a listener that opens nothing
 pub listener-answers : (h : HostView) (isn : ℕ) (s : Segment) (listener : Entry) → find (is_listening_at s.destination) h.entries ≡ Some listener → is_opening s.flags ≡ false

@@ -10,12 +10,12 @@ use Rattle.clock.specs.declared.moment.Moment.{Moment}
 use Rattle.tcp_state.specs.declared.state.State.{State}
 use Rattle.tcp_state.specs.declared.state.State.TheVariants.{Established, CloseWait}
 use Rattle.tcp_state.specs.declared.connection.Fate.{Fate}
-use Rattle.tcp_state.specs.declared.connection.Fate.TheVariants.{Stays, Removed, Refused}
+use Rattle.tcp_state.specs.declared.connection.Fate.TheVariants.{Stays, Removed, Rejected}
 use Rattle.tcp_state.specs.declared.emission.Due.{Due}
 use Rattle.tcp_state.specs.declared.emission.Due.TheVariants.{Rst}
 use Rattle.tcp_state.specs.View.{View, IsSound, is_opening, is_closed, is_over}
 use Rattle.tcp_state.specs.declared.calls.Refusal.{Refusal as Error}
-use Rattle.tcp_state.specs.Calls.{shut, after_recv, after_shutdown}
+use Rattle.tcp_state.specs.Calls.{beyond_shutdown, after_recv, after_shutdown}
 use Rattle.tcp_state.specs.Due.{first_due}
 use Rattle.tcp_state.specs.Arrival.{opened_passively}
 use Rattle.tcp_state.specs.Edges as edge
@@ -57,7 +57,7 @@ removed_caused c e over removed = ends_caused c e over (or_left _ _ (ap edge.is_
 not_removed : (r : Fate) → is_kept r ≡ true → edge.is_removed r ≡ false
 not_removed Removed kept = cc
 not_removed Stays kept = refl
-not_removed Refused kept = refl
+not_removed Rejected kept = refl
 
 kept_edge : (c : View) (e : edge.Event) → is_kept (edge.fate_by c e) ≡ true → edge.IsEdge c.state (let d = edge.after_event c e in d.state)
 kept_edge c e kept =
@@ -67,7 +67,7 @@ kept_edge c e kept =
 gone_removed : (r : Fate) → is_kept r ≡ false → r ≡ Removed
 gone_removed Removed gone = refl
 gone_removed Stays gone = cc
-gone_removed Refused gone = cc
+gone_removed Rejected gone = cc
 
 never : (b : Bool) → (not b && b) ≡ false
 never true = refl
@@ -136,14 +136,14 @@ quiet_received len (Listener l b) = refl
 quiet_received len (Connected c l) =
     by_test (len == 0) (λ none. rw none (never (is_closed c.state))) (λ some. rw some (false_from _ (closes_caused c (edge.Receives len))))
 
-shut_closes_none : (state : State) → (not (is_closed state) && is_closed (shut state)) ≡ false
+shut_closes_none : (state : State) → (not (is_closed state) && is_closed (beyond_shutdown state)) ≡ false
 shut_closes_none state = grind (arith, common_steps)
 
 quiet_shut : (role : Role) → becomes_closed role (write_shut role) ≡ false
 quiet_shut (Idle buffers bound) = refl
 quiet_shut (Listener l b) = refl
 quiet_shut (Connected c l) =
-    by_test (is_some c.told || is_opening c.state) (λ refused. rw refused (never (is_closed c.state))) (λ shuts. rw shuts (shut_closes_none c.state))
+    by_test (is_some c.pending_error || is_opening c.state) (λ refused. rw refused (never (is_closed c.state))) (λ shuts. rw shuts (shut_closes_none c.state))
 
 -- .. along their edges
 
@@ -178,7 +178,7 @@ received_edge len (Idle buffers bound) = inl refl
 received_edge len (Listener l b) = inl refl
 received_edge len (Connected c l) = by_test (len == 0) (λ none. rw none (inl refl)) (λ some. rw some (kept_edge c (edge.Receives len) refl))
 
-shut_edge : (state : State) → edge.IsEdge state (shut state)
+shut_edge : (state : State) → edge.IsEdge state (beyond_shutdown state)
 shut_edge Established = inr refl
 shut_edge CloseWait = inr refl
 shut_edge _ = inl refl
@@ -186,7 +186,7 @@ shut_edge _ = inl refl
 shut_role_edge : (role : Role) → edge.IsEdge (shown_state role) (shown_state (write_shut role))
 shut_role_edge (Idle buffers bound) = inl refl
 shut_role_edge (Listener l b) = inl refl
-shut_role_edge (Connected c l) = by_test (is_some c.told || is_opening c.state) (λ refused. rw refused (inl refl)) (λ shuts. rw shuts (shut_edge c.state))
+shut_role_edge (Connected c l) = by_test (is_some c.pending_error || is_opening c.state) (λ refused. rw refused (inl refl)) (λ shuts. rw shuts (shut_edge c.state))
 
 -- .. and in silence
 
@@ -220,7 +220,7 @@ received_mute : (len : ℕ) → IsMute (received len)
 received_mute len (Idle buffers bound) error told = told
 received_mute len (Listener l b) error told = told
 received_mute len (Connected c l) error told =
-    let of_test : Bool → Option Error = λ b. (let w : View = if b then c else after_recv c len in w.told) in
+    let of_test : Bool → Option Error = λ b. (let w : View = if b then c else after_recv c len in w.pending_error) in
     by_test (len == 0)
     (λ none. ap of_test (sym none) ∙ told)
     (λ some. told_before (errors_caused c (edge.Receives len) error (ap of_test (sym some) ∙ told)))
@@ -229,8 +229,8 @@ shut_mute : IsMute write_shut
 shut_mute (Idle buffers bound) error told = told
 shut_mute (Listener l b) error told = told
 shut_mute (Connected c l) error told =
-    let of_test : Bool → Option Error = λ b. (let w : View = if b then c else after_shutdown c in w.told) in
-    by_test (is_some c.told || is_opening c.state) (λ refused. ap of_test (sym refused) ∙ told) (λ shuts. ap of_test (sym shuts) ∙ told)
+    let of_test : Bool → Option Error = λ b. (let w : View = if b then c else after_shutdown c in w.pending_error) in
+    by_test (is_some c.pending_error || is_opening c.state) (λ refused. ap of_test (sym refused) ∙ told) (λ shuts. ap of_test (sym shuts) ∙ told)
 
 connect_followed : (h : HostView) (isn : ℕ) (id : SocketId) (peer : Endpoint) → Follows (IsStep h (Connects isn id peer)) (IsAdded h (Connects isn id peer)) h.entries (let after = after_connect h isn id peer in after.entries)
 connect_followed h isn id peer = by_port (port_connected h id peer) refl
@@ -468,7 +468,7 @@ segment_followed h now isn s = by_entry (find (is_between (local_end h s) (peer_
     by_fate : (e : Entry) → find (is_between (local_end h s) (peer_end h s)) h.entries ≡ Some e → (r : Fate) → fate_of s e.role ≡ r → Follows (IsStep h (Hears now isn s)) (IsAdded h (Hears now isn s)) h.entries (let after = after_arrival h (arrival h now isn s) in after.entries)
     by_fate e found Stays is = rw (found, is) (settled_by_segment h now isn s e Stays found is)
     by_fate e found Removed is = rw (found, is) (settled_by_segment h now isn s e Removed found is)
-    by_fate e found Refused is = rw (found, is) (answer_followed h (Hears now isn s) (inl refl) (Some (reset_at_ack s)))
+    by_fate e found Rejected is = rw (found, is) (answer_followed h (Hears now isn s) (inl refl) (Some (reset_at_ack s)))
 
     by_entry : (o : Option Entry) → find (is_between (local_end h s) (peer_end h s)) h.entries ≡ o → Follows (IsStep h (Hears now isn s)) (IsAdded h (Hears now isn s)) h.entries (let after = after_arrival h (arrival h now isn s) in after.entries)
     by_entry None found = rw found (alone_followed h now isn s)

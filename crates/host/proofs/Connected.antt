@@ -28,7 +28,7 @@ had_opens_none state None bound e = either_refused (is_opening state) EALREADY E
 bound_same : (role : Role) (bound : Option Endpoint) → open_answer role ≡ Ok bound → bound_of role ≡ bound
 bound_same (Idle buffers b) bound opens = cc
 bound_same (Listener l b) bound opens = cc
-bound_same (Connected c l) bound opens = absurd (had_opens_none c.state c.told bound opens)
+bound_same (Connected c l) bound opens = absurd (had_opens_none c.state c.pending_error bound opens)
 
 pub after_connect-given : (h : HostView) (isn : ℕ) (id : SocketId) (peer : Endpoint) (role : Role) (bound : Option Endpoint) (port : ℕ) → role_of h id ≡ Some role → open_answer role ≡ Ok bound → reach_refusal h peer ≡ None → port_for h bound peer ≡ Some port
     → after_connect h isn id peer ≡ with_socket (record h { last_port = counted_port h bound port }) id (connecting (record { addr = h.addr; port = port }) peer isn)

@@ -6,7 +6,7 @@ use Rattle.clock.specs.declared.moment.Moment.{Moment}
 use Rattle.clock.specs.Moments.{sooner}
 use Rattle.tcp_state.specs.declared.connection.Resend.{Resend}
 use Rattle.tcp_state.specs.declared.connection.Resend.TheVariants.{Idle as Rests, At, Due}
-use Rattle.tcp_state.specs.View.{View, is_reached, is_at_end, ends_at, resend_at, resend_after, after_resend, after_tick, stopped, deadline}
+use Rattle.tcp_state.specs.View.{View, is_reached, is_at_end, ends_at, resend_at, resend_after, after_resend, after_tick, after_stop, deadline}
 use Rattle.host.specs.declared.entry.Entry.{Entry}
 use Rattle.host.specs.declared.role.Role.{Role}
 use Rattle.host.specs.declared.role.Role.TheVariants.{Idle, Listener, Connected}
@@ -130,7 +130,7 @@ pub tick_waits_at : (v : View) (now : Moment) → is_reached (deadline v) now �
 tick_waits_at v now e =
     let both = both_unreached (resend_at v.resend) (ends_at v) now e in
     let same : after_resend v now ≡ v = ap (λ (r : Resend). let w : View = record v { resend = r } in w) (resend_waits v.resend now both.0) in
-    ap (λ (b : Bool). if b then stopped v else after_resend v now) both.1 ∙ same
+    ap (λ (b : Bool). if b then after_stop v else after_resend v now) both.1 ∙ same
 
 role_waits : (role : Role) (now : Moment) → is_reached (deadline_of role) now ≡ false → (is_kept (tick_fate_of now role) ≡ true) × (ticked now role ≡ role)
 role_waits (Idle buffers bound) now e = (refl, refl)

@@ -10,7 +10,7 @@ use Rattle.tcp_segment.specs.declared.head.Head.{Head}
 use Rattle.tcp_segment.specs.Segment.{Segment}
 use Rattle.clock.specs.declared.moment.Moment.{Moment}
 use Rattle.tcp_state.specs.declared.connection.Fate.{Fate}
-use Rattle.tcp_state.specs.declared.connection.Fate.TheVariants.{Stays, Removed, Refused}
+use Rattle.tcp_state.specs.declared.connection.Fate.TheVariants.{Stays, Removed, Rejected}
 use Rattle.tcp_state.specs.View.{View, is_closed}
 use Rattle.tcp_state.specs.Arrival.{opened_passively}
 use Rattle.host.specs.declared.entry.SocketId.{SocketId}
@@ -111,7 +111,7 @@ opening_of h now isn s next opened = by_entry (find (is_between (local_end h s) 
     by_fate : (e : Entry) → find (is_between (local_end h s) (peer_end h s)) h.entries ≡ Some e → (r : Fate) → fate_of s e.role ≡ r → IsOpening h isn s next
     by_fate e found Stays is = let becomes = (rw (found, is) at opened) in cc
     by_fate e found Removed is = let becomes = (rw (found, is) at opened) in cc
-    by_fate e found Refused is =
+    by_fate e found Rejected is =
         let answers : arrival h now isn s ≡ answered h (Some (reset_at_ack s)) = rw (found, is) in
         absurd (answers_not h (Some (reset_at_ack s)) next (sym answers ∙ opened))
 

@@ -8,10 +8,10 @@ use Rattle.tcp_state.specs.declared.state.State.{State}
 use Rattle.tcp_state.specs.declared.state.State.TheVariants.{Closed, Listen, SynSent, SynReceived, Established, FinWait1, FinWait2, CloseWait, Closing, LastAck, TimeWait}
 use Rattle.tcp_state.specs.Numbers.{is_before}
 use Rattle.tcp_state.specs.Stream.{is_new_ack, is_in_window}
-use Rattle.tcp_state.specs.View.{View, is_opening, is_syn_sent, is_syn_received, is_closed, is_write_closed, is_at_end, stopped, after_resend, after_tick, is_fin_next}
-use Rattle.tcp_state.specs.Calls.{after_send, after_recv, shut, after_shutdown, aborted, after_abort, is_removed_by_close, is_aborted_by_close, after_release, after_close}
+use Rattle.tcp_state.specs.View.{View, is_opening, is_syn_sent, is_syn_received, is_closed, is_write_closed, is_at_end, after_stop, after_resend, after_tick, is_fin_next}
+use Rattle.tcp_state.specs.Calls.{after_send, after_recv, beyond_shutdown, after_shutdown, aborted, after_abort, is_removed_by_close, is_aborted_by_close, after_release, after_close}
 use Rattle.tcp_state.specs.Due.{after_emitted, after_ack_paid, after_numbers}
-use Rattle.tcp_state.specs.Arrival.{after_segment, after_syn_ack, is_right_syn_ack, is_accepted, after_accepted, after_acceptable, after_ack, is_read_on, after_window, after_text, owing_ack, established, ends_by_syn, fin_acknowledged, after_new_ack, is_receiving, counts_fin, after_fin, after_reset, reset_error, after_refusal, is_acting_reset, ends_by_reset, after_rst, is_lost, after_lost, after_heard, after_segment_at}
+use Rattle.tcp_state.specs.Arrival.{after_segment, after_syn_ack, is_right_syn_ack, is_acceptable_to, after_acceptable_segment, after_acknowledging_segment, after_ack, is_read_on, after_window, after_text, owing_ack, after_establishment, ends_by_syn, fin_acknowledged, after_new_ack, is_receiving, counts_fin, after_fin, after_reset, reset_error, after_rst_in_syn_sent, is_acting_reset, ends_by_reset, after_rst, is_lost, after_lost, after_heard, after_segment_at}
 
 -- the endpoints stay, and nothing that is CLOSED lives again
 pub record KeepsEnds (v w : View) : Type 0 where
@@ -25,7 +25,7 @@ keeps-nothing v = record { local = refl; peer = refl; live = λ e. e }
 
 -- octets are taken from the caller
 pub keeps-send : (v : View) (octets : List ℕ) → KeepsEnds v (after_send v octets)
-keeps-send v octets = either (is_some v.told || is_opening v.state || is_write_closed v.state) v _ (keeps-nothing v) (record { local = refl; peer = refl; live = λ e. e })
+keeps-send v octets = either (is_some v.pending_error || is_opening v.state || is_write_closed v.state) v _ (keeps-nothing v) (record { local = refl; peer = refl; live = λ e. e })
   where
     either : (test : Bool) (w x : View) → KeepsEnds v w → KeepsEnds v x → KeepsEnds v (if test then w else x)
     either true w x a b = a
@@ -33,7 +33,7 @@ keeps-send v octets = either (is_some v.told || is_opening v.state || is_write_c
 
 -- octets are read by the caller
 pub keeps-recv : (v : View) (len : ℕ) → KeepsEnds v (after_recv v len)
-keeps-recv v len = either (is_some v.told || is_opening v.state || (length v.receiving.readable == 0)) v _ (keeps-nothing v) (record { local = refl; peer = refl; live = λ e. e })
+keeps-recv v len = either (is_some v.pending_error || is_opening v.state || (length v.receiving.readable == 0)) v _ (keeps-nothing v) (record { local = refl; peer = refl; live = λ e. e })
   where
     either : (test : Bool) (w x : View) → KeepsEnds v w → KeepsEnds v x → KeepsEnds v (if test then w else x)
     either true w x a b = a
@@ -43,7 +43,7 @@ keeps-recv v len = either (is_some v.told || is_opening v.state || (length v.rec
 pub keeps-shutdown : (v : View) → KeepsEnds v (after_shutdown v)
 keeps-shutdown v = record { local = refl; peer = refl; live = λ e. still v.state e }
   where
-    still : (t : State) → is_closed (shut t) ≡ false → is_closed t ≡ false
+    still : (t : State) → is_closed (beyond_shutdown t) ≡ false → is_closed t ≡ false
     still Closed e = e
     still Listen e = refl
     still SynSent e = refl
@@ -60,7 +60,7 @@ keeps-shutdown v = record { local = refl; peer = refl; live = λ e. still v.stat
 pub keeps-tick : (v : View) (now : Moment) → KeepsEnds v (after_tick v now)
 keeps-tick v now = either (is_at_end v now)
   where
-    either : (test : Bool) → KeepsEnds v (if test then stopped v else after_resend v now)
+    either : (test : Bool) → KeepsEnds v (if test then after_stop v else after_resend v now)
     either true = record { local = refl; peer = refl; live = λ e. let bad : true ≡ false = e in cc }
     either false = record { local = refl; peer = refl; live = λ e. e }
 
@@ -118,7 +118,7 @@ same-syn_ack v s = same-either v (is_right_syn_ack v s) _ v (record { local = re
 same-ack : (v : View) (ack : ℕ) → SameEnds v (after_ack v ack)
 same-ack v ack =
     same-either v (is_syn_received v.state) _ _
-    (same-either v (is_new_ack v.sending ack) (established v) v (record { local = refl; peer = refl }) (same v))
+    (same-either v (is_new_ack v.sending ack) (after_establishment v) v (record { local = refl; peer = refl }) (same v))
     (same-either v (is_new_ack v.sending ack) _ _
     (same-either v (is_fin_next v) (fin_acknowledged (after_new_ack v ack)) (after_new_ack v ack) (record { local = refl; peer = refl }) (record { local = refl; peer = refl }))
     (same-either v (is_before v.sending.nxt ack) (owing_ack v) v (record { local = refl; peer = refl }) (same v)))
@@ -132,7 +132,7 @@ same-fin v s = same-either v (counts_fin v s) _ v (record { local = refl; peer =
 same-window : (v : View) (s : Segment) → SameEnds v (after_window v s)
 same-window v s = record { local = refl; peer = refl }
 
-same-acceptable : (v : View) (s : Segment) → SameEnds v (after_acceptable v s)
+same-acceptable : (v : View) (s : Segment) → SameEnds v (after_acknowledging_segment v s)
 same-acceptable v s =
     let acked = after_ack v s.acknowledgement in
     let told = after_window acked s in
@@ -141,13 +141,13 @@ same-acceptable v s =
     same-either v (is_read_on v s.acknowledgement) (after_fin heard s) acked
     (same-then v heard (after_fin heard s) (same-then v told heard (same-then v acked told kept (same-window acked s)) (same-text told s)) (same-fin heard s)) kept
 
-same-accepted : (v : View) (s : Segment) → SameEnds v (after_accepted v s)
+same-accepted : (v : View) (s : Segment) → SameEnds v (after_acceptable_segment v s)
 same-accepted v s =
     same-either v s.flags.syn _ _
     (same-either v (ends_by_syn v s) v (owing_ack v) (same v) (record { local = refl; peer = refl }))
-    (same-either v s.flags.ack (after_acceptable v s) v (same-acceptable v s) (same v))
+    (same-either v s.flags.ack (after_acknowledging_segment v s) v (same-acceptable v s) (same v))
 
-same-reset : (v : View) (s : Segment) → SameEnds v (if is_syn_sent v.state then after_refusal v s else after_rst v s)
+same-reset : (v : View) (s : Segment) → SameEnds v (if is_syn_sent v.state then after_rst_in_syn_sent v s else after_rst v s)
 same-reset v s =
     same-either v (is_syn_sent v.state) _ _
     (same-either v (s.flags.ack && is_new_ack v.sending s.acknowledgement) (after_reset v (reset_error v.state)) v (record { local = refl; peer = refl }) (same v))
@@ -160,7 +160,7 @@ same-segment v s =
     same-either v (is_closed v.state) v _ (same v)
     (same-either v s.flags.rst _ _ (same-reset v s)
     (same-either v (is_syn_sent v.state) (after_syn_ack v s) _ (same-syn_ack v s)
-    (same-either v (is_accepted v s) (after_accepted v s) (owing_ack v) (same-accepted v s) (record { local = refl; peer = refl }))))
+    (same-either v (is_acceptable_to v s) (after_acceptable_segment v s) (owing_ack v) (same-accepted v s) (record { local = refl; peer = refl }))))
 
 same-heard : (v : View) (s : Segment) → SameEnds v (after_heard v s)
 same-heard v s =

@@ -6,7 +6,7 @@ use Rattle.tcp_segment.specs.declared.head.Head.{Head}
 use Rattle.tcp_segment.specs.Segment.{Segment}
 use Rattle.clock.specs.declared.moment.Moment.{Moment}
 use Rattle.tcp_state.specs.declared.connection.Fate.{Fate}
-use Rattle.tcp_state.specs.declared.connection.Fate.TheVariants.{Stays, Removed, Refused}
+use Rattle.tcp_state.specs.declared.connection.Fate.TheVariants.{Stays, Removed, Rejected}
 use Rattle.host.specs.declared.refusal.Refusal.{Refusal}
 use Rattle.host.specs.declared.entry.SocketId.{SocketId}
 use Rattle.host.specs.declared.entry.Entry.{Entry}
@@ -65,7 +65,7 @@ segment_numbered h now isn s = by_entry (find (is_between (local_end h s) (peer_
     by_fate : (e : Entry) → find (is_between (local_end h s) (peer_end h s)) h.entries ≡ Some e → (r : Fate) → fate_of s e.role ≡ r → NotBefore h (after_arrival h (arrival h now isn s))
     by_fate e found Stays is = rw (found, is) (as_before h)
     by_fate e found Removed is = rw (found, is) (as_before h)
-    by_fate e found Refused is = rw (found, is) (answer_numbered h (Some (reset_at_ack s)))
+    by_fate e found Rejected is = rw (found, is) (answer_numbered h (Some (reset_at_ack s)))
 
     by_entry : (o : Option Entry) → find (is_between (local_end h s) (peer_end h s)) h.entries ≡ o → NotBefore h (after_arrival h (arrival h now isn s))
     by_entry None found = rw found (alone_numbered h isn s)

@@ -42,7 +42,7 @@ opens_pair : (role : Role) (bound : Option Endpoint) (local peer : Endpoint) (is
     → (has_socket (connecting local peer isn role) ≡ true) × (pair_in (connecting local peer isn role) ≡ Some (pair_of local peer))
 opens_pair (Idle buffers b) bound local peer isn e = (refl, refl)
 opens_pair (Listener l b) bound local peer isn e = cc
-opens_pair (Connected c l) bound local peer isn e = absurd (had_opens_none c.state c.told bound e)
+opens_pair (Connected c l) bound local peer isn e = absurd (had_opens_none c.state c.pending_error bound e)
 
 pub connect_opens : (h : HostView) (isn : ℕ) (id : SocketId) (peer : Endpoint) (pair : Pair) → pair_connected h id peer ≡ Some pair → socket_pair (after_connect h isn id peer) id ≡ Some pair
 connect_opens h isn id peer pair = by_entry (find (is_socket id) h.entries) refl

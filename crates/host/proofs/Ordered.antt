@@ -8,7 +8,7 @@ use Rattle.tcp_segment.specs.declared.head.Head.{Head}
 use Rattle.tcp_segment.specs.Segment.{Segment}
 use Rattle.clock.specs.declared.moment.Moment.{Moment}
 use Rattle.tcp_state.specs.declared.connection.Fate.{Fate}
-use Rattle.tcp_state.specs.declared.connection.Fate.TheVariants.{Stays, Removed, Refused}
+use Rattle.tcp_state.specs.declared.connection.Fate.TheVariants.{Stays, Removed, Rejected}
 use Rattle.tcp_state.specs.declared.emission.Due.{Due}
 use Rattle.tcp_state.specs.View.{is_opening, is_closed}
 use Rattle.tcp_state.specs.Arrival.{opened_passively}
@@ -69,7 +69,7 @@ received_keeps len (Connected c l) = by_test (len == 0) (λ none. rw none (keeps
 shut_keeps : (r : Role) → KeepsRole r (write_shut r)
 shut_keeps (Idle buffers bound) = keeps_role (Idle buffers bound)
 shut_keeps (Listener l b) = keeps_role (Listener l b)
-shut_keeps (Connected c l) = by_test (is_some c.told || is_opening c.state) (λ refused. rw refused (keeps_role (Connected c l))) (λ shuts. rw shuts (keeps_connection c _ l l (keeps-shutdown c)))
+shut_keeps (Connected c l) = by_test (is_some c.pending_error || is_opening c.state) (λ refused. rw refused (keeps_role (Connected c l))) (λ shuts. rw shuts (keeps_connection c _ l l (keeps-shutdown c)))
 
 ticked_keeps : (now : Moment) (r : Role) → KeepsRole r (ticked now r)
 ticked_keeps now (Idle buffers bound) = keeps_role (Idle buffers bound)
@@ -340,7 +340,7 @@ segment_ordered h now isn s o = by_entry (find (is_between (local_end h s) (peer
     by_fate : (e : Entry) → find (is_between (local_end h s) (peer_end h s)) h.entries ≡ Some e → (r : Fate) → fate_of s e.role ≡ r → IsOrdered (after_arrival h (arrival h now isn s))
     by_fate e found Stays is = rw (found, is) (settles Stays)
     by_fate e found Removed is = rw (found, is) (settles Removed)
-    by_fate e found Refused is = rw (found, is) (answer_ordered h (Some (reset_at_ack s)) o)
+    by_fate e found Rejected is = rw (found, is) (answer_ordered h (Some (reset_at_ack s)) o)
 
     by_entry : (x : Option Entry) → find (is_between (local_end h s) (peer_end h s)) h.entries ≡ x → IsOrdered (after_arrival h (arrival h now isn s))
     by_entry None found = rw found (alone_ordered h isn s found o)

@@ -8,10 +8,10 @@ use Rattle.tcp_segment.specs.Segment.{Segment}
 use Rattle.clock.specs.declared.moment.Moment.{Moment}
 use Rattle.tcp_state.specs.declared.state.State.{State}
 use Rattle.tcp_state.specs.declared.connection.Fate.{Fate}
-use Rattle.tcp_state.specs.declared.connection.Fate.TheVariants.{Stays, Removed, Refused}
+use Rattle.tcp_state.specs.declared.connection.Fate.TheVariants.{Stays, Removed, Rejected}
 use Rattle.tcp_state.specs.View.{View, is_opening, is_closed, is_over, is_at_end}
-use Rattle.tcp_state.specs.Calls.{shut, after_send, after_recv, after_shutdown}
-use Rattle.tcp_state.specs.Arrival.{is_lost, after_segment, is_refused, ends_opening}
+use Rattle.tcp_state.specs.Calls.{beyond_shutdown, after_send, after_recv, after_shutdown}
+use Rattle.tcp_state.specs.Arrival.{is_lost, after_segment, is_rejected, ends_opening}
 use Rattle.tcp_state.proofs.Edges.{and_left}
 use Rattle.tcp_state.proofs.Causes.{not_true}
 use Rattle.host.specs.declared.refusal.Refusal.{Refusal}
@@ -102,7 +102,7 @@ send_left c octets left = grind (arith, common_steps)
 recv_left : (c : View) (len : ℕ) → is_over c ≡ false → is_over (after_recv c len) ≡ false
 recv_left c len left = grind (arith, common_steps)
 
-shut_closed : (state : State) → is_closed (shut state) ≡ is_closed state
+shut_closed : (state : State) → is_closed (beyond_shutdown state) ≡ is_closed state
 shut_closed state = grind (arith, common_steps)
 
 shutdown_left : (c : View) → is_over c ≡ false → is_over (after_shutdown c) ≡ false
@@ -121,7 +121,7 @@ received_left len (Connected c l) left = by_test (len == 0) (λ none. rw none le
 shut_left : Leaves write_shut
 shut_left (Idle buffers bound) left = refl
 shut_left (Listener l b) left = refl
-shut_left (Connected c l) left = by_test (is_some c.told || is_opening c.state) (λ refused. rw refused left) (λ shuts. rw shuts (shutdown_left c left))
+shut_left (Connected c l) left = by_test (is_some c.pending_error || is_opening c.state) (λ refused. rw refused left) (λ shuts. rw shuts (shutdown_left c left))
 
 -- a change of a role that keeps its place
 tick_left : (now : Moment) (role : Role) → is_kept (tick_fate_of now role) ≡ true → is_over_in role ≡ false → is_over_in (ticked now role) ≡ false
@@ -153,7 +153,7 @@ forsaken_left id role kept left =
     (λ other. rw other left)
 
 -- what a kept fate of a segment tells of its tests
-kept_tests : (ended lost over refuses ends : Bool) → ended ≡ false → is_kept (if ended || lost then Stays else if over then Removed else if refuses then Refused else if ends then Removed else Stays) ≡ true → lost ≡ false → over ≡ false
+kept_tests : (ended lost over refuses ends : Bool) → ended ≡ false → is_kept (if ended || lost then Stays else if over then Removed else if refuses then Rejected else if ends then Removed else Stays) ≡ true → lost ≡ false → over ≡ false
 kept_tests ended lost true refuses ends live kept plain = grind (arith, common_steps)
 kept_tests ended lost false refuses ends live kept plain = refl
 
@@ -163,7 +163,7 @@ heard_left now s local peer (Listener l b) live kept = refl
 heard_left now s local peer (Connected c l) live kept =
     by_test (is_lost c s)
     (λ lost. rw lost)
-    (λ plain. let over : is_over (after_segment c s) ≡ false = kept_tests (is_closed c.state) (is_lost c s) (is_over (after_segment c s)) (is_refused c s) (ends_opening c s) (not_true _ (and_left _ _ live)) kept plain in
+    (λ plain. let over : is_over (after_segment c s) ≡ false = kept_tests (is_closed c.state) (is_lost c s) (is_over (after_segment c s)) (is_rejected c s) (ends_opening c s) (not_true _ (and_left _ _ live)) kept plain in
     rw plain over)
 
 emit_left : (now : Moment) (role : Role) → is_kept (emitted_fate (emitted_at now role)) ≡ true → is_over_in (emitted_at now role) ≡ false
@@ -224,7 +224,7 @@ segment_left h now isn s all = by_entry (find (is_between (local_end h s) (peer_
     by_fate : (e : Entry) → find (is_between (local_end h s) (peer_end h s)) h.entries ≡ Some e → (r : Fate) → fate_of s e.role ≡ r → NoneIsOver (after_arrival h (arrival h now isn s))
     by_fate e found Stays is = rw (found, is) (by_settled e Stays found is)
     by_fate e found Removed is = rw (found, is) (by_settled e Removed found is)
-    by_fate e found Refused is = rw (found, is) (answer_left h (Some (reset_at_ack s)) all)
+    by_fate e found Rejected is = rw (found, is) (answer_left h (Some (reset_at_ack s)) all)
 
     by_entry : (o : Option Entry) → find (is_between (local_end h s) (peer_end h s)) h.entries ≡ o → NoneIsOver (after_arrival h (arrival h now isn s))
     by_entry None found = rw found (alone_left h isn s all)

@@ -4,7 +4,7 @@ use Rattle.std.proofs.lemmas.Grind.{common_steps}
 use Rattle.tcp_state.specs.declared.calls.Refusal.{Refusal as ConnectionRefusal}
 use Rattle.tcp_segment.specs.Segment.{Segment}
 use Rattle.clock.specs.declared.moment.Moment.{Moment}
-use Rattle.tcp_state.specs.declared.connection.Fate.TheVariants.{Refused}
+use Rattle.tcp_state.specs.declared.connection.Fate.TheVariants.{Rejected}
 use Rattle.tcp_state.specs.View.{View}
 use Rattle.tcp_state.specs.Calls.{send_answer, after_send}
 use Rattle.tcp_state.proofs.Unchanged.{refused_leaves}
@@ -33,10 +33,10 @@ pub entry_refused : (e : Entry) (octets : List ℕ) (r : Refusal) → sent_answe
 entry_refused e octets r refused = ap (λ role. let y : Entry = record e { role = role } in y) (sent_refused e.role octets r refused)
 
 -- a segment that the connection refuses leaves the entry as it was
-pub entry_refused_segment : (e : Entry) (s : Segment) (now : Moment) → fate_of s e.role ≡ Refused → with_role (arrived now s) e ≡ e
+pub entry_refused_segment : (e : Entry) (s : Segment) (now : Moment) → fate_of s e.role ≡ Rejected → with_role (arrived now s) e ≡ e
 entry_refused_segment e s now refused = ap (λ role. let y : Entry = record e { role = role } in y) (role_refused e.role refused)
   where
-    role_refused : (role : Role) → fate_of s role ≡ Refused → arrived now s role ≡ role
+    role_refused : (role : Role) → fate_of s role ≡ Rejected → arrived now s role ≡ role
     role_refused (Idle buffers bound) refused = refl
     role_refused (Listener bound backlog) refused = refl
     role_refused (Connected c listener) refused = ap (λ (v : View). Connected v listener) (refused_leaves c s now refused)

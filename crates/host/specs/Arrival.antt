@@ -9,7 +9,7 @@ use Rattle.tcp_segment.specs.declared.fault.SegmentFault.{SegmentFault}
 use Rattle.tcp_segment.specs.declared.fault.SegmentFault.TheVariants as fault
 use Rattle.tcp_segment.specs.Segment.{Segment, IsParsed}
 use Rattle.tcp_state.specs.declared.connection.Fate.{Fate}
-use Rattle.tcp_state.specs.declared.connection.Fate.TheVariants.{Refused}
+use Rattle.tcp_state.specs.declared.connection.Fate.TheVariants.{Rejected}
 use Rattle.clock.specs.declared.moment.Moment.{Moment}
 use Rattle.tcp_state.specs.Arrival.{opened_passively}
 use Rattle.host.specs.declared.entry.Entry.{Entry}
@@ -71,7 +71,7 @@ arrival_alone h isn s = of_listener (find (is_listening_at s.destination) h.entr
 
 -- a segment for a connection: it takes it, at the later of the moment and the kept one, or refuses it, which is answered by a reset
 abbrev pub arrival_at_connection : HostView → Moment → Segment → Fate → Arrival
-arrival_at_connection h now s Refused = answered h (Some (reset_at_ack s))
+arrival_at_connection h now s Rejected = answered h (Some (reset_at_ack s))
 arrival_at_connection h now s fate = Becomes (record h { entries = settled fate (is_between (local_end h s) (peer_end h s)) (arrived (later h now) s) h.entries })
 
 -- a segment goes to the connection of its two ends, in any state but CLOSED

@@ -145,8 +145,8 @@ received_answer (Connected c listener) len = if len == 0 then Err EINVAL else of
 -- what a receive leaves in a buffer: the first octets that are readable stand at its front, where it answers octets
 abbrev pub read_front : Role → List ℕ → List ℕ
 read_front (Connected c listener) buffer =
-    if (length buffer == 0) || (is_some c.told || is_opening c.state || (length c.receiving.readable == 0)) then buffer
-    else take (connection_calls.moved c (length buffer)) c.receiving.readable ++ drop (connection_calls.moved c (length buffer)) buffer
+    if (length buffer == 0) || (is_some c.pending_error || is_opening c.state || (length c.receiving.readable == 0)) then buffer
+    else take (connection_calls.recv_count c (length buffer)) c.receiving.readable ++ drop (connection_calls.recv_count c (length buffer)) buffer
 read_front (Listener bound backlog) buffer = buffer
 read_front (Idle buffers bound) buffer = buffer
 
@@ -218,7 +218,7 @@ had_connection state None = if is_opening state then Err EALREADY else Err EISCO
 abbrev pub open_answer : Role → Result (Option Endpoint) Refusal
 open_answer (Idle buffers bound) = Ok bound
 open_answer (Listener local backlog) = Err EOPNOTSUPP
-open_answer (Connected c listener) = had_connection c.state c.told
+open_answer (Connected c listener) = had_connection c.state c.pending_error
 
 -- the port that a connect gives the socket's connection, or why it is refused: by what the socket is, by its peer, by the ports
 abbrev pub port_connected : HostView → SocketId → Endpoint → Result ℕ Refusal

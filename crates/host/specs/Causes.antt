@@ -84,11 +84,11 @@ becomes_closed before after = not (is_closed (shown_state before)) && is_closed 
 
 -- the error that an entry's connection tells its caller
 abbrev pub told_in : Role → Option Error
-told_in role = in_connection None (λ c. c.told) role
+told_in role = in_connection None (λ c. c.pending_error) role
 
 -- an event of the entry's connection makes it tell an error: a reset that acts, in a state that has it
 abbrev pub is_telling : edge.Event → Error → Role → Bool
-is_telling e error role = in_connection false (λ c. edge.may_tell c e error) role
+is_telling e error role = in_connection false (λ c. edge.may_raise c e error) role
 
 abbrev pub is_telling_to : HostView → Event → Error → Entry → Bool
 is_telling_to h (Hears now isn s) error x = is_between (local_end h s) (peer_end h s) x && is_telling (edge.Hears s (later h now)) error x.role

@@ -9,11 +9,11 @@ use Rattle.clock.specs.declared.moment.Moment.{Moment}
 use Rattle.tcp_state.specs.View.{View, is_opening, is_closed, is_syn_received, is_over, opened_actively, after_tick, tick_fate, deadline}
 use Rattle.tcp_segment.specs.Segment.{Segment}
 use Rattle.tcp_state.specs.declared.connection.Fate.{Fate}
-use Rattle.tcp_state.specs.declared.connection.Fate.TheVariants.{Stays, Removed, Refused}
+use Rattle.tcp_state.specs.declared.connection.Fate.TheVariants.{Stays, Removed, Rejected}
 use Rattle.tcp_state.specs.Arrival.{after_segment_at, fate}
 use Rattle.tcp_state.specs.Calls.{after_send, after_recv, after_shutdown, after_close, close_fate, after_abort, abort_fate}
 use Rattle.tcp_state.specs.declared.emission.Due.{Due}
-use Rattle.tcp_state.specs.Due.{first_due, emitted_len, emitted}
+use Rattle.tcp_state.specs.Due.{first_due, emitted_len, segment_octets}
 use Rattle.tcp_state.specs.Edges.{after_first}
 use Rattle.tcp_state.specs.declared.buffers.Buffers.{Buffers}
 use Rattle.host.specs.declared.entry.SocketId.{SocketId}
@@ -176,7 +176,7 @@ sent octets role = on_connection (λ c. after_send c octets) role
 
 -- our side of the connection is closed, where it is past its opening and told no error
 abbrev pub write_shut : Role → Role
-write_shut role = on_connection (λ c. if is_some c.told || is_opening c.state then c else after_shutdown c) role
+write_shut role = on_connection (λ c. if is_some c.pending_error || is_opening c.state then c else after_shutdown c) role
 
 -- octets of the connection are read into a buffer of this length, and none into an empty one
 abbrev pub received : ℕ → Role → Role
@@ -236,7 +236,7 @@ due_octets role = in_connection [] (λ c. of_due c (first_due c)) role
   where
     of_due : View → Option Due → List ℕ
     of_due c None = []
-    of_due c (Some due) = emitted c due
+    of_due c (Some due) = segment_octets c due
 
 -- its octets stand at the front of what was there
 abbrev pub framed : Role → List ℕ → List ℕ
@@ -244,7 +244,7 @@ framed role out = in_connection out (λ c. of_due c (first_due c)) role
   where
     of_due : View → Option Due → List ℕ
     of_due c None = out
-    of_due c (Some due) = emitted c due ++ drop (emitted_len c due) out
+    of_due c (Some due) = segment_octets c due ++ drop (emitted_len c due) out
 
 -- the entry with its role changed
 abbrev pub with_role : (Role → Role) → Entry → Entry
@@ -255,7 +255,7 @@ with_role change e = record e { role = change e.role }
 abbrev pub is_kept : Fate → Bool
 is_kept Removed = false
 is_kept Stays = true
-is_kept Refused = true
+is_kept Rejected = true
 
 -- the first entry that passes the test takes a step: its role changes, or it is taken out
 abbrev pub settled : Fate → (Entry → Bool) → (Role → Role) → List Entry → List Entry

@@ -43,7 +43,7 @@ impl Host {
     {
         let now = self.later(now);
         match self.entries[place].segment(now, segment) {
-            Fate::Refused => self.answer(Some(Reply::at_ack(segment))),
+            Fate::Rejected => self.answer(Some(Reply::at_ack(segment))),
             fate => {
                 table::settle(&mut self.entries, place, fate);
                 Ok(())

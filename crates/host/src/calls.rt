@@ -267,7 +267,7 @@ impl Host {
         ensures err { OnErr result (self.new ≡ self.old) }
     {
         let place = self.may_shut(id)?;
-        self.entries[place].shut();
+        self.entries[place].shutdown();
         Ok(())
     }
 

@@ -126,10 +126,10 @@ impl Entry {
     }
 
     /// Closes our side of the connection.
-    pub(crate) fn shut(&mut self)
+    pub(crate) fn shutdown(&mut self)
         ensures { self.new ≡ with_role write_shut self.old }
     {
-        self.role.shut();
+        self.role.shutdown();
     }
 
     /// The caller closes the socket. Answers what becomes of the entry.

@@ -309,7 +309,7 @@ impl Role {
     }
 
     /// Closes our side of the connection, where it is past its opening.
-    pub(crate) fn shut(&mut self)
+    pub(crate) fn shutdown(&mut self)
         ensures { self.new ≡ write_shut self.old }
     {
         if let Role::Connected { connection, .. } = self {

@@ -5,11 +5,11 @@ use Rattle.tcp_segment.specs.Segment.{Segment}
 use Rattle.tcp_state.specs.declared.state.State.{State}
 use Rattle.tcp_state.specs.declared.state.State.TheVariants.{SynSent, SynReceived, Established, FinWait1, FinWait2, Closing, LastAck}
 use Rattle.tcp_state.specs.Numbers.{is_before}
-use Rattle.tcp_state.specs.View.{View, IsSound, is_opening, is_syn_sent, is_syn_received, is_closed, is_write_closed, is_end_seen, is_fin_acknowledged, awaits_fin_ack, is_fin_next}
+use Rattle.tcp_state.specs.View.{View, IsSound, is_opening, is_syn_sent, is_syn_received, is_closed, is_write_closed, is_read_closed, is_write_finished, awaits_fin_ack, is_fin_next}
 use Rattle.tcp_state.specs.Halves.{Receiving as ReceivingHalf}
 use Rattle.tcp_state.specs.Stream.{outstanding, is_new_ack, after_acknowledged, after_octets, stands_next, after_end}
-use Rattle.tcp_state.specs.Windows.{tells_window}
-use Rattle.tcp_state.specs.Arrival.{after_segment, after_syn_ack, is_right_syn_ack, is_accepted, after_accepted, after_acceptable, after_ack, is_read_on, after_window, after_text, owing_ack, established, ends_by_syn, fin_acknowledged, after_new_ack, beyond_fin, beyond_end, is_receiving, counts_fin, after_fin}
+use Rattle.tcp_state.specs.Windows.{updates_window}
+use Rattle.tcp_state.specs.Arrival.{after_segment, after_syn_ack, is_right_syn_ack, is_acceptable_to, after_acceptable_segment, after_acknowledging_segment, after_ack, is_read_on, after_window, after_text, owing_ack, after_establishment, ends_by_syn, fin_acknowledged, after_new_ack, beyond_fin, beyond_end, is_receiving, counts_fin, after_fin}
 use Rattle.stream_law.specs.Channel.{Channel, Sending, Open, Receiving, Waiting, Synchronised, IsAmong, IsRecent}
 use Rattle.stream_law.specs.ChannelSteps.{Step, nothing_kept}
 use Rattle.stream_law.specs.ChannelViews.{frame_of, Leads, stays, goes, sender_of, receiving_of, SendsInto, ReceivesFrom, Follows, IsOfWidth, CameFrom}
@@ -29,7 +29,7 @@ nothing cap limit v w c d same_state same_sender same_receiving same_readable in
   leads_into = stays c;
   leads_from = stays d;
   sends = record { sending = into.sending ∙ ap (λ s. Open s) (sym same_sender); closed = into.closed ∙ ap is_write_closed (sym same_state) };
-  receives = record { receiving = from.receiving ∙ sym same_receiving; readable = from.readable ∙ sym same_readable; end_seen = from.end_seen ∙ ap is_end_seen (sym same_state) };
+  receives = record { receiving = from.receiving ∙ sym same_receiving; readable = from.readable ∙ sym same_readable; end_seen = from.end_seen ∙ ap is_read_closed (sym same_state) };
 }
 
 -- one of two views by a test
@@ -63,38 +63,38 @@ past_opening SynSent a b = cc
 past_opening SynReceived a b = cc
 past_opening _ a b = refl
 
-opening_unfinished : (t : State) → is_opening t ≡ true → is_fin_acknowledged t ≡ false
+opening_unfinished : (t : State) → is_opening t ≡ true → is_write_finished t ≡ false
 opening_unfinished SynSent e = refl
 opening_unfinished SynReceived e = refl
 opening_unfinished _ e = cc
 
 -- nothing is closed before the connection is opened
-opening_plain : (t : State) → is_opening t ≡ true → (is_write_closed t ≡ false) × (is_end_seen t ≡ false)
+opening_plain : (t : State) → is_opening t ≡ true → (is_write_closed t ≡ false) × (is_read_closed t ≡ false)
 opening_plain SynSent e = (refl, refl)
 opening_plain SynReceived e = (refl, refl)
 opening_plain _ e = cc
 
 -- our FIN's acknowledgement leaves both sides as closed as they were
-beyond_fin_closed : (t : State) → awaits_fin_ack t ≡ true → (is_write_closed (beyond_fin t) ≡ is_write_closed t) × (is_end_seen (beyond_fin t) ≡ is_end_seen t)
+beyond_fin_closed : (t : State) → awaits_fin_ack t ≡ true → (is_write_closed (beyond_fin t) ≡ is_write_closed t) × (is_read_closed (beyond_fin t) ≡ is_read_closed t)
 beyond_fin_closed FinWait1 e = (refl, refl)
 beyond_fin_closed Closing e = (refl, refl)
 beyond_fin_closed LastAck e = (refl, refl)
 beyond_fin_closed _ e = cc
 
-beyond_fin_acked : (t : State) → awaits_fin_ack t ≡ true → (is_fin_acknowledged (beyond_fin t) ≡ true) × (is_opening (beyond_fin t) ≡ is_opening t) × (is_syn_sent (beyond_fin t) ≡ false)
+beyond_fin_acked : (t : State) → awaits_fin_ack t ≡ true → (is_write_finished (beyond_fin t) ≡ true) × (is_opening (beyond_fin t) ≡ is_opening t) × (is_syn_sent (beyond_fin t) ≡ false)
 beyond_fin_acked FinWait1 e = (refl, refl, refl)
 beyond_fin_acked Closing e = (refl, refl, refl)
 beyond_fin_acked LastAck e = (refl, refl, refl)
 beyond_fin_acked _ e = cc
 
 -- the peer's FIN closes its side and leaves ours
-beyond_end_closed : (t : State) → is_receiving t ≡ true → (is_write_closed (beyond_end t) ≡ is_write_closed t) × (is_end_seen (beyond_end t) ≡ true) × (is_end_seen t ≡ false) × (is_syn_sent (beyond_end t) ≡ false)
+beyond_end_closed : (t : State) → is_receiving t ≡ true → (is_write_closed (beyond_end t) ≡ is_write_closed t) × (is_read_closed (beyond_end t) ≡ true) × (is_read_closed t ≡ false) × (is_syn_sent (beyond_end t) ≡ false)
 beyond_end_closed Established e = (refl, refl, refl, refl)
 beyond_end_closed FinWait1 e = (refl, refl, refl, refl)
 beyond_end_closed FinWait2 e = (refl, refl, refl, refl)
 beyond_end_closed _ e = cc
 
-beyond_end_acked : (t : State) → is_receiving t ≡ true → (is_fin_acknowledged (beyond_end t) ≡ is_fin_acknowledged t) × (is_opening (beyond_end t) ≡ is_opening t)
+beyond_end_acked : (t : State) → is_receiving t ≡ true → (is_write_finished (beyond_end t) ≡ is_write_finished t) × (is_opening (beyond_end t) ≡ is_opening t)
 beyond_end_acked Established e = (refl, refl)
 beyond_end_acked FinWait1 e = (refl, refl)
 beyond_end_acked FinWait2 e = (refl, refl)
@@ -117,8 +117,8 @@ fin_flight v sound opened fin =
 
 pub opened_held : (v : View) → IsSound v → is_opening v.state ≡ false → length v.sending.held ≤ 65535
 opened_held v sound opened =
-    let some : length v.sending.held ≤ (if is_fin_acknowledged v.state then 0 else 65535) = subst (λ b. length v.sending.held ≤ (if b || is_fin_acknowledged v.state then 0 else 65535)) opened sound.held in
-    at_most (is_fin_acknowledged v.state) (length v.sending.held) some
+    let some : length v.sending.held ≤ (if is_write_finished v.state then 0 else 65535) = subst (λ b. length v.sending.held ≤ (if b || is_write_finished v.state then 0 else 65535)) opened sound.held in
+    at_most (is_write_finished v.state) (length v.sending.held) some
   where
     at_most : (b : Bool) (n : ℕ) → n ≤ (if b then 0 else 65535) → n ≤ 65535
     at_most true n e = omega (arith, e)
@@ -156,7 +156,7 @@ record Acknowledged (cap limit : ℕ) (v w : View) (c : Channel) : Type 0 where
   pub sends : SendsInto w (record c { sending = into })
   pub receiving : w.receiving ≡ v.receiving
   pub synchronised : is_syn_sent w.state ≡ false
-  pub end_seen : is_end_seen w.state ≡ is_end_seen v.state
+  pub end_seen : is_read_closed w.state ≡ is_read_closed v.state
 
 unacknowledged : (cap limit : ℕ) (v w : View) (c : Channel) → w.state ≡ v.state → sender_of w ≡ sender_of v → w.receiving ≡ v.receiving → is_syn_sent w.state ≡ false → SendsInto v c → Acknowledged cap limit v w c
 unacknowledged cap limit v w c same_state same_sender same_receiving synchronised into = record {
@@ -165,7 +165,7 @@ unacknowledged cap limit v w c same_state same_sender same_receiving synchronise
   sends = record { sending = into.sending ∙ ap (λ s. Open s) (sym same_sender); closed = into.closed ∙ ap is_write_closed (sym same_state) };
   receiving = same_receiving;
   synchronised = synchronised;
-  end_seen = ap is_end_seen same_state;
+  end_seen = ap is_read_closed same_state;
 }
 
 arrives-ack : (cap limit : ℕ) (v : View) (s : Segment) (c d : Channel) → IsSound v → IsOfWidth s → is_syn_sent v.state ≡ false → s.flags.ack ≡ true → SendsInto v c → CameFrom limit s c d
@@ -175,7 +175,7 @@ arrives-ack cap limit v s c d sound fits past_syn ack into came =
     let same = unacknowledged cap limit v v c refl refl refl past_syn into in
     let owes = unacknowledged cap limit v (owing_ack v) c refl refl refl past_syn into in
     either P (is_syn_received v.state) _ _
-    (λ received. either P (is_new_ack v.sending s.acknowledgement) (established v) v
+    (λ received. either P (is_new_ack v.sending s.acknowledgement) (after_establishment v) v
     (λ new. let opening = syn_received_opens v.state received in record {
       into = Open (record (sender_of v) { una = v.sending.nxt; syn_acked = true; fin_acked = false });
       leads = one_step cap limit c (record c { sending = Open (record (sender_of v) { una = v.sending.nxt; syn_acked = true; fin_acked = false }) })
@@ -280,7 +280,7 @@ arrives-fin cap limit v s d sent_at rnext fits past_syn from among recent =
       leads = one_step cap limit d (record d { end_seen = true; receiving = Synchronised (record { rnext = (v.receiving.rnext + 1) % 2 ^ 32; kept = nothing_kept }) })
           (hears-fin cap limit v d s sent_at past_syn fin next fits.number rnext (from.end_seen ∙ closes.2) from among recent);
       receives = record { receiving = sym (receiving_past w closes.3); readable = from.readable; end_seen = sym closes.1 };
-      sender = ap (λ b. record (sender_of v) { syn_acked = not b; fin_acked = is_fin_acknowledged (beyond_end v.state) }) acked.1 ∙ ap (λ b. record (sender_of v) { fin_acked = b }) acked.0;
+      sender = ap (λ b. record (sender_of v) { syn_acked = not b; fin_acked = is_write_finished (beyond_end v.state) }) acked.1 ∙ ap (λ b. record (sender_of v) { fin_acked = b }) acked.0;
       closed = closes.0;
       synchronised = closes.3;
     })
@@ -314,7 +314,7 @@ arrives-stream cap limit v s c d rnext fits past_syn from came =
 
 -- the window that is told is no part of a channel
 window_told : (v : View) (s : Segment) → sender_of v ≡ sender_of (after_window v s)
-window_told v s = told (tells_window v.sending s.number s.acknowledgement)
+window_told v s = told (updates_window v.sending s.number s.acknowledgement)
   where
     told : (tells : Bool) → sender_of v ≡ sender_of (record v { sending = if tells then record v.sending { window = s.window; wl1 = s.number; wl2 = s.acknowledgement } else v.sending })
     told true = refl
@@ -322,7 +322,7 @@ window_told v s = told (tells_window v.sending s.number s.acknowledgement)
 
 -- an acceptable segment with ACK and without SYN
 arrives-acceptable : (cap limit : ℕ) (v : View) (s : Segment) (c d : Channel) → IsSound v → IsOfWidth s → is_syn_sent v.state ≡ false → s.flags.ack ≡ true → SendsInto v c → ReceivesFrom v d
-    → CameFrom limit s c d → Follows cap limit (after_acceptable v s) c d
+    → CameFrom limit s c d → Follows cap limit (after_acknowledging_segment v s) c d
 arrives-acceptable cap limit v s c d sound fits past_syn ack into from came =
     let a = arrives-ack cap limit v s c d sound fits past_syn ack into came in
     let acked = after_ack v s.acknowledgement in
@@ -366,10 +366,10 @@ arrives cap limit v s c d sound fits unreset into from came =
     (λ rst. let bad : true ≡ false = sym rst ∙ unreset in absurd (true_is_not_false bad))
     (λ no_rst. either P (is_syn_sent v.state) (after_syn_ack v s) _
     (λ waiting. arrives-syn_ack cap limit v s c d sound fits waiting into from came)
-    (λ past_syn. either P (is_accepted v s) (after_accepted v s) (owing_ack v)
+    (λ past_syn. either P (is_acceptable_to v s) (after_acceptable_segment v s) (owing_ack v)
     (λ accepted. either P s.flags.syn _ _
     (λ syn. either P (ends_by_syn v s) v (owing_ack v) (λ ends. same) (λ stays. owes))
-    (λ no_syn. either P s.flags.ack (after_acceptable v s) v
+    (λ no_syn. either P s.flags.ack (after_acknowledging_segment v s) v
     (λ ack. arrives-acceptable cap limit v s c d sound fits past_syn ack into from came)
     (λ no_ack. same)))
     (λ refused. owes))))

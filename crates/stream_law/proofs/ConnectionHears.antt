@@ -8,10 +8,10 @@ use Rattle.std.proofs.lemmas.Bool.Decides.{leb_tells}
 use Rattle.tcp_segment.specs.Wire.{past}
 use Rattle.tcp_segment.specs.Segment.{Segment}
 use Rattle.tcp_state.specs.Numbers.{is_before}
-use Rattle.tcp_state.specs.View.{View, is_opening, is_syn_sent, is_fin_acknowledged}
+use Rattle.tcp_state.specs.View.{View, is_opening, is_syn_sent, is_write_finished}
 use Rattle.tcp_state.specs.Halves.{Sending as SendingHalf, Receiving as ReceivingHalf}
-use Rattle.tcp_state.specs.Stream.{outstanding, is_new_ack, after_acknowledged, gained, after_octets, receive_window, stands_next}
-use Rattle.tcp_state.specs.Calls.{moved}
+use Rattle.tcp_state.specs.Stream.{outstanding, is_new_ack, after_acknowledged, octets_gained, after_octets, receive_window, stands_next}
+use Rattle.tcp_state.specs.Calls.{recv_count}
 use Rattle.stream_law.specs.Channel.{Receiver, Open, Waiting, Synchronised, Channel, IsAmong, number_of, IsKnown, IsRecent}
 use Rattle.stream_law.specs.ChannelSteps.{Step, synchronises, delivers, acknowledges, octets_up_to, reads, nothing_kept}
 use Rattle.stream_law.specs.ChannelViews.{sender_of, SendsInto, ReceivesFrom, frame_of, ack_of}
@@ -35,7 +35,7 @@ slice_get-take_drop n k xs i o e = slice_get-drop k xs i o (slice_get-take n (dr
 
 -- what a segment adds is known at its distances
 gained_known : (y : ReceivingHalf) (s : Segment) (written_at : ℕ) → length s.octets < 2 ^ 31 → s.number < 2 ^ 32 → y.rnext < 2 ^ 32
-    → (i o : ℕ) → slice_get (gained y s.number s.octets) i ≡ Some o → IsKnown (record { rnext = y.rnext; kept = nothing_kept }) (frame_of s written_at) i o
+    → (i o : ℕ) → slice_get (octets_gained y s.number s.octets) i ≡ Some o → IsKnown (record { rnext = y.rnext; kept = nothing_kept }) (frame_of s written_at) i o
 gained_known y s written_at short number rnext i o e = of (is_before y.rnext s.number) e
   where
     of : (ahead : Bool) → slice_get (if ahead then [] else take (receive_window y) (drop (past y.rnext s.number) s.octets)) i ≡ Some o
@@ -55,7 +55,7 @@ pub hears-octets : (cap limit : ℕ) (v : View) (d : Channel) (s : Segment) (wri
     })
 hears-octets cap limit v d s written_at synchronised short number rnext shows among recent =
     let y : Receiver = record { rnext = v.receiving.rnext; kept = nothing_kept } in
-    let new = gained v.receiving s.number s.octets in
+    let new = octets_gained v.receiving s.number s.octets in
     let is : d.receiving ≡ Synchronised y = shows.receiving ∙ ap (λ b. if b then Waiting else Synchronised y) synchronised in
     let same_readable : d.readable ++ new ≡ v.receiving.readable ++ new = ap (λ l. l ++ new) shows.readable in
     let same_end : (d.end_seen || false) ≡ d.end_seen = or-false d.end_seen in
@@ -164,7 +164,7 @@ hears-fin_ack cap limit v c s written_at opened empty flight new shows among rec
     (subst (λ b. Step cap limit c (record c { sending = Open (record w { held = drop (octets_up_to w ack) w.held; una = ack; syn_acked = true; fin_acked = b }) })) fin step))
 
 -- our SYN is acknowledged, the one number that is outstanding
-pub hears-syn_ack : (cap limit : ℕ) (v : View) (c : Channel) (s : Segment) (written_at : ℕ) → is_opening v.state ≡ true → is_fin_acknowledged v.state ≡ false → outstanding v.sending ≤ 1
+pub hears-syn_ack : (cap limit : ℕ) (v : View) (c : Channel) (s : Segment) (written_at : ℕ) → is_opening v.state ≡ true → is_write_finished v.state ≡ false → outstanding v.sending ≤ 1
     → v.sending.una < 2 ^ 32 → v.sending.nxt < 2 ^ 32 → s.acknowledgement < 2 ^ 32
     → is_new_ack v.sending s.acknowledgement ≡ true → SendsInto v c → IsAmong (ack_of s written_at) c.acks → IsRecent limit c.written written_at
     → Step cap limit c (record c { sending = Open (record (sender_of v) { una = v.sending.nxt; syn_acked = true; fin_acked = false }) })
@@ -190,6 +190,6 @@ hears-syn cap limit v d s written_at waiting syn shows among =
 
 -- the caller reads the first octets of what is readable
 pub hands-over : (cap limit : ℕ) (v : View) (d : Channel) (len : ℕ) → d.readable ≡ v.receiving.readable
-    → Step cap limit d (record d { read = d.read ++ take (moved v len) v.receiving.readable; readable = drop (moved v len) v.receiving.readable })
+    → Step cap limit d (record d { read = d.read ++ take (recv_count v len) v.receiving.readable; readable = drop (recv_count v len) v.receiving.readable })
 hands-over cap limit v d len shows =
-    reads d (take (moved v len) v.receiving.readable) (drop (moved v len) v.receiving.readable) (shows ∙ sym (take-append-drop (moved v len) v.receiving.readable))
+    reads d (take (recv_count v len) v.receiving.readable) (drop (recv_count v len) v.receiving.readable) (shows ∙ sym (take-append-drop (recv_count v len) v.receiving.readable))

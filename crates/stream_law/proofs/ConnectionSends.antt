@@ -2,13 +2,13 @@
 use Rattle.std.proofs.Common.{◌≡◌, ℕ, ◌+◌, ◌<◌, ◌≤◌, ◌^◌, ◌%◌, ◌||◌, min, if◌then◌else◌, not, Bool, true, false, List, [], ◌∷◌, ◌++◌, length, take, drop, is_some, arith, refl, sym, ◌∙◌, ap, subst, length-append}
 use Rattle.std.proofs.lemmas.List.{length-take, take-append-drop}
 use Rattle.tcp_segment.specs.Wire.{past}
-use Rattle.tcp_segment.specs.Sent.{sent}
+use Rattle.tcp_segment.specs.Sent.{sent_segment}
 use Rattle.clock.specs.declared.moment.Moment.{Moment}
 use Rattle.tcp_state.specs.declared.emission.Due.TheVariants.{Syn, Text, Fin}
-use Rattle.tcp_state.specs.View.{View, is_opening, is_syn_sent, is_syn_received, is_fin_acknowledged, is_write_closed}
+use Rattle.tcp_state.specs.View.{View, is_opening, is_syn_sent, is_syn_received, is_write_finished, is_write_closed}
 use Rattle.tcp_state.specs.Numbers.{later_number}
 use Rattle.tcp_state.specs.Stream.{outstanding}
-use Rattle.tcp_state.specs.Calls.{taken, after_send}
+use Rattle.tcp_state.specs.Calls.{send_count, after_send}
 use Rattle.tcp_state.specs.Due.{head_of, octets_of, after_emitted, after_ack_paid, after_numbers}
 use Rattle.stream_law.specs.Channel.{Open, Waiting, Synchronised, Channel}
 use Rattle.stream_law.specs.ChannelSteps.{Step, writes, emits_syn, emits_text, emits_ack, span, nothing_kept}
@@ -16,24 +16,24 @@ use Rattle.stream_law.specs.ChannelViews.{sender_of, SendsInto, ReceivesFrom, fr
 use Rattle.stream_law.proofs.KeepingText.{chosen}
 
 -- octets that the caller gives are written
-pub sends : (cap limit : ℕ) (v : View) (c : Channel) (octets : List ℕ) → 65535 ≤ cap → is_some v.told ≡ false → is_opening v.state ≡ false → is_write_closed v.state ≡ false → length v.sending.held ≤ 65535 → SendsInto v c
-    → Step cap limit c (record c { written = c.written ++ take (taken v octets) octets; sending = Open (sender_of (after_send v octets)) })
+pub sends : (cap limit : ℕ) (v : View) (c : Channel) (octets : List ℕ) → 65535 ≤ cap → is_some v.pending_error ≡ false → is_opening v.state ≡ false → is_write_closed v.state ≡ false → length v.sending.held ≤ 65535 → SendsInto v c
+    → Step cap limit c (record c { written = c.written ++ take (send_count v octets) octets; sending = Open (sender_of (after_send v octets)) })
 sends cap limit v c octets room untold opened unclosed held shows =
-    let more = take (taken v octets) octets in
+    let more = take (send_count v octets) octets in
     let s = sender_of v in
-    let len : length more ≡ min (taken v octets) (length octets) = length-take (taken v octets) octets in
+    let len : length more ≡ min (send_count v octets) (length octets) = length-take (send_count v octets) octets in
     let fits : length (s.held ++ more) ≤ cap = omega (arith, length-append s.held more, len, room, held) in
-    subst (λ w. Step cap limit c (record c { written = c.written ++ more; sending = Open w })) (same (is_some v.told || is_opening v.state || is_write_closed v.state) (neither (is_some v.told || is_opening v.state) (is_write_closed v.state) (neither (is_some v.told) (is_opening v.state) untold opened) unclosed))
+    subst (λ w. Step cap limit c (record c { written = c.written ++ more; sending = Open w })) (same (is_some v.pending_error || is_opening v.state || is_write_closed v.state) (neither (is_some v.pending_error || is_opening v.state) (is_write_closed v.state) (neither (is_some v.pending_error) (is_opening v.state) untold opened) unclosed))
     (writes c s more shows.sending (shows.closed ∙ unclosed) fits)
   where
     with_more : View
-    with_more = record v { sending = record v.sending { held = v.sending.held ++ take (taken v octets) octets } }
+    with_more = record v { sending = record v.sending { held = v.sending.held ++ take (send_count v octets) octets } }
 
     neither : (a b : Bool) → a ≡ false → b ≡ false → (a || b) ≡ false
     neither true b e f = e
     neither false b e f = f
 
-    same : (opening : Bool) → opening ≡ false → record (sender_of v) { held = v.sending.held ++ take (taken v octets) octets } ≡ sender_of (if opening then v else with_more)
+    same : (opening : Bool) → opening ≡ false → record (sender_of v) { held = v.sending.held ++ take (send_count v octets) octets } ≡ sender_of (if opening then v else with_more)
     same true e = let bad : true ≡ false = e in cc
     same false e = refl
 
@@ -41,7 +41,7 @@ sends cap limit v c octets room untold opened unclosed held shows =
 pub emits-syn : (cap limit : ℕ) (v : View) (c : Channel) (now : Moment) → is_opening v.state ≡ true → v.sending.una < 2 ^ 32 → outstanding v.sending ≤ 1 → SendsInto v c
     → Step cap limit c (record c {
       sending = Open (sender_of (after_emitted v Syn now));
-      frames = frame_of (sent (head_of v Syn) (octets_of v Syn)) (length c.written) ∷ c.frames;
+      frames = frame_of (sent_segment (head_of v Syn) (octets_of v Syn)) (length c.written) ∷ c.frames;
     })
 emits-syn cap limit v c now opening una whole shows =
     let s = sender_of v in
@@ -49,10 +49,10 @@ emits-syn cap limit v c now opening una whole shows =
     let end = (s.una + 1) % 2 ^ 32 in
     let next : end ≡ later_number s.una s.nxt end =
     sym (chosen (past s.nxt s.una) (past end s.una) s.nxt end end (λ le. refl) (λ lt. let reach : past end s.una ≡ 1 = omega (arith, una) in absurd (omega (arith, lt, reach, whole)))) in
-    subst (λ w. Step cap limit c (record c { sending = Open w; frames = frame_of (sent (head_of v Syn) (octets_of v Syn)) (length c.written) ∷ c.frames })) (same (is_syn_received v.state))
+    subst (λ w. Step cap limit c (record c { sending = Open w; frames = frame_of (sent_segment (head_of v Syn) (octets_of v Syn)) (length c.written) ∷ c.frames })) (same (is_syn_received v.state))
     (subst (λ n. Step cap limit c (record c {
       sending = Open (record s { nxt = n });
-      frames = frame_of (sent (head_of v Syn) (octets_of v Syn)) (length c.written) ∷ c.frames;
+      frames = frame_of (sent_segment (head_of v Syn) (octets_of v Syn)) (length c.written) ∷ c.frames;
     })) next (emits_syn c s shows.sending unacked))
   where
     same : (reply : Bool) → record (sender_of v) { nxt = later_number v.sending.una v.sending.nxt ((v.sending.una + 1) % 2 ^ 32) }
@@ -61,10 +61,10 @@ emits-syn cap limit v c now opening una whole shows =
     same false = refl
 
 -- octets that are held go out
-pub emits-text : (cap limit : ℕ) (v : View) (c : Channel) (now : Moment) (count : ℕ) → is_opening v.state ≡ false → is_fin_acknowledged v.state ≡ false → v.sending.una < 2 ^ 32 → count ≤ length v.sending.held → SendsInto v c
+pub emits-text : (cap limit : ℕ) (v : View) (c : Channel) (now : Moment) (count : ℕ) → is_opening v.state ≡ false → is_write_finished v.state ≡ false → v.sending.una < 2 ^ 32 → count ≤ length v.sending.held → SendsInto v c
     → Step cap limit c (record c {
       sending = Open (sender_of (after_emitted v (Text count) now));
-      frames = frame_of (sent (head_of v (Text count)) (octets_of v (Text count))) (length c.written) ∷ c.frames;
+      frames = frame_of (sent_segment (head_of v (Text count)) (octets_of v (Text count))) (length c.written) ∷ c.frames;
     })
 emits-text cap limit v c now count opened unfinished una held shows =
     let s = sender_of v in
@@ -78,7 +78,7 @@ emits-text cap limit v c now count opened unfinished una held shows =
     let step = emits_text c s none octets (drop count s.held) false shows.sending acked unfinished cut (λ e. let bad : false ≡ true = e in cc) in
     subst (λ n. Step cap limit c (record c {
       sending = Open (record s { nxt = later_number s.una s.nxt ((s.una + n) % 2 ^ 32) });
-      frames = frame_of (sent (head_of v (Text count)) (octets_of v (Text count))) (length c.written) ∷ c.frames;
+      frames = frame_of (sent_segment (head_of v (Text count)) (octets_of v (Text count))) (length c.written) ∷ c.frames;
     })) reach
     (subst (λ n. Step cap limit c (record c {
       sending = Open (record s { nxt = later_number s.una s.nxt ((s.una + (length none + span octets false)) % 2 ^ 32) });
@@ -86,11 +86,11 @@ emits-text cap limit v c now count opened unfinished una held shows =
     })) first step)
 
 -- the FIN goes out behind all octets, first or again
-pub emits-fin : (cap limit : ℕ) (v : View) (c : Channel) (now : Moment) → is_opening v.state ≡ false → is_fin_acknowledged v.state ≡ false → is_write_closed v.state ≡ true → v.sending.held ≡ []
+pub emits-fin : (cap limit : ℕ) (v : View) (c : Channel) (now : Moment) → is_opening v.state ≡ false → is_write_finished v.state ≡ false → is_write_closed v.state ≡ true → v.sending.held ≡ []
     → v.sending.una < 2 ^ 32 → SendsInto v c
     → Step cap limit c (record c {
       sending = Open (sender_of (after_emitted v Fin now));
-      frames = frame_of (sent (head_of v Fin) (octets_of v Fin)) (length c.written) ∷ c.frames;
+      frames = frame_of (sent_segment (head_of v Fin) (octets_of v Fin)) (length c.written) ∷ c.frames;
     })
 emits-fin cap limit v c now opened unfinished closed empty una shows =
     let s = sender_of v in

@@ -6,7 +6,7 @@ use Rattle.tcp_state.specs.declared.state.State.TheVariants.{Established, FinWai
 use Rattle.tcp_state.specs.Numbers.{is_before}
 use Rattle.tcp_state.specs.View.{View, IsSound, is_closed, is_listening, is_syn_sent, is_syn_received, is_fin_next}
 use Rattle.tcp_state.specs.Stream.{is_new_ack}
-use Rattle.tcp_state.specs.Arrival.{after_segment, fate, after_syn_ack, is_right_syn_ack, is_accepted, after_accepted, after_acceptable, after_ack, is_read_on, after_window, after_text, after_fin, counts_fin, is_receiving, owing_ack, established, ends_by_syn, fin_acknowledged, after_new_ack, beyond_fin, beyond_end}
+use Rattle.tcp_state.specs.Arrival.{after_segment, fate, after_syn_ack, is_right_syn_ack, is_acceptable_to, after_acceptable_segment, after_acknowledging_segment, after_ack, is_read_on, after_window, after_text, after_fin, counts_fin, is_receiving, owing_ack, after_establishment, ends_by_syn, fin_acknowledged, after_new_ack, beyond_fin, beyond_end}
 use Rattle.stream_law.specs.Channel.{Channel, IsAmong}
 use Rattle.stream_law.specs.ChannelViews.{CameFrom}
 use Rattle.stream_law.specs.Pairing.{Present, Emission, Pairing, IsTimely, remains}
@@ -24,10 +24,10 @@ unlistening v s l unreset =
     (λ rst. let bad : true ≡ false = sym rst ∙ unreset in cc)
     (λ no_rst. either P (is_syn_sent v.state) (after_syn_ack v s) _
     (λ waiting. either P (is_right_syn_ack v s) _ v (λ right. refl) (λ wrong. l))
-    (λ past_syn. either P (is_accepted v s) (after_accepted v s) (owing_ack v)
+    (λ past_syn. either P (is_acceptable_to v s) (after_acceptable_segment v s) (owing_ack v)
     (λ accepted. either P s.flags.syn _ _
     (λ syn. either P (ends_by_syn v s) v (owing_ack v) (λ ends. l) (λ stays. l))
-    (λ no_syn. either P s.flags.ack (after_acceptable v s) v (λ ack. acceptable) (λ no_ack. l)))
+    (λ no_syn. either P s.flags.ack (after_acknowledging_segment v s) v (λ ack. acceptable) (λ no_ack. l)))
     (λ refused. l))))
   where
     beyond : (t : State) → is_listening t ≡ false → is_listening (beyond_fin t) ≡ false
@@ -46,7 +46,7 @@ unlistening v s l unreset =
     acked =
         let P : View → Type 0 = λ w. is_listening w.state ≡ false in
         either P (is_syn_received v.state) _ _
-        (λ received. either P (is_new_ack v.sending s.acknowledgement) (established v) v (λ new. refl) (λ old. l))
+        (λ received. either P (is_new_ack v.sending s.acknowledgement) (after_establishment v) v (λ new. refl) (λ old. l))
         (λ unreceived. either P (is_new_ack v.sending s.acknowledgement) _ _
         (λ new. either P (is_fin_next v) (fin_acknowledged (after_new_ack v s.acknowledgement)) (after_new_ack v s.acknowledgement) (λ fin. beyond v.state l) (λ octets. l))
         (λ old. either P (is_before v.sending.nxt s.acknowledgement) (owing_ack v) v (λ beyond. l) (λ within. l)))
@@ -57,7 +57,7 @@ unlistening v s l unreset =
         let texted : P (after_text w s) = either P ((length s.octets == 0) || not (is_receiving w.state)) w _ (λ none. e) (λ some. e) in
         either P (counts_fin (after_text w s) s) _ (after_text w s) (λ counts. past_end (after_text w s).state texted) (λ none. texted)
 
-    acceptable : is_listening (after_acceptable v s).state ≡ false
+    acceptable : is_listening (after_acknowledging_segment v s).state ≡ false
     acceptable =
         let P : View → Type 0 = λ w. is_listening w.state ≡ false in
         either P (is_read_on v s.acknowledgement) _ (after_ack v s.acknowledgement) (λ on. with_end (after_window (after_ack v s.acknowledgement) s) acked) (λ off. acked)

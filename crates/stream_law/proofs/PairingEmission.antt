@@ -2,13 +2,13 @@
 use Rattle.std.proofs.Common.{◌≡◌, ℕ, ◌<◌, ◌≤◌, ◌||◌, ◌==◌, min, if◌then◌else◌, Bool, true, false, List, [], ◌∷◌, length, arith, refl, sym, ◌∙◌, ap, subst}
 use Rattle.std.proofs.lemmas.Bool.{eqb-true}
 use Rattle.tcp_segment.specs.Segment.{Segment}
-use Rattle.tcp_segment.specs.Sent.{sent}
+use Rattle.tcp_segment.specs.Sent.{sent_segment}
 use Rattle.tcp_state.specs.declared.emission.Due.{Due}
 use Rattle.tcp_state.specs.declared.emission.Due.TheVariants.{Rst, Syn, Text, Fin, Ack as AckAlone}
 use Rattle.clock.specs.declared.moment.Moment.{Moment}
 use Rattle.tcp_state.specs.declared.state.State.{State}
 use Rattle.tcp_state.specs.declared.state.State.TheVariants.{Closed, SynSent, SynReceived, FinWait1, Closing, LastAck}
-use Rattle.tcp_state.specs.View.{View, IsSound, is_opening, is_syn_sent, is_syn_received, is_closed, is_listening, is_write_closed, is_end_seen, is_fin_acknowledged, awaits_fin_ack, is_fin_next}
+use Rattle.tcp_state.specs.View.{View, IsSound, is_opening, is_syn_sent, is_syn_received, is_closed, is_listening, is_write_closed, is_read_closed, is_write_finished, awaits_fin_ack, is_fin_next}
 use Rattle.tcp_state.specs.Stream.{outstanding}
 use Rattle.tcp_state.specs.Due.{MayGoOut, flags_of, head_of, octets_of, after_emitted, after_ack_paid, after_numbers}
 use Rattle.stream_law.specs.Channel.{Channel, Ack, Open, IsAmong, here, there}
@@ -92,7 +92,7 @@ assembled cap limit p v w s width unreset unclosed is h went =
         read = h.own.read;
         ended = h.own.ended;
         connection = living w into' from' (ap is_listening went.state ∙ k.unlistening) (record { sending = refl; closed = shows.closed ∙ ap is_write_closed (sym went.state) })
-            (record { receiving = hears.receiving ∙ sym went.receiving; readable = hears.readable ∙ sym went.readable; end_seen = hears.end_seen ∙ ap is_end_seen (sym went.state) });
+            (record { receiving = hears.receiving ∙ sym went.receiving; readable = hears.readable ∙ sym went.readable; end_seen = hears.end_seen ∙ ap is_read_closed (sym went.state) });
       };
       other = record {
         written = h.other.written;
@@ -114,7 +114,7 @@ assembled cap limit p v w s width unreset unclosed is h went =
 syn_flight : (v : View) → IsSound v → is_opening v.state ≡ true → outstanding v.sending ≤ 1
 syn_flight v sound opening = subst (λ b. outstanding v.sending ≤ (if b || is_fin_next v then 1 else min (length v.sending.held) 1460)) opening sound.flight
 
-went-syn : (cap limit : ℕ) (v : View) (into : Channel) (now : Moment) → IsSound v → is_opening v.state ≡ true → SendsInto v into → Went cap limit v (after_emitted v Syn now) into (sent (head_of v Syn) (octets_of v Syn))
+went-syn : (cap limit : ℕ) (v : View) (into : Channel) (now : Moment) → IsSound v → is_opening v.state ≡ true → SendsInto v into → Went cap limit v (after_emitted v Syn now) into (sent_segment (head_of v Syn) (octets_of v Syn))
 went-syn cap limit v into now sound opening shows = record {
   step = emits-syn cap limit v into now opening sound.una (syn_flight v sound opening) shows;
   receiving = same_receiving (is_syn_received v.state);
@@ -136,16 +136,16 @@ went-syn cap limit v into now sound opening shows = record {
     same_state false = refl
 
 -- nothing is held once our FIN is acknowledged
-unfinished : (v : View) (count : ℕ) → IsSound v → is_opening v.state ≡ false → 0 < count → count ≤ length v.sending.held → is_fin_acknowledged v.state ≡ false
+unfinished : (v : View) (count : ℕ) → IsSound v → is_opening v.state ≡ false → 0 < count → count ≤ length v.sending.held → is_write_finished v.state ≡ false
 unfinished v count sound opened some held =
-    none_left (is_fin_acknowledged v.state) (length v.sending.held) count (subst (λ b. length v.sending.held ≤ (if b || is_fin_acknowledged v.state then 0 else 65535)) opened sound.held) some held
+    none_left (is_write_finished v.state) (length v.sending.held) count (subst (λ b. length v.sending.held ≤ (if b || is_write_finished v.state then 0 else 65535)) opened sound.held) some held
   where
     none_left : (b : Bool) (len count : ℕ) → len ≤ (if b then 0 else 65535) → 0 < count → count ≤ len → b ≡ false
     none_left true len count most some held = absurd (omega (arith, most, some, held))
     none_left false len count most some held = refl
 
 went-text : (cap limit : ℕ) (v : View) (into : Channel) (count : ℕ) (now : Moment) → IsSound v → MayGoOut v (Text count) → SendsInto v into
-    → Went cap limit v (after_emitted v (Text count) now) into (sent (head_of v (Text count)) (octets_of v (Text count)))
+    → Went cap limit v (after_emitted v (Text count) now) into (sent_segment (head_of v (Text count)) (octets_of v (Text count)))
 went-text cap limit v into count now sound may shows = record {
   step = emits-text cap limit v into now count may.0 (unfinished v count sound may.0 may.1 may.2) sound.una may.2 shows;
   receiving = refl;
@@ -155,7 +155,7 @@ went-text cap limit v into count now sound may shows = record {
 }
 
 went-fin : (cap limit : ℕ) (v : View) (into : Channel) (now : Moment) → IsSound v → MayGoOut v Fin → SendsInto v into
-    → Went cap limit v (after_emitted v Fin now) into (sent (head_of v Fin) (octets_of v Fin))
+    → Went cap limit v (after_emitted v Fin now) into (sent_segment (head_of v Fin) (octets_of v Fin))
 went-fin cap limit v into now sound may shows =
     let waits = and_left (awaits_fin_ack v.state) (length v.sending.held == 0) may in
     let empty = no_octets v.sending.held (eqb-true (length v.sending.held) 0 (and_right (awaits_fin_ack v.state) (length v.sending.held == 0) may)) in
@@ -168,7 +168,7 @@ went-fin cap limit v into now sound may shows =
       acknowledges = λ e. (opened_past v.state t.0, refl);
     }
   where
-    awaiting : (t : State) → awaits_fin_ack t ≡ true → (is_opening t ≡ false) × (is_fin_acknowledged t ≡ false) × (is_write_closed t ≡ true)
+    awaiting : (t : State) → awaits_fin_ack t ≡ true → (is_opening t ≡ false) × (is_write_finished t ≡ false) × (is_write_closed t ≡ true)
     awaiting FinWait1 e = (refl, refl, refl)
     awaiting Closing e = (refl, refl, refl)
     awaiting LastAck e = (refl, refl, refl)
@@ -179,9 +179,9 @@ went-fin cap limit v into now sound may shows =
     no_octets (x ∷ xs) e = cc
 
 went-ack : (cap limit : ℕ) (v : View) (into : Channel) (now : Moment) → is_syn_sent v.state ≡ false → SendsInto v into
-    → Went cap limit v (after_emitted v AckAlone now) into (sent (head_of v AckAlone) (octets_of v AckAlone))
+    → Went cap limit v (after_emitted v AckAlone now) into (sent_segment (head_of v AckAlone) (octets_of v AckAlone))
 went-ack cap limit v into now past shows = record {
-  step = subst (λ x. Step cap limit into (record into { sending = x; frames = frame_of (sent (head_of v AckAlone) []) (length into.written) ∷ into.frames })) shows.sending (emits_bare into (sender_of v) shows.sending);
+  step = subst (λ x. Step cap limit into (record into { sending = x; frames = frame_of (sent_segment (head_of v AckAlone) []) (length into.written) ∷ into.frames })) shows.sending (emits_bare into (sender_of v) shows.sending);
   receiving = refl;
   readable = refl;
   state = refl;
@@ -202,7 +202,7 @@ unclosed_goes v Syn sound may unreset = opening_unclosed v.state may
     opening_unclosed _ e = refl
 unclosed_goes v (Text count) sound may unreset = unfinished_unclosed v.state (unfinished v count sound may.0 may.1 may.2)
   where
-    unfinished_unclosed : (t : State) → is_fin_acknowledged t ≡ false → is_closed t ≡ false
+    unfinished_unclosed : (t : State) → is_write_finished t ≡ false → is_closed t ≡ false
     unfinished_unclosed Closed e = cc
     unfinished_unclosed _ e = refl
 unclosed_goes v Fin sound may unreset = awaiting_unclosed v.state (and_left (awaits_fin_ack v.state) (length v.sending.held == 0) may)
@@ -213,16 +213,16 @@ unclosed_goes v Fin sound may unreset = awaiting_unclosed v.state (and_left (awa
 unclosed_goes v AckAlone sound may unreset = (neither (is_syn_sent v.state) (is_closed v.state) may).1
 
 pub moves-emits : (cap limit : ℕ) (p : Pairing) (v : View) (due : Due) (now : Moment) → p.own.connection ≡ Present v → IsSound v → MayGoOut v due
-    → (let f = flags_of v due in f.rst) ≡ false → IsOfWidth (sent (head_of v due) (octets_of v due)) → Shown cap limit p
+    → (let f = flags_of v due in f.rst) ≡ false → IsOfWidth (sent_segment (head_of v due) (octets_of v due)) → Shown cap limit p
     → Shown cap limit (record (with_connection p (after_emitted v due now)) {
-      sent = record { segment = sent (head_of v due) (octets_of v due); own_written = length p.own.written; other_written = length p.other.written } ∷ p.sent;
+      sent = record { segment = sent_segment (head_of v due) (octets_of v due); own_written = length p.own.written; other_written = length p.other.written } ∷ p.sent;
     })
 moves-emits cap limit p v due now is sound may unreset width h =
     let unclosed = unclosed_goes v due sound may unreset in
     let shows = (connected p.own.connection v h.into h.from is h.own.connection).sends unclosed in
-    assembled cap limit p v (after_emitted v due now) (sent (head_of v due) (octets_of v due)) width unreset unclosed is h (went due may unreset shows)
+    assembled cap limit p v (after_emitted v due now) (sent_segment (head_of v due) (octets_of v due)) width unreset unclosed is h (went due may unreset shows)
   where
-    went : (due : Due) → MayGoOut v due → (let f = flags_of v due in f.rst) ≡ false → SendsInto v h.into → Went cap limit v (after_emitted v due now) h.into (sent (head_of v due) (octets_of v due))
+    went : (due : Due) → MayGoOut v due → (let f = flags_of v due in f.rst) ≡ false → SendsInto v h.into → Went cap limit v (after_emitted v due now) h.into (sent_segment (head_of v due) (octets_of v due))
     went Rst may reset shows = let bad : true ≡ false = reset in cc
     went Syn may reset shows = went-syn cap limit v h.into now sound may shows
     went (Text count) may reset shows = went-text cap limit v h.into count now sound may shows

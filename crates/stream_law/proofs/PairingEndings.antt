@@ -4,9 +4,9 @@ use Rattle.tcp_segment.specs.Segment.{Segment}
 use Rattle.tcp_state.specs.declared.state.State.{State}
 use Rattle.clock.specs.declared.moment.Moment.{Moment}
 use Rattle.tcp_state.specs.declared.state.State.TheVariants.{Closed, Listen, FinWait2, Closing, LastAck, TimeWait}
-use Rattle.tcp_state.specs.View.{View, is_syn_sent, is_closed, is_listening, is_write_closed, is_end_seen, end_of_wait, is_reached, is_at_end, stopped}
+use Rattle.tcp_state.specs.View.{View, is_syn_sent, is_closed, is_listening, is_write_closed, is_read_closed, end_of_wait, is_reached, is_at_end, after_stop}
 use Rattle.tcp_state.specs.Stream.{is_new_ack, is_in_window}
-use Rattle.tcp_state.specs.Arrival.{after_segment, after_refusal, after_rst, after_reset, reset_error, owing_ack, fate, is_acting_reset, ends_by_reset}
+use Rattle.tcp_state.specs.Arrival.{after_segment, after_rst_in_syn_sent, after_rst, after_reset, reset_error, owing_ack, fate, is_acting_reset, ends_by_reset}
 use Rattle.stream_law.specs.Channel.{Channel, Open}
 use Rattle.stream_law.specs.ChannelSteps.{closes}
 use Rattle.stream_law.specs.ChannelViews.{Leads, stays, goes, sender_of, receiving_of, is_telling, SameStream, Stops}
@@ -15,20 +15,20 @@ use Rattle.stream_law.proofs.ConnectionArrival.{either}
 use Rattle.stream_law.proofs.PairingInvariant.{Connected, ConnectionFits, Shown, runs_on, other_stays, connected, open_tells, remains-fits}
 
 same-owing : (v : View) → SameStream v (owing_ack v)
-same-owing v = record { state = refl; held = refl; una = refl; nxt = refl; readable = refl; rnext = refl; told = refl; released = λ e. e }
+same-owing v = record { state = refl; held = refl; una = refl; nxt = refl; readable = refl; rnext = refl; pending_error = refl; released = λ e. e }
 
 -- nothing of the stream changed
 pub rests-fits : (v w : View) (into from : Channel) → SameStream v w → Connected v into from → Connected w into from
 rests-fits v w into from same k =
     let tells : is_telling w ≡ true → is_telling v ≡ true =
-    λ e. still (is_closed v.state) (is_some v.told) w.released v.released same.released (sym (ap (λ t. not (is_closed t && (is_some w.told || w.released))) same.state ∙ ap (λ o. not (is_closed v.state && (is_some o || w.released))) same.told) ∙ e) in
+    λ e. still (is_closed v.state) (is_some v.pending_error) w.released v.released same.released (sym (ap (λ t. not (is_closed t && (is_some w.pending_error || w.released))) same.state ∙ ap (λ o. not (is_closed v.state && (is_some o || w.released))) same.pending_error) ∙ e) in
     let same_closed : is_closed w.state ≡ is_closed v.state = ap is_closed same.state in
     record {
       unlistening = ap is_listening same.state ∙ k.unlistening;
       sends = λ e. let s = k.sends (sym same_closed ∙ e) in record { sending = s.sending ∙ ap (λ x. Open x) same_sender; closed = s.closed ∙ ap is_write_closed (sym same.state) };
       receiving = λ e. k.receiving (sym same_closed ∙ e) ∙ same_receiving;
       readable = λ t. k.readable (tells t) ∙ sym same.readable;
-      end_seen = λ t. k.end_seen (tells t) ∙ ap is_end_seen (sym same.state);
+      end_seen = λ t. k.end_seen (tells t) ∙ ap is_read_closed (sym same.state);
     }
   where
     still : (closed error left left_before : Bool) → (left ≡ false → left_before ≡ false) → not (closed && (error || left)) ≡ true → not (closed && (error || left_before)) ≡ true
@@ -43,7 +43,7 @@ rests-fits v w into from same k =
     same_receiving : receiving_of v ≡ receiving_of w
     same_receiving = let a = same.state in let b = same.rnext in cc
 
-closed_plain : (t : State) → is_closed t ≡ true → (is_listening t ≡ false) × (is_end_seen t ≡ true)
+closed_plain : (t : State) → is_closed t ≡ true → (is_listening t ≡ false) × (is_read_closed t ≡ true)
 closed_plain Closed e = (refl, refl)
 closed_plain _ e = cc
 
@@ -69,7 +69,7 @@ stops-reset v unclosed unlistening = record {
   telling = λ t. (open_tells v unclosed, refl, silent v.state v.released unlistening t);
 }
   where
-    silent : (t : State) (left : Bool) → is_listening t ≡ false → not (is_some (reset_error t) || left) ≡ true → is_end_seen t ≡ true
+    silent : (t : State) (left : Bool) → is_listening t ≡ false → not (is_some (reset_error t) || left) ≡ true → is_read_closed t ≡ true
     silent Listen left e f = cc
     silent Closing left e f = refl
     silent LastAck left e f = refl
@@ -81,7 +81,7 @@ stops-reset v unclosed unlistening = record {
 pub stops-left : (v w : View) → is_closed w.state ≡ true → w.released ≡ true → Stops v w
 stops-left v w closed left = record {
   closed = closed;
-  telling = λ t. absurd_closed (is_telling w) t (ap (λ b. not (b && (is_some w.told || w.released))) closed ∙ ap not (ap (λ b. is_some w.told || b) left ∙ or_true (is_some w.told)));
+  telling = λ t. absurd_closed (is_telling w) t (ap (λ b. not (b && (is_some w.pending_error || w.released))) closed ∙ ap not (ap (λ b. is_some w.pending_error || b) left ∙ or_true (is_some w.pending_error)));
 }
   where
     or_true : (b : Bool) → (b || true) ≡ true
@@ -89,12 +89,12 @@ stops-left v w closed left = record {
     or_true false = refl
 
 -- a wait that is over saw the end, where a caller is left
-pub stops-at_end : (v : View) (now : Moment) → is_at_end v now ≡ true → Stops v (stopped v)
+pub stops-at_end : (v : View) (now : Moment) → is_at_end v now ≡ true → Stops v (after_stop v)
 stops-at_end v now over = record { closed = refl; telling = λ t. both v.state v.released over t }
   where
-    both : (t : State) (left : Bool) → is_reached (end_of_wait t left v.since) now ≡ true → not (is_some v.told || left) ≡ true → (not (is_closed t && (is_some v.told || left)) ≡ true) × (v.receiving.readable ≡ v.receiving.readable) × (is_end_seen t ≡ true)
+    both : (t : State) (left : Bool) → is_reached (end_of_wait t left v.since) now ≡ true → not (is_some v.pending_error || left) ≡ true → (not (is_closed t && (is_some v.pending_error || left)) ≡ true) × (v.receiving.readable ≡ v.receiving.readable) × (is_read_closed t ≡ true)
     both TimeWait left e f = (refl, refl, refl)
-    both FinWait2 true e f = absurd_closed (not (is_some v.told || true)) f (ap not (or_true (is_some v.told)))
+    both FinWait2 true e f = absurd_closed (not (is_some v.pending_error || true)) f (ap not (or_true (is_some v.pending_error)))
       where
         or_true : (b : Bool) → (b || true) ≡ true
         or_true true = refl
@@ -110,7 +110,7 @@ reset-fits v s into from rst k =
     (λ unclosed.
     let reset : P (after_reset v (reset_error v.state)) = stops-fits v (after_reset v (reset_error v.state)) into from into.closed (stops-reset v unclosed k.unlistening) k in
     either P s.flags.rst _ _
-    (λ is. either P (is_syn_sent v.state) (after_refusal v s) (after_rst v s)
+    (λ is. either P (is_syn_sent v.state) (after_rst_in_syn_sent v s) (after_rst v s)
     (λ waiting. either P (s.flags.ack && is_new_ack v.sending s.acknowledgement) (after_reset v (reset_error v.state)) v (λ acts. reset) (λ dropped. k))
     (λ past_syn. either P (is_acting_reset v s) _ _
     (λ acts. either P (ends_by_reset v s) v (after_reset v (reset_error v.state)) (λ leaves. k) (λ closes. reset))

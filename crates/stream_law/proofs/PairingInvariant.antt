@@ -1,8 +1,8 @@
 -- What two ends show of the two channels between them.
 use Rattle.std.proofs.Common.{◌≡◌, ℕ, ◌&&◌, ◌||◌, not, Bool, true, false, [], is_some, refl, ◌∙◌, ap, subst}
 use Rattle.tcp_state.specs.declared.connection.Fate.{Fate}
-use Rattle.tcp_state.specs.declared.connection.Fate.TheVariants.{Stays, Removed, Refused}
-use Rattle.tcp_state.specs.View.{View, is_closed, is_listening, is_end_seen}
+use Rattle.tcp_state.specs.declared.connection.Fate.TheVariants.{Stays, Removed, Rejected}
+use Rattle.tcp_state.specs.View.{View, is_closed, is_listening, is_read_closed}
 use Rattle.stream_law.specs.Channel.{Channel, Unopened, Waiting, IsAmong}
 use Rattle.stream_law.specs.ChannelSteps.{Runs, starts, steps, fresh}
 use Rattle.stream_law.specs.ChannelViews.{Leads, stays, goes, SendsInto, ReceivesFrom, receiving_of, is_telling, IsOfWidth, frame_of, ack_of}
@@ -23,7 +23,7 @@ pub record Connected (v : View) (into from : Channel) : Type 0 where
   pub sends : is_closed v.state ≡ false → SendsInto v into
   pub receiving : is_closed v.state ≡ false → from.receiving ≡ receiving_of v
   pub readable : is_telling v ≡ true → from.readable ≡ v.receiving.readable
-  pub end_seen : is_telling v ≡ true → from.end_seen ≡ is_end_seen v.state
+  pub end_seen : is_telling v ≡ true → from.end_seen ≡ is_read_closed v.state
 
 abbrev pub ConnectionFits : Presence → Channel → Channel → Type 0
 ConnectionFits Absent into from = Unconnected into from
@@ -121,10 +121,10 @@ unconnected o into from is k = subst (λ o. ConnectionFits o into from) is k
 
 -- a connection that is not CLOSED tells, and so does one without an error that its caller keeps
 pub open_tells : (v : View) → is_closed v.state ≡ false → is_telling v ≡ true
-open_tells v e = ap (λ b. not (b && (is_some v.told || v.released))) e
+open_tells v e = ap (λ b. not (b && (is_some v.pending_error || v.released))) e
 
-pub untold_tells : (v : View) → is_some v.told ≡ false → v.released ≡ false → is_telling v ≡ true
-untold_tells v untold kept = tells (is_closed v.state) (is_some v.told || v.released) (ap (λ b. b || v.released) untold ∙ kept)
+pub untold_tells : (v : View) → is_some v.pending_error ≡ false → v.released ≡ false → is_telling v ≡ true
+untold_tells v untold kept = tells (is_closed v.state) (is_some v.pending_error || v.released) (ap (λ b. b || v.released) untold ∙ kept)
   where
     tells : (a b : Bool) → b ≡ false → not (a && b) ≡ true
     tells true b e = ap not e
@@ -143,4 +143,4 @@ receives v into from unclosed k =
 pub remains-fits : (f : Fate) (v : View) (into from : Channel) → Connected v into from → ConnectionFits (remains f v) into from
 remains-fits Stays v into from k = k
 remains-fits Removed v into from k = tt
-remains-fits Refused v into from k = k
+remains-fits Rejected v into from k = k

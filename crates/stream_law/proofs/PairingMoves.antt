@@ -9,9 +9,9 @@ use Rattle.tcp_state.specs.declared.calls.Received.{Received}
 use Rattle.tcp_state.specs.declared.calls.Received.TheVariants.{Octets, EndOfStream}
 use Rattle.tcp_state.specs.declared.state.State.{State}
 use Rattle.tcp_state.specs.declared.state.State.TheVariants.{Closed, Listen, SynSent, SynReceived, Established, FinWait1, FinWait2, CloseWait, Closing, LastAck, TimeWait}
-use Rattle.tcp_state.specs.View.{View, IsSound, is_opening, is_syn_sent, is_closed, is_listening, is_write_closed, is_end_seen, is_fin_acknowledged, opened_actively, after_resend}
+use Rattle.tcp_state.specs.View.{View, IsSound, is_opening, is_syn_sent, is_closed, is_listening, is_write_closed, is_read_closed, is_write_finished, opened_actively, after_resend}
 use Rattle.tcp_state.specs.Stream.{after_read, receive_window}
-use Rattle.tcp_state.specs.Calls.{taken, unless_told, after_send, moved, recv_answer, after_recv, shut, after_shutdown}
+use Rattle.tcp_state.specs.Calls.{send_count, unless_pending, after_send, recv_count, recv_answer, after_recv, beyond_shutdown, after_shutdown}
 use Rattle.tcp_state.specs.Arrival.{opened_passively}
 use Rattle.stream_law.specs.Channel.{Channel, Open, Waiting, Synchronised, IsAmong}
 use Rattle.stream_law.specs.ChannelSteps.{steps, opens, reads_end, synchronises, nothing_kept}
@@ -85,7 +85,7 @@ moves-accepts cap limit p local peer isn e none fits among syn h =
     }
 
 pub same-resend : (v : View) (now : Moment) → SameStream v (after_resend v now)
-same-resend v now = record { state = refl; held = refl; una = refl; nxt = refl; readable = refl; rnext = refl; told = refl; released = λ e. e }
+same-resend v now = record { state = refl; held = refl; una = refl; nxt = refl; readable = refl; rnext = refl; pending_error = refl; released = λ e. e }
 
 -- the clock is no part of a channel
 pub moves-rests : (cap limit : ℕ) (p : Pairing) (v w : View) → p.own.connection ≡ Present v → SameStream v w → Shown cap limit p → Shown cap limit (with_connection p w)
@@ -93,13 +93,13 @@ moves-rests cap limit p v w is same h =
     resting cap limit p (Present w) h (rests-fits v w h.into h.from same (connected p.own.connection v h.into h.from is h.own.connection))
 
 -- the caller gives octets
-pub moves-takes : (cap limit : ℕ) (p : Pairing) (v : View) (octets : List ℕ) → 65535 ≤ cap → p.own.connection ≡ Present v → IsSound v → is_some v.told ≡ false → is_opening v.state ≡ false → is_write_closed v.state ≡ false → Shown cap limit p
-    → Shown cap limit (record p { own = record p.own { connection = Present (after_send v octets); written = p.own.written ++ take (taken v octets) octets } })
+pub moves-takes : (cap limit : ℕ) (p : Pairing) (v : View) (octets : List ℕ) → 65535 ≤ cap → p.own.connection ≡ Present v → IsSound v → is_some v.pending_error ≡ false → is_opening v.state ≡ false → is_write_closed v.state ≡ false → Shown cap limit p
+    → Shown cap limit (record p { own = record p.own { connection = Present (after_send v octets); written = p.own.written ++ take (send_count v octets) octets } })
 moves-takes cap limit p v octets room is sound untold opened unclosed h =
     let k = connected p.own.connection v h.into h.from is h.own.connection in
     let shows = k.sends (writes_open v.state unclosed) in
     let hears = receives v h.into h.from (writes_open v.state unclosed) k in
-    let more = take (taken v octets) octets in
+    let more = take (send_count v octets) octets in
     let into' : Channel = record h.into { written = h.into.written ++ more; sending = Open (sender_of (after_send v octets)) } in
     record {
       into = into';
@@ -112,7 +112,7 @@ moves-takes cap limit p v octets room is sound untold opened unclosed h =
         read = h.own.read;
         ended = h.own.ended;
         connection = subst (λ w. Connected w (record h.into { written = h.into.written ++ more; sending = Open (sender_of w) }) h.from)
-            (sym (all_false (is_some v.told) (is_opening v.state) (is_write_closed v.state) v with_more untold opened unclosed))
+            (sym (all_false (is_some v.pending_error) (is_opening v.state) (is_write_closed v.state) v with_more untold opened unclosed))
             (living with_more (record h.into { written = h.into.written ++ more; sending = Open (sender_of with_more) }) h.from k.unlistening (record { sending = refl; closed = shows.closed })
             (record { receiving = hears.receiving; readable = hears.readable; end_seen = hears.end_seen }));
       };
@@ -128,7 +128,7 @@ moves-takes cap limit p v octets room is sound untold opened unclosed h =
     }
   where
     with_more : View
-    with_more = record v { sending = record v.sending { held = v.sending.held ++ take (taken v octets) octets } }
+    with_more = record v { sending = record v.sending { held = v.sending.held ++ take (send_count v octets) octets } }
 
     writes_open : (t : State) → is_write_closed t ≡ false → is_closed t ≡ false
     writes_open Closed e = cc
@@ -146,12 +146,12 @@ pub moves-closes : (cap limit : ℕ) (p : Pairing) (v : View) → p.own.connecti
 moves-closes cap limit p v is sound opened h =
     let k = connected p.own.connection v h.into h.from is h.own.connection in
     let t = shut_shows v.state opened sound.connection in
-    let same_closed : is_closed (shut v.state) ≡ is_closed v.state = t.5 in
-    let tells : is_telling (after_shutdown v) ≡ is_telling v = ap (λ b. not (b && (is_some v.told || v.released))) same_closed in
+    let same_closed : is_closed (beyond_shutdown v.state) ≡ is_closed v.state = t.5 in
+    let tells : is_telling (after_shutdown v) ≡ is_telling v = ap (λ b. not (b && (is_some v.pending_error || v.released))) same_closed in
     ending cap limit p (Present (after_shutdown v)) true (λ e. refl) h (record {
       unlistening = t.6;
       sends = λ e. let s = k.sends (sym same_closed ∙ e) in record {
-        sending = s.sending ∙ ap (λ b. Open (record (sender_of v) { syn_acked = not b })) (sym t.0) ∙ ap (λ b. Open (record (sender_of v) { syn_acked = not (is_opening (shut v.state)); fin_acked = b })) (sym t.1);
+        sending = s.sending ∙ ap (λ b. Open (record (sender_of v) { syn_acked = not b })) (sym t.0) ∙ ap (λ b. Open (record (sender_of v) { syn_acked = not (is_opening (beyond_shutdown v.state)); fin_acked = b })) (sym t.1);
         closed = sym t.2;
       };
       receiving = λ e. k.receiving (sym same_closed ∙ e) ∙ ap (λ b. if b then Waiting else Synchronised (record { rnext = v.receiving.rnext; kept = nothing_kept })) (sym t.3);
@@ -160,8 +160,8 @@ moves-closes cap limit p v is sound opened h =
     })
   where
     shut_shows : (t : State) → is_opening t ≡ false → is_listening t ≡ false
-        → (is_opening (shut t) ≡ is_opening t) × (is_fin_acknowledged (shut t) ≡ is_fin_acknowledged t) × (is_write_closed (shut t) ≡ true) × (is_syn_sent (shut t) ≡ is_syn_sent t) × (is_end_seen (shut t) ≡ is_end_seen t)
-        × (is_closed (shut t) ≡ is_closed t) × (is_listening (shut t) ≡ false)
+        → (is_opening (beyond_shutdown t) ≡ is_opening t) × (is_write_finished (beyond_shutdown t) ≡ is_write_finished t) × (is_write_closed (beyond_shutdown t) ≡ true) × (is_syn_sent (beyond_shutdown t) ≡ is_syn_sent t) × (is_read_closed (beyond_shutdown t) ≡ is_read_closed t)
+        × (is_closed (beyond_shutdown t) ≡ is_closed t) × (is_listening (beyond_shutdown t) ≡ false)
     shut_shows Established e f = (refl, refl, refl, refl, refl, refl, refl)
     shut_shows CloseWait e f = (refl, refl, refl, refl, refl, refl, refl)
     shut_shows FinWait1 e f = (refl, refl, refl, refl, refl, refl, refl)
@@ -179,7 +179,7 @@ pub moves-ends : (cap limit : ℕ) (p : Pairing) (v : View) (len : ℕ) → p.ow
     → Shown cap limit (record p { own = record p.own { ended = true } })
 moves-ends cap limit p v len is kept told h =
     let k = connected p.own.connection v h.into h.from is h.own.connection in
-    let why = end_told v.told (is_opening v.state) (length v.receiving.readable == 0) (is_end_seen v.state) told in
+    let why = end_told v.pending_error (is_opening v.state) (length v.receiving.readable == 0) (is_read_closed v.state) told in
     let tells = untold_tells v why.2 kept in
     let from' : Channel = record h.from { ended = true } in
     record {
@@ -209,9 +209,9 @@ moves-ends cap limit p v len is kept told h =
     again = Err EAGAIN
 
     some : Result Received Refusal
-    some = Ok (Octets (moved v len))
+    some = Ok (Octets (recv_count v len))
 
-    end_told : (error : Option Refusal) (opening none seen : Bool) → unless_told error (if opening then again else if not none then some else if seen then Ok EndOfStream else again) ≡ Ok EndOfStream → (none ≡ true) × (seen ≡ true) × (is_some error ≡ false)
+    end_told : (error : Option Refusal) (opening none seen : Bool) → unless_pending error (if opening then again else if not none then some else if seen then Ok EndOfStream else again) ≡ Ok EndOfStream → (none ≡ true) × (seen ≡ true) × (is_some error ≡ false)
     end_told (Some error) opening none seen e = cc
     end_told None true none seen e = let bad : again ≡ Ok EndOfStream = e in cc
     end_told None false false seen e = let bad : some ≡ Ok EndOfStream = e in cc
@@ -223,12 +223,12 @@ moves-ends cap limit p v len is kept told h =
     no_octets (x ∷ xs) e = cc
 
 -- the caller reads
-pub moves-gives : (cap limit : ℕ) (p : Pairing) (v : View) (len : ℕ) → p.own.connection ≡ Present v → is_some v.told ≡ false → v.released ≡ false → is_opening v.state ≡ false → Shown cap limit p
-    → Shown cap limit (record p { own = record p.own { connection = Present (after_recv v len); read = p.own.read ++ take (moved v len) v.receiving.readable } })
+pub moves-gives : (cap limit : ℕ) (p : Pairing) (v : View) (len : ℕ) → p.own.connection ≡ Present v → is_some v.pending_error ≡ false → v.released ≡ false → is_opening v.state ≡ false → Shown cap limit p
+    → Shown cap limit (record p { own = record p.own { connection = Present (after_recv v len); read = p.own.read ++ take (recv_count v len) v.receiving.readable } })
 moves-gives cap limit p v len is untold kept opened h =
     let k = connected p.own.connection v h.into h.from is h.own.connection in
-    let some = take (moved v len) v.receiving.readable in
-    let rest = drop (moved v len) v.receiving.readable in
+    let some = take (recv_count v len) v.receiving.readable in
+    let rest = drop (recv_count v len) v.receiving.readable in
     let from' : Channel = record h.from { read = h.from.read ++ some; readable = rest } in
     record {
       into = h.into;
@@ -240,7 +240,7 @@ moves-gives cap limit p v len is untold kept opened h =
         closed = h.own.closed;
         read = ap (λ l. l ++ some) h.own.read;
         ended = h.own.ended;
-        connection = still (is_some v.told || is_opening v.state || (length v.receiving.readable == 0)) (λ e. none_left (or_right (is_some v.told || is_opening v.state) (length v.receiving.readable == 0) (neither (is_some v.told) (is_opening v.state) untold opened) e)) k;
+        connection = still (is_some v.pending_error || is_opening v.state || (length v.receiving.readable == 0)) (λ e. none_left (or_right (is_some v.pending_error || is_opening v.state) (length v.receiving.readable == 0) (neither (is_some v.pending_error) (is_opening v.state) untold opened) e)) k;
       };
       other = record {
         written = h.other.written;
@@ -254,7 +254,7 @@ moves-gives cap limit p v len is untold kept opened h =
     }
   where
     after : View
-    after = record v { receiving = after_read v.receiving (moved v len); owes_ack = v.owes_ack || ((receive_window v.receiving == 0) && not (is_closed v.state)) }
+    after = record v { receiving = after_read v.receiving (recv_count v len); owes_ack = v.owes_ack || ((receive_window v.receiving == 0) && not (is_closed v.state)) }
 
     neither : (a b : Bool) → a ≡ false → b ≡ false → (a || b) ≡ false
     neither true b e f = e
@@ -264,14 +264,14 @@ moves-gives cap limit p v len is untold kept opened h =
     or_right true b f e = let bad : true ≡ false = f in cc
     or_right false b f e = e
 
-    none_left : (length v.receiving.readable == 0) ≡ true → drop (moved v len) v.receiving.readable ≡ v.receiving.readable
+    none_left : (length v.receiving.readable == 0) ≡ true → drop (recv_count v len) v.receiving.readable ≡ v.receiving.readable
     none_left e =
         let empty : length v.receiving.readable ≡ 0 = eqb-true (length v.receiving.readable) 0 e in
-        let none : moved v len ≡ 0 = omega (arith, empty) in
+        let none : recv_count v len ≡ 0 = omega (arith, empty) in
         ap (λ n. drop n v.receiving.readable) none
 
-    still : (none : Bool) → (none ≡ true → drop (moved v len) v.receiving.readable ≡ v.receiving.readable) → Connected v h.into h.from
-        → Connected (if none then v else after) h.into (record h.from { read = h.from.read ++ take (moved v len) v.receiving.readable; readable = drop (moved v len) v.receiving.readable })
+    still : (none : Bool) → (none ≡ true → drop (recv_count v len) v.receiving.readable ≡ v.receiving.readable) → Connected v h.into h.from
+        → Connected (if none then v else after) h.into (record h.from { read = h.from.read ++ take (recv_count v len) v.receiving.readable; readable = drop (recv_count v len) v.receiving.readable })
     still true e k = record { unlistening = k.unlistening; sends = k.sends; receiving = k.receiving; readable = λ t. e refl; end_seen = k.end_seen }
     still false e k = record {
       unlistening = k.unlistening;

@@ -1,7 +1,7 @@
 -- What a connection shows of the two channels that it is an end of: it sends into one and receives from the other.
 use Rattle.std.specs.Prelude.{◌≡◌, ℕ, ◌<◌, ◌^◌, ◌&&◌, ◌||◌, Bool, true, false, not, if◌then◌else◌, List, length, is_some}
 use Rattle.tcp_segment.specs.Segment.{Segment}
-use Rattle.tcp_state.specs.View.{View, is_opening, is_syn_sent, is_closed, is_fin_acknowledged, is_write_closed, is_end_seen}
+use Rattle.tcp_state.specs.View.{View, is_opening, is_syn_sent, is_closed, is_write_finished, is_write_closed, is_read_closed}
 use Rattle.stream_law.specs.Channel.{Frame, Ack, Sender, Sending, Open, Receiving, Waiting, Synchronised, Channel, IsAmong, IsRecent}
 use Rattle.stream_law.specs.ChannelSteps.{Step, nothing_kept}
 
@@ -17,7 +17,7 @@ sender_of v = record {
   una = v.sending.una;
   nxt = v.sending.nxt;
   syn_acked = not (is_opening v.state);
-  fin_acked = is_fin_acknowledged v.state;
+  fin_acked = is_write_finished v.state;
 }
 
 -- the receiving half: it waits for the peer's SYN in SYN-SENT alone
@@ -33,7 +33,7 @@ pub record SendsInto (v : View) (c : Channel) : Type 0 where
 pub record ReceivesFrom (v : View) (c : Channel) : Type 0 where
   pub receiving : c.receiving ≡ receiving_of v
   pub readable : c.readable ≡ v.receiving.readable
-  pub end_seen : c.end_seen ≡ is_end_seen v.state
+  pub end_seen : c.end_seen ≡ is_read_closed v.state
 
 -- of the stream nothing changed: timers, windows and what is owed may have
 pub record SameStream (v w : View) : Type 0 where
@@ -43,18 +43,18 @@ pub record SameStream (v w : View) : Type 0 where
   pub nxt : w.sending.nxt ≡ v.sending.nxt
   pub readable : w.receiving.readable ≡ v.receiving.readable
   pub rnext : w.receiving.rnext ≡ v.receiving.rnext
-  pub told : w.told ≡ v.told
+  pub pending_error : w.pending_error ≡ v.pending_error
   pub released : w.released ≡ false → v.released ≡ false
 
 -- whether a caller is still given what is readable, and then the end: not where a connection that is CLOSED tells an error, or has
 -- no caller any more
 abbrev pub is_telling : View → Bool
-is_telling v = not (is_closed v.state && (is_some v.told || v.released))
+is_telling v = not (is_closed v.state && (is_some v.pending_error || v.released))
 
 -- it became CLOSED; a caller that is still told something is told what it would have been before, and the end was seen
 pub record Stops (v w : View) : Type 0 where
   pub closed : is_closed w.state ≡ true
-  pub telling : is_telling w ≡ true → (is_telling v ≡ true) × (w.receiving.readable ≡ v.receiving.readable) × (is_end_seen v.state ≡ true)
+  pub telling : is_telling w ≡ true → (is_telling v ≡ true) × (w.receiving.readable ≡ v.receiving.readable) × (is_read_closed v.state ≡ true)
 
 -- a segment as a frame of its direction, and as an acknowledgement of the other
 abbrev pub frame_of : Segment → ℕ → Frame

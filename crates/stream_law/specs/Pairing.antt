@@ -4,13 +4,13 @@ use Rattle.std.specs.Prelude.{◌≡◌, ℕ, ◌+◌, ◌<◌, ◌≤◌, ◌^�
 use Rattle.tcp_state.specs.declared.calls.Received.TheVariants.{EndOfStream}
 use Rattle.ipv4.specs.declared.addr.Endpoint.{Endpoint}
 use Rattle.tcp_segment.specs.Segment.{Segment}
-use Rattle.tcp_segment.specs.Sent.{sent}
+use Rattle.tcp_segment.specs.Sent.{sent_segment}
 use Rattle.tcp_state.specs.declared.connection.Fate.{Fate}
-use Rattle.tcp_state.specs.declared.connection.Fate.TheVariants.{Stays, Removed, Refused}
+use Rattle.tcp_state.specs.declared.connection.Fate.TheVariants.{Stays, Removed, Rejected}
 use Rattle.tcp_state.specs.declared.emission.Due.{Due}
 use Rattle.clock.specs.declared.moment.Moment.{Moment}
 use Rattle.tcp_state.specs.View.{View, IsSound, is_opening, is_write_closed, opened_actively}
-use Rattle.tcp_state.specs.Calls.{taken, after_send, moved, recv_answer, after_recv, after_shutdown}
+use Rattle.tcp_state.specs.Calls.{send_count, after_send, recv_count, recv_answer, after_recv, after_shutdown}
 use Rattle.tcp_state.specs.Arrival.{opened_passively, after_segment, fate}
 use Rattle.tcp_state.specs.Due.{MayGoOut, flags_of, head_of, octets_of, after_emitted}
 use Rattle.stream_law.specs.Channel.{IsAmong}
@@ -68,7 +68,7 @@ with_connection p v = record p { own = record p.own { connection = Present v } }
 abbrev pub remains : Fate → View → Presence
 remains Stays v = Present v
 remains Removed v = Departed
-remains Refused v = Present v
+remains Rejected v = Present v
 
 -- what may happen at one end
 pub data Move (limit : ℕ) : Pairing → Pairing → Type 0 where
@@ -78,23 +78,23 @@ pub data Move (limit : ℕ) : Pairing → Pairing → Type 0 where
   accepts : (p : Pairing) (local peer : Endpoint) (isn : ℕ) (e : Emission) → p.own.connection ≡ Absent → isn < 2 ^ 32 → IsAmong e p.received → IsTimely limit p e → e.segment.flags.syn ≡ true
       → Move limit p (with_connection p (opened_passively local peer isn e.segment))
   -- its caller gives octets
-  takes : (p : Pairing) (v : View) (octets : List ℕ) → p.own.connection ≡ Present v → IsSound v → is_some v.told ≡ false → is_opening v.state ≡ false → is_write_closed v.state ≡ false
-      → Move limit p (record p { own = record p.own { connection = Present (after_send v octets); written = p.own.written ++ take (taken v octets) octets } })
+  takes : (p : Pairing) (v : View) (octets : List ℕ) → p.own.connection ≡ Present v → IsSound v → is_some v.pending_error ≡ false → is_opening v.state ≡ false → is_write_closed v.state ≡ false
+      → Move limit p (record p { own = record p.own { connection = Present (after_send v octets); written = p.own.written ++ take (send_count v octets) octets } })
   -- its caller closes its side
   closes : (p : Pairing) (v : View) → p.own.connection ≡ Present v → IsSound v → is_opening v.state ≡ false
       → Move limit p (record p { own = record p.own { connection = Present (after_shutdown v); closed = true } })
   -- its caller reads into a buffer of some length
-  gives : (p : Pairing) (v : View) (len : ℕ) → p.own.connection ≡ Present v → IsSound v → is_some v.told ≡ false → v.released ≡ false → is_opening v.state ≡ false
-      → Move limit p (record p { own = record p.own { connection = Present (after_recv v len); read = p.own.read ++ take (moved v len) v.receiving.readable } })
+  gives : (p : Pairing) (v : View) (len : ℕ) → p.own.connection ≡ Present v → IsSound v → is_some v.pending_error ≡ false → v.released ≡ false → is_opening v.state ≡ false
+      → Move limit p (record p { own = record p.own { connection = Present (after_recv v len); read = p.own.read ++ take (recv_count v len) v.receiving.readable } })
   -- its caller is told the end
   ends : (p : Pairing) (v : View) (len : ℕ) → p.own.connection ≡ Present v → v.released ≡ false → recv_answer v len ≡ Ok EndOfStream → Move limit p (record p { own = record p.own { ended = true } })
   -- the clock moves, or something else happens that changes nothing of the stream
   rests : (p : Pairing) (v w : View) → p.own.connection ≡ Present v → SameStream v w → Move limit p (with_connection p w)
   -- a segment that may go out does, whichever and whenever; none with RST is among those
   emits : (p : Pairing) (v : View) (due : Due) (now : Moment) → p.own.connection ≡ Present v → IsSound v → MayGoOut v due
-      → (let f = flags_of v due in f.rst) ≡ false → IsOfWidth (sent (head_of v due) (octets_of v due))
+      → (let f = flags_of v due in f.rst) ≡ false → IsOfWidth (sent_segment (head_of v due) (octets_of v due))
       → Move limit p (record (with_connection p (after_emitted v due now)) {
-        sent = record { segment = sent (head_of v due) (octets_of v due); own_written = length p.own.written; other_written = length p.other.written } ∷ p.sent;
+        sent = record { segment = sent_segment (head_of v due) (octets_of v due); own_written = length p.own.written; other_written = length p.other.written } ∷ p.sent;
       })
   -- a segment that the other end ever sent arrives
   hears : (p : Pairing) (v : View) (e : Emission) → p.own.connection ≡ Present v → IsSound v → IsAmong e p.received → IsTimely limit p e

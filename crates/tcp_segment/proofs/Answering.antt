@@ -7,7 +7,7 @@ use Rattle.tcp_segment.specs.declared.fault.SegmentFault.{SegmentFault}
 use Rattle.tcp_segment.specs.declared.fault.SegmentFault.TheVariants.{UpperHeader, UpperSum}
 use Rattle.tcp_segment.specs.Options.{HeaderOption}
 use Rattle.tcp_segment.specs.Reading.{checked, options_behind, with_options, in_header, header_in, segment_in, segment_or_fault, segment_with}
-use Rattle.tcp_segment.specs.Segment.{Segment, HasForm, IsParsed, SumIsRight, summed}
+use Rattle.tcp_segment.specs.Segment.{Segment, HasForm, IsParsed, SumIsRight, summed_octets}
 use Rattle.tcp_segment.proofs.Form.{form_read, has_form, one_form}
 use Rattle.tcp_segment.proofs.OptionLists.{AreOctets}
 
@@ -48,50 +48,50 @@ nothing_else (Some segment) never = absurd (never segment refl)
 
 -- octets with a right checksum, and those with another
 summed_right : (src dst : Addr) (octets : List ℕ) → SumIsRight src dst octets → segment_in src dst octets ≡ in_header octets (header_in octets)
-summed_right src dst octets right = ap (λ b. cond b (in_header octets (header_in octets)) None) (eq-eqb (sum_of (summed src dst octets)) 65535 right)
+summed_right src dst octets right = ap (λ b. cond b (in_header octets (header_in octets)) None) (eq-eqb (sum_of (summed_octets src dst octets)) 65535 right)
 
 summed_wrong : (src dst : Addr) (octets : List ℕ) → (SumIsRight src dst octets → ⊥) → segment_in src dst octets ≡ None
-summed_wrong src dst octets wrong = by_sum (sum_of (summed src dst octets) == 65535) refl
+summed_wrong src dst octets wrong = by_sum (sum_of (summed_octets src dst octets) == 65535) refl
   where
-    by_sum : (b : Bool) → (sum_of (summed src dst octets) == 65535) ≡ b → cond b (in_header octets (header_in octets)) None ≡ None
-    by_sum true is = absurd (wrong (eqb-true (sum_of (summed src dst octets)) 65535 is))
+    by_sum : (b : Bool) → (sum_of (summed_octets src dst octets) == 65535) ≡ b → cond b (in_header octets (header_in octets)) None ≡ None
+    by_sum true is = absurd (wrong (eqb-true (sum_of (summed_octets src dst octets)) 65535 is))
     by_sum false is = refl
 
 -- the sum of octets, tested
-tested_right : (src dst : Addr) (octets : List ℕ) → SumIsRight src dst octets → (sum_of (summed src dst octets) == 65535) ≡ true
-tested_right src dst octets right = eq-eqb (sum_of (summed src dst octets)) 65535 right
+tested_right : (src dst : Addr) (octets : List ℕ) → SumIsRight src dst octets → (sum_of (summed_octets src dst octets) == 65535) ≡ true
+tested_right src dst octets right = eq-eqb (sum_of (summed_octets src dst octets)) 65535 right
 
-tested_wrong : (src dst : Addr) (octets : List ℕ) → (SumIsRight src dst octets → ⊥) → (sum_of (summed src dst octets) == 65535) ≡ false
-tested_wrong src dst octets wrong = by_sum (sum_of (summed src dst octets) == 65535) refl
+tested_wrong : (src dst : Addr) (octets : List ℕ) → (SumIsRight src dst octets → ⊥) → (sum_of (summed_octets src dst octets) == 65535) ≡ false
+tested_wrong src dst octets wrong = by_sum (sum_of (summed_octets src dst octets) == 65535) refl
   where
-    by_sum : (b : Bool) → (sum_of (summed src dst octets) == 65535) ≡ b → b ≡ false
-    by_sum true is = absurd (wrong (eqb-true (sum_of (summed src dst octets)) 65535 is))
+    by_sum : (b : Bool) → (sum_of (summed_octets src dst octets) == 65535) ≡ b → b ≡ false
+    by_sum true is = absurd (wrong (eqb-true (sum_of (summed_octets src dst octets)) 65535 is))
     by_sum false is = refl
 
 -- the reading that tells a fault too
 pub fault_ok : (src dst : Addr) (octets : List ℕ) (segment : Segment) → IsParsed src dst octets (Ok segment) → segment_or_fault src dst octets ≡ Ok segment
 fault_ok src dst octets segment parsed =
-    ap (checked (sum_of (summed src dst octets) == 65535)) (form_in segment octets parsed.form)
+    ap (checked (sum_of (summed_octets src dst octets) == 65535)) (form_in segment octets parsed.form)
     ∙ ap (λ b. checked b (Some segment)) (tested_right src dst octets parsed.sum)
 
 pub fault_err : (src dst : Addr) (octets : List ℕ) (fault : SegmentFault) → AreOctets octets → IsParsed src dst octets (Err fault) → segment_or_fault src dst octets ≡ Err fault
 fault_err src dst octets UpperHeader are none =
-    ap (checked (sum_of (summed src dst octets) == 65535)) (nothing_else (in_header octets (header_in octets)) (λ segment found. none segment (in_form octets are segment found)))
+    ap (checked (sum_of (summed_octets src dst octets) == 65535)) (nothing_else (in_header octets (header_in octets)) (λ segment found. none segment (in_form octets are segment found)))
 fault_err src dst octets UpperSum are wrong =
-    ap (checked (sum_of (summed src dst octets) == 65535)) (form_in wrong.0 octets wrong.1)
+    ap (checked (sum_of (summed_octets src dst octets) == 65535)) (form_in wrong.0 octets wrong.1)
     ∙ ap (λ b. checked b (Some wrong.0)) (tested_wrong src dst octets wrong.2)
 
 pub fault_parsed : (src dst : Addr) (octets : List ℕ) → AreOctets octets → IsParsed src dst octets (segment_or_fault src dst octets)
-fault_parsed src dst octets are = by_tests (in_header octets (header_in octets)) refl (sum_of (summed src dst octets) == 65535) refl
+fault_parsed src dst octets are = by_tests (in_header octets (header_in octets)) refl (sum_of (summed_octets src dst octets) == 65535) refl
   where
-    by_tests : (o : Option Segment) → in_header octets (header_in octets) ≡ o → (b : Bool) → (sum_of (summed src dst octets) == 65535) ≡ b → IsParsed src dst octets (checked b o)
+    by_tests : (o : Option Segment) → in_header octets (header_in octets) ≡ o → (b : Bool) → (sum_of (summed_octets src dst octets) == 65535) ≡ b → IsParsed src dst octets (checked b o)
     by_tests None found b is = λ segment form. let no : None ≡ Some segment = sym found ∙ form_in segment octets form in cc
-    by_tests (Some segment) found true is = record { form = in_form octets are segment found; sum = eqb-true (sum_of (summed src dst octets)) 65535 is }
+    by_tests (Some segment) found true is = record { form = in_form octets are segment found; sum = eqb-true (sum_of (summed_octets src dst octets)) 65535 is }
     by_tests (Some segment) found false is = (segment, in_form octets are segment found, λ right. let no : true ≡ false = sym (tested_right src dst octets right) ∙ is in cc)
 
 -- both readings find one segment
 pub alike : (src dst : Addr) (octets : List ℕ) (segment : Segment) → (segment_or_fault src dst octets ≡ Ok segment) ↔ (segment_in src dst octets ≡ Some segment)
-alike src dst octets segment = by_tests (sum_of (summed src dst octets) == 65535) (in_header octets (header_in octets))
+alike src dst octets segment = by_tests (sum_of (summed_octets src dst octets) == 65535) (in_header octets (header_in octets))
   where
     by_tests : (right : Bool) (read : Option Segment) → (checked right read ≡ Ok segment) ↔ (cond right read None ≡ Some segment)
     by_tests true None = (λ e. cc, λ e. cc)
@@ -108,7 +108,7 @@ pub read_err : (src dst : Addr) (octets : List ℕ) (fault : SegmentFault) → A
 read_err src dst octets UpperHeader are none = nothing_else (segment_in src dst octets) by_sum
   where
     by_sum : (segment : Segment) → segment_in src dst octets ≡ Some segment → ⊥
-    by_sum segment found = go (sum_of (summed src dst octets) == 65535) found
+    by_sum segment found = go (sum_of (summed_octets src dst octets) == 65535) found
       where
         go : (b : Bool) → cond b (in_header octets (header_in octets)) None ≡ Some segment → ⊥
         go true e = none segment (in_form octets are segment e)

@@ -6,8 +6,8 @@ use Rattle.inet_sum.proofs.Complements.{with_complement, one_complement}
 use Rattle.ipv4.specs.declared.addr.Addr.{Addr}
 use Rattle.tcp_segment.specs.declared.head.Head.{Head}
 use Rattle.tcp_segment.specs.Options.{MaximumSegmentSize, joined, AreOptions}
-use Rattle.tcp_segment.specs.Segment.{HasForm, SumIsRight, Spells, spelling, summed}
-use Rattle.tcp_segment.specs.Sent.{CanBeSent, sent, sent_offset, sent_with, sent_octets}
+use Rattle.tcp_segment.specs.Segment.{HasForm, SumIsRight, Spells, spelling, summed_octets}
+use Rattle.tcp_segment.specs.Sent.{CanBeSent, sent_segment, sent_offset, sent_with, sent_octets}
 use Rattle.tcp_segment.proofs.Sending.{option_len, whole_len}
 
 -- what the checksum adds to the sum of the words
@@ -21,17 +21,17 @@ words _ _ len head octets checksum s t fits = absurd (omega arith)
 
 -- what is summed, by its length
 summed_is : (src dst : Addr) (head : Head) (octets : List ℕ) (checksum : ℕ)
-    → summed src dst (sent_with head octets checksum) ≡ pseudo_before src.0 dst.0 (4 * sent_offset head + length octets) (sent_with head octets checksum)
+    → summed_octets src dst (sent_with head octets checksum) ≡ pseudo_before src.0 dst.0 (4 * sent_offset head + length octets) (sent_with head octets checksum)
 summed_is src dst head octets checksum =
     ap (λ (n : ℕ). pseudo_before src.0 dst.0 n (sent_with head octets checksum)) (whole_len head octets checksum)
 
 sum_right : (src dst : Addr) (head : Head) (octets : List ℕ) → CanBeSent src dst head octets
-    → sum_of (summed src dst (sent_octets src dst head octets)) ≡ 65535
+    → sum_of (summed_octets src dst (sent_octets src dst head octets)) ≡ 65535
 unfolding sent_octets
 sum_right src dst head octets can =
     let len : ℕ = 4 * sent_offset head + length octets in
     let before : ℕ = word_sum (pseudo_before src.0 dst.0 len (sent_with head octets 0)) in
-    let checksum : ℕ = checksum_of (summed src dst (sent_with head octets 0)) in
+    let checksum : ℕ = checksum_of (summed_octets src dst (sent_with head octets 0)) in
     let fits : checksum < 2 ^ 16 = omega arith in
     let are = words src.0 dst.0 len head octets checksum can.src_octets can.dst_octets fits in
     let checksum_is : checksum ≡ 65535 - ones_complement before = ap checksum_of (summed_is src dst head octets 0) in
@@ -49,10 +49,10 @@ offset_below false = omega arith
 
 -- what is sent spells the segment that is meant
 pub sent_spelled : (src dst : Addr) (head : Head) (octets : List ℕ) → CanBeSent src dst head octets
-    → Spells src dst (sent head octets) (sent_octets src dst head octets)
+    → Spells src dst (sent_segment head octets) (sent_octets src dst head octets)
 unfolding sent_octets
 sent_spelled src dst head octets can =
-    let checksum : ℕ = checksum_of (summed src dst (sent_with head octets 0)) in
+    let checksum : ℕ = checksum_of (summed_octets src dst (sent_with head octets 0)) in
     record {
       form = record {
         offset = sent_offset head;
@@ -74,7 +74,7 @@ sent_spelled src dst head octets can =
 -- its length
 pub sent_octets_len : (src dst : Addr) (head : Head) (octets : List ℕ) → length (sent_octets src dst head octets) ≡ 4 * sent_offset head + length octets
 unfolding sent_octets
-sent_octets_len src dst head octets = whole_len head octets (checksum_of (summed src dst (sent_with head octets 0)))
+sent_octets_len src dst head octets = whole_len head octets (checksum_of (summed_octets src dst (sent_with head octets 0)))
 
 -- nothing stands behind the options that are sent
 no_padding : (b : Bool) (padding : List ℕ) → AreOptions (if b then MaximumSegmentSize 1460 ∷ [] else []) padding → padding ≡ []
@@ -82,9 +82,9 @@ no_padding true padding are = are.1
 no_padding false padding are = are
 
 -- a spelling of what is sent, by its checksum
-by_checksum : (head : Head) (octets xs : List ℕ) (form : HasForm (sent head octets) xs) → form.reserved ≡ 0 → xs ≡ sent_with head octets form.checksum
+by_checksum : (head : Head) (octets xs : List ℕ) (form : HasForm (sent_segment head octets) xs) → form.reserved ≡ 0 → xs ≡ sent_with head octets form.checksum
 by_checksum head octets xs form zeros =
-    let segment = sent head octets in
+    let segment = sent_segment head octets in
     let nothing : form.padding ≡ [] = no_padding head.flags.syn form.padding form.options in
     let area : length (joined segment.options ++ form.padding) ≡ length (joined segment.options ++ []) = ap (λ (ys : List ℕ). length (joined segment.options ++ ys)) nothing in
     let offset : form.offset ≡ sent_offset head = omega (arith, form.header, area, option_len head.flags.syn) in
@@ -94,15 +94,15 @@ by_checksum head octets xs form zeros =
     ∙ ap (λ (ys : List ℕ). spelling segment (sent_offset head) 0 form.checksum ys) nothing
 
 -- what is sent has one spelling
-pub one_spelling : (src dst : Addr) (head : Head) (octets xs : List ℕ) (form : HasForm (sent head octets) xs) → CanBeSent src dst head octets
+pub one_spelling : (src dst : Addr) (head : Head) (octets xs : List ℕ) (form : HasForm (sent_segment head octets) xs) → CanBeSent src dst head octets
     → SumIsRight src dst xs → form.reserved ≡ 0 → form.checksum < 65535 → xs ≡ sent_octets src dst head octets
 unfolding sent_octets
 one_spelling src dst head octets xs form can right zeros below =
     let len : ℕ = 4 * sent_offset head + length octets in
     let before : ℕ = word_sum (pseudo_before src.0 dst.0 len (sent_with head octets 0)) in
     let spelled = by_checksum head octets xs form zeros in
-    let total : word_sum (summed src dst xs) ≡ before + form.checksum =
-    ap (λ (ys : List ℕ). word_sum (summed src dst ys)) spelled ∙ ap word_sum (summed_is src dst head octets form.checksum)
+    let total : word_sum (summed_octets src dst xs) ≡ before + form.checksum =
+    ap (λ (ys : List ℕ). word_sum (summed_octets src dst ys)) spelled ∙ ap word_sum (summed_is src dst head octets form.checksum)
     ∙ words src.0 dst.0 len head octets form.checksum can.src_octets can.dst_octets form.checksum_fits in
     let checksum_is : form.checksum ≡ 65535 - ones_complement before = one_complement before form.checksum below (sym (ap ones_complement total) ∙ right) in
     spelled ∙ ap (λ (n : ℕ). sent_with head octets n) (checksum_is ∙ sym (ap checksum_of (summed_is src dst head octets 0)))

@@ -5,7 +5,7 @@ use Rattle.std.proofs.lemmas.List.{length-take, take-append-drop, take_at}
 use Rattle.std.specs.Int.{byte_at}
 use Rattle.std.specs.Option.{option_map, unwrap_or, is_some, ok_or}
 use Rattle.byteorder.specs.Endian.{big_number}
-use Rattle.tcp_segment.specs.Options.{HeaderOption, EndOfOptions, NoOperation, MaximumSegmentSize, Other, joined, AreOptions, last_told}
+use Rattle.tcp_segment.specs.Options.{HeaderOption, EndOfOptions, NoOperation, MaximumSegmentSize, Other, joined, AreOptions, last_mss}
 use Rattle.tcp_segment.specs.Reading.{with_first, options_behind}
 use Rattle.tcp_segment.proofs.Walk.{told_behind}
 
@@ -173,22 +173,22 @@ are_read (Other kind body ∷ os) padding ends =
 
 -- what is told is read off the options
 last_first : (told : Option ℕ) (first : HeaderOption) (rest : Option (List HeaderOption)) (next : Option ℕ)
-    → ((os : List HeaderOption) → last_told told (first ∷ os) ≡ last_told next os)
-    → option_map (last_told next) rest ≡ option_map (last_told told) (with_first first rest)
+    → ((os : List HeaderOption) → last_mss told (first ∷ os) ≡ last_mss next os)
+    → option_map (last_mss next) rest ≡ option_map (last_mss told) (with_first first rest)
 last_first told first None next h = refl
 last_first told first (Some os) next h = ap Some (sym (h os))
 
 one_told : (no_end no_none low : Bool) (told : Option ℕ) → low ≡ (no_end || no_none)
-    → cond low (Some told) None ≡ option_map (last_told told) (cond no_end (Some (EndOfOptions ∷ [])) (cond no_none (Some (NoOperation ∷ [])) None))
+    → cond low (Some told) None ≡ option_map (last_mss told) (cond no_end (Some (EndOfOptions ∷ [])) (cond no_none (Some (NoOperation ∷ [])) None))
 one_told true no_none low told e = rw e refl
 one_told false true low told e = rw e refl
 one_told false false low told e = rw e refl
 
 many_told : (is_end is_none is_mss is_four is_short : Bool) (told : Option ℕ) (size kind : ℕ) (body : List ℕ)
     (told0 told2 told_long : Option (Option ℕ)) (os0 os2 os_long : Option (List HeaderOption))
-    → told0 ≡ option_map (last_told told) os0 → told2 ≡ option_map (last_told (Some size)) os2 → told_long ≡ option_map (last_told told) os_long
+    → told0 ≡ option_map (last_mss told) os0 → told2 ≡ option_map (last_mss (Some size)) os2 → told_long ≡ option_map (last_mss told) os_long
     → cond is_end (Some told) (cond is_none told0 (cond is_mss (cond is_four told2 None) (cond is_short None told_long)))
-    ≡ option_map (last_told told)
+    ≡ option_map (last_mss told)
     (cond is_end (Some (EndOfOptions ∷ [])) (cond is_none (with_first NoOperation os0)
     (cond is_mss (cond is_four (with_first (MaximumSegmentSize size) os2) None) (cond is_short None (with_first (Other kind body) os_long)))))
 many_told true is_none is_mss is_four is_short told size kind body t0 t2 t os0 os2 os h0 h2 h = refl
@@ -204,7 +204,7 @@ low_kinds (suc zero) = refl
 low_kinds (suc (suc kind)) = grind (arith, nat_tests)
 
 -- what is told is what the last such option tells
-pub told_is : (xs : List ℕ) (n : ℕ) (told : Option ℕ) → told_behind xs n told ≡ option_map (last_told told) (options_behind xs n)
+pub told_is : (xs : List ℕ) (n : ℕ) (told : Option ℕ) → told_behind xs n told ≡ option_map (last_mss told) (options_behind xs n)
 told_is [] zero told = refl
 told_is [] (suc n) told = refl
 told_is (x ∷ xs) (suc n) told = told_is xs n told
@@ -213,21 +213,21 @@ told_is (kind ∷ len ∷ xs) zero told =
     many_told (nat_eq kind 0) (nat_eq kind 1) (nat_eq kind 2) (nat_eq len 4) (nat_lt len 2) told (big_number 2 xs) kind (take (len - 2) xs) _ _ _ _ _ _ (told_is (len ∷ xs) 0 told) (told_is xs 2 (Some (big_number 2 xs))) (told_is xs (len - 2) told)
 
 -- what is told of options that are read, or not
-pub told_options : (os : Option (List HeaderOption)) (told : Option ℕ) → option_map (last_told None) os ≡ Some told
-    → (list : List HeaderOption) × (os ≡ Some list) × (last_told None list ≡ told)
+pub told_options : (os : Option (List HeaderOption)) (told : Option ℕ) → option_map (last_mss None) os ≡ Some told
+    → (list : List HeaderOption) × (os ≡ Some list) × (last_mss None list ≡ told)
 told_options None told e = cc
 told_options (Some list) told e = (list, refl, cc)
 
-pub told_nothing : (os : Option (List HeaderOption)) → option_map (last_told None) os ≡ None → os ≡ None
+pub told_nothing : (os : Option (List HeaderOption)) → option_map (last_mss None) os ≡ None → os ≡ None
 told_nothing None e = refl
 told_nothing (Some list) e = cc
 
-pub known_list : (os : Option (List HeaderOption)) → is_some os ≡ true → option_map (last_told None) os ≡ Some (last_told None (unwrap_or os []))
+pub known_list : (os : Option (List HeaderOption)) → is_some os ≡ true → option_map (last_mss None) os ≡ Some (last_mss None (unwrap_or os []))
 known_list None known = cc
 known_list (Some list) known = refl
 
 -- what the walk answers
 pub answered : {E : Type 0} (options rest : List ℕ) (told : Option ℕ) (answer : Option (Option ℕ)) (e : E)
     → told_behind rest 0 told ≡ told_behind options 0 None → told_behind rest 0 told ≡ answer
-    → ok_or answer e ≡ ok_or (option_map (last_told None) (options_behind options 0)) e
+    → ok_or answer e ≡ ok_or (option_map (last_mss None) (options_behind options 0)) e
 answered options rest told answer e same is = ap (λ (o : Option (Option ℕ)). ok_or o e) (sym is ∙ same ∙ told_is options 0 None)

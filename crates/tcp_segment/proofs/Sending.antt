@@ -7,8 +7,8 @@ use Rattle.inet_sum.specs.Sum.{sum_of}
 use Rattle.ipv4.specs.declared.addr.Addr.{Addr}
 use Rattle.tcp_segment.specs.declared.head.Head.{Head}
 use Rattle.tcp_segment.specs.Options.{joined, MaximumSegmentSize}
-use Rattle.tcp_segment.specs.Segment.{fixed_fields, summed}
-use Rattle.tcp_segment.specs.Sent.{sent, sent_offset, sent_with, sent_octets}
+use Rattle.tcp_segment.specs.Segment.{fixed_fields, summed_octets}
+use Rattle.tcp_segment.specs.Sent.{sent_segment, sent_offset, sent_with, sent_octets}
 
 one_of : (b : Bool) (m n : ℕ) → m ≤ n → m ≤ cond b n m
 one_of true m n h = h
@@ -25,7 +25,7 @@ put_options first last out f l =
 
 -- what is written of a header with SYN
 pub with_option : (head : Head) (first last out : List ℕ) → head.flags.syn ≡ true
-    → first ≡ fixed_fields (sent head []) (sent_offset head) 0 0 → last ≡ 2 ∷ 4 ∷ 5 ∷ 180 ∷ []
+    → first ≡ fixed_fields (sent_segment head []) (sent_offset head) 0 0 → last ≡ 2 ∷ 4 ∷ 5 ∷ 180 ∷ []
     → put_mid 20 4 (first ++ drop 20 out) last ≡ sent_with head [] 0 ++ drop (4 * sent_offset head) out
 with_option head first last out syn f l =
     let header : first ++ last ≡ sent_with head [] 0 = rw (f, l, syn) refl in
@@ -40,13 +40,13 @@ option_len false = refl
 -- the length of a header
 sent_len : (head : Head) (checksum : ℕ) → length (sent_with head [] checksum) ≡ 4 * sent_offset head
 sent_len head checksum =
-    omega (arith, option_len head.flags.syn, ap length (append-nil (joined (sent head []).options ++ [])))
+    omega (arith, option_len head.flags.syn, ap length (append-nil (joined (sent_segment head []).options ++ [])))
 
 -- a header and what it stands before
 sent_before : (head : Head) (octets : List ℕ) (checksum : ℕ) → sent_with head octets checksum ≡ sent_with head [] checksum ++ octets
 sent_before head octets checksum =
-    ap (λ (xs : List ℕ). fixed_fields (sent head octets) (sent_offset head) 0 checksum ++ (xs ++ octets))
-    (sym (append-nil (joined (sent head []).options ++ [])))
+    ap (λ (xs : List ℕ). fixed_fields (sent_segment head octets) (sent_offset head) 0 checksum ++ (xs ++ octets))
+    (sym (append-nil (joined (sent_segment head []).options ++ [])))
 
 -- the length of a whole segment
 pub whole_len : (head : Head) (octets : List ℕ) (checksum : ℕ) → length (sent_with head octets checksum) ≡ 4 * sent_offset head + length octets
@@ -60,7 +60,7 @@ put_checksum head checksum out = refl
 -- The header is written with a checksum of zero, and then the checksum of that is put into it.
 pub emitted : (src dst : Addr) (head : Head) (sum len : ℕ) (out first second checksum : List ℕ)
     → first ≡ sent_with head [] 0 ++ drop (4 * sent_offset head) out
-    → sum ≡ sum_of (summed src dst (take len first))
+    → sum ≡ sum_of (summed_octets src dst (take len first))
     → checksum ≡ big_bytes 2 (65535 - sum)
     → second ≡ put_mid 16 2 first checksum
     → 4 * sent_offset head ≤ len → len ≤ length out
@@ -81,8 +81,8 @@ emitted src dst head sum len out first second checksum is_first is_sum is_checks
     let len_is : length (sent_with head payload 0) ≡ len = omega (arith, whole_len head payload 0, payload_len) in
     let taken : take len first ≡ sent_with head payload 0 =
     ap (λ (xs : List ℕ). take len xs) (is_first ∙ whole 0) ∙ take_at (sent_with head payload 0) (drop len out) len len_is in
-    let sum_is : sum ≡ sum_of (summed src dst (sent_with head payload 0)) =
-    is_sum ∙ ap (λ (xs : List ℕ). sum_of (summed src dst xs)) taken in
+    let sum_is : sum ≡ sum_of (summed_octets src dst (sent_with head payload 0)) =
+    is_sum ∙ ap (λ (xs : List ℕ). sum_of (summed_octets src dst xs)) taken in
     is_second ∙ ap (λ (xs : List ℕ). put_mid 16 2 first xs) is_checksum ∙ ap (λ (xs : List ℕ). put_mid 16 2 xs (big_bytes 2 (65535 - sum))) is_first
     ∙ put_checksum head (65535 - sum) (drop header out) ∙ whole (65535 - sum)
     ∙ ap (λ (n : ℕ). sent_with head payload (65535 - n) ++ drop len out) sum_is

@@ -43,7 +43,7 @@ TellsNoSize option = Unit {0}
 
 -- The maximum segment size in a list of options, read from left to right with the one found so far: that of the
 -- last such option (RFC 9293 section 3.7.1). `laws::last_size_stands` says so without a walk.
-abbrev pub last_told : Option ℕ → List HeaderOption → Option ℕ
-last_told told [] = told
-last_told told (MaximumSegmentSize size ∷ rest) = last_told (Some size) rest
-last_told told (option ∷ rest) = last_told told rest
+abbrev pub last_mss : Option ℕ → List HeaderOption → Option ℕ
+last_mss told [] = told
+last_mss told (MaximumSegmentSize size ∷ rest) = last_mss (Some size) rest
+last_mss told (option ∷ rest) = last_mss told rest

@@ -11,7 +11,7 @@ use Rattle.tcp_segment.specs.declared.flags.Flags.{Flags}
 use Rattle.tcp_segment.specs.Options.{HeaderOption, EndOfOptions, NoOperation, MaximumSegmentSize, Other}
 use Rattle.ipv4.specs.declared.addr.Addr.{Addr}
 use Rattle.inet_sum.specs.Sum.{sum_of}
-use Rattle.tcp_segment.specs.Segment.{Segment, summed}
+use Rattle.tcp_segment.specs.Segment.{Segment, summed_octets}
 
 -- the option, and those behind it where they are well-formed
 abbrev pub with_first : HeaderOption → Option (List HeaderOption) → Option (List HeaderOption)
@@ -96,7 +96,7 @@ in_header octets (Some header) = with_options octets header (options_behind (tak
 
 -- the segment that octets from src for dst spell, if they do and their checksum is right
 abbrev pub segment_in : Addr → Addr → List ℕ → Option Segment
-segment_in src dst octets = if sum_of (summed src dst octets) == 65535 then in_header octets (header_in octets) else None
+segment_in src dst octets = if sum_of (summed_octets src dst octets) == 65535 then in_header octets (header_in octets) else None
 
 -- a segment that was read, if its checksum is right, or the first fault
 abbrev pub checked : Bool → Option Segment → Result Segment SegmentFault
@@ -105,4 +105,4 @@ checked right (Some segment) = if right then Ok segment else Err UpperSum
 
 -- the segment that octets from src for dst spell, or the first fault: one of the header comes before the checksum
 abbrev pub segment_or_fault : Addr → Addr → List ℕ → Result Segment SegmentFault
-segment_or_fault src dst octets = checked (sum_of (summed src dst octets) == 65535) (in_header octets (header_in octets))
+segment_or_fault src dst octets = checked (sum_of (summed_octets src dst octets) == 65535) (in_header octets (header_in octets))

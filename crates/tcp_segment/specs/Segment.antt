@@ -7,7 +7,7 @@ use Rattle.tcp_segment.specs.declared.TheConstants.{FIXED_LEN, MSS, DEFAULT_MSS,
 use Rattle.tcp_segment.specs.declared.fault.SegmentFault.{SegmentFault}
 use Rattle.tcp_segment.specs.declared.fault.SegmentFault.TheVariants.{UpperHeader, UpperSum}
 use Rattle.tcp_segment.specs.declared.flags.Flags.{Flags}
-use Rattle.tcp_segment.specs.Options.{HeaderOption, joined, AreOptions, last_told}
+use Rattle.tcp_segment.specs.Options.{HeaderOption, joined, AreOptions, last_mss}
 
 -- what a segment says
 pub record Segment : Type 0 where
@@ -71,13 +71,13 @@ pub record HasForm (segment : Segment) (octets : List ℕ) : Type 0 where
   pub spelled : octets ≡ spelling segment offset reserved checksum padding
 
 -- the pseudo header of a segment of this length, and the segment's octets (RFC 9293 section 3.1)
-abbrev pub summed : Addr → Addr → List ℕ → List ℕ
-summed src dst octets =
+abbrev pub summed_octets : Addr → Addr → List ℕ → List ℕ
+summed_octets src dst octets =
     pseudo_octets (record { src = src.0; dst = dst.0; protocol = 6; length = length octets }) ++ octets
 
 -- the checksum is right: all that it covers has the sum 0xFFFF
 abbrev pub SumIsRight : Addr → Addr → List ℕ → Type 0
-SumIsRight src dst octets = sum_of (summed src dst octets) ≡ 65535
+SumIsRight src dst octets = sum_of (summed_octets src dst octets) ≡ 65535
 
 -- the octets that came from src for dst spell this segment
 pub record Spells (src dst : Addr) (segment : Segment) (octets : List ℕ) : Type 0 where
@@ -92,17 +92,17 @@ IsParsed src dst octets (Err UpperHeader) = (segment : Segment) → HasForm segm
 IsParsed src dst octets (Err UpperSum) = (segment : Segment) × HasForm segment octets × (SumIsRight src dst octets → ⊥)
 
 -- the maximum segment size in the options of a segment (RFC 9293 section 3.7.1): that of its last such option, read where SYN is set
-abbrev pub told_of : Segment → Option ℕ
-told_of segment = if segment.flags.syn then last_told None segment.options else None
+abbrev pub mss_option_of : Segment → Option ℕ
+mss_option_of segment = if segment.flags.syn then last_mss None segment.options else None
 
 -- SendMSS, the size that the sender of a segment takes (RFC 9293 section 3.7.1): the default where it has no such option, and never
 -- under the least
-abbrev pub told_mss : Segment → ℕ
-told_mss segment = max (unwrap_or (told_of segment) DEFAULT_MSS) LEAST_MSS
+abbrev pub send_mss : Segment → ℕ
+send_mss segment = max (unwrap_or (mss_option_of segment) DEFAULT_MSS) LEAST_MSS
 
 -- SMSS, the most octets that are sent to this peer in one segment (RFC 5681 section 2, RFC 9293 section 3.7.1)
 abbrev pub smss_of : Segment → ℕ
-smss_of segment = min (told_mss segment) MSS
+smss_of segment = min (send_mss segment) MSS
 
 -- the length in sequence numbers (RFC 9293 section 3.4): the octets, and one each for SYN and FIN
 abbrev pub span_of : Segment → ℕ

@@ -5,11 +5,11 @@ use Rattle.ipv4.specs.declared.addr.Addr.{Addr}
 use Rattle.tcp_segment.specs.declared.TheConstants.{MSS}
 use Rattle.tcp_segment.specs.declared.head.Head.{Head}
 use Rattle.tcp_segment.specs.Options.{MaximumSegmentSize}
-use Rattle.tcp_segment.specs.Segment.{Segment, FieldsFit, spelling, summed}
+use Rattle.tcp_segment.specs.Segment.{Segment, FieldsFit, spelling, summed_octets}
 
 -- a segment as this stack sends it: with SYN it has the MSS option of this stack (RFC 9293 section 3.7.1), else it has no option
-abbrev pub sent : Head → List ℕ → Segment
-sent head octets = record {
+abbrev pub sent_segment : Head → List ℕ → Segment
+sent_segment head octets = record {
   source = head.source;
   destination = head.destination;
   number = head.number.0;
@@ -27,15 +27,15 @@ sent_offset head = if head.flags.syn then 6 else 5
 
 -- its octets with this checksum: the reserved bits are zero
 abbrev pub sent_with : Head → List ℕ → ℕ → List ℕ
-sent_with head octets checksum = spelling (sent head octets) (sent_offset head) 0 checksum []
+sent_with head octets checksum = spelling (sent_segment head octets) (sent_offset head) 0 checksum []
 
 -- its one spelling: the checksum is that of the pseudo header and the segment with a checksum of zero
 unfoldable pub sent_octets : Addr → Addr → Head → List ℕ → List ℕ
-sent_octets src dst head octets = sent_with head octets (checksum_of (summed src dst (sent_with head octets 0)))
+sent_octets src dst head octets = sent_with head octets (checksum_of (summed_octets src dst (sent_with head octets 0)))
 
 -- a segment that can be sent: its fields are of their width, and its length is one that the pseudo header can say
 pub record CanBeSent (src dst : Addr) (head : Head) (octets : List ℕ) : Type 0 where
   pub src_octets : length src.0 ≡ 4
   pub dst_octets : length dst.0 ≡ 4
-  pub fields : FieldsFit (sent head octets)
+  pub fields : FieldsFit (sent_segment head octets)
   pub len : 4 * sent_offset head + length octets < 2 ^ 16

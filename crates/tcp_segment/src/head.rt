@@ -2,7 +2,7 @@
 
 ghost use Rattle.std.specs.Prelude.{◌≡◌, ◌+◌, ◌*◌, ◌<◌, ◌≤◌, ◌^◌, [], ◌++◌, length, drop, slice_range};
 ghost use Rattle.tcp_segment.specs.Segment.{FieldsFit, fixed_fields};
-ghost use Rattle.tcp_segment.specs.Sent.{CanBeSent, sent, sent_offset, sent_with, sent_octets};
+ghost use Rattle.tcp_segment.specs.Sent.{CanBeSent, sent_segment, sent_offset, sent_with, sent_octets};
 
 use crate::flags::{Flags, octet_of};
 use crate::options::MAXIMUM_SEGMENT_SIZE;
@@ -75,7 +75,7 @@ impl Head {
     fn write(&self, out: &mut [u8])
         requires { 4 * sent_offset self.now ≤ length out.old }
         ensures octets { out.new ≡ sent_with self.now [] 0 ++ drop (4 * sent_offset self.now) out.old }
-        ensures fit { FieldsFit (sent self.now []) }
+        ensures fit { FieldsFit (sent_segment self.now []) }
     {
         out[..FIXED_LEN].copy_from_slice(&self.fixed());
         if self.tells_mss() {
@@ -87,8 +87,8 @@ impl Head {
 
     /// The fields of the header before its options, with a checksum of 0.
     fn fixed(&self) -> [u8; FIXED_LEN]
-        ensures octets { result ≡ fixed_fields (sent self.now []) (sent_offset self.now) 0 0 }
-        ensures fit { FieldsFit (sent self.now []) }
+        ensures octets { result ≡ fixed_fields (sent_segment self.now []) (sent_offset self.now) 0 0 }
+        ensures fit { FieldsFit (sent_segment self.now []) }
     {
         let Head {
             source,

@@ -5,10 +5,10 @@ ghost use Rattle.std.specs.Prelude.{◌≡◌, ℕ, ◌+◌, ◌-◌, ◌*◌, �
 ghost use Rattle.ipv4.specs.declared.addr.Addr.{Addr};
 ghost use Rattle.tcp_segment.specs.declared.fault.SegmentFault.{SegmentFault};
 ghost use Rattle.tcp_segment.specs.declared.head.Head.{Head};
-ghost use Rattle.tcp_segment.specs.Options.{HeaderOption, MaximumSegmentSize, TellsNoSize, last_told};
+ghost use Rattle.tcp_segment.specs.Options.{HeaderOption, MaximumSegmentSize, TellsNoSize, last_mss};
 ghost use Rattle.tcp_segment.specs.Segment.{Segment, HasForm, IsParsed, SumIsRight, Spells};
 ghost use Rattle.tcp_segment.specs.Reading.{segment_in, segment_or_fault};
-ghost use Rattle.tcp_segment.specs.Sent.{CanBeSent, sent, sent_offset, sent_octets};
+ghost use Rattle.tcp_segment.specs.Sent.{CanBeSent, sent_segment, sent_offset, sent_octets};
 ghost use Rattle.tcp_segment.specs.Wire.{wire, past, difference, IsBefore, IsAtMost};
 
 /// The sequence numbers of stream positions (RFC 9293 section 3.4): how far one is past another, their
@@ -52,14 +52,14 @@ pub fn faults_read_plainly()
 /// section 3.7.1).
 pub fn last_size_stands()
     ensures last { (before after : List HeaderOption) (size : ℕ) → All TellsNoSize after
-        → last_told None (before ++ MaximumSegmentSize size ∷ after) ≡ Some size }
-    ensures none { (options : List HeaderOption) → All TellsNoSize options → last_told None options ≡ None }
+        → last_mss None (before ++ MaximumSegmentSize size ∷ after) ≡ Some size }
+    ensures none { (options : List HeaderOption) → All TellsNoSize options → last_mss None options ≡ None }
 {}
 
 /// What this stack sends has one spelling: no other octets have its form, reserved bits of zero and a right checksum. A
 /// checksum of 0xFFFF is set apart, which is right too where 0 is (RFC 9293 section 3.1).
 pub fn one_spelling()
-    ensures { (src dst : Addr) (head : Head) (octets xs : List ℕ) (form : HasForm (sent head octets) xs) → CanBeSent src dst head octets
+    ensures { (src dst : Addr) (head : Head) (octets xs : List ℕ) (form : HasForm (sent_segment head octets) xs) → CanBeSent src dst head octets
         → SumIsRight src dst xs → form.reserved ≡ 0 → form.checksum < 65535 → xs ≡ sent_octets src dst head octets }
 {}
 
@@ -68,8 +68,8 @@ pub fn emitted_parses()
     ensures len { (src dst : Addr) (head : Head) (octets : List ℕ)
         → length (sent_octets src dst head octets) ≡ 4 * sent_offset head + length octets }
     ensures spelled { (src dst : Addr) (head : Head) (octets : List ℕ) → CanBeSent src dst head octets
-        → Spells src dst (sent head octets) (sent_octets src dst head octets) }
+        → Spells src dst (sent_segment head octets) (sent_octets src dst head octets) }
     ensures parsed { (src dst : Addr) (head : Head) (octets : List ℕ) (answer : Result Segment SegmentFault)
         → CanBeSent src dst head octets → IsParsed src dst (sent_octets src dst head octets) answer
-        → answer ≡ Ok (sent head octets) }
+        → answer ≡ Ok (sent_segment head octets) }
 {}

@@ -3,7 +3,7 @@
 ghost use Rattle.std.specs.Prelude.{◌≡◌, IfOk, IfErr, None, Some};
 ghost use Rattle.std.specs.Option.{ok_or, option_map};
 ghost use Rattle.tcp_segment.specs.declared.fault.SegmentFault.TheVariants.{UpperHeader};
-ghost use Rattle.tcp_segment.specs.Options.{last_told};
+ghost use Rattle.tcp_segment.specs.Options.{last_mss};
 ghost use Rattle.tcp_segment.specs.Reading.{options_behind, body_in, mss_in};
 
 use crate::fault::SegmentFault;
@@ -17,8 +17,8 @@ const NO_OPERATION: u8 = 1;
 pub(crate) const MAXIMUM_SEGMENT_SIZE: u8 = 2;
 
 /// Walks the options, and answers the maximum segment size of the last MSS option.
-pub(crate) fn told_mss(options: &[u8]) -> Result<Option<u16>, SegmentFault>
-    ensures { result ≡ ok_or (option_map (last_told None) (options_behind options.now 0)) UpperHeader }
+pub(crate) fn last_mss(options: &[u8]) -> Result<Option<u16>, SegmentFault>
+    ensures { result ≡ ok_or (option_map (last_mss None) (options_behind options.now 0)) UpperHeader }
 {
     let mut told = None;
     let mut rest = options;

@@ -4,7 +4,7 @@ ghost use Rattle.std.specs.Prelude.{◌≡◌, ◌+◌, ◌<◌, ◌≤◌, ◌^
 ghost use Rattle.std.specs.Option.{ok_or};
 ghost use Rattle.byteorder.specs.Endian.{big_number};
 ghost use Rattle.tcp_segment.specs.declared.fault.SegmentFault.TheVariants.{UpperHeader};
-ghost use Rattle.tcp_segment.specs.Segment.{Segment, HasForm, IsParsed, told_of, told_mss, smss_of, span_of};
+ghost use Rattle.tcp_segment.specs.Segment.{Segment, HasForm, IsParsed, mss_option_of, send_mss, smss_of, span_of};
 ghost use Rattle.tcp_segment.specs.Reading.{header_in, offset_in, checksum_in};
 
 use crate::fault::SegmentFault;
@@ -70,7 +70,7 @@ impl<'a> TcpView<'a> {
     {
         let header = header_len(segment)?;
         let options = &segment[FIXED_LEN..header];
-        options::told_mss(options)?;
+        options::last_mss(options)?;
         let head = Head {
             source: u16_at(segment, 0),
             destination: u16_at(segment, 2),
@@ -157,11 +157,11 @@ impl<'a> TcpView<'a> {
 
     /// The maximum segment size in the options, in octets (RFC 9293 section 3.7.1): that of the last such option, and none without
     /// SYN or without the option.
-    pub fn told(&self) -> Option<u16>
-        ensures { result ≡ told_of self.now }
+    pub fn mss_option(&self) -> Option<u16>
+        ensures { result ≡ mss_option_of self.now }
     {
         if self.head.flags.syn {
-            options::told_mss(self.options).unwrap_or(None)
+            options::last_mss(self.options).unwrap_or(None)
         } else {
             None
         }
@@ -169,17 +169,17 @@ impl<'a> TcpView<'a> {
 
     /// SendMSS, the maximum segment size that the sender of this segment takes, in octets (RFC 9293 section 3.7.1): `DEFAULT_MSS`
     /// without the option, and at least `LEAST_MSS`.
-    pub fn mss(&self) -> u16
-        ensures { result ≡ told_mss self.now }
+    pub fn send_mss(&self) -> u16
+        ensures { result ≡ send_mss self.now }
     {
-        self.told().unwrap_or(DEFAULT_MSS).max(LEAST_MSS)
+        self.mss_option().unwrap_or(DEFAULT_MSS).max(LEAST_MSS)
     }
 
     /// The most octets to send it in one segment (RFC 5681 section 2): SendMSS, and at most `MSS`.
     pub fn smss(&self) -> u16
         ensures { result ≡ smss_of self.now }
     {
-        self.mss().min(MSS)
+        self.send_mss().min(MSS)
     }
 
     /// Its own octets, a part of the frame that was parsed.

@@ -2,16 +2,16 @@
 use Rattle.std.proofs.Common.{◌≡◌, ℕ, ◌==◌, ◌||◌, ◌&&◌, ◌⊎◌, not, if◌then◌else◌, Bool, true, false, length, Option, Some, None, inl, inr, refl, sym, ◌∙◌, ap, is_some}
 use Rattle.tcp_segment.specs.Segment.{Segment}
 use Rattle.clock.specs.declared.moment.Moment.{Moment}
-use Rattle.tcp_state.specs.declared.connection.Fate.TheVariants.{Stays, Removed, Refused}
+use Rattle.tcp_state.specs.declared.connection.Fate.TheVariants.{Stays, Removed, Rejected}
 use Rattle.tcp_state.specs.declared.emission.Due.{Due}
 use Rattle.tcp_state.specs.declared.emission.Due.TheVariants.{Rst, Syn, Text, Fin, Ack}
 use Rattle.tcp_state.specs.declared.state.State.{State}
 use Rattle.tcp_state.specs.declared.state.State.TheVariants.{Closed, Established, FinWait1, FinWait2, Closing, LastAck}
 use Rattle.tcp_state.specs.Numbers.{is_before}
 use Rattle.tcp_state.specs.Stream.{is_new_ack, is_in_window}
-use Rattle.tcp_state.specs.View.{View, is_opening, is_syn_sent, is_syn_received, is_closed, is_over, awaits_fin_ack, is_write_closed, is_at_end, stopped, after_resend, is_fin_next}
-use Rattle.tcp_state.specs.Calls.{after_send, after_recv, shut, shutdown_refusal, after_shutdown, aborted, after_release, is_removed_by_close, is_aborted_by_close}
-use Rattle.tcp_state.specs.Arrival.{owing_ack, established, is_receiving, beyond_fin, beyond_end, fin_acknowledged, after_new_ack, after_ack, is_read_on, is_read, after_window, after_text, counts_fin, after_fin, after_acceptable, after_accepted, ends_by_syn, ends_by_reset, ends_opening, is_acting_reset, is_accepted, after_reset, reset_error, after_refusal, after_rst, is_right_syn_ack, after_syn_ack, after_segment, is_lost, after_lost, after_heard, is_refused}
+use Rattle.tcp_state.specs.View.{View, is_opening, is_syn_sent, is_syn_received, is_closed, is_over, awaits_fin_ack, is_write_closed, is_at_end, after_stop, after_resend, is_fin_next}
+use Rattle.tcp_state.specs.Calls.{after_send, after_recv, beyond_shutdown, shutdown_refusal, after_shutdown, aborted, after_release, is_removed_by_close, is_aborted_by_close}
+use Rattle.tcp_state.specs.Arrival.{owing_ack, after_establishment, is_receiving, beyond_fin, beyond_end, fin_acknowledged, after_new_ack, after_ack, is_read_on, is_read, after_window, after_text, counts_fin, after_fin, after_acknowledging_segment, after_acceptable_segment, ends_by_syn, ends_by_reset, ends_opening, is_acting_reset, is_acceptable_to, after_reset, reset_error, after_rst_in_syn_sent, after_rst, is_right_syn_ack, after_syn_ack, after_segment, is_lost, after_lost, after_heard, is_rejected}
 use Rattle.tcp_state.specs.Due.{first_due, after_ack_paid, after_numbers}
 use Rattle.tcp_state.specs.Edges.{Event, Hears, Ticks, Emits, Sends, Receives, Shuts, Closes, Aborts, after_first, fate_by, is_removed, is_reset_by, is_last_ack, ends_by_ack, is_cause, ends_by}
 use Rattle.tcp_state.proofs.Edges.{either, and_left, and_right, emitted-state}
@@ -72,7 +72,7 @@ closed_by_ack v ack lives =
     let P : View → Type 0 = λ w. is_closed w.state ≡ true → (is_last_ack v.state && is_new_ack v.sending ack && is_fin_next v) ≡ true in
     let none : is_closed v.state ≡ true → (is_last_ack v.state && is_new_ack v.sending ack && is_fin_next v) ≡ true = λ closed. let bad : true ≡ false = sym closed ∙ lives in cc in
     either View P (is_syn_received v.state) _ _
-    (λ received. either View P (is_new_ack v.sending ack) (established v) v (λ new closed. cc) (λ old. none))
+    (λ received. either View P (is_new_ack v.sending ack) (after_establishment v) v (λ new closed. cc) (λ old. none))
     (λ past. either View P (is_new_ack v.sending ack) _ _
     (λ new. either View P (is_fin_next v) (fin_acknowledged (after_new_ack v ack)) (after_new_ack v ack)
     (λ fin closed. both (is_last_ack v.state && is_new_ack v.sending ack) (is_fin_next v)
@@ -85,7 +85,7 @@ read_by_new true new behind e = e
 read_by_new false true behind e = refl
 read_by_new false false behind e = cc
 
-pub closed_by_acceptable : (v : View) (s : Segment) → is_closed v.state ≡ false → is_closed (after_acceptable v s).state ≡ true
+pub closed_by_acceptable : (v : View) (s : Segment) → is_closed v.state ≡ false → is_closed (after_acknowledging_segment v s).state ≡ true
     → (is_last_ack v.state && is_new_ack v.sending s.acknowledgement && is_fin_next v) ≡ true
 closed_by_acceptable v s lives =
     let told = after_window (after_ack v s.acknowledgement) s in
@@ -111,7 +111,7 @@ closed_by_segment v s lives =
     either View P (is_closed v.state) v _
     (λ closed. none)
     (λ open_yet. either View P s.flags.rst _ _
-    (λ rst. either View P (is_syn_sent v.state) (after_refusal v s) (after_rst v s)
+    (λ rst. either View P (is_syn_sent v.state) (after_rst_in_syn_sent v s) (after_rst v s)
     (λ waits. either View P confirms (after_reset v (reset_error v.state)) v
     (λ acts closed. inl (both s.flags.rst _ rst (then_chosen (is_syn_sent v.state) confirms (is_acting_reset v s) waits acts)))
     (λ dropped. none))
@@ -121,10 +121,10 @@ closed_by_segment v s lives =
     (λ elsewhere. either View P (is_in_window v.receiving s.number) (owing_ack v) v (λ drawn. none) (λ dropped. none))))
     (λ no_rst. either View P (is_syn_sent v.state) (after_syn_ack v s) _
     (λ waits. either View P (is_right_syn_ack v s) _ v (λ right closed. cc) (λ wrong. none))
-    (λ past. either View P (is_accepted v s) (after_accepted v s) (owing_ack v)
+    (λ past. either View P (is_acceptable_to v s) (after_acceptable_segment v s) (owing_ack v)
     (λ accepted. either View P s.flags.syn _ _
     (λ syn. either View P (ends_by_syn v s) v (owing_ack v) (λ removed. none) (λ drawn. none))
-    (λ no_syn. either View P s.flags.ack (after_acceptable v s) v
+    (λ no_syn. either View P s.flags.ack (after_acknowledging_segment v s) v
     (λ ack closed.
     let k = closed_by_acceptable v s lives closed in
     let fin = and_right (is_last_ack v.state && is_new_ack v.sending s.acknowledgement) (is_fin_next v) k in
@@ -133,8 +133,8 @@ closed_by_segment v s lives =
     let new = and_right (is_last_ack v.state) (is_new_ack v.sending s.acknowledgement) two in
     let on : is_read_on v s.acknowledgement ≡ true = read_by_new (is_syn_received v.state) (is_new_ack v.sending s.acknowledgement) (is_before v.sending.nxt s.acknowledgement) new in
     let read : is_read v s ≡ true =
-    both (not s.flags.rst && is_accepted v s && not s.flags.syn && s.flags.ack) _ (both (not s.flags.rst && is_accepted v s && not s.flags.syn) s.flags.ack
-    (both (not s.flags.rst && is_accepted v s) (not s.flags.syn) (both (not s.flags.rst) (is_accepted v s) (of_false s.flags.rst no_rst) accepted) (of_false s.flags.syn no_syn)) ack) on in
+    both (not s.flags.rst && is_acceptable_to v s && not s.flags.syn && s.flags.ack) _ (both (not s.flags.rst && is_acceptable_to v s && not s.flags.syn) s.flags.ack
+    (both (not s.flags.rst && is_acceptable_to v s) (not s.flags.syn) (both (not s.flags.rst) (is_acceptable_to v s) (of_false s.flags.rst no_rst) accepted) (of_false s.flags.syn no_syn)) ack) on in
     inr (both (is_last_ack v.state && is_read v s && is_new_ack v.sending s.acknowledgement) (is_fin_next v)
     (both (is_last_ack v.state && is_read v s) (is_new_ack v.sending s.acknowledgement) (both (is_last_ack v.state) (is_read v s) last read) new) fin))
     (λ no_ack. none)))
@@ -145,7 +145,7 @@ record Removes (closed lost over refused opening : Bool) : Type 0 where
   pub lives : closed ≡ false
   pub ends : (over ≡ true) ⊎ (opening ≡ true)
 
-removes : (closed lost over refused opening : Bool) → is_removed (if closed || lost then Stays else if over then Removed else if refused then Refused else if opening then Removed else Stays) ≡ true
+removes : (closed lost over refused opening : Bool) → is_removed (if closed || lost then Stays else if over then Removed else if refused then Rejected else if opening then Removed else Stays) ≡ true
     → Removes closed lost over refused opening
 removes true lost over refused opening e = cc
 removes false true over refused opening e = cc
@@ -184,7 +184,7 @@ segment-cause v s now e =
     (λ lost. or_left (is_reset_by v s || (not s.flags.rst && ends_by_syn v s) || is_lost v s) (ends_by_ack v s) (or_right (is_reset_by v s || (not s.flags.rst && ends_by_syn v s)) (is_lost v s) lost))
     (λ kept. elim (or_else (is_removed (fate_by v (Hears s now))) _ e) [
       | inl removed ↦
-          let r = removes (is_closed v.state) (is_lost v s) (is_over (after_segment v s)) (is_refused v s) (ends_opening v s) removed in
+          let r = removes (is_closed v.state) (is_lost v s) (is_over (after_segment v s)) (is_rejected v s) (ends_opening v s) removed in
           elim r.ends [
             | inl over ↦ caused_by v s (closed_by_segment v s r.lives (and_left (is_closed (after_segment v s).state) (after_segment v s).released (and_left (is_closed (after_segment v s).state && (after_segment v s).released) _ over)))
             | inr opening ↦ caused_by_opening v s opening
@@ -205,10 +205,10 @@ unclosed t u same e =
     let lives = not_true (is_closed t) (and_left (not (is_closed t)) (is_closed u) e) in
     let bad : true ≡ false = sym closed ∙ (ap is_closed same ∙ lives) in cc
 
-shut_closes_none : (t : State) → (not (is_closed t) && is_closed (shut t)) ≡ true → ⊥
-shut_closes_none t e = none t (not_true (is_closed t) (and_left (not (is_closed t)) (is_closed (shut t)) e)) (and_right (not (is_closed t)) (is_closed (shut t)) e)
+shut_closes_none : (t : State) → (not (is_closed t) && is_closed (beyond_shutdown t)) ≡ true → ⊥
+shut_closes_none t e = none t (not_true (is_closed t) (and_left (not (is_closed t)) (is_closed (beyond_shutdown t)) e)) (and_right (not (is_closed t)) (is_closed (beyond_shutdown t)) e)
   where
-    none : (t : State) → is_closed t ≡ false → is_closed (shut t) ≡ true → ⊥
+    none : (t : State) → is_closed t ≡ false → is_closed (beyond_shutdown t) ≡ true → ⊥
     none Closed a b = cc
     none _ a b = cc
 
@@ -248,14 +248,14 @@ emission-cause v now lives e =
 pub ends_caused : (v : View) (e : Event) → is_over v ≡ false → ends_by v e ≡ true → is_cause v e ≡ true
 ends_caused v (Hears s now) lives e = segment-cause v s now e
 ends_caused v (Ticks now) lives e = by (is_at_end v now ≡ true) (is_at_end v now) (λ ends. ends) (λ waits.
-    let tried : Bool → Bool = λ b. is_removed (if b && v.released then Removed else Stays) || (not (is_closed v.state) && is_closed (if b then stopped v else after_resend v now).state) in
+    let tried : Bool → Bool = λ b. is_removed (if b && v.released then Removed else Stays) || (not (is_closed v.state) && is_closed (if b then after_stop v else after_resend v now).state) in
     absurd (unclosed v.state v.state refl (sym (ap tried waits) ∙ e)))
 ends_caused v (Emits now) lives e = emission-cause v now lives e
 ends_caused v (Sends octets) lives e =
-    let same = either View (λ w. w.state ≡ v.state) (is_some v.told || is_opening v.state || is_write_closed v.state) v _ (λ refused. refl) (λ takes. refl) in
+    let same = either View (λ w. w.state ≡ v.state) (is_some v.pending_error || is_opening v.state || is_write_closed v.state) v _ (λ refused. refl) (λ takes. refl) in
     absurd (unclosed v.state (after_send v octets).state same e)
 ends_caused v (Receives len) lives e =
-    let same = either View (λ w. w.state ≡ v.state) (is_some v.told || is_opening v.state || (length v.receiving.readable == 0)) v _ (λ none. refl) (λ some. refl) in
+    let same = either View (λ w. w.state ≡ v.state) (is_some v.pending_error || is_opening v.state || (length v.receiving.readable == 0)) v _ (λ none. refl) (λ some. refl) in
     absurd (unclosed v.state (after_recv v len).state same e)
 ends_caused v Shuts lives e = absurd (
     either View (λ w. (not (is_closed v.state) && is_closed w.state) ≡ true → ⊥) (is_some (shutdown_refusal v)) v (after_shutdown v)

@@ -8,9 +8,9 @@ use Rattle.tcp_state.specs.declared.state.State.{State}
 use Rattle.tcp_state.specs.declared.state.State.TheVariants.{Closed, Listen, SynSent, SynReceived, Established, FinWait1, FinWait2, CloseWait, Closing, LastAck}
 use Rattle.tcp_state.specs.Numbers.{is_before}
 use Rattle.tcp_state.specs.Stream.{is_new_ack, is_in_window}
-use Rattle.tcp_state.specs.View.{View, is_opening, is_syn_sent, is_syn_received, is_closed, awaits_fin_ack, is_write_closed, is_at_end, stopped, after_resend, is_fin_next}
-use Rattle.tcp_state.specs.Calls.{shut, shutdown_refusal, after_shutdown, aborted, after_release, is_removed_by_close, is_aborted_by_close}
-use Rattle.tcp_state.specs.Arrival.{owing_ack, established, is_receiving, beyond_fin, beyond_end, fin_acknowledged, after_new_ack, after_ack, is_read_on, after_window, after_text, counts_fin, after_fin, after_acceptable, after_accepted, ends_by_syn, ends_by_reset, is_acting_reset, is_accepted, after_reset, reset_error, after_refusal, after_rst, is_right_syn_ack, after_syn_ack, after_segment, is_lost, after_lost, after_heard}
+use Rattle.tcp_state.specs.View.{View, is_opening, is_syn_sent, is_syn_received, is_closed, awaits_fin_ack, is_write_closed, is_at_end, after_stop, after_resend, is_fin_next}
+use Rattle.tcp_state.specs.Calls.{beyond_shutdown, shutdown_refusal, after_shutdown, aborted, after_release, is_removed_by_close, is_aborted_by_close}
+use Rattle.tcp_state.specs.Arrival.{owing_ack, after_establishment, is_receiving, beyond_fin, beyond_end, fin_acknowledged, after_new_ack, after_ack, is_read_on, after_window, after_text, counts_fin, after_fin, after_acknowledging_segment, after_acceptable_segment, ends_by_syn, ends_by_reset, is_acting_reset, is_acceptable_to, after_reset, reset_error, after_rst_in_syn_sent, after_rst, is_right_syn_ack, after_syn_ack, after_segment, is_lost, after_lost, after_heard}
 use Rattle.tcp_state.specs.Due.{first_due, after_ack_paid, after_numbers}
 use Rattle.tcp_state.specs.Edges.{IsEdge, Event, Hears, Ticks, Emits, Sends, Receives, Shuts, Closes, Aborts, after_first, after_event, fate_by, is_removed, left_by, state_after}
 
@@ -40,7 +40,7 @@ opens : (t : State) → is_syn_sent t ≡ true → IsEdge t Established
 opens SynSent e = inr refl
 opens _ e = cc
 
-shuts : (t : State) → IsEdge t (shut t)
+shuts : (t : State) → IsEdge t (beyond_shutdown t)
 shuts Established = inr refl
 shuts CloseWait = inr refl
 shuts _ = inl refl
@@ -76,7 +76,7 @@ acked : (v : View) (ack : ℕ) → Reaches v.state (after_ack v ack)
 acked v ack =
     let P : View → Type 0 = λ w. Reaches v.state w in
     either View P (is_syn_received v.state) _ _
-    (λ received. either View P (is_new_ack v.sending ack) (established v) v
+    (λ received. either View P (is_new_ack v.sending ack) (after_establishment v) v
     (λ new. let r = reached_established v.state received in record { here = r.0; beyond = λ on. r.1 })
     (λ old. stays v v refl))
     (λ past. either View P (is_new_ack v.sending ack) _ _
@@ -97,7 +97,7 @@ finned t w s r =
     (λ counts. r.beyond (and_right s.flags.fin (is_receiving w.state) (and_left (s.flags.fin && is_receiving w.state) _ counts)))
     (λ none. r.here)
 
-acceptable-edge : (v : View) (s : Segment) → IsEdge v.state (after_acceptable v s).state
+acceptable-edge : (v : View) (s : Segment) → IsEdge v.state (after_acknowledging_segment v s).state
 acceptable-edge v s =
     let a = acked v s.acknowledgement in
     let told = after_window (after_ack v s.acknowledgement) s in
@@ -112,17 +112,17 @@ segment-edge v s =
     either View P (is_closed v.state) v _
     (λ closed. inl refl)
     (λ lives. either View P s.flags.rst _ _
-    (λ rst. either View P (is_syn_sent v.state) (after_refusal v s) (after_rst v s)
+    (λ rst. either View P (is_syn_sent v.state) (after_rst_in_syn_sent v s) (after_rst v s)
     (λ waits. either View P (s.flags.ack && is_new_ack v.sending s.acknowledgement) (after_reset v (reset_error v.state)) v (λ acts. closes v.state) (λ dropped. inl refl))
     (λ past. either View P (is_acting_reset v s) _ _
     (λ acts. either View P (ends_by_reset v s) v (after_reset v (reset_error v.state)) (λ removed. inl refl) (λ reset. closes v.state))
     (λ elsewhere. either View P (is_in_window v.receiving s.number) (owing_ack v) v (λ drawn. inl refl) (λ dropped. inl refl))))
     (λ no_rst. either View P (is_syn_sent v.state) (after_syn_ack v s) _
     (λ waits. either View P (is_right_syn_ack v s) _ v (λ right. opens v.state waits) (λ wrong. inl refl))
-    (λ past. either View P (is_accepted v s) (after_accepted v s) (owing_ack v)
+    (λ past. either View P (is_acceptable_to v s) (after_acceptable_segment v s) (owing_ack v)
     (λ accepted. either View P s.flags.syn _ _
     (λ syn. either View P (ends_by_syn v s) v (owing_ack v) (λ removed. inl refl) (λ drawn. inl refl))
-    (λ no_syn. either View P s.flags.ack (after_acceptable v s) v (λ ack. acceptable-edge v s) (λ no_ack. inl refl)))
+    (λ no_syn. either View P s.flags.ack (after_acknowledging_segment v s) v (λ ack. acceptable-edge v s) (λ no_ack. inl refl)))
     (λ refused. inl refl))))
 
 pub heard-edge : (v : View) (s : Segment) → IsEdge v.state (after_heard v s).state
@@ -146,10 +146,10 @@ left-edge v =
 
 event-edge : (v : View) (e : Event) → IsEdge v.state (after_event v e).state
 event-edge v (Hears s now) = heard-edge v s
-event-edge v (Ticks now) = either View (λ w. IsEdge v.state w.state) (is_at_end v now) (stopped v) (after_resend v now) (λ over. closes v.state) (λ waits. inl refl)
+event-edge v (Ticks now) = either View (λ w. IsEdge v.state w.state) (is_at_end v now) (after_stop v) (after_resend v now) (λ over. closes v.state) (λ waits. inl refl)
 event-edge v (Emits now) = inl (sym (emitted-state v (first_due v) now))
-event-edge v (Sends octets) = either View (λ w. IsEdge v.state w.state) (is_some v.told || is_opening v.state || is_write_closed v.state) v _ (λ refused. inl refl) (λ takes. inl refl)
-event-edge v (Receives len) = either View (λ w. IsEdge v.state w.state) (is_some v.told || is_opening v.state || (length v.receiving.readable == 0)) v _ (λ none. inl refl) (λ some. inl refl)
+event-edge v (Sends octets) = either View (λ w. IsEdge v.state w.state) (is_some v.pending_error || is_opening v.state || is_write_closed v.state) v _ (λ refused. inl refl) (λ takes. inl refl)
+event-edge v (Receives len) = either View (λ w. IsEdge v.state w.state) (is_some v.pending_error || is_opening v.state || (length v.receiving.readable == 0)) v _ (λ none. inl refl) (λ some. inl refl)
 event-edge v Shuts = either View (λ w. IsEdge v.state w.state) (is_some (shutdown_refusal v)) v (after_shutdown v) (λ refused. inl refl) (λ closed. shuts v.state)
 event-edge v (Closes now) =
     either View (λ w. IsEdge v.state w.state) (is_removed_by_close v) v _ (λ removed. inl refl)

@@ -9,11 +9,11 @@ use Rattle.tcp_state.specs.declared.emission.Due.{Due}
 use Rattle.tcp_state.specs.declared.emission.Due.TheVariants.{Rst, Syn, Text, Fin, Ack}
 use Rattle.tcp_state.specs.Numbers.{is_before}
 use Rattle.tcp_state.specs.Halves.{Sending, Receiving}
-use Rattle.tcp_state.specs.Stream.{outstanding, is_new_ack, receive_window, gained, after_octets, stands_next, after_end, after_sent, is_in_window}
-use Rattle.tcp_state.specs.Windows.{tells_window, after_window_told, sendable, after_told}
-use Rattle.tcp_state.specs.View.{View, IsSound, is_opening, is_syn_sent, is_syn_received, is_closed, is_write_closed, is_at_end, stopped, after_resend, is_due, is_fin_next}
+use Rattle.tcp_state.specs.Stream.{outstanding, is_new_ack, receive_window, octets_gained, after_octets, stands_next, after_end, after_sent, is_in_window}
+use Rattle.tcp_state.specs.Windows.{updates_window, after_window_update, sendable, after_advertisement}
+use Rattle.tcp_state.specs.View.{View, IsSound, is_opening, is_syn_sent, is_syn_received, is_closed, is_write_closed, is_at_end, after_stop, after_resend, is_due, is_fin_next}
 use Rattle.tcp_state.specs.Calls.{shutdown_refusal, after_shutdown, aborted, after_release, is_removed_by_close, is_aborted_by_close}
-use Rattle.tcp_state.specs.Arrival.{owing_ack, established, is_receiving, fin_acknowledged, after_new_ack, after_ack, is_read_on, after_window, after_text, counts_fin, after_fin, after_acceptable, after_accepted, ends_by_syn, ends_by_reset, is_acting_reset, is_accepted, after_reset, reset_error, after_refusal, after_rst, is_right_syn_ack, after_syn_ack, after_segment, is_lost, after_lost, after_heard}
+use Rattle.tcp_state.specs.Arrival.{owing_ack, after_establishment, is_receiving, fin_acknowledged, after_new_ack, after_ack, is_read_on, after_window, after_text, counts_fin, after_fin, after_acknowledging_segment, after_acceptable_segment, ends_by_syn, ends_by_reset, is_acting_reset, is_acceptable_to, after_reset, reset_error, after_rst_in_syn_sent, after_rst, is_right_syn_ack, after_syn_ack, after_segment, is_lost, after_lost, after_heard}
 use Rattle.tcp_state.specs.Due.{first_due, again, ack_due, after_ack_paid, after_numbers}
 use Rattle.tcp_state.specs.Edges.{Event, Hears, Ticks, Emits, Sends, Receives, Shuts, Closes, Aborts, after_first, after_event}
 use Rattle.tcp_state.specs.Positions.{GoesOn, NeverBack, HasNumber}
@@ -71,7 +71,7 @@ acknowledged v ack sound fits =
     let P : View → Type 0 = λ w. GoesOn v.sending.una w.sending.una in
     let few = few_outstanding v sound in
     either View P (is_syn_received v.state) _ _
-    (λ received. either View P (is_new_ack v.sending ack) (established v) v (λ new. reaches v.sending.una v.sending.nxt sound.nxt (omega (arith, few))) (λ old. rests v.sending.una))
+    (λ received. either View P (is_new_ack v.sending ack) (after_establishment v) v (λ new. reaches v.sending.una v.sending.nxt sound.nxt (omega (arith, few))) (λ old. rests v.sending.una))
     (λ past_opening. either View P (is_new_ack v.sending ack) _ _
     (λ new.
     let most : past ack v.sending.una ≤ outstanding v.sending = leb-true (past ack v.sending.una) (outstanding v.sending) (and_right (nat_lt 0 (past ack v.sending.una)) _ new) in
@@ -83,16 +83,16 @@ acknowledged_nxt : (v : View) (ack : ℕ) → (after_ack v ack).sending.nxt ≡ 
 acknowledged_nxt v ack =
     let P : View → Type 0 = λ w. w.sending.nxt ≡ v.sending.nxt in
     either View P (is_syn_received v.state) _ _
-    (λ received. either View P (is_new_ack v.sending ack) (established v) v (λ new. refl) (λ old. refl))
+    (λ received. either View P (is_new_ack v.sending ack) (after_establishment v) v (λ new. refl) (λ old. refl))
     (λ past_opening. either View P (is_new_ack v.sending ack) _ _
     (λ new. either View P (is_fin_next v) (fin_acknowledged (after_new_ack v ack)) (after_new_ack v ack) (λ fin. refl) (λ octets. refl))
     (λ old. either View P (is_before v.sending.nxt ack) (owing_ack v) v (λ beyond. refl) (λ within. refl)))
 
-told_una : (s : Sending) (number ack window : ℕ) → (after_window_told s number ack window).una ≡ s.una
-told_una s number ack window = either Sending (λ t. t.una ≡ s.una) (tells_window s number ack) _ s (λ tells. refl) (λ none. refl)
+told_una : (s : Sending) (number ack window : ℕ) → (after_window_update s number ack window).una ≡ s.una
+told_una s number ack window = either Sending (λ t. t.una ≡ s.una) (updates_window s number ack) _ s (λ tells. refl) (λ none. refl)
 
-told_nxt : (s : Sending) (number ack window : ℕ) → (after_window_told s number ack window).nxt ≡ s.nxt
-told_nxt s number ack window = either Sending (λ t. t.nxt ≡ s.nxt) (tells_window s number ack) _ s (λ tells. refl) (λ none. refl)
+told_nxt : (s : Sending) (number ack window : ℕ) → (after_window_update s number ack window).nxt ≡ s.nxt
+told_nxt s number ack window = either Sending (λ t. t.nxt ≡ s.nxt) (updates_window s number ack) _ s (λ tells. refl) (λ none. refl)
 
 -- RCV.NXT moves within the window that is told, whose edge stays
 record Advances (r t : Receiving) : Type 0 where
@@ -104,14 +104,14 @@ record Advances (r t : Receiving) : Type 0 where
 waits : (r : Receiving) → r.rnext < 2 ^ 32 → Advances r r
 waits r small = record { by = 0; within = omega arith; rnext = omega (arith, small); edge = refl }
 
-gained_fits : (r : Receiving) (number : ℕ) (octets : List ℕ) → length (gained r number octets) ≤ receive_window r
+gained_fits : (r : Receiving) (number : ℕ) (octets : List ℕ) → length (octets_gained r number octets) ≤ receive_window r
 gained_fits r number octets =
     either (List ℕ) (λ l. length l ≤ receive_window r) (is_before r.rnext number) [] (take (receive_window r) (drop (past r.rnext number) octets))
     (λ ahead. omega arith)
     (λ behind. omega (arith, length-take (receive_window r) (drop (past r.rnext number) octets)))
 
 takes : (r : Receiving) (number : ℕ) (octets : List ℕ) → Advances r (after_octets r number octets)
-takes r number octets = record { by = length (gained r number octets); within = gained_fits r number octets; rnext = refl; edge = refl }
+takes r number octets = record { by = length (octets_gained r number octets); within = gained_fits r number octets; rnext = refl; edge = refl }
 
 -- over the number of a FIN too
 ends : (r t : Receiving) → r.rnext < 2 ^ 32 → Advances r t → 0 < receive_window t → Advances r (after_end t)
@@ -152,7 +152,7 @@ heard v w sound una nxt a = record {
   edge = λ past_opening. stays_at v.receiving.edge w.receiving.edge a.edge;
 }
 
-by_acceptable : (v : View) (s : Segment) → IsSound v → s.acknowledgement < 2 ^ 32 → NeverBack v (after_acceptable v s)
+by_acceptable : (v : View) (s : Segment) → IsSound v → s.acknowledgement < 2 ^ 32 → NeverBack v (after_acknowledging_segment v s)
 by_acceptable v s sound fits =
     let acked = after_ack v s.acknowledgement in
     let told = after_window acked s in
@@ -192,17 +192,17 @@ by_segment v s sound fits =
     either View P (is_closed v.state) v _
     (λ closed. none)
     (λ lives. either View P s.flags.rst _ _
-    (λ rst. either View P (is_syn_sent v.state) (after_refusal v s) (after_rst v s)
+    (λ rst. either View P (is_syn_sent v.state) (after_rst_in_syn_sent v s) (after_rst v s)
     (λ opening. either View P (s.flags.ack && is_new_ack v.sending s.acknowledgement) (after_reset v (reset_error v.state)) v (λ acts. reset) (λ dropped. none))
     (λ opened. either View P (is_acting_reset v s) _ _
     (λ acts. either View P (ends_by_reset v s) v (after_reset v (reset_error v.state)) (λ removed. none) (λ stays. reset))
     (λ elsewhere. either View P (is_in_window v.receiving s.number) (owing_ack v) v (λ drawn. owing) (λ dropped. none))))
     (λ no_rst. either View P (is_syn_sent v.state) (after_syn_ack v s) _
     (λ opening. by_syn_ack v s sound opening)
-    (λ opened. either View P (is_accepted v s) (after_accepted v s) (owing_ack v)
+    (λ opened. either View P (is_acceptable_to v s) (after_acceptable_segment v s) (owing_ack v)
     (λ accepted. either View P s.flags.syn _ _
     (λ syn. either View P (ends_by_syn v s) v (owing_ack v) (λ removed. none) (λ drawn. owing))
-    (λ no_syn. either View P s.flags.ack (after_acceptable v s) v (λ ack. by_acceptable v s sound fits) (λ no_ack. none)))
+    (λ no_syn. either View P s.flags.ack (after_acknowledging_segment v s) v (λ ack. by_acceptable v s sound fits) (λ no_ack. none)))
     (λ refused. owing))))
 
 by_lost : (v : View) (s : Segment) → IsSound v → NeverBack v (after_lost v s)
@@ -225,7 +225,7 @@ sent_on v count sound few =
     (λ lt. rests v.sending.nxt)
 
 -- the edge moves up to the free room
-told_on : (r : Receiving) → r.rnext < 2 ^ 32 → length r.readable + receive_window r ≤ 65535 → GoesOn r.edge (after_told r).edge
+told_on : (r : Receiving) → r.rnext < 2 ^ 32 → length r.readable + receive_window r ≤ 65535 → GoesOn r.edge (after_advertisement r).edge
 told_on r small fits initial position at =
     let further = (65535 - length r.readable) - receive_window r in
     (further, omega arith, omega (arith, small, fits, at))
@@ -244,7 +244,7 @@ pays v w sound same k = record {
   una = k.una;
   nxt = k.nxt;
   rnext = k.rnext;
-  edge = λ opened. subst (λ r. GoesOn v.receiving.edge (after_told r).edge) (sym same) (told_on v.receiving sound.rnext sound.window);
+  edge = λ opened. subst (λ r. GoesOn v.receiving.edge (after_advertisement r).edge) (sym same) (told_on v.receiving sound.rnext sound.window);
 }
 
 with_numbers : (v : View) (count : ℕ) (now : Moment) → IsSound v → count < 2 ^ 17 → NeverBack v (after_ack_paid (after_numbers v count now))
@@ -276,14 +276,14 @@ never_back v (Hears s now) sound fits =
     let k : NeverBack v (after_heard v s) = either View (λ w. NeverBack v w) (is_lost v s) (after_lost v s) (after_segment v s) (λ lost. by_lost v s sound) (λ kept. by_segment v s sound fits) in
     record { una = k.una; nxt = k.nxt; rnext = k.rnext; edge = k.edge }
 never_back v (Ticks now) sound fits =
-    either View (λ w. NeverBack v w) (is_at_end v now) (stopped v) (after_resend v now)
-    (λ over. ended v (stopped v) sound refl refl refl) (λ runs. still v (after_resend v now) refl refl refl)
+    either View (λ w. NeverBack v w) (is_at_end v now) (after_stop v) (after_resend v now)
+    (λ over. ended v (after_stop v) sound refl refl refl) (λ runs. still v (after_resend v now) refl refl refl)
 never_back v (Emits now) sound fits = by_emission v now sound
 never_back v (Sends octets) sound fits =
-    either View (λ w. NeverBack v w) (is_some v.told || is_opening v.state || is_write_closed v.state) v _ (λ refused. still v v refl refl refl)
+    either View (λ w. NeverBack v w) (is_some v.pending_error || is_opening v.state || is_write_closed v.state) v _ (λ refused. still v v refl refl refl)
     (λ taken. record { una = rests v.sending.una; nxt = rests v.sending.nxt; rnext = λ opened. rests v.receiving.rnext; edge = λ opened. rests v.receiving.edge })
 never_back v (Receives len) sound fits =
-    either View (λ w. NeverBack v w) (is_some v.told || is_opening v.state || (length v.receiving.readable == 0)) v _ (λ nothing. still v v refl refl refl)
+    either View (λ w. NeverBack v w) (is_some v.pending_error || is_opening v.state || (length v.receiving.readable == 0)) v _ (λ nothing. still v v refl refl refl)
     (λ some. record { una = rests v.sending.una; nxt = rests v.sending.nxt; rnext = λ opened. rests v.receiving.rnext; edge = λ opened. rests v.receiving.edge })
 never_back v Shuts sound fits =
     either View (λ w. NeverBack v w) (is_some (shutdown_refusal v)) v (after_shutdown v) (λ refused. still v v refl refl refl) (λ shuts. still v (after_shutdown v) refl refl refl)

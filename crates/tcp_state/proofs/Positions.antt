@@ -7,7 +7,7 @@ use Rattle.tcp_state.specs.Halves.{Receiving}
 use Rattle.tcp_state.specs.Stream.{receive_window, is_in_window, is_acceptable}
 use Rattle.tcp_state.specs.Positions.{ReceivesAt, IsNear, MeetsWindow}
 use Rattle.tcp_state.specs.View.{View}
-use Rattle.tcp_state.specs.Arrival.{is_accepted}
+use Rattle.tcp_state.specs.Arrival.{is_acceptable_to}
 use Rattle.tcp_state.proofs.Causes.{or_left, or_right, or_else}
 use Rattle.tcp_state.proofs.Unchanged.{clash}
 
@@ -87,12 +87,12 @@ empty initial next edge first r at near =
     ]
 
 pub accepted_filled : (initial next edge first : ℕ) (v : View) (s : Segment) → ReceivesAt initial next edge v.receiving → s.number ≡ wire initial first → IsNear next first (span_of s) → 0 < span_of s
-    → (is_accepted v s ≡ true) ↔ MeetsWindow next edge first (span_of s)
+    → (is_acceptable_to v s ≡ true) ↔ MeetsWindow next edge first (span_of s)
 accepted_filled initial next edge first v s at number near some =
     subst (λ n. (is_acceptable v.receiving n (span_of s) ≡ true) ↔ MeetsWindow next edge first (span_of s)) (sym number) (filled initial next edge first (span_of s) v.receiving at near some)
 
 pub accepted_empty : (initial next edge first : ℕ) (v : View) (s : Segment) → ReceivesAt initial next edge v.receiving → s.number ≡ wire initial first → IsNear next first 0 → span_of s ≡ 0
-    → (is_accepted v s ≡ true) ↔ ((first ≡ next) ⊎ ((next ≤ first) × (first < edge)))
+    → (is_acceptable_to v s ≡ true) ↔ ((first ≡ next) ⊎ ((next ≤ first) × (first < edge)))
 accepted_empty initial next edge first v s at number near none =
     subst (λ n. (is_acceptable v.receiving s.number n ≡ true) ↔ ((first ≡ next) ⊎ ((next ≤ first) × (first < edge)))) (sym none)
     (subst (λ n. (is_acceptable v.receiving n 0 ≡ true) ↔ ((first ≡ next) ⊎ ((next ≤ first) × (first < edge)))) (sym number) (empty initial next edge first v.receiving at near))

@@ -10,9 +10,9 @@ use Rattle.tcp_state.specs.declared.state.State.{State}
 use Rattle.tcp_state.specs.declared.state.State.TheVariants.{FinWait1, Closing, LastAck, SynReceived}
 use Rattle.tcp_state.specs.Numbers.{is_before}
 use Rattle.tcp_state.specs.Halves.{Receiving}
-use Rattle.tcp_state.specs.Stream.{is_new_ack, gained, after_octets, receive_window, is_in_window}
+use Rattle.tcp_state.specs.Stream.{is_new_ack, octets_gained, after_octets, receive_window, is_in_window}
 use Rattle.tcp_state.specs.View.{View, IsSound, is_syn_sent, is_syn_received, is_closed, is_write_closed, is_fin_next}
-use Rattle.tcp_state.specs.Arrival.{owing_ack, established, is_receiving, beyond_fin, fin_acknowledged, after_new_ack, after_ack, is_read_on, is_read, brings_more, after_window, after_text, counts_fin, after_fin, after_acceptable, after_accepted, ends_by_syn, ends_by_reset, is_acting_reset, is_accepted, after_reset, reset_error, after_refusal, after_rst, is_right_syn_ack, after_syn_ack, after_segment, is_lost, after_lost, after_segment_at}
+use Rattle.tcp_state.specs.Arrival.{owing_ack, after_establishment, is_receiving, beyond_fin, fin_acknowledged, after_new_ack, after_ack, is_read_on, is_read, brings_more, after_window, after_text, counts_fin, after_fin, after_acknowledging_segment, after_acceptable_segment, ends_by_syn, ends_by_reset, is_acting_reset, is_acceptable_to, after_reset, reset_error, after_rst_in_syn_sent, after_rst, is_right_syn_ack, after_syn_ack, after_segment, is_lost, after_lost, after_segment_at}
 use Rattle.tcp_state.proofs.Edges.{either}
 use Rattle.tcp_state.proofs.Causes.{both, of_false}
 use Rattle.tcp_state.proofs.Unchanged.{clash}
@@ -22,7 +22,7 @@ pub unheard : (v : View) (ack : ℕ) → (after_ack v ack).receiving ≡ v.recei
 unheard v ack =
     let P : View → Type 0 = λ w. w.receiving ≡ v.receiving in
     either View P (is_syn_received v.state) _ _
-    (λ received. either View P (is_new_ack v.sending ack) (established v) v (λ new. refl) (λ old. refl))
+    (λ received. either View P (is_new_ack v.sending ack) (after_establishment v) v (λ new. refl) (λ old. refl))
     (λ past_opening. either View P (is_new_ack v.sending ack) _ _
     (λ new. either View P (is_fin_next v) (fin_acknowledged (after_new_ack v ack)) (after_new_ack v ack) (λ fin. refl) (λ octets. refl))
     (λ old. either View P (is_before v.sending.nxt ack) (owing_ack v) v (λ beyond. refl) (λ within. refl)))
@@ -54,7 +54,7 @@ not_before a b e = elim (leb_tells (2 ^ 31) (past a b)) [ inl t ↦ clash (nat_l
 known : (rnext number len : ℕ) → rnext < 2 ^ 32 → number < 2 ^ 32 → len < 2 ^ 16 → past rnext number < 2 ^ 31 → past rnext ((number + len) % 2 ^ 32) < 2 ^ 31 → len ≤ past rnext number
 known rnext number len a b c d e = omega (arith, a, b, c, d, e)
 
-none_gained : (r : Receiving) (number : ℕ) (octets : List ℕ) → r.rnext < 2 ^ 32 → number < 2 ^ 32 → length octets < 2 ^ 16 → is_before r.rnext ((number + length octets) % 2 ^ 32) ≡ false → gained r number octets ≡ []
+none_gained : (r : Receiving) (number : ℕ) (octets : List ℕ) → r.rnext < 2 ^ 32 → number < 2 ^ 32 → length octets < 2 ^ 16 → is_before r.rnext ((number + length octets) % 2 ^ 32) ≡ false → octets_gained r number octets ≡ []
 none_gained r number octets small fits short ends =
     either (List ℕ) (λ l. l ≡ []) (is_before r.rnext number) [] (take (receive_window r) (drop (past r.rnext number) octets))
     (λ ahead. refl)
@@ -90,7 +90,7 @@ record IsKept (v : View) (s : Segment) : Type 0 where
   pub closed : is_write_closed v.state ≡ true
   pub kept : is_lost v s ≡ false
 
-readable_by_acceptable : (v : View) (s : Segment) → IsKept v s → (is_read_on v s.acknowledgement ≡ true → is_read v s ≡ true) → (after_acceptable v s).receiving.readable ≡ v.receiving.readable
+readable_by_acceptable : (v : View) (s : Segment) → IsKept v s → (is_read_on v s.acknowledgement ≡ true → is_read v s ≡ true) → (after_acknowledging_segment v s).receiving.readable ≡ v.receiving.readable
 readable_by_acceptable v s k read =
     let told = after_window (after_ack v s.acknowledgement) s in
     let same : told.receiving ≡ v.receiving = unheard v s.acknowledgement in
@@ -112,20 +112,20 @@ readable_by_segment v s k =
     either View P (is_closed v.state) v _
     (λ closed. refl)
     (λ lives. either View P s.flags.rst _ _
-    (λ rst. either View P (is_syn_sent v.state) (after_refusal v s) (after_rst v s)
+    (λ rst. either View P (is_syn_sent v.state) (after_rst_in_syn_sent v s) (after_rst v s)
     (λ waits. either View P confirms (after_reset v (reset_error v.state)) v (λ acts. refl) (λ dropped. refl))
     (λ past_opening. either View P (is_acting_reset v s) _ _
     (λ acts. either View P (ends_by_reset v s) v (after_reset v (reset_error v.state)) (λ removed. refl) (λ reset. refl))
     (λ elsewhere. either View P (is_in_window v.receiving s.number) (owing_ack v) v (λ drawn. refl) (λ dropped. refl))))
     (λ no_rst. either View P (is_syn_sent v.state) (after_syn_ack v s) _
     (λ waits. either View P (is_right_syn_ack v s) _ v (λ right. refl) (λ wrong. refl))
-    (λ past_opening. either View P (is_accepted v s) (after_accepted v s) (owing_ack v)
+    (λ past_opening. either View P (is_acceptable_to v s) (after_acceptable_segment v s) (owing_ack v)
     (λ accepted. either View P s.flags.syn _ _
     (λ syn. either View P (ends_by_syn v s) v (owing_ack v) (λ removed. refl) (λ drawn. refl))
-    (λ no_syn. either View P s.flags.ack (after_acceptable v s) v
-    (λ ack. readable_by_acceptable v s k (λ on. both (not s.flags.rst && is_accepted v s && not s.flags.syn && s.flags.ack) _
-    (both (not s.flags.rst && is_accepted v s && not s.flags.syn) s.flags.ack
-    (both (not s.flags.rst && is_accepted v s) (not s.flags.syn) (both (not s.flags.rst) (is_accepted v s) (of_false s.flags.rst no_rst) accepted) (of_false s.flags.syn no_syn)) ack) on))
+    (λ no_syn. either View P s.flags.ack (after_acknowledging_segment v s) v
+    (λ ack. readable_by_acceptable v s k (λ on. both (not s.flags.rst && is_acceptable_to v s && not s.flags.syn && s.flags.ack) _
+    (both (not s.flags.rst && is_acceptable_to v s && not s.flags.syn) s.flags.ack
+    (both (not s.flags.rst && is_acceptable_to v s) (not s.flags.syn) (both (not s.flags.rst) (is_acceptable_to v s) (of_false s.flags.rst no_rst) accepted) (of_false s.flags.syn no_syn)) ack) on))
     (λ no_ack. refl)))
     (λ refused. refl))))
 

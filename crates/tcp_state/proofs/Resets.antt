@@ -5,13 +5,13 @@ use Rattle.std.proofs.lemmas.Bool.Decides.{eqb_tells}
 use Rattle.tcp_segment.specs.Wire.{past}
 use Rattle.tcp_segment.specs.Segment.{Segment, span_of}
 use Rattle.clock.specs.declared.moment.Moment.{Moment}
-use Rattle.tcp_state.specs.declared.connection.Fate.TheVariants.{Stays, Removed, Refused}
+use Rattle.tcp_state.specs.declared.connection.Fate.TheVariants.{Stays, Removed, Rejected}
 use Rattle.tcp_state.specs.declared.state.State.{State}
 use Rattle.tcp_state.specs.declared.state.State.TheVariants.{SynSent, FinWait2, TimeWait}
 use Rattle.tcp_state.specs.Halves.{Receiving}
 use Rattle.tcp_state.specs.Stream.{outstanding, is_new_ack, is_in_window, receive_window, is_acceptable}
 use Rattle.tcp_state.specs.View.{View, IsSound, is_opening, is_syn_sent, is_closed, is_over, is_time_wait, is_fin_next}
-use Rattle.tcp_state.specs.Arrival.{owing_ack, is_accepted, is_acting_reset, is_read, is_lost, after_lost, ends_by_syn, ends_by_reset, ends_opening, acknowledges_unsent, is_refused, after_reset, reset_error, after_refusal, after_rst, after_syn_ack, after_accepted, after_segment, begins_wait, repeats_fin, after_segment_at, after_heard}
+use Rattle.tcp_state.specs.Arrival.{owing_ack, is_acceptable_to, is_acting_reset, is_read, is_lost, after_lost, ends_by_syn, ends_by_reset, ends_opening, acknowledges_unsent, is_rejected, after_reset, reset_error, after_rst_in_syn_sent, after_rst, after_syn_ack, after_acceptable_segment, after_segment, begins_wait, repeats_fin, after_segment_at, after_heard}
 use Rattle.tcp_state.specs.Edges.{Hears, after_event, fate_by, is_removed, is_reset_by, ends_by, ends_by_ack}
 use Rattle.tcp_state.proofs.Edges.{either, and_left, and_right}
 use Rattle.tcp_state.proofs.Causes.{both, or_left, or_right, or_else, not_true, of_false, by, segment-cause}
@@ -20,17 +20,17 @@ use Rattle.tcp_state.proofs.Unchanged.{clash}
 -- a segment that is read has no RST
 pub read_is_no_rst : (v : View) (s : Segment) → is_read v s ≡ true → s.flags.rst ≡ false
 read_is_no_rst v s e =
-    let acks = and_left (not s.flags.rst && is_accepted v s && not s.flags.syn && s.flags.ack) _ e in
-    let plain = and_left (not s.flags.rst && is_accepted v s && not s.flags.syn) s.flags.ack acks in
-    let accepted = and_left (not s.flags.rst && is_accepted v s) (not s.flags.syn) plain in
-    not_true s.flags.rst (and_left (not s.flags.rst) (is_accepted v s) accepted)
+    let acks = and_left (not s.flags.rst && is_acceptable_to v s && not s.flags.syn && s.flags.ack) _ e in
+    let plain = and_left (not s.flags.rst && is_acceptable_to v s && not s.flags.syn) s.flags.ack acks in
+    let accepted = and_left (not s.flags.rst && is_acceptable_to v s) (not s.flags.syn) plain in
+    not_true s.flags.rst (and_left (not s.flags.rst) (is_acceptable_to v s) accepted)
 
-pub read_is_accepted : (v : View) (s : Segment) → is_read v s ≡ true → is_accepted v s ≡ true
+pub read_is_accepted : (v : View) (s : Segment) → is_read v s ≡ true → is_acceptable_to v s ≡ true
 read_is_accepted v s e =
-    let acks = and_left (not s.flags.rst && is_accepted v s && not s.flags.syn && s.flags.ack) _ e in
-    let plain = and_left (not s.flags.rst && is_accepted v s && not s.flags.syn) s.flags.ack acks in
-    let accepted = and_left (not s.flags.rst && is_accepted v s) (not s.flags.syn) plain in
-    and_right (not s.flags.rst) (is_accepted v s) accepted
+    let acks = and_left (not s.flags.rst && is_acceptable_to v s && not s.flags.syn && s.flags.ack) _ e in
+    let plain = and_left (not s.flags.rst && is_acceptable_to v s && not s.flags.syn) s.flags.ack acks in
+    let accepted = and_left (not s.flags.rst && is_acceptable_to v s) (not s.flags.syn) plain in
+    and_right (not s.flags.rst) (is_acceptable_to v s) accepted
 
 pub lost_is_read : (v : View) (s : Segment) → is_lost v s ≡ true → is_read v s ≡ true
 lost_is_read v s e = and_right _ (is_read v s) (and_left _ _ e)
@@ -61,7 +61,7 @@ pub acts_at_rnext : (v : View) (s : Segment) (now : Moment) → is_syn_sent v.st
 acts_at_rnext v s now past_opening rst e =
     let chosen = and_right s.flags.rst _ (reset_by v s now rst e) in
     let acts : is_acting_reset v s ≡ true = chosen_else (is_syn_sent v.state) (s.flags.ack && is_new_ack v.sending s.acknowledgement) (is_acting_reset v s) past_opening chosen in
-    eqb-true s.number v.receiving.rnext (and_right (is_accepted v s) (s.number == v.receiving.rnext) acts)
+    eqb-true s.number v.receiving.rnext (and_right (is_acceptable_to v s) (s.number == v.receiving.rnext) acts)
 
 syn_sent_opens : (t : State) → is_syn_sent t ≡ true → is_opening t ≡ true
 syn_sent_opens SynSent e = refl
@@ -88,28 +88,28 @@ begins_none _ = refl
 abbrev Owing : View → View → Type 0
 Owing v w = w ≡ record v { owes_ack = w.owes_ack }
 
-unaccepted_segment : (v : View) (s : Segment) → is_syn_sent v.state ≡ false → is_accepted v s ≡ false → Owing v (after_segment v s)
+unaccepted_segment : (v : View) (s : Segment) → is_syn_sent v.state ≡ false → is_acceptable_to v s ≡ false → Owing v (after_segment v s)
 unaccepted_segment v s past_opening refused =
     let P : View → Type 0 = λ w. Owing v w in
     either View P (is_closed v.state) v _
     (λ closed. refl)
     (λ lives. either View P s.flags.rst _ _
-    (λ rst. either View P (is_syn_sent v.state) (after_refusal v s) (after_rst v s)
+    (λ rst. either View P (is_syn_sent v.state) (after_rst_in_syn_sent v s) (after_rst v s)
     (λ waits. clash (is_syn_sent v.state) waits past_opening)
     (λ past. either View P (is_acting_reset v s) _ _
-    (λ acts. clash (is_accepted v s) (and_left (is_accepted v s) (s.number == v.receiving.rnext) acts) refused)
+    (λ acts. clash (is_acceptable_to v s) (and_left (is_acceptable_to v s) (s.number == v.receiving.rnext) acts) refused)
     (λ elsewhere. either View P (is_in_window v.receiving s.number) (owing_ack v) v (λ drawn. refl) (λ dropped. refl))))
     (λ no_rst. either View P (is_syn_sent v.state) (after_syn_ack v s) _
     (λ waits. clash (is_syn_sent v.state) waits past_opening)
-    (λ past. either View P (is_accepted v s) (after_accepted v s) (owing_ack v)
-    (λ accepted. clash (is_accepted v s) accepted refused)
+    (λ past. either View P (is_acceptable_to v s) (after_acceptable_segment v s) (owing_ack v)
+    (λ accepted. clash (is_acceptable_to v s) accepted refused)
     (λ unaccepted. refl))))
 
-pub unaccepted_changes : (v : View) (s : Segment) (now : Moment) → is_syn_sent v.state ≡ false → is_accepted v s ≡ false
+pub unaccepted_changes : (v : View) (s : Segment) (now : Moment) → is_syn_sent v.state ≡ false → is_acceptable_to v s ≡ false
     → after_segment_at v s now ≡ record v { owes_ack = (after_segment_at v s now).owes_ack; since = (after_segment_at v s now).since }
 unaccepted_changes v s now past_opening refused =
     let same : Owing v (after_heard v s) = either View (λ w. Owing v w) (is_lost v s) (after_lost v s) (after_segment v s)
-    (λ lost. clash (is_accepted v s) (read_is_accepted v s (lost_is_read v s lost)) refused)
+    (λ lost. clash (is_acceptable_to v s) (read_is_accepted v s (lost_is_read v s lost)) refused)
     (λ kept. unaccepted_segment v s past_opening refused) in
     ap (λ (w : View). record w { since = (after_segment_at v s now).since }) same
 
@@ -120,10 +120,10 @@ elsewhere_segment v s past_opening rst apart =
     either View P (is_closed v.state) v _
     (λ closed. refl)
     (λ lives. either View P s.flags.rst _ _
-    (λ is_rst. either View P (is_syn_sent v.state) (after_refusal v s) (after_rst v s)
+    (λ is_rst. either View P (is_syn_sent v.state) (after_rst_in_syn_sent v s) (after_rst v s)
     (λ waits. clash (is_syn_sent v.state) waits past_opening)
     (λ past. either View P (is_acting_reset v s) _ _
-    (λ acts. clash (s.number == v.receiving.rnext) (and_right (is_accepted v s) (s.number == v.receiving.rnext) acts) apart)
+    (λ acts. clash (s.number == v.receiving.rnext) (and_right (is_acceptable_to v s) (s.number == v.receiving.rnext) acts) apart)
     (λ stays. either View P (is_in_window v.receiving s.number) (owing_ack v) v (λ drawn. refl) (λ dropped. refl))))
     (λ no_rst. clash s.flags.rst rst no_rst))
 
@@ -131,8 +131,8 @@ repeats_no_rst : (v : View) (s : Segment) → s.flags.rst ≡ true → repeats_f
 repeats_no_rst v s rst =
     by (repeats_fin v s ≡ false) (repeats_fin v s)
     (λ repeats. clash s.flags.rst rst
-    (not_true s.flags.rst (and_right (is_time_wait v.state) (not s.flags.rst) (and_left (is_time_wait v.state && not s.flags.rst) (not (is_accepted v s)) (and_left (is_time_wait v.state && not s.flags.rst && not (is_accepted v s)) s.flags.fin
-    (and_left (is_time_wait v.state && not s.flags.rst && not (is_accepted v s) && s.flags.fin) _ repeats))))))
+    (not_true s.flags.rst (and_right (is_time_wait v.state) (not s.flags.rst) (and_left (is_time_wait v.state && not s.flags.rst) (not (is_acceptable_to v s)) (and_left (is_time_wait v.state && not s.flags.rst && not (is_acceptable_to v s)) s.flags.fin
+    (and_left (is_time_wait v.state && not s.flags.rst && not (is_acceptable_to v s) && s.flags.fin) _ repeats))))))
     (λ none. none)
 
 no_wait : (v w : View) (now : Moment) (repeats : Bool) → repeats ≡ false → Owing v w → (if repeats || begins_wait v.state w.state then now else w.since) ≡ w.since
@@ -163,7 +163,7 @@ next_accepted r number span small same none =
     ]
 
 taken_out : (closed lost over refused opening : Bool) → closed ≡ false → lost ≡ false → refused ≡ false → opening ≡ true
-    → is_removed (if closed || lost then Stays else if over then Removed else if refused then Refused else if opening then Removed else Stays) ≡ true
+    → is_removed (if closed || lost then Stays else if over then Removed else if refused then Rejected else if opening then Removed else Stays) ≡ true
 taken_out false false true refused opening a b c d = refl
 taken_out false false false false true a b c d = refl
 taken_out true lost over refused opening a b c d = cc
@@ -174,9 +174,9 @@ taken_out false false false false false a b c d = cc
 rst_not_lost : (v : View) (s : Segment) → s.flags.rst ≡ true → is_lost v s ≡ false
 rst_not_lost v s rst = by (is_lost v s ≡ false) (is_lost v s) (λ lost. clash s.flags.rst rst (read_is_no_rst v s (lost_is_read v s lost))) (λ kept. kept)
 
-rst_not_refused : (v : View) (s : Segment) → s.flags.rst ≡ true → is_refused v s ≡ false
+rst_not_refused : (v : View) (s : Segment) → s.flags.rst ≡ true → is_rejected v s ≡ false
 rst_not_refused v s rst =
-    by (is_refused v s ≡ false) (is_refused v s)
+    by (is_rejected v s ≡ false) (is_rejected v s)
     (λ refused. clash s.flags.rst rst
     (not_true s.flags.rst (and_left (not s.flags.rst) s.flags.ack (and_left (not s.flags.rst && s.flags.ack) (not (is_new_ack v.sending s.acknowledgement)) (and_left (acknowledges_unsent v s) _ refused)))))
     (λ none. none)
@@ -188,7 +188,7 @@ closed_by_reset v s lives past_opening rst acts kept =
     either View P (is_closed v.state) v _
     (λ closed. closed)
     (λ open_yet. either View P s.flags.rst _ _
-    (λ is_rst. either View P (is_syn_sent v.state) (after_refusal v s) (after_rst v s)
+    (λ is_rst. either View P (is_syn_sent v.state) (after_rst_in_syn_sent v s) (after_rst v s)
     (λ waits. clash (is_syn_sent v.state) waits past_opening)
     (λ past. either View P (is_acting_reset v s) _ _
     (λ acting. either View P (ends_by_reset v s) v (after_reset v (reset_error v.state)) (λ removed. clash (ends_by_reset v s) removed kept) (λ reset. refl))
@@ -198,15 +198,15 @@ closed_by_reset v s lives past_opening rst acts kept =
 pub next_acts : (v : View) (s : Segment) (now : Moment) → IsSound v → is_syn_sent v.state ≡ false → is_closed v.state ≡ false → s.flags.rst ≡ true → s.number ≡ v.receiving.rnext → span_of s ≡ 0
     → ends_by v (Hears s now) ≡ true
 next_acts v s now sound past_opening lives rst same none =
-    let accepted : is_accepted v s ≡ true = next_accepted v.receiving s.number (span_of s) sound.rnext same none in
-    let acts : is_acting_reset v s ≡ true = both (is_accepted v s) (s.number == v.receiving.rnext) accepted (eq-eqb s.number v.receiving.rnext same) in
+    let accepted : is_acceptable_to v s ≡ true = next_accepted v.receiving s.number (span_of s) sound.rnext same none in
+    let acts : is_acting_reset v s ≡ true = both (is_acceptable_to v s) (s.number == v.receiving.rnext) accepted (eq-eqb s.number v.receiving.rnext same) in
     let kept = rst_not_lost v s rst in
     let out = is_removed (fate_by v (Hears s now)) in
     let closes = not (is_closed v.state) && is_closed (after_event v (Hears s now)).state in
     by (ends_by v (Hears s now) ≡ true) (ends_by_reset v s)
     (λ removes.
     let opening : ends_opening v s ≡ true = both (not (is_syn_sent v.state)) _ (of_false (is_syn_sent v.state) past_opening) (ap (λ b. if b then ends_by_reset v s else ends_by_syn v s) rst ∙ removes) in
-    or_left out closes (taken_out (is_closed v.state) (is_lost v s) (is_over (after_segment v s)) (is_refused v s) (ends_opening v s) lives kept (rst_not_refused v s rst) opening))
+    or_left out closes (taken_out (is_closed v.state) (is_lost v s) (is_over (after_segment v s)) (is_rejected v s) (ends_opening v s) lives kept (rst_not_refused v s rst) opening))
     (λ stays.
     let heard : (after_heard v s).state ≡ (after_segment v s).state = ap (λ b. (if b then after_lost v s else after_segment v s).state) kept in
     or_right out closes (both (not (is_closed v.state)) _ (of_false (is_closed v.state) lives) (ap is_closed heard ∙ closed_by_reset v s lives past_opening rst acts stays)))

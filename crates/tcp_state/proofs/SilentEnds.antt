@@ -5,9 +5,9 @@ use Rattle.clock.specs.declared.moment.Moment.{Moment}
 use Rattle.tcp_state.specs.declared.state.State.{State}
 use Rattle.tcp_state.specs.declared.state.State.TheVariants.{Closed, SynSent, SynReceived, Established, FinWait1, FinWait2, CloseWait, Closing, LastAck, TimeWait, Listen}
 use Rattle.tcp_state.specs.Stream.{is_new_ack, is_in_window}
-use Rattle.tcp_state.specs.View.{View, IsSound, is_syn_sent, is_opening, is_closed, is_end_seen, is_listening, is_write_closed, end_of_wait, is_reached, is_at_end, stopped, after_resend, is_fin_next}
-use Rattle.tcp_state.specs.Calls.{after_send, after_recv, shut, shutdown_refusal, after_shutdown, aborted, after_release, is_removed_by_close, is_aborted_by_close}
-use Rattle.tcp_state.specs.Arrival.{owing_ack, ends_by_syn, ends_by_reset, is_acting_reset, is_accepted, after_reset, reset_error, after_refusal, after_rst, is_right_syn_ack, after_syn_ack, after_acceptable, after_accepted, after_segment, is_lost, after_lost}
+use Rattle.tcp_state.specs.View.{View, IsSound, is_syn_sent, is_opening, is_closed, is_read_closed, is_listening, is_write_closed, end_of_wait, is_reached, is_at_end, after_stop, after_resend, is_fin_next}
+use Rattle.tcp_state.specs.Calls.{after_send, after_recv, beyond_shutdown, shutdown_refusal, after_shutdown, aborted, after_release, is_removed_by_close, is_aborted_by_close}
+use Rattle.tcp_state.specs.Arrival.{owing_ack, ends_by_syn, ends_by_reset, is_acting_reset, is_acceptable_to, after_reset, reset_error, after_rst_in_syn_sent, after_rst, is_right_syn_ack, after_syn_ack, after_acknowledging_segment, after_acceptable_segment, after_segment, is_lost, after_lost}
 use Rattle.tcp_state.specs.Due.{first_due}
 use Rattle.tcp_state.specs.Edges.{Event, Hears, Ticks, Emits, Sends, Receives, Shuts, Closes, Aborts, after_first, after_event, is_last_ack}
 use Rattle.tcp_state.proofs.Edges.{either, and_left, emitted-state}
@@ -16,10 +16,10 @@ use Rattle.tcp_state.proofs.Causes.{by, closed_by_acceptable}
 -- the connection became CLOSED, tells nothing, and its caller has not left it
 record IsSilentEnd (w : View) : Type 0 where
   pub closed : is_closed w.state ≡ true
-  pub quiet : w.told ≡ None
+  pub quiet : w.pending_error ≡ None
   pub kept : w.released ≡ false
 
-seen_at_reset : (t : State) → is_closed t ≡ false → is_listening t ≡ false → reset_error t ≡ None → is_end_seen t ≡ true
+seen_at_reset : (t : State) → is_closed t ≡ false → is_listening t ≡ false → reset_error t ≡ None → is_read_closed t ≡ true
 seen_at_reset Closing c l e = refl
 seen_at_reset LastAck c l e = refl
 seen_at_reset TimeWait c l e = refl
@@ -32,74 +32,74 @@ seen_at_reset FinWait1 c l e = cc
 seen_at_reset FinWait2 c l e = cc
 seen_at_reset CloseWait c l e = cc
 
-seen_at_last : (t : State) → is_last_ack t ≡ true → is_end_seen t ≡ true
+seen_at_last : (t : State) → is_last_ack t ≡ true → is_read_closed t ≡ true
 seen_at_last LastAck e = refl
 seen_at_last _ e = cc
 
 -- a wait that is over is TIME-WAIT, or the caller has left
-seen_at_end : (t : State) (released : Bool) (since now : Moment) → is_reached (end_of_wait t released since) now ≡ true → released ≡ false → is_end_seen t ≡ true
+seen_at_end : (t : State) (released : Bool) (since now : Moment) → is_reached (end_of_wait t released since) now ≡ true → released ≡ false → is_read_closed t ≡ true
 seen_at_end TimeWait released since now e r = refl
 seen_at_end FinWait2 true since now e r = cc
 seen_at_end FinWait2 false since now e r = cc
 seen_at_end _ released since now e r = cc
 
-shut_open : (t : State) → is_closed t ≡ false → is_closed (shut t) ≡ false
+shut_open : (t : State) → is_closed t ≡ false → is_closed (beyond_shutdown t) ≡ false
 shut_open Closed e = cc
 shut_open Established e = refl
 shut_open CloseWait e = refl
 shut_open _ e = e
 
-still : (v w : View) → w.state ≡ v.state → is_closed v.state ≡ false → IsSilentEnd w → is_end_seen v.state ≡ true
+still : (v w : View) → w.state ≡ v.state → is_closed v.state ≡ false → IsSilentEnd w → is_read_closed v.state ≡ true
 still v w same lives k = let bad : true ≡ false = sym k.closed ∙ (ap is_closed same ∙ lives) in cc
 
-seen_by_segment : (v : View) (s : Segment) → is_closed v.state ≡ false → is_listening v.state ≡ false → IsSilentEnd (after_segment v s) → is_end_seen v.state ≡ true
+seen_by_segment : (v : View) (s : Segment) → is_closed v.state ≡ false → is_listening v.state ≡ false → IsSilentEnd (after_segment v s) → is_read_closed v.state ≡ true
 seen_by_segment v s lives connection =
-    let P : View → Type 0 = λ w. IsSilentEnd w → is_end_seen v.state ≡ true in
+    let P : View → Type 0 = λ w. IsSilentEnd w → is_read_closed v.state ≡ true in
     let none : P v = still v v refl lives in
     let owing : P (owing_ack v) = still v (owing_ack v) refl lives in
     let reset : P (after_reset v (reset_error v.state)) = λ k. seen_at_reset v.state lives connection k.quiet in
     either View P (is_closed v.state) v _
     (λ closed. none)
     (λ open_yet. either View P s.flags.rst _ _
-    (λ rst. either View P (is_syn_sent v.state) (after_refusal v s) (after_rst v s)
+    (λ rst. either View P (is_syn_sent v.state) (after_rst_in_syn_sent v s) (after_rst v s)
     (λ waits. either View P (s.flags.ack && is_new_ack v.sending s.acknowledgement) (after_reset v (reset_error v.state)) v (λ acts. reset) (λ dropped. none))
     (λ past. either View P (is_acting_reset v s) _ _
     (λ acts. either View P (ends_by_reset v s) v (after_reset v (reset_error v.state)) (λ removed. none) (λ stays. reset))
     (λ elsewhere. either View P (is_in_window v.receiving s.number) (owing_ack v) v (λ drawn. owing) (λ dropped. none))))
     (λ no_rst. either View P (is_syn_sent v.state) (after_syn_ack v s) _
     (λ waits. either View P (is_right_syn_ack v s) _ v (λ right k. let bad : true ≡ false = sym k.closed in cc) (λ wrong. none))
-    (λ past. either View P (is_accepted v s) (after_accepted v s) (owing_ack v)
+    (λ past. either View P (is_acceptable_to v s) (after_acceptable_segment v s) (owing_ack v)
     (λ accepted. either View P s.flags.syn _ _
     (λ syn. either View P (ends_by_syn v s) v (owing_ack v) (λ removed. none) (λ drawn. owing))
-    (λ no_syn. either View P s.flags.ack (after_acceptable v s) v
+    (λ no_syn. either View P s.flags.ack (after_acknowledging_segment v s) v
     (λ ack k. seen_at_last v.state (and_left (is_last_ack v.state) (is_new_ack v.sending s.acknowledgement)
     (and_left (is_last_ack v.state && is_new_ack v.sending s.acknowledgement) (is_fin_next v) (closed_by_acceptable v s lives k.closed))))
     (λ no_ack. none)))
     (λ unaccepted. owing))))
 
-seen_by_event : (v : View) (e : Event) → IsSound v → is_closed v.state ≡ false → IsSilentEnd (after_event v e) → is_end_seen v.state ≡ true
+seen_by_event : (v : View) (e : Event) → IsSound v → is_closed v.state ≡ false → IsSilentEnd (after_event v e) → is_read_closed v.state ≡ true
 seen_by_event v (Hears s now) sound lives k =
-    either View (λ w. IsSilentEnd (record w { since = (after_event v (Hears s now)).since }) → is_end_seen v.state ≡ true) (is_lost v s) (after_lost v s) (after_segment v s)
+    either View (λ w. IsSilentEnd (record w { since = (after_event v (Hears s now)).since }) → is_read_closed v.state ≡ true) (is_lost v s) (after_lost v s) (after_segment v s)
     (λ lost l. let bad : true ≡ false = l.kept in cc)
     (λ heard l. seen_by_segment v s lives sound.connection (record { closed = l.closed; quiet = l.quiet; kept = l.kept })) k
-seen_by_event v (Ticks now) sound lives k = by (is_end_seen v.state ≡ true) (is_at_end v now)
-    (λ ends. let left : v.released ≡ false = sym (ap (λ b. (if b then stopped v else after_resend v now).released) ends) ∙ k.kept in seen_at_end v.state v.released v.since now ends left)
-    (λ waits. still v (after_event v (Ticks now)) (ap (λ b. (if b then stopped v else after_resend v now).state) waits) lives k)
+seen_by_event v (Ticks now) sound lives k = by (is_read_closed v.state ≡ true) (is_at_end v now)
+    (λ ends. let left : v.released ≡ false = sym (ap (λ b. (if b then after_stop v else after_resend v now).released) ends) ∙ k.kept in seen_at_end v.state v.released v.since now ends left)
+    (λ waits. still v (after_event v (Ticks now)) (ap (λ b. (if b then after_stop v else after_resend v now).state) waits) lives k)
 seen_by_event v (Emits now) sound lives k = still v (after_first v (first_due v) now) (emitted-state v (first_due v) now) lives k
 seen_by_event v (Sends octets) sound lives k =
-    still v (after_send v octets) (either View (λ w. w.state ≡ v.state) (is_some v.told || is_opening v.state || is_write_closed v.state) v _ (λ refused. refl) (λ takes. refl)) lives k
+    still v (after_send v octets) (either View (λ w. w.state ≡ v.state) (is_some v.pending_error || is_opening v.state || is_write_closed v.state) v _ (λ refused. refl) (λ takes. refl)) lives k
 seen_by_event v (Receives len) sound lives k =
-    still v (after_recv v len) (either View (λ w. w.state ≡ v.state) (is_some v.told || is_opening v.state || (length v.receiving.readable == 0)) v _ (λ refused. refl) (λ some. refl)) lives k
+    still v (after_recv v len) (either View (λ w. w.state ≡ v.state) (is_some v.pending_error || is_opening v.state || (length v.receiving.readable == 0)) v _ (λ refused. refl) (λ some. refl)) lives k
 seen_by_event v Shuts sound lives k =
-    either View (λ w. IsSilentEnd w → is_end_seen v.state ≡ true) (is_some (shutdown_refusal v)) v (after_shutdown v)
+    either View (λ w. IsSilentEnd w → is_read_closed v.state ≡ true) (is_some (shutdown_refusal v)) v (after_shutdown v)
     (λ refused. still v v refl lives) (λ shuts l. let bad : true ≡ false = sym l.closed ∙ shut_open v.state lives in cc) k
 seen_by_event v (Closes now) sound lives k =
-    either View (λ w. IsSilentEnd w → is_end_seen v.state ≡ true) (is_removed_by_close v) v _ (λ removed. still v v refl lives)
-    (λ stays. either View (λ w. IsSilentEnd w → is_end_seen v.state ≡ true) (is_aborted_by_close v) (aborted v) (after_release v now)
+    either View (λ w. IsSilentEnd w → is_read_closed v.state ≡ true) (is_removed_by_close v) v _ (λ removed. still v v refl lives)
+    (λ stays. either View (λ w. IsSilentEnd w → is_read_closed v.state ≡ true) (is_aborted_by_close v) (aborted v) (after_release v now)
     (λ lost l. let bad : true ≡ false = l.kept in cc) (λ leaves l. let bad : true ≡ false = l.kept in cc)) k
 seen_by_event v Aborts sound lives k =
-    either View (λ w. IsSilentEnd w → is_end_seen v.state ≡ true) (is_closed v.state) v (aborted v) (λ closed. still v v refl lives) (λ aborts l. let bad : true ≡ false = l.kept in cc) k
+    either View (λ w. IsSilentEnd w → is_read_closed v.state ≡ true) (is_closed v.state) v (aborted v) (λ closed. still v v refl lives) (λ aborts l. let bad : true ≡ false = l.kept in cc) k
 
-pub silent_ends_seen : (v : View) (e : Event) → IsSound v → is_closed v.state ≡ false → is_closed (after_event v e).state ≡ true → (after_event v e).told ≡ None → (after_event v e).released ≡ false
-    → is_end_seen v.state ≡ true
+pub silent_ends_seen : (v : View) (e : Event) → IsSound v → is_closed v.state ≡ false → is_closed (after_event v e).state ≡ true → (after_event v e).pending_error ≡ None → (after_event v e).released ≡ false
+    → is_read_closed v.state ≡ true
 silent_ends_seen v e sound lives closed quiet kept = seen_by_event v e sound lives (record { closed = closed; quiet = quiet; kept = kept })

@@ -2,7 +2,7 @@
 use Rattle.std.proofs.Common.{◌≡◌, ℕ, ◌+◌, ◌%◌, ◌^◌, ◌≤◌, ◌==◌, ◌||◌, ◌&&◌, ◌⊎◌, not, min, nat_lt, if◌then◌else◌, Bool, true, false, length, Some, None, inl, inr, arith, refl, sym, ◌∙◌, ap, subst}
 use Rattle.tcp_segment.specs.Segment.{Segment, span_of}
 use Rattle.clock.specs.declared.moment.Moment.{Moment}
-use Rattle.tcp_state.specs.declared.connection.Fate.TheVariants.{Stays, Removed, Refused}
+use Rattle.tcp_state.specs.declared.connection.Fate.TheVariants.{Stays, Removed, Rejected}
 use Rattle.tcp_state.specs.declared.connection.Resend.{Resend}
 use Rattle.tcp_state.specs.declared.connection.Resend.TheVariants.{Idle}
 use Rattle.tcp_state.specs.declared.emission.Due.{Due}
@@ -12,8 +12,8 @@ use Rattle.tcp_state.specs.declared.state.State.TheVariants.{Closed, SynSent, Sy
 use Rattle.tcp_state.specs.Numbers.{is_before}
 use Rattle.tcp_state.specs.Stream.{outstanding, is_new_ack}
 use Rattle.tcp_state.specs.Windows.{sendable}
-use Rattle.tcp_state.specs.View.{View, IsSound, is_opening, is_syn_sent, is_syn_received, is_closed, is_over, is_due, is_idle, is_time_wait, awaits_fin_ack, is_fin_acknowledged, is_fin_next}
-use Rattle.tcp_state.specs.Arrival.{owing_ack, established, after_ack, is_read_on, after_acceptable, after_accepted, ends_opening, is_accepted, is_right_syn_ack, after_syn_ack, after_segment, is_lost, after_lost, after_heard, begins_wait, repeats_fin, timed, after_segment_at, acknowledges_unsent, is_refused, fate}
+use Rattle.tcp_state.specs.View.{View, IsSound, is_opening, is_syn_sent, is_syn_received, is_closed, is_over, is_due, is_idle, is_time_wait, awaits_fin_ack, is_write_finished, is_fin_next}
+use Rattle.tcp_state.specs.Arrival.{owing_ack, after_establishment, after_ack, is_read_on, after_acknowledging_segment, after_acceptable_segment, ends_opening, is_acceptable_to, is_right_syn_ack, after_syn_ack, after_segment, is_lost, after_lost, after_heard, begins_wait, repeats_fin, timed, after_segment_at, acknowledges_unsent, is_rejected, fate}
 use Rattle.tcp_state.specs.Due.{first_due, again}
 use Rattle.tcp_state.proofs.Edges.{either, and_left, and_right}
 use Rattle.tcp_state.proofs.Causes.{or_else, not_true}
@@ -23,7 +23,7 @@ record Refuses (lost refused : Bool) : Type 0 where
   pub kept : lost ≡ false
   pub answered : refused ≡ true
 
-refuses : (closed lost over refused opening : Bool) → (if closed || lost then Stays else if over then Removed else if refused then Refused else if opening then Removed else Stays) ≡ Refused
+refuses : (closed lost over refused opening : Bool) → (if closed || lost then Stays else if over then Removed else if refused then Rejected else if opening then Removed else Stays) ≡ Rejected
     → Refuses lost refused
 refuses true lost over refused opening e = cc
 refuses false true over refused opening e = cc
@@ -37,7 +37,7 @@ record IsUnsent (v : View) (s : Segment) : Type 0 where
   pub no_rst : s.flags.rst ≡ false
   pub ack : s.flags.ack ≡ true
   pub old : is_new_ack v.sending s.acknowledgement ≡ false
-  pub received : is_syn_sent v.state ≡ false → (is_syn_received v.state ≡ true) × (is_accepted v s ≡ true) × (s.flags.syn ≡ false)
+  pub received : is_syn_sent v.state ≡ false → (is_syn_received v.state ≡ true) × (is_acceptable_to v s ≡ true) × (s.flags.syn ≡ false)
   pub opening : (is_time_wait v.state ≡ false) × (begins_wait v.state v.state ≡ false)
 
 opening_waits_not : (t : State) → (is_syn_sent t ≡ true) ⊎ (is_syn_received t ≡ true) → (is_time_wait t ≡ false) × (begins_wait t t ≡ false)
@@ -46,9 +46,9 @@ opening_waits_not SynReceived e = (refl, refl)
 opening_waits_not _ (inl e) = cc
 opening_waits_not _ (inr e) = cc
 
-unsent : (v : View) (s : Segment) → is_refused v s ≡ true → IsUnsent v s
+unsent : (v : View) (s : Segment) → is_rejected v s ≡ true → IsUnsent v s
 unsent v s e =
-    let late = is_syn_received v.state && is_accepted v s && not s.flags.syn in
+    let late = is_syn_received v.state && is_acceptable_to v s && not s.flags.syn in
     let old = and_left (acknowledges_unsent v s) (is_syn_sent v.state || late) e in
     let two = and_left (not s.flags.rst && s.flags.ack) (not (is_new_ack v.sending s.acknowledgement)) old in
     let waits = or_else (is_syn_sent v.state) late (and_right (acknowledges_unsent v s) (is_syn_sent v.state || late) e) in
@@ -59,14 +59,14 @@ unsent v s e =
       received = λ past. elim waits [
         | inl sent ↦ let bad : true ≡ false = sym sent ∙ past in cc
         | inr l ↦ (
-          and_left (is_syn_received v.state) (is_accepted v s) (and_left (is_syn_received v.state && is_accepted v s) (not s.flags.syn) l),
-          and_right (is_syn_received v.state) (is_accepted v s) (and_left (is_syn_received v.state && is_accepted v s) (not s.flags.syn) l),
-          not_true s.flags.syn (and_right (is_syn_received v.state && is_accepted v s) (not s.flags.syn) l),
+          and_left (is_syn_received v.state) (is_acceptable_to v s) (and_left (is_syn_received v.state && is_acceptable_to v s) (not s.flags.syn) l),
+          and_right (is_syn_received v.state) (is_acceptable_to v s) (and_left (is_syn_received v.state && is_acceptable_to v s) (not s.flags.syn) l),
+          not_true s.flags.syn (and_right (is_syn_received v.state && is_acceptable_to v s) (not s.flags.syn) l),
         )
       ];
       opening = opening_waits_not v.state (elim waits [
         | inl sent ↦ inl sent
-        | inr l ↦ inr (and_left (is_syn_received v.state) (is_accepted v s) (and_left (is_syn_received v.state && is_accepted v s) (not s.flags.syn) l))
+        | inr l ↦ inr (and_left (is_syn_received v.state) (is_acceptable_to v s) (and_left (is_syn_received v.state && is_acceptable_to v s) (not s.flags.syn) l))
       ]);
     }
 
@@ -84,30 +84,30 @@ unsent_leaves v s u =
     (λ rst. clash s.flags.rst rst u.no_rst)
     (λ no_rst. either View P (is_syn_sent v.state) (after_syn_ack v s) _
     (λ waits. either View P (is_right_syn_ack v s) _ v (λ right. clash new (and_right (s.flags.syn && s.flags.ack) new right) u.old) (λ wrong. refl))
-    (λ past. let r = u.received past in either View P (is_accepted v s) (after_accepted v s) (owing_ack v)
+    (λ past. let r = u.received past in either View P (is_acceptable_to v s) (after_acceptable_segment v s) (owing_ack v)
     (λ accepted. either View P s.flags.syn _ _
     (λ syn. clash s.flags.syn syn r.2)
-    (λ no_syn. either View P s.flags.ack (after_acceptable v s) v
+    (λ no_syn. either View P s.flags.ack (after_acknowledging_segment v s) v
     (λ ack. either View P (is_read_on v s.acknowledgement) _ (after_ack v s.acknowledgement)
     (λ on. clash new (sym (ap (λ b. if b then new else (new || not (is_before v.sending.nxt s.acknowledgement))) r.0) ∙ on) u.old)
     (λ off. either View P (is_syn_received v.state) _ _
-    (λ received. either View P new (established v) v (λ is_new. clash new is_new u.old) (λ old. refl))
+    (λ received. either View P new (after_establishment v) v (λ is_new. clash new is_new u.old) (λ old. refl))
     (λ not_received. clash (is_syn_received v.state) r.0 not_received)))
     (λ no_ack. refl)))
-    (λ refused. clash (is_accepted v s) r.1 refused))))
+    (λ refused. clash (is_acceptable_to v s) r.1 refused))))
 
-pub refused_leaves : (v : View) (s : Segment) (now : Moment) → fate v s ≡ Refused → after_segment_at v s now ≡ v
+pub refused_leaves : (v : View) (s : Segment) (now : Moment) → fate v s ≡ Rejected → after_segment_at v s now ≡ v
 refused_leaves v s now e =
-    let r = refuses (is_closed v.state) (is_lost v s) (is_over (after_segment v s)) (is_refused v s) (ends_opening v s) e in
+    let r = refuses (is_closed v.state) (is_lost v s) (is_over (after_segment v s)) (is_rejected v s) (ends_opening v s) e in
     let u = unsent v s r.answered in
     let same : after_heard v s ≡ v = ap (λ b. if b then after_lost v s else after_segment v s) r.kept ∙ unsent_leaves v s u in
-    let first : repeats_fin v s ≡ false = ap (λ b. b && not s.flags.rst && not (is_accepted v s) && s.flags.fin && ((s.number + span_of s) % 2 ^ 32 == v.receiving.rnext)) u.opening.0 in
+    let first : repeats_fin v s ≡ false = ap (λ b. b && not s.flags.rst && not (is_acceptable_to v s) && s.flags.fin && ((s.number + span_of s) % 2 ^ 32 == v.receiving.rnext)) u.opening.0 in
     ap (timed v s now) same ∙ (ap (λ b. record v { since = if b || begins_wait v.state v.state then now else v.since }) first
     ∙ ap (λ b. record v { since = if b then now else v.since }) u.opening.1)
 
 -- What is CLOSED.
 
-closed_plain : (t : State) → is_closed t ≡ true → (is_opening t ≡ false) × (awaits_fin_ack t ≡ false) × (is_fin_acknowledged t ≡ true) × (is_syn_sent t ≡ false)
+closed_plain : (t : State) → is_closed t ≡ true → (is_opening t ≡ false) × (awaits_fin_ack t ≡ false) × (is_write_finished t ≡ true) × (is_syn_sent t ≡ false)
 closed_plain Closed e = (refl, refl, refl, refl)
 closed_plain _ e = cc
 
@@ -132,7 +132,7 @@ none_due false false false true false false true text more o a n s f k = cc
 pub closed_owes : (v : View) → IsSound v → is_closed v.state ≡ true → first_due v ≡ (if v.owes_reset then Some Rst else None)
 closed_owes v sound closed =
     let plain = closed_plain v.state closed in
-    let held : length v.sending.held ≤ 0 = subst (λ b. length v.sending.held ≤ (if b then 0 else 65535)) (ap (λ b. b || is_fin_acknowledged v.state) plain.0 ∙ plain.2) sound.held in
+    let held : length v.sending.held ≤ 0 = subst (λ b. length v.sending.held ≤ (if b then 0 else 65535)) (ap (λ b. b || is_write_finished v.state) plain.0 ∙ plain.2) sound.held in
     let fin : is_fin_next v ≡ false = ap (λ b. b && (length v.sending.held == 0)) plain.1 in
     let flight : outstanding v.sending ≤ min (length v.sending.held) 1460 =
     subst (λ b. outstanding v.sending ≤ (if b then 1 else min (length v.sending.held) 1460)) (ap (λ b. b || is_fin_next v) plain.0 ∙ fin) sound.flight in

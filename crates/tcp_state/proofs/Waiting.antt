@@ -12,7 +12,7 @@ use Rattle.tcp_state.specs.declared.emission.Due.{Due as Segment}
 use Rattle.tcp_state.specs.declared.emission.Due.TheVariants.{Rst, Syn, Text, Fin}
 use Rattle.tcp_state.specs.Stream.{outstanding}
 use Rattle.tcp_state.specs.Windows.{sendable}
-use Rattle.tcp_state.specs.View.{View, IsSound, is_opening, is_closed, awaits_fin_ack, is_fin_acknowledged, is_due, is_idle, resend_at, ends_at, deadline, is_fin_next}
+use Rattle.tcp_state.specs.View.{View, IsSound, is_opening, is_closed, awaits_fin_ack, is_write_finished, is_due, is_idle, resend_at, ends_at, deadline, is_fin_next}
 use Rattle.tcp_state.specs.Due.{first_due, ack_due, again}
 use Rattle.tcp_state.specs.Positions.{HasToSend, takes_numbers}
 use Rattle.tcp_state.proofs.Edges.{either}
@@ -32,14 +32,14 @@ sooner_some (Some m) (Some n) e = either (Option Moment) (λ o. is_some o ≡ tr
 
 -- A reset is owed only where nothing waits.
 
-closed_waits_not : (t : State) → is_closed t ≡ true → (is_opening t ≡ false) × (awaits_fin_ack t ≡ false) × (is_fin_acknowledged t ≡ true)
+closed_waits_not : (t : State) → is_closed t ≡ true → (is_opening t ≡ false) × (awaits_fin_ack t ≡ false) × (is_write_finished t ≡ true)
 closed_waits_not Closed e = (refl, refl, refl)
 closed_waits_not _ e = cc
 
 closed_has_none : (v : View) → IsSound v → is_closed v.state ≡ true → HasToSend v → ⊥
 closed_has_none v sound closed has =
     let t = closed_waits_not v.state closed in
-    let held : length v.sending.held ≤ 0 = subst (λ b. length v.sending.held ≤ (if b then 0 else 65535)) (ap (λ b. b || is_fin_acknowledged v.state) t.0 ∙ t.2) sound.held in
+    let held : length v.sending.held ≤ 0 = subst (λ b. length v.sending.held ≤ (if b then 0 else 65535)) (ap (λ b. b || is_write_finished v.state) t.0 ∙ t.2) sound.held in
     elim has [
       | inl opening ↦ clash (is_opening v.state) opening t.0
       | inr sends ↦ elim sends.1 [ inl some ↦ omega (arith, held, some) | inr waits ↦ clash (awaits_fin_ack v.state) waits t.1 ]

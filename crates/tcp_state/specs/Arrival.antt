@@ -6,15 +6,15 @@ use Rattle.ipv4.specs.declared.addr.Endpoint.{Endpoint}
 use Rattle.tcp_segment.specs.Segment.{Segment, smss_of, span_of}
 use Rattle.tcp_state.specs.Numbers.{is_before}
 use Rattle.tcp_state.specs.declared.connection.Fate.{Fate}
-use Rattle.tcp_state.specs.declared.connection.Fate.TheVariants.{Stays, Removed, Refused}
+use Rattle.tcp_state.specs.declared.connection.Fate.TheVariants.{Stays, Removed, Rejected}
 use Rattle.tcp_state.specs.declared.buffers.TheConstants.{CAPACITY}
 use Rattle.clock.specs.declared.moment.Moment.{Moment}
 use Rattle.tcp_state.specs.declared.connection.Resend.TheVariants.{Idle}
 use Rattle.tcp_state.specs.declared.state.State.{State}
 use Rattle.tcp_state.specs.declared.state.State.TheVariants.{SynSent, SynReceived, Established, FinWait1, FinWait2, CloseWait, Closing, LastAck, TimeWait, Closed}
-use Rattle.tcp_state.specs.Stream.{outstanding, is_new_ack, sending_from, receiving_nothing, after_syn_acknowledged, after_acknowledged, is_in_window, is_acceptable, synchronised, after_octets, stands_next, after_end}
-use Rattle.tcp_state.specs.Windows.{after_syn_heard, after_window_told}
-use Rattle.tcp_state.specs.View.{View, is_syn_sent, is_syn_received, is_closed, is_fin_wait_2, is_time_wait, is_fin_next, stopped, is_over}
+use Rattle.tcp_state.specs.Stream.{outstanding, is_new_ack, sending_from, receiving_nothing, after_syn_acknowledged, after_acknowledged, is_in_window, is_acceptable, after_syn, after_octets, stands_next, after_end}
+use Rattle.tcp_state.specs.Windows.{after_syn_heard, after_window_update}
+use Rattle.tcp_state.specs.View.{View, is_syn_sent, is_syn_received, is_closed, is_fin_wait_2, is_time_wait, is_fin_next, after_stop, is_over}
 use Rattle.tcp_state.specs.Calls.{aborted}
 
 abbrev pub owing_ack : View → View
@@ -28,10 +28,10 @@ opened_passively local peer isn syn = record {
   state = SynReceived;
   passive = true;
   sending = after_syn_heard (sending_from isn) syn.number syn.window (smss_of syn);
-  receiving = synchronised receiving_nothing syn.number 0;
+  receiving = after_syn receiving_nothing syn.number 0;
   owes_ack = false;
   resend = Idle;
-  told = None;
+  pending_error = None;
   released = false;
   owes_reset = false;
   since = record { 0 = 0 };
@@ -39,7 +39,7 @@ opened_passively local peer isn syn = record {
 
 -- A reset ends the connection: what is held goes out no more, nothing is owed, and every call reports why from now on.
 abbrev pub after_reset : View → Option Refusal → View
-after_reset v error = record (stopped v) { told = error }
+after_reset v error = record (after_stop v) { pending_error = error }
 
 -- why, by the state that it ends: refused while it opens, reset while octets may still come or go; else both sides were closed
 abbrev pub reset_error : State → Option Refusal
@@ -52,8 +52,8 @@ reset_error CloseWait = Some ECONNRESET
 reset_error _ = None
 
 -- in SYN-SENT a reset acts that acknowledges our SYN, and any other is dropped (section 3.10.7.3, second)
-abbrev pub after_refusal : View → Segment → View
-after_refusal v s =
+abbrev pub after_rst_in_syn_sent : View → Segment → View
+after_rst_in_syn_sent v s =
     if s.flags.ack && is_new_ack v.sending s.acknowledgement then after_reset v (reset_error v.state) else v
 
 -- in SYN-SENT only a SYN that acknowledges ours is taken (section 3.10.7.3); our SYN advertised the whole room of an empty buffer
@@ -65,22 +65,22 @@ after_syn_ack v s =
     if is_right_syn_ack v s then record v {
       state = Established;
       sending = after_syn_acknowledged (after_syn_heard v.sending s.number s.window (smss_of s));
-      receiving = synchronised v.receiving s.number CAPACITY;
+      receiving = after_syn v.receiving s.number CAPACITY;
       owes_ack = true;
       resend = Idle;
     } else v
 
 -- the acceptability test, in every state but SYN-SENT (section 3.10.7.4, first)
-abbrev pub is_accepted : View → Segment → Bool
-is_accepted v s = is_acceptable v.receiving s.number (span_of s)
+abbrev pub is_acceptable_to : View → Segment → Bool
+is_acceptable_to v s = is_acceptable v.receiving s.number (span_of s)
 
 -- an acceptable segment with SYN ends what a listener opened and is not established (section 3.10.7.4, fourth)
 abbrev pub ends_by_syn : View → Segment → Bool
-ends_by_syn v s = is_accepted v s && s.flags.syn && v.passive && is_syn_received v.state
+ends_by_syn v s = is_acceptable_to v s && s.flags.syn && v.passive && is_syn_received v.state
 
 -- a reset at RCV.NXT acts (section 3.10.7.4, second) ..
 abbrev pub is_acting_reset : View → Segment → Bool
-is_acting_reset v s = is_accepted v s && (s.number == v.receiving.rnext)
+is_acting_reset v s = is_acceptable_to v s && (s.number == v.receiving.rnext)
 
 -- .. and ends what a listener opened and is not established
 abbrev pub ends_by_reset : View → Segment → Bool
@@ -94,8 +94,8 @@ after_rst v s =
     else v
 
 -- our SYN is acknowledged
-abbrev pub established : View → View
-established v = record v { state = Established; sending = after_syn_acknowledged v.sending; resend = Idle }
+abbrev pub after_establishment : View → View
+after_establishment v = record v { state = Established; sending = after_syn_acknowledged v.sending; resend = Idle }
 
 -- our FIN is acknowledged (section 3.10.7.4, fifth)
 abbrev pub beyond_fin : State → State
@@ -118,7 +118,7 @@ after_new_ack v ack = record v {
 -- the acknowledgement field (section 3.10.7.4, fifth): what it makes of the connection ..
 abbrev pub after_ack : View → ℕ → View
 after_ack v ack =
-    if is_syn_received v.state then (if is_new_ack v.sending ack then established v else v)
+    if is_syn_received v.state then (if is_new_ack v.sending ack then after_establishment v else v)
     else if is_new_ack v.sending ack then (if is_fin_next v then fin_acknowledged (after_new_ack v ack) else after_new_ack v ack)
     else if is_before v.sending.nxt ack then owing_ack v
     else v
@@ -128,7 +128,7 @@ abbrev pub is_read_on : View → ℕ → Bool
 is_read_on v ack = if is_syn_received v.state then is_new_ack v.sending ack else is_new_ack v.sending ack || not (is_before v.sending.nxt ack)
 
 abbrev pub after_window : View → Segment → View
-after_window v s = record v { sending = after_window_told v.sending s.number s.acknowledgement s.window }
+after_window v s = record v { sending = after_window_update v.sending s.number s.acknowledgement s.window }
 
 -- the peer's side is not closed, as far as we know
 abbrev pub is_receiving : State → Bool
@@ -159,24 +159,24 @@ after_fin v s =
     else v
 
 -- an acceptable segment with ACK and without SYN
-abbrev pub after_acceptable : View → Segment → View
-after_acceptable v s =
+abbrev pub after_acknowledging_segment : View → Segment → View
+after_acknowledging_segment v s =
     if is_read_on v s.acknowledgement then after_fin (after_text (after_window (after_ack v s.acknowledgement) s) s) s
     else after_ack v s.acknowledgement
 
 -- an acceptable segment: a SYN draws an acknowledgement, and what acknowledges nothing is dropped
-abbrev pub after_accepted : View → Segment → View
-after_accepted v s =
+abbrev pub after_acceptable_segment : View → Segment → View
+after_acceptable_segment v s =
     if s.flags.syn then (if ends_by_syn v s then v else owing_ack v)
-    else if s.flags.ack then after_acceptable v s
+    else if s.flags.ack then after_acknowledging_segment v s
     else v
 
 abbrev pub after_segment : View → Segment → View
 after_segment v s =
     if is_closed v.state then v
-    else if s.flags.rst then (if is_syn_sent v.state then after_refusal v s else after_rst v s)
+    else if s.flags.rst then (if is_syn_sent v.state then after_rst_in_syn_sent v s else after_rst v s)
     else if is_syn_sent v.state then after_syn_ack v s
-    else if is_accepted v s then after_accepted v s
+    else if is_acceptable_to v s then after_acceptable_segment v s
     else owing_ack v
 
 -- Octets for a connection that its caller closed would be lost, and the peer is told so by a reset (section 3.6.1): an acceptable
@@ -185,7 +185,7 @@ abbrev pub brings_more : View → Segment → Bool
 brings_more v s = not (length s.octets == 0) && is_before v.receiving.rnext ((s.number + length s.octets) % 2 ^ 32)
 
 abbrev pub is_read : View → Segment → Bool
-is_read v s = not s.flags.rst && is_accepted v s && not s.flags.syn && s.flags.ack && is_read_on v s.acknowledgement
+is_read v s = not s.flags.rst && is_acceptable_to v s && not s.flags.syn && s.flags.ack && is_read_on v s.acknowledgement
 
 abbrev pub is_lost : View → Segment → Bool
 is_lost v s = v.released && is_receiving v.state && is_read v s && brings_more v s
@@ -205,7 +205,7 @@ begins_wait before _ = false
 
 -- .. and in TIME-WAIT again from one that brings the peer's FIN once more (section 3.10.7.4, eighth)
 abbrev pub repeats_fin : View → Segment → Bool
-repeats_fin v s = is_time_wait v.state && not s.flags.rst && not (is_accepted v s) && s.flags.fin && ((s.number + span_of s) % 2 ^ 32 == v.receiving.rnext)
+repeats_fin v s = is_time_wait v.state && not s.flags.rst && not (is_acceptable_to v s) && s.flags.fin && ((s.number + span_of s) % 2 ^ 32 == v.receiving.rnext)
 
 abbrev pub timed : View → Segment → Moment → View → View
 timed v s now w = record w { since = if repeats_fin v s || begins_wait v.state w.state then now else w.since }
@@ -218,8 +218,8 @@ after_segment_at v s now = timed v s now (after_heard v s)
 abbrev pub acknowledges_unsent : View → Segment → Bool
 acknowledges_unsent v s = not s.flags.rst && s.flags.ack && not (is_new_ack v.sending s.acknowledgement)
 
-abbrev pub is_refused : View → Segment → Bool
-is_refused v s = acknowledges_unsent v s && (is_syn_sent v.state || (is_syn_received v.state && is_accepted v s && not s.flags.syn))
+abbrev pub is_rejected : View → Segment → Bool
+is_rejected v s = acknowledges_unsent v s && (is_syn_sent v.state || (is_syn_received v.state && is_acceptable_to v s && not s.flags.syn))
 
 -- a reset or a SYN takes out what a listener opened and is not established
 abbrev pub ends_opening : View → Segment → Bool
@@ -230,6 +230,6 @@ abbrev pub fate : View → Segment → Fate
 fate v s =
     if is_closed v.state || is_lost v s then Stays
     else if is_over (after_segment v s) then Removed
-    else if is_refused v s then Refused
+    else if is_rejected v s then Rejected
     else if ends_opening v s then Removed
     else Stays

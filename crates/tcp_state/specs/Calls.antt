@@ -11,41 +11,41 @@ use Rattle.clock.specs.declared.moment.Moment.{Moment}
 use Rattle.tcp_state.specs.declared.connection.Fate.{Fate}
 use Rattle.tcp_state.specs.declared.connection.Fate.TheVariants.{Stays, Removed}
 use Rattle.tcp_state.specs.Stream.{send_room, receive_window, after_read}
-use Rattle.tcp_state.specs.View.{View, is_opening, is_syn_sent, is_syn_received, is_write_closed, is_end_seen, is_closed, is_fin_wait_2, stopped}
+use Rattle.tcp_state.specs.View.{View, is_opening, is_syn_sent, is_syn_received, is_write_closed, is_read_closed, is_closed, is_fin_wait_2, after_stop}
 
 -- how many octets a send takes: all, or as many as there is room for
-abbrev pub taken : View → List ℕ → ℕ
-taken v octets = min (length octets) (send_room v.sending)
+abbrev pub send_count : View → List ℕ → ℕ
+send_count v octets = min (length octets) (send_room v.sending)
 
 -- a call while an error may be pending: it is refused with it, or it is what it is without one
-abbrev pub unless_told : {T : Type 0} → Option Refusal → Result T Refusal → Result T Refusal
-unless_told None answer = answer
-unless_told (Some error) answer = Err error
+abbrev pub unless_pending : {T : Type 0} → Option Refusal → Result T Refusal → Result T Refusal
+unless_pending None answer = answer
+unless_pending (Some error) answer = Err error
 
 abbrev pub send_answer : View → List ℕ → Result ℕ Refusal
 send_answer v octets =
-    unless_told v.told (
+    unless_pending v.pending_error (
     if is_opening v.state then Err EAGAIN
     else if is_write_closed v.state then Err EPIPE
     else if (send_room v.sending == 0) && not (length octets == 0) then Err EAGAIN
-    else Ok (taken v octets)
+    else Ok (send_count v octets)
     )
 
 abbrev pub after_send : View → List ℕ → View
 after_send v octets =
-    if is_some v.told || is_opening v.state || is_write_closed v.state then v
-    else record v { sending = record v.sending { held = v.sending.held ++ take (taken v octets) octets } }
+    if is_some v.pending_error || is_opening v.state || is_write_closed v.state then v
+    else record v { sending = record v.sending { held = v.sending.held ++ take (send_count v octets) octets } }
 
 -- how many octets a receive into a buffer of this length moves
-abbrev pub moved : View → ℕ → ℕ
-moved v len = min len (length v.receiving.readable)
+abbrev pub recv_count : View → ℕ → ℕ
+recv_count v len = min len (length v.receiving.readable)
 
 abbrev pub recv_answer : View → ℕ → Result Received Refusal
 recv_answer v len =
-    unless_told v.told (
+    unless_pending v.pending_error (
     if is_opening v.state then Err EAGAIN
-    else if not (length v.receiving.readable == 0) then Ok (Octets (moved v len))
-    else if is_end_seen v.state then Ok EndOfStream
+    else if not (length v.receiving.readable == 0) then Ok (Octets (recv_count v len))
+    else if is_read_closed v.state then Ok EndOfStream
     else Err EAGAIN
     )
 
@@ -53,29 +53,29 @@ recv_answer v len =
 -- where all is closed.
 abbrev pub after_recv : View → ℕ → View
 after_recv v len =
-    if is_some v.told || is_opening v.state || (length v.receiving.readable == 0) then v
+    if is_some v.pending_error || is_opening v.state || (length v.receiving.readable == 0) then v
     else record v {
-      receiving = after_read v.receiving (moved v len);
+      receiving = after_read v.receiving (recv_count v len);
       owes_ack = v.owes_ack || ((receive_window v.receiving == 0) && not (is_closed v.state));
     }
 
 -- closing our side: there is nothing to close while the connection opens
 abbrev pub shutdown_refusal : View → Option Refusal
-shutdown_refusal v = option_or v.told (if is_opening v.state then Some ENOTCONN else None)
+shutdown_refusal v = option_or v.pending_error (if is_opening v.state then Some ENOTCONN else None)
 
 -- the state once our side is closed (section 3.10.4); closed again, it stays
-abbrev pub shut : State → State
-shut Established = FinWait1
-shut CloseWait = LastAck
-shut state = state
+abbrev pub beyond_shutdown : State → State
+beyond_shutdown Established = FinWait1
+beyond_shutdown CloseWait = LastAck
+beyond_shutdown state = state
 
 abbrev pub after_shutdown : View → View
-after_shutdown v = record v { state = shut v.state }
+after_shutdown v = record v { state = beyond_shutdown v.state }
 
 -- An abort (section 3.10.5): the peer is owed a reset, and nobody else anything; own in CLOSING, LAST-ACK and TIME-WAIT, where the
 -- section sends none.
 abbrev pub aborted : View → View
-aborted v = record (stopped v) { released = true; owes_reset = true }
+aborted v = record (after_stop v) { released = true; owes_reset = true }
 
 abbrev pub after_abort : View → View
 after_abort v = if is_closed v.state then v else aborted v
@@ -91,7 +91,7 @@ latest a b = record { 0 = max a.0 b.0 }
 -- its caller leaves it, and our side closes: it goes on until it ends by itself; in FIN-WAIT-2 its wait begins, with the call or with
 -- the state, whichever is later
 abbrev pub after_release : View → Moment → View
-after_release v now = record v { state = shut v.state; released = true; since = if is_fin_wait_2 v.state then latest v.since now else v.since }
+after_release v now = record v { state = beyond_shutdown v.state; released = true; since = if is_fin_wait_2 v.state then latest v.since now else v.since }
 
 -- Closing (section 3.10.4) takes out at once what is CLOSED, or waits for the answer to its SYN ..
 abbrev pub is_removed_by_close : View → Bool

@@ -11,7 +11,7 @@ use Rattle.clock.specs.declared.moment.Moment.{Moment}
 use Rattle.clock.specs.Moments.{after}
 use Rattle.tcp_state.specs.declared.connection.Resend.TheVariants.{At}
 use Rattle.tcp_state.specs.Stream.{outstanding, after_sent, receive_window}
-use Rattle.tcp_state.specs.Windows.{sendable, after_told}
+use Rattle.tcp_state.specs.Windows.{sendable, after_advertisement}
 use Rattle.tcp_state.specs.View.{View, is_opening, is_syn_sent, is_syn_received, is_closed, is_due, is_fin_next}
 
 -- The segment that goes out for each thing that may be due.
@@ -36,7 +36,7 @@ octets_of v _ = []
 -- the window up to the edge that is advertised with it, and none in a reset
 abbrev pub window_of : View → Due → ℕ
 window_of v Rst = 0
-window_of v _ = receive_window (after_told v.receiving)
+window_of v _ = receive_window (after_advertisement v.receiving)
 
 -- the header: the acknowledgement is RCV.NXT
 abbrev pub head_of : View → Due → Head
@@ -56,12 +56,12 @@ abbrev pub emitted_len : View → Due → ℕ
 emitted_len v due = 4 * sent_offset (head_of v due) + length (octets_of v due)
 
 -- the octets of the segment
-abbrev pub emitted : View → Due → List ℕ
-emitted v due = sent_octets v.local.addr v.peer.addr (head_of v due) (octets_of v due)
+abbrev pub segment_octets : View → Due → List ℕ
+segment_octets v due = sent_octets v.local.addr v.peer.addr (head_of v due) (octets_of v due)
 
 -- an acknowledgement that goes out advertises the whole room, and none is owed any more
 abbrev pub after_ack_paid : View → View
-after_ack_paid v = record v { receiving = after_told v.receiving; owes_ack = false }
+after_ack_paid v = record v { receiving = after_advertisement v.receiving; owes_ack = false }
 
 -- what is outstanding goes out again after a second
 abbrev pub after_numbers : View → ℕ → Moment → View

@@ -4,7 +4,7 @@ use Rattle.tcp_segment.specs.Segment.{Segment}
 use Rattle.clock.specs.declared.moment.Moment.{Moment}
 use Rattle.tcp_state.specs.declared.emission.Due.{Due}
 use Rattle.tcp_state.specs.declared.connection.Fate.{Fate}
-use Rattle.tcp_state.specs.declared.connection.Fate.TheVariants.{Stays, Removed, Refused}
+use Rattle.tcp_state.specs.declared.connection.Fate.TheVariants.{Stays, Removed, Rejected}
 use Rattle.tcp_state.specs.declared.state.State.{State}
 use Rattle.tcp_state.specs.declared.state.State.TheVariants.{Closed, Listen, SynSent, SynReceived, Established, FinWait1, FinWait2, CloseWait, Closing, LastAck, TimeWait}
 use Rattle.tcp_state.specs.declared.calls.Refusal.{Refusal}
@@ -90,7 +90,7 @@ fate_by v Aborts = abort_fate v
 abbrev pub is_removed : Fate → Bool
 is_removed Removed = true
 is_removed Stays = false
-is_removed Refused = false
+is_removed Rejected = false
 
 -- what is taken out is CLOSED, or back in LISTEN where its listener opened it and it was not established
 abbrev pub left_by : View → State
@@ -140,12 +140,12 @@ is_error_of CloseWait ECONNRESET = true
 is_error_of _ _ = false
 
 -- an event raises this error: a reset that acts and leaves the connection its place, in a state that has it
-abbrev pub may_tell : View → Event → Refusal → Bool
-may_tell v (Hears s now) error = is_reset_by v s && not (ends_by_reset v s) && is_error_of v.state error
-may_tell v (Ticks now) error = false
-may_tell v (Emits now) error = false
-may_tell v (Sends octets) error = false
-may_tell v (Receives len) error = false
-may_tell v Shuts error = false
-may_tell v (Closes now) error = false
-may_tell v Aborts error = false
+abbrev pub may_raise : View → Event → Refusal → Bool
+may_raise v (Hears s now) error = is_reset_by v s && not (ends_by_reset v s) && is_error_of v.state error
+may_raise v (Ticks now) error = false
+may_raise v (Emits now) error = false
+may_raise v (Sends octets) error = false
+may_raise v (Receives len) error = false
+may_raise v Shuts error = false
+may_raise v (Closes now) error = false
+may_raise v Aborts error = false

@@ -57,15 +57,15 @@ is_acceptable r number zero = if receive_window r == 0 then number == r.rnext el
 is_acceptable r number (suc more) = is_in_window r number || is_in_window r ((number + more) % 2 ^ 32)
 
 -- the peer's SYN has this number, and this window was advertised to it
-abbrev pub synchronised : Receiving → ℕ → ℕ → Receiving
-synchronised r number advertised = let rnext = (number + 1) % 2 ^ 32 in record r { rnext = rnext; edge = (rnext + advertised) % 2 ^ 32 }
+abbrev pub after_syn : Receiving → ℕ → ℕ → Receiving
+after_syn r number advertised = let rnext = (number + 1) % 2 ^ 32 in record r { rnext = rnext; edge = (rnext + advertised) % 2 ^ 32 }
 
 -- the octets of a segment that stand next in order: what lies before RCV.NXT and past the window advertised is cut
-abbrev pub gained : Receiving → ℕ → List ℕ → List ℕ
-gained r number octets = if is_before r.rnext number then [] else take (receive_window r) (drop (past r.rnext number) octets)
+abbrev pub octets_gained : Receiving → ℕ → List ℕ → List ℕ
+octets_gained r number octets = if is_before r.rnext number then [] else take (receive_window r) (drop (past r.rnext number) octets)
 
 abbrev pub after_octets : Receiving → ℕ → List ℕ → Receiving
-after_octets r number octets = let new = gained r number octets in record r { readable = r.readable ++ new; rnext = (r.rnext + length new) % 2 ^ 32 }
+after_octets r number octets = let new = octets_gained r number octets in record r { readable = r.readable ++ new; rnext = (r.rnext + length new) % 2 ^ 32 }
 
 -- the number of a FIN stands next in order, and the window advertised has room for it
 abbrev pub stands_next : Receiving → ℕ → Bool

@@ -29,7 +29,7 @@ pub record View : Type 0 where
   -- whether and when what is outstanding goes out again
   pub resend : Resend
   -- the error that every call reports from now on
-  pub told : Option Refusal
+  pub pending_error : Option Refusal
   -- its caller closed it: no socket names it any more
   pub released : Bool
   -- it was aborted, and its reset has not gone out
@@ -59,24 +59,24 @@ awaits_fin_ack LastAck = true
 awaits_fin_ack _ = false
 
 -- our side is closed, and nothing of ours waits to be acknowledged: our FIN is, or the connection is CLOSED
-abbrev pub is_fin_acknowledged : State → Bool
-is_fin_acknowledged FinWait2 = true
-is_fin_acknowledged TimeWait = true
-is_fin_acknowledged Closed = true
-is_fin_acknowledged _ = false
+abbrev pub is_write_finished : State → Bool
+is_write_finished FinWait2 = true
+is_write_finished TimeWait = true
+is_write_finished Closed = true
+is_write_finished _ = false
 
 -- our side is closed: octets are taken no longer, and a FIN follows those that are held
 abbrev pub is_write_closed : State → Bool
-is_write_closed state = awaits_fin_ack state || is_fin_acknowledged state
+is_write_closed state = awaits_fin_ack state || is_write_finished state
 
 -- nothing more comes from the peer: its FIN has come, behind all its octets, or the connection is CLOSED
-abbrev pub is_end_seen : State → Bool
-is_end_seen CloseWait = true
-is_end_seen Closing = true
-is_end_seen LastAck = true
-is_end_seen TimeWait = true
-is_end_seen Closed = true
-is_end_seen _ = false
+abbrev pub is_read_closed : State → Bool
+is_read_closed CloseWait = true
+is_read_closed Closing = true
+is_read_closed LastAck = true
+is_read_closed TimeWait = true
+is_read_closed Closed = true
+is_read_closed _ = false
 
 abbrev pub is_closed : State → Bool
 is_closed Closed = true
@@ -123,8 +123,8 @@ abbrev pub is_at_end : View → Moment → Bool
 is_at_end v now = is_reached (ends_at v) now
 
 -- the connection is CLOSED: nothing is held, owed or due, and no number is outstanding
-abbrev pub stopped : View → View
-stopped v = record v { state = Closed; sending = record v.sending { held = []; una = v.sending.nxt }; owes_ack = false; resend = Idle }
+abbrev pub after_stop : View → View
+after_stop v = record v { state = Closed; sending = record v.sending { held = []; una = v.sending.nxt }; owes_ack = false; resend = Idle }
 
 -- closed by its caller and CLOSED, and no reset is owed: nothing is left of it
 abbrev pub is_over : View → Bool
@@ -140,7 +140,7 @@ after_resend v now = record v { resend = resend_after v.resend now }
 
 -- a tick ends the connection whose wait is over, and tells nobody; else it lets the other timer act
 abbrev pub after_tick : View → Moment → View
-after_tick v now = if is_at_end v now then stopped v else after_resend v now
+after_tick v now = if is_at_end v now then after_stop v else after_resend v now
 
 abbrev pub tick_fate : View → Moment → Fate
 tick_fate v now = if is_at_end v now && v.released then Removed else Stays
@@ -164,7 +164,7 @@ opened_actively local peer isn = record {
   receiving = receiving_nothing;
   owes_ack = false;
   resend = Idle;
-  told = None;
+  pending_error = None;
   released = false;
   owes_reset = false;
   since = record { 0 = 0 };
@@ -186,7 +186,7 @@ pub record IsSound (v : View) : Type 0 where
   pub una : v.sending.una < 2 ^ 32
   pub nxt : v.sending.nxt < 2 ^ 32
   pub rnext : v.receiving.rnext < 2 ^ 32
-  pub held : length v.sending.held ≤ (if is_opening v.state || is_fin_acknowledged v.state then 0 else CAPACITY)
+  pub held : length v.sending.held ≤ (if is_opening v.state || is_write_finished v.state then 0 else CAPACITY)
   pub readable : length v.receiving.readable ≤ (if is_opening v.state then 0 else CAPACITY)
   pub window : ReceivingFits v.receiving
   pub flight : outstanding v.sending ≤ most_outstanding v
@@ -195,6 +195,6 @@ pub record IsSound (v : View) : Type 0 where
   pub segment : v.sending.smss ≤ MSS
   pub segment_least : LEAST_MSS ≤ v.sending.smss
   pub ack : ((is_syn_sent v.state || is_closed v.state) && v.owes_ack) ≡ false
-  pub error : (is_some v.told && not (is_closed v.state)) ≡ false
+  pub error : (is_some v.pending_error && not (is_closed v.state)) ≡ false
   pub reset : (v.owes_reset && not (is_closed v.state && v.released)) ≡ false
   pub release : (v.released && not (is_write_closed v.state)) ≡ false

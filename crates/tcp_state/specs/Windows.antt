@@ -10,20 +10,20 @@ after_syn_heard s number window smss = record s { window = window; wl1 = number;
 
 -- A segment updates the send window where its acknowledgement is not below SND.UNA, and where it is no older than the one that updated it last
 -- (section 3.10.7.4, fifth): SND.UNA =< SEG.ACK, and SND.WL1 < SEG.SEQ or (SND.WL1 = SEG.SEQ and SND.WL2 =< SEG.ACK)
-abbrev pub tells_window : Sending → ℕ → ℕ → Bool
-tells_window s number ack = not (is_before ack s.una) && (is_before s.wl1 number || (s.wl1 == number && not (is_before ack s.wl2)))
+abbrev pub updates_window : Sending → ℕ → ℕ → Bool
+updates_window s number ack = not (is_before ack s.una) && (is_before s.wl1 number || (s.wl1 == number && not (is_before ack s.wl2)))
 
-abbrev pub after_window_told : Sending → ℕ → ℕ → ℕ → Sending
-after_window_told s number ack window = if tells_window s number ack then record s { window = window; wl1 = number; wl2 = ack } else s
+abbrev pub after_window_update : Sending → ℕ → ℕ → ℕ → Sending
+after_window_update s number ack window = if updates_window s number ack then record s { window = window; wl1 = number; wl2 = ack } else s
 
 -- how many octets may go out in one segment where nothing is outstanding
 abbrev pub sendable : Sending → ℕ
 sendable s = min (min (length s.held) s.smss) s.window
 
 -- how many octets can still come: the window to advertise
-abbrev pub free : Receiving → ℕ
-free r = CAPACITY - length r.readable
+abbrev pub receive_room : Receiving → ℕ
+receive_room r = CAPACITY - length r.readable
 
 -- the whole room is advertised
-abbrev pub after_told : Receiving → Receiving
-after_told r = record r { edge = (r.rnext + free r) % 2 ^ 32 }
+abbrev pub after_advertisement : Receiving → Receiving
+after_advertisement r = record r { edge = (r.rnext + receive_room r) % 2 ^ 32 }

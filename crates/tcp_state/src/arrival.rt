@@ -2,7 +2,7 @@
 
 ghost use Rattle.std.specs.Prelude.{◌≡◌, true, false, ◌&&◌, ◌||◌, not, if◌then◌else◌, IsTrue, ◌==◌};
 ghost use Rattle.tcp_state.specs.View.{is_opening, is_syn_sent, is_syn_received, is_closed, is_fin_next};
-ghost use Rattle.tcp_state.specs.Arrival.{after_segment, after_syn_ack, owing_ack, established, after_ack, is_read_on, after_window, after_text, after_acceptable, after_accepted, ends_by_syn, is_accepted, fin_acknowledged, after_new_ack, after_fin, after_reset, reset_error, after_refusal, after_rst, is_acting_reset, ends_by_reset, is_right_syn_ack, fate, after_segment_at, after_heard, is_lost, is_read, brings_more, after_lost, repeats_fin, is_refused, ends_opening};
+ghost use Rattle.tcp_state.specs.Arrival.{after_segment, after_syn_ack, owing_ack, after_establishment, after_ack, is_read_on, after_window, after_text, after_acknowledging_segment, after_acceptable_segment, ends_by_syn, is_acceptable_to, fin_acknowledged, after_new_ack, after_fin, after_reset, reset_error, after_rst_in_syn_sent, after_rst, is_acting_reset, ends_by_reset, is_right_syn_ack, fate, after_segment_at, after_heard, is_lost, is_read, brings_more, after_lost, repeats_fin, is_rejected, ends_opening};
 ghost use Rattle.tcp_state.specs.Stream.{is_new_ack};
 
 use crate::buffers::CAPACITY;
@@ -45,7 +45,7 @@ impl Connection {
     /// Takes a segment of which no octets are lost, step by step.
     fn hear_kept(&mut self, segment: &TcpView<'_>) -> Fate
         requires { is_closed self.old.state ≡ false }
-        ensures fate { result ≡ (if is_refused self.old segment.now then Fate.Refused else if ends_opening self.old segment.now then Fate.Removed else Fate.Stays) }
+        ensures fate { result ≡ (if is_rejected self.old segment.now then Fate.Rejected else if ends_opening self.old segment.now then Fate.Removed else Fate.Stays) }
         ensures after { self.new ≡ after_segment self.old segment.now }
     {
         let flags = segment.flags();
@@ -63,17 +63,17 @@ impl Connection {
             return self.hear_another_syn();
         }
         if flags.ack {
-            return self.hear_accepted(segment);
+            return self.hear_acknowledging(segment);
         }
         Fate::Stays
     }
 
     /// Whether a segment is acceptable (RFC 9293 section 3.10.7.4, first).
     fn is_acceptable(&self, segment: &TcpView<'_>) -> bool
-        ensures { result ≡ is_accepted self.now segment.now }
+        ensures { result ≡ is_acceptable_to self.now segment.now }
     {
         let (number, span) = (segment.number(), segment.span());
-        self.receiver.accepts(number, span)
+        self.receiver.is_acceptable(number, span)
     }
 
     /// Whether octets of a segment would be lost: its caller closed the connection, and one stands at RCV.NXT or past it.
@@ -145,7 +145,7 @@ impl Connection {
     fn hear_reset(&mut self, segment: &TcpView<'_>) -> Fate
         requires { is_closed self.old.state ≡ false }
         ensures fate { result ≡ (if not (is_syn_sent self.old.state) && ends_by_reset self.old segment.now then Fate.Removed else Fate.Stays) }
-        ensures after { self.new ≡ (if is_syn_sent self.old.state then after_refusal self.old segment.now else after_rst self.old segment.now) }
+        ensures after { self.new ≡ (if is_syn_sent self.old.state then after_rst_in_syn_sent self.old segment.now else after_rst self.old segment.now) }
     {
         if self.state == State::SynSent {
             if segment.flags().ack && self.sender.is_new(segment.acknowledgement()) {
@@ -179,14 +179,14 @@ impl Connection {
     {
         let error = self.state.reset_error();
         self.stop();
-        self.told = error;
+        self.pending_error = error;
     }
 
     /// Takes an acceptable segment with ACK and without SYN.
-    fn hear_accepted(&mut self, segment: &TcpView<'_>) -> Fate
+    fn hear_acknowledging(&mut self, segment: &TcpView<'_>) -> Fate
         requires { (is_syn_sent self.old.state || is_closed self.old.state) ≡ false }
-        ensures fate { result ≡ (if is_syn_received self.old.state && not (is_new_ack self.old.sending segment.now.acknowledgement) then Fate.Refused else Fate.Stays) }
-        ensures after { self.new ≡ after_acceptable self.old segment.now }
+        ensures fate { result ≡ (if is_syn_received self.old.state && not (is_new_ack self.old.sending segment.now.acknowledgement) then Fate.Rejected else Fate.Stays) }
+        ensures after { self.new ≡ after_acknowledging_segment self.old segment.now }
     {
         if self.hear_ack(segment.acknowledgement()) {
             self.hear_window(segment);
@@ -195,7 +195,7 @@ impl Connection {
             return Fate::Stays;
         }
         if self.state == State::SynReceived {
-            Fate::Refused
+            Fate::Rejected
         } else {
             Fate::Stays
         }
@@ -215,12 +215,12 @@ impl Connection {
     /// In SYN-SENT only a SYN that acknowledges ours is taken (RFC 9293 section 3.10.7.3).
     fn hear_syn_ack(&mut self, segment: &TcpView<'_>) -> Fate
         requires { is_syn_sent self.old.state ≡ true }
-        ensures fate { result ≡ (if segment.now.flags.ack && not (is_new_ack self.old.sending segment.now.acknowledgement) then Fate.Refused else Fate.Stays) }
+        ensures fate { result ≡ (if segment.now.flags.ack && not (is_new_ack self.old.sending segment.now.acknowledgement) then Fate.Rejected else Fate.Stays) }
         ensures after { self.new ≡ after_syn_ack self.old segment.now }
     {
         let flags = segment.flags();
         if flags.ack && !self.sender.is_new(segment.acknowledgement()) {
-            return Fate::Refused;
+            return Fate::Rejected;
         }
         if flags.syn && flags.ack {
             self.establish_by(segment);
@@ -299,7 +299,7 @@ impl Connection {
     /// Our SYN is acknowledged.
     fn establish(&mut self)
         requires { is_syn_received self.old.state ≡ true }
-        ensures { self.new ≡ established self.old }
+        ensures { self.new ≡ after_establishment self.old }
     {
         self.sender.acknowledge_syn();
         self.state = State::Established;

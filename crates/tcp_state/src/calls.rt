@@ -2,8 +2,8 @@
 
 ghost use Rattle.std.specs.Prelude.{◌≡◌, ◌<◌, ◌++◌, length, take, drop, if◌then◌else◌, ◌||◌, ◌==◌, Ok, Err, OnOk, OnErr, is_some};
 ghost use Rattle.std.specs.Result.{result_err};
-ghost use Rattle.tcp_state.specs.View.{is_opening, is_end_seen};
-ghost use Rattle.tcp_state.specs.Calls.{send_answer, after_send, recv_answer, after_recv, moved, shutdown_refusal, after_shutdown};
+ghost use Rattle.tcp_state.specs.View.{is_opening, is_read_closed};
+ghost use Rattle.tcp_state.specs.Calls.{send_answer, after_send, recv_answer, after_recv, recv_count, shutdown_refusal, after_shutdown};
 
 use crate::connection::Connection;
 use crate::state::State;
@@ -69,7 +69,7 @@ impl Connection {
         requires { 0 < length buffer.old }
         ensures answer { result ≡ recv_answer self.old (length buffer.old) }
         ensures after { self.new ≡ after_recv self.old (length buffer.old) }
-        ensures octets { buffer.new ≡ (if is_some self.old.told || is_opening self.old.state || (length self.old.receiving.readable == 0) then buffer.old else take (moved self.old (length buffer.old)) self.old.receiving.readable ++ drop (moved self.old (length buffer.old)) buffer.old) }
+        ensures octets { buffer.new ≡ (if is_some self.old.pending_error || is_opening self.old.state || (length self.old.receiving.readable == 0) then buffer.old else take (recv_count self.old (length buffer.old)) self.old.receiving.readable ++ drop (recv_count self.old (length buffer.old)) buffer.old) }
     {
         self.ask_error()?;
         if self.state.is_opening() {
@@ -86,16 +86,16 @@ impl Connection {
 
     /// The pending error, which every call reports from now on, if there is one.
     pub fn error(&self) -> Option<Refusal>
-        ensures { result ≡ self.now.told }
+        ensures { result ≡ self.now.pending_error }
     {
-        self.told
+        self.pending_error
     }
 
     /// Refuses a call with the pending error.
     fn ask_error(&self) -> Result<(), Refusal>
-        ensures { result_err result ≡ self.now.told }
+        ensures { result_err result ≡ self.now.pending_error }
     {
-        match self.told {
+        match self.pending_error {
             Some(error) => Err(error),
             None => Ok(()),
         }
@@ -103,9 +103,9 @@ impl Connection {
 
     /// What a receive answers where nothing is readable.
     fn end(&self) -> Result<Received, Refusal>
-        ensures { result ≡ (if is_end_seen self.now.state then Ok Received.EndOfStream else Err Refusal.EAGAIN) }
+        ensures { result ≡ (if is_read_closed self.now.state then Ok Received.EndOfStream else Err Refusal.EAGAIN) }
     {
-        if self.state.is_end_seen() {
+        if self.state.is_read_closed() {
             Ok(Received::EndOfStream)
         } else {
             Err(Refusal::EAGAIN)
@@ -124,7 +124,7 @@ impl Connection {
         if self.state.is_opening() {
             return Err(Refusal::ENOTCONN);
         }
-        self.state = self.state.shut();
+        self.state = self.state.beyond_shutdown();
         Ok(())
     }
 }

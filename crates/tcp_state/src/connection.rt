@@ -24,7 +24,7 @@ pub enum Fate {
     Removed,
     /// The connection keeps its place and is as it was. The segment is answered by a reset at its acknowledgement (RFC 9293 sections
     /// 3.10.7.3 and 3.10.7.4).
-    Refused,
+    Rejected,
 }
 
 /// Whether and when what is outstanding goes out again.
@@ -49,7 +49,7 @@ pub struct Connection {
     pub(crate) receiver: Receiver,
     pub(crate) owes_ack: bool,
     pub(crate) resend: Resend,
-    pub(crate) told: Option<Refusal>,
+    pub(crate) pending_error: Option<Refusal>,
     pub(crate) is_released: bool,
     pub(crate) owes_reset: bool,
     pub(crate) since: Moment,
@@ -82,7 +82,7 @@ impl Connection {
             receiver: Receiver::new(receive),
             owes_ack: false,
             resend: Resend::Idle,
-            told: None,
+            pending_error: None,
             is_released: false,
             owes_reset: false,
             since: Moment(0),
@@ -113,7 +113,7 @@ impl Connection {
             receiver,
             owes_ack: false,
             resend: Resend::Idle,
-            told: None,
+            pending_error: None,
             is_released: false,
             owes_reset: false,
             since: Moment(0),

@@ -2,7 +2,7 @@
 
 ghost use Rattle.std.specs.Prelude.{◌≡◌, ◌+◌, ◌<◌, ◌≤◌, ◌++◌, length, drop, IfSome, MatchOption, option_map, min, if◌then◌else◌, true, false};
 ghost use Rattle.tcp_state.specs.View.{is_opening, is_due, most_outstanding};
-ghost use Rattle.tcp_state.specs.Due.{MayGoOut, first_due, again, flags_of, number_of, octets_of, window_of, head_of, emitted, emitted_len, after_emitted, after_ack_paid, after_numbers};
+ghost use Rattle.tcp_state.specs.Due.{MayGoOut, first_due, again, flags_of, number_of, octets_of, window_of, head_of, segment_octets, emitted_len, after_emitted, after_ack_paid, after_numbers};
 
 use crate::connection::{Connection, Resend};
 use crate::state::State;
@@ -78,7 +78,7 @@ impl Connection {
     pub fn emit(&mut self, now: Moment, out: &mut [u8; FRAME]) -> Option<usize>
         ensures answer { result ≡ option_map (emitted_len self.old) (first_due self.old) }
         ensures bound { IfSome result (λ len. len ≤ FRAME) }
-        ensures frame { MatchOption (first_due self.old) (out.new ≡ out.old) (λ due. out.new ≡ emitted self.old due ++ drop (emitted_len self.old due) out.old) }
+        ensures frame { MatchOption (first_due self.old) (out.new ≡ out.old) (λ due. out.new ≡ segment_octets self.old due ++ drop (emitted_len self.old due) out.old) }
         ensures after { MatchOption (first_due self.old) (self.new ≡ self.old) (λ due. self.new ≡ after_emitted self.old due now) }
     {
         let due = self.due()?;
@@ -92,7 +92,7 @@ impl Connection {
         requires { MayGoOut self.now due }
         ensures len { result ≡ emitted_len self.now due }
         ensures bound { result ≤ FRAME }
-        ensures frame { out.new ≡ emitted self.now due ++ drop result out.old }
+        ensures frame { out.new ≡ segment_octets self.now due ++ drop result out.old }
     {
         let head = self.head(due);
         let octets = self.octets(due);
@@ -140,7 +140,7 @@ impl Connection {
     {
         match due {
             Due::Rst => 0,
-            Due::Syn | Due::Text(_) | Due::Fin | Due::Ack => self.receiver.free(),
+            Due::Syn | Due::Text(_) | Due::Fin | Due::Ack => self.receiver.room(),
         }
     }
 
@@ -207,7 +207,7 @@ impl Connection {
     fn pay_ack(&mut self)
         ensures { self.new ≡ after_ack_paid self.old }
     {
-        self.receiver.tell();
+        self.receiver.advertise();
         self.owes_ack = false;
     }
 }

@@ -1,7 +1,7 @@
 //! How a connection ends: by the clock, by an abort, and after its caller closed it (RFC 9293 sections 3.6, 3.10.4, 3.10.5 and 3.10.8).
 
 ghost use Rattle.std.specs.Prelude.{◌≡◌, ◌&&◌, ◌||◌, ◌==◌, false, length, if◌then◌else◌};
-ghost use Rattle.tcp_state.specs.View.{is_opening, ends_at, is_at_end, stopped, after_resend, after_tick, tick_fate, deadline};
+ghost use Rattle.tcp_state.specs.View.{is_opening, ends_at, is_at_end, after_stop, after_resend, after_tick, tick_fate, deadline};
 ghost use Rattle.tcp_state.specs.Calls.{aborted, after_abort, abort_fate, after_release, after_close, close_fate};
 
 use crate::connection::{Connection, Fate, Resend};
@@ -80,7 +80,7 @@ impl Connection {
 
     /// The connection is CLOSED: nothing is held, owed or due, and no number is outstanding.
     pub(crate) fn stop(&mut self)
-        ensures { self.new ≡ stopped self.old }
+        ensures { self.new ≡ after_stop self.old }
     {
         self.state = State::Closed;
         self.sender.abandon();
@@ -147,7 +147,7 @@ impl Connection {
         if self.state == State::FinWait2 && self.since < now {
             self.since = now;
         }
-        self.state = self.state.shut();
+        self.state = self.state.beyond_shutdown();
         self.is_released = true;
     }
 }

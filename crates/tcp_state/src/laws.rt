@@ -6,16 +6,16 @@ ghost use Rattle.tcp_state.specs.declared.calls.Refusal.{Refusal};
 ghost use Rattle.clock.specs.declared.moment.Moment.{Moment};
 ghost use Rattle.tcp_state.specs.declared.connection.Fate.{Fate};
 ghost use Rattle.tcp_state.specs.declared.emission.Due.{Due};
-ghost use Rattle.tcp_state.specs.View.{View, IsSound, is_closed, is_syn_sent, is_over, is_due, is_end_seen, is_reached, deadline, after_tick};
+ghost use Rattle.tcp_state.specs.View.{View, IsSound, is_closed, is_syn_sent, is_over, is_due, is_read_closed, is_reached, deadline, after_tick};
 ghost use Rattle.tcp_segment.specs.Wire.{wire, IsBefore};
 ghost use Rattle.tcp_state.specs.Numbers.{is_before};
 ghost use Rattle.tcp_state.specs.Halves.{Sending, Receiving};
-ghost use Rattle.tcp_state.specs.Stream.{gained};
-ghost use Rattle.tcp_state.specs.Windows.{tells_window};
+ghost use Rattle.tcp_state.specs.Stream.{octets_gained};
+ghost use Rattle.tcp_state.specs.Windows.{updates_window};
 ghost use Rattle.tcp_state.specs.Positions.{ReceivesAt, IsNear, MeetsWindow, AreNear, NeverBack, HasNumber, HasToSend, takes_numbers};
-ghost use Rattle.tcp_state.specs.Arrival.{fate, is_accepted, is_receiving, is_read, after_ack, after_segment_at};
+ghost use Rattle.tcp_state.specs.Arrival.{fate, is_acceptable_to, is_receiving, is_read, after_ack, after_segment_at};
 ghost use Rattle.tcp_state.specs.Due.{first_due};
-ghost use Rattle.tcp_state.specs.Edges.{Event, after_event, state_after, IsEdge, ends_by, is_cause, may_tell};
+ghost use Rattle.tcp_state.specs.Edges.{Event, after_event, state_after, IsEdge, ends_by, is_cause, may_raise};
 
 /// One event joins only states that the table of edges joins, or leaves the state.
 pub fn events_follow_edges()
@@ -29,12 +29,12 @@ pub fn ends_have_causes()
 
 /// An error that is pending was pending before, or a reset raises it in a state that has it.
 pub fn errors_have_causes()
-    ensures { (v : View) (e : Event) (error : Refusal) → (after_event v e).told ≡ Some error → (v.told ≡ Some error) ⊎ (may_tell v e error ≡ true) }
+    ensures { (v : View) (e : Event) (error : Refusal) → (after_event v e).pending_error ≡ Some error → (v.pending_error ≡ Some error) ⊎ (may_raise v e error ≡ true) }
 {}
 
 /// An error that is pending stays so.
 pub fn errors_stay()
-    ensures { (v : View) (e : Event) → IsSound v → is_some v.told ≡ true → (after_event v e).told ≡ v.told }
+    ensures { (v : View) (e : Event) → IsSound v → is_some v.pending_error ≡ true → (after_event v e).pending_error ≡ v.pending_error }
 {}
 
 /// Where the clock has not come to a connection's deadline, a tick changes nothing; where it has, what is outstanding is due again or the
@@ -49,7 +49,7 @@ pub fn deadlines_are_exact()
 /// stream for no other.
 pub fn silent_ends_were_seen()
     ensures { (v : View) (e : Event) → IsSound v → is_closed v.state ≡ false → is_closed (after_event v e).state ≡ true
-        → (after_event v e).told ≡ None → (after_event v e).released ≡ false → is_end_seen v.state ≡ true }
+        → (after_event v e).pending_error ≡ None → (after_event v e).released ≡ false → is_read_closed v.state ≡ true }
 {}
 
 /// The order by which arriving numbers are tested is that of the positions they stand for, as long as these are less than 2^31 apart
@@ -60,8 +60,8 @@ pub fn numbers_are_ordered()
 {}
 
 /// A segment that is answered by a reset changes nothing.
-pub fn refused_changes_nothing()
-    ensures { (v : View) (s : Segment) (now : Moment) → fate v s ≡ Fate.Refused → after_segment_at v s now ≡ v }
+pub fn rejected_changes_nothing()
+    ensures { (v : View) (s : Segment) (now : Moment) → fate v s ≡ Fate.Rejected → after_segment_at v s now ≡ v }
 {}
 
 /// Of a connection that is CLOSED the reset of an abort alone is due.
@@ -79,10 +79,10 @@ pub fn released_takes_no_octets()
 /// up to its edge; of the others those at RCV.NXT and those in the window. What is not acceptable changes at most what is owed, and the wait of TIME-WAIT.
 pub fn acceptable_segments_meet_the_window()
     ensures filled { (initial next edge first : ℕ) (v : View) (s : Segment) → ReceivesAt initial next edge v.receiving → s.number ≡ wire initial first → IsNear next first (span_of s)
-        → 0 < span_of s → (is_accepted v s ≡ true) ↔ MeetsWindow next edge first (span_of s) }
+        → 0 < span_of s → (is_acceptable_to v s ≡ true) ↔ MeetsWindow next edge first (span_of s) }
     ensures empty { (initial next edge first : ℕ) (v : View) (s : Segment) → ReceivesAt initial next edge v.receiving → s.number ≡ wire initial first → IsNear next first 0
-        → span_of s ≡ 0 → (is_accepted v s ≡ true) ↔ ((first ≡ next) ⊎ ((next ≤ first) × (first < edge))) }
-    ensures others { (v : View) (s : Segment) (now : Moment) → is_syn_sent v.state ≡ false → is_accepted v s ≡ false
+        → span_of s ≡ 0 → (is_acceptable_to v s ≡ true) ↔ ((first ≡ next) ⊎ ((next ≤ first) × (first < edge))) }
+    ensures others { (v : View) (s : Segment) (now : Moment) → is_syn_sent v.state ≡ false → is_acceptable_to v s ≡ false
         → after_segment_at v s now ≡ record v { owes_ack = (after_segment_at v s now).owes_ack; since = (after_segment_at v s now).since } }
 {}
 
@@ -90,13 +90,13 @@ pub fn acceptable_segments_meet_the_window()
 /// and before the edge, each in its place, and else none. Nothing else of a segment can be read, and all of that where the segment is read to its octets.
 pub fn octets_in_the_window_are_gained()
     ensures each { (initial next edge first position : ℕ) (r : Receiving) (octets : List ℕ) → ReceivesAt initial next edge r → first ≤ next → next < first + 2 ^ 31 → next ≤ position
-        → slice_get (gained r (wire initial first) octets) (position - next) ≡ (if nat_lt position edge then slice_get octets (position - first) else None) }
+        → slice_get (octets_gained r (wire initial first) octets) (position - next) ≡ (if nat_lt position edge then slice_get octets (position - first) else None) }
     ensures gap { (initial next edge first : ℕ) (r : Receiving) (octets : List ℕ) → ReceivesAt initial next edge r → next < first → first < next + 2 ^ 31
-        → gained r (wire initial first) octets ≡ [] }
+        → octets_gained r (wire initial first) octets ≡ [] }
     ensures alone { (v : View) (s : Segment) (now : Moment) → ((after_segment_at v s now).receiving.readable ≡ v.receiving.readable)
-        ⊎ ((after_segment_at v s now).receiving.readable ≡ v.receiving.readable ++ gained v.receiving s.number s.octets) }
+        ⊎ ((after_segment_at v s now).receiving.readable ≡ v.receiving.readable ++ octets_gained v.receiving s.number s.octets) }
     ensures all { (v : View) (s : Segment) (now : Moment) → v.released ≡ false → is_receiving v.state ≡ true → is_read v s ≡ true
-        → (after_segment_at v s now).receiving.readable ≡ v.receiving.readable ++ gained v.receiving s.number s.octets }
+        → (after_segment_at v s now).receiving.readable ≡ v.receiving.readable ++ octets_gained v.receiving s.number s.octets }
 {}
 
 /// A reset acts only in SYN-SENT where it acknowledges all that was sent, and later only at RCV.NXT exactly, where one without octets always acts; any
@@ -118,11 +118,11 @@ pub fn resets_act_at_the_next_number()
 pub fn no_older_window_is_believed()
     ensures test { (peer own una last latest number ack : ℕ) (s : Sending) → s.una ≡ wire own una → s.wl1 ≡ wire peer last → s.wl2 ≡ wire own latest
         → AreNear ack una → AreNear last number → AreNear ack latest
-        → (tells_window s (wire peer number) (wire own ack) ≡ true) ↔ ((una ≤ ack) × ((last < number) ⊎ ((last ≡ number) × (latest ≤ ack)))) }
+        → (updates_window s (wire peer number) (wire own ack) ≡ true) ↔ ((una ≤ ack) × ((last < number) ⊎ ((last ≡ number) × (latest ≤ ack)))) }
     ensures alone { (v : View) (s : Segment) (now : Moment)
         → (((after_segment_at v s now).sending.window ≡ v.sending.window) × ((after_segment_at v s now).sending.wl1 ≡ v.sending.wl1))
         ⊎ (((after_segment_at v s now).sending.window ≡ s.window) × ((after_segment_at v s now).sending.wl1 ≡ s.number)
-        × ((is_syn_sent v.state ≡ true) ⊎ ((tells_window (after_ack v s.acknowledgement).sending s.number s.acknowledgement ≡ true) × ((after_segment_at v s now).sending.wl2 ≡ s.acknowledgement)))) }
+        × ((is_syn_sent v.state ≡ true) ⊎ ((updates_window (after_ack v s.acknowledgement).sending s.number s.acknowledgement ≡ true) × ((after_segment_at v s now).sending.wl2 ≡ s.acknowledgement)))) }
 {}
 
 /// SND.UNA, SND.NXT, RCV.NXT and the right edge of the window advertised never go back (RFC 9293 sections 3.4 and 3.8.6), whatever happens to a connection.

@@ -3,8 +3,8 @@
 ghost use Rattle.std.specs.Prelude.{◌≡◌, ◌+◌, ◌-◌, ◌≤◌, ◌<◌, ◌^◌, ◌++◌, ◌==◌, [], length, take, drop, min};
 ghost use Rattle.std.specs.Vec.{vec_capacity};
 ghost use Rattle.tcp_state.specs.Halves.{Receiving};
-ghost use Rattle.tcp_state.specs.Stream.{receive_window, is_in_window, is_acceptable, receiving_nothing, synchronised, after_octets, after_read, stands_next, after_end, ReceivingFits};
-ghost use Rattle.tcp_state.specs.Windows.{free, after_told};
+ghost use Rattle.tcp_state.specs.Stream.{receive_window, is_in_window, is_acceptable, receiving_nothing, after_syn, after_octets, after_read, stands_next, after_end, ReceivingFits};
+ghost use Rattle.tcp_state.specs.Windows.{receive_room, after_advertisement};
 
 use crate::buffers::CAPACITY;
 use std::marker::Model;
@@ -62,8 +62,8 @@ impl Receiver {
     }
 
     /// How many octets can still come: the window to advertise.
-    pub(crate) fn free(&self) -> u16
-        ensures { result ≡ free self.now }
+    pub(crate) fn room(&self) -> u16
+        ensures { result ≡ receive_room self.now }
     {
         (CAPACITY - self.readable.len()) as u16
     }
@@ -78,7 +78,7 @@ impl Receiver {
     /// The peer's SYN has this number. `advertised` is the window that it knows.
     pub(crate) fn hear_syn(&mut self, number: Seq, advertised: u16)
         requires { length self.old.readable + advertised ≤ CAPACITY }
-        ensures after { self.new ≡ synchronised self.old number.0 advertised }
+        ensures after { self.new ≡ after_syn self.old number.0 advertised }
         ensures fits { ReceivingFits self.new }
     {
         self.rnext = number + 1;
@@ -94,7 +94,7 @@ impl Receiver {
 
     /// Whether a segment is acceptable, by its number and how many numbers it takes
     /// (RFC 9293 section 3.10.7.4).
-    pub(crate) fn accepts(&self, number: Seq, span: u32) -> bool
+    pub(crate) fn is_acceptable(&self, number: Seq, span: u32) -> bool
         ensures { result ≡ is_acceptable self.now number.0 span }
     {
         if span > 0 {
@@ -152,10 +152,10 @@ impl Receiver {
     }
 
     /// The whole room is advertised.
-    pub(crate) fn tell(&mut self)
-        ensures after { self.new ≡ after_told self.old }
+    pub(crate) fn advertise(&mut self)
+        ensures after { self.new ≡ after_advertisement self.old }
         ensures fits { ReceivingFits self.new }
     {
-        self.edge = self.rnext + u32::from(self.free());
+        self.edge = self.rnext + u32::from(self.room());
     }
 }

@@ -5,7 +5,7 @@ ghost use Rattle.std.specs.Vec.{vec_capacity};
 ghost use Rattle.tcp_segment.specs.Wire.{past};
 ghost use Rattle.tcp_state.specs.Halves.{Sending};
 ghost use Rattle.tcp_state.specs.Stream.{send_room, outstanding, is_new_ack, sending_from, after_syn_acknowledged, after_acknowledged, after_sent};
-ghost use Rattle.tcp_state.specs.Windows.{after_syn_heard, after_window_told, sendable};
+ghost use Rattle.tcp_state.specs.Windows.{after_syn_heard, after_window_update, sendable};
 
 use crate::buffers::CAPACITY;
 use std::marker::Model;
@@ -150,7 +150,7 @@ impl Sender {
     /// Takes the window of a segment whose acknowledgement is not below SND.UNA, and that is no older than the one that gave the
     /// present window (RFC 9293 section 3.10.7.4).
     pub(crate) fn update_window(&mut self, number: Seq, acknowledgement: Seq, window: u16)
-        ensures { self.new ≡ after_window_told self.old number.0 acknowledgement.0 window }
+        ensures { self.new ≡ after_window_update self.old number.0 acknowledgement.0 window }
     {
         let is_newer = self.wl1.is_before(number)
             || self.wl1 == number && !acknowledgement.is_before(self.wl2);

@@ -33,8 +33,8 @@ pub enum State {
 }
 
 impl State {
-    ghost use Rattle.tcp_state.specs.View.{is_opening, awaits_fin_ack, is_write_closed, is_end_seen};
-    ghost use Rattle.tcp_state.specs.Calls.{shut};
+    ghost use Rattle.tcp_state.specs.View.{is_opening, awaits_fin_ack, is_write_closed, is_read_closed};
+    ghost use Rattle.tcp_state.specs.Calls.{beyond_shutdown};
     ghost use Rattle.tcp_state.specs.Arrival.{beyond_fin, beyond_end, begins_wait, is_receiving, reset_error};
 
     /// Whether the two ends have not agreed on a connection yet.
@@ -59,8 +59,8 @@ impl State {
     }
 
     /// Whether nothing more comes from the peer: its FIN has come, behind all its octets, or the connection is CLOSED.
-    pub(crate) fn is_end_seen(self) -> bool
-        ensures { result ≡ is_end_seen self }
+    pub(crate) fn is_read_closed(self) -> bool
+        ensures { result ≡ is_read_closed self }
     {
         matches!(
             self,
@@ -100,8 +100,8 @@ impl State {
     }
 
     /// The state once our side is closed (RFC 9293 section 3.10.4).
-    pub(crate) fn shut(self) -> State
-        ensures { result ≡ shut self }
+    pub(crate) fn beyond_shutdown(self) -> State
+        ensures { result ≡ beyond_shutdown self }
     {
         match self {
             State::Established => State::FinWait1,

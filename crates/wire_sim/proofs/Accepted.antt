@@ -13,9 +13,9 @@ use Rattle.tcp_state.specs.declared.calls.Received.TheVariants.{Octets, EndOfStr
 use Rattle.tcp_state.specs.declared.calls.Refusal.{Refusal as ConnectionRefusal}
 use Rattle.tcp_state.specs.declared.calls.Refusal.TheVariants as connection_variants
 use Rattle.tcp_state.specs.Calls as connection_calls
-use Rattle.tcp_state.specs.Calls.{unless_told, taken, moved, after_recv}
+use Rattle.tcp_state.specs.Calls.{unless_pending, send_count, recv_count, after_recv}
 use Rattle.tcp_state.specs.Stream.{send_room}
-use Rattle.tcp_state.specs.View.{View, is_opening, is_write_closed, is_end_seen, opened_actively}
+use Rattle.tcp_state.specs.View.{View, is_opening, is_write_closed, is_read_closed, opened_actively}
 use Rattle.host.specs.declared.entry.SocketId.{SocketId}
 use Rattle.host.specs.declared.entry.Entry.{Entry}
 use Rattle.host.specs.declared.role.Role.{Role}
@@ -101,17 +101,17 @@ pub record SendsOn (h : HostView) (id : SocketId) (octets : List ℕ) (count : �
   pub c : View
   pub l : Option SocketId
   pub found : find (is_socket id) h.entries ≡ Some (record { id = id; role = Connected c l })
-  pub untold : is_some c.told ≡ false
+  pub untold : is_some c.pending_error ≡ false
   pub opened : is_opening c.state ≡ false
   pub unclosed : is_write_closed c.state ≡ false
-  pub takes : count ≡ taken c octets
+  pub takes : count ≡ send_count c octets
 
 -- a send that is answered with a count is one on an open connection
 pub sends-on : (h : HostView) (id : SocketId) (octets : List ℕ) (count : ℕ) → send_answer h id octets ≡ Ok count → SendsOn h id octets count
 sends-on h id octets count answered = by_entry (find (is_socket id) h.entries) refl
   where
-    by_tests : (c : View) (l : Option SocketId) → find (is_socket id) h.entries ≡ Some (record { id = id; role = Connected c l }) → (error : Option ConnectionRefusal) (b closed full : Bool) → c.told ≡ error → is_opening c.state ≡ b → is_write_closed c.state ≡ closed
-        → of_connection (unless_told error (if b then Err connection_variants.EAGAIN else if closed then Err connection_variants.EPIPE else if full then Err connection_variants.EAGAIN else Ok (taken c octets))) ≡ Ok count → SendsOn h id octets count
+    by_tests : (c : View) (l : Option SocketId) → find (is_socket id) h.entries ≡ Some (record { id = id; role = Connected c l }) → (error : Option ConnectionRefusal) (b closed full : Bool) → c.pending_error ≡ error → is_opening c.state ≡ b → is_write_closed c.state ≡ closed
+        → of_connection (unless_pending error (if b then Err connection_variants.EAGAIN else if closed then Err connection_variants.EPIPE else if full then Err connection_variants.EAGAIN else Ok (send_count c octets))) ≡ Ok count → SendsOn h id octets count
     by_tests c l at (Some error) opening closed full told is was e = cc
     by_tests c l at None true closed full told is was e = cc
     by_tests c l at None false true full told is was e = cc
@@ -121,7 +121,7 @@ sends-on h id octets count answered = by_entry (find (is_socket id) h.entries) r
     by_role : (e : Entry) → find (is_socket id) h.entries ≡ Some e → (r : Role) → e.role ≡ r → sent_answer r octets ≡ Ok count → SendsOn h id octets count
     by_role e at (Idle buffers bound) is a = cc
     by_role e at (Listener bound backlog) is a = cc
-    by_role e at (Connected c l) is a = by_tests c l (found_socket h.entries id e (Connected c l) at is) c.told (is_opening c.state) (is_write_closed c.state) ((send_room c.sending == 0) && not (length octets == 0)) refl refl refl a
+    by_role e at (Connected c l) is a = by_tests c l (found_socket h.entries id e (Connected c l) at is) c.pending_error (is_opening c.state) (is_write_closed c.state) ((send_room c.sending == 0) && not (length octets == 0)) refl refl refl a
 
     by_entry : (o : Option Entry) → find (is_socket id) h.entries ≡ o → SendsOn h id octets count
     by_entry None at = let bad : Err EBADF ≡ Ok count = sym (rw at) ∙ answered in cc
@@ -140,8 +140,8 @@ pub record ReadsOn (h : HostView) (id : SocketId) (len : ℕ) (got : Received) :
   pub told : connection_calls.recv_answer c len ≡ Ok got
 
 -- octets are answered of an open connection that has some, and then as many as the buffer holds
-pub octets_told : (c : View) (len count : ℕ) → connection_calls.recv_answer c len ≡ Ok (Octets count) → (is_some c.told ≡ false) × (is_opening c.state ≡ false) × (count ≡ moved c len)
-octets_told c len count = by_tests c.told (is_opening c.state) (length c.receiving.readable == 0) (is_end_seen c.state) refl refl
+pub octets_told : (c : View) (len count : ℕ) → connection_calls.recv_answer c len ≡ Ok (Octets count) → (is_some c.pending_error ≡ false) × (is_opening c.state ≡ false) × (count ≡ recv_count c len)
+octets_told c len count = by_tests c.pending_error (is_opening c.state) (length c.receiving.readable == 0) (is_read_closed c.state) refl refl
   where
     again : Result Received ConnectionRefusal
     again = Err connection_variants.EAGAIN
@@ -149,18 +149,18 @@ octets_told c len count = by_tests c.told (is_opening c.state) (length c.receivi
     ended : Result Received ConnectionRefusal
     ended = Ok EndOfStream
 
-    by_tests : (error : Option ConnectionRefusal) (opening none seen : Bool) → c.told ≡ error → is_opening c.state ≡ opening
-        → unless_told error (if opening then again else if not none then Ok (Octets (moved c len)) else if seen then ended else again) ≡ Ok (Octets count)
-        → (is_some c.told ≡ false) × (is_opening c.state ≡ false) × (count ≡ moved c len)
+    by_tests : (error : Option ConnectionRefusal) (opening none seen : Bool) → c.pending_error ≡ error → is_opening c.state ≡ opening
+        → unless_pending error (if opening then again else if not none then Ok (Octets (recv_count c len)) else if seen then ended else again) ≡ Ok (Octets count)
+        → (is_some c.pending_error ≡ false) × (is_opening c.state ≡ false) × (count ≡ recv_count c len)
     by_tests (Some error) opening none seen told is e = cc
     by_tests None true none seen told is e = let bad : again ≡ Ok (Octets count) = e in cc
-    by_tests None false false seen told is e = let same : moved c len ≡ count = cc in (ap is_some told, is, sym same)
+    by_tests None false false seen told is e = let same : recv_count c len ≡ count = cc in (ap is_some told, is, sym same)
     by_tests None false true true told is e = let bad : ended ≡ Ok (Octets count) = e in cc
     by_tests None false true false told is e = let bad : again ≡ Ok (Octets count) = e in cc
 
 -- where the end is told nothing is readable, so that nothing is read
 pub end_told : (c : View) (len : ℕ) → connection_calls.recv_answer c len ≡ Ok EndOfStream → after_recv c len ≡ c
-end_told c len = by_tests c.told (is_opening c.state) (length c.receiving.readable == 0) (is_end_seen c.state) refl refl refl
+end_told c len = by_tests c.pending_error (is_opening c.state) (length c.receiving.readable == 0) (is_read_closed c.state) refl refl refl
   where
     again : Result Received ConnectionRefusal
     again = Err connection_variants.EAGAIN
@@ -168,11 +168,11 @@ end_told c len = by_tests c.told (is_opening c.state) (length c.receiving.readab
     ended : Result Received ConnectionRefusal
     ended = Ok EndOfStream
 
-    by_tests : (error : Option ConnectionRefusal) (opening none seen : Bool) → c.told ≡ error → is_opening c.state ≡ opening → (length c.receiving.readable == 0) ≡ none
-        → unless_told error (if opening then again else if not none then Ok (Octets (moved c len)) else if seen then ended else again) ≡ Ok EndOfStream → after_recv c len ≡ c
+    by_tests : (error : Option ConnectionRefusal) (opening none seen : Bool) → c.pending_error ≡ error → is_opening c.state ≡ opening → (length c.receiving.readable == 0) ≡ none
+        → unless_pending error (if opening then again else if not none then Ok (Octets (recv_count c len)) else if seen then ended else again) ≡ Ok EndOfStream → after_recv c len ≡ c
     by_tests (Some error) opening none seen told is empty e = cc
     by_tests None true none seen told is empty e = let bad : again ≡ Ok EndOfStream = e in cc
-    by_tests None false false seen told is empty e = let bad : Ok (Octets (moved c len)) ≡ ended = e in cc
+    by_tests None false false seen told is empty e = let bad : Ok (Octets (recv_count c len)) ≡ ended = e in cc
     by_tests None false true seen told is empty e = rw (told, is, empty)
 
 -- a receive that is answered is one on a connection
@@ -262,7 +262,7 @@ reached-neighbour h peer = step ((peer.port == 0) || not (is_single_host peer.ad
 pub opens_idle : (r : Role) (bound : Option Endpoint) → open_answer r ≡ Ok bound → (b : Buffers) × (r ≡ Idle b bound)
 opens_idle (Idle buffers at) bound e = let same : at ≡ bound = cc in (buffers, ap (Idle buffers) same)
 opens_idle (Listener local backlog) bound e = cc
-opens_idle (Connected c l) bound e = absurd (by_error c.told e)
+opens_idle (Connected c l) bound e = absurd (by_error c.pending_error e)
   where
     step : (opening : Bool) → cond opening (Err EALREADY) (Err EISCONN) ≡ Ok bound → ⊥
     step true e = cc
@@ -358,7 +358,7 @@ pub record ShutsOn (h : HostView) (id : SocketId) : Type 0 where
 pub shuts-on : (h : HostView) (id : SocketId) → shutdown_refusal h id ≡ None → ShutsOn h id
 shuts-on h id none = by_entry (find (is_socket id) h.entries) refl
   where
-    by_tests : (c : View) (l : Option SocketId) → find (is_socket id) h.entries ≡ Some (record { id = id; role = Connected c l }) → (error : Option ConnectionRefusal) (opening : Bool) → c.told ≡ error → is_opening c.state ≡ opening
+    by_tests : (c : View) (l : Option SocketId) → find (is_socket id) h.entries ≡ Some (record { id = id; role = Connected c l }) → (error : Option ConnectionRefusal) (opening : Bool) → c.pending_error ≡ error → is_opening c.state ≡ opening
         → option_map refusal_of (option_or error (if opening then Some connection_variants.ENOTCONN else None)) ≡ None → ShutsOn h id
     by_tests c l at (Some error) opening told is e = cc
     by_tests c l at None true told is e = cc
@@ -367,7 +367,7 @@ shuts-on h id none = by_entry (find (is_socket id) h.entries) refl
     by_role : (e : Entry) → find (is_socket id) h.entries ≡ Some e → (r : Role) → e.role ≡ r → shut_refusal r ≡ None → ShutsOn h id
     by_role e at (Idle buffers bound) is a = cc
     by_role e at (Listener bound backlog) is a = cc
-    by_role e at (Connected c l) is a = by_tests c l (found_socket h.entries id e (Connected c l) at is) c.told (is_opening c.state) refl refl a
+    by_role e at (Connected c l) is a = by_tests c l (found_socket h.entries id e (Connected c l) at is) c.pending_error (is_opening c.state) refl refl a
 
     by_entry : (o : Option Entry) → find (is_socket id) h.entries ≡ o → ShutsOn h id
     by_entry None at = let refused : shutdown_refusal h id ≡ Some EBADF = rw at in cc

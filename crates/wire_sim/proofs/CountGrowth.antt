@@ -6,7 +6,7 @@ use Rattle.ipv4.specs.declared.addr.Endpoint.{Endpoint}
 use Rattle.tcp_segment.specs.declared.seq.Seq.{Seq}
 use Rattle.tcp_state.specs.declared.calls.Refusal.{Refusal as ConnectionRefusal}
 use Rattle.tcp_state.specs.declared.calls.Refusal.TheVariants as connection
-use Rattle.tcp_state.specs.Calls.{unless_told, taken}
+use Rattle.tcp_state.specs.Calls.{unless_pending, send_count}
 use Rattle.host.specs.declared.entry.SocketId.{SocketId}
 use Rattle.host.specs.declared.role.Role.{Role}
 use Rattle.host.specs.declared.role.Role.TheVariants.{Idle, Listener, Connected}
@@ -63,7 +63,7 @@ with_openings-grows n (o ∷ os) i =
     omega (arith, with_openings-grows more os i, push-grows n.written i)
 
 -- what a connection answers to a send, by its tests
-connection_took : (error : Option ConnectionRefusal) (opening closed full : Bool) (n v : ℕ) → of_connection (unless_told error (if opening then Err connection.EAGAIN else if closed then Err connection.EPIPE else if full then Err connection.EAGAIN else Ok n)) ≡ Ok v → n ≡ v
+connection_took : (error : Option ConnectionRefusal) (opening closed full : Bool) (n v : ℕ) → of_connection (unless_pending error (if opening then Err connection.EAGAIN else if closed then Err connection.EPIPE else if full then Err connection.EAGAIN else Ok n)) ≡ Ok v → n ≡ v
 connection_took (Some error) opening closed full n v e = cc
 connection_took None true closed full n v e = cc
 connection_took None false true full n v e = cc
@@ -73,7 +73,7 @@ connection_took None false false false n v e = cc
 role_took : (role : Role) (octets : List ℕ) (v : ℕ) → sent_answer role octets ≡ Ok v → v ≤ 65535
 role_took (Idle buffers bound) octets v e = cc
 role_took (Listener bound backlog) octets v e = cc
-role_took (Connected c listener) octets v e = let same : taken c octets ≡ v = connection_took _ _ _ _ _ v e in omega (arith, same)
+role_took (Connected c listener) octets v e = let same : send_count c octets ≡ v = connection_took _ _ _ _ _ v e in omega (arith, same)
 
 -- one send takes at most what a buffer holds
 took : (h : HostView) (id : SocketId) (octets : List ℕ) (v : ℕ) (r : Option Role) → role_of h id ≡ r → send_answer h id octets ≡ Ok v → v ≤ 65535

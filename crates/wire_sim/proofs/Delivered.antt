@@ -6,7 +6,7 @@ use Rattle.tcp_segment.specs.declared.fault.SegmentFault.{SegmentFault}
 use Rattle.tcp_segment.specs.Segment.{Segment, IsParsed}
 use Rattle.tcp_segment.specs.declared.head.Head.{Head}
 use Rattle.tcp_state.specs.declared.connection.Fate.{Fate}
-use Rattle.tcp_state.specs.declared.connection.Fate.TheVariants.{Stays, Removed, Refused}
+use Rattle.tcp_state.specs.declared.connection.Fate.TheVariants.{Stays, Removed, Rejected}
 use Rattle.clock.specs.declared.moment.Moment.{Moment}
 use Rattle.tcp_state.specs.Arrival.{fate}
 use Rattle.tcp_state.specs.View.{View}
@@ -54,7 +54,7 @@ delivery h now isn octets outcome new is = by_parse is.0 is.1 is.2
 
     by_fate : (s : Segment) (c : View) (l : Option SocketId) (id : SocketId) → IsParsed h.neighbour h.addr octets (Ok s) → find (is_between (local_end h s) (peer_end h s)) h.entries ≡ Some (record { id = id; role = Connected c l })
         → (x : Fate) → fate c s ≡ x → Meets (arrival_at_connection h now s x) h outcome new → Delivery h now isn octets new
-    by_fate s c l id parsed at Refused is meets = by_reply (Some (reset_at_ack s)) meets
+    by_fate s c l id parsed at Rejected is meets = by_reply (Some (reset_at_ack s)) meets
     by_fate s c l id parsed at Stays is meets = Heard s c l id parsed at
         (meets.1 ∙ ap (λ x. let w : HostView = record h { entries = settled x (is_between (local_end h s) (peer_end h s)) (arrived (later h now) s) h.entries } in w) (sym is))
     by_fate s c l id parsed at Removed is meets = Heard s c l id parsed at

@@ -2,7 +2,7 @@
 use Rattle.std.proofs.Common.{◌≡◌, ℕ, ◌≤◌, List, [], ◌∷◌, ◌++◌, Option, refl, sym, ◌∙◌, length, take, drop, Some, None, option_map, ap, arith}
 use Rattle.std.proofs.lemmas.Grind.{common_steps}
 use Rattle.std.specs.List.{find}
-use Rattle.tcp_state.specs.Due.{first_due, emitted_len, emitted}
+use Rattle.tcp_state.specs.Due.{first_due, emitted_len, segment_octets}
 use Rattle.tcp_segment.specs.declared.head.Head.{Head}
 use Rattle.host.specs.declared.entry.Entry.{Entry}
 use Rattle.host.specs.declared.role.Role.{Role}
@@ -20,9 +20,9 @@ pub framed_due : (role : Role) (out : List ℕ) (len : ℕ) → due_len role ≡
 framed_due (Idle buffers bound) out len due = cc
 framed_due (Listener local backlog) out len due = cc
 framed_due (Connected c listener) out len due =
-    elim (first_due c) as (λ d. option_map (emitted_len c) d ≡ Some len → elim d as (λ x. List ℕ) [ None ↦ out | Some w ↦ emitted c w ++ drop (emitted_len c w) out ] ≡ elim d as (λ x. List ℕ) [ None ↦ [] | Some w ↦ emitted c w ] ++ drop len out) [
+    elim (first_due c) as (λ d. option_map (emitted_len c) d ≡ Some len → elim d as (λ x. List ℕ) [ None ↦ out | Some w ↦ segment_octets c w ++ drop (emitted_len c w) out ] ≡ elim d as (λ x. List ℕ) [ None ↦ [] | Some w ↦ segment_octets c w ] ++ drop len out) [
       | None ↦ λ e. cc
-      | Some w ↦ λ e. let same : emitted_len c w ≡ len = cc in ap (λ k. emitted c w ++ drop k out) same
+      | Some w ↦ λ e. let same : emitted_len c w ≡ len = cc in ap (λ k. segment_octets c w ++ drop k out) same
     ] due
 
 pub emission_front-due : (h : HostView) (out : List ℕ) (len : ℕ) → emission_len h ≡ Some len → emission_front h out ≡ emission_octets h ++ drop len out

@@ -5,7 +5,7 @@ use Rattle.std.specs.List.{find}
 use Rattle.std.proofs.lemmas.Bool.Decides.{nat_tests}
 use Rattle.ipv4.specs.Addresses.{pair_of}
 use Rattle.tcp_segment.specs.Segment.{FieldsFit, Spells}
-use Rattle.tcp_segment.specs.Sent.{CanBeSent, sent}
+use Rattle.tcp_segment.specs.Sent.{CanBeSent, sent_segment}
 use Rattle.tcp_segment.proofs.Checksum.{sent_spelled}
 use Rattle.tcp_state.specs.declared.emission.Due.{Due}
 use Rattle.tcp_state.specs.declared.emission.Due.TheVariants.{Rst, Syn, Text, Fin, Ack}
@@ -16,8 +16,8 @@ use Rattle.tcp_state.specs.Stream.{outstanding}
 use Rattle.tcp_state.specs.Windows.{sendable}
 use Rattle.tcp_state.specs.declared.state.State.{State}
 use Rattle.tcp_state.specs.declared.state.State.TheVariants.{Closed, Listen, SynSent, SynReceived, Established, FinWait1, FinWait2, CloseWait, Closing, LastAck, TimeWait}
-use Rattle.tcp_state.specs.View.{View, IsSound, is_opening, is_syn_sent, is_syn_received, is_closed, awaits_fin_ack, is_fin_acknowledged, is_due as is_resend_due, is_idle, is_fin_next}
-use Rattle.tcp_state.specs.Due.{MayGoOut, first_due, head_of, octets_of, number_of, flags_of, window_of, emitted, emitted_len, after_emitted, after_ack_paid, after_numbers}
+use Rattle.tcp_state.specs.View.{View, IsSound, is_opening, is_syn_sent, is_syn_received, is_closed, awaits_fin_ack, is_write_finished, is_due as is_resend_due, is_idle, is_fin_next}
+use Rattle.tcp_state.specs.Due.{MayGoOut, first_due, head_of, octets_of, number_of, flags_of, window_of, segment_octets, emitted_len, after_emitted, after_ack_paid, after_numbers}
 use Rattle.host.specs.declared.entry.SocketId.{SocketId}
 use Rattle.host.specs.declared.entry.Entry.{Entry}
 use Rattle.host.specs.declared.role.Role.{Role}
@@ -140,7 +140,7 @@ due-live v due sound may unreset = decide (is_closed v.state) refl
     never : (due : Due) → MayGoOut v due → (let f = flags_of v due in f.rst) ≡ false → v.state ≡ Closed → ⊥
     never Rst may unreset is = let bad : true ≡ false = unreset in cc
     never Syn may unreset is = let bad : false ≡ true = sym (ap is_opening is) ∙ may in cc
-    never (Text count) may unreset is = let none : length v.sending.held ≤ 0 = subst (λ t. length v.sending.held ≤ (if is_opening t || is_fin_acknowledged t then 0 else 65535)) is sound.held in omega (arith, none, may.1, may.2)
+    never (Text count) may unreset is = let none : length v.sending.held ≤ 0 = subst (λ t. length v.sending.held ≤ (if is_opening t || is_write_finished t then 0 else 65535)) is sound.held in omega (arith, none, may.1, may.2)
     never Fin may unreset is = let bad : false ≡ true = sym (ap (λ t. awaits_fin_ack t && (length v.sending.held == 0)) is) ∙ may in cc
     never Ack may unreset is = let bad : true ≡ false = sym (ap (λ t. is_syn_sent t || is_closed t) is) ∙ may in cc
 
@@ -199,7 +199,7 @@ window_fits v (Text count) sound = omega (arith, sound.rnext)
 window_fits v Fin sound = omega (arith, sound.rnext)
 window_fits v Ack sound = omega (arith, sound.rnext)
 
-fields_fit : (v : View) (due : Due) → IsSoundConnection v → FieldsFit (sent (head_of v due) (octets_of v due))
+fields_fit : (v : View) (due : Due) → IsSoundConnection v → FieldsFit (sent_segment (head_of v due) (octets_of v due))
 fields_fit v due k = record {
   source = k.local.port;
   destination = k.peer.port;
@@ -219,7 +219,7 @@ due-can v due k may = record {
 }
 
 -- what may go out is of its width
-pub due-width : (v : View) (due : Due) → IsSoundConnection v → MayGoOut v due → IsOfWidth (sent (head_of v due) (octets_of v due))
+pub due-width : (v : View) (due : Due) → IsSoundConnection v → MayGoOut v due → IsOfWidth (sent_segment (head_of v due) (octets_of v due))
 due-width v due k may = record {
   number = number_fits v due k.sound;
   acknowledgement = acknowledgement_fits (flags_of v due).ack v.receiving.rnext k.sound.rnext;
@@ -227,11 +227,11 @@ due-width v due k may = record {
 }
 
 -- its octets spell it
-pub emitted-spelled : (v : View) (due : Due) → IsSoundConnection v → MayGoOut v due → Spells v.local.addr v.peer.addr (sent (head_of v due) (octets_of v due)) (emitted v due)
+pub emitted-spelled : (v : View) (due : Due) → IsSoundConnection v → MayGoOut v due → Spells v.local.addr v.peer.addr (sent_segment (head_of v due) (octets_of v due)) (segment_octets v due)
 emitted-spelled v due k may = sent_spelled v.local.addr v.peer.addr (head_of v due) (octets_of v due) (due-can v due k may)
 
 -- a segment that goes out is between the ports of its connection
-pub emitted-ports : (v : View) (due : Due) → ((sent (head_of v due) (octets_of v due)).source ≡ v.local.port) × ((sent (head_of v due) (octets_of v due)).destination ≡ v.peer.port)
+pub emitted-ports : (v : View) (due : Due) → ((sent_segment (head_of v due) (octets_of v due)).source ≡ v.local.port) × ((sent_segment (head_of v due) (octets_of v due)).destination ≡ v.peer.port)
 emitted-ports v due = (refl, refl)
 
 -- What a host emits.
@@ -241,7 +241,7 @@ pub record Emits (h : HostView) (e : Entry) (c : View) (listener : Option Socket
   pub found : find is_due h.entries ≡ Some e
   pub role : e.role ≡ Connected c listener
   pub first : first_due c ≡ Some due
-  pub octets : emission_octets h ≡ emitted c due
+  pub octets : emission_octets h ≡ segment_octets c due
   pub pair : due_pair h ≡ Some (pair_of c.local c.peer)
 
 -- a role with a segment due is a connection
@@ -258,11 +258,11 @@ goes (Connected c listener) len e = of_due (first_due c) refl e
 goes (Listener local backlog) len e = cc
 goes (Idle buffers bound) len e = cc
 
-octets_due : (c : View) (listener : Option SocketId) (due : Due) → first_due c ≡ Some due → due_octets (Connected c listener) ≡ emitted c due
+octets_due : (c : View) (listener : Option SocketId) (due : Due) → first_due c ≡ Some due → due_octets (Connected c listener) ≡ segment_octets c due
 octets_due c listener due first =
-    elim (first_due c) as (λ o. o ≡ Some due → elim o as (λ x. List ℕ) [ None ↦ [] | Some d ↦ emitted c d ] ≡ emitted c due) [
+    elim (first_due c) as (λ o. o ≡ Some due → elim o as (λ x. List ℕ) [ None ↦ [] | Some d ↦ segment_octets c d ] ≡ segment_octets c due) [
       | None ↦ λ e. cc
-      | Some d ↦ λ e. let same : d ≡ due = cc in ap (λ d. emitted c d) same
+      | Some d ↦ λ e. let same : d ≡ due = cc in ap (λ d. segment_octets c d) same
     ] first
 
 octets_found : (h : HostView) (e : Entry) → h.replies ≡ [] → find is_due h.entries ≡ Some e → emission_octets h ≡ due_octets e.role

@@ -103,7 +103,7 @@ unheld_received len pair (Connected c l) out = unjoined pair c (if len == 0 then
 pub unheld_write_shut : KeepsUnheld write_shut
 unheld_write_shut pair (Idle b bound) out = refl
 unheld_write_shut pair (Listener x y) out = refl
-unheld_write_shut pair (Connected c l) out = unjoined pair c (if is_some c.told || is_opening c.state then c else after_shutdown c) l l (either (is_some c.told || is_opening c.state)) out
+unheld_write_shut pair (Connected c l) out = unjoined pair c (if is_some c.pending_error || is_opening c.state then c else after_shutdown c) l l (either (is_some c.pending_error || is_opening c.state)) out
   where
     either : (b : Bool) → KeepsEnds c (if b then c else after_shutdown c)
     either true = keeps-nothing c

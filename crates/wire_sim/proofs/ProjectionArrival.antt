@@ -9,7 +9,7 @@ use Rattle.ipv4.specs.Addresses.{pair_of, same_end}
 use Rattle.tcp_segment.specs.Segment.{Segment, IsParsed}
 use Rattle.tcp_segment.proofs.Answering.{read_ok}
 use Rattle.tcp_state.specs.declared.connection.Fate.{Fate}
-use Rattle.tcp_state.specs.declared.connection.Fate.TheVariants.{Stays, Removed, Refused}
+use Rattle.tcp_state.specs.declared.connection.Fate.TheVariants.{Stays, Removed, Rejected}
 use Rattle.clock.specs.declared.moment.Moment.{Moment}
 use Rattle.tcp_state.specs.View.{View, is_closed}
 use Rattle.tcp_state.specs.Arrival.{opened_passively, after_segment, is_lost, after_lost, timed, after_segment_at, fate}
@@ -133,7 +133,7 @@ between-parts local peer c l id e =
 -- What a segment that arrives makes of one end.
 
 same-timed : (c : View) (s : Segment) (now : Moment) → SameStream (after_segment c s) (timed c s now (after_segment c s))
-same-timed c s now = record { state = refl; held = refl; una = refl; nxt = refl; readable = refl; rnext = refl; told = refl; released = λ e. e }
+same-timed c s now = record { state = refl; held = refl; una = refl; nxt = refl; readable = refl; rnext = refl; pending_error = refl; released = λ e. e }
 
 -- where no octets are lost, the segment is heard, and then the clock is noted
 not-lost : (limit : ℕ) (c : View) (s : Segment) (now : Moment) (t : Account) (there : End) (out arrivals : List Emission) → (x : Fate) → Meets limit (pairing (end_with (remains x (after_segment c s)) t) there out arrivals)
@@ -142,7 +142,7 @@ not-lost limit c s now t there out arrivals Removed met l = met
 not-lost limit c s now t there out arrivals Stays met l =
     let was = pairing (end_with (Present (after_segment c s)) t) there out arrivals in
     moved limit was (pairing (end_with (Present (timed c s now (after_segment c s))) t) there out arrivals) (rests was (after_segment c s) (timed c s now (after_segment c s)) refl (same-timed c s now)) met
-not-lost limit c s now t there out arrivals Refused met l =
+not-lost limit c s now t there out arrivals Rejected met l =
     let was = pairing (end_with (Present (after_segment c s)) t) there out arrivals in
     moved limit was (pairing (end_with (Present (timed c s now (after_segment c s))) t) there out arrivals) (rests was (after_segment c s) (timed c s now (after_segment c s)) refl (same-timed c s now)) met
 

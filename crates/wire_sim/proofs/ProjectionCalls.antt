@@ -145,12 +145,12 @@ pub record ReadsOctets (h : HostView) (id : SocketId) (len : ℕ) (answer : Answ
   pub c : View
   pub l : Option SocketId
   pub found : find (is_socket id) h.entries ≡ Some (record { id = id; role = Connected c l })
-  pub untold : is_some c.told ≡ false
+  pub untold : is_some c.pending_error ≡ false
   pub opened : Rattle.tcp_state.specs.View.is_opening c.state ≡ false
   pub some : (len == 0) ≡ false
   pub octets : Vec ℕ
   pub is_answer : answer ≡ reply.Octets octets
-  pub are_first : octets.items ≡ take (connection_calls.moved c len) c.receiving.readable
+  pub are_first : octets.items ≡ take (connection_calls.recv_count c len) c.receiving.readable
   pub becomes : new ≡ after_recv h id len
 
 -- What a receive shows that was told the end.
@@ -177,7 +177,7 @@ recv_outcome h id len answer new = by_outcome (recv_answer h id len) refl answer
     by_outcome (Ok (received.Octets count)) is (reply.Octets o) m =
         let r = reads-on h id len (received.Octets count) is in
         let t = octets_told r.c len count r.told in
-        let same : count ≡ connection_calls.moved r.c len = t.2 in
+        let same : count ≡ connection_calls.recv_count r.c len = t.2 in
         inl (record { c = r.c; l = r.l; found = r.found; untold = t.0; opened = t.1; some = r.some; octets = o; is_answer = refl; are_first = m.0 ∙ (readable_on-connected h id count r.c r.l r.found ∙ ap (λ i. take i r.c.receiving.readable) same); becomes = m.1 })
     by_outcome (Ok (received.Octets count)) is reply.EndOfStream m = absurd m
     by_outcome (Ok (received.Octets count)) is (reply.State s) m = absurd m
@@ -255,7 +255,7 @@ projects-socket limit hs ts a b own other n trace c answer id v w l l' g opposit
 pub sound_socket : (own : HostView) (id : SocketId) (c : View) (l : Option SocketId) → IsSoundHost own → find (is_socket id) own.entries ≡ Some (record { id = id; role = Connected c l }) → IsSoundConnection c
 sound_socket own id c l sound found = All-find (λ (e : Entry). IsSoundRole e.role) (is_socket id) own.entries (record { id = id; role = Connected c l }) sound.entries found
 
-taken_fits : (c : View) (octets : List ℕ) → connection_calls.taken c octets ≤ length octets
+taken_fits : (c : View) (octets : List ℕ) → connection_calls.send_count c octets ≤ length octets
 taken_fits c octets = omega arith
 
 pub call-sends : (limit : ℕ) (hs ts : Side) (a b : Addr) (own other : HostView) (n : NetworkView) (place : ℕ) (trace : List Happening) (id : SocketId) (octets : Vec ℕ) (count : ℕ) → IsSoundHost own → ts ≡ other_side hs → send_answer own id octets.items ≡ Ok count
@@ -265,7 +265,7 @@ call-sends limit hs ts a b own other n place trace id octets count sound opposit
     let solid = sound_socket own id k.c k.l sound k.found in
     let t = sends-told hs trace id octets count in
     let one = told hs trace id in
-    let more : Account = record one { gave = one.gave ++ take (connection_calls.taken k.c octets.items) octets.items } in
+    let more : Account = record one { gave = one.gave ++ take (connection_calls.send_count k.c octets.items) octets.items } in
     let same : told hs (trace ++ answered hs (call.Send id octets) (reply.Sent count) ∷ []) id ≡ more =
     t.0 ∙ ap (λ i. let x : Account = record one { gave = one.gave ++ take i octets.items } in x) k.takes in
     GoesCounted id count refl
@@ -275,13 +275,13 @@ call-sends limit hs ts a b own other n place trace id octets count sound opposit
     (tallies-counted trace n.openings hs id octets count (subst (λ i. i ≤ length octets.items) (sym k.takes) (taken_fits k.c octets.items)))
 
 pub call-receives : (limit : ℕ) (hs ts : Side) (a b : Addr) (own other : HostView) (n : NetworkView) (place : ℕ) (trace : List Happening) (id : SocketId) (len : ℕ) (octets : Vec ℕ) (m : ℕ) (c : View) (l : Option SocketId) → IsSoundHost own → ts ≡ other_side hs
-    → find (is_socket id) own.entries ≡ Some (record { id = id; role = Connected c l }) → is_some c.told ≡ false → is_opening c.state ≡ false → (m == 0) ≡ false → octets.items ≡ take (connection_calls.moved c m) c.receiving.readable
+    → find (is_socket id) own.entries ≡ Some (record { id = id; role = Connected c l }) → is_some c.pending_error ≡ false → is_opening c.state ≡ false → (m == 0) ≡ false → octets.items ≡ take (connection_calls.recv_count c m) c.receiving.readable
     → Projects limit hs ts a b own other n.frames n.openings trace → CallGoes limit hs ts a b (after_recv own id m) other n (call.Recv id len) (reply.Octets octets) place trace
 call-receives limit hs ts a b own other n place trace id len octets m c l sound opposite found untold_yet opened some are_first h =
     let solid = sound_socket own id c l sound found in
     let t = receives-told hs trace id len octets in
     let one = told hs trace id in
-    let more : Account = record one { got = one.got ++ take (connection_calls.moved c m) c.receiving.readable } in
+    let more : Account = record one { got = one.got ++ take (connection_calls.recv_count c m) c.receiving.readable } in
     let same : told hs (trace ++ answered hs (call.Recv id len) (reply.Octets octets) ∷ []) id ≡ more =
     t.0 ∙ ap (λ i. let x : Account = record one { got = one.got ++ i } in x) are_first in
     GoesPlain refl

@@ -8,14 +8,14 @@ use Rattle.ipv4.specs.declared.addr.Pair.{Pair}
 use Rattle.ipv4.specs.Addresses.{pair_of}
 use Rattle.tcp_segment.specs.Segment.{Spells}
 use Rattle.tcp_segment.specs.declared.head.Head.{Head}
-use Rattle.tcp_segment.specs.Sent.{sent, sent_octets, CanBeSent}
+use Rattle.tcp_segment.specs.Sent.{sent_segment, sent_octets, CanBeSent}
 use Rattle.tcp_segment.proofs.Checksum.{sent_spelled}
 use Rattle.tcp_state.specs.declared.connection.Fate.TheVariants.{Stays, Removed}
 use Rattle.tcp_state.specs.declared.emission.Due.{Due}
 use Rattle.tcp_state.specs.declared.emission.Due.TheVariants.{Rst}
 use Rattle.clock.specs.declared.moment.Moment.{Moment}
 use Rattle.tcp_state.specs.View.{View, IsSound, is_closed, is_over}
-use Rattle.tcp_state.specs.Due.{first_due, flags_of, head_of, octets_of, emitted, after_emitted}
+use Rattle.tcp_state.specs.Due.{first_due, flags_of, head_of, octets_of, segment_octets, after_emitted}
 use Rattle.wire_sim.specs.declared.event.Side.{Side}
 use Rattle.wire_sim.specs.declared.event.Side.TheVariants.{A, B}
 use Rattle.wire_sim.specs.declared.event.Opening.{Opening}
@@ -132,7 +132,7 @@ projects-sent limit hs ts a b own other n trace now f e c l due m unreset tallie
     let its : o.id ≡ e.id = (opening-at_parts hs e.id o (find-passes (is_opening_at hs e.id) n.openings o k.at)).1 in
     let there_end = end_at ts n.openings other.entries (told ts trace) p0 e0 in
     let account = told hs trace e.id in
-    let segment = sent (head_of c due) (octets_of c due) in
+    let segment = sent_segment (head_of c due) (octets_of c due) in
     let new : Emission = record { segment = segment; own_written = length account.gave; other_written = length there_end.written } in
     let is_pair : pair_of c.local c.peer ≡ pair_at a b c.local.port c.peer.port = pair_of-ours a b c k.local k.peer in
     let pair = pair_of c.local c.peer in
@@ -221,9 +221,9 @@ reset-carried hs ts a b own n f out arrived local peer head sender is_a is_b sou
   record {
     note = noted n (pair_of local peer);
     noted = note;
-    segment = sent head [];
-    spelled = subst (λ x. Spells x b (sent head []) f.octets.items) is_a
-        (subst (λ y. Spells local.addr y (sent head []) f.octets.items) is_b (subst (Spells local.addr peer.addr (sent head [])) (sym octets) (sent_spelled local.addr peer.addr head [] can)));
+    segment = sent_segment head [];
+    spelled = subst (λ x. Spells x b (sent_segment head []) f.octets.items) is_a
+        (subst (λ y. Spells local.addr y (sent_segment head []) f.octets.items) is_b (subst (Spells local.addr peer.addr (sent_segment head [])) (sym octets) (sent_spelled local.addr peer.addr head [] can)));
     pair = ap (λ x. pair_of (record { addr = x; port = local.port }) peer) is_a ∙ (ap (λ x. pair_of (record { addr = a; port = local.port }) (record { addr = x; port = peer.port })) is_b
         ∙ (ap (λ i. pair_at a b i peer.port) (sym source) ∙ ap (pair_at a b head.source) (sym destination)));
     kind = inl reset;
@@ -331,7 +331,7 @@ projects-emitted limit hs ts a b own other n trace clock len f tallied sound som
             (elim (due-kind c due) [
               | inl is_reset ↦
                   let reset_first : first_due c ≡ Some Rst = m.first ∙ ap Some is_reset in
-                  let r : Emits own e c l Rst = record { found = m.found; role = m.role; first = reset_first; octets = m.octets ∙ ap (emitted c) is_reset; pair = m.pair } in
+                  let r : Emits own e c l Rst = record { found = m.found; role = m.role; first = reset_first; octets = m.octets ∙ ap (segment_octets c) is_reset; pair = m.pair } in
                   let ended : is_over (after_emitted c due now) ≡ true = ap (λ d. is_over (after_emitted c d now)) is_reset ∙ over c solid.sound (due-may c Rst solid.sound reset_first) in
                   subst (λ t. Projects limit hs ts a b (record own { entries = settled (if t then Removed else Stays) is_due (emitted_at now) own.entries }) other (n.frames ++ f ∷ []) n.openings trace) (sym ended)
                   (projects-reset limit hs ts a b own other n trace now f e c l r sound sender octets note h)

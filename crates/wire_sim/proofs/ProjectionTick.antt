@@ -6,7 +6,7 @@ use Rattle.ipv4.specs.declared.addr.Pair.{Pair}
 use Rattle.tcp_state.specs.declared.connection.Fate.{Fate}
 use Rattle.tcp_state.specs.declared.connection.Fate.TheVariants.{Stays, Removed}
 use Rattle.clock.specs.declared.moment.Moment.{Moment}
-use Rattle.tcp_state.specs.View.{is_at_end, stopped, after_resend, after_tick}
+use Rattle.tcp_state.specs.View.{is_at_end, after_stop, after_resend, after_tick}
 use Rattle.wire_sim.specs.declared.event.Side.{Side}
 use Rattle.wire_sim.specs.declared.event.Opening.{Opening}
 use Rattle.wire_sim.specs.declared.event.Happening.{Happening}
@@ -84,9 +84,9 @@ role_goes : (limit : ℕ) (now : Moment) (t : Account) (r : Role) → EndGoes li
 role_goes limit now t (Connected c l) there out arrived = by_end (is_at_end c now) c.released refl refl
   where
     by_end : (over left : Bool) → is_at_end c now ≡ over → c.released ≡ left → Meets limit (pairing (end_with (Present c) t) there out arrived)
-        → Meets limit (pairing (end_with (presence_in (cond (is_kept (if over && left then Removed else Stays)) (Some (Connected (if over then stopped c else after_resend c now) l)) None)) t) there out arrived)
+        → Meets limit (pairing (end_with (presence_in (cond (is_kept (if over && left then Removed else Stays)) (Some (Connected (if over then after_stop c else after_resend c now) l)) None)) t) there out arrived)
     by_end true true is was = moved limit (pairing (end_with (Present c) t) there out arrived) (pairing (end_with Departed t) there out arrived) (leaves (pairing (end_with (Present c) t) there out arrived) c t.closed refl (λ e. e))
-    by_end true false is was = moved limit (pairing (end_with (Present c) t) there out arrived) (pairing (end_with (Present (stopped c)) t) there out arrived) (stops (pairing (end_with (Present c) t) there out arrived) c (stopped c) t.closed refl (stops-at_end c now is) (λ e. e))
+    by_end true false is was = moved limit (pairing (end_with (Present c) t) there out arrived) (pairing (end_with (Present (after_stop c)) t) there out arrived) (stops (pairing (end_with (Present c) t) there out arrived) c (after_stop c) t.closed refl (stops-at_end c now is) (λ e. e))
     by_end false left is was = moved limit (pairing (end_with (Present c) t) there out arrived) (pairing (end_with (Present (after_resend c now)) t) there out arrived) (rests (pairing (end_with (Present c) t) there out arrived) c (after_resend c now) refl (same-resend c now))
 role_goes limit now t (Listener b n) there out arrived = end-stays limit (end_with Departed t) (end_with Departed t) refl there out arrived
 role_goes limit now t (Idle b n) there out arrived = end-stays limit (end_with Departed t) (end_with Departed t) refl there out arrived

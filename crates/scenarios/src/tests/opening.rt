@@ -41,10 +41,10 @@ const SYN_AGAIN: &[Step] = &[
 
 /// Before A's SYN is out nothing can acknowledge it, and then the number behind it does.
 const WRONG_ACKNOWLEDGEMENTS: &[Step] = &[
-    (A, Act::Hear(7, 0, ACK, 0), Told::Becomes(Fate::Refused)),
+    (A, Act::Hear(7, 0, ACK, 0), Told::Becomes(Fate::Rejected)),
     (A, Act::Emit(0), Told::Length(24)),
     (A, Act::Hear(7, 0, ACK, 0), STAYS),
-    (A, Act::Hear(7, 1, ACK, 0), Told::Becomes(Fate::Refused)),
+    (A, Act::Hear(7, 1, ACK, 0), Told::Becomes(Fate::Rejected)),
     (A, Act::State, Told::State(State::SynSent)),
 ];
 

@@ -77,7 +77,7 @@ fn segments_are_written_and_read_again(rt: HostRuntime) {
             panic!(&rt; "what was written is a segment")
         };
         assert!(rt; (head_of(&view), view.urgent(), view.payload()) == (head, 0, payload));
-        assert!(rt; (view.told(), view.mss(), view.smss(), view.span()) == sizes);
+        assert!(rt; (view.mss_option(), view.send_mss(), view.smss(), view.span()) == sizes);
     }
 }
 

@@ -5,4 +5,4 @@ use Rattle.host.proofs.host.Host.shutdown_write.Goals as goal
 
 pub returns-clause-ok : goal.returns-clause-ok
 returns-clause-ok c =
-    entry_written _ _ (is_socket c.args.id) (with_role write_shut) _ _ _ _ c.self.view_is c.in_ok-place.ensures.place c.deref_mut.ensures.value c.index-deref_mut-place.is c.shut.ensures
+    entry_written _ _ (is_socket c.args.id) (with_role write_shut) _ _ _ _ c.self.view_is c.in_ok-place.ensures.place c.deref_mut.ensures.value c.index-deref_mut-place.is c.shutdown.ensures

@@ -2,7 +2,7 @@
 use Rattle.std.proofs.Common.{◌≡◌, ◌∙◌, List, get_or, Bool, Some, ap, sym}
 use Rattle.std.specs.List.{find}
 use Rattle.tcp_segment.specs.Segment.{Segment}
-use Rattle.tcp_state.specs.declared.connection.Fate.TheVariants.{Refused}
+use Rattle.tcp_state.specs.declared.connection.Fate.TheVariants.{Rejected}
 use Rattle.clock.specs.declared.moment.Moment.{Moment}
 use Rattle.host.specs.declared.entry.Entry.{Entry}
 use Rattle.host.specs.Arrival.{local_end, peer_end}
@@ -15,8 +15,8 @@ use Rattle.host.proofs.Written.{entry_kept}
 use Rattle.host.proofs.Firsts.{find-position}
 use Rattle.host.proofs.host.Host.take_at.Goals as goal
 
-pub returns-in-Refused : goal.returns-in-Refused
-returns-in-Refused c isn =
+pub returns-in-Rejected : goal.returns-in-Rejected
+returns-in-Rejected c isn =
     let h : HostView = c.args.self.now in
     let s : Segment = c.args.segment.now in
     let test : Entry → Bool = is_between (local_end h s) (peer_end h s) in
@@ -26,9 +26,9 @@ returns-in-Refused c isn =
     c.index-deref_mut-place.is ∙ ap (λ (es : List Entry). get_or es c.args.place x) (c.deref_mut.ensures.value ∙ entries)
     in
     let found : find test h.entries ≡ Some x = find-position test h.entries c.args.place x c.requires at in
-    let fates : fate_of s x.role ≡ Refused = ap (λ (e : Entry). fate_of s e.role) c.index-deref_mut-place.is ∙ sym c.segment.ensures.fate ∙ c.in-Refused.is in
+    let fates : fate_of s x.role ≡ Rejected = ap (λ (e : Entry). fate_of s e.role) c.index-deref_mut-place.is ∙ sym c.segment.ensures.fate ∙ c.in-Rejected.is in
     let same : c.segment.new.self ≡ get_or c.deref_mut.result.now c.args.place x =
-    c.segment.ensures.after ∙ entry_refused_segment _ s c.later-now.result (sym c.segment.ensures.fate ∙ c.in-Refused.is)
+    c.segment.ensures.after ∙ entry_refused_segment _ s c.later-now.result (sym c.segment.ensures.fate ∙ c.in-Rejected.is)
     in
     meets_same _ _ h _ _ (refusal-answered h c.args.now isn s x found fates)
     (meets_answered _ h _ _ _ (reset_at_ack s) (entry_kept _ h _ _ _ _ c.self.view_is c.deref_mut.ensures.value c.index-deref_mut-place.is same) c.at_ack.ensures c.answer.ensures)
@@ -45,7 +45,7 @@ returns-in_default c isn =
     in
     let found : find test h.entries ≡ Some x = find-position test h.entries c.args.place x c.requires at in
     let fates : fate_of s x.role ≡ c.segment.result = ap (λ (e : Entry). fate_of s e.role) c.index-deref_mut-place.is ∙ sym c.segment.ensures.fate in
-    meets_becomes _ _ _ _ (taken h c.args.now isn s x c.segment.result found fates c.in_default.not-Refused)
+    meets_becomes _ _ _ _ (taken h c.args.now isn s x c.segment.result found fates c.in_default.not-Rejected)
     (
     entry_settled _ _ test (arrived c.later-now.result s) _ _ _ _ _ c.segment.result c.self.view_is c.requires c.deref_mut.ensures.value c.index-deref_mut-place.is c.segment.ensures.after c.settle.ensures
     ∙ ap (λ (m : Moment). let w : HostView = record h { entries = settled c.segment.result test (arrived m s) h.entries } in w) c.later-now.ensures

@@ -2,11 +2,11 @@
 use Rattle.std.proofs.Common.{◌*◌, ◌+◌, ◌<◌, ◌^◌, [], Bool, true, false, if◌then◌else◌, arith, sym, ◌∙◌, ap, subst}
 use Rattle.tcp_segment.specs.declared.head.Head.{Head}
 use Rattle.tcp_segment.specs.Segment.{FieldsFit}
-use Rattle.tcp_segment.specs.Sent.{sent}
+use Rattle.tcp_segment.specs.Sent.{sent_segment}
 use Rattle.host.specs.Sound.{IsSoundReply}
 use Rattle.host.proofs.replies.Reply.sound.Goals as goal
 
-fits : (c : goal.After-is_whole-2) → FieldsFit (sent c.head.result [])
+fits : (c : goal.After-is_whole-2) → FieldsFit (sent_segment c.head.result [])
 fits c = record {
   source = omega (arith, c.head.type_inv);
   destination = omega (arith, c.head.type_inv);

@@ -1,5 +1,5 @@
 use Rattle.std.proofs.Common.{◌≡◌, ◌+◌, ◌-◌, ◌*◌, ◌++◌, length, drop, arith, rules, sym, ◌∙◌, ap}
-use Rattle.tcp_state.specs.Due.{head_of, octets_of, emitted}
+use Rattle.tcp_state.specs.Due.{head_of, octets_of, segment_octets}
 use Rattle.tcp_state.specs.Inside.{view_of}
 use Rattle.tcp_state.proofs.Framing.{framed}
 use Rattle.tcp_state.proofs.connection.Connection.write.Goals as goal
@@ -15,4 +15,4 @@ returns-clause-frame c =
     ∙ (framed v.local.addr v.peer.addr c.head-head.result (head_of v c.args.due) start c.emit.result (start + length c.octets-octets.result.now - start)
     (4 * Rattle.tcp_segment.specs.Sent.sent_offset c.head-head.result) c.args.out.now octets (octets_of v c.args.due) (sym c.len-start.ensures)
     (omega (arith, c.emit.ensures.len, c.len-start.ensures, count)) (omega (arith, c.emit.ensures.len, c.len-start.ensures)) (search rules) (search rules) (same ∙ search rules)
-    ∙ ap (λ w. emitted w c.args.due ++ drop c.emit.result c.args.out.now) c.self.view_is)
+    ∙ ap (λ w. segment_octets w c.args.due ++ drop c.emit.result c.args.out.now) c.self.view_is)

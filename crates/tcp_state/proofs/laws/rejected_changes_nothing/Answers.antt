@@ -1,5 +1,5 @@
 use Rattle.tcp_state.proofs.Unchanged.{refused_leaves}
-use Rattle.tcp_state.proofs.laws.refused_changes_nothing.Goals as goal
+use Rattle.tcp_state.proofs.laws.rejected_changes_nothing.Goals as goal
 
 pub returns : goal.returns
 returns c = refused_leaves

@@ -4,7 +4,7 @@ use Rattle.tcp_segment.specs.declared.fault.SegmentFault.TheVariants.{UpperHeade
 use Rattle.tcp_segment.proofs.Results.{ok_or_ok, ok_or_err}
 use Rattle.tcp_segment.proofs.Walk.{at_none, at_other, at_telling, at_not_telling, at_no_option, at_end, at_nothing}
 use Rattle.tcp_segment.proofs.OptionLists.{answered}
-use Rattle.tcp_segment.proofs.options.told_mss.Goals as goal
+use Rattle.tcp_segment.proofs.options.last_mss.Goals as goal
 
 pub loop-rest-preserved-in-1 : goal.loop-rest-preserved-in-1
 loop-rest-preserved-in-1 c = sym (at_none c.loop-rest.rest.now c.loop-rest.told (omega arith) (omega arith)) ∙ c.loop-rest.invariant

@@ -1,6 +1,6 @@
 use Rattle.std.proofs.Common.{◌≡◌, None, length}
 use Rattle.tcp_segment.proofs.Walk.{told_behind}
-use Rattle.tcp_segment.proofs.options.told_mss.Given as goal
+use Rattle.tcp_segment.proofs.options.last_mss.Given as goal
 
 -- what is left to read tells what the whole tells
 abbrev pub invariant-loop-rest : goal.invariant-loop-rest
