@@ -1,5 +1,5 @@
 -- What an accepted connect makes of a host.
-use Rattle.std.proofs.Common.{◌≡◌, ℕ, Bool, true, false, if◌then◌else◌, Option, Some, None, option_map, option_and_then, Result, Ok, Err, refl, ◌∙◌, ap}
+use Rattle.std.proofs.Common.{◌≡◌, ℕ, Bool, true, false, if◌then◌else◌, Option, Some, None, option_map, option_and_then, Result, Ok, Err, ◌∙◌, ap}
 use Rattle.std.specs.Option.{ok_or}
 use Rattle.std.specs.List.{find}
 use Rattle.ipv4.specs.declared.addr.Endpoint.{Endpoint}

@@ -25,7 +25,7 @@ use Rattle.host.specs.Entries.{is_socket, has_port, is_between, is_offered_at, o
 use Rattle.host.specs.HostView.{HostView, role_of, with_socket}
 use Rattle.host.specs.Lists.{change_first}
 
--- What is said of the socket that an id names, and what where it names none.
+-- what `of` says of a socket's role, and `none` where there is no such socket
 abbrev pub of_socket : {T : Type 0} → T → (Role → T) → Option Role → T
 of_socket none of None = none
 of_socket none of (Some role) = of role

@@ -29,7 +29,7 @@ on_connection change (Connected c listener) = Connected (change c) listener
 on_connection change (Listener local backlog) = Listener local backlog
 on_connection change (Idle buffers bound) = Idle buffers bound
 
--- this of a connection, and that of any other role
+-- what `of` says of a connection, and `other` of any other role
 abbrev pub in_connection : {T : Type 0} → T → (View → T) → Role → T
 in_connection other of (Connected c listener) = of c
 in_connection other of (Listener local backlog) = other

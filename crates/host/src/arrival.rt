@@ -15,11 +15,11 @@ use std::alloc::AllocError;
 use tcp_segment::{Seq, TcpView};
 use tcp_state::{Buffers, Connection, Fate};
 
+#[tactic(auto, using(crate::proofs::Firsts::firsts))]
 impl Host {
     ghost use Rattle.host.specs.Arrival.{after_opening, local_end, peer_end, arrival, arrival_alone, Meets, pair_opened, pair_at_listener, has_no_place};
 
     /// Takes a segment: it goes to the connection of its two ends, where there is one.
-    #[tactic(auto, using(crate::proofs::Firsts::firsts))]
     pub(crate) fn take(
         &mut self,
         now: Moment,
@@ -36,7 +36,6 @@ impl Host {
     }
 
     /// Takes a segment for the connection in this place. One that it refuses is answered by a reset.
-    #[tactic(auto, using(crate::proofs::Firsts::firsts))]
     fn take_at(&mut self, now: Moment, place: usize, segment: &TcpView<'_>) -> Result<(), DropCause>
         requires { position (is_between (local_end self.old segment.now) (peer_end self.old segment.now)) self.old.entries ≡ Some place }
         ensures { (isn : ℕ) → Meets (arrival self.old now isn segment.now) self.old result self.new }
@@ -52,7 +51,6 @@ impl Host {
     }
 
     /// Takes a segment for no connection: it goes to the listener at its destination port, or is answered where there is none.
-    #[tactic(auto, using(crate::proofs::Firsts::firsts))]
     fn take_alone(&mut self, isn: Seq, segment: &TcpView<'_>) -> Result<(), DropCause>
         ensures { Meets (arrival_alone self.old isn.0 segment.now) self.old result self.new }
     {
@@ -64,7 +62,6 @@ impl Host {
     }
 
     /// Opens a connection for `syn` at the listener in this place (RFC 9293 section 3.10.7.2), where that has a place for it.
-    #[tactic(auto, using(crate::proofs::Firsts::firsts))]
     fn open(&mut self, isn: Seq, place: usize, syn: &TcpView<'_>) -> Result<(), DropCause>
         requires place { position (is_listening_at syn.now.destination) self.old.entries ≡ Some place }
         requires opens { is_opening syn.now.flags ≡ true }
@@ -105,7 +102,6 @@ impl Host {
     }
 
     /// The pair that this segment would open if memory were there.
-    #[tactic(auto, using(crate::proofs::Firsts::firsts))]
     pub(crate) fn pair_opened(&self, segment: &TcpView<'_>) -> Option<Pair>
         ensures { result ≡ pair_opened self.now segment.now }
     {
@@ -118,7 +114,6 @@ impl Host {
     }
 
     /// The pair that this segment would open, where a listener at its port has a place for the connection.
-    #[tactic(auto, using(crate::proofs::Firsts::firsts))]
     fn pair_at_listener(&self, segment: &TcpView<'_>) -> Option<Pair>
         ensures { result ≡ pair_at_listener self.now segment.now }
     {

@@ -23,6 +23,7 @@ const ANY: Addr = Addr([0; 4]);
 /// How many connections may wait at a listener.
 const BACKLOG: usize = 1;
 
+#[tactic(auto, using(crate::proofs::Firsts::firsts))]
 impl Host {
     ghost use Rattle.host.specs.HostView.{HostView, later};
     ghost use Rattle.host.specs.Entries.{is_socket};
@@ -54,7 +55,6 @@ impl Host {
     ///
     /// EBADF; EINVAL where it is bound already or has had a connection, or the port is 0; EADDRNOTAVAIL at another
     /// address; EADDRINUSE where an entry has the port.
-    #[tactic(auto, using(crate::proofs::Firsts::firsts))]
     pub fn bind(&mut self, id: SocketId, local: Endpoint) -> Result<(), Refusal>
         ensures refused { result_err result ≡ bind_refusal self.old id local }
         ensures ok { OnOk result (self.new ≡ after_bind self.old id local) }
@@ -66,7 +66,6 @@ impl Host {
     }
 
     /// The place of the socket that may be bound.
-    #[tactic(auto, using(crate::proofs::Firsts::firsts))]
     fn may_bind(&self, id: SocketId, local: Endpoint) -> Result<usize, Refusal>
         ensures refused { result_err result ≡ bind_refusal self.now id local }
         ensures place { IfOk result (λ place. position (is_socket id) self.now.entries ≡ Some place) }
@@ -91,7 +90,6 @@ impl Host {
     ///
     /// EBADF; EINVAL where the backlog is not 1, or the socket listens already or has had a connection; EDESTADDRREQ
     /// where it is not bound.
-    #[tactic(auto, using(crate::proofs::Firsts::firsts))]
     pub fn listen(&mut self, id: SocketId, backlog: usize) -> Result<(), Refusal>
         ensures refused { result_err result ≡ listen_refusal self.old id backlog }
         ensures ok { OnOk result (self.new ≡ after_listen self.old id backlog) }
@@ -103,7 +101,6 @@ impl Host {
     }
 
     /// The place of the socket that may listen.
-    #[tactic(auto, using(crate::proofs::Firsts::firsts))]
     fn may_listen(&self, id: SocketId, backlog: usize) -> Result<usize, Refusal>
         ensures refused { result_err result ≡ listen_refusal self.now id backlog }
         ensures place { IfOk result (λ place. position (is_socket id) self.now.entries ≡ Some place) }
@@ -123,7 +120,6 @@ impl Host {
     /// Takes the connection that first passed SYN-RECEIVED of those that wait at a listener: its id from now on, and its peer.
     ///
     /// EBADF; EINVAL where the socket does not listen; EAGAIN where no connection waits.
-    #[tactic(auto, using(crate::proofs::Firsts::firsts))]
     pub fn accept(&mut self, id: SocketId) -> Result<(SocketId, Endpoint), Refusal>
         ensures answer { result ≡ accept_answer self.old id }
         ensures ok { OnOk result (self.new ≡ after_accept self.old id) }
@@ -145,7 +141,6 @@ impl Host {
     /// EBADF; EOPNOTSUPP where the socket listens; the error that its connection is told; EALREADY while it opens a connection; EISCONN where it has had
     /// one; EADDRNOTAVAIL for port 0, no single host or our own address; ENETUNREACH for any host but the neighbour;
     /// EADDRINUSE where the pair is held or no dynamic port is free.
-    #[tactic(auto, using(crate::proofs::Firsts::firsts))]
     pub fn connect(
         &mut self,
         _now: Moment,
@@ -169,7 +164,6 @@ impl Host {
     }
 
     /// The pair that `connect` would open; None where it would be refused.
-    #[tactic(auto, using(crate::proofs::Firsts::firsts))]
     pub fn would_connect(&self, id: SocketId, peer: Endpoint) -> Option<Pair>
         ensures { result ≡ pair_connected self.now id peer }
     {
@@ -229,7 +223,6 @@ impl Host {
     ///
     /// EBADF; EOPNOTSUPP where the socket listens; ENOTCONN where it has no connection; the error that its connection is told; EAGAIN
     /// while the connection is opened; EPIPE once our side is closed; EAGAIN where octets are given and there is no room.
-    #[tactic(auto, using(crate::proofs::Firsts::firsts))]
     pub fn send(&mut self, id: SocketId, octets: &[u8]) -> Result<usize, Refusal>
         ensures answer { result ≡ send_answer self.old id octets.now }
         ensures ok { OnOk result (self.new ≡ after_send self.old id octets.now) }
@@ -245,7 +238,6 @@ impl Host {
     ///
     /// EBADF; EOPNOTSUPP where the socket listens; EINVAL for an empty buffer; ENOTCONN where it has no connection; the error that its
     /// connection is told; EAGAIN while the connection is opened, or where nothing is readable before the end.
-    #[tactic(auto, using(crate::proofs::Firsts::firsts))]
     pub fn recv(&mut self, id: SocketId, buffer: &mut [u8]) -> Result<Received, Refusal>
         ensures answer { result ≡ recv_answer self.old id (length buffer.old) }
         ensures octets { buffer.new ≡ recv_front self.old id buffer.old }
@@ -260,7 +252,6 @@ impl Host {
     ///
     /// EBADF; EOPNOTSUPP where the socket listens; the error that its connection is told; ENOTCONN where it has no connection or is opening
     /// one.
-    #[tactic(auto, using(crate::proofs::Firsts::firsts))]
     pub fn shutdown_write(&mut self, id: SocketId) -> Result<(), Refusal>
         ensures refused { result_err result ≡ shutdown_refusal self.old id }
         ensures ok { OnOk result (self.new ≡ after_shutdown self.old id) }
@@ -272,7 +263,6 @@ impl Host {
     }
 
     /// The place of the socket whose side may be closed.
-    #[tactic(auto, using(crate::proofs::Firsts::firsts))]
     fn may_shut(&self, id: SocketId) -> Result<usize, Refusal>
         ensures refused { result_err result ≡ shutdown_refusal self.now id }
         ensures place { IfOk result (λ place. position (is_socket id) self.now.entries ≡ Some place) }
@@ -290,7 +280,6 @@ impl Host {
     }
 
     /// The state of a socket (RFC 9293 section 3.3.2); CLOSED where it has had no connection. EBADF.
-    #[tactic(auto, using(crate::proofs::Firsts::firsts))]
     pub fn state(&self, id: SocketId) -> Result<State, Refusal>
         ensures { result ≡ state_answer self.now id }
     {
@@ -299,7 +288,6 @@ impl Host {
     }
 
     /// The place of the socket `id`; EBADF where there is none.
-    #[tactic(auto, using(crate::proofs::Firsts::firsts))]
     pub(crate) fn socket_place(&self, id: SocketId) -> Result<usize, Refusal>
         ensures absent { IfErr result (λ e. (e ≡ Refusal.EBADF) × (find (is_socket id) self.now.entries ≡ None)) }
         ensures place { IfOk result (λ place. position (is_socket id) self.now.entries ≡ Some place) }

@@ -8,6 +8,7 @@ use crate::host::Host;
 use crate::refusal::Refusal;
 use crate::table;
 
+#[tactic(auto, using(crate::proofs::Firsts::firsts))]
 impl Host {
     ghost use Rattle.host.specs.Calls.{close_refusal, after_close, after_socket_closed};
 
@@ -27,7 +28,6 @@ impl Host {
     }
 
     /// Closes a socket alone, and not what waits at it. EBADF.
-    #[tactic(auto, using(crate::proofs::Firsts::firsts))]
     fn close_socket(&mut self, id: SocketId) -> Result<(), Refusal>
         ensures refused { result_err result ≡ close_refusal self.old id }
         ensures ok { OnOk result (self.new ≡ after_socket_closed self.old id) }

@@ -7,13 +7,13 @@ use crate::host::Host;
 use crate::table;
 use clock::Moment;
 
+#[tactic(auto, using(crate::proofs::Firsts::firsts))]
 impl Host {
     ghost use Rattle.host.specs.HostView.{later};
     ghost use Rattle.host.specs.Emission.{segment_len, segment_front, after_segment_sent};
 
     /// Writes the segment of the entry in this place, the first that has one due, from `out[0]` on, and answers its length in octets.
     /// The entry is taken out where it is over then.
-    #[tactic(auto, using(crate::proofs::Firsts::firsts))]
     pub(crate) fn emit_at(&mut self, now: Moment, place: usize, out: &mut [u8; 1514]) -> usize
         requires { position is_due self.old.entries ≡ Some place }
         ensures len { Some result ≡ segment_len self.old }

@@ -45,6 +45,7 @@ impl Model for Host {
     ghost invariant = { λ h. 49152 ≤ h.last_port };
 }
 
+#[tactic(auto, using(crate::proofs::Firsts::firsts))]
 impl Host {
     ghost use Rattle.host.specs.HostView.{later, holder_id, fresh};
     ghost use Rattle.host.specs.Ticks.{after_tick, least_deadline};
@@ -85,7 +86,6 @@ impl Host {
     }
 
     /// The entry with a connection of this pair in any state but CLOSED.
-    #[tactic(auto, using(crate::proofs::Firsts::firsts))]
     pub fn holds(&self, pair: Pair) -> Option<SocketId>
         ensures { result ≡ holder_id self.now pair }
     {
@@ -94,7 +94,6 @@ impl Host {
     }
 
     /// The pair of the connection of the socket `id`.
-    #[tactic(auto, using(crate::proofs::Firsts::firsts))]
     pub fn pair_of(&self, id: SocketId) -> Option<Pair>
         ensures { result ≡ socket_pair self.now id }
     {

@@ -10,6 +10,7 @@ use clock::Moment;
 use ipv4::{Endpoint, Pair};
 use tcp_segment::{Seq, TcpView};
 
+#[tactic(auto, using(crate::proofs::Firsts::firsts))]
 impl Host {
     ghost use Rattle.host.specs.Arrival.{answered, Meets, IsDelivered, IsForeseen};
     ghost use Rattle.host.specs.Emission.{emission_len, after_emission, emission_front};
@@ -21,7 +22,6 @@ impl Host {
     /// UpperHeader where it is malformed, UpperSum where its checksum is wrong, NoRoom where it would open a
     /// connection and there is no place in the backlog or the table, no id or no memory, or where it is to be
     /// answered by a reset and 16 replies wait.
-    #[tactic(auto, using(crate::proofs::Firsts::firsts))]
     pub fn deliver(&mut self, now: Moment, isn: Seq, frame: &[u8]) -> Result<(), DropCause>
         ensures { IsDelivered self.old now isn.0 frame.now result self.new }
     {
@@ -57,7 +57,6 @@ impl Host {
 
     /// Writes the frame that is due first from `out[0]` on, and answers its length in octets: the replies in the order
     /// in which they came, then the entries in order of id.
-    #[tactic(auto, using(crate::proofs::Firsts::firsts))]
     pub fn next_frame(&mut self, now: Moment, out: &mut [u8; 1514]) -> Option<usize>
         ensures answer { result ≡ emission_len self.old }
         ensures bound { IfSome result (λ len. len ≤ 1514) }
@@ -85,7 +84,6 @@ impl Host {
     }
 
     /// The pair of the frame that is due first.
-    #[tactic(auto, using(crate::proofs::Firsts::firsts))]
     pub fn due_pair(&self) -> Option<Pair>
         ensures { result ≡ due_pair self.now }
     {

@@ -28,6 +28,7 @@ use Rattle.host.specs.HostView.{HostView}
 use Rattle.host.specs.Emission.{emission_len, emission_octets}
 use Rattle.host.specs.Pairs.{due_pair, pair_in}
 use Rattle.host.specs.Sound.{IsSoundConnection}
+use Rattle.tcp_state.specs.Edges.{after_first}
 
 -- What is due is a segment that may go out.
 
@@ -296,11 +297,4 @@ emits-some h len none due = of_entry (find is_due h.entries) refl (sym unreplied
 -- the emission makes of a connection what its segment makes of it
 pub emitted_at-connected : (now : Moment) (c : View) (listener : Option SocketId) (due : Due) → first_due c ≡ Some due
     → emitted_at now (Connected c listener) ≡ Connected (after_emitted c due now) listener
-emitted_at-connected now c listener due first = ap (λ w. Connected w listener) made
-  where
-    made : elim (first_due c) as (λ x. View) [ None ↦ c | Some d ↦ after_emitted c d now ] ≡ after_emitted c due now
-    made =
-        elim (first_due c) as (λ o. o ≡ Some due → elim o as (λ x. View) [ None ↦ c | Some d ↦ after_emitted c d now ] ≡ after_emitted c due now) [
-          | None ↦ λ e. cc
-          | Some d ↦ λ e. let same : d ≡ due = cc in ap (λ d. after_emitted c d now) same
-        ] first
+emitted_at-connected now c listener due first = ap (λ (o : Option Due). Connected (after_first c o now) listener) first
