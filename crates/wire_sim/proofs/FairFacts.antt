@@ -1,5 +1,5 @@
 -- An event that no rule refuses is fair, and a fair one is refused by none.
-use Rattle.std.proofs.Common.{◌≡◌, ℕ, ◌-◌, ◌<◌, ◌==◌, ◌||◌, not, nat_le, ◌↔◌, Bool, true, false, cond, List, [], ◌∷◌, Option, Some, None, refl, sym, ◌∙◌, ap, subst}
+use Rattle.std.proofs.Common.{◌≡◌, ℕ, ◌-◌, ◌==◌, ◌||◌, not, nat_le, ◌↔◌, Bool, true, false, cond, List, [], ◌∷◌, Option, Some, None, refl, sym, ◌∙◌, ap, subst}
 use Rattle.std.specs.List.{find, list_any, slice_get}
 use Rattle.std.specs.Option.{IfSome, option_or}
 use Rattle.std.proofs.lemmas.Bool.{eqb-true, eq-eqb, leb-false, lt-leb, or_parts}
@@ -9,14 +9,13 @@ use Rattle.wire_sim.specs.declared.event.Side.{Side}
 use Rattle.wire_sim.specs.declared.event.Side.TheVariants.{A, B}
 use Rattle.wire_sim.specs.declared.event.Call.{Call}
 use Rattle.wire_sim.specs.declared.event.Call.TheVariants as call
-use Rattle.wire_sim.specs.declared.event.Event.{Event}
 use Rattle.wire_sim.specs.declared.event.Event.TheVariants as event
 use Rattle.wire_sim.specs.declared.event.Opening.{Opening}
 use Rattle.wire_sim.specs.declared.event.Unfair.{Unfair}
 use Rattle.wire_sim.specs.declared.event.Unfair.TheVariants.{NoSuchFrame, OtherEpoch, Stale, SecondOpening}
 use Rattle.wire_sim.specs.declared.world.bag.Frame.{Frame}
 use Rattle.wire_sim.specs.declared.world.bag.Note.{Note}
-use Rattle.wire_sim.specs.Fairness.{Amount, is_late, late_note, second_in, second_by_frame, second_by_connect, pair_foreseen, unfair_frame, unfair_call, unfair_event, IsRecent, IsUnopened, IsFairFrame, IsFairCall, IsFair}
+use Rattle.wire_sim.specs.Fairness.{Amount, is_late, late_note, second_in, second_by_frame, second_by_connect, pair_foreseen, unfair_frame, unfair_call, IsRecent, IsUnopened, IsFairFrame, IsFairCall}
 use Rattle.wire_sim.specs.Openings.{epoch_of, epoch_connected}
 use Rattle.wire_sim.specs.Runs.{written_len, FairIsUnrefused}
 use Rattle.wire_sim.specs.Sides.{same_side, other_side}

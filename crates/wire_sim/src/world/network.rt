@@ -25,7 +25,7 @@ pub(super) struct Network {
 }
 
 impl Network {
-    ghost use Rattle.wire_sim.specs.Steps.{Steps, with_openings, noted, asked_of, asked_by, is_emission};
+    ghost use Rattle.wire_sim.specs.Steps.{Steps, with_opening, noted, asked_of, asked_by, is_emission};
     ghost use Rattle.wire_sim.specs.Sides.{other_side};
     ghost use Rattle.host.specs.HostView.{holder_id};
     ghost use Rattle.wire_sim.specs.Runs.{IsNumbered, IsNumberedCall};
@@ -260,7 +260,7 @@ impl Network {
     fn note_connect(&mut self, side: Side, id: SocketId, place: usize)
         requires openings { vec_len self.old.ledger.openings < vec_capacity self.old.ledger.openings }
         requires written { vec_len self.old.ledger.written < vec_capacity self.old.ledger.written }
-        ensures opened { network_view self.new ≡ with_openings (network_view self.old)
+        ensures opened { network_view self.new ≡ with_opening (network_view self.old)
             (opened_by_connect self.old.ledger.openings.items side id place (host_of (network_view self.old) side) (host_of (network_view self.old) (other_side side))) }
         ensures room { network_room self.new ≡ network_room self.old }
     {
