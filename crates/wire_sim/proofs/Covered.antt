@@ -29,14 +29,14 @@ use Rattle.wire_sim.specs.Runs as runs
 use Rattle.wire_sim.specs.Sides.{same_side, other_side}
 use Rattle.wire_sim.specs.Steps.{with_station, with_host, with_opening, called, delivered, ticked_station, asked, MeetsCall, MeetsEmission, DeliversFrame, Steps}
 use Rattle.wire_sim.specs.Tallies.{is_opening_of, is_opening_at, same_pair}
-use Rattle.wire_sim.specs.Trace.{sent_by, read_by, ended_by, sent_on, read_on, closed_on, ended_on, of_opening}
+use Rattle.wire_sim.specs.Trace.{sent_on, read_on, closed_on, ended_on, of_opening}
 use Rattle.wire_sim.specs.WorldView.{NetworkView, WorldView, station_of, host_of}
 use Rattle.wire_sim.proofs.Accepted.{outcome, sends-on}
 use Rattle.wire_sim.proofs.Finding.{IsSole, find-passes, found-sole}
 use Rattle.wire_sim.proofs.PairPorts.{same_pair-same}
 use Rattle.wire_sim.proofs.ProjectionCalls.{recv_outcome}
 use Rattle.wire_sim.proofs.Tables.{has_id, found-role, eqb-same, same_id, IsOpened, IsLedger}
-use Rattle.wire_sim.proofs.Tallied.{answered, sent_on-added, read_on-added, ended_on-added, sent_by-send, read_by-recv, ended_by-recv, other-quiet}
+use Rattle.wire_sim.proofs.Tallied.{answered, sent_on-added, read_on-added, ended_on-added, sent_by-send, read_by-recv, ended_by-recv, other-quiet, sent_of, read_of, ended_of}
 use Rattle.wire_sim.proofs.WorldLaw.{IsOrderly, orderly, orderly-swapped, openings-with}
 
 -- Lists.
@@ -175,7 +175,7 @@ grows (event.Deliver side index isn) place answer old new step = by_frame (slice
 
 -- no octet, and no end
 abbrev IsUnread : Side → SocketId → Happening → Type 0
-IsUnread side id h = (sent_by side id h ≡ []) × (read_by side id h ≡ []) × (ended_by side id h ≡ false)
+IsUnread side id h = (sent_of side id h ≡ []) × (read_of side id h ≡ []) × (ended_of side id h ≡ false)
 
 -- a connection that a call finds has an opening
 socket-opened : (limit : ℕ) (hs ts : Side) (n : NetworkView) (trace : List Happening) → IsOrderly limit hs ts n trace → (id i : SocketId) (c : View) (l : Option SocketId)
@@ -239,9 +239,9 @@ uncovered limit _ (runs.goes_on w v happens answer reached step) side id none =
     let had = uncovered limit w reached side id before in
     let last = unread-step limit w v happens answer reached step.network side id before in
     subst (λ t. (sent_on side id t ≡ []) × (read_on side id t ≡ []) × (ended_on side id t ≡ false)) (sym step.trace) (
-      sent_on-added side id w.trace e ∙ (ap (λ l. l ++ sent_by side id e) had.0 ∙ last.0),
-      read_on-added side id w.trace e ∙ (ap (λ l. l ++ read_by side id e) had.1 ∙ last.1),
-      ended_on-added side id w.trace e ∙ (ap (λ b. b || ended_by side id e) had.2 ∙ last.2),
+      sent_on-added side id w.trace e ∙ (ap (λ l. l ++ sent_of side id e) had.0 ∙ last.0),
+      read_on-added side id w.trace e ∙ (ap (λ l. l ++ read_of side id e) had.1 ∙ last.1),
+      ended_on-added side id w.trace e ∙ (ap (λ b. b || ended_of side id e) had.2 ∙ last.2),
     )
 
 -- what is read by an opening is read of its socket
