@@ -78,13 +78,13 @@ read trace openings side pair epoch = of_opening [] (λ o. read_on side o.id tra
 abbrev pub ended : List Happening → List Opening → Side → Pair → ℕ → Bool
 ended trace openings side pair epoch = of_opening false (λ o. ended_on side o.id trace) (find (is_opening_of side pair epoch) openings)
 
--- from a writer to the reader at the other side: what was read begins what was written, and the end was told only where the writer closed
--- its side and all that it wrote was read
-pub record KeepsStream (trace : List Happening) (openings : List Opening) (writer : Side) (pair : Pair) (epoch : ℕ) : Type 0 where
-  pub begins : Begins (read trace openings (other_side writer) pair epoch) (written trace openings writer pair epoch)
-  pub end : ended trace openings (other_side writer) pair epoch ≡ true
-      → (closed trace openings writer pair epoch ≡ true) × (read trace openings (other_side writer) pair epoch ≡ written trace openings writer pair epoch)
+-- from a writer to its reader: what was read begins what was written, and the end was told only where the writer closed its side and all that
+-- it wrote was read
+pub record KeepsStream (written read : List ℕ) (closed ended : Bool) : Type 0 where
+  pub begins : Begins read written
+  pub end : ended ≡ true → (closed ≡ true) × (read ≡ written)
 
--- The law of the stream: for every pair of endpoints, every epoch and both directions.
+-- The law of the stream: for every pair of endpoints, every epoch and both directions, from a writer to the reader at the other side.
 abbrev pub StreamLaw : List Happening → List Opening → Type 0
-StreamLaw trace openings = (writer : Side) (pair : Pair) (epoch : ℕ) → KeepsStream trace openings writer pair epoch
+StreamLaw trace openings = (writer : Side) (pair : Pair) (epoch : ℕ)
+    → KeepsStream (written trace openings writer pair epoch) (read trace openings (other_side writer) pair epoch) (closed trace openings writer pair epoch) (ended trace openings (other_side writer) pair epoch)
