@@ -30,10 +30,10 @@ use Rattle.wire_sim.specs.declared.world.bag.Note.{Note}
 use Rattle.wire_sim.specs.Holding.{IsBegun, EveryOpeningIsBegun}
 use Rattle.wire_sim.specs.Openings.{epoch_of, epoch_connected, opened_as, opened_by_connect, opened_by_frame, held_anew}
 use Rattle.wire_sim.specs.Sides.{other_side}
-use Rattle.wire_sim.specs.Steps.{with_host, with_openings, called, delivered, ticked_station, MeetsEmission, DeliversFrame, Steps}
+use Rattle.wire_sim.specs.Steps.{with_host, with_opening, called, delivered, ticked_station, MeetsEmission, DeliversFrame, Steps}
 use Rattle.wire_sim.specs.WorldView.{NetworkView, WorldView, station_of, host_of}
 use Rattle.wire_sim.proofs.Accepted.{outcome, not_refused, connects-on, socket_pair-connected, found-connecting}
-use Rattle.wire_sim.proofs.Covered.{opens}
+use Rattle.wire_sim.proofs.Covered.{as_list, opens}
 use Rattle.wire_sim.proofs.Finding.{found-made}
 use Rattle.wire_sim.proofs.Held.{joined, unheld_connecting, unheld-changed_at}
 use Rattle.wire_sim.proofs.PairPorts.{pair_at, joins-own, unheld-between}
@@ -45,10 +45,10 @@ use Rattle.wire_sim.proofs.WorldLaw.{IsOrderly, orderly, orderly-swapped, openin
 abbrev pub IsNoted : Event → WorldView → WorldView → Type 0
 IsNoted happens old new = (new.network.openings ≡ old.network.openings) ⊎ ((o : Opening) × (new.network.openings ≡ old.network.openings ++ o ∷ []) × IsBegun happens old new o)
 
--- where a host's step adds what is listed
-pub host-opens : (n m : NetworkView) (side : Side) (h : HostView) (os : List Opening) → m ≡ with_openings (with_host n side h) os → m.openings ≡ n.openings ++ os
-host-opens n m side h os same =
-    ap (λ (k : NetworkView). k.openings) same ∙ (opens (with_host n side h) os ∙ ap (λ l. l ++ os) (openings-with n side (let s = station_of n side in record s { host = h })))
+-- where a host's step adds what is as_list
+pub host-opens : (n m : NetworkView) (side : Side) (h : HostView) (o : Option Opening) → m ≡ with_opening (with_host n side h) o → m.openings ≡ n.openings ++ as_list o
+host-opens n m side h o same =
+    ap (λ (k : NetworkView). k.openings) same ∙ (opens (with_host n side h) o ∙ ap (λ l. l ++ as_list o) (openings-with n side (let s = station_of n side in record s { host = h })))
 
 -- A connect.
 
@@ -58,7 +58,7 @@ pub record Connecting (hs : Side) (n : NetworkView) (own own' : HostView) (id : 
   pub unheld : holder_id own pair ≡ None
   pub held : holder_id own' pair ≡ Some id
   pub others : (x y : Endpoint) → find (is_of_pair (pair_of x y)) own.entries ≡ None → (pair ≡ pair_of x y) ⊎ (find (is_of_pair (pair_of x y)) own'.entries ≡ None)
-  pub opens : opened_by_connect n.openings hs id place own' (host_of n (other_side hs)) ≡ record { side = hs; pair = pair; epoch = epoch_connected n.openings (host_of n (other_side hs)) pair; id = id; place = place } ∷ []
+  pub opens : opened_by_connect n.openings hs id place own' (host_of n (other_side hs)) ≡ Some (record { side = hs; pair = pair; epoch = epoch_connected n.openings (host_of n (other_side hs)) pair; id = id; place = place })
 
 pub connecting-host : (limit : ℕ) (hs ts : Side) (n : NetworkView) (trace : List Happening) → IsOrderly limit hs ts n trace → (isn : Seq) (id : SocketId) (peer : Endpoint) (place : ℕ) → connect_refusal (host_of n hs) id peer ≡ None
     → Connecting hs n (host_of n hs) (after_connect (host_of n hs) isn.0 id peer) id place
@@ -116,13 +116,13 @@ connect-noted limit hs ts old new isn id peer answer w step =
           let k = connecting-host limit hs ts old.network old.trace w isn id peer (length old.trace) (not_refused (connect_refusal own id peer) x.0 x.1) in
           let other = host_of old.network (other_side hs) in
           let o : Opening = record { side = hs; pair = k.pair; epoch = epoch_connected old.network.openings other k.pair; id = id; place = length old.trace } in
-          let added : opened_by_connect old.network.openings hs id (length old.trace) own' other ≡ o ∷ [] = ap (λ v. opened_by_connect old.network.openings hs id (length old.trace) v other) x.3 ∙ k.opens in
+          let added : opened_by_connect old.network.openings hs id (length old.trace) own' other ≡ Some o = ap (λ v. opened_by_connect old.network.openings hs id (length old.trace) v other) x.3 ∙ k.opens in
           inr (
             o,
-            host-opens old.network new.network hs own' (opened_by_connect old.network.openings hs id (length old.trace) own' other) (step.1 ∙ ap (λ r. called hs c r (length old.trace) old.network own') x.2) ∙ ap (λ l. old.network.openings ++ l) added,
+            host-opens old.network new.network hs own' (opened_by_connect old.network.openings hs id (length old.trace) own' other) (step.1 ∙ ap (λ r. called hs c r (length old.trace) old.network own') x.2) ∙ ap (λ l. old.network.openings ++ as_list l) added,
             record { unheld = k.unheld; held = ap (λ v. holder_id v k.pair) x.3 ∙ k.held; place = refl; epoch = epoch-rises old.network.openings other k.pair },
           )
-      | inr x ↦ inl (host-opens old.network new.network hs own' [] (step.1 ∙ ap (λ r. called hs c r (length old.trace) old.network own') x.2) ∙ append-nil old.network.openings)
+      | inr x ↦ inl (host-opens old.network new.network hs own' None (step.1 ∙ ap (λ r. called hs c r (length old.trace) old.network own') x.2) ∙ append-nil old.network.openings)
     ]
 
 -- Every other call.
@@ -146,7 +146,7 @@ frame-noted : (side : Side) (index : ℕ) (isn : Seq) (answer : Answer) (old new
 frame-noted side index isn answer old new step = by_frame (slice_get old.network.frames index) step
   where
     by_holders : (pair : Pair) (before after : Option SocketId) → holder_id (host_of old.network side) pair ≡ before → holder_id (host_of new.network side) pair ≡ after
-        → new.network.openings ≡ old.network.openings ++ held_anew old.network.openings side (length old.trace) pair before after → IsNoted (event.Deliver side index isn) old new
+        → new.network.openings ≡ old.network.openings ++ as_list (held_anew old.network.openings side (length old.trace) pair before after) → IsNoted (event.Deliver side index isn) old new
     by_holders pair None (Some id) free held grown = inr (
       record { side = side; pair = pair; epoch = epoch_of old.network.openings pair; id = id; place = length old.trace },
       grown,
@@ -156,7 +156,7 @@ frame-noted side index isn answer old new step = by_frame (slice_get old.network
     by_holders pair (Some x) after free held grown = inl (grown ∙ append-nil old.network.openings)
 
     by_note : (o : Option Note) → new.network ≡ delivered side (length old.trace) o old.network (host_of new.network side) → IsNoted (event.Deliver side index isn) old new
-    by_note None same = inl (host-opens old.network new.network side (host_of new.network side) [] same ∙ append-nil old.network.openings)
+    by_note None same = inl (host-opens old.network new.network side (host_of new.network side) None same ∙ append-nil old.network.openings)
     by_note (Some note) same = by_holders note.pair (holder_id (host_of old.network side) note.pair) (holder_id (host_of new.network side) note.pair) refl refl
         (host-opens old.network new.network side (host_of new.network side) (opened_by_frame old.network.openings side (length old.trace) note.pair (host_of old.network side) (host_of new.network side)) same)
 

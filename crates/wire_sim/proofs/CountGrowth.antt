@@ -28,7 +28,7 @@ use Rattle.host.specs.HostView.{HostView, role_of}
 use Rattle.host.specs.Emission.{after_emission}
 use Rattle.wire_sim.specs.Openings.{opened_by_connect, opened_by_frame}
 use Rattle.wire_sim.specs.Sides.{other_side}
-use Rattle.wire_sim.specs.Steps.{ticked_station, with_station, with_host, with_openings, Answers, MeetsCall, called, delivered, Steps}
+use Rattle.wire_sim.specs.Steps.{ticked_station, with_station, with_host, with_opening, Answers, MeetsCall, called, delivered, Steps}
 use Rattle.wire_sim.specs.Tallies.{is_opening_at, counted}
 use Rattle.wire_sim.specs.WorldView.{NetworkView, station_of, host_of}
 
@@ -56,11 +56,9 @@ with_station-written n B s i = refl
 kept-grows : (n : NetworkView) (side : Side) (h : HostView) (i : ℕ) → get_or (with_host n side h).written i 0 ≤ get_or n.written i 0 + 65535
 kept-grows n side h i = omega (arith, with_station-written n side (let s = station_of n side in record s { host = h }) i)
 
-with_openings-grows : (n : NetworkView) (os : List Opening) (i : ℕ) → get_or (with_openings n os).written i 0 ≤ get_or n.written i 0
-with_openings-grows n [] i = omega arith
-with_openings-grows n (o ∷ os) i =
-    let more : NetworkView = record n { openings = n.openings ++ o ∷ []; written = n.written ++ 0 ∷ [] } in
-    omega (arith, with_openings-grows more os i, push-grows n.written i)
+with_opening-grows : (n : NetworkView) (o : Option Opening) (i : ℕ) → get_or (with_opening n o).written i 0 ≤ get_or n.written i 0
+with_opening-grows n None i = omega arith
+with_opening-grows n (Some o) i = push-grows n.written i
 
 -- what a connection answers to a send, by its tests
 connection_took : (error : Option ConnectionRefusal) (opening closed full : Bool) (n v : ℕ) → of_connection (unless_pending error (if opening then Err connection.EAGAIN else if closed then Err connection.EPIPE else if full then Err connection.EAGAIN else Ok n)) ≡ Ok v → n ≡ v
@@ -94,7 +92,7 @@ send-grows side id octets place i n answer next old new (Err e) bound meets =
 connect-grows : (side : Side) (isn : Seq) (id : SocketId) (peer : Endpoint) (place i : ℕ) (n : NetworkView) (answer : Answer) (next old new : HostView) (r : Result (Unit {0}) Refusal) → Answers r (λ v. reply.Started) next old answer new → count_at (called side (call.Connect isn id peer) answer place n new) i ≤ count_at n i + 65535
 connect-grows side isn id peer place i n answer next old new (Ok v) meets =
     subst (λ a. count_at (called side (call.Connect isn id peer) a place n new) i ≤ count_at n i + 65535) (sym meets.0)
-    (omega (arith, with_openings-grows (with_host n side new) (opened_by_connect n.openings side id place new (host_of n (other_side side))) i, kept-grows n side new i))
+    (omega (arith, with_opening-grows (with_host n side new) (opened_by_connect n.openings side id place new (host_of n (other_side side))) i, kept-grows n side new i))
 connect-grows side isn id peer place i n answer next old new (Err e) meets =
     subst (λ a. count_at (called side (call.Connect isn id peer) a place n new) i ≤ count_at n i + 65535) (sym meets.0) (kept-grows n side new i)
 
@@ -116,7 +114,7 @@ called-grows side (call.State id) place i n answer new meets = kept-grows n side
 delivered-grows : (side : Side) (place i : ℕ) (o : Option Note) (n : NetworkView) (new : HostView) → count_at (delivered side place o n new) i ≤ count_at n i + 65535
 delivered-grows side place i None n new = kept-grows n side new i
 delivered-grows side place i (Some note) n new =
-    omega (arith, with_openings-grows (with_host n side new) (opened_by_frame n.openings side place note.pair (host_of n side) new) i, kept-grows n side new i)
+    omega (arith, with_opening-grows (with_host n side new) (opened_by_frame n.openings side place note.pair (host_of n side) new) i, kept-grows n side new i)
 
 frame-grows : (side : Side) (index : ℕ) (isn : Seq) (place i : ℕ) (answer : Answer) (old new : NetworkView) (o : Option Frame) → slice_get old.frames index ≡ o → Steps (event.Deliver side index isn) place answer old new → count_at new i ≤ count_at old i + 65535
 frame-grows side index isn place i answer old new None is steps = absurd (rw is at steps)

@@ -1,5 +1,5 @@
 -- The law of the stream covers every connection, and every octet that went through a socket.
-use Rattle.std.proofs.Common.{◌≡◌, ℕ, zero, suc, ◌==◌, ◌&&◌, ◌||◌, inl, inr, Bool, true, false, cond, List, [], ◌∷◌, ◌++◌, length, take, Option, Some, None, refl, sym, ◌∙◌, ap, subst, append_assoc}
+use Rattle.std.proofs.Common.{◌≡◌, ℕ, zero, suc, ◌==◌, ◌&&◌, ◌||◌, inl, inr, Bool, true, false, cond, List, [], ◌∷◌, ◌++◌, length, take, Option, Some, None, refl, sym, ◌∙◌, ap, subst}
 use Rattle.std.specs.List.{find, slice_get}
 use Rattle.std.proofs.lemmas.Bool.{and_parts}
 use Rattle.std.proofs.lemmas.List.{append-nil}
@@ -27,16 +27,16 @@ use Rattle.wire_sim.specs.Openings.{opened_by_connect, opened_by_frame}
 use Rattle.wire_sim.specs.Runs.{IsStep, IsReached}
 use Rattle.wire_sim.specs.Runs as runs
 use Rattle.wire_sim.specs.Sides.{same_side, other_side}
-use Rattle.wire_sim.specs.Steps.{with_station, with_host, with_openings, called, delivered, ticked_station, asked, MeetsCall, MeetsEmission, DeliversFrame, Steps}
+use Rattle.wire_sim.specs.Steps.{with_station, with_host, with_opening, called, delivered, ticked_station, asked, MeetsCall, MeetsEmission, DeliversFrame, Steps}
 use Rattle.wire_sim.specs.Tallies.{is_opening_of, is_opening_at, same_pair}
-use Rattle.wire_sim.specs.Trace.{sent_by, read_by, ended_by, sent_on, read_on, closed_on, ended_on, of_opening}
+use Rattle.wire_sim.specs.Trace.{sent_on, read_on, closed_on, ended_on, of_opening}
 use Rattle.wire_sim.specs.WorldView.{NetworkView, WorldView, station_of, host_of}
 use Rattle.wire_sim.proofs.Accepted.{outcome, sends-on}
 use Rattle.wire_sim.proofs.Finding.{IsSole, find-passes, found-sole}
 use Rattle.wire_sim.proofs.PairPorts.{same_pair-same}
 use Rattle.wire_sim.proofs.ProjectionCalls.{recv_outcome}
 use Rattle.wire_sim.proofs.Tables.{has_id, found-role, eqb-same, same_id, IsOpened, IsLedger}
-use Rattle.wire_sim.proofs.Tallied.{answered, sent_on-added, read_on-added, ended_on-added, sent_by-send, read_by-recv, ended_by-recv, other-quiet}
+use Rattle.wire_sim.proofs.Tallied.{answered, sent_on-added, read_on-added, ended_on-added, sent_by-send, read_by-recv, ended_by-recv, other-quiet, sent_of, read_of, ended_of}
 use Rattle.wire_sim.proofs.WorldLaw.{IsOrderly, orderly, orderly-swapped, openings-with}
 
 -- Lists.
@@ -129,15 +129,20 @@ pub record Grows (n m : NetworkView) : Type 0 where
 grows-not : (n m : NetworkView) → m.openings ≡ n.openings → Grows n m
 grows-not n m same = record { more = []; openings = same ∙ sym (append-nil n.openings) }
 
-pub opens : (n : NetworkView) (os : List Opening) → (let m = with_openings n os in m.openings) ≡ n.openings ++ os
-opens n [] = sym (append-nil n.openings)
-opens n (o ∷ os) = opens (record n { openings = n.openings ++ o ∷ []; written = n.written ++ 0 ∷ [] }) os ∙ append_assoc n.openings (o ∷ []) os
+-- one opening, or none
+abbrev pub as_list : Option Opening → List Opening
+as_list None = []
+as_list (Some o) = o ∷ []
+
+pub opens : (n : NetworkView) (o : Option Opening) → (let m = with_opening n o in m.openings) ≡ n.openings ++ as_list o
+opens n None = sym (append-nil n.openings)
+opens n (Some o) = refl
 
 grows-host : (n : NetworkView) (side : Side) (h : HostView) → Grows n (with_host n side h)
 grows-host n side h = grows-not n (with_host n side h) (openings-with n side (let s = station_of n side in record s { host = h }))
 
-grows-opened : (n : NetworkView) (side : Side) (h : HostView) (os : List Opening) → Grows n (with_openings (with_host n side h) os)
-grows-opened n side h os = record { more = os; openings = opens (with_host n side h) os ∙ ap (λ l. l ++ os) (openings-with n side (let s = station_of n side in record s { host = h })) }
+grows-opened : (n : NetworkView) (side : Side) (h : HostView) (o : Option Opening) → Grows n (with_opening (with_host n side h) o)
+grows-opened n side h o = record { more = as_list o; openings = opens (with_host n side h) o ∙ ap (λ l. l ++ as_list o) (openings-with n side (let s = station_of n side in record s { host = h })) }
 
 grows-called : (side : Side) (c : Call) (answer : Answer) (place : ℕ) (n : NetworkView) (h : HostView) → Grows n (called side c answer place n h)
 grows-called side (call.Connect isn id peer) reply.Started place n h = grows-opened n side h (opened_by_connect n.openings side id place h (host_of n (other_side side)))
@@ -170,7 +175,7 @@ grows (event.Deliver side index isn) place answer old new step = by_frame (slice
 
 -- no octet, and no end
 abbrev IsUnread : Side → SocketId → Happening → Type 0
-IsUnread side id h = (sent_by side id h ≡ []) × (read_by side id h ≡ []) × (ended_by side id h ≡ false)
+IsUnread side id h = (sent_of side id h ≡ []) × (read_of side id h ≡ []) × (ended_of side id h ≡ false)
 
 -- a connection that a call finds has an opening
 socket-opened : (limit : ℕ) (hs ts : Side) (n : NetworkView) (trace : List Happening) → IsOrderly limit hs ts n trace → (id i : SocketId) (c : View) (l : Option SocketId)
@@ -234,9 +239,9 @@ uncovered limit _ (runs.goes_on w v happens answer reached step) side id none =
     let had = uncovered limit w reached side id before in
     let last = unread-step limit w v happens answer reached step.network side id before in
     subst (λ t. (sent_on side id t ≡ []) × (read_on side id t ≡ []) × (ended_on side id t ≡ false)) (sym step.trace) (
-      sent_on-added side id w.trace e ∙ (ap (λ l. l ++ sent_by side id e) had.0 ∙ last.0),
-      read_on-added side id w.trace e ∙ (ap (λ l. l ++ read_by side id e) had.1 ∙ last.1),
-      ended_on-added side id w.trace e ∙ (ap (λ b. b || ended_by side id e) had.2 ∙ last.2),
+      sent_on-added side id w.trace e ∙ (ap (λ l. l ++ sent_of side id e) had.0 ∙ last.0),
+      read_on-added side id w.trace e ∙ (ap (λ l. l ++ read_of side id e) had.1 ∙ last.1),
+      ended_on-added side id w.trace e ∙ (ap (λ b. b || ended_of side id e) had.2 ∙ last.2),
     )
 
 -- what is read by an opening is read of its socket

@@ -35,5 +35,6 @@ pub mod Held
 pub mod Begun
 pub mod Noted
 pub mod NotesTraced
+pub mod FairFacts
 pub mod EventCopied
 pub mod RunGiven

@@ -35,10 +35,11 @@ use Rattle.wire_sim.specs.Fairness.{unfair_frame, unfair_counted}
 use Rattle.wire_sim.specs.Holding.{IsBegun, EveryHoldingIsNoted}
 use Rattle.wire_sim.specs.Openings.{epoch_of, epoch_connected, opened_by_connect, opened_by_frame, held_anew}
 use Rattle.wire_sim.specs.Sides.{same_side, other_side}
-use Rattle.wire_sim.specs.Steps.{with_station, with_host, with_openings, called, delivered, ticked_station, asked, MeetsCall, MeetsFrame, MeetsEmission, DeliversFrame, Steps}
+use Rattle.wire_sim.specs.Steps.{with_station, with_host, with_opening, called, delivered, ticked_station, asked, MeetsCall, MeetsFrame, MeetsEmission, DeliversFrame, Steps}
 use Rattle.wire_sim.specs.WorldView.{NetworkView, WorldView, station_of, host_of, clock_of, written_at}
 use Rattle.wire_sim.proofs.Accepted.{outcome, not_refused}
 use Rattle.wire_sim.proofs.Begun.{connecting-host, host-opens, epoch-rises}
+use Rattle.wire_sim.proofs.Covered.{as_list}
 use Rattle.wire_sim.proofs.Delivered.{Delivery, Ignored, Answered, Heard, Began, frame-delivered}
 use Rattle.wire_sim.proofs.Fair.{same_unfair}
 use Rattle.wire_sim.proofs.Finding.{find-added_none}
@@ -169,7 +170,7 @@ connect-noted limit hs ts old new isn i peer answer w step x y id free held =
           let k = connecting-host limit hs ts old.network old.trace w isn i peer (length old.trace) (not_refused (connect_refusal own i peer) z.0 z.1) in
           let other = host_of old.network (other_side hs) in
           let o : Opening = record { side = hs; pair = k.pair; epoch = epoch_connected old.network.openings other k.pair; id = i; place = length old.trace } in
-          let added : opened_by_connect old.network.openings hs i (length old.trace) own' other ≡ o ∷ [] = ap (λ v. opened_by_connect old.network.openings hs i (length old.trace) v other) z.3 ∙ k.opens in
+          let added : opened_by_connect old.network.openings hs i (length old.trace) own' other ≡ Some o = ap (λ v. opened_by_connect old.network.openings hs i (length old.trace) v other) z.3 ∙ k.opens in
           let here : holder_id own' k.pair ≡ Some i = ap (λ v. holder_id v k.pair) z.3 ∙ k.held in
           elim (k.others x y (unheld own (pair_of x y) free)) [
             | inl same ↦
@@ -178,7 +179,7 @@ connect-noted limit hs ts old new isn i peer answer w step x y id free held =
                   refl,
                   same,
                   (cc),
-                  host-opens old.network new.network hs own' (opened_by_connect old.network.openings hs i (length old.trace) own' other) (step.1 ∙ ap (λ r. called hs c r (length old.trace) old.network own') z.2) ∙ ap (λ l. old.network.openings ++ l) added,
+                  host-opens old.network new.network hs own' (opened_by_connect old.network.openings hs i (length old.trace) own' other) (step.1 ∙ ap (λ r. called hs c r (length old.trace) old.network own') z.2) ∙ ap (λ l. old.network.openings ++ as_list l) added,
                   record { unheld = k.unheld; held = here; place = refl; epoch = epoch-rises old.network.openings other k.pair },
                 )
             | inr none ↦
@@ -209,17 +210,17 @@ frame-noted limit hs ts old new index isn answer w fair step x y id free held = 
         let o : Opening = record { side = hs; pair = k.note.pair; epoch = epoch_of old.network.openings k.note.pair; id = id; place = length old.trace } in
         let before : holder_id own k.note.pair ≡ None = ap (holder_id own) same ∙ free in
         let after : holder_id own' k.note.pair ≡ Some id = ap (holder_id own') same ∙ held in
-        let added : opened_by_frame old.network.openings hs (length old.trace) k.note.pair own own' ≡ o ∷ [] =
+        let added : opened_by_frame old.network.openings hs (length old.trace) k.note.pair own own' ≡ Some o =
         ap (λ v. held_anew old.network.openings hs (length old.trace) k.note.pair v (holder_id own' k.note.pair)) before ∙ ap (held_anew old.network.openings hs (length old.trace) k.note.pair None) after
         in
-        let whole : new.network ≡ with_openings (with_host old.network hs own') (opened_by_frame old.network.openings hs (length old.trace) k.note.pair own own') =
+        let whole : new.network ≡ with_opening (with_host old.network hs own') (opened_by_frame old.network.openings hs (length old.trace) k.note.pair own own') =
         becomes ∙ ap (λ n. delivered hs (length old.trace) n old.network own') k.noted
         in (
           o,
           refl,
           same,
           refl,
-          host-opens old.network new.network hs own' (opened_by_frame old.network.openings hs (length old.trace) k.note.pair own own') whole ∙ ap (λ l. old.network.openings ++ l) added,
+          host-opens old.network new.network hs own' (opened_by_frame old.network.openings hs (length old.trace) k.note.pair own own') whole ∙ ap (λ l. old.network.openings ++ as_list l) added,
           record { unheld = before; held = after; place = refl; epoch = omega arith },
         )
 
@@ -285,9 +286,9 @@ emit-none side _ n m step pair id free held = absurd step
 
 -- The host of the other side.
 
-opened-host : (n : NetworkView) (os : List Opening) (side : Side) → host_of (with_openings n os) side ≡ host_of n side
-opened-host n [] side = refl
-opened-host n (o ∷ os) side = let k : NetworkView = record n { openings = n.openings ++ o ∷ []; written = n.written ++ 0 ∷ [] } in opened-host k os side ∙ own-again n k side refl refl
+opened-host : (n : NetworkView) (o : Option Opening) (side : Side) → host_of (with_opening n o) side ≡ host_of n side
+opened-host n None side = refl
+opened-host n (Some o) side = own-again n (with_opening n (Some o)) side refl refl
 
 other-host : (n : NetworkView) (s t : Side) (h : HostView) → t ≡ other_side s → host_of (with_host n s h) t ≡ host_of n t
 other-host n s t h opposite = other-with n s t (let x = station_of n s in record x { host = h }) opposite

@@ -36,7 +36,7 @@ use Rattle.wire_sim.specs.Notes.{openings_before, epoch_before, written_before, 
 use Rattle.wire_sim.specs.Openings.{epoch_of, opened_by_connect, opened_by_frame}
 use Rattle.wire_sim.specs.Runs.{written_len, unfair, IsStep, IsReached, begins, goes_on}
 use Rattle.wire_sim.specs.Sides.{same_side, other_side}
-use Rattle.wire_sim.specs.Steps.{with_host, with_openings, noted, called, delivered, ticked_station, EmitsFrame, MeetsEmission, DeliversFrame, Steps}
+use Rattle.wire_sim.specs.Steps.{with_host, with_opening, noted, called, delivered, ticked_station, EmitsFrame, MeetsEmission, DeliversFrame, Steps}
 use Rattle.wire_sim.specs.Tallies.{same_pair, is_opening_of}
 use Rattle.wire_sim.specs.Trace.{written}
 use Rattle.wire_sim.specs.WorldView.{WorldView, NetworkView, station_of, host_of, written_at}
@@ -100,9 +100,9 @@ pub record IsKept (w : WorldView) : Type 0 where
 
 -- The frames after a step.
 
-frames-opened : (n : NetworkView) (os : List Opening) → (let m = with_openings n os in m.frames) ≡ n.frames
-frames-opened n [] = refl
-frames-opened n (o ∷ os) = frames-opened (record n { openings = n.openings ++ o ∷ []; written = n.written ++ 0 ∷ [] }) os
+frames-opened : (n : NetworkView) (o : Option Opening) → (let m = with_opening n o in m.frames) ≡ n.frames
+frames-opened n None = refl
+frames-opened n (Some o) = refl
 
 frames-host : (n : NetworkView) (side : Side) (h : HostView) → (let m = with_host n side h in m.frames) ≡ n.frames
 frames-host n side h = frames-with n side (let s = station_of n side in record s { host = h })

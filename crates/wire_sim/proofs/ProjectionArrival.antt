@@ -52,11 +52,11 @@ use Rattle.wire_sim.proofs.Tables.{Account, untold, role_at, found-role, Becomes
 use Rattle.wire_sim.proofs.Tallied.{timely}
 
 -- What is shown of the world after a step that may open one pair.
-pub data Opens (limit : ℕ) (here there : Side) (a b : Addr) (own other : HostView) (frames : List Frame) (openings new : List Opening) (trace : List Happening) : Type 0 where
-  OpensNone : new ≡ [] → Projects limit here there a b own other frames openings trace → Opens limit here there a b own other frames openings new trace
-  OpensOne : (o : Opening) → new ≡ o ∷ [] → sent_on o.side o.id trace ≡ [] → Projects limit here there a b own other frames (openings ++ o ∷ []) trace → Opens limit here there a b own other frames openings new trace
+pub data Opens (limit : ℕ) (here there : Side) (a b : Addr) (own other : HostView) (frames : List Frame) (openings : List Opening) (new : Option Opening) (trace : List Happening) : Type 0 where
+  OpensNone : new ≡ None → Projects limit here there a b own other frames openings trace → Opens limit here there a b own other frames openings new trace
+  OpensOne : (o : Opening) → new ≡ Some o → sent_on o.side o.id trace ≡ [] → Projects limit here there a b own other frames (openings ++ o ∷ []) trace → Opens limit here there a b own other frames openings new trace
 
-pub held-still : (openings : List Opening) (side : Side) (place : ℕ) (pair : Pair) (before after : Option SocketId) → after ≡ before → held_anew openings side place pair before after ≡ []
+pub held-still : (openings : List Opening) (side : Side) (place : ℕ) (pair : Pair) (before after : Option SocketId) → after ≡ before → held_anew openings side place pair before after ≡ None
 held-still openings side place pair None after same = ap (held_anew openings side place pair None) same
 held-still openings side place pair (Some held) after same = refl
 
@@ -231,10 +231,10 @@ projects-heard limit hs ts a b own own' other n trace now place f s c l id is_li
   where
     -- the host holds the pair already
     held-already : (openings : List Opening) (side : Side) (place : ℕ) (pair : Pair) (own : HostView) (after : Option SocketId) (c : View) (l : Option SocketId) (id : SocketId) → is_closed c.state ≡ false → role_at own.entries id.0 ≡ Some (Connected c l)
-        → pair_of c.local c.peer ≡ pair → held_anew openings side place pair (holder_id own pair) after ≡ []
+        → pair_of c.local c.peer ≡ pair → held_anew openings side place pair (holder_id own pair) after ≡ None
     held-already openings side place pair own after c l id live at same = by_holder (find (is_of_pair pair) own.entries) refl
       where
-        by_holder : (o : Option Entry) → find (is_of_pair pair) own.entries ≡ o → held_anew openings side place pair (option_map (λ (e : Entry). e.id) o) after ≡ []
+        by_holder : (o : Option Entry) → find (is_of_pair pair) own.entries ≡ o → held_anew openings side place pair (option_map (λ (e : Entry). e.id) o) after ≡ None
         by_holder None none = let bad : true ≡ false = sym (unheld-closed own.entries pair id.0 c l none at same) ∙ live in cc
         by_holder (Some e) found = refl
 
@@ -300,7 +300,7 @@ projects-began limit hs ts a b own own' other n trace isn place f s listener is_
     let was_free : holder_id own k.note.pair ≡ None = ap (holder_id own) same_pair ∙ ap (option_map (λ (e : Entry). e.id)) free in
     let holds : holder_id own' k.note.pair ≡ Some id =
     ap (λ w. holder_id w k.note.pair) becomes ∙ (ap (holder_id next) same_pair ∙ ap (option_map (λ (e : Entry). e.id)) (find-added (is_of_pair pair) own.entries x free (joins-own c (Some listener.id) refl))) in
-    let noted : opened_by_frame n.openings hs place k.note.pair own own' ≡ o ∷ [] =
+    let noted : opened_by_frame n.openings hs place k.note.pair own own' ≡ Some o =
     ap (λ w. held_anew n.openings hs place k.note.pair w (holder_id own' k.note.pair)) was_free ∙ (ap (held_anew n.openings hs place k.note.pair None) holds
     ∙ ap (λ p. held_anew n.openings hs place p None (Some id)) same_pair) in
     let unsent : sent_on hs id trace ≡ [] = ap (λ (a : Account). a.gave) (h.own_table.silent id unopened (inl above)) in

@@ -29,7 +29,7 @@ use Rattle.host.specs.Lists.{change_first}
 use Rattle.stream_law.specs.Pairing.{Present, Meets, takes, closes, gives, ends}
 use Rattle.host.specs.Sound.{IsSoundConnection, IsSoundRole, IsSoundHost}
 use Rattle.wire_sim.specs.Sides.{other_side}
-use Rattle.wire_sim.specs.Steps.{MeetsSocket, MeetsReceived, called, with_host, with_openings}
+use Rattle.wire_sim.specs.Steps.{MeetsSocket, MeetsReceived, called, with_host, with_opening}
 use Rattle.wire_sim.specs.Tallies.{counted, is_opening_at}
 use Rattle.wire_sim.specs.WorldView.{NetworkView}
 use Rattle.wire_sim.proofs.Accepted.{sends-on, reads-on, octets_told, end_told, received-connected, readable_on-connected, socket-kept, shuts-on}
@@ -105,7 +105,7 @@ pub data CallGoes (limit : ℕ) (hs ts : Side) (a b : Addr) (own' other : HostVi
   GoesCounted : (id : SocketId) (count : ℕ) → called hs c answer place n own' ≡ record (with_host n hs own') { written = counted n.openings n.written hs id count }
       → Projects limit hs ts a b own' other n.frames n.openings (trace ++ answered hs c answer ∷ [])
       → counted n.openings (tallies trace n.openings) hs id count ≡ tallies (trace ++ answered hs c answer ∷ []) n.openings → CallGoes limit hs ts a b own' other n c answer place trace
-  GoesOpened : (o : Opening) → called hs c answer place n own' ≡ with_openings (with_host n hs own') (o ∷ []) → Projects limit hs ts a b own' other n.frames (n.openings ++ o ∷ []) (trace ++ answered hs c answer ∷ [])
+  GoesOpened : (o : Opening) → called hs c answer place n own' ≡ with_opening (with_host n hs own') (Some o) → Projects limit hs ts a b own' other n.frames (n.openings ++ o ∷ []) (trace ++ answered hs c answer ∷ [])
       → tallies (trace ++ answered hs c answer ∷ []) (n.openings ++ o ∷ []) ≡ tallies trace n.openings ++ 0 ∷ [] → CallGoes limit hs ts a b own' other n c answer place trace
 
 -- What a socket call shows, by its answer.

@@ -30,7 +30,7 @@ use Rattle.stream_law.specs.Pairing.{connects, nothing_yet}
 use Rattle.wire_sim.specs.Runs.{IsNumberedCall}
 use Rattle.host.specs.Sound.{IsSoundHost}
 use Rattle.wire_sim.specs.Sides.{other_side}
-use Rattle.wire_sim.specs.Steps.{MeetsCall, asked, with_host, with_openings}
+use Rattle.wire_sim.specs.Steps.{MeetsCall, asked, with_host, with_opening}
 use Rattle.wire_sim.specs.Trace.{sent_on}
 use Rattle.wire_sim.specs.WorldView.{NetworkView, host_of}
 use Rattle.wire_sim.proofs.Accepted.{outcome, not_refused, connects-on, socket_pair-connected, found-connecting}
@@ -117,7 +117,7 @@ call-connects limit hs ts a b own other n place trace isn id peer fits is_own is
       rises = r.own_rises o refl refl;
     } in
     let named : socket_pair next id ≡ Some pair = socket_pair-connected next id c None (found-connecting own.entries id k.b k.bound local peer isn.0 k.found) in
-    let opens : opened_by_connect n.openings hs id place (after_connect own isn.0 id peer) (host_of n (other_side hs)) ≡ o ∷ [] =
+    let opens : opened_by_connect n.openings hs id place (after_connect own isn.0 id peer) (host_of n (other_side hs)) ≡ Some o =
     ap (λ w. opened_by_connect n.openings hs id place w (host_of n (other_side hs))) is_next
     ∙ (ap (opened_as n.openings hs id place (host_of n (other_side hs))) named
     ∙ ap (λ w. opened_as n.openings hs id place w (Some pair)) (sym is_other)) in
@@ -129,7 +129,7 @@ call-connects limit hs ts a b own other n place trace isn id peer fits is_own is
     let e = answered hs (call.Connect isn id peer) reply.Started in
     let silent = quiet-everywhere hs (call.Connect isn id peer) reply.Started (λ i. quiet-connect hs isn id peer reply.Started i) in
     let unsent : sent_on hs id trace ≡ [] = ap (λ (a : Account). a.gave) (h.own_table.silent id (h.own_table.noted id (Idle k.b k.bound) before) (inr (Idle k.b k.bound, before))) in
-    GoesOpened o (ap (with_openings (with_host n hs (after_connect own isn.0 id peer))) opens)
+    GoesOpened o (ap (with_opening (with_host n hs (after_connect own isn.0 id peer))) opens)
     (subst (λ w. Projects limit hs ts a b w other n.frames (n.openings ++ o ∷ []) (trace ++ e ∷ [])) (sym is_next) (projects-silent limit hs ts a b next other n.frames (n.openings ++ o ∷ []) trace e silent made))
     (tallies-quiet trace (n.openings ++ o ∷ []) e (λ s i. (silent s i).0) ∙ tallies-opened trace n.openings o unsent)
 

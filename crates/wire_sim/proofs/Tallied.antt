@@ -23,7 +23,7 @@ use Rattle.wire_sim.specs.declared.event.Happening.{Happening}
 use Rattle.wire_sim.specs.declared.world.bag.Note.{Note}
 use Rattle.wire_sim.specs.Sides.{same_side, other_side}
 use Rattle.wire_sim.specs.Tallies.{is_opening_of, is_opening_at, same_pair, written_by, counted}
-use Rattle.wire_sim.specs.Trace.{same_socket, sent_by_call, sent_by, closed_by_call, closed_by, read_by_call, read_by, ended_by_call, ended_by, sent_on, closed_on, read_on, ended_on, of_opening, written}
+use Rattle.wire_sim.specs.Trace.{same_socket, sent_by, closed_by, read_by, ended_by, sent_on, closed_on, read_on, ended_on, of_opening, written}
 use Rattle.wire_sim.specs.Fairness.{is_stale}
 use Rattle.wire_sim.specs.WorldView.{NetworkView, written_at}
 
@@ -35,9 +35,22 @@ tallies trace openings = map (λ (o : Opening). length (sent_on o.side o.id trac
 abbrev pub answered : Side → Call → Answer → Happening
 answered side c a = record { event = event.Call side c; answer = a }
 
+-- what a happening tells of a socket
+abbrev pub sent_of : Side → SocketId → Happening → List ℕ
+sent_of side i h = sent_by side i h.event h.answer
+
+abbrev pub read_of : Side → SocketId → Happening → List ℕ
+read_of side i h = read_by side i h.event h.answer
+
+abbrev pub closed_of : Side → SocketId → Happening → Bool
+closed_of side i h = closed_by side i h.event h.answer
+
+abbrev pub ended_of : Side → SocketId → Happening → Bool
+ended_of side i h = ended_by side i h.event h.answer
+
 -- nothing is told of a socket
 abbrev pub IsQuiet : Side → SocketId → Happening → Type 0
-IsQuiet side i h = (sent_by side i h ≡ []) × (closed_by side i h ≡ false) × (read_by side i h ≡ []) × (ended_by side i h ≡ false)
+IsQuiet side i h = (sent_of side i h ≡ []) × (closed_of side i h ≡ false) × (read_of side i h ≡ []) × (ended_of side i h ≡ false)
 
 -- Tests.
 
@@ -78,14 +91,14 @@ eqb-swap a b = step (a == b) (b == a) refl refl
 -- One happening more.
 
 -- what was sent on a socket is what was sent before, and then what the last happening tells
-pub sent_on-added : (side : Side) (id : SocketId) (trace : List Happening) (h : Happening) → sent_on side id (trace ++ h ∷ []) ≡ sent_on side id trace ++ sent_by side id h
-sent_on-added side id [] h = append-nil (sent_by side id h)
-sent_on-added side id (x ∷ xs) h = ap (λ octets. sent_by side id x ++ octets) (sent_on-added side id xs h) ∙ sym (append_assoc (sent_by side id x) (sent_on side id xs) (sent_by side id h))
+pub sent_on-added : (side : Side) (id : SocketId) (trace : List Happening) (h : Happening) → sent_on side id (trace ++ h ∷ []) ≡ sent_on side id trace ++ sent_of side id h
+sent_on-added side id [] h = append-nil (sent_of side id h)
+sent_on-added side id (x ∷ xs) h = ap (λ octets. sent_of side id x ++ octets) (sent_on-added side id xs h) ∙ sym (append_assoc (sent_of side id x) (sent_on side id xs) (sent_of side id h))
 
 -- and likewise what was read on it
-pub read_on-added : (side : Side) (id : SocketId) (trace : List Happening) (h : Happening) → read_on side id (trace ++ h ∷ []) ≡ read_on side id trace ++ read_by side id h
-read_on-added side id [] h = append-nil (read_by side id h)
-read_on-added side id (x ∷ xs) h = ap (λ octets. read_by side id x ++ octets) (read_on-added side id xs h) ∙ sym (append_assoc (read_by side id x) (read_on side id xs) (read_by side id h))
+pub read_on-added : (side : Side) (id : SocketId) (trace : List Happening) (h : Happening) → read_on side id (trace ++ h ∷ []) ≡ read_on side id trace ++ read_of side id h
+read_on-added side id [] h = append-nil (read_of side id h)
+read_on-added side id (x ∷ xs) h = ap (λ octets. read_of side id x ++ octets) (read_on-added side id xs h) ∙ sym (append_assoc (read_of side id x) (read_on side id xs) (read_of side id h))
 
 -- and whether our side was closed, and the end told
 or_assoc : (a b c : Bool) → (a || (b || c)) ≡ ((a || b) || c)
@@ -96,13 +109,13 @@ or_false : (a : Bool) → (a || false) ≡ a
 or_false true = refl
 or_false false = refl
 
-pub closed_on-added : (side : Side) (id : SocketId) (trace : List Happening) (h : Happening) → closed_on side id (trace ++ h ∷ []) ≡ (closed_on side id trace || closed_by side id h)
-closed_on-added side id [] h = or_false (closed_by side id h)
-closed_on-added side id (x ∷ xs) h = ap (λ b. closed_by side id x || b) (closed_on-added side id xs h) ∙ or_assoc (closed_by side id x) (closed_on side id xs) (closed_by side id h)
+pub closed_on-added : (side : Side) (id : SocketId) (trace : List Happening) (h : Happening) → closed_on side id (trace ++ h ∷ []) ≡ (closed_on side id trace || closed_of side id h)
+closed_on-added side id [] h = or_false (closed_of side id h)
+closed_on-added side id (x ∷ xs) h = ap (λ b. closed_of side id x || b) (closed_on-added side id xs h) ∙ or_assoc (closed_of side id x) (closed_on side id xs) (closed_of side id h)
 
-pub ended_on-added : (side : Side) (id : SocketId) (trace : List Happening) (h : Happening) → ended_on side id (trace ++ h ∷ []) ≡ (ended_on side id trace || ended_by side id h)
-ended_on-added side id [] h = or_false (ended_by side id h)
-ended_on-added side id (x ∷ xs) h = ap (λ b. ended_by side id x || b) (ended_on-added side id xs h) ∙ or_assoc (ended_by side id x) (ended_on side id xs) (ended_by side id h)
+pub ended_on-added : (side : Side) (id : SocketId) (trace : List Happening) (h : Happening) → ended_on side id (trace ++ h ∷ []) ≡ (ended_on side id trace || ended_of side id h)
+ended_on-added side id [] h = or_false (ended_of side id h)
+ended_on-added side id (x ∷ xs) h = ap (λ b. ended_of side id x || b) (ended_on-added side id xs h) ∙ or_assoc (ended_of side id x) (ended_on side id xs) (ended_of side id h)
 
 -- The counts.
 
@@ -143,14 +156,14 @@ tallies-counted trace openings side id octets count within = go openings
         let w = length (sent_on o.side o.id trace) in
         ap (λ b. cond b (w + count) w) (test o)
         ∙ (step w (same_socket o.side o.id side id)
-        ∙ sym (ap length (sent_on-added o.side o.id trace h) ∙ length-append (sent_on o.side o.id trace) (sent_by o.side o.id h)))
+        ∙ sym (ap length (sent_on-added o.side o.id trace h) ∙ length-append (sent_on o.side o.id trace) (sent_of o.side o.id h)))
 
     go : (os : List Opening) → counted os (tallies trace os) side id count ≡ tallies (trace ++ h ∷ []) os
     go [] = refl
     go (o ∷ os) = ap (λ w. w ∷ counted os (tallies trace os) side id count) (one o) ∙ ap (λ ws. length (sent_on o.side o.id (trace ++ h ∷ [])) ∷ ws) (go os)
 
 -- a happening that tells of no octets leaves the counts
-pub tallies-quiet : (trace : List Happening) (openings : List Opening) (h : Happening) → ((side : Side) (id : SocketId) → sent_by side id h ≡ [])
+pub tallies-quiet : (trace : List Happening) (openings : List Opening) (h : Happening) → ((side : Side) (id : SocketId) → sent_of side id h ≡ [])
     → tallies (trace ++ h ∷ []) openings ≡ tallies trace openings
 tallies-quiet trace openings h quiet = go openings
   where
@@ -195,38 +208,38 @@ own_socket : (side : Side) (id i : SocketId) → same_socket side i side id ≡ 
 own_socket side id i = ap (λ b. b && (id.0 == i.0)) (same_side-same side) ∙ eqb-swap id.0 i.0
 
 -- octets that were sent are told of the socket that sent them, and of no other
-pub sent_by-send : (side : Side) (id i : SocketId) (octets : Vec ℕ) (count : ℕ) → sent_by side i (answered side (call.Send id octets) (answer.Sent count)) ≡ cond (i.0 == id.0) (take count octets.items) []
+pub sent_by-send : (side : Side) (id i : SocketId) (octets : Vec ℕ) (count : ℕ) → sent_of side i (answered side (call.Send id octets) (answer.Sent count)) ≡ cond (i.0 == id.0) (take count octets.items) []
 sent_by-send side id i octets count = ap (λ b. cond b (take count octets.items) []) (own_socket side id i)
 
 -- octets that were read are told of the socket that read them, and of no other
-pub read_by-recv : (side : Side) (id i : SocketId) (len : ℕ) (octets : Vec ℕ) → read_by side i (answered side (call.Recv id len) (answer.Octets octets)) ≡ cond (i.0 == id.0) octets.items []
+pub read_by-recv : (side : Side) (id i : SocketId) (len : ℕ) (octets : Vec ℕ) → read_of side i (answered side (call.Recv id len) (answer.Octets octets)) ≡ cond (i.0 == id.0) octets.items []
 read_by-recv side id i len octets = ap (λ b. cond b octets.items []) (own_socket side id i)
 
 -- a side is closed on the socket that closed it, and on no other
-pub closed_by-shutdown : (side : Side) (id i : SocketId) → closed_by side i (answered side (call.Shutdown id) answer.Done) ≡ (i.0 == id.0)
+pub closed_by-shutdown : (side : Side) (id i : SocketId) → closed_of side i (answered side (call.Shutdown id) answer.Done) ≡ (i.0 == id.0)
 closed_by-shutdown side id i = own_socket side id i
 
-pub closed_by-close : (side : Side) (id i : SocketId) → closed_by side i (answered side (call.Close id) answer.Done) ≡ (i.0 == id.0)
+pub closed_by-close : (side : Side) (id i : SocketId) → closed_of side i (answered side (call.Close id) answer.Done) ≡ (i.0 == id.0)
 closed_by-close side id i = own_socket side id i
 
 -- the end is told on the socket that asked, and on no other
-pub ended_by-recv : (side : Side) (id i : SocketId) (len : ℕ) → ended_by side i (answered side (call.Recv id len) answer.EndOfStream) ≡ (i.0 == id.0)
+pub ended_by-recv : (side : Side) (id i : SocketId) (len : ℕ) → ended_of side i (answered side (call.Recv id len) answer.EndOfStream) ≡ (i.0 == id.0)
 ended_by-recv side id i len = own_socket side id i
 
-sent_by-elsewhere : (side s : Side) (i : SocketId) (c : Call) (a : Answer) → same_side s side ≡ false → sent_by_call side i s c a ≡ []
+sent_by-elsewhere : (side s : Side) (i : SocketId) (c : Call) (a : Answer) → same_side s side ≡ false → sent_by side i (event.Call s c) a ≡ []
 sent_by-elsewhere side s i (call.Send id octets) (answer.Sent count) e = ap (λ b. cond (b && (id.0 == i.0)) (take count octets.items) []) e
 sent_by-elsewhere side s i _ _ e = refl
 
-read_by-elsewhere : (side s : Side) (i : SocketId) (c : Call) (a : Answer) → same_side s side ≡ false → read_by_call side i s c a ≡ []
+read_by-elsewhere : (side s : Side) (i : SocketId) (c : Call) (a : Answer) → same_side s side ≡ false → read_by side i (event.Call s c) a ≡ []
 read_by-elsewhere side s i (call.Recv id len) (answer.Octets octets) e = ap (λ b. cond (b && (id.0 == i.0)) octets.items []) e
 read_by-elsewhere side s i _ _ e = refl
 
-closed_by-elsewhere : (side s : Side) (i : SocketId) (c : Call) (a : Answer) → same_side s side ≡ false → closed_by_call side i s c a ≡ false
+closed_by-elsewhere : (side s : Side) (i : SocketId) (c : Call) (a : Answer) → same_side s side ≡ false → closed_by side i (event.Call s c) a ≡ false
 closed_by-elsewhere side s i (call.Shutdown id) answer.Done e = ap (λ b. b && (id.0 == i.0)) e
 closed_by-elsewhere side s i (call.Close id) answer.Done e = ap (λ b. b && (id.0 == i.0)) e
 closed_by-elsewhere side s i _ _ e = refl
 
-ended_by-elsewhere : (side s : Side) (i : SocketId) (c : Call) (a : Answer) → same_side s side ≡ false → ended_by_call side i s c a ≡ false
+ended_by-elsewhere : (side s : Side) (i : SocketId) (c : Call) (a : Answer) → same_side s side ≡ false → ended_by side i (event.Call s c) a ≡ false
 ended_by-elsewhere side s i (call.Recv id len) answer.EndOfStream e = ap (λ b. b && (id.0 == i.0)) e
 ended_by-elsewhere side s i _ _ e = refl
 

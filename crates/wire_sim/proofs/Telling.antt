@@ -9,22 +9,22 @@ use Rattle.wire_sim.specs.declared.event.Answer.{Answer}
 use Rattle.wire_sim.specs.declared.event.Answer.TheVariants as answer
 use Rattle.wire_sim.specs.declared.event.Happening.{Happening}
 use Rattle.wire_sim.specs.Sides.{other_side}
-use Rattle.wire_sim.specs.Trace.{sent_on, closed_on, read_on, ended_on, sent_by, closed_by, read_by, ended_by}
+use Rattle.wire_sim.specs.Trace.{sent_on, closed_on, read_on, ended_on}
 use Rattle.wire_sim.proofs.Changes.{SameTold, SameBut}
 use Rattle.wire_sim.proofs.Projection.{told}
 use Rattle.wire_sim.proofs.Tables.{Account, eqb-same}
-use Rattle.wire_sim.proofs.Tallied.{IsQuiet, answered, sent_on-added, closed_on-added, read_on-added, ended_on-added, sent_by-send, read_by-recv, closed_by-shutdown, closed_by-close, ended_by-recv, other-quiet, eqb-swap}
+use Rattle.wire_sim.proofs.Tallied.{IsQuiet, answered, sent_on-added, closed_on-added, read_on-added, ended_on-added, sent_by-send, read_by-recv, closed_by-shutdown, closed_by-close, ended_by-recv, other-quiet, eqb-swap, sent_of, read_of, closed_of, ended_of}
 
 -- what is told of a socket after one happening more
 abbrev pub with_more : Account → List ℕ → Bool → List ℕ → Bool → Account
 with_more a gave closed got ended = record { gave = a.gave ++ gave; closed = a.closed || closed; got = a.got ++ got; ended = a.ended || ended }
 
-pub told-added : (side : Side) (trace : List Happening) (h : Happening) (i : SocketId) → told side (trace ++ h ∷ []) i ≡ with_more (told side trace i) (sent_by side i h) (closed_by side i h) (read_by side i h) (ended_by side i h)
+pub told-added : (side : Side) (trace : List Happening) (h : Happening) (i : SocketId) → told side (trace ++ h ∷ []) i ≡ with_more (told side trace i) (sent_of side i h) (closed_of side i h) (read_of side i h) (ended_of side i h)
 told-added side trace h i =
     ap (λ x. let a : Account = record { gave = x; closed = closed_on side i (trace ++ h ∷ []); got = read_on side i (trace ++ h ∷ []); ended = ended_on side i (trace ++ h ∷ []) } in a) (sent_on-added side i trace h)
-    ∙ (ap (λ x. let a : Account = record { gave = sent_on side i trace ++ sent_by side i h; closed = x; got = read_on side i (trace ++ h ∷ []); ended = ended_on side i (trace ++ h ∷ []) } in a) (closed_on-added side i trace h)
-    ∙ (ap (λ x. let a : Account = record { gave = sent_on side i trace ++ sent_by side i h; closed = closed_on side i trace || closed_by side i h; got = x; ended = ended_on side i (trace ++ h ∷ []) } in a) (read_on-added side i trace h)
-    ∙ ap (λ x. let a : Account = record { gave = sent_on side i trace ++ sent_by side i h; closed = closed_on side i trace || closed_by side i h; got = read_on side i trace ++ read_by side i h; ended = x } in a) (ended_on-added side i trace h)))
+    ∙ (ap (λ x. let a : Account = record { gave = sent_on side i trace ++ sent_of side i h; closed = x; got = read_on side i (trace ++ h ∷ []); ended = ended_on side i (trace ++ h ∷ []) } in a) (closed_on-added side i trace h)
+    ∙ (ap (λ x. let a : Account = record { gave = sent_on side i trace ++ sent_of side i h; closed = closed_on side i trace || closed_of side i h; got = x; ended = ended_on side i (trace ++ h ∷ []) } in a) (read_on-added side i trace h)
+    ∙ ap (λ x. let a : Account = record { gave = sent_on side i trace ++ sent_of side i h; closed = closed_on side i trace || closed_of side i h; got = read_on side i trace ++ read_of side i h; ended = x } in a) (ended_on-added side i trace h)))
 
 or_false : (a : Bool) → (a || false) ≡ a
 or_false true = refl
@@ -44,7 +44,7 @@ nothing-more a gave got closed ended is_gave is_closed is_got is_ended = account
     (ap (λ l. a.gave ++ l) is_gave ∙ append-nil a.gave) (ap (λ b. a.closed || b) is_closed ∙ or_false a.closed) (ap (λ l. a.got ++ l) is_got ∙ append-nil a.got) (ap (λ b. a.ended || b) is_ended ∙ or_false a.ended)
 
 pub told-quiet : (side : Side) (trace : List Happening) (h : Happening) (i : SocketId) → IsQuiet side i h → told side (trace ++ h ∷ []) i ≡ told side trace i
-told-quiet side trace h i quiet = told-added side trace h i ∙ nothing-more (told side trace i) (sent_by side i h) (read_by side i h) (closed_by side i h) (ended_by side i h) quiet.0 quiet.1 quiet.2 quiet.3
+told-quiet side trace h i quiet = told-added side trace h i ∙ nothing-more (told side trace i) (sent_of side i h) (read_of side i h) (closed_of side i h) (ended_of side i h) quiet.0 quiet.1 quiet.2 quiet.3
 
 -- a call tells nothing of the other side's sockets
 pub told-other : (side other : Side) (trace : List Happening) (c : Call) (a : Answer) → other ≡ other_side side → SameTold (told other trace) (told other (trace ++ answered side c a ∷ []))
@@ -59,7 +59,7 @@ pub sends-told : (side : Side) (trace : List Happening) (id : SocketId) (octets 
     → (told side (trace ++ answered side (call.Send id octets) (answer.Sent count) ∷ []) id ≡ (let a = told side trace id in record a { gave = a.gave ++ take count octets.items }))
     × SameBut id (told side trace) (told side (trace ++ answered side (call.Send id octets) (answer.Sent count) ∷ []))
 sends-told side trace id octets count = (
-  told-added side trace h id ∙ account (with_more a (sent_by side id h) (closed_by side id h) (read_by side id h) (ended_by side id h)) (a.gave ++ take count octets.items) a.got a.closed a.ended
+  told-added side trace h id ∙ account (with_more a (sent_of side id h) (closed_of side id h) (read_of side id h) (ended_of side id h)) (a.gave ++ take count octets.items) a.got a.closed a.ended
       (ap (λ l. a.gave ++ l) (sent_by-send side id id octets count ∙ ap (λ b. cond b (take count octets.items) []) (eqb-same id.0))) (or_false a.closed) (append-nil a.got) (or_false a.ended),
   λ j apart. told-quiet side trace h j (sent_by-send side id j octets count ∙ ap (λ b. cond b (take count octets.items) []) (swapped id j apart), refl, refl, refl),
 )
@@ -74,7 +74,7 @@ pub receives-told : (side : Side) (trace : List Happening) (id : SocketId) (len 
     → (told side (trace ++ answered side (call.Recv id len) (answer.Octets octets) ∷ []) id ≡ (let a = told side trace id in record a { got = a.got ++ octets.items }))
     × SameBut id (told side trace) (told side (trace ++ answered side (call.Recv id len) (answer.Octets octets) ∷ []))
 receives-told side trace id len octets = (
-  told-added side trace h id ∙ account (with_more a (sent_by side id h) (closed_by side id h) (read_by side id h) (ended_by side id h)) a.gave (a.got ++ octets.items) a.closed a.ended
+  told-added side trace h id ∙ account (with_more a (sent_of side id h) (closed_of side id h) (read_of side id h) (ended_of side id h)) a.gave (a.got ++ octets.items) a.closed a.ended
       (append-nil a.gave) (or_false a.closed) (ap (λ l. a.got ++ l) (read_by-recv side id id len octets ∙ ap (λ b. cond b octets.items []) (eqb-same id.0))) (or_false a.ended),
   λ j apart. told-quiet side trace h j (refl, refl, read_by-recv side id j len octets ∙ ap (λ b. cond b octets.items []) (swapped id j apart), refl),
 )
@@ -93,8 +93,8 @@ pub closes-told : (side : Side) (trace : List Happening) (id : SocketId)
     → (told side (trace ++ answered side (call.Shutdown id) answer.Done ∷ []) id ≡ (let a = told side trace id in record a { closed = true }))
     × SameBut id (told side trace) (told side (trace ++ answered side (call.Shutdown id) answer.Done ∷ []))
 closes-told side trace id = (
-  told-added side trace h id ∙ account (with_more a (sent_by side id h) (closed_by side id h) (read_by side id h) (ended_by side id h)) a.gave a.got true a.ended
-      (append-nil a.gave) (or_true a.closed (closed_by side id h) (closed_by-shutdown side id id ∙ eqb-same id.0)) (append-nil a.got) (or_false a.ended),
+  told-added side trace h id ∙ account (with_more a (sent_of side id h) (closed_of side id h) (read_of side id h) (ended_of side id h)) a.gave a.got true a.ended
+      (append-nil a.gave) (or_true a.closed (closed_of side id h) (closed_by-shutdown side id id ∙ eqb-same id.0)) (append-nil a.got) (or_false a.ended),
   λ j apart. told-quiet side trace h j (refl, closed_by-shutdown side id j ∙ swapped id j apart, refl, refl),
 )
   where
@@ -109,8 +109,8 @@ pub forsakes-told : (side : Side) (trace : List Happening) (id : SocketId)
     → (told side (trace ++ answered side (call.Close id) answer.Done ∷ []) id ≡ (let a = told side trace id in record a { closed = true }))
     × SameBut id (told side trace) (told side (trace ++ answered side (call.Close id) answer.Done ∷ []))
 forsakes-told side trace id = (
-  told-added side trace h id ∙ account (with_more a (sent_by side id h) (closed_by side id h) (read_by side id h) (ended_by side id h)) a.gave a.got true a.ended
-      (append-nil a.gave) (or_true a.closed (closed_by side id h) (closed_by-close side id id ∙ eqb-same id.0)) (append-nil a.got) (or_false a.ended),
+  told-added side trace h id ∙ account (with_more a (sent_of side id h) (closed_of side id h) (read_of side id h) (ended_of side id h)) a.gave a.got true a.ended
+      (append-nil a.gave) (or_true a.closed (closed_of side id h) (closed_by-close side id id ∙ eqb-same id.0)) (append-nil a.got) (or_false a.ended),
   λ j apart. told-quiet side trace h j (refl, closed_by-close side id j ∙ swapped id j apart, refl, refl),
 )
   where
@@ -124,8 +124,8 @@ pub ends-told : (side : Side) (trace : List Happening) (id : SocketId) (len : �
     → (told side (trace ++ answered side (call.Recv id len) answer.EndOfStream ∷ []) id ≡ (let a = told side trace id in record a { ended = true }))
     × SameBut id (told side trace) (told side (trace ++ answered side (call.Recv id len) answer.EndOfStream ∷ []))
 ends-told side trace id len = (
-  told-added side trace h id ∙ account (with_more a (sent_by side id h) (closed_by side id h) (read_by side id h) (ended_by side id h)) a.gave a.got a.closed true
-      (append-nil a.gave) (or_false a.closed) (append-nil a.got) (or_true a.ended (ended_by side id h) (ended_by-recv side id id len ∙ eqb-same id.0)),
+  told-added side trace h id ∙ account (with_more a (sent_of side id h) (closed_of side id h) (read_of side id h) (ended_of side id h)) a.gave a.got a.closed true
+      (append-nil a.gave) (or_false a.closed) (append-nil a.got) (or_true a.ended (ended_of side id h) (ended_by-recv side id id len ∙ eqb-same id.0)),
   λ j apart. told-quiet side trace h j (refl, refl, refl, ended_by-recv side id j len ∙ swapped id j apart),
 )
   where

@@ -33,7 +33,7 @@ use Rattle.wire_sim.specs.Runs.{IsNumbered, IsStep, IsReached}
 use Rattle.host.specs.Sound.{IsSoundHost}
 use Rattle.wire_sim.specs.Runs as runs
 use Rattle.wire_sim.specs.Sides.{same_side, other_side}
-use Rattle.wire_sim.specs.Steps.{with_station, with_host, with_openings, ticked_station, delivered, MeetsFrame, DeliversFrame, Steps}
+use Rattle.wire_sim.specs.Steps.{with_station, with_host, with_opening, ticked_station, delivered, MeetsFrame, DeliversFrame, Steps}
 use Rattle.wire_sim.specs.Openings.{epoch_of, opened_by_frame}
 use Rattle.stream_law.specs.Begins.{Begins}
 use Rattle.wire_sim.specs.Trace.{closed_on, read_on, ended_on, of_opening, written, closed, read, ended, StreamLaw}
@@ -144,7 +144,7 @@ orderly-called limit hs ts old new trace c answer opposite numbered sound fair s
           (ap (λ (m : NetworkView). m.frames) whole ∙ frames-with old hs x) (ap (λ (m : NetworkView). m.openings) whole ∙ openings-with old hs x)
           (ap (λ (m : NetworkView). m.written) whole ∙ (ap (λ ws. counted old.openings ws hs id count) w.tallied ∙ t)) p
       | GoesOpened o is p t ↦
-          let next : NetworkView = with_openings (with_station old hs x) (o ∷ []) in
+          let next : NetworkView = with_opening (with_station old hs x) (Some o) in
           let whole : new ≡ next = step.1 ∙ is in
           orderly-of limit hs ts w.a w.b own' (host_of old ts) old.frames (old.openings ++ o ∷ []) (trace ++ e ∷ []) new
           (ap (λ (m : NetworkView). m.limit) whole ∙ (limit-with old hs x ∙ w.is_limit)) refl (ap (λ m. host_of m ts) whole ∙ (own-again (with_station old hs x) next ts refl refl ∙ other-with old hs ts x opposite))
@@ -252,15 +252,15 @@ orderly-delivered limit hs ts old new trace index isn answer opposite numbered s
     opened : (f : Frame) (note : Note) → f.note ≡ Some note → new ≡ delivered hs (length trace) f.note old own'
         → Opens limit hs ts w.a w.b own' (host_of old ts) old.frames old.openings (opened_by_frame old.openings hs (length trace) note.pair (host_of old hs) own') trace → IsOrderly limit hs ts new (trace ++ e ∷ [])
     opened f note is becomes (OpensNone none p) =
-        let whole : new ≡ with_station old hs x = becomes ∙ (ap (λ o. delivered hs (length trace) o old own') is ∙ ap (with_openings (with_host old hs own')) none) in
+        let whole : new ≡ with_station old hs x = becomes ∙ (ap (λ o. delivered hs (length trace) o old own') is ∙ ap (with_opening (with_host old hs own')) none) in
         orderly-of limit hs ts w.a w.b own' (host_of old ts) old.frames old.openings (trace ++ e ∷ []) new
         (ap (λ (m : NetworkView). m.limit) whole ∙ (limit-with old hs x ∙ w.is_limit)) refl (ap (λ m. host_of m ts) whole ∙ other-with old hs ts x opposite)
         (ap (λ (m : NetworkView). m.frames) whole ∙ frames-with old hs x) (ap (λ (m : NetworkView). m.openings) whole ∙ openings-with old hs x)
         (ap (λ (m : NetworkView). m.written) whole ∙ (written-with old hs x ∙ (w.tallied ∙ sym (tallies-quiet trace old.openings e (λ s i. (quiet-deliver hs index isn answer s i).0)))))
         (projects-silent limit hs ts w.a w.b own' (host_of old ts) old.frames old.openings trace e (λ s i. quiet-deliver hs index isn answer s i) p)
     opened f note is becomes (OpensOne o one unsent p) =
-        let next : NetworkView = with_openings (with_station old hs x) (o ∷ []) in
-        let whole : new ≡ next = becomes ∙ (ap (λ o. delivered hs (length trace) o old own') is ∙ ap (with_openings (with_host old hs own')) one) in
+        let next : NetworkView = with_opening (with_station old hs x) (Some o) in
+        let whole : new ≡ next = becomes ∙ (ap (λ o. delivered hs (length trace) o old own') is ∙ ap (with_opening (with_host old hs own')) one) in
         orderly-of limit hs ts w.a w.b own' (host_of old ts) old.frames (old.openings ++ o ∷ []) (trace ++ e ∷ []) new
         (ap (λ (m : NetworkView). m.limit) whole ∙ (limit-with old hs x ∙ w.is_limit)) refl (ap (λ m. host_of m ts) whole ∙ (own-again (with_station old hs x) next ts refl refl ∙ other-with old hs ts x opposite))
         (ap (λ (m : NetworkView). m.frames) whole ∙ frames-with old hs x) (ap (λ (m : NetworkView). m.openings) whole ∙ ap (λ l. l ++ o ∷ []) (openings-with old hs x))

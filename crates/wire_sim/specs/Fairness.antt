@@ -1,6 +1,6 @@
 -- Which events are unfair: a network delivers only what the other side emitted, nothing for too long, nothing of a connection whose ports
 -- are used again, and no host opens a pair twice in one epoch.
-use Rattle.std.specs.Prelude.{ℕ, ◌-◌, ◌==◌, Bool, ◌||◌, nat_le, not, if◌then◌else◌, List, Option, Some, None, option_and_then, slice_get}
+use Rattle.std.specs.Prelude.{◌≡◌, ℕ, ◌-◌, ◌<◌, ◌==◌, Bool, ◌||◌, nat_le, not, if◌then◌else◌, List, Option, Some, None, IfSome, option_and_then, slice_get, find}
 use Rattle.std.specs.List.{list_any}
 use Rattle.std.specs.Option.{option_or}
 use Rattle.ipv4.specs.declared.addr.Pair.{Pair}
@@ -81,3 +81,34 @@ is_stale n note = is_late n.limit (written_at n) note
 
 abbrev pub unfair_counted : NetworkView → Event → Option Unfair
 unfair_counted n happens = unfair_event n (written_at n) happens
+
+-- The same by four facts, and not by the first rule that is broken.
+
+-- neither end took the limit or more from its caller since the frame went out
+pub record IsRecent (limit : ℕ) (now : Amount) (note : Note) : Type 0 where
+  pub at_a : now A note.pair note.epoch - note.at_a < limit
+  pub at_b : now B note.pair note.epoch - note.at_b < limit
+
+-- no opening of a side is of the pair in this epoch
+abbrev pub IsUnopened : List Opening → Side → Pair → ℕ → Type 0
+IsUnopened openings side pair epoch = find (is_opening_of side pair epoch) openings ≡ None
+
+-- A frame may be delivered to a side: the other one emitted it, its pair is still in its epoch, it is recent, and it opens no pair a second time.
+pub record IsFairFrame (n : NetworkView) (now : Amount) (side : Side) (f : Frame) : Type 0 where
+  pub sender : f.sender ≡ other_side side
+  pub epoch : IfSome f.note (λ note. epoch_of n.openings note.pair ≡ note.epoch)
+  pub recent : IfSome f.note (IsRecent n.limit now)
+  pub once : IfSome (pair_foreseen (host_of n side) f.octets.items) (λ pair. IsUnopened n.openings side pair (epoch_of n.openings pair))
+
+-- a call is fair where it opens no pair a second time
+abbrev pub IsFairCall : NetworkView → Side → Call → Type 0
+IsFairCall n side (call.Connect isn id peer) =
+    IfSome (pair_connected (host_of n side) id peer) (λ pair. IsUnopened n.openings side pair (epoch_connected n.openings (host_of n (other_side side)) pair))
+IsFairCall n side _ = Unit {0}
+
+-- `laws::fair_is_unrefused`: an event is fair exactly where no rule refuses it
+abbrev pub IsFair : NetworkView → Amount → Event → Type 0
+IsFair n now (event.Deliver side index isn) = (f : Frame) × (slice_get n.frames index ≡ Some f) × IsFairFrame n now side f
+IsFair n now (event.Call side c) = IsFairCall n side c
+IsFair n now (event.Tick side moment) = Unit {0}
+IsFair n now (event.Emit side) = Unit {0}

@@ -1,5 +1,5 @@
 -- Which events open a pair, and in which of its epochs.
-use Rattle.std.specs.Prelude.{ℕ, ◌+◌, if◌then◌else◌, List, [], ◌∷◌, fold, Option, Some, None, is_some}
+use Rattle.std.specs.Prelude.{ℕ, ◌+◌, if◌then◌else◌, List, fold, Option, Some, None, is_some}
 use Rattle.ipv4.specs.declared.addr.Pair.{Pair}
 use Rattle.host.specs.declared.entry.SocketId.{SocketId}
 use Rattle.wire_sim.specs.declared.event.Side.{Side}
@@ -17,24 +17,24 @@ abbrev pub epoch_connected : List Opening → HostView → Pair → ℕ
 epoch_connected openings other pair = if is_some (holder_id other pair) then epoch_of openings pair else epoch_of openings pair + 1
 
 -- A connect that was started opens the pair that its socket then has.
-abbrev pub opened_as : List Opening → Side → SocketId → ℕ → HostView → Option Pair → List Opening
-opened_as openings side id place other None = []
-opened_as openings side id place other (Some pair) = record {
+abbrev pub opened_as : List Opening → Side → SocketId → ℕ → HostView → Option Pair → Option Opening
+opened_as openings side id place other None = None
+opened_as openings side id place other (Some pair) = Some (record {
   side = side;
   pair = pair;
   epoch = epoch_connected openings other pair;
   id = id;
   place = place;
-} ∷ []
+})
 
-abbrev pub opened_by_connect : List Opening → Side → SocketId → ℕ → HostView → HostView → List Opening
+abbrev pub opened_by_connect : List Opening → Side → SocketId → ℕ → HostView → HostView → Option Opening
 opened_by_connect openings side id place new other = opened_as openings side id place other (socket_pair new id)
 
 -- A frame of a pair opens it where the host does not hold the pair before and holds it then, in the pair's present epoch.
-abbrev pub held_anew : List Opening → Side → ℕ → Pair → Option SocketId → Option SocketId → List Opening
-held_anew openings side place pair None (Some id) = record { side = side; pair = pair; epoch = epoch_of openings pair; id = id; place = place } ∷ []
-held_anew openings side place pair None None = []
-held_anew openings side place pair (Some held) after = []
+abbrev pub held_anew : List Opening → Side → ℕ → Pair → Option SocketId → Option SocketId → Option Opening
+held_anew openings side place pair None (Some id) = Some (record { side = side; pair = pair; epoch = epoch_of openings pair; id = id; place = place })
+held_anew openings side place pair None None = None
+held_anew openings side place pair (Some held) after = None
 
-abbrev pub opened_by_frame : List Opening → Side → ℕ → Pair → HostView → HostView → List Opening
+abbrev pub opened_by_frame : List Opening → Side → ℕ → Pair → HostView → HostView → Option Opening
 opened_by_frame openings side place pair old new = held_anew openings side place pair (holder_id old pair) (holder_id new pair)

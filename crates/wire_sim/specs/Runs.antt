@@ -1,6 +1,6 @@
 -- Every run of a world: one fair event after another, in any order and of any kind, each answered by its host as the host's own
 -- definitions say. A frame may be delivered never, once or often, in any order.
-use Rattle.std.specs.Prelude.{◌≡◌, ℕ, ◌<◌, ◌≤◌, ◌^◌, false, List, [], ◌∷◌, ◌++◌, length, take, drop, Option, None, Some, ◌⊎◌, Result, Ok, Err}
+use Rattle.std.specs.Prelude.{◌≡◌, ℕ, ◌<◌, ◌≤◌, ◌^◌, false, List, [], ◌∷◌, ◌++◌, length, take, drop, Option, None, Some, ◌⊎◌, ◌↔◌, Result, Ok, Err}
 use Rattle.ipv4.specs.declared.addr.Addr.{Addr}
 use Rattle.ipv4.specs.declared.addr.Pair.{Pair}
 use Rattle.wire_sim.specs.declared.event.Side.{Side}
@@ -13,7 +13,7 @@ use Rattle.wire_sim.specs.declared.event.Unfair.{Unfair}
 use Rattle.wire_sim.specs.declared.event.Unfair.TheVariants.{NoMemory}
 use Rattle.ipv4.specs.Addresses.{same_addr}
 use Rattle.host.specs.Sound.{IsSoundHost}
-use Rattle.wire_sim.specs.Fairness.{Amount, unfair_event}
+use Rattle.wire_sim.specs.Fairness.{Amount, unfair_event, IsFair}
 use Rattle.wire_sim.specs.WorldView.{WorldView, SameAnswer, written_at, fresh_world}
 use Rattle.wire_sim.specs.Steps.{Steps}
 use Rattle.wire_sim.specs.Trace.{written, StreamLaw}
@@ -35,6 +35,10 @@ written_len w side pair epoch = length (written w.trace w.network.openings side 
 -- why an event is refused, but for want of memory
 abbrev pub unfair : WorldView → Event → Option Unfair
 unfair w happens = unfair_event w.network (written_len w) happens
+
+-- by what the trace says, an event is fair exactly where none of the rules refuses it
+abbrev pub FairIsUnrefused : Type 0
+FairIsUnrefused = (w : WorldView) (happens : Event) → (unfair w happens ≡ None) ↔ IsFair w.network (written_len w) happens
 
 -- one event that is fair, and its answer, in the trace
 pub record IsStep (happens : Event) (answer : Answer) (old new : WorldView) : Type 0 where

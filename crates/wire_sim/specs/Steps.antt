@@ -86,15 +86,15 @@ MeetsCall (call.Shutdown id) h answer new = Answers (unless_refused (shutdown_re
 MeetsCall (call.Close id) h answer new = Answers (unless_refused (close_refusal h id) (tt {0})) (λ _. reply.Done) (after_close h id) h answer new
 MeetsCall (call.State id) h answer new = Answers (state_answer h id) (λ state. reply.State state) h h answer new
 
--- openings are added, each with nothing counted yet
-abbrev pub with_openings : NetworkView → List Opening → NetworkView
-with_openings n [] = n
-with_openings n (o ∷ os) = with_openings (record n { openings = n.openings ++ o ∷ []; written = n.written ++ 0 ∷ [] }) os
+-- an opening is added, if there is one, with nothing counted yet
+abbrev pub with_opening : NetworkView → Option Opening → NetworkView
+with_opening n None = n
+with_opening n (Some o) = record n { openings = n.openings ++ o ∷ []; written = n.written ++ 0 ∷ [] }
 
 -- the network once a call on a side was answered and its host became another: a connect that was started opens a pair, and octets
 -- that were taken are counted
 abbrev pub called : Side → Call → Answer → ℕ → NetworkView → HostView → NetworkView
-called side (call.Connect isn id peer) reply.Started place n host = with_openings (with_host n side host) (opened_by_connect n.openings side id place host (host_of n (other_side side)))
+called side (call.Connect isn id peer) reply.Started place n host = with_opening (with_host n side host) (opened_by_connect n.openings side id place host (host_of n (other_side side)))
 called side (call.Send id octets) (reply.Sent count) place n host = record (with_host n side host) { written = counted n.openings n.written side id count }
 called side _ _ place n host = with_host n side host
 
@@ -127,7 +127,7 @@ pub record EmitsNothing (side : Side) (old new : NetworkView) : Type 0 where
 -- what a frame made of its host, and the opening of its pair where the host holds it anew
 abbrev pub delivered : Side → ℕ → Option Note → NetworkView → HostView → NetworkView
 delivered side place None n host = with_host n side host
-delivered side place (Some note) n host = with_openings (with_host n side host) (opened_by_frame n.openings side place note.pair (host_of n side) host)
+delivered side place (Some note) n host = with_opening (with_host n side host) (opened_by_frame n.openings side place note.pair (host_of n side) host)
 
 -- the host takes the frame's octets at its clock's moment, or drops them with a cause
 abbrev pub MeetsFrame : HostView → Moment → ℕ → List ℕ → Answer → HostView → Type 0

@@ -3,7 +3,6 @@ use Rattle.std.specs.Prelude.{◌≡◌, ℕ, Bool, true, false, ◌==◌, ◌&&
 use Rattle.ipv4.specs.declared.addr.Pair.{Pair}
 use Rattle.host.specs.declared.entry.SocketId.{SocketId}
 use Rattle.wire_sim.specs.declared.event.Side.{Side}
-use Rattle.wire_sim.specs.declared.event.Call.{Call}
 use Rattle.wire_sim.specs.declared.event.Call.TheVariants as call
 use Rattle.wire_sim.specs.declared.event.Event.{Event}
 use Rattle.wire_sim.specs.declared.event.Event.TheVariants as event
@@ -19,74 +18,46 @@ use Rattle.wire_sim.specs.Tallies.{is_opening_of}
 abbrev pub same_socket : Side → SocketId → Side → SocketId → Bool
 same_socket side id s i = same_side s side && (i.0 == id.0)
 
--- what a call's answer tells that the host took of its octets from the caller of a socket
-abbrev pub sent_by_call : Side → SocketId → Side → Call → Answer → List ℕ
-sent_by_call side id s (call.Send i octets) (answer.Sent count) = if same_socket side id s i then take count octets.items else []
-sent_by_call side id s _ _ = []
+-- What one event and its answer tell of a socket: octets that the host took from its caller ..
+abbrev pub sent_by : Side → SocketId → Event → Answer → List ℕ
+sent_by side id (event.Call s (call.Send i octets)) (answer.Sent count) = if same_socket side id s i then take count octets.items else []
+sent_by side id _ _ = []
 
-abbrev pub sent_by : Side → SocketId → Happening → List ℕ
-sent_by side id h = of_event h.event
-  where
-    of_event : Event → List ℕ
-    of_event (event.Call s c) = sent_by_call side id s c h.answer
-    of_event _ = []
+-- .. octets that it gave to that caller ..
+abbrev pub read_by : Side → SocketId → Event → Answer → List ℕ
+read_by side id (event.Call s (call.Recv i len)) (answer.Octets octets) = if same_socket side id s i then octets.items else []
+read_by side id _ _ = []
 
--- what it gave to that caller
-abbrev pub read_by_call : Side → SocketId → Side → Call → Answer → List ℕ
-read_by_call side id s (call.Recv i len) (answer.Octets octets) = if same_socket side id s i then octets.items else []
-read_by_call side id s _ _ = []
+-- .. that our side of it was closed, or the socket ..
+abbrev pub closed_by : Side → SocketId → Event → Answer → Bool
+closed_by side id (event.Call s (call.Shutdown i)) answer.Done = same_socket side id s i
+closed_by side id (event.Call s (call.Close i)) answer.Done = same_socket side id s i
+closed_by side id _ _ = false
 
-abbrev pub read_by : Side → SocketId → Happening → List ℕ
-read_by side id h = of_event h.event
-  where
-    of_event : Event → List ℕ
-    of_event (event.Call s c) = read_by_call side id s c h.answer
-    of_event _ = []
-
--- the call closed our side of the socket, or the socket
-abbrev pub closed_by_call : Side → SocketId → Side → Call → Answer → Bool
-closed_by_call side id s (call.Shutdown i) answer.Done = same_socket side id s i
-closed_by_call side id s (call.Close i) answer.Done = same_socket side id s i
-closed_by_call side id s _ _ = false
-
-abbrev pub closed_by : Side → SocketId → Happening → Bool
-closed_by side id h = of_event h.event
-  where
-    of_event : Event → Bool
-    of_event (event.Call s c) = closed_by_call side id s c h.answer
-    of_event _ = false
-
--- its answer told the caller of the socket the end of the stream
-abbrev pub ended_by_call : Side → SocketId → Side → Call → Answer → Bool
-ended_by_call side id s (call.Recv i len) answer.EndOfStream = same_socket side id s i
-ended_by_call side id s _ _ = false
-
-abbrev pub ended_by : Side → SocketId → Happening → Bool
-ended_by side id h = of_event h.event
-  where
-    of_event : Event → Bool
-    of_event (event.Call s c) = ended_by_call side id s c h.answer
-    of_event _ = false
+-- .. and that the caller was told the end of the stream.
+abbrev pub ended_by : Side → SocketId → Event → Answer → Bool
+ended_by side id (event.Call s (call.Recv i len)) answer.EndOfStream = same_socket side id s i
+ended_by side id _ _ = false
 
 -- all octets that were accepted of `send` on a socket, joined in the order of the trace
 abbrev pub sent_on : Side → SocketId → List Happening → List ℕ
 sent_on side id [] = []
-sent_on side id (h ∷ hs) = sent_by side id h ++ sent_on side id hs
+sent_on side id (h ∷ hs) = sent_by side id h.event h.answer ++ sent_on side id hs
 
 -- all octets that `recv` answered on it
 abbrev pub read_on : Side → SocketId → List Happening → List ℕ
 read_on side id [] = []
-read_on side id (h ∷ hs) = read_by side id h ++ read_on side id hs
+read_on side id (h ∷ hs) = read_by side id h.event h.answer ++ read_on side id hs
 
 -- whether our side of it was closed
 abbrev pub closed_on : Side → SocketId → List Happening → Bool
 closed_on side id [] = false
-closed_on side id (h ∷ hs) = closed_by side id h || closed_on side id hs
+closed_on side id (h ∷ hs) = closed_by side id h.event h.answer || closed_on side id hs
 
 -- whether the end was told on it
 abbrev pub ended_on : Side → SocketId → List Happening → Bool
 ended_on side id [] = false
-ended_on side id (h ∷ hs) = ended_by side id h || ended_on side id hs
+ended_on side id (h ∷ hs) = ended_by side id h.event h.answer || ended_on side id hs
 
 -- what is said of the opening by which a side's host came to hold a pair in an epoch, or this where there is none
 abbrev pub of_opening : {T : Type 0} → T → (Opening → T) → Option Opening → T
@@ -107,13 +78,13 @@ read trace openings side pair epoch = of_opening [] (λ o. read_on side o.id tra
 abbrev pub ended : List Happening → List Opening → Side → Pair → ℕ → Bool
 ended trace openings side pair epoch = of_opening false (λ o. ended_on side o.id trace) (find (is_opening_of side pair epoch) openings)
 
--- from a writer to the reader at the other side: what was read begins what was written, and the end was told only where the writer closed
--- its side and all that it wrote was read
-pub record KeepsStream (trace : List Happening) (openings : List Opening) (writer : Side) (pair : Pair) (epoch : ℕ) : Type 0 where
-  pub begins : Begins (read trace openings (other_side writer) pair epoch) (written trace openings writer pair epoch)
-  pub end : ended trace openings (other_side writer) pair epoch ≡ true
-      → (closed trace openings writer pair epoch ≡ true) × (read trace openings (other_side writer) pair epoch ≡ written trace openings writer pair epoch)
+-- from a writer to its reader: what was read begins what was written, and the end was told only where the writer closed its side and all that
+-- it wrote was read
+pub record KeepsStream (written read : List ℕ) (closed ended : Bool) : Type 0 where
+  pub begins : Begins read written
+  pub end : ended ≡ true → (closed ≡ true) × (read ≡ written)
 
--- The law of the stream: for every pair of endpoints, every epoch and both directions.
+-- The law of the stream: for every pair of endpoints, every epoch and both directions, from a writer to the reader at the other side.
 abbrev pub StreamLaw : List Happening → List Opening → Type 0
-StreamLaw trace openings = (writer : Side) (pair : Pair) (epoch : ℕ) → KeepsStream trace openings writer pair epoch
+StreamLaw trace openings = (writer : Side) (pair : Pair) (epoch : ℕ)
+    → KeepsStream (written trace openings writer pair epoch) (read trace openings (other_side writer) pair epoch) (closed trace openings writer pair epoch) (ended trace openings (other_side writer) pair epoch)

@@ -1,6 +1,6 @@
 //! Laws over the definitions alone: functions with nothing to do, whose contracts are the laws.
 
-ghost use Rattle.wire_sim.specs.Runs.{EveryRunIsLawful, EveryRunIsTallied, EveryRunIsReached, EveryMomentIsLawful};
+ghost use Rattle.wire_sim.specs.Runs.{EveryRunIsLawful, EveryRunIsTallied, EveryRunIsReached, EveryMomentIsLawful, FairIsUnrefused};
 ghost use Rattle.wire_sim.specs.Coverage.{EveryConnectionIsListed, EveryOpeningIsUnique, EveryOctetIsCovered};
 ghost use Rattle.wire_sim.specs.Holding.{EveryOpeningIsBegun, EveryHoldingIsNoted};
 ghost use Rattle.wire_sim.specs.Notes.{EveryNoteIsTraced, EveryDelayIsTraced};
@@ -66,4 +66,10 @@ pub fn every_note_is_traced()
 /// the frame's pair rose since the frame went out, and as stale exactly where it did not and a side wrote the limit or more since.
 pub fn every_delay_is_traced()
     ensures { EveryDelayIsTraced }
+{}
+
+/// No rule refuses an event exactly where it is fair. Of a delivery these are four facts: the other side emitted the frame, its pair is still in
+/// the epoch in which it went out, neither end took the limit or more from its caller since, and it opens no pair a second time in one epoch.
+pub fn fair_is_unrefused()
+    ensures { FairIsUnrefused }
 {}

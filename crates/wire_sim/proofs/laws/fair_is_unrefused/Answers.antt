@@ -1,0 +1,5 @@
+use Rattle.wire_sim.proofs.FairFacts.{unrefused}
+use Rattle.wire_sim.proofs.laws.fair_is_unrefused.Goals as goal
+
+pub returns : goal.returns
+returns c = unrefused
