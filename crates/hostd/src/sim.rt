@@ -8,7 +8,7 @@ ghost use Rattle.script.specs.Text.{style_of};
 ghost use Rattle.hostd.specs.Play.{line_of_outcome, Emits, Delivers, Carries, Prints, pass_line, IsPlayed, IsCutShort, first_world, limit_line, TakesPrinted, TakesPrintedBy};
 
 use crate::fault::TextFault;
-use crate::input::whole;
+use crate::input::whole_script;
 use crate::output::{finish, hand_on};
 use crate::streams::{Sink, Source};
 use host::Config;
@@ -33,7 +33,7 @@ pub fn sim<R: Source, W: Sink>(alloc: Global, script: &mut R, out: &mut W) -> Re
     ensures due { IfSome (R.remaining script.old) (λ octets. IsDue octets result) }
     ensures printed { IfSome (R.remaining script.old) (λ octets. TakesPrintedBy octets result (W.taken out.old) (W.taken out.new)) }
 {
-    let octets = whole(alloc, script)?;
+    let octets = whole_script(alloc, script)?;
     let script = Script::parse(alloc, octets.as_slice())?;
     run(alloc, &script, out)
 }

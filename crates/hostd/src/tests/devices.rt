@@ -37,8 +37,8 @@ const ARP_SAYS: &str = "ether ff:ff:ff:ff:ff:ff 02:00:00:00:00:01 0806
 arp request 02:00:00:00:00:01 10.0.0.1 00:00:00:00:00:00 10.0.0.2
 ";
 
-// The head of the SYN's frame, and nothing behind it.
-const BARE: &str = "020000000002 020000000001 0800";
+// The head of the SYN's frame, its parts behind a vertical tab and a form feed, and nothing behind it.
+const BARE: &str = "020000000002\x0b020000000001\x0c0800";
 
 const BARE_SAYS: &str = "ether 02:00:00:00:00:02 02:00:00:00:00:01 0800\ndrop F4\n";
 
