@@ -12,7 +12,7 @@ use crate::input::whole_script;
 use crate::output::{finish, hand_on};
 use crate::streams::{Sink, Source};
 use host::Config;
-use script::{Action, Command, Script, Style, address, event, other, show, show_unfair};
+use script::{Action, Command, Script, Style, address, event, show, show_unfair};
 use std::alloc::{AllocError, Global};
 use tcp_segment::Seq;
 use wire_sim::{Answer, Event, Side, Unfair, World};
@@ -206,7 +206,7 @@ fn carry(world: &mut World, from: Side, isn: Seq) -> usize
 {
     let mut frames = [0usize; MOST_FRAMES];
     let count = emit(world, from, &mut frames);
-    deliver(world, other(from), &frames[..count], isn);
+    deliver(world, from.other(), &frames[..count], isn);
     count
 }
 

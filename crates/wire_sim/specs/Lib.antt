@@ -9,3 +9,4 @@ pub mod Trace
 pub mod Runs
 pub mod Coverage
 pub mod Holding
+pub mod Names
