@@ -58,7 +58,7 @@ abbrev pub Carries : Side → Seq → ℕ → WorldView → WorldView → Type 0
 Carries side isn count old new =
     (frames : List ℕ) × (w : WorldView) × (count ≡ length frames) × Emits side frames old w × Delivers (other_side side) isn frames w new
 
--- the line that tells how many frames went from a to b, and how many from b to a
+-- the line that says how many frames went from a to b, and how many from b to a
 abbrev pub pass_line : ℕ → ℕ → List ℕ
 pass_line from_a from_b = codes "a " ++ decimal from_a ++ codes " b " ++ decimal from_b ++ codes "\n"
 

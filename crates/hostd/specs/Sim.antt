@@ -6,7 +6,7 @@ use Rattle.script.specs.declared.fault.ScriptFault.TheVariants as script
 use Rattle.hostd.specs.declared.fault.TextFault.{TextFault}
 use Rattle.hostd.specs.declared.fault.TextFault.TheVariants.{Line, TooLong, NotHex, Read, Write, NoMemory}
 
--- why octets are not run as a script, by what tells that they are none
+-- why octets are not run as a script, by why they are none
 abbrev pub fault_by : ScriptFault → TextFault
 fault_by (script.Line n) = Line n
 fault_by script.NoMemory = NoMemory

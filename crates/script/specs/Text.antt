@@ -28,7 +28,7 @@ escape_of octet =
 abbrev pub escaped_of : List ℕ → List ℕ
 escaped_of octets = flat_map escape_of octets
 
--- the octets that `count` reads are told by their number
+-- of the octets that `count` reads the number is shown
 abbrev pub style_of : Action → Style
 style_of (Count id most) = style.Count
 style_of action = style.Text

@@ -19,8 +19,8 @@ pub enum Style {
     Count,
 }
 
-// Adds `octets` to `line`: those of text as they are, but a backslash and every other octet as `\x` and two lower case
-// hexadecimal digits.
+/// Adds `octets` to `line`: those of text as they are, but a backslash and every other octet as `\x` and two lower case
+/// hexadecimal digits.
 fn escape(octets: &[u8], line: &mut String) -> Result<(), AllocError>
     ensures { OnOk result (string_bytes line.new ≡ string_bytes line.old ++ escaped_of octets.now) }
 {
@@ -73,7 +73,7 @@ pub fn show(answer: &Answer, style: Style, line: &mut String) -> Result<(), Allo
     }
 }
 
-// The id of an accepted connection, and its peer.
+/// The id of an accepted connection, and its peer.
 fn show_accepted(id: SocketId, peer: Endpoint, line: &mut String) -> Result<(), AllocError>
     ensures { OnOk result (string_bytes line.new ≡ string_bytes line.old
         ++ (codes "id " ++ (decimal id.0 ++ (codes " " ++ peer_text peer)))) }
