@@ -13,7 +13,7 @@ pub(crate) enum Carried {
     Other,
 }
 
-// The types of frames that carry them (RFC 894, RFC 826).
+/// The types of frames that carry them (RFC 894, RFC 826).
 const IPV4: u16 = 0x0800;
 
 const ARP: u16 = 0x0806;

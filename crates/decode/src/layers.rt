@@ -15,7 +15,7 @@ use tcp_segment::{SegmentFault, TcpView};
 use udp::{UdpFault, UdpView};
 
 /// Adds a line for each layer of a frame to `lines`: `ether`, then `arp`, or `ipv4` and then `icmp`, `udp` or `tcp`. Nothing is printed
-/// above a fragment, nor of another protocol. Where a layer can't be read, the last line tells why, and that cause is answered.
+/// above a fragment, nor of another protocol. Where a layer can't be read, the last line says why, and that cause is answered.
 /// Addresses aren't looked at. An error is want of memory.
 pub fn decode(frame: &[u8], lines: &mut String) -> Result<Option<DropCause>, AllocError>
     ensures { IfOk result (λ cause. Decodes frame.now cause (string_bytes lines.old) (string_bytes lines.new)) }
@@ -25,7 +25,7 @@ pub fn decode(frame: &[u8], lines: &mut String) -> Result<Option<DropCause>, All
     Ok(cause)
 }
 
-// Adds the line that tells why something can't be read.
+/// Adds the line that says why something can't be read.
 fn push_drop(cause: Option<DropCause>, lines: &mut String) -> Result<(), AllocError>
     ensures { OnOk result (string_bytes lines.new ≡ string_bytes lines.old ++ drop_line cause) }
 {
@@ -35,7 +35,7 @@ fn push_drop(cause: Option<DropCause>, lines: &mut String) -> Result<(), AllocEr
     }
 }
 
-// Adds the lines of a frame.
+/// Adds the lines of a frame.
 fn show_frame(octets: &[u8], lines: &mut String) -> Result<Option<DropCause>, AllocError>
     ensures { IfOk result (λ cause. Grows (IsShown octets.now) cause (string_bytes lines.old) (string_bytes lines.new)) }
 {
@@ -48,7 +48,7 @@ fn show_frame(octets: &[u8], lines: &mut String) -> Result<Option<DropCause>, Al
     }
 }
 
-// Adds the lines of a frame's payload.
+/// Adds the lines of a frame's payload.
 fn show_payload(
     kind: u16,
     octets: &[u8],
@@ -63,7 +63,7 @@ fn show_payload(
     }
 }
 
-// Adds the line of an ARP packet.
+/// Adds the line of an ARP packet.
 fn show_packet(
     read: Result<ArpPacket, ArpFault>,
     lines: &mut String,
@@ -79,7 +79,7 @@ fn show_packet(
     }
 }
 
-// Adds the lines of a datagram.
+/// Adds the lines of a datagram.
 fn show_datagram(
     read: Result<Ipv4View<'_>, Ipv4Fault>,
     lines: &mut String,
@@ -95,7 +95,7 @@ fn show_datagram(
     }
 }
 
-// Why there is no datagram.
+/// Why there is no datagram.
 fn ipv4_cause(fault: Ipv4Fault) -> DropCause
     ensures { result ≡ ipv4_cause fault }
 {
@@ -105,7 +105,7 @@ fn ipv4_cause(fault: Ipv4Fault) -> DropCause
     }
 }
 
-// Adds the line of what a datagram carries, where that is read.
+/// Adds the line of what a datagram carries, where that is read.
 fn show_upper(datagram: &Ipv4View<'_>, lines: &mut String) -> Result<Option<DropCause>, AllocError>
     ensures { IfOk result (λ cause. Grows (IsUpperShown (upper_in datagram.now) datagram.now) cause (string_bytes lines.old) (string_bytes lines.new)) }
 {
@@ -119,7 +119,7 @@ fn show_upper(datagram: &Ipv4View<'_>, lines: &mut String) -> Result<Option<Drop
     }
 }
 
-// Adds the line of an ICMP message.
+/// Adds the line of an ICMP message.
 fn show_message(
     read: Result<IcmpView<'_>, IcmpFault>,
     lines: &mut String,
@@ -136,7 +136,7 @@ fn show_message(
     }
 }
 
-// Adds the line of a user datagram.
+/// Adds the line of a user datagram.
 fn show_user_datagram(
     read: Result<UdpView<'_>, UdpFault>,
     lines: &mut String,
@@ -153,7 +153,7 @@ fn show_user_datagram(
     }
 }
 
-// Adds the line of a TCP segment.
+/// Adds the line of a TCP segment.
 fn show_segment(
     read: Result<TcpView<'_>, SegmentFault>,
     lines: &mut String,

@@ -24,7 +24,7 @@ pub(crate) fn push_ether(frame: &EtherView<'_>, lines: &mut String) -> Result<()
     lines.push_str("\n")
 }
 
-// Adds two MACs, parted by a blank.
+/// Adds two MACs, parted by a blank.
 fn push_macs(first: Mac, second: Mac, lines: &mut String) -> Result<(), AllocError>
     ensures { OnOk result (string_bytes lines.new ≡ string_bytes lines.old ++ parted (mac_text first) (mac_text second)) }
 {
@@ -44,7 +44,7 @@ pub(crate) fn push_arp(packet: &ArpPacket, lines: &mut String) -> Result<(), All
     lines.push_str("\n")
 }
 
-// Adds a MAC and an address, parted by a blank.
+/// Adds a MAC and an address, parted by a blank.
 fn push_station(mac: Mac, addr: Addr, lines: &mut String) -> Result<(), AllocError>
     ensures { OnOk result (string_bytes lines.new ≡ string_bytes lines.old ++ parted (mac_text mac) (addr_text addr)) }
 {
@@ -53,7 +53,7 @@ fn push_station(mac: Mac, addr: Addr, lines: &mut String) -> Result<(), AllocErr
     push_addr(addr, lines)
 }
 
-// What an ARP packet is for.
+/// What an ARP packet is for.
 fn operation_name<'a>(operation: Operation) -> &'a str
     ensures { result.now ≡ operation_text operation }
 {
@@ -81,7 +81,7 @@ pub(crate) fn push_ipv4(datagram: &Ipv4View<'_>, lines: &mut String) -> Result<(
     )
 }
 
-// Adds two addresses, parted by a blank.
+/// Adds two addresses, parted by a blank.
 fn push_addrs(first: Addr, second: Addr, lines: &mut String) -> Result<(), AllocError>
     ensures { OnOk result (string_bytes lines.new ≡ string_bytes lines.old ++ parted (addr_text first) (addr_text second)) }
 {

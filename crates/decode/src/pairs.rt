@@ -2,9 +2,8 @@
 
 ghost use Rattle.std.specs.Prelude.{◌≡◌, Some, None, Ok, IsErr, map, IfOk, IfErr};
 ghost use Rattle.std.specs.List.{slice_split};
-ghost use Rattle.std.specs.Char.{is_ascii_whitespace};
 ghost use Rattle.hex.specs.Hex.{decode_of};
-ghost use Rattle.decode.specs.Pairs.{octets_in, octets_of_words};
+ghost use Rattle.decode.specs.Pairs.{is_space, octets_in, octets_of_words};
 ghost use Rattle.decode.specs.declared.pairs.HexFault.TheVariants.{NotHex, NoMemory};
 
 use hex::FromHexError;
@@ -30,8 +29,10 @@ impl From<AllocError> for HexFault {
     }
 }
 
-/// The octets that the pairs of hexadecimal digits in `text` spell, in either case, with white space before, between and after the pairs.
-/// `NotHex` where the text has anything else.
+/// The octets that the pairs of hexadecimal digits in `text` spell, in either case, with white space before, between and after the pairs: blanks,
+/// tabs, line feeds, vertical tabs, form feeds and carriage returns. A text may have any length.
+///
+/// `NotHex` where the text has anything else; `NoMemory` for want of memory.
 pub fn octets_of(alloc: Global, text: &[u8]) -> Result<Vec<u8>, HexFault>
     ensures ok { IfOk result (λ octets. octets_in text.now ≡ Some octets.items) }
     ensures err { IfErr result (λ fault. fault ≡ NotHex → octets_in text.now ≡ None) }
@@ -39,15 +40,21 @@ pub fn octets_of(alloc: Global, text: &[u8]) -> Result<Vec<u8>, HexFault>
     octets_of_words(alloc, words_of(alloc, text)?.as_slice())
 }
 
-// What stands before, between and after the white space of a text.
+/// What stands before, between and after the white space of a text.
 fn words_of(alloc: Global, text: &[u8]) -> Result<Vec<&[u8]>, AllocError>
-    ensures { IfOk result (λ words. map (λ word. word.now) words.items ≡ slice_split is_ascii_whitespace text.now) }
+    ensures { IfOk result (λ words. map (λ word. word.now) words.items ≡ slice_split is_space text.now) }
 {
-    text.split(|octet| octet.is_ascii_whitespace())
-        .collect(alloc)
+    text.split(|octet| is_space(*octet)).collect(alloc)
 }
 
-// The octets that words of pairs spell.
+/// Whether an octet is white space, as C's `isspace` has it.
+fn is_space(octet: u8) -> bool
+    ensures { result ≡ is_space octet }
+{
+    matches!(octet, b' ' | b'\t'..=b'\r')
+}
+
+/// The octets that words of pairs spell.
 fn octets_of_words(alloc: Global, words: &[&[u8]]) -> Result<Vec<u8>, HexFault>
     ensures ok { IfOk result (λ octets. octets_of_words (map (λ word. word.now) words.now) ≡ Some octets.items) }
     ensures err { IfErr result (λ fault. fault ≡ NotHex → octets_of_words (map (λ word. word.now) words.now) ≡ None) }
@@ -59,7 +66,7 @@ fn octets_of_words(alloc: Global, words: &[&[u8]]) -> Result<Vec<u8>, HexFault>
     Ok(octets)
 }
 
-// The octets that a word of pairs spells.
+/// The octets that a word of pairs spells.
 fn octets_of_word(alloc: Global, word: &[u8]) -> Result<Vec<u8>, HexFault>
     ensures ok { IfOk result (λ octets. decode_of word.now ≡ Ok octets.items) }
     ensures err { IfErr result (λ fault. fault ≡ NotHex → IsErr (decode_of word.now)) }

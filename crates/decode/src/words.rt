@@ -37,7 +37,7 @@ pub(crate) fn push_mac(mac: Mac, line: &mut String) -> Result<(), AllocError>
     push_three(d, e, f, line)
 }
 
-// Adds three octets, parted by colons.
+/// Adds three octets, parted by colons.
 #[tactic(auto, unfolding(crate::specs::Words::three_text))]
 fn push_three(a: u8, b: u8, c: u8, line: &mut String) -> Result<(), AllocError>
     ensures { OnOk result (string_bytes line.new ≡ string_bytes line.old ++ three_text a b c) }
@@ -87,7 +87,7 @@ pub(crate) fn push_flags(flags: Flags, line: &mut String) -> Result<(), AllocErr
     push_letter(flags.urg, "U", line)
 }
 
-// Adds a name where its bit is set.
+/// Adds a name where its bit is set.
 fn push_letter(is_set: bool, name: &str, line: &mut String) -> Result<(), AllocError>
     ensures { OnOk result (string_bytes line.new ≡ string_bytes line.old ++ letter is_set name.now) }
 {

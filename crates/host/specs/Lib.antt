@@ -11,3 +11,4 @@ pub mod Pairs
 pub mod Sound
 pub mod Causes
 pub mod Order
+pub mod Names

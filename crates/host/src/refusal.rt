@@ -1,60 +1,77 @@
 //! Why a host refuses a call, and why it drops a frame.
 
+use std::fmt;
 use tcp_segment::SegmentFault;
 use thiserror::Error;
 
-/// Why a socket call is refused, by the names of POSIX.1-2017 (System Interfaces, section 2.3). A refused call changes nothing.
-#[derive(Clone, Copy, PartialEq, Eq, Debug, Error)]
+/// Why a socket call is refused, by the names of POSIX.1-2017 (System Interfaces, section 2.3). A refused call changes nothing. Its text is a number
+/// and the name, as `E8 EAGAIN`.
+#[derive(Clone, Copy, PartialEq, Eq, Debug)]
 pub enum Refusal {
     /// The id names no socket.
-    #[error("E1 EBADF")]
     EBADF,
     /// The arguments or the socket's state do not allow the call.
-    #[error("E2 EINVAL")]
     EINVAL,
     /// The port or the pair of endpoints is in use.
-    #[error("E3 EADDRINUSE")]
     EADDRINUSE,
     /// The address is not ours to bind to, or none that a peer may have.
-    #[error("E4 EADDRNOTAVAIL")]
     EADDRNOTAVAIL,
     /// The socket has had a connection.
-    #[error("E5 EISCONN")]
     EISCONN,
     /// The socket has no connection.
-    #[error("E6 ENOTCONN")]
     ENOTCONN,
     /// The socket's connection is being opened.
-    #[error("E7 EALREADY")]
     EALREADY,
     /// Nothing to do now; the same call may succeed later.
-    #[error("E8 EAGAIN")]
     EAGAIN,
     /// The peer refused the connection.
-    #[error("E9 ECONNREFUSED")]
     ECONNREFUSED,
     /// The peer reset the connection.
-    #[error("E10 ECONNRESET")]
     ECONNRESET,
     /// Our side of the connection is closed.
-    #[error("E12 EPIPE")]
     EPIPE,
     /// No route leads to the address.
-    #[error("E14 ENETUNREACH")]
     ENETUNREACH,
     /// The table is full, or the last id is given.
-    #[error("E15 EMFILE")]
     EMFILE,
     /// Memory ran out.
-    #[error("E16 ENOMEM")]
     ENOMEM,
     /// The socket is listening.
-    #[error("E17 EOPNOTSUPP")]
     EOPNOTSUPP,
     /// The socket is not bound.
-    #[error("E18 EDESTADDRREQ")]
     EDESTADDRREQ,
 }
+
+impl fmt::Display for Refusal {
+    ghost use Rattle.std.specs.Prelude.{Some};
+    ghost use Rattle.host.specs.Names.{refusal_text};
+
+    ghost output = { λ refusal. Some (refusal_text refusal) };
+
+    fn fmt<W: fmt::Write>(&self, f: &mut fmt::Formatter<W>) -> fmt::Result {
+        let text = match self {
+            Refusal::EBADF => "E1 EBADF",
+            Refusal::EINVAL => "E2 EINVAL",
+            Refusal::EADDRINUSE => "E3 EADDRINUSE",
+            Refusal::EADDRNOTAVAIL => "E4 EADDRNOTAVAIL",
+            Refusal::EISCONN => "E5 EISCONN",
+            Refusal::ENOTCONN => "E6 ENOTCONN",
+            Refusal::EALREADY => "E7 EALREADY",
+            Refusal::EAGAIN => "E8 EAGAIN",
+            Refusal::ECONNREFUSED => "E9 ECONNREFUSED",
+            Refusal::ECONNRESET => "E10 ECONNRESET",
+            Refusal::EPIPE => "E12 EPIPE",
+            Refusal::ENETUNREACH => "E14 ENETUNREACH",
+            Refusal::EMFILE => "E15 EMFILE",
+            Refusal::ENOMEM => "E16 ENOMEM",
+            Refusal::EOPNOTSUPP => "E17 EOPNOTSUPP",
+            Refusal::EDESTADDRREQ => "E18 EDESTADDRREQ",
+        };
+        f.write_str(text)
+    }
+}
+
+impl std::error::Error for Refusal {}
 
 impl From<tcp_state::Refusal> for Refusal {
     ghost use Rattle.std.specs.Prelude.{◌≡◌};

@@ -15,7 +15,7 @@ pub passed_on : {A : Type 0} (r : Result A TextFault) (f : TextFault) → IsErrA
 passed_on (Ok x) f is = absurd is
 passed_on (Err e) f is = ap Err is
 
--- what a bad script is told as
+-- what a bad script is reported as
 pub passed_as : (fault : ScriptFault) (o : Option ℕ) → (fault ≡ script.NoMemory) ⊎ IsSomeAnd o (λ n. fault ≡ script.Line n) →
     (fault_by fault ≡ NoMemory) ⊎ IsSomeAnd o (λ n. fault_by fault ≡ Line n)
 passed_as fault o (inl memory) = inl (ap fault_by memory)

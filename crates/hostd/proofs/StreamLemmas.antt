@@ -3,7 +3,7 @@ use Rattle.std.proofs.Common.{◌≡◌, ℕ, ◌<◌, Ok, arith, List, [], ◌+
 use Rattle.std.proofs.lemmas.List.{take-append-drop}
 use Rattle.hostd.specs.Streams.{TakesFront, counted, write_fails}
 use Rattle.std.proofs.lemmas.Grind.{common_steps}
-use Rattle.std.specs.Io.KnownBytes.{Appends, Consumes, Keeps}
+use Rattle.std.specs.Io.KnownBytes.{Appends, Keeps}
 
 -- the first k octets were taken, and the rest is left
 pub record IsTakenUpTo (old new : Option (List ℕ)) (octets rest : List ℕ) : Type 0 where
@@ -17,13 +17,6 @@ Appends-more (Some ps) None c xs ys first second = absurd first
 Appends-more (Some ps) (Some bs) None xs ys first second = absurd second
 Appends-more (Some ps) (Some bs) (Some cs) xs ys first second =
     second ∙ ap (λ l. l ++ ys) first ∙ append_assoc ps xs ys
-
-pub Consumes-more : (a b c : Option (List ℕ)) (xs ys : List ℕ) → Consumes a b xs → Consumes b c ys → Consumes a c (xs ++ ys)
-Consumes-more None b c xs ys first second = first
-Consumes-more (Some ps) None c xs ys first second = absurd first
-Consumes-more (Some ps) (Some bs) None xs ys first second = absurd second
-Consumes-more (Some ps) (Some bs) (Some cs) xs ys first second =
-    first ∙ ap (λ l. xs ++ l) second ∙ sym (append_assoc xs ys cs)
 
 -- n octets of the rest more
 pub taken_more : (old mid new : Option (List ℕ)) (octets rest : List ℕ) (n : ℕ) → IsTakenUpTo old mid octets rest →

@@ -1,5 +1,5 @@
 -- What `decode` makes of the text of a frame.
-use Rattle.std.specs.Prelude.{◌≡◌, ◌≤◌, ◌<◌, List, [], ℕ, Option, Some, None, Result, Ok, Err, length, ⊤}
+use Rattle.std.specs.Prelude.{◌≡◌, List, [], ℕ, Option, Some, None, Result, Ok, Err, ⊤}
 use Rattle.std.specs.Io.KnownBytes.{Appends}
 use Rattle.decode.specs.declared.drop.DropCause.{DropCause}
 use Rattle.decode.specs.declared.pairs.HexFault.{HexFault}
@@ -28,14 +28,13 @@ IsUnspelled text Read = ⊥
 IsUnspelled text Write = ⊥
 IsUnspelled text NoMemory = ⊤
 
--- What a text of a million octets at most makes a sink take: all that is printed of it, or a front of that where the sink fails. Nothing is
--- printed of a text that isn't hexadecimal digits, nor where another fault ends the command.
+-- What a text makes a sink take: all that is printed of it, or a front of that where the sink fails. Nothing is printed of a text that isn't
+-- hexadecimal digits, nor where another fault ends the command.
 abbrev pub TakesPrinted : List ℕ → Result (Option DropCause) TextFault → Option (List ℕ) → Option (List ℕ) → Type 0
-TakesPrinted text (Ok cause) old new = (printed : List ℕ) × (length text ≤ 1000000) × IsPrinted text cause printed × Appends old new printed
-TakesPrinted text (Err Write) old new =
-    (cause : Option DropCause) × (printed : List ℕ) × (length text ≤ 1000000) × IsPrinted text cause printed × TakesFront old new printed
-TakesPrinted text (Err TooLong) old new = (1000000 < length text) × Appends old new []
-TakesPrinted text (Err NotHex) old new = (length text ≤ 1000000) × (octets_in text ≡ None) × Appends old new []
+TakesPrinted text (Ok cause) old new = (printed : List ℕ) × IsPrinted text cause printed × Appends old new printed
+TakesPrinted text (Err Write) old new = (cause : Option DropCause) × (printed : List ℕ) × IsPrinted text cause printed × TakesFront old new printed
+TakesPrinted text (Err NotHex) old new = (octets_in text ≡ None) × Appends old new []
 TakesPrinted text (Err Read) old new = Appends old new []
 TakesPrinted text (Err NoMemory) old new = Appends old new []
+TakesPrinted text (Err TooLong) old new = ⊥
 TakesPrinted text (Err (Line n)) old new = ⊥

@@ -10,6 +10,8 @@ use Rattle.wire_sim.specs.declared.event.Event.TheVariants as event
 use Rattle.wire_sim.specs.declared.event.Answer.{Answer}
 use Rattle.wire_sim.specs.declared.event.Answer.TheVariants.{Frame, NoFrame}
 use Rattle.wire_sim.specs.declared.event.Unfair.{Unfair}
+use Rattle.wire_sim.specs.Names.{unfair_text}
+use Rattle.wire_sim.specs.Sides.{other_side}
 use Rattle.wire_sim.specs.Runs.{IsOutcome, RunsTo}
 use Rattle.wire_sim.specs.WorldView.{WorldView, fresh_world}
 use Rattle.script.specs.declared.answer.Style.{Style}
@@ -20,8 +22,8 @@ use Rattle.hostd.specs.declared.fault.TextFault.TheVariants.{Write}
 use Rattle.script.specs.Words.{lines_of}
 use Rattle.script.specs.Script.{limit_of, commands_of}
 use Rattle.hostd.specs.Streams.{TakesFront, TakesAllBut}
-use Rattle.script.specs.Events.{IsEventOf, address_of, other_side}
-use Rattle.script.specs.Text.{style_of, shown_of, unfair_text}
+use Rattle.script.specs.Events.{IsEventOf, address_of}
+use Rattle.script.specs.Text.{style_of, shown_of}
 
 -- what is printed of an outcome
 abbrev pub text_of_outcome : Style → Result Answer Unfair → List ℕ
@@ -56,7 +58,7 @@ abbrev pub Carries : Side → Seq → ℕ → WorldView → WorldView → Type 0
 Carries side isn count old new =
     (frames : List ℕ) × (w : WorldView) × (count ≡ length frames) × Emits side frames old w × Delivers (other_side side) isn frames w new
 
--- the line that tells how many frames went from a to b, and how many from b to a
+-- the line that says how many frames went from a to b, and how many from b to a
 abbrev pub pass_line : ℕ → ℕ → List ℕ
 pass_line from_a from_b = codes "a " ++ decimal from_a ++ codes " b " ++ decimal from_b ++ codes "\n"
 

@@ -1,12 +1,12 @@
 -- When running a script ends in a fault, and in which.
-use Rattle.std.specs.Prelude.{◌≡◌, ℕ, List, Option, Some, None, Result, Ok, Err, Bool, true, false, ⊤, ◌<◌, nat_lt, length, option_map, if◌then◌else◌}
+use Rattle.std.specs.Prelude.{◌≡◌, ℕ, List, Option, Some, None, Result, Ok, Err, Bool, true, false, ⊤, nat_lt, length, option_map, if◌then◌else◌}
 use Rattle.script.specs.Script.{first_bad_line}
 use Rattle.script.specs.declared.fault.ScriptFault.{ScriptFault}
 use Rattle.script.specs.declared.fault.ScriptFault.TheVariants as script
 use Rattle.hostd.specs.declared.fault.TextFault.{TextFault}
 use Rattle.hostd.specs.declared.fault.TextFault.TheVariants.{Line, TooLong, NotHex, Read, Write, NoMemory}
 
--- why octets are not run as a script, by what tells that they are none
+-- why octets are not run as a script, by why they are none
 abbrev pub fault_by : ScriptFault → TextFault
 fault_by (script.Line n) = Line n
 fault_by script.NoMemory = NoMemory
@@ -34,14 +34,14 @@ IsFaultDue octets Write = fault_of octets ≡ None
 IsFaultDue octets Read = ⊤
 IsFaultDue octets NoMemory = ⊤
 
--- Why a text is not read whole: it has too many octets. A failing source and want of memory may come in its place.
-abbrev pub IsUnread : List ℕ → TextFault → Type 0
-IsUnread octets (Line n) = ⊥
-IsUnread octets TooLong = 1000000 < length octets
-IsUnread octets NotHex = ⊥
-IsUnread octets Read = ⊤
-IsUnread octets Write = ⊥
-IsUnread octets NoMemory = ⊤
+-- why a text of any length is not read whole: its source failed, or memory ran out
+abbrev pub IsUnread : TextFault → Type 0
+IsUnread (Line n) = ⊥
+IsUnread TooLong = ⊥
+IsUnread NotHex = ⊥
+IsUnread Read = ⊤
+IsUnread Write = ⊥
+IsUnread NoMemory = ⊤
 
 -- the outcome is what a script's octets ask for
 abbrev pub IsDue : {A : Type 0} → List ℕ → Result A TextFault → Type 0

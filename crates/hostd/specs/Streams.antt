@@ -1,6 +1,6 @@
 -- What a source and a sink say of themselves: how often they failed, and which octets they moved.
-use Rattle.std.specs.Prelude.{◌≡◌, ◌++◌, ℕ, ◌+◌, ◌-◌, ◌^◌, Bool, true, ◌&&◌, ◌==◌, not, min, length, List, if◌then◌else◌, take, MatchResult, Option, Result, Ok, Err}
-use Rattle.std.specs.Io.KnownBytes.{Appends, Keeps}
+use Rattle.std.specs.Prelude.{◌≡◌, ◌++◌, ℕ, ◌+◌, ◌-◌, ◌^◌, Bool, true, false, ◌&&◌, ◌==◌, not, min, length, List, [], if◌then◌else◌, take, MatchResult, Option, Result, Ok, Err}
+use Rattle.std.specs.Io.KnownBytes.{Appends, Consumes, IsAtEnd, Keeps}
 
 -- a count of failures after one more: 64 bits hold it, and at its last value it stays
 abbrev pub one_more : ℕ → ℕ
@@ -26,3 +26,8 @@ TakesFront old new octets = (front : List ℕ) × (rest : List ℕ) × (octets �
 -- the known octets grew by these, but for the last of them, which wait
 abbrev pub TakesAllBut : Option (List ℕ) → Option (List ℕ) → List ℕ → List ℕ → Type 0
 TakesAllBut old new octets waiting = (front : List ℕ) × (octets ≡ front ++ waiting) × Appends old new front
+
+-- octets grew by what a read took from the front of those to come, or there were none to come
+abbrev pub AddsRead : Bool → Option (List ℕ) → Option (List ℕ) → List ℕ → List ℕ → Type 0
+AddsRead true before after old new = (gained : List ℕ) × (new ≡ old ++ gained) × Consumes before after gained
+AddsRead false before after old new = (new ≡ old) × Consumes before after [] × IsAtEnd after

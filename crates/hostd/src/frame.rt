@@ -12,8 +12,9 @@ use crate::streams::{Sink, Source};
 use decode::{DropCause, octets_of};
 use std::alloc::Global;
 
-/// Reads the hexadecimal digits of a frame, and prints what it says, a line a layer. The answer is why a layer of it can't be read, if so, which the
-/// last line tells. `NotHex` or `TooLong` where the text is bad; `Read` or `Write` where a device fails; `NoMemory` for want of memory.
+/// Reads the hexadecimal digits of a frame, in a text of any length, and prints what it says, a line a layer. The answer is why a layer of it can't
+/// be read, if so, which the last line says. `NotHex` where the text is none of hexadecimal digits; `Read` or `Write` where a device fails; `NoMemory`
+/// for want of memory.
 pub fn decode<R: Source, W: Sink>(
     alloc: Global,
     hex: &mut R,
@@ -30,7 +31,7 @@ pub fn decode<R: Source, W: Sink>(
     Ok(cause)
 }
 
-// What is printed of a text, and why a layer of its frame can't be read, if so.
+/// What is printed of a text, and why a layer of its frame can't be read, if so.
 fn printed(alloc: Global, text: &[u8]) -> Result<(String, Option<DropCause>), TextFault>
     ensures ok { IfOk result (λ told. IsPrinted text.now told.1 (string_bytes told.0)) }
     ensures err { IfErr result (λ fault. IsUnspelled text.now fault) }

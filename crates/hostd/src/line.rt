@@ -30,7 +30,7 @@ pub fn line<'a, S: AsStr>(alloc: Global, words: &'a [S]) -> Result<Line<'a>, Err
     }
 }
 
-// The command line that the program reads.
+/// The command line that the program reads.
 fn hostd<'a>(alloc: Global) -> Result<Command<'a>, AllocError>
     ensures { IfOk result (λ command. app_of command ≡ hostd_command) }
 {
@@ -55,7 +55,7 @@ fn hostd<'a>(alloc: Global) -> Result<Command<'a>, AllocError>
         .subcommand(decode)
 }
 
-// A command with one file, which must be given.
+/// A command with one file, which must be given.
 fn file_command<'a>(
     alloc: Global,
     name: &'a str,
@@ -70,7 +70,7 @@ fn file_command<'a>(
     Command::new(alloc, name).about(about).arg(file)
 }
 
-// What the command that was met asks for.
+/// What the command that was met asks for.
 fn asked<'a>(matches: &ArgMatches<'a>) -> Option<Line<'a>>
     ensures { option_map asked_by result ≡ asked_of (subcommand_rows_of matches.now) }
 {
@@ -81,7 +81,7 @@ fn asked<'a>(matches: &ArgMatches<'a>) -> Option<Line<'a>>
     Some(Line::Decode { hex })
 }
 
-// The file that a command names, where that is the command that was met.
+/// The file that a command names, where that is the command that was met.
 fn file_in<'a>(matches: &ArgMatches<'a>, command: &str, file: &str) -> Option<&'a str>
     ensures { option_map (λ name. name.now) result ≡ file_of command.now file.now (subcommand_rows_of matches.now) }
 {

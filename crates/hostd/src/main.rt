@@ -20,7 +20,7 @@ use streams::{Reading, Writing};
 #[cfg(test)]
 mod tests;
 
-// The status after a usage fault, and after help.
+/// The status after a usage fault, and after help.
 const USAGE: u8 = 2;
 
 fn main(rt: HostRuntime) -> ExitCode {
@@ -30,21 +30,21 @@ fn main(rt: HostRuntime) -> ExitCode {
             let _ = eprintln!(rt; "hostd: a word of the command line is no text");
             ExitCode::from(USAGE)
         }
-        Err(_) => told(&rt, TextFault::NoMemory),
+        Err(_) => report(&rt, TextFault::NoMemory),
     }
 }
 
-// The words of the command line, the program's name first.
+/// The words of the command line, the program's name first.
 fn words(rt: &HostRuntime) -> io::Result<Vec<String>> {
     Ok(env::args(rt)?.collect(rt.alloc())?)
 }
 
-// Does what the words of the command line ask for.
+/// Does what the words of the command line ask for.
 fn run(rt: &HostRuntime, words: &[String]) -> ExitCode {
     match line::line(rt.alloc(), words) {
         Ok(Line::Sim { script }) => run_script(rt, script),
         Ok(Line::Decode { hex }) => print_frame(rt, hex),
-        Err(error) if error.kind() == ErrorKind::OutOfMemory => told(rt, TextFault::NoMemory),
+        Err(error) if error.kind() == ErrorKind::OutOfMemory => report(rt, TextFault::NoMemory),
         Err(error) => {
             let _ = eprint!(rt; "{error}");
             ExitCode::from(USAGE)
@@ -52,35 +52,35 @@ fn run(rt: &HostRuntime, words: &[String]) -> ExitCode {
     }
 }
 
-// Runs the script in a file and prints what it prints.
+/// Runs the script in a file and prints what it prints.
 fn run_script(rt: &HostRuntime, path: &str) -> ExitCode {
     let Ok(file) = fs::open(rt, path) else {
-        return told(rt, format_args!("cannot open {path}"));
+        return report(rt, format_args!("cannot open {path}"));
     };
     let mut script = Reading::new(file);
     let mut out = Writing::new(io::writer(rt));
     match sim::sim(rt.alloc(), &mut script, &mut out) {
         Ok(()) => ExitCode::SUCCESS,
-        Err(fault) => told(rt, fault),
+        Err(fault) => report(rt, fault),
     }
 }
 
-// Prints what the frame in a file says.
+/// Prints what the frame in a file says.
 fn print_frame(rt: &HostRuntime, path: &str) -> ExitCode {
     let Ok(file) = fs::open(rt, path) else {
-        return told(rt, format_args!("cannot open {path}"));
+        return report(rt, format_args!("cannot open {path}"));
     };
     let mut hex = Reading::new(file);
     let mut out = Writing::new(io::writer(rt));
     match frame::decode(rt.alloc(), &mut hex, &mut out) {
         Ok(None) => ExitCode::SUCCESS,
         Ok(Some(_)) => ExitCode::FAILURE,
-        Err(fault) => told(rt, fault),
+        Err(fault) => report(rt, fault),
     }
 }
 
-// Tells a fault on standard error.
-fn told(rt: &HostRuntime, fault: impl fmt::Display + Drop) -> ExitCode {
+/// Prints a fault on standard error, and answers the status of a run that failed.
+fn report(rt: &HostRuntime, fault: impl fmt::Display + Drop) -> ExitCode {
     let _ = eprintln!(rt; "hostd: {fault}");
     ExitCode::FAILURE
 }

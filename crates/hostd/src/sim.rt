@@ -8,19 +8,19 @@ ghost use Rattle.script.specs.Text.{style_of};
 ghost use Rattle.hostd.specs.Play.{line_of_outcome, Emits, Delivers, Carries, Prints, pass_line, IsPlayed, IsCutShort, first_world, limit_line, TakesPrinted, TakesPrintedBy};
 
 use crate::fault::TextFault;
-use crate::input::whole;
+use crate::input::whole_script;
 use crate::output::{finish, hand_on};
 use crate::streams::{Sink, Source};
 use host::Config;
-use script::{Action, Command, Script, Style, address, event, other, show, show_unfair};
+use script::{Action, Command, Script, Style, address, event, show, show_unfair};
 use std::alloc::{AllocError, Global};
 use tcp_segment::Seq;
 use wire_sim::{Answer, Event, Side, Unfair, World};
 
-// Where so many octets of printed lines wait, they are handed to the sink.
+/// Where so many octets of printed lines wait, they are handed to the sink.
 const FULL: usize = 8192;
 
-// The most frames of one side that a `pass` moves.
+/// The most frames of one side that a `pass` moves.
 const MOST_FRAMES: usize = 64;
 
 /// Reads the whole script, then runs it and prints a line for each command. `Line` or `TooLong` where the script is bad,
@@ -33,12 +33,12 @@ pub fn sim<R: Source, W: Sink>(alloc: Global, script: &mut R, out: &mut W) -> Re
     ensures due { IfSome (R.remaining script.old) (λ octets. IsDue octets result) }
     ensures printed { IfSome (R.remaining script.old) (λ octets. TakesPrintedBy octets result (W.taken out.old) (W.taken out.new)) }
 {
-    let octets = whole(alloc, script)?;
+    let octets = whole_script(alloc, script)?;
     let script = Script::parse(alloc, octets.as_slice())?;
     run(alloc, &script, out)
 }
 
-// Runs a script's commands, and hands on what they print, also where a fault ends the run.
+/// Runs a script's commands, and hands on what they print, also where a fault ends the run.
 fn run<W: Sink>(alloc: Global, script: &Script<'_>, out: &mut W) -> Result<(), TextFault>
     ensures written { W.failures out.new ≡ counted (write_fails_in result) (W.failures out.old) }
     ensures faults { IfErr result (λ fault. is_before_run fault ≡ false) }
@@ -60,14 +60,14 @@ fn run<W: Sink>(alloc: Global, script: &Script<'_>, out: &mut W) -> Result<(), T
     outcome
 }
 
-// Whether the sink failed.
+/// Whether the sink failed.
 fn is_write_fault(outcome: &Result<(), TextFault>) -> bool
     ensures { result ≡ write_fails_in outcome.now }
 {
     matches!(outcome, Err(TextFault::Write))
 }
 
-// What is printed of a limit.
+/// What is printed of a limit.
 fn first_lines(alloc: Global, limit: Option<u64>) -> Result<String, AllocError>
     ensures { IfOk result (λ lines. string_bytes lines ≡ limit_line limit) }
 {
@@ -78,7 +78,7 @@ fn first_lines(alloc: Global, limit: Option<u64>) -> Result<String, AllocError>
     Ok(lines)
 }
 
-// Runs commands in order and adds what they print to `lines`, which go to the sink whenever they are many.
+/// Runs commands in order and adds what they print to `lines`, which go to the sink whenever they are many.
 fn play<W: Sink>(
     alloc: Global,
     commands: &[Command<'_>],
@@ -98,7 +98,7 @@ fn play<W: Sink>(
     Ok(())
 }
 
-// Adds a line to those that wait, and hands them on where they are many.
+/// Adds a line to those that wait, and hands them on where they are many.
 fn add_line<W: Sink>(line: &str, lines: &mut String, out: &mut W) -> Result<(), TextFault>
     ensures written { W.failures out.new ≡ counted (write_fails_in result) (W.failures out.old) }
     ensures faults { IfErr result (λ fault. (fault ≡ TextFault.Write)
@@ -113,7 +113,7 @@ fn add_line<W: Sink>(line: &str, lines: &mut String, out: &mut W) -> Result<(), 
     Ok(())
 }
 
-// A fresh world. The two addresses are those of single hosts and differ, so it is made unless there is no memory.
+/// A fresh world. The two addresses are those of single hosts and differ, so it is made unless there is no memory.
 fn new_world(alloc: Global, limit: Option<u64>) -> Result<World, TextFault>
     requires { ForSome limit (λ n. (1 ≤ n) × (n ≤ 2 ^ 30)) }
     ensures world { IfOk result (λ world. world.seen ≡ first_world limit) }
@@ -129,7 +129,7 @@ fn new_world(alloc: Global, limit: Option<u64>) -> Result<World, TextFault>
     made.map_err(|_| TextFault::NoMemory)
 }
 
-// Runs one command and answers the line that it prints.
+/// Runs one command and answers the line that it prints.
 fn execute(alloc: Global, command: &Command<'_>, world: &mut World) -> Result<String, AllocError>
     ensures { IfOk result (λ line. Prints command.now (string_bytes line) world.old.seen world.new.seen) }
 {
@@ -139,7 +139,7 @@ fn execute(alloc: Global, command: &Command<'_>, world: &mut World) -> Result<St
     }
 }
 
-// One host does something. Answers the line that shows what comes of it.
+/// One host does something. Answers the line that shows what comes of it.
 fn act(
     alloc: Global,
     side: Side,
@@ -152,7 +152,7 @@ fn act(
     line_of(alloc, &outcome, style(action))
 }
 
-// Frames go from a to b, then from b to a. Answers the line that tells how many.
+/// Frames go from a to b, then from b to a. Answers the line that says how many.
 fn pass(alloc: Global, isn: Seq, world: &mut World) -> Result<String, AllocError>
     ensures { IfOk result (λ line. Prints (Command.Pass isn) (string_bytes line) world.old.seen world.new.seen) }
 {
@@ -161,7 +161,7 @@ fn pass(alloc: Global, isn: Seq, world: &mut World) -> Result<String, AllocError
     line_of_pass(alloc, from_a, from_b)
 }
 
-// The line that tells how many frames went from a to b, and how many from b to a.
+/// The line that says how many frames went from a to b, and how many from b to a.
 fn line_of_pass(alloc: Global, from_a: usize, from_b: usize) -> Result<String, AllocError>
     ensures { IfOk result (λ line. string_bytes line ≡ pass_line from_a from_b) }
 {
@@ -171,7 +171,7 @@ fn line_of_pass(alloc: Global, from_a: usize, from_b: usize) -> Result<String, A
     Ok(line)
 }
 
-// The line that shows an outcome.
+/// The line that shows an outcome.
 fn line_of(
     alloc: Global,
     outcome: &Result<Answer, Unfair>,
@@ -188,7 +188,7 @@ fn line_of(
     Ok(line)
 }
 
-// How the octets that an action reads are printed.
+/// How the octets that an action reads are printed.
 fn style(action: &Action<'_>) -> Style
     ensures { result ≡ style_of action.now }
 {
@@ -198,20 +198,20 @@ fn style(action: &Action<'_>) -> Style
     }
 }
 
-// One side emits until it has no frame, or was asked 64 times, and the other side takes these frames in order. Answers how
-// many there were.
+/// One side emits until it has no frame, or was asked 64 times, and the other side takes these frames in order. Answers how
+/// many there were.
 fn carry(world: &mut World, from: Side, isn: Seq) -> usize
     ensures few { result ≤ MOST_FRAMES }
     ensures carried { Carries from isn result world.old.seen world.new.seen }
 {
     let mut frames = [0usize; MOST_FRAMES];
     let count = emit(world, from, &mut frames);
-    deliver(world, other(from), &frames[..count], isn);
+    deliver(world, from.other(), &frames[..count], isn);
     count
 }
 
-// One side emits until it has no frame, or was asked 64 times. A refusal is passed over. The indices of its frames go to
-// the front of `frames`, and it answers how many there are.
+/// One side emits until it has no frame, or was asked 64 times. A refusal is passed over. The indices of its frames go to
+/// the front of `frames`, and it answers how many there are.
 fn emit(world: &mut World, from: Side, frames: &mut [usize; MOST_FRAMES]) -> usize
     ensures few { result ≤ MOST_FRAMES }
     ensures emitted { Emits from (take result frames.new) world.old.seen world.new.seen }
@@ -230,7 +230,7 @@ fn emit(world: &mut World, from: Side, frames: &mut [usize; MOST_FRAMES]) -> usi
     count
 }
 
-// One side takes these frames in order, whatever comes of each.
+/// One side takes these frames in order, whatever comes of each.
 fn deliver(world: &mut World, to: Side, frames: &[usize], isn: Seq)
     ensures { Delivers to isn frames.now world.old.seen world.new.seen }
 {

@@ -14,10 +14,10 @@ pub trait Source {
     // How many calls have failed.
     ghost failures: { Self → ℕ };
 
-    // The octets given so far, where the source tells them.
+    // The octets given so far, where the source makes them known.
     ghost given: { Self → Option (List ℕ) } = { λ _. None };
 
-    // The octets still to come, where the source tells them.
+    // The octets still to come, where the source makes them known.
     ghost remaining: { Self → Option (List ℕ) } = { λ _. None };
 
     /// Puts octets at the front of `buffer` and answers how many; none of a buffer with room says that the source is at
@@ -38,7 +38,7 @@ pub trait Sink {
     // How many calls have failed.
     ghost failures: { Self → ℕ };
 
-    // The octets taken so far, where the sink tells them.
+    // The octets taken so far, where the sink makes them known.
     ghost taken: { Self → Option (List ℕ) } = { λ _. None };
 
     /// Takes octets from the front of `octets` and answers how many. An error is a failure, and takes nothing; to take
@@ -58,7 +58,7 @@ pub trait Sink {
         ensures { result ≡ failures self.now };
 }
 
-/// A reader of std, as an open file: it tells the octets that the reader tells.
+/// A reader of std, as an open file: of its octets it makes known what the reader does.
 #[derive(Debug, Drop)]
 pub struct Reading<R> {
     reader: R,
@@ -96,7 +96,7 @@ impl<R: Read> Source for Reading<R> {
     }
 }
 
-/// A writer of std, as standard output: it tells the octets that the writer tells.
+/// A writer of std, as standard output: of its octets it makes known what the writer does.
 #[derive(Debug, Drop)]
 pub struct Writing<W> {
     writer: W,

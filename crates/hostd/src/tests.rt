@@ -22,7 +22,7 @@ use std::alloc::Global;
 use std::process::Abort;
 use std::test::Fail;
 
-// b listens at port 80 and a opens a connection, whose numbers at a begin with the last one of 32 bits.
+/// b listens at port 80 and a opens a connection, whose numbers at a begin with the last one of 32 bits.
 const OPENING: &str = "b socket tcp -> id 1
 b bind 1 80 -> ok
 b listen 1 1 -> ok
@@ -33,10 +33,10 @@ pass 7 -> a 1 b 0
 pass 7 -> a 0 b 0
 ";
 
-// b's caller takes the connection.
+/// b's caller takes the connection.
 const ACCEPTED: &str = "b accept 1 -> id 2 10.0.0.1 49152\n";
 
-// A fifth of the 45 segments of a full window, each acknowledged.
+/// A fifth of the 45 segments of a full window, each acknowledged.
 const NINE_CROSSINGS: &str = "pass 0 -> a 1 b 1
 pass 0 -> a 1 b 1
 pass 0 -> a 1 b 1
@@ -48,8 +48,8 @@ pass 0 -> a 1 b 1
 pass 0 -> a 1 b 1
 ";
 
-// All transcripts. Each is a list of parts, in whose lines an arrow parts a script's line from what it prints; a line without
-// one prints nothing.
+/// All transcripts. Each is a list of parts, in whose lines an arrow parts a script's line from what it prints; a line without
+/// one prints nothing.
 const TRANSCRIPTS: [&[&[&str]]; 7] = [
     closing::TRANSCRIPTS,
     drops::TRANSCRIPTS,
@@ -60,14 +60,14 @@ const TRANSCRIPTS: [&[&[&str]]; 7] = [
     windows::TRANSCRIPTS,
 ];
 
-// What is asked of the program: to run a text as a script, or to print what the frame says that it spells.
+/// What is asked of the program: to run a text as a script, or to print what the frame says that it spells.
 #[derive(Clone, Copy)]
 enum Asked {
     Sim,
     Decode,
 }
 
-// A source or a sink that moves so many octets a call at most, and of which this call fails, counted from 1: at 0 none does.
+/// A source or a sink that moves so many octets a call at most, and of which this call fails, counted from 1: at 0 none does.
 #[derive(Clone, Copy)]
 struct Device {
     most: usize,
@@ -79,7 +79,7 @@ const GOOD: Device = Device {
     fails_at: 0,
 };
 
-// How a command ended: its answer, how often its source and its sink failed, and what the sink took.
+/// How a command ended: its answer, how often its source and its sink failed, and what the sink took.
 type Told<'a> = (Result<Option<DropCause>, TextFault>, (u64, u64), &'a [u8]);
 
 #[derive(Drop)]
@@ -89,7 +89,7 @@ struct End {
     sink: MemorySink,
 }
 
-// Does what is asked of a text.
+/// Does what is asked of a text.
 fn ended(alloc: Global, asked: Asked, text: &[u8], from: Device, to: Device) -> End {
     let mut source = MemorySource::new(text)
         .in_pieces(from.most.max(1))
@@ -111,7 +111,7 @@ fn ended(alloc: Global, asked: Asked, text: &[u8], from: Device, to: Device) -> 
     }
 }
 
-// Does what is asked of a text, from one device to another, and compares how it ends.
+/// Does what is asked of a text, from one device to another, and compares how it ends.
 fn ends(
     rt: &impl Abort,
     alloc: Global,
@@ -130,7 +130,7 @@ fn ends(
     );
 }
 
-// Plays a transcript.
+/// Plays a transcript.
 fn plays(rt: &impl Abort, alloc: Global, parts: &[&str]) -> Result<(), Fail> {
     let mut script = String::new(alloc);
     let mut want = String::new(alloc);

@@ -1,6 +1,7 @@
 //! Tables of steps, and the harnesses that play them.
 
 mod closing;
+mod documents;
 mod ends;
 mod names;
 mod opening;

@@ -4,17 +4,13 @@ use Rattle.ipv4.specs.declared.addr.Addr.{Addr}
 use Rattle.ipv4.specs.declared.addr.Endpoint.{Endpoint}
 use Rattle.wire_sim.specs.declared.event.Side.{Side}
 use Rattle.wire_sim.specs.declared.event.Side.TheVariants.{A, B}
+use Rattle.wire_sim.specs.Sides.{other_side}
 use Rattle.wire_sim.specs.declared.event.Event.{Event}
 use Rattle.wire_sim.specs.declared.event.Event.TheVariants as event
 use Rattle.wire_sim.specs.declared.event.Call.TheVariants as call
 use Rattle.host.specs.declared.entry.Kind.TheVariants.{Tcp}
 use Rattle.script.specs.declared.action.Action.{Action}
 use Rattle.script.specs.declared.action.Action.TheVariants.{Socket, Bind, Listen, Accept, Connect, Send, Fill, Recv, Count, Shutdown, Close, State, Tick, Emit, Deliver}
-
--- the other host
-abbrev pub other_side : Side → Side
-other_side A = B
-other_side B = A
 
 -- 10.0.0.1 for a, 10.0.0.2 for b
 abbrev pub address_of : Side → Addr

@@ -5,13 +5,9 @@ use Rattle.std.specs.Fmt.{decimal}
 use Rattle.wire_sim.specs.declared.event.Answer.{Answer}
 use Rattle.wire_sim.specs.declared.event.Answer.TheVariants.{Socket, Done, Accepted, Started, Sent, Octets, EndOfStream, State, Frame, NoFrame, Taken, Dropped, Refused}
 use Rattle.ipv4.specs.declared.addr.Endpoint.{Endpoint}
-use Rattle.tcp_state.specs.declared.state.State.{State as TcpState}
-use Rattle.tcp_state.specs.declared.state.State.TheVariants as state
-use Rattle.host.specs.declared.refusal.Refusal.{Refusal}
-use Rattle.host.specs.declared.refusal.Refusal.TheVariants as refusal
+use Rattle.tcp_state.specs.Names.{state_text}
+use Rattle.host.specs.Names.{refusal_text}
 use Rattle.host.specs.Arrival.{number_of}
-use Rattle.wire_sim.specs.declared.event.Unfair.{Unfair}
-use Rattle.wire_sim.specs.declared.event.Unfair.TheVariants.{NoSuchFrame, OtherEpoch, Stale, SecondOpening, NoMemory}
 use Rattle.script.specs.declared.action.Action.{Action}
 use Rattle.script.specs.declared.action.Action.TheVariants.{Count}
 use Rattle.script.specs.declared.answer.Style.{Style}
@@ -32,7 +28,7 @@ escape_of octet =
 abbrev pub escaped_of : List ℕ → List ℕ
 escaped_of octets = flat_map escape_of octets
 
--- the octets that `count` reads are told by their number
+-- of the octets that `count` reads the number is shown
 abbrev pub style_of : Action → Style
 style_of (Count id most) = style.Count
 style_of action = style.Text
@@ -42,39 +38,6 @@ abbrev pub peer_text : Endpoint → List ℕ
 peer_text peer =
     decimal (slice_index peer.addr.0 0) ++ (codes "." ++ (decimal (slice_index peer.addr.0 1) ++ (codes "."
     ++ (decimal (slice_index peer.addr.0 2) ++ (codes "." ++ (decimal (slice_index peer.addr.0 3) ++ (codes " " ++ decimal peer.port)))))))
-
--- a state's name in RFC 9293
-abbrev pub state_text : TcpState → List ℕ
-state_text state.Closed = codes "CLOSED"
-state_text state.Listen = codes "LISTEN"
-state_text state.SynSent = codes "SYN-SENT"
-state_text state.SynReceived = codes "SYN-RECEIVED"
-state_text state.Established = codes "ESTABLISHED"
-state_text state.FinWait1 = codes "FIN-WAIT-1"
-state_text state.FinWait2 = codes "FIN-WAIT-2"
-state_text state.CloseWait = codes "CLOSE-WAIT"
-state_text state.Closing = codes "CLOSING"
-state_text state.LastAck = codes "LAST-ACK"
-state_text state.TimeWait = codes "TIME-WAIT"
-
--- a refusal's number and name
-abbrev pub refusal_text : Refusal → List ℕ
-refusal_text refusal.EBADF = codes "E1 EBADF"
-refusal_text refusal.EINVAL = codes "E2 EINVAL"
-refusal_text refusal.EADDRINUSE = codes "E3 EADDRINUSE"
-refusal_text refusal.EADDRNOTAVAIL = codes "E4 EADDRNOTAVAIL"
-refusal_text refusal.EISCONN = codes "E5 EISCONN"
-refusal_text refusal.ENOTCONN = codes "E6 ENOTCONN"
-refusal_text refusal.EALREADY = codes "E7 EALREADY"
-refusal_text refusal.EAGAIN = codes "E8 EAGAIN"
-refusal_text refusal.ECONNREFUSED = codes "E9 ECONNREFUSED"
-refusal_text refusal.ECONNRESET = codes "E10 ECONNRESET"
-refusal_text refusal.EPIPE = codes "E12 EPIPE"
-refusal_text refusal.ENETUNREACH = codes "E14 ENETUNREACH"
-refusal_text refusal.EMFILE = codes "E15 EMFILE"
-refusal_text refusal.ENOMEM = codes "E16 ENOMEM"
-refusal_text refusal.EOPNOTSUPP = codes "E17 EOPNOTSUPP"
-refusal_text refusal.EDESTADDRREQ = codes "E18 EDESTADDRREQ"
 
 -- what is printed of an answer
 abbrev pub shown_of : Style → Answer → List ℕ
@@ -92,11 +55,3 @@ shown_of how NoFrame = codes "none"
 shown_of how Taken = codes "taken"
 shown_of how (Dropped cause) = codes "drop F" ++ decimal (number_of cause)
 shown_of how (Refused why) = refusal_text why
-
--- what is printed of an event that the world refuses
-abbrev pub unfair_text : Unfair → List ℕ
-unfair_text NoSuchFrame = codes "U1 NoSuchFrame"
-unfair_text Stale = codes "U2 Stale"
-unfair_text OtherEpoch = codes "U3 OtherEpoch"
-unfair_text SecondOpening = codes "U4 SecondOpening"
-unfair_text NoMemory = codes "U5 NoMemory"

@@ -9,7 +9,7 @@ use clock::Moment;
 use host::SocketId;
 use tcp_segment::Seq;
 
-// The greatest count of octets, and the greatest MAX, of a line.
+/// The greatest count of octets, and the greatest MAX, of a line.
 const MOST_OCTETS: u64 = 2_000_000;
 
 /// What a line has one host do.
@@ -31,7 +31,7 @@ pub enum Action<'a> {
     Fill { id: SocketId, count: usize },
     /// Read at most so many octets, and show them.
     Recv { id: SocketId, most: usize },
-    /// Read at most so many octets, and tell how many there were.
+    /// Read at most so many octets, and show how many there were.
     Count { id: SocketId, most: usize },
     /// Close our side of a connection: what was given goes out first, then the end.
     Shutdown { id: SocketId },
@@ -119,7 +119,7 @@ impl<'a> Action<'a> {
     }
 }
 
-// What a keyword says with the words after it.
+/// What a keyword says with the words after it.
 fn with_arguments<'a>(keyword: Keyword, arguments: &[&'a [u8]]) -> Option<Action<'a>>
     ensures { result ≡ said_by keyword (map (λ word. word.now) arguments.now) }
 {
@@ -176,7 +176,7 @@ fn with_two<'a>(keyword: Keyword, first: &'a [u8], second: &'a [u8]) -> Option<A
     on_socket(keyword, first, second)
 }
 
-// The actions of two arguments, the first of which is a socket.
+/// The actions of two arguments, the first of which is a socket.
 fn on_socket<'a>(keyword: Keyword, first: &'a [u8], second: &'a [u8]) -> Option<Action<'a>>
     ensures { keyword ≢ Keyword.Deliver → result ≡ said_by keyword (first.entry.now ∷ second.entry.now ∷ []) }
 {

@@ -1,7 +1,7 @@
 //! What happens in the world where a host does what a line says.
 
 ghost use Rattle.std.specs.Prelude.{◌≡◌, IfOk};
-ghost use Rattle.script.specs.Events.{IsEventOf, address_of, endpoint_of, other_side};
+ghost use Rattle.script.specs.Events.{IsEventOf, address_of, endpoint_of};
 
 use crate::action::Action;
 use host::Kind;
@@ -16,16 +16,6 @@ pub fn address(side: Side) -> Addr
     match side {
         Side::A => Addr([10, 0, 0, 1]),
         Side::B => Addr([10, 0, 0, 2]),
-    }
-}
-
-/// The side of the other host.
-pub fn other(side: Side) -> Side
-    ensures { result ≡ other_side side }
-{
-    match side {
-        Side::A => Side::B,
-        Side::B => Side::A,
     }
 }
 
@@ -48,7 +38,7 @@ pub fn event(alloc: Global, side: Side, action: &Action<'_>) -> Result<Event, Al
         }
         Action::Accept { id } => Ok(Event::Call(side, Call::Accept { id: *id })),
         Action::Connect { id, port, isn } => {
-            let peer = endpoint(other(side), *port);
+            let peer = endpoint(side.other(), *port);
             Ok(Event::Call(
                 side,
                 Call::Connect {

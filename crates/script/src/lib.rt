@@ -10,6 +10,6 @@ mod words;
 
 pub use action::Action;
 pub use answer::{Style, show, show_unfair};
-pub use events::{address, event, other};
+pub use events::{address, event};
 pub use fault::ScriptFault;
 pub use lines::{Command, Script};

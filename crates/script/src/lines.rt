@@ -12,7 +12,7 @@ use std::alloc::{AllocError, Global};
 use tcp_segment::Seq;
 use wire_sim::Side;
 
-// The greatest N of `limit`.
+/// The greatest N of `limit`.
 const MOST_LIMIT: u64 = 1 << 30;
 
 /// One command of a script.
@@ -154,7 +154,7 @@ impl<'a> Script<'a> {
         Ok(script)
     }
 
-    // Adds what one more line says, and answers whether that line is good here.
+    /// Adds what one more line says, and answers whether that line is good here.
     fn add(&mut self, item: Option<Item<'a>>) -> Result<bool, AllocError>
         requires { HasLimitInRange item }
         ensures good { IfOk result (λ good. good ≡ not (is_bad (is_start self.old.limit self.old.commands.items) item.entry)) }

@@ -42,7 +42,7 @@ impl<'a> Text<'a> {
     }
 }
 
-// Whether each octet of `word` is one of text.
+/// Whether each octet of `word` is one of text.
 fn all_graphic(word: &[u8]) -> bool
     ensures { result ≡ list_all is_ascii_graphic word.now }
 {
@@ -68,14 +68,14 @@ pub fn number(word: &[u8], most: u64) -> Option<u64>
     if value <= most { Some(value) } else { None }
 }
 
-// Whether each octet of `word` is a decimal digit.
+/// Whether each octet of `word` is a decimal digit.
 fn all_digits(word: &[u8]) -> bool
     ensures { result ≡ list_all is_ascii_digit word.now }
 {
     word.iter().all(|digit| digit.is_ascii_digit())
 }
 
-// The number that decimal digits write, if 64 bits hold it.
+/// The number that decimal digits write, if 64 bits hold it.
 fn decimal(digits: &[u8]) -> Option<u64>
     requires some { 0 < length digits.now }
     requires digits { IsTrue (list_all is_ascii_digit digits.now) }

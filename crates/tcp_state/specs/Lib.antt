@@ -3,6 +3,7 @@ pub mod Halves
 pub mod Stream
 pub mod Windows
 pub mod View
+pub mod Names
 pub mod Calls
 pub mod Arrival
 pub mod Due

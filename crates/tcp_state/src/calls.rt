@@ -9,23 +9,23 @@ use crate::connection::Connection;
 use crate::state::State;
 use thiserror::Error;
 
-/// Why a connection refuses a call, by its POSIX name.
+/// Why a connection refuses a call, by its POSIX name. Its text is in words: the number and the name that a caller of a host sees are that host's.
 #[derive(Clone, Copy, Debug, PartialEq, Eq, Error)]
 pub enum Refusal {
     /// The connection is opening, so that it has no side to close.
-    #[error("E6 ENOTCONN")]
+    #[error("the connection is opening")]
     ENOTCONN,
     /// The connection is opening, there is no room, or nothing is readable.
-    #[error("E8 EAGAIN")]
+    #[error("nothing can be done at the moment")]
     EAGAIN,
     /// The peer refused the connection.
-    #[error("E9 ECONNREFUSED")]
+    #[error("the peer refused the connection")]
     ECONNREFUSED,
     /// The peer reset the connection.
-    #[error("E10 ECONNRESET")]
+    #[error("the peer reset the connection")]
     ECONNRESET,
     /// Our side is closed.
-    #[error("E12 EPIPE")]
+    #[error("our side is closed")]
     EPIPE,
 }
 

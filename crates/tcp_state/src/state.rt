@@ -136,6 +136,11 @@ impl State {
 }
 
 impl fmt::Display for State {
+    ghost use Rattle.std.specs.Prelude.{Some};
+    ghost use Rattle.tcp_state.specs.Names.{state_text};
+
+    ghost output = { λ state. Some (state_text state) };
+
     fn fmt<W: fmt::Write>(&self, f: &mut fmt::Formatter<W>) -> fmt::Result {
         let name = match self {
             State::Closed => "CLOSED",

@@ -10,3 +10,4 @@ pub mod Runs
 pub mod Coverage
 pub mod Holding
 pub mod Notes
+pub mod Names

@@ -6,6 +6,7 @@ use crate::room::filled;
 use clock::Moment;
 use host::{DropCause, Kind, Refusal, SocketId};
 use ipv4::{Endpoint, Pair};
+use std::fmt;
 use tcp_segment::Seq;
 use tcp_state::State;
 use thiserror::Error;
@@ -164,24 +165,39 @@ impl Answer {
 }
 
 /// Why `step` refuses an event. The world is then as it was.
-#[derive(Clone, Copy, PartialEq, Eq, Debug, Error)]
+#[derive(Clone, Copy, PartialEq, Eq, Debug)]
 pub enum Unfair {
     /// There is no frame with this index, or the same side emitted it.
-    #[error("U1 NoSuchFrame")]
     NoSuchFrame,
     /// The frame's pair has been opened anew, in another epoch, since it was emitted.
-    #[error("U3 OtherEpoch")]
     OtherEpoch,
     /// Since the frame was emitted, an end of its pair took the limit or more from its caller.
-    #[error("U2 Stale")]
     Stale,
     /// The event would make the host open a pair a second time in one epoch.
-    #[error("U4 SecondOpening")]
     SecondOpening,
     /// Memory ran out before a host was touched.
-    #[error("U5 NoMemory")]
     NoMemory,
 }
+
+impl fmt::Display for Unfair {
+    ghost use Rattle.std.specs.Prelude.{Some};
+    ghost use Rattle.wire_sim.specs.Names.{unfair_text};
+
+    ghost output = { λ unfair. Some (unfair_text unfair) };
+
+    fn fmt<W: fmt::Write>(&self, f: &mut fmt::Formatter<W>) -> fmt::Result {
+        let text = match self {
+            Unfair::NoSuchFrame => "U1 NoSuchFrame",
+            Unfair::Stale => "U2 Stale",
+            Unfair::OtherEpoch => "U3 OtherEpoch",
+            Unfair::SecondOpening => "U4 SecondOpening",
+            Unfair::NoMemory => "U5 NoMemory",
+        };
+        f.write_str(text)
+    }
+}
+
+impl std::error::Error for Unfair {}
 
 /// Why a world is not made, or a run not begun.
 #[derive(Clone, Copy, PartialEq, Eq, Debug, Error)]

@@ -1,4 +1,4 @@
-//! A source and a sink in memory, which tell their octets and may be told to fail.
+//! A source and a sink in memory, whose octets are known and which can be made to fail.
 
 ghost use Rattle.std.specs.Prelude.{◌≡◌, ◌↔◌, IsTrue, None, ◌≤◌, ◌++◌, [], Some, IfOk, OnErr, is_ok, if◌then◌else◌, take, drop, length, min};
 ghost use Rattle.hostd.specs.Streams.{one_more};
@@ -15,7 +15,7 @@ struct Plan {
 }
 
 impl Plan {
-    // No call is to fail.
+    /// No call is to fail.
     fn none() -> Plan
         ensures { result ≡ record { fails_at = None; calls = 0 } }
     {
@@ -25,7 +25,7 @@ impl Plan {
         }
     }
 
-    // The call `n` is to fail, counted from 1.
+    /// The call `n` is to fail, counted from 1.
     fn failing_at(n: u64) -> Plan
         ensures { result ≡ record { fails_at = Some n; calls = 0 } }
     {
@@ -35,7 +35,7 @@ impl Plan {
         }
     }
 
-    // Counts one more call, and tells whether it is to fail.
+    /// Counts one more call, and answers whether it is to fail.
     fn fails_next(&mut self) -> bool
         ensures kept { self.new.fails_at ≡ self.old.fails_at }
         ensures counted { self.new.calls ≡ one_more self.old.calls }
@@ -119,7 +119,7 @@ impl Source for MemorySource<'_> {
     }
 }
 
-// Copies at most `most` octets from the front of `from` to that of `to`, and answers how many.
+/// Copies at most `most` octets from the front of `from` to that of `to`, and answers how many.
 fn copy_front(from: &[u8], to: &mut [u8], most: usize) -> usize
     ensures count { result ≡ min (min (length from.now) (length to.new)) most }
     ensures copied { take result to.new ≡ take result from.now }
@@ -175,7 +175,7 @@ impl MemorySink {
         self.taken.as_slice()
     }
 
-    // Keeps all of `octets`, or none where there is no memory.
+    /// Keeps all of `octets`, or none where there is no memory.
     fn keep(&mut self, octets: &[u8]) -> Result<usize>
         ensures ok { IfOk result (λ n. (n ≡ length octets.now) × (self.new ≡ record self.old { taken = self.new.taken })) }
         ensures err { OnErr result (self.new ≡ record self.old { taken = self.new.taken }) }

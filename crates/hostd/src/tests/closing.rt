@@ -2,7 +2,7 @@
 
 use super::{ACCEPTED, OPENING};
 
-// a closes its side: its octets go out before the end.
+/// a closes its side: its octets go out before the end.
 const ONE_SIDE: &str = "a send 1 hello -> sent 5
 a shutdown 1 -> ok
 a state 1 -> FIN-WAIT-1
@@ -15,7 +15,7 @@ b state 2 -> CLOSE-WAIT
 a state 1 -> FIN-WAIT-2
 ";
 
-// Then b writes on, and closes its side.
+/// Then b writes on, and closes its side.
 const OTHER_SIDE: &str = "a shutdown 1 -> ok
 a send 1 x -> E12 EPIPE
 b send 2 world -> sent 5
@@ -35,7 +35,7 @@ b send 2 x -> E12 EPIPE
 a recv 1 100 -> end
 ";
 
-// Each side's end is under way to the other.
+/// Each side's end is under way to the other.
 const AT_ONCE: &str = "a shutdown 1 -> ok
 b shutdown 2 -> ok
 a emit -> frame 3 20
@@ -51,7 +51,7 @@ a state 1 -> TIME-WAIT
 b state 2 -> TIME-WAIT
 ";
 
-// Or b's caller gives its socket back, and a waits twice the time that a segment may live.
+/// Or b's caller gives its socket back, and a waits twice the time that a segment may live.
 const OTHER_SOCKET: &str = "b close 2 -> ok
 pass 0 -> a 0 b 1
 a state 1 -> TIME-WAIT
@@ -63,7 +63,7 @@ a state 1 -> CLOSED
 a recv 1 10 -> end
 ";
 
-// A pair is used again: frames of its first connection open nothing and reach nothing of its second.
+/// A pair is used again: frames of its first connection open nothing and reach nothing of its second.
 const SECOND_OPENING: &str = "a close 1 -> ok
 a state 1 -> E1 EBADF
 pass 0 -> a 1 b 1
@@ -78,7 +78,7 @@ a connect 2 80 5 -> started
 b deliver 0 9 -> U3 OtherEpoch
 ";
 
-// No socket has the port.
+/// No socket has the port.
 const REFUSED: &str = "a socket tcp -> id 1
 a connect 1 81 5 -> started
 pass 0 -> a 1 b 1
@@ -92,7 +92,7 @@ a close 1 -> ok
 a recv 1 10 -> E1 EBADF
 ";
 
-// Who gives a socket back with octets unread resets the connection.
+/// Who gives a socket back with octets unread resets the connection.
 const UNREAD: &str = "a send 1 hello -> sent 5
 pass 0 -> a 1 b 1
 b close 2 -> ok
@@ -102,7 +102,7 @@ a recv 1 100 -> E10 ECONNRESET
 a recv 1 100 -> E10 ECONNRESET
 ";
 
-// And so does who is given octets after that.
+/// And so does who is given octets after that.
 const UNWANTED: &str = "a close 1 -> ok
 pass 0 -> a 1 b 1
 b recv 2 1 -> end
@@ -112,7 +112,7 @@ pass 0 -> a 1 b 0
 b recv 2 1 -> E10 ECONNRESET
 ";
 
-// A connection that nobody reads waits a minute for the other side's end.
+/// A connection that nobody reads waits a minute for the other side's end.
 const UNENDED: &str = "a close 1 -> ok
 pass 0 -> a 1 b 1
 a socket tcp -> id 2
@@ -126,7 +126,7 @@ pass 0 -> a 1 b 0
 b recv 2 1 -> E10 ECONNRESET
 ";
 
-// Octets that were given go out before the end, whoever gave the socket back.
+/// Octets that were given go out before the end, whoever gave the socket back.
 const GIVEN: &str = "a send 1 hello -> sent 5
 a close 1 -> ok
 a send 1 x -> E1 EBADF
@@ -137,14 +137,14 @@ pass 0 -> a 1 b 1
 b recv 2 100 -> end
 ";
 
-// A listener takes the connections with it that nobody accepted.
+/// A listener takes the connections with it that nobody accepted.
 const LISTENER: &str = "b close 1 -> ok
 b accept 1 -> E1 EBADF
 pass 0 -> a 0 b 1
 a recv 1 5 -> E10 ECONNRESET
 ";
 
-// Before the other host hears of it, a connection is just gone.
+/// Before the other host hears of it, a connection is just gone.
 const UNHEARD: &str = "a socket tcp -> id 1
 a connect 1 80 5 -> started
 a close 1 -> ok

@@ -17,7 +17,7 @@ CLOSED
 none
 ";
 
-// The SYN of a connection, as two lines and a half.
+/// The SYN of a connection, as two lines and a half.
 const SYN: &str = "02 00 00 00 00 02  02 00 00 00 00 01  08 00
 4500002c 00004000 400626ca 0a000001 0a000002
 c0000050 FFFFFFFF 00000000 6002FFFF c3d30000 020405b4
@@ -28,7 +28,7 @@ ipv4 10.0.0.1 10.0.0.2 proto 6 ttl 64 id 0 off 0 flags DF payload 24
 tcp 49152 80 seq 4294967295 ack 0 flags S win 65535 mss 1460 data 0
 ";
 
-// A request of ARP, with the zeros that pad its frame.
+/// A request of ARP, with the zeros that pad its frame.
 const ARP: &str =
     "ffffffffffff020000000001080600010800060400010200000000010a0000010000000000000a000002
 000000000000000000000000000000000000";
@@ -37,12 +37,12 @@ const ARP_SAYS: &str = "ether ff:ff:ff:ff:ff:ff 02:00:00:00:00:01 0806
 arp request 02:00:00:00:00:01 10.0.0.1 00:00:00:00:00:00 10.0.0.2
 ";
 
-// The head of the SYN's frame, and nothing behind it.
-const BARE: &str = "020000000002 020000000001 0800";
+/// The head of the SYN's frame, its parts behind a vertical tab and a form feed, and nothing behind it.
+const BARE: &str = "020000000002\x0b020000000001\x0c0800";
 
 const BARE_SAYS: &str = "ether 02:00:00:00:00:02 02:00:00:00:00:01 0800\ndrop F4\n";
 
-// What is asked of a text, how it ends, and what it prints.
+/// What is asked of a text, how it ends, and what it prints.
 type Row = (
     Asked,
     &'static str,
@@ -69,10 +69,10 @@ const REFUSED: [Row; 3] = [
     (Asked::Decode, "02:00", Err(TextFault::NotHex), ""),
 ];
 
-// The most octets that a call of a device moves.
+/// The most octets that a call of a device moves.
 const PIECES: [usize; 4] = [1, 2, 7, 4096];
 
-// A device that moves an octet a call and fails at this one, counted from 1.
+/// A device that moves an octet a call and fails at this one, counted from 1.
 fn failing(call: usize) -> Device {
     Device {
         most: 1,
@@ -80,7 +80,7 @@ fn failing(call: usize) -> Device {
     }
 }
 
-// Devices that move a few octets at a time change nothing.
+/// Devices that move a few octets at a time change nothing.
 fn moves_in_pieces(rt: &impl Abort, alloc: Global, (asked, text, want, prints): Row) {
     for most in PIECES {
         let device = Device { most, fails_at: 0 };
@@ -89,7 +89,7 @@ fn moves_in_pieces(rt: &impl Abort, alloc: Global, (asked, text, want, prints): 
     }
 }
 
-// A source fails at each of its calls, that for the end too: then nothing is run. No call comes after that.
+/// A source fails at each of its calls, that for the end too: then nothing is run. No call comes after that.
 fn reads_fail(rt: &impl Abort, alloc: Global, (asked, text, want, prints): Row) {
     for call in 0..=text.len() + 2 {
         let told = if call == 0 || call == text.len() + 2 {
@@ -101,7 +101,7 @@ fn reads_fail(rt: &impl Abort, alloc: Global, (asked, text, want, prints): Row) 
     }
 }
 
-// A sink fails at each of its calls, the flush too, and keeps what it took before. No call comes after that.
+/// A sink fails at each of its calls, the flush too, and keeps what it took before. No call comes after that.
 fn writes_fail(rt: &impl Abort, alloc: Global, (asked, text, want, prints): Row) {
     for call in 0..=prints.len() + 2 {
         let told = if call == 0 || call == prints.len() + 2 {
@@ -114,7 +114,7 @@ fn writes_fail(rt: &impl Abort, alloc: Global, (asked, text, want, prints): Row)
     }
 }
 
-// To take nothing of some octets is a failure.
+/// To take nothing of some octets is a failure.
 fn takes_nothing(rt: &impl Abort, alloc: Global, (asked, text, _, _): Row) {
     let none = Device {
         most: 0,
@@ -137,7 +137,7 @@ fn devices_change_nothing_unless_they_fail(rt: HostRuntime) {
     }
 }
 
-// More lines than the program holds back: a failure in mid-stream leaves the lines before it.
+/// More lines than the program holds back: a failure in mid-stream leaves the lines before it.
 #[test]
 fn many_lines_are_handed_on_in_turn(rt: HostRuntime) -> Result<(), Fail> {
     let mut text = Vec::new(rt.alloc());

@@ -2,7 +2,7 @@
 
 use super::{ACCEPTED, OPENING};
 
-// A backlog of one holds one connection until that is accepted.
+/// A backlog of one holds one connection until that is accepted.
 const BACKLOG: &str = "b socket tcp -> id 1
 b bind 1 80 -> ok
 b listen 1 1 -> ok
@@ -30,7 +30,7 @@ b deliver 5 0 -> taken
 b accept 1 -> id 3 10.0.0.1 49153
 ";
 
-// The table of b is full. What is dropped draws no id, and a SYN that comes again later finds a place.
+/// The table of b is full. What is dropped draws no id, and a SYN that comes again later finds a place.
 const TABLE: &str = "b socket tcp -> id 1
 b bind 1 80 -> ok
 b listen 1 1 -> ok
@@ -57,13 +57,13 @@ b deliver 3 0 -> taken
 b accept 1 -> id 9 10.0.0.1 49152
 ";
 
-// Nobody listens at port 81.
+/// Nobody listens at port 81.
 const NOBODY: &str = "a socket tcp -> id 1
 a connect 1 81 5 -> started
 a emit -> frame 0 24
 ";
 
-// At most 16 resets wait to answer segments for no connection.
+/// At most 16 resets wait to answer segments for no connection.
 const SIXTEEN_TAKEN: &str = "b deliver 0 0 -> taken
 b deliver 0 0 -> taken
 b deliver 0 0 -> taken
@@ -91,13 +91,13 @@ a state 1 -> CLOSED
 a recv 1 1 -> E9 ECONNREFUSED
 ";
 
-// On a connection of its own, a asks for another one at port 81 of b.
+/// On a connection of its own, a asks for another one at port 81 of b.
 const ANOTHER: &str = "a socket tcp -> id 2
 a connect 2 81 5 -> started
 a emit -> frame 3 24
 ";
 
-// The same number of resets that answer this one.
+/// The same number of resets that answer this one.
 const SIXTEEN_MORE: &str = "b deliver 3 0 -> taken
 b deliver 3 0 -> taken
 b deliver 3 0 -> taken
@@ -116,7 +116,7 @@ b deliver 3 0 -> taken
 b deliver 3 0 -> taken
 ";
 
-// Where no reply has room, what needs none is taken: octets and a reset.
+/// Where no reply has room, what needs none is taken: octets and a reset.
 const NEEDS_NO_REPLY: &str = "b deliver 3 0 -> drop F9
 a send 1 hello -> sent 5
 a emit -> frame 4 25
@@ -128,7 +128,7 @@ b deliver 3 0 -> taken
 b deliver 3 0 -> drop F9
 ";
 
-// The replies go out before all else.
+/// The replies go out before all else.
 const SIXTEEN_GO: &str = "b emit -> frame 6 20
 b emit -> frame 7 20
 b emit -> frame 8 20
@@ -163,7 +163,7 @@ b deliver 4 0 -> drop F9
 b deliver 3 0 -> drop F9
 ";
 
-// No host opens a pair a second time while the other one holds it: not by a frame, and not by a connect.
+/// No host opens a pair a second time while the other one holds it: not by a frame, and not by a connect.
 const SECOND_OPENING: &str = "b socket tcp -> id 1
 b bind 1 80 -> ok
 b listen 1 1 -> ok
@@ -190,7 +190,7 @@ pass 7 -> a 1 b 0
 b accept 1 -> id 3 10.0.0.1 49152
 ";
 
-// A frame is none of the bag, was emitted by this side, or is too old by what either side's caller gave since.
+/// A frame is none of the bag, was emitted by this side, or is too old by what either side's caller gave since.
 const UNFAIR: &str = "a send 1 hello -> sent 5
 a emit -> frame 3 25
 b deliver 4 0 -> U1 NoSuchFrame
@@ -206,8 +206,8 @@ a deliver 3 0 -> U1 NoSuchFrame
 b recv 2 100 -> octets hello
 ";
 
-// Where an event breaks several rules, the first of them is told: a stale frame that would open a pair a second time, and one
-// of an earlier epoch that is stale too.
+/// Where an event breaks several rules, the first of them is reported: a stale frame that would open a pair a second time, and one
+/// of an earlier epoch that is stale too.
 const FIRST_RULE: &str = "a send 1 x -> sent 1
 b deliver 0 9 -> U2 Stale
 a close 1 -> ok

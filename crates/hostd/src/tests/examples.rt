@@ -1,6 +1,6 @@
 //! The scripts of the folder `examples`, each with all that it prints. A file there has the same lines without the arrows.
 
-// examples/handshake.txt
+/// examples/handshake.txt
 const HANDSHAKE: &str = "# Two hosts open a connection, and a sends five octets to b.
 #
 # b makes a socket and is told its id. Then it takes connections at port 80.
@@ -42,7 +42,7 @@ a emit -> none
 b emit -> none
 ";
 
-// examples/loss_repaired.txt
+/// examples/loss_repaired.txt
 const LOSS_REPAIRED: &str =
     "# A frame with octets is lost. A second later they go out again, and b reads them once.
 #
@@ -82,7 +82,7 @@ a deliver 6 0 -> taken
 a emit -> none
 ";
 
-// examples/simultaneous_close.txt
+/// examples/simultaneous_close.txt
 const SIMULTANEOUS_CLOSE: &str = "# Both sides close before either hears of it.
 #
 # First the two hosts open a connection.
@@ -131,7 +131,7 @@ b recv 2 100 -> end
 pass 0 -> a 0 b 0
 ";
 
-// examples/reset.txt
+/// examples/reset.txt
 const RESET: &str = "# A connection is refused, and another one is reset.
 #
 # Nobody listens at port 81 of b. a's SYN is answered by a reset, and a's calls tell ECONNREFUSED.
@@ -172,7 +172,7 @@ a close 2 -> ok
 a recv 2 100 -> E1 EBADF
 ";
 
-// examples/old_segment_refused.txt
+/// examples/old_segment_refused.txt
 const OLD_SEGMENT_REFUSED: &str =
     "# Frames that are too old are not delivered: a host could not tell them from new ones.
 #

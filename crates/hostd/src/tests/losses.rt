@@ -6,17 +6,17 @@ use std::fmt::Display;
 use std::process::Abort;
 use std::test::Fail;
 
-// What becomes of the frames of a dialogue: all but one arrive once.
+/// What becomes of the frames of a dialogue: all but one arrive once.
 #[derive(Clone, Copy, Debug)]
 enum Network {
-    // The frame with this index never arrives.
+    /// The frame with this index never arrives.
     Losing(usize),
-    // The frame with this index arrives twice.
+    /// The frame with this index arrives twice.
     Repeating(usize),
 }
 
 impl Network {
-    // How often a frame arrives.
+    /// How often a frame arrives.
     fn times(self, index: usize) -> usize {
         match self {
             Network::Losing(lost) if lost == index => 0,
@@ -26,7 +26,7 @@ impl Network {
     }
 }
 
-// A script that grows line by line, by what it has printed so far.
+/// A script that grows line by line, by what it has printed so far.
 #[derive(Drop)]
 struct Dialogue {
     alloc: Global,
@@ -36,16 +36,16 @@ struct Dialogue {
     turns: usize,
 }
 
-// How often a side is asked for a frame at once: more often than it has one.
+/// How often a side is asked for a frame at once: more often than it has one.
 const EMISSIONS: usize = 4;
 
-// How often frames go both ways in a turn at most.
+/// How often frames go both ways in a turn at most.
 const CROSSINGS: usize = 8;
 
-// How often a call is made that isn't answered yet, and how many turns follow the last one.
+/// How often a call is made that isn't answered yet, and how many turns follow the last one.
 const TRIES: usize = 5;
 
-// b listens, and a has a socket.
+/// b listens, and a has a socket.
 const LISTENING: [(&str, &str); 4] = [
     ("b socket tcp", "id 1"),
     ("b bind 1 80", "ok"),
@@ -53,14 +53,14 @@ const LISTENING: [(&str, &str); 4] = [
     ("a socket tcp", "id 1"),
 ];
 
-// What the two callers do once a connection is asked for, each call with its answer, and what they are answered some seconds
-// after the last of these. A frame that comes late may end a wait in TIME-WAIT, so a's state isn't asked.
+/// What the two callers do once a connection is asked for, each call with its answer, and what they are answered some seconds
+/// after the last of these. A frame that comes late may end a wait in TIME-WAIT, so a's state isn't asked.
 struct Course {
     rows: &'static [(&'static str, &'static str)],
     ends: &'static [(&'static str, &'static str)],
 }
 
-// One side closes, then the other.
+/// One side closes, then the other.
 const IN_TURN: Course = Course {
     rows: &[
         ("b accept 1", "id 2 10.0.0.1 49152"),
@@ -81,7 +81,7 @@ const IN_TURN: Course = Course {
     ],
 };
 
-// Both sides close before either hears of it.
+/// Both sides close before either hears of it.
 const AT_ONCE: Course = Course {
     rows: &[
         ("b accept 1", "id 2 10.0.0.1 49152"),
@@ -101,7 +101,7 @@ const AT_ONCE: Course = Course {
     ],
 };
 
-// Both callers give their sockets back, and a's port is free once its connection has waited.
+/// Both callers give their sockets back, and a's port is free once its connection has waited.
 const SOCKETS_BACK: Course = Course {
     rows: &[
         ("b accept 1", "id 2 10.0.0.1 49152"),
@@ -121,13 +121,13 @@ const SOCKETS_BACK: Course = Course {
 };
 
 impl Dialogue {
-    // Adds a line.
+    /// Adds a line.
     fn say(&mut self, line: impl Display + Drop) -> Result<(), Fail> {
         write!(self.script, "{line}\n")?;
         Ok(())
     }
 
-    // What the script prints so far.
+    /// What the script prints so far.
     fn printed(&self) -> Result<String, Fail> {
         let end = ended(self.alloc, Asked::Sim, self.script.as_bytes(), GOOD, GOOD);
         end.answer?;
@@ -135,7 +135,7 @@ impl Dialogue {
         Ok(String::from_str(self.alloc, printed)?)
     }
 
-    // Adds a line, and answers what it prints.
+    /// Adds a line, and answers what it prints.
     fn ask(&mut self, line: &str) -> Result<String, Fail> {
         self.say(line)?;
         let printed = self.printed()?;
@@ -143,7 +143,7 @@ impl Dialogue {
         Ok(String::from_str(self.alloc, last)?)
     }
 
-    // Each side emits what it has due, and then each takes what the network gives it. Answers whether there was a frame.
+    /// Each side emits what it has due, and then each takes what the network gives it. Answers whether there was a frame.
     fn crossing(&mut self) -> Result<bool, Fail> {
         let before = self.script.as_str().lines().count();
         for emit in ["a emit", "b emit"] {
@@ -167,7 +167,7 @@ impl Dialogue {
         Ok(goes)
     }
 
-    // A side takes a frame as often as the network gives it.
+    /// A side takes a frame as often as the network gives it.
     fn deliver(&mut self, deliver: &str, index: usize) -> Result<(), Fail> {
         let isn = self.isn;
         for _ in 0..self.network.times(index) {
@@ -176,7 +176,7 @@ impl Dialogue {
         Ok(())
     }
 
-    // Frames of both sides cross on their way, as long as there are any, and then a second goes by.
+    /// Frames of both sides cross on their way, as long as there are any, and then a second goes by.
     fn turn(&mut self) -> Result<(), Fail> {
         for _ in 0..CROSSINGS {
             if !self.crossing()? {
@@ -188,7 +188,7 @@ impl Dialogue {
         self.say(format_args!("a tick {seconds}000\nb tick {seconds}000"))
     }
 
-    // Makes a call until it is answered, a second apart, and so many times more at most.
+    /// Makes a call until it is answered, a second apart, and so many times more at most.
     fn insist(&mut self, line: &str, more: usize) -> Result<String, Fail> {
         for _ in 0..more {
             let said = self.ask(line)?;
@@ -200,7 +200,7 @@ impl Dialogue {
         self.ask(line)
     }
 
-    // Makes these calls one after another, and compares what each is answered.
+    /// Makes these calls one after another, and compares what each is answered.
     fn calls(&mut self, rt: &impl Abort, rows: &[(&str, &str)], more: usize) -> Result<(), Fail> {
         for (line, want) in rows {
             let said = self.insist(line, more)?;
@@ -211,13 +211,13 @@ impl Dialogue {
     }
 }
 
-// The index of the frame that an emission tells.
+/// The index of the frame in what an emission prints.
 fn frame_in(said: &str) -> Option<usize> {
     let (index, _) = said.strip_prefix("frame ")?.split_once(' ')?;
     index.parse::<usize>().ok()
 }
 
-// Plays a course: whatever the network does, each call has its answer, and both sides end.
+/// Plays a course: whatever the network does, each call has its answer, and both sides end.
 fn plays_through(
     rt: &impl Abort,
     alloc: Global,
@@ -241,7 +241,7 @@ fn plays_through(
     dialogue.calls(rt, course.ends, 0)
 }
 
-// Numbers that pass the last one of 32 bits at each place of a dialogue.
+/// Numbers that pass the last one of 32 bits at each place of a dialogue.
 const NUMBERS: [u32; 11] = [
     4_294_967_288,
     4_294_967_289,
@@ -256,13 +256,13 @@ const NUMBERS: [u32; 11] = [
     2,
 ];
 
-// With this one, `hello` goes past the last number.
+/// With this one, `hello` goes past the last number.
 const MID_TEXT: u32 = 4_294_967_292;
 
-// More than the frames of a course on a network that loses none.
+/// More than the frames of a course on a network that loses none.
 const FRAMES: usize = 12;
 
-// Plays a course from each of the numbers, and then with each of its frames lost or repeated.
+/// Plays a course from each of the numbers, and then with each of its frames lost or repeated.
 fn plays_everywhere(rt: &impl Abort, alloc: Global, course: &Course) -> Result<(), Fail> {
     for isn in NUMBERS {
         plays_through(rt, alloc, course, isn, Network::Losing(FRAMES))?;

@@ -2,7 +2,7 @@
 
 use super::{ACCEPTED, OPENING};
 
-// The id 1 names no socket of a. No other fault of a call is told before that.
+/// The id 1 names no socket of a. No other fault of a call is reported before that.
 const NO_SOCKET: &str = "a bind 1 5 -> E1 EBADF
 a bind 1 0 -> E1 EBADF
 a listen 1 1 -> E1 EBADF
@@ -25,7 +25,7 @@ const GIVEN_BACK: &str = "a socket tcp -> id 1
 a close 1 -> ok
 ";
 
-// Nor does an id that was never given, and a connection that nobody has accepted has none.
+/// Nor does an id that was never given, and a connection that nobody has accepted has none.
 const OTHER_IDS: &str = "a state 0 -> E1 EBADF
 a state 2 -> E1 EBADF
 a close 18446744073709551615 -> E1 EBADF
@@ -38,7 +38,7 @@ b accept 1 -> id 2 10.0.0.1 49152
 b state 2 -> ESTABLISHED
 ";
 
-// A socket that was made, and then one that is bound.
+/// A socket that was made, and then one that is bound.
 const IDLE: &str = "a socket tcp -> id 1
 a listen 1 0 -> E2 EINVAL
 a listen 1 2 -> E2 EINVAL
@@ -101,7 +101,7 @@ a shutdown 1 -> E6 ENOTCONN
 a state 1 -> SYN-SENT
 ";
 
-// Both ends of a connection, and then one whose caller has no room and closes its side.
+/// Both ends of a connection, and then one whose caller has no room and closes its side.
 const CONNECTED: &str = "a bind 1 6 -> E2 EINVAL
 a listen 1 1 -> E2 EINVAL
 a accept 1 -> E2 EINVAL
@@ -131,7 +131,7 @@ a shutdown 1 -> ok
 a state 1 -> FIN-WAIT-1
 ";
 
-// Both sides closed, and b's connection has ended.
+/// Both sides closed, and b's connection has ended.
 const ENDED: &str = "a shutdown 1 -> ok
 pass 0 -> a 1 b 1
 b shutdown 2 -> ok
@@ -153,7 +153,7 @@ b close 2 -> ok
 b close 2 -> E1 EBADF
 ";
 
-// Nobody listens at the port.
+/// Nobody listens at the port.
 const TOLD_REFUSED: &str = "a socket tcp -> id 1
 a connect 1 81 5 -> started
 pass 0 -> a 1 b 1
@@ -174,7 +174,7 @@ a close 1 -> ok
 a close 1 -> E1 EBADF
 ";
 
-// b's caller gives its socket back with octets unread.
+/// b's caller gives its socket back with octets unread.
 const TOLD_RESET: &str = "a send 1 hello -> sent 5
 pass 0 -> a 1 b 1
 b close 2 -> ok
@@ -196,7 +196,7 @@ a close 1 -> ok
 a close 1 -> E1 EBADF
 ";
 
-// A port is in use by a socket that is bound, by a connection whose listener is gone, and by one that no socket names.
+/// A port is in use by a socket that is bound, by a connection whose listener is gone, and by one that no socket names.
 const PORT_IN_USE: &str = "a socket tcp -> id 2
 a bind 2 49152 -> E3 EADDRINUSE
 a bind 2 80 -> ok
@@ -229,7 +229,7 @@ a socket tcp -> id 9
 a socket tcp -> E15 EMFILE
 ";
 
-// A connection has its place before it is accepted, and keeps it after its socket was given back.
+/// A connection has its place before it is accepted, and keeps it after its socket was given back.
 const EIGHT_ENTRIES: &str = "b socket tcp -> id 1
 b bind 1 80 -> ok
 b listen 1 1 -> ok

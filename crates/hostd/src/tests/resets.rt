@@ -2,7 +2,7 @@
 
 use super::{ACCEPTED, OPENING};
 
-// What a is answered where it is told an error, and that nothing is left to go out.
+/// What a is answered where an error is reported to it, and that nothing is left to go out.
 const TOLD_RESET: &str = "a state 1 -> CLOSED
 a recv 1 100 -> E10 ECONNRESET
 a count 1 100 -> E10 ECONNRESET
@@ -31,7 +31,7 @@ a emit -> none
 a state 1 -> CLOSED
 ";
 
-// What it is answered where both sides were closed.
+/// What it is answered where both sides were closed.
 const TOLD_NOTHING: &str = "a state 1 -> CLOSED
 a recv 1 100 -> end
 a count 1 100 -> end
@@ -46,25 +46,25 @@ a emit -> none
 a state 1 -> CLOSED
 ";
 
-// a's octets lie unread at b, so that b's close is a reset.
+/// a's octets lie unread at b, so that b's close is a reset.
 const UNREAD: &str = "a send 1 hello -> sent 5
 pass 0 -> a 1 b 1
 ";
 
-// b's caller gives its socket back, and the reset arrives before a says anything more.
+/// b's caller gives its socket back, and the reset arrives before a says anything more.
 const B_RESETS: &str = "b close 2 -> ok
 b state 2 -> E1 EBADF
 pass 0 -> a 0 b 1
 b emit -> none
 ";
 
-// b's octets lie unread at a.
+/// b's octets lie unread at a.
 const ALSO_UNREAD: &str = "b send 2 world -> sent 5
 pass 0 -> a 0 b 1
 pass 0 -> a 1 b 0
 ";
 
-// Nobody listens at b's port any more. A reset that doesn't acknowledge a's SYN says nothing to it; the next one does.
+/// Nobody listens at b's port any more. A reset that doesn't acknowledge a's SYN says nothing to it; the next one does.
 const SYN_SENT: &str = "b socket tcp -> id 1
 b bind 1 80 -> ok
 b listen 1 1 -> ok
@@ -85,7 +85,7 @@ b emit -> frame 3 20
 a deliver 3 0 -> taken
 ";
 
-// A port takes no connection while its socket is only bound, nor once that was given back.
+/// A port takes no connection while its socket is only bound, nor once that was given back.
 const NOBODY_LISTENS: &str = "b socket tcp -> id 1
 b bind 1 80 -> ok
 a socket tcp -> id 1
@@ -109,7 +109,7 @@ pass 7 -> a 1 b 0
 b accept 2 -> id 3 10.0.0.1 49154
 ";
 
-// a's caller gives up, so that b's SYN is answered by a reset. It removes b's connection, and the backlog has room again.
+/// a's caller gives up, so that b's SYN is answered by a reset. It removes b's connection, and the backlog has room again.
 const SYN_RECEIVED: &str = "b socket tcp -> id 1
 b bind 1 80 -> ok
 b listen 1 1 -> ok
@@ -138,7 +138,7 @@ b accept 1 -> id 3 10.0.0.1 49153
 b state 3 -> ESTABLISHED
 ";
 
-// b's connection waits to be accepted while a's ends; what b says then is answered by a reset. It goes on waiting as it is.
+/// b's connection waits to be accepted while a's ends; what b says then is answered by a reset. It goes on waiting as it is.
 const NOT_ACCEPTED: &str = "a close 1 -> ok
 pass 0 -> a 1 b 1
 a tick 60000 -> ok
@@ -157,7 +157,7 @@ b shutdown 2 -> E10 ECONNRESET
 b deliver 6 8 -> taken
 ";
 
-// Its side is closed, and the end has not gone out.
+/// Its side is closed, and the end has not gone out.
 const FIN_WAIT_1: &str = "a shutdown 1 -> ok
 a state 1 -> FIN-WAIT-1
 b close 2 -> ok
@@ -165,7 +165,7 @@ b emit -> frame 5 20
 a deliver 5 0 -> taken
 ";
 
-// The end has gone out and is lost.
+/// The end has gone out and is lost.
 const FIN_WAIT_1_SENT: &str = "a shutdown 1 -> ok
 a emit -> frame 5 20
 a state 1 -> FIN-WAIT-1
@@ -187,7 +187,7 @@ a state 1 -> CLOSE-WAIT
 b state 2 -> FIN-WAIT-2
 ";
 
-// The ends cross, and a's is lost.
+/// The ends cross, and a's is lost.
 const CLOSING: &str = "a shutdown 1 -> ok
 b shutdown 2 -> ok
 a emit -> frame 5 20
@@ -200,7 +200,7 @@ b emit -> frame 7 20
 a deliver 7 0 -> taken
 ";
 
-// From CLOSE-WAIT.
+/// From CLOSE-WAIT.
 const LAST_ACK: &str = "a shutdown 1 -> ok
 a state 1 -> LAST-ACK
 b close 2 -> ok
@@ -208,7 +208,7 @@ b emit -> frame 7 20
 a deliver 7 0 -> taken
 ";
 
-// The same where a has octets that are unread: they are read still, and then the end.
+/// The same where a has octets that are unread: they are read still, and then the end.
 const LAST_ACK_UNREAD: &str = "a shutdown 1 -> ok
 a state 1 -> LAST-ACK
 b close 2 -> ok
@@ -230,7 +230,7 @@ a state 1 -> TIME-WAIT
 b state 2 -> TIME-WAIT
 ";
 
-// a's last acknowledgement arrives twice. At the second, b's connection is gone.
+/// a's last acknowledgement arrives twice. At the second, b's connection is gone.
 const LATE_COPY: &str = "a shutdown 1 -> ok
 pass 0 -> a 1 b 1
 b shutdown 2 -> ok
@@ -245,7 +245,7 @@ b emit -> frame 7 20
 a deliver 7 0 -> taken
 ";
 
-// The same with a's socket given back: its port is free at once.
+/// The same with a's socket given back: its port is free at once.
 const LATE_COPY_OF_NOBODY: &str = "a close 1 -> ok
 pass 0 -> a 1 b 1
 b shutdown 2 -> ok
@@ -260,7 +260,7 @@ a deliver 7 0 -> taken
 a bind 2 49152 -> ok
 ";
 
-// Octets of b are lost, so its reset comes from further on: a tells how far it has come, and is reset there.
+/// Octets of b are lost, so its reset comes from further on: a says how far it has come, and is reset there.
 const PAST_A_GAP: &str = "b send 2 xyz -> sent 3
 b emit -> frame 5 23
 b close 2 -> ok
@@ -275,7 +275,7 @@ b emit -> frame 8 20
 a deliver 8 0 -> taken
 ";
 
-// The reset that answers an old frame of a lies outside of a's window and says nothing.
+/// The reset that answers an old frame of a lies outside of a's window and says nothing.
 const BEFORE_THE_WINDOW: &str = "b close 2 -> ok
 b emit -> frame 7 20
 b deliver 2 0 -> taken
@@ -287,7 +287,7 @@ a recv 1 100 -> octets world
 a deliver 7 0 -> taken
 ";
 
-/// Resets while a connection is opening, some that are told, and some after both ends.
+/// Resets while a connection is opening, some that are reported, and some after both ends.
 pub const TRANSCRIPTS: &[&[&str]] = &[
     &[SYN_SENT, TOLD_REFUSED],
     &[NOBODY_LISTENS],

@@ -2,7 +2,7 @@
 
 use super::{ACCEPTED, NINE_CROSSINGS, OPENING};
 
-// A frame that comes twice is read once.
+/// A frame that comes twice is read once.
 const TWICE: &str = "a send 1 hello -> sent 5
 a emit -> frame 3 25
 b deliver 3 0 -> taken
@@ -11,7 +11,7 @@ b recv 2 100 -> octets hello
 b recv 2 100 -> E8 EAGAIN
 ";
 
-// The limit counts what was written since the frame went out, and no side takes a frame of its own.
+/// The limit counts what was written since the frame went out, and no side takes a frame of its own.
 const STALE: &str = "a send 1 hello -> sent 5
 a emit -> frame 3 25
 a send 1 123456789012345 -> sent 15
@@ -22,7 +22,7 @@ a deliver 3 0 -> U1 NoSuchFrame
 b deliver 99 0 -> U1 NoSuchFrame
 ";
 
-// A socket that was only made.
+/// A socket that was only made.
 const IDLE: &str = "a recv 1 10 -> E1 EBADF
 a state 1 -> E1 EBADF
 a shutdown 1 -> E1 EBADF
@@ -40,7 +40,7 @@ a connect 1 0 1 -> E4 EADDRNOTAVAIL
 a emit -> none
 ";
 
-// Sockets that are bound, listening and opening.
+/// Sockets that are bound, listening and opening.
 const BUSY: &str = "a socket tcp -> id 1
 a bind 1 5 -> ok
 a bind 1 5 -> E2 EINVAL
@@ -62,7 +62,7 @@ a shutdown 2 -> E6 ENOTCONN
 a bind 2 5 -> E2 EINVAL
 ";
 
-// A backlog of one takes one connection, and a side takes no frame of its own.
+/// A backlog of one takes one connection, and a side takes no frame of its own.
 const BACKLOG: &str = "b socket tcp -> id 1
 b bind 1 00080 -> ok
 b listen 1 1 -> ok
@@ -82,7 +82,7 @@ b tick 18446744073709551615 -> ok
 b state 1 -> LISTEN
 ";
 
-// Ports are given in turn, but for those that are bound.
+/// Ports are given in turn, but for those that are bound.
 const PORTS: &str = "b socket tcp -> id 1
 b bind 1 80 -> ok
 b listen 1 1 -> ok
@@ -121,7 +121,7 @@ b count 2 600 -> octets 600
 b count 2 600 -> octets 400
 ";
 
-// A second after it went out, what isn't acknowledged goes out again; the clock goes forward alone.
+/// A second after it went out, what isn't acknowledged goes out again; the clock goes forward alone.
 const RESENT: &str = "a send 1 hello -> sent 5
 a tick 50 -> ok
 a emit -> frame 3 25
@@ -138,7 +138,7 @@ a tick 9000 -> ok
 a emit -> none
 ";
 
-// 65,535 octets are 44 segments of 1,460 and one of 1,295.
+/// 65,535 octets are 44 segments of 1,460 and one of 1,295.
 const FULL: &str = "a fill 1 70000 -> sent 65535
 a fill 1 1 -> E8 EAGAIN
 ";

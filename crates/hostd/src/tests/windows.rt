@@ -2,12 +2,12 @@
 
 use super::{ACCEPTED, NINE_CROSSINGS, OPENING};
 
-// 65,535 octets are 44 segments of 1,460 and one of 1,295, and as many are given again once they are acknowledged.
+/// 65,535 octets are 44 segments of 1,460 and one of 1,295, and as many are given again once they are acknowledged.
 const FILLED: &str = "a fill 1 70000 -> sent 65535
 a fill 1 1 -> E8 EAGAIN
 ";
 
-// The window is closed. The end that a's caller asks for waits behind the octets.
+/// The window is closed. The end that a's caller asks for waits behind the octets.
 const WAITING: &str = "a fill 1 70000 -> sent 65535
 a fill 1 1 -> E8 EAGAIN
 a shutdown 1 -> ok
@@ -16,7 +16,7 @@ a tick 9000 -> ok
 pass 0 -> a 0 b 0
 ";
 
-// A read of 1,000 octets opens it for 1,000, which fill it again.
+/// A read of 1,000 octets opens it for 1,000, which fill it again.
 const READ_IN_PART: &str = "b count 2 1000 -> octets 1000
 pass 0 -> a 0 b 1
 pass 0 -> a 1 b 1
@@ -26,7 +26,7 @@ b count 2 2000000 -> E8 EAGAIN
 pass 0 -> a 0 b 1
 ";
 
-// The other 64,535 octets are 44 segments of 1,460 and one of 295. Then the end goes out.
+/// The other 64,535 octets are 44 segments of 1,460 and one of 295. Then the end goes out.
 const READ_AT_LAST: &str = "b count 2 2000000 -> octets 64535
 b count 2 2000000 -> E8 EAGAIN
 pass 0 -> a 1 b 1
@@ -35,7 +35,7 @@ a state 1 -> FIN-WAIT-2
 b state 2 -> CLOSE-WAIT
 ";
 
-// With nothing held, the end doesn't wait for the window. There it finds no place, and a second later it goes out again.
+/// With nothing held, the end doesn't wait for the window. There it finds no place, and a second later it goes out again.
 const END_FINDS_NO_PLACE: &str = "a shutdown 1 -> ok
 a emit -> frame 93 20
 b deliver 93 0 -> taken

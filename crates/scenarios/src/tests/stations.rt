@@ -131,15 +131,15 @@ pub(super) type Scenario = (&'static str, Start, &'static [&'static [Step]]);
 
 /// One host, and the frame that went out last.
 #[derive(Drop)]
-struct Station {
-    host: Host,
+pub(super) struct Station {
+    pub(super) host: Host,
     frame: [u8; 1514],
     len: usize,
 }
 
 impl Station {
     /// A host with no sockets.
-    fn new(rt: &impl Abort, alloc: Global, addr: Addr, neighbour: Addr) -> Station {
+    pub(super) fn new(rt: &impl Abort, alloc: Global, addr: Addr, neighbour: Addr) -> Station {
         let config = Config::new(addr).expect(rt, "a host's address");
         Station {
             host: Host::new(alloc, config, neighbour),
@@ -149,7 +149,7 @@ impl Station {
     }
 
     /// Makes a socket.
-    fn socket(&mut self) -> Told {
+    pub(super) fn socket(&mut self) -> Told {
         match self.host.socket(Kind::Tcp) {
             Ok(id) => Told::Id(id),
             Err(refusal) => Told::Refused(refusal),
@@ -195,7 +195,7 @@ impl Station {
     }
 
     /// The frame that is due goes out.
-    fn emit(&mut self) -> Told {
+    pub(super) fn emit(&mut self) -> Told {
         match self.host.next_frame(Moment(0), &mut self.frame) {
             Some(len) => {
                 self.len = len;
@@ -206,7 +206,7 @@ impl Station {
     }
 
     /// The frame that went out last.
-    fn sent(&self) -> &[u8] {
+    pub(super) fn sent(&self) -> &[u8] {
         match self.frame.split_at_checked(self.len) {
             Some((frame, _)) => frame,
             None => &[],
@@ -224,7 +224,7 @@ impl Station {
     }
 
     /// Octets reach the host.
-    fn hear(&mut self, isn: u32, octets: &[u8]) -> Told {
+    pub(super) fn hear(&mut self, isn: u32, octets: &[u8]) -> Told {
         match self.host.deliver(Moment(0), Seq(isn), octets) {
             Ok(()) => Told::Done,
             Err(cause) => Told::Dropped(cause),
