@@ -122,7 +122,7 @@ impl Ledger {
 }
 
 /// The count beside the opening by which the host of `side` came to hold `pair` in `epoch`; 0 where there is none.
-#[tactic(auto, using(crate::proofs::Counts::counts))]
+#[tactic(auto, using(crate::proofs::counts::CountFound::counts))]
 fn written_by(openings: &[Opening], written: &[u128], side: Side, pair: Pair, epoch: u64) -> u128
     ensures { result ≡ written_by openings.now written.now side pair epoch }
 {

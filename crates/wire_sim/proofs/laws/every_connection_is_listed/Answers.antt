@@ -1,4 +1,4 @@
-use Rattle.wire_sim.proofs.Covered.{connections-listed}
+use Rattle.wire_sim.proofs.openings.OctetsAreCovered.{connections-listed}
 use Rattle.wire_sim.proofs.laws.every_connection_is_listed.Goals as goal
 
 pub returns : goal.returns

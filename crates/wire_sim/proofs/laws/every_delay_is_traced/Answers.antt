@@ -1,4 +1,4 @@
-use Rattle.wire_sim.proofs.NotesTraced.{delays-traced}
+use Rattle.wire_sim.proofs.fairness.NotesAreTraced.{delays-traced}
 use Rattle.wire_sim.proofs.laws.every_delay_is_traced.Goals as goal
 
 pub returns : goal.returns

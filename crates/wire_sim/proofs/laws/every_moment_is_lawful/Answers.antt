@@ -1,4 +1,4 @@
-use Rattle.wire_sim.proofs.RunReached.{moments-lawful}
+use Rattle.wire_sim.proofs.runs.RunsAreReached.{moments-lawful}
 use Rattle.wire_sim.proofs.laws.every_moment_is_lawful.Goals as goal
 
 pub returns : goal.returns

@@ -1,4 +1,4 @@
-use Rattle.wire_sim.proofs.Begun.{openings-begun}
+use Rattle.wire_sim.proofs.openings.OpeningsAreBegun.{openings-begun}
 use Rattle.wire_sim.proofs.laws.every_opening_is_begun.Goals as goal
 
 pub returns : goal.returns

@@ -1,4 +1,4 @@
-use Rattle.wire_sim.proofs.Covered.{openings-unique}
+use Rattle.wire_sim.proofs.openings.OctetsAreCovered.{openings-unique}
 use Rattle.wire_sim.proofs.laws.every_opening_is_unique.Goals as goal
 
 pub returns : goal.returns

@@ -1,7 +1,7 @@
 -- What a world keeps.
 use Rattle.std.proofs.Common.{sym}
 use Rattle.wire_sim.specs.WorldView.{network_view}
-use Rattle.wire_sim.proofs.StepReached.{reached-again, seen-is}
+use Rattle.wire_sim.proofs.runs.FieldsAreReached.{reached-again, seen-is}
 use Rattle.wire_sim.proofs.world.World.openings.Goals as goal
 
 pub returns-clause-reached : goal.returns-clause-reached

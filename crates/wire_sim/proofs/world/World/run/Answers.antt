@@ -8,8 +8,8 @@ use Rattle.wire_sim.specs.declared.event.Unfair.{Unfair}
 use Rattle.wire_sim.specs.declared.event.Unfair.TheVariants.{NoMemory}
 use Rattle.wire_sim.specs.Runs.{unfair, SameEvent, IsReached, IsOutcome, RunsTo}
 use Rattle.wire_sim.specs.Trace.{StreamLaw}
-use Rattle.wire_sim.proofs.EventCopied.{cloned}
-use Rattle.wire_sim.proofs.StepReached.{reached-again, lawful, seen-is}
+use Rattle.wire_sim.proofs.runs.CopyIsSame.{cloned}
+use Rattle.wire_sim.proofs.runs.FieldsAreReached.{reached-again, lawful, seen-is}
 use Rattle.wire_sim.proofs.RunGiven.{runs-next, runs-none, runs-all, step-outcome, same_event}
 use Rattle.wire_sim.proofs.world.World.run.Goals.{in-Ok, in-Err}
 use Rattle.wire_sim.proofs.world.World.run.Goals as goal

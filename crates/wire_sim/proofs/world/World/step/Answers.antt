@@ -5,10 +5,10 @@ use Rattle.wire_sim.specs.declared.world.World.TheInside.{Inside}
 use Rattle.wire_sim.specs.Runs.{unfair, IsStep}
 use Rattle.wire_sim.specs.Fairness.{unfair_counted}
 use Rattle.wire_sim.specs.WorldView.{NetworkView, WorldView, network_view}
-use Rattle.wire_sim.proofs.Fair.{same_unfair}
-use Rattle.wire_sim.proofs.WorldLaw.{run_tallied}
-use Rattle.wire_sim.proofs.StepReached.{reached-next, same-parts, reached-again, lawful, step_from, seen-is}
-use Rattle.wire_sim.proofs.CountGrowth.{Steps-grows}
+use Rattle.wire_sim.proofs.fairness.CountedAsTraced.{same_unfair}
+use Rattle.wire_sim.proofs.runs.RunsAreLawful.{run_tallied}
+use Rattle.wire_sim.proofs.runs.FieldsAreReached.{reached-next, same-parts, reached-again, lawful, step_from, seen-is}
+use Rattle.wire_sim.proofs.counts.StepCountsFew.{Steps-grows}
 use Rattle.wire_sim.proofs.world.World.step.Goals as goal
 
 -- what stands in a world's fields

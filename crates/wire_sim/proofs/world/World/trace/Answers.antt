@@ -2,7 +2,7 @@
 use Rattle.std.proofs.Common.{◌∙◌, List, sym, ap}
 use Rattle.wire_sim.specs.declared.event.Happening.{Happening}
 use Rattle.wire_sim.specs.WorldView.{WorldView, network_view}
-use Rattle.wire_sim.proofs.StepReached.{reached-again, lawful, seen-is}
+use Rattle.wire_sim.proofs.runs.FieldsAreReached.{reached-again, lawful, seen-is}
 use Rattle.wire_sim.proofs.world.World.trace.Goals as goal
 
 pub returns-clause-reached : goal.returns-clause-reached

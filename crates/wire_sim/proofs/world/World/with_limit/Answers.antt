@@ -3,7 +3,7 @@ use Rattle.std.proofs.Common.{◌∙◌, sym, ap, ◌*◌, length}
 use Rattle.ipv4.specs.declared.addr.Addr.{Addr}
 use Rattle.ipv4.specs.Addresses.{same_addr}
 use Rattle.wire_sim.specs.WorldView.{network_view}
-use Rattle.wire_sim.proofs.StepReached.{reached-fresh, reached-within, uncounted}
+use Rattle.wire_sim.proofs.runs.FieldsAreReached.{reached-fresh, reached-within, uncounted}
 use Rattle.wire_sim.proofs.world.World.with_limit.Goals as goal
 
 pub invariant_of-result : goal.invariant_of-result

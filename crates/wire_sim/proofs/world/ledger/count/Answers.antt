@@ -1,7 +1,7 @@
 -- The count at hand is as it was, and grows where its opening is one of the socket.
 use Rattle.std.proofs.Common.{◌≡◌, ◌∙◌, ℕ, ◌+◌, List, get_or, set, take, add-one, arith, ap, sym}
 use Rattle.wire_sim.specs.Tallies.{counted}
-use Rattle.wire_sim.proofs.LedgerCounts.{counted-rest, counted-here, counted-next, counted-end}
+use Rattle.wire_sim.proofs.counts.CountsInTurn.{counted-rest, counted-here, counted-next, counted-end}
 use Rattle.wire_sim.proofs.world.ledger.count.Goals as goal
 use Rattle.wire_sim.proofs.world.ledger.count.Goals.{then-is_at, else-is_at}
 

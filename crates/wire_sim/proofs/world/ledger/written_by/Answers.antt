@@ -1,7 +1,7 @@
 -- The opening at hand is passed.
 use Rattle.std.proofs.Common.{ℕ, drop, arith, ap, sym, ◌∙◌, add-one}
 use Rattle.wire_sim.specs.Tallies.{written_by}
-use Rattle.wire_sim.proofs.Counts.{written_by_next}
+use Rattle.wire_sim.proofs.counts.CountFound.{written_by_next}
 use Rattle.wire_sim.proofs.world.ledger.written_by.Goals as goal
 
 pub loop-place-preserved : goal.loop-place-preserved

@@ -3,7 +3,7 @@ use Rattle.std.proofs.Common.{◌≡◌, length, refl, ap, rules}
 use Rattle.wire_sim.specs.declared.event.Side.TheVariants.{A, B}
 use Rattle.wire_sim.specs.declared.world.bag.Frame.{Frame}
 use Rattle.wire_sim.specs.WorldView.{network_view}
-use Rattle.wire_sim.proofs.FrameEmitted.{WroteFrame, wrote_frame, emits_frame}
+use Rattle.wire_sim.proofs.emission.EmittedFrame.{WroteFrame, wrote_frame, emits_frame}
 use Rattle.wire_sim.proofs.world.network.Network.emit.Goals as goal
 use Rattle.wire_sim.proofs.world.network.Network.emit.Goals.{in-A, in-B}
 

@@ -4,7 +4,7 @@ use Rattle.wire_sim.specs.declared.event.Event.{Event}
 use Rattle.wire_sim.specs.Steps.{Steps}
 use Rattle.wire_sim.specs.Fairness.{unfair_counted}
 use Rattle.wire_sim.specs.WorldView.{network_view}
-use Rattle.wire_sim.proofs.FairCounted.{frame_there}
+use Rattle.wire_sim.proofs.fairness.FairFrameIsThere.{frame_there}
 use Rattle.wire_sim.proofs.world.network.Network.perform.Goals as goal
 
 pub deliver-requires-clause-frame : goal.deliver-requires-clause-frame

@@ -1,6 +1,6 @@
 -- A frame is read plainly.
 use Rattle.std.proofs.Common.{arith}
-use Rattle.wire_sim.proofs.Foreseen.{foreseen-plain}
+use Rattle.wire_sim.proofs.fairness.ForeseenIsRead.{foreseen-plain}
 use Rattle.wire_sim.proofs.world.station.Station.would_open.Goals as goal
 
 pub returns : goal.returns

@@ -1,0 +1,3 @@
+pub mod CountFound
+pub mod CountsInTurn
+pub mod StepCountsFew

@@ -1,0 +1,3 @@
+pub mod EmittedOctets
+pub mod EmittedFrame
+pub mod SegmentsGoOut

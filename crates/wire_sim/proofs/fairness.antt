@@ -1,0 +1,5 @@
+pub mod FairFrameIsThere
+pub mod ForeseenIsRead
+pub mod CountedAsTraced
+pub mod NotesAreTraced
+pub mod FairIsUnrefused

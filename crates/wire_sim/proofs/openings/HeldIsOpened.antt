@@ -1,0 +1,216 @@
+-- A pair that a host does not hold is held after an event only where the event opens it.
+use Rattle.std.proofs.Common.{◌≡◌, ◌⊎◌, inl, inr, ℕ, ◌&&◌, ◌||◌, ◌==◌, not, if◌then◌else◌, Bool, true, false, cond, List, [], ◌∷◌, Option, Some, None, is_some, refl, sym, ◌∙◌, ap}
+use Rattle.std.specs.List.{find}
+use Rattle.std.proofs.lemmas.Bool.{and_parts}
+use Rattle.ipv4.specs.declared.addr.Endpoint.{Endpoint}
+use Rattle.ipv4.specs.declared.addr.Pair.{Pair}
+use Rattle.std.specs.Ordering.{is_le}
+use Rattle.ipv4.specs.Addresses.{endpoint_cmp, pair_of, same_end}
+use Rattle.ipv4.proofs.Pairs.{pair_of-swapped}
+use Rattle.tcp_segment.specs.Segment.{Segment}
+use Rattle.tcp_state.specs.declared.connection.Fate.{Fate}
+use Rattle.tcp_state.specs.declared.emission.Due.{Due}
+use Rattle.clock.specs.declared.moment.Moment.{Moment}
+use Rattle.tcp_state.specs.View.{opened_actively, View, is_closed, is_opening, after_tick}
+use Rattle.tcp_state.specs.Calls.{after_send, after_recv, after_shutdown, after_abort, after_close}
+use Rattle.tcp_state.specs.Due.{first_due, after_emitted}
+use Rattle.tcp_state.specs.Arrival.{after_segment_at}
+use Rattle.host.specs.declared.entry.SocketId.{SocketId}
+use Rattle.host.specs.declared.entry.Entry.{Entry}
+use Rattle.host.specs.declared.role.Role.{Role}
+use Rattle.host.specs.declared.role.Role.TheVariants.{Idle, Listener, Connected}
+use Rattle.host.specs.Entries.{is_live_between, connecting, is_between, joins, is_of_pair, is_kept, settled, all_settled, with_role, bound_to, listening, accepted, ticked, arrived, sent, write_shut, received, emitted_at, closed, aborted, forsaken, waits_at}
+use Rattle.host.specs.Lists.{change_first, remove_first}
+use Rattle.wire_sim.proofs.lists.FoundAfterChange.{none-removed}
+use Rattle.wire_sim.proofs.tables.PairOfPorts.{same_end-true}
+use Rattle.host.proofs.KeptEnds.{KeepsEnds, keeps-nothing, keeps-send, keeps-recv, keeps-shutdown, keeps-tick, keeps-abort, keeps-close, keeps-emitted, keeps-segment}
+
+-- Lists.
+
+-- a search that finds nothing passes over the first
+none-parts : {X : Type 0} (x : X) (o : Option X) (b : Bool) → cond b (Some x) o ≡ None → (b ≡ false) × (o ≡ None)
+none-parts x o true e = cc
+none-parts x o false e = (refl, e)
+
+none-from : {X : Type 0} (x : X) (o : Option X) (b : Bool) → b ≡ false → o ≡ None → cond b (Some x) o ≡ None
+none-from x o b is e = ap (λ c. cond c (Some x) o) is ∙ e
+
+-- a change of the first that passes another test, which makes none pass this one
+pub none-changed : {X : Type 0} (s t : X → Bool) (f : X → X) (xs : List X) → ((x : X) → s x ≡ true → t x ≡ false → t (f x) ≡ false) → find t xs ≡ None → find t (change_first s f xs) ≡ None
+none-changed {X} s t f xs keeps = go xs
+  where
+    step : (x : X) (xs : List X) → (find t xs ≡ None → find t (change_first s f xs) ≡ None) → (b : Bool) → s x ≡ b → t x ≡ false → find t xs ≡ None → find t (cond b (f x ∷ xs) (x ∷ change_first s f xs)) ≡ None
+    step x xs more true is out none = none-from (f x) (find t xs) (t (f x)) (keeps x is out) none
+    step x xs more false is out none = none-from x (find t (change_first s f xs)) (t x) out (more none)
+
+    go : (xs : List X) → find t xs ≡ None → find t (change_first s f xs) ≡ None
+    go [] none = refl
+    go (x ∷ xs) none = let p = none-parts x (find t xs) (t x) none in step x xs (go xs) (s x) refl p.0 p.1
+
+-- Roles.
+
+-- a change of a role that makes it hold no pair that it did not hold
+abbrev pub KeepsUnheld : (Role → Role) → Type 0
+KeepsUnheld g = (pair : Pair) (r : Role) → joins pair r ≡ false → joins pair (g r) ≡ false
+
+-- a connection whose endpoints stay, and that does not live again
+pub unjoined : (pair : Pair) (v w : View) (l k : Option SocketId) → KeepsEnds v w → joins pair (Connected v l) ≡ false → joins pair (Connected w k) ≡ false
+unjoined pair v w l k keeps out = decide (is_closed w.state) refl
+  where
+    test : Bool → Endpoint → Endpoint → Bool
+    test b x y = (not b && (same_end x pair.first && same_end y pair.second)) || (not b && (same_end x pair.second && same_end y pair.first))
+
+    decide : (b : Bool) → is_closed w.state ≡ b → test (is_closed w.state) w.local w.peer ≡ false
+    decide true is = ap (λ b. test b w.local w.peer) is
+    decide false is =
+        ap (λ b. test b w.local w.peer) is ∙ (ap (λ x. test false x w.peer) keeps.local ∙ (ap (λ y. test false v.local y) keeps.peer ∙ (sym (ap (λ b. test b v.local v.peer) (keeps.live is)) ∙ out)))
+
+pub unheld_bound_to : (local : Endpoint) → KeepsUnheld (bound_to local)
+unheld_bound_to local pair (Idle b bound) out = refl
+unheld_bound_to local pair (Listener x y) out = refl
+unheld_bound_to local pair (Connected c l) out = out
+
+pub unheld_listening : (backlog : ℕ) → KeepsUnheld (listening backlog)
+unheld_listening backlog pair (Idle b (Some x)) out = refl
+unheld_listening backlog pair (Idle b None) out = refl
+unheld_listening backlog pair (Listener x y) out = refl
+unheld_listening backlog pair (Connected c l) out = out
+
+pub unheld_accepted : KeepsUnheld accepted
+unheld_accepted pair (Idle b bound) out = refl
+unheld_accepted pair (Listener x y) out = refl
+unheld_accepted pair (Connected c l) out = unjoined pair c c l None (keeps-nothing c) out
+
+pub unheld_ticked : (now : Moment) → KeepsUnheld (ticked now)
+unheld_ticked now pair (Idle b bound) out = refl
+unheld_ticked now pair (Listener x y) out = refl
+unheld_ticked now pair (Connected c l) out = unjoined pair c (after_tick c now) l l (keeps-tick c now) out
+
+pub unheld_sent : (octets : List ℕ) → KeepsUnheld (sent octets)
+unheld_sent octets pair (Idle b bound) out = refl
+unheld_sent octets pair (Listener x y) out = refl
+unheld_sent octets pair (Connected c l) out = unjoined pair c (after_send c octets) l l (keeps-send c octets) out
+
+pub unheld_received : (len : ℕ) → KeepsUnheld (received len)
+unheld_received len pair (Idle b bound) out = refl
+unheld_received len pair (Listener x y) out = refl
+unheld_received len pair (Connected c l) out = unjoined pair c (if len == 0 then c else after_recv c len) l l (either (len == 0)) out
+  where
+    either : (b : Bool) → KeepsEnds c (if b then c else after_recv c len)
+    either true = keeps-nothing c
+    either false = keeps-recv c len
+
+pub unheld_write_shut : KeepsUnheld write_shut
+unheld_write_shut pair (Idle b bound) out = refl
+unheld_write_shut pair (Listener x y) out = refl
+unheld_write_shut pair (Connected c l) out = unjoined pair c (if is_some c.pending_error || is_opening c.state then c else after_shutdown c) l l (either (is_some c.pending_error || is_opening c.state)) out
+  where
+    either : (b : Bool) → KeepsEnds c (if b then c else after_shutdown c)
+    either true = keeps-nothing c
+    either false = keeps-shutdown c
+
+pub unheld_closed : (now : Moment) → KeepsUnheld (closed now)
+unheld_closed now pair (Idle b bound) out = refl
+unheld_closed now pair (Listener x y) out = refl
+unheld_closed now pair (Connected c l) out = unjoined pair c (after_close c now) l l (keeps-close c now) out
+
+unheld_aborted : KeepsUnheld aborted
+unheld_aborted pair (Idle b bound) out = refl
+unheld_aborted pair (Listener x y) out = refl
+unheld_aborted pair (Connected c l) out = unjoined pair c (after_abort c) l l (keeps-abort c) out
+
+pub unheld_forsaken : (id : SocketId) → KeepsUnheld (forsaken id)
+unheld_forsaken id pair r out = either (waits_at id r)
+  where
+    either : (b : Bool) → joins pair (if b then aborted r else r) ≡ false
+    either true = unheld_aborted pair r out
+    either false = out
+
+pub unheld_emitted_at : (now : Moment) → KeepsUnheld (emitted_at now)
+unheld_emitted_at now pair (Idle b bound) out = refl
+unheld_emitted_at now pair (Listener x y) out = refl
+unheld_emitted_at now pair (Connected c l) out = by_due (first_due c) refl
+  where
+    by_due : (o : Option Due) → first_due c ≡ o → joins pair (emitted_at now (Connected c l)) ≡ false
+    by_due None is = let same : emitted_at now (Connected c l) ≡ Connected c l = rw is in ap (joins pair) same ∙ out
+    by_due (Some due) is = let same : emitted_at now (Connected c l) ≡ Connected (after_emitted c due now) l = rw is in ap (joins pair) same ∙ unjoined pair c (after_emitted c due now) l l (keeps-emitted c due now) out
+
+-- an idle socket connects, to an end of another pair
+pub unheld_connecting : (local peer : Endpoint) (isn : ℕ) (pair : Pair) → joins pair (Connected (opened_actively local peer isn) None) ≡ false → (r : Role) → joins pair r ≡ false → joins pair (connecting local peer isn r) ≡ false
+unheld_connecting local peer isn pair other (Idle b bound) out = other
+unheld_connecting local peer isn pair other (Listener x y) out = refl
+unheld_connecting local peer isn pair other (Connected c l) out = out
+
+-- what joins the pair of two ends lies between them
+pub joined : (c : View) (l : Option SocketId) (x y : Endpoint) → (pair_of c.local c.peer ≡ pair_of x y) ⊎ (joins (pair_of x y) (Connected c l) ≡ false)
+joined c l x y = by_order (is_le (endpoint_cmp x y)) refl
+  where
+    here : Endpoint → Endpoint → Bool
+    here p q = is_live_between p q (Connected c l)
+
+    ends : (p q : Endpoint) → here p q ≡ true → pair_of c.local c.peer ≡ pair_of p q
+    ends p q is =
+        let both = and_parts (same_end c.local p) (same_end c.peer q) (and_parts (not (is_closed c.state)) (same_end c.local p && same_end c.peer q) is).1 in
+        ap (λ e. pair_of e c.peer) (same_end-true c.local p both.0) ∙ ap (pair_of p) (same_end-true c.peer q both.1)
+
+    by_ends : (p q : Endpoint) → pair_of p q ≡ pair_of x y → (a b : Bool) → here p q ≡ a → here q p ≡ b → (pair_of c.local c.peer ≡ pair_of x y) ⊎ ((a || b) ≡ false)
+    by_ends p q same true b is was = inl (ends p q is ∙ same)
+    by_ends p q same false true is was = inl (ends q p was ∙ (pair_of-swapped q p ∙ same))
+    by_ends p q same false false is was = inr refl
+
+    by_order : (b : Bool) → is_le (endpoint_cmp x y) ≡ b → (pair_of c.local c.peer ≡ pair_of x y) ⊎ (joins (if b then record { first = x; second = y } else record { first = y; second = x }) (Connected c l) ≡ false)
+    by_order true is = by_ends x y refl (here x y) (here y x) refl refl
+    by_order false is = by_ends y x (pair_of-swapped y x) (here y x) (here x y) refl refl
+
+-- a segment that is heard by a connection that is not CLOSED
+unheld-arrived : (now : Moment) (s : Segment) (pair : Pair) (local peer : Endpoint) (e : Entry) → is_between local peer e ≡ true → is_of_pair pair e ≡ false → is_of_pair pair (with_role (arrived now s) e) ≡ false
+unheld-arrived now s pair local peer e between out = of_role e.role between out
+  where
+    live : (b : Bool) → not b ≡ true → b ≡ false
+    live true e = cc
+    live false e = refl
+
+    of_role : (r : Role) → is_live_between local peer r ≡ true → joins pair r ≡ false → joins pair (arrived now s r) ≡ false
+    of_role (Idle b bound) between out = refl
+    of_role (Listener x y) between out = refl
+    of_role (Connected c l) between out =
+        unjoined pair c (after_segment_at c s now) l l (keeps-segment c s now (live (is_closed c.state) (and_parts (not (is_closed c.state)) (same_end c.local local && same_end c.peer peer) between).0)) out
+
+-- Tables.
+
+-- the first entry that passes a test changes its role
+pub unheld-changed : (test : Entry → Bool) (g : Role → Role) (pair : Pair) (xs : List Entry) → KeepsUnheld g → find (is_of_pair pair) xs ≡ None → find (is_of_pair pair) (change_first test (with_role g) xs) ≡ None
+unheld-changed test g pair xs keeps none = none-changed test (is_of_pair pair) (with_role g) xs (λ e is out. keeps pair e.role out) none
+
+-- the same, of one pair alone
+pub unheld-changed_at : (test : Entry → Bool) (g : Role → Role) (pair : Pair) (xs : List Entry) → ((r : Role) → joins pair r ≡ false → joins pair (g r) ≡ false) → find (is_of_pair pair) xs ≡ None
+    → find (is_of_pair pair) (change_first test (with_role g) xs) ≡ None
+unheld-changed_at test g pair xs keeps none = none-changed test (is_of_pair pair) (with_role g) xs (λ e is out. keeps e.role out) none
+
+-- or takes a step
+pub unheld-settled : (fate : Fate) (test : Entry → Bool) (g : Role → Role) (pair : Pair) (xs : List Entry) → KeepsUnheld g → find (is_of_pair pair) xs ≡ None → find (is_of_pair pair) (settled fate test g xs) ≡ None
+unheld-settled fate test g pair xs keeps none = by_fate (is_kept fate)
+  where
+    by_fate : (b : Bool) → find (is_of_pair pair) (if b then change_first test (with_role g) xs else remove_first test xs) ≡ None
+    by_fate true = unheld-changed test g pair xs keeps none
+    by_fate false = none-removed test (is_of_pair pair) xs none
+
+-- the one that hears a segment
+pub unheld-heard : (fate : Fate) (local peer : Endpoint) (now : Moment) (s : Segment) (pair : Pair) (xs : List Entry) → find (is_of_pair pair) xs ≡ None → find (is_of_pair pair) (settled fate (is_between local peer) (arrived now s) xs) ≡ None
+unheld-heard fate local peer now s pair xs none = by_fate (is_kept fate)
+  where
+    by_fate : (b : Bool) → find (is_of_pair pair) (if b then change_first (is_between local peer) (with_role (arrived now s)) xs else remove_first (is_between local peer) xs) ≡ None
+    by_fate true = none-changed (is_between local peer) (is_of_pair pair) (with_role (arrived now s)) xs (λ e is out. unheld-arrived now s pair local peer e is out) none
+    by_fate false = none-removed (is_between local peer) (is_of_pair pair) xs none
+
+-- each entry takes a step
+pub unheld-all : (fate : Role → Fate) (g : Role → Role) (pair : Pair) (xs : List Entry) → KeepsUnheld g → find (is_of_pair pair) xs ≡ None → find (is_of_pair pair) (all_settled fate g xs) ≡ None
+unheld-all fate g pair xs keeps = go xs
+  where
+    step : (e : Entry) (xs : List Entry) → find (is_of_pair pair) (all_settled fate g xs) ≡ None → is_of_pair pair e ≡ false → (b : Bool) → find (is_of_pair pair) (cond b (with_role g e ∷ all_settled fate g xs) (all_settled fate g xs)) ≡ None
+    step e xs more out true = none-from (with_role g e) (find (is_of_pair pair) (all_settled fate g xs)) (is_of_pair pair (with_role g e)) (keeps pair e.role out) more
+    step e xs more out false = more
+
+    go : (xs : List Entry) → find (is_of_pair pair) xs ≡ None → find (is_of_pair pair) (all_settled fate g xs) ≡ None
+    go [] none = refl
+    go (e ∷ xs) none = let p = none-parts e (find (is_of_pair pair) xs) (is_of_pair pair e) none in step e xs (go xs p.1) p.0 (is_kept (fate e.role))

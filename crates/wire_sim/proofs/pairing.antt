@@ -1,0 +1,9 @@
+pub mod EndMoves
+pub mod WorldAsPairings
+pub mod OpeningIsMove
+pub mod ArrivalIsMove
+pub mod CallsAreMoves
+pub mod EmissionIsMove
+pub mod TickIsMoves
+pub mod CloseIsMoves
+pub mod ConnectIsMove

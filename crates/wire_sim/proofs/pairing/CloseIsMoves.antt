@@ -1,0 +1,211 @@
+-- A socket that is closed is moves of the pairing of its opening, if it has one, and of those of the connections that wait at it.
+use Rattle.std.proofs.Common.{◌≡◌, ℕ, ◌≤◌, ◌==◌, ◌||◌, inl, inr, Bool, true, false, not, cond, if◌then◌else◌, List, [], ◌∷◌, ◌++◌, length, Option, Some, None, arith, refl, sym, ◌∙◌, subst}
+use Rattle.std.specs.List.{find}
+use Rattle.ipv4.specs.declared.addr.Addr.{Addr}
+use Rattle.ipv4.specs.declared.addr.Pair.{Pair}
+use Rattle.tcp_state.specs.declared.connection.Fate.TheVariants.{Stays, Removed}
+use Rattle.clock.specs.declared.moment.Moment.{Moment}
+use Rattle.tcp_state.specs.declared.state.State.{State}
+use Rattle.tcp_state.specs.declared.state.State.TheVariants as state
+use Rattle.tcp_state.specs.View.{View, IsSound, is_opening, is_syn_sent, is_syn_received, is_closed}
+use Rattle.tcp_state.specs.Calls as connection_calls
+use Rattle.wire_sim.specs.declared.event.Side.{Side}
+use Rattle.wire_sim.specs.declared.event.Call.TheVariants as call
+use Rattle.wire_sim.specs.declared.event.Answer.TheVariants as reply
+use Rattle.wire_sim.specs.declared.event.Opening.{Opening}
+use Rattle.wire_sim.specs.declared.event.Happening.{Happening}
+use Rattle.host.specs.declared.entry.SocketId.{SocketId}
+use Rattle.host.specs.declared.entry.Entry.{Entry}
+use Rattle.host.specs.declared.role.Role.{Role}
+use Rattle.host.specs.declared.role.Role.TheVariants.{Idle, Listener, Connected}
+use Rattle.host.specs.declared.refusal.Refusal.TheVariants.{EBADF}
+use Rattle.host.specs.Calls.{close_refusal, after_socket_closed, after_close}
+use Rattle.host.specs.Entries.{is_socket, is_kept, waits_at, closed, close_fate_of, aborted, abort_fate_of, forsaken, forsaken_fate, settled}
+use Rattle.host.specs.HostView.{HostView}
+use Rattle.host.specs.Sound.{IsSoundHost}
+use Rattle.stream_law.specs.ChannelViews.{SameStream}
+use Rattle.stream_law.specs.Pairing.{Pairing, Present, Departed, Meets, closes, rests, stops, leaves}
+use Rattle.stream_law.proofs.PairingEndings.{stops-left}
+use Rattle.wire_sim.specs.declared.world.bag.Frame.{Frame}
+use Rattle.wire_sim.specs.Sides.{other_side}
+use Rattle.wire_sim.specs.Tallies.{is_opening_of, is_opening_at}
+use Rattle.wire_sim.specs.WorldView.{NetworkView}
+use Rattle.wire_sim.proofs.tables.CallsOnTable.{found_socket}
+use Rattle.wire_sim.proofs.tables.EntryChanges.{SameBut, SameTold, by_test, table-becomes, end-another, opened-kept}
+use Rattle.wire_sim.proofs.pairing.EndMoves.{pairing, EndGoes, moved}
+use Rattle.wire_sim.proofs.lists.FoundAfterChange.{find-passes, find-missed}
+use Rattle.host.proofs.KeptEnds.{keeps-close, keeps-abort}
+use Rattle.wire_sim.proofs.tables.EntryIsMade.{its_id}
+use Rattle.wire_sim.proofs.openings.OpeningIsFound.{opening-of_parts}
+use Rattle.wire_sim.proofs.pairing.WorldAsPairings.{told, Projects, projects-turned}
+use Rattle.wire_sim.proofs.pairing.CallsAreMoves.{CallGoes, GoesPlain, projects-moved, sound_socket}
+use Rattle.wire_sim.proofs.pairing.TickIsMoves.{projects-settled}
+use Rattle.wire_sim.proofs.tables.TableById.{Account, role_at, found-role, Becomes, becomes-settled, settle, presence_in, end_with, end_at, IsOpened, IsNoted, MayOpen, IsTable, same_id}
+use Rattle.wire_sim.proofs.told.TraceAndOneMore.{answered, tallies-quiet}
+use Rattle.wire_sim.proofs.told.AccountAndOneMore.{told-other, forsakes-told}
+
+-- A step of an entry that opened nothing is no move of any pairing.
+projects-unopened : (limit : ℕ) (hs ts : Side) (a b : Addr) (own own' other : HostView) (frames : List Frame) (openings : List Opening) (trace trace' : List Happening) (id : SocketId) → own'.addr ≡ own.addr → own'.neighbour ≡ own.neighbour → own'.last_id ≡ own.last_id
+    → Becomes own.entries own'.entries id.0 None → id.0 ≤ own.last_id → find (is_opening_at hs id) openings ≡ None → SameBut id (told hs trace) (told hs trace') → SameTold (told ts trace) (told ts trace')
+    → Projects limit hs ts a b own other frames openings trace → Projects limit hs ts a b own' other frames openings trace'
+projects-unopened limit hs ts a b own own' other frames openings trace trace' id addr neighbour last becomes within none same theirs h =
+    projects-turned limit hs ts a b own own' other frames openings trace trace' h (record {
+      addr = addr;
+      neighbour = neighbour;
+      table = subst (λ n. IsTable hs a b n own'.entries openings (told hs trace')) (sym last)
+          (table-becomes hs a b own.last_id own.entries own'.entries openings (told hs trace) (told hs trace') id None becomes (λ role is. let bad : None ≡ Some role = is in cc) same (λ unopened may. absurd (gone may)) h.own_table);
+      other_told = theirs;
+      meets = λ pair epoch.
+          subst (λ e. Meets limit (pairing e (end_at ts openings other.entries (told ts trace) pair epoch) (h.out pair epoch) (h.arrived pair epoch)))
+          (sym (end-another hs openings id pair epoch own.entries own'.entries (told hs trace) (told hs trace') becomes.others same (elsewhere pair epoch))) (h.meets pair epoch);
+    })
+  where
+    gone : MayOpen own.last_id own'.entries id → ⊥
+    gone (inl above) = omega (arith, above, within)
+    gone (inr at) = let bad : None ≡ Some at.0 = sym becomes.here ∙ at.1 in cc
+
+    elsewhere : (pair : Pair) (epoch : ℕ) (o : Opening) → find (is_opening_of hs pair epoch) openings ≡ Some o → (id.0 == o.id.0) ≡ false
+    elsewhere pair epoch o found = by_test (id.0 == o.id.0)
+        (λ is.
+        let parts = opening-of_parts hs pair epoch o (find-passes (is_opening_of hs pair epoch) openings o found) in
+        absurd (find-missed (is_opening_of hs pair epoch) (is_opening_at hs id) openings o found (subst (λ i. is_opening_at hs i o ≡ true) (sym (same_id id o.id is)) (its_id hs o parts.0)) none))
+        (λ apart. apart)
+
+-- What closing makes of the end of a connection.
+
+same-released : (c : View) (now : Moment) → SameStream (connection_calls.after_shutdown c) (connection_calls.after_release c now)
+same-released c now = record { state = refl; held = refl; una = refl; nxt = refl; readable = refl; rnext = refl; pending_error = refl; released = λ e. let bad : true ≡ false = e in cc }
+
+closing : (limit : ℕ) (c : View) (l : Option SocketId) (now : Moment) (t : Account) → IsSound c
+    → EndGoes limit (end_with (Present c) t) (end_with (presence_in (settle (connection_calls.close_fate c) (closed now) (Connected c l))) (record t { closed = true }))
+closing limit c l now t sound there out arrived = first (connection_calls.is_removed_by_close c) refl
+  where
+    t' : Account
+    t' = record t { closed = true }
+
+    was : Pairing
+    was = pairing (end_with (Present c) t) there out arrived
+
+    opened : (s : State) → (is_closed s || is_syn_sent s) ≡ false → is_syn_received s ≡ false → is_opening s ≡ false
+    opened state.SynSent e f = let bad : true ≡ false = e in cc
+    opened state.SynReceived e f = let bad : true ≡ false = f in cc
+    opened state.Closed e f = refl
+    opened state.Listen e f = refl
+    opened state.Established e f = refl
+    opened state.FinWait1 e f = refl
+    opened state.FinWait2 e f = refl
+    opened state.CloseWait e f = refl
+    opened state.Closing e f = refl
+    opened state.LastAck e f = refl
+    opened state.TimeWait e f = refl
+
+    not_first : (a b : Bool) → (a || b) ≡ false → a ≡ false
+    not_first true b e = cc
+    not_first false b e = refl
+
+    second : connection_calls.is_removed_by_close c ≡ false → (b : Bool) → connection_calls.is_aborted_by_close c ≡ b → Meets limit was
+        → Meets limit (pairing (end_with (Present (if b then connection_calls.aborted c else connection_calls.after_release c now)) t') there out arrived)
+    second stays true is met = moved limit was (pairing (end_with (Present (connection_calls.aborted c)) t') there out arrived) (stops was c (connection_calls.aborted c) true refl (stops-left c (connection_calls.aborted c) refl refl) (λ e. refl)) met
+    second stays false is met =
+        let shut = pairing (end_with (Present (connection_calls.after_shutdown c)) t') there out arrived in
+        moved limit shut (pairing (end_with (Present (connection_calls.after_release c now)) t') there out arrived) (rests shut (connection_calls.after_shutdown c) (connection_calls.after_release c now) refl (same-released c now))
+        (moved limit was shut (closes was c refl sound (opened c.state stays (not_first (is_syn_received c.state) (not (length c.receiving.readable == 0)) is))) met)
+
+    first : (b : Bool) → connection_calls.is_removed_by_close c ≡ b → Meets limit was
+        → Meets limit (pairing (end_with (presence_in (cond (is_kept (if b then Removed else Stays)) (Some (Connected (if b then c else (if connection_calls.is_aborted_by_close c then connection_calls.aborted c else connection_calls.after_release c now)) l)) None)) t') there out arrived)
+    first true is met = moved limit was (pairing (end_with Departed t') there out arrived) (leaves was c true refl (λ e. refl)) met
+    first false is met = second is (connection_calls.is_aborted_by_close c) refl met
+
+-- What is made of a connection that waits at a listener which is closed.
+forsaking : (limit : ℕ) (id : SocketId) (t : Account) (r : Role) → EndGoes limit (end_with (presence_in (Some r)) t) (end_with (presence_in (settle (forsaken_fate id r) (forsaken id) r)) t)
+forsaking limit id t r there out arrived = waiting (waits_at id r)
+  where
+    aborting : (r : Role) → Meets limit (pairing (end_with (presence_in (Some r)) t) there out arrived) → Meets limit (pairing (end_with (presence_in (settle (abort_fate_of r) aborted r)) t) there out arrived)
+    aborting (Connected c l) met = by_state (is_closed c.state) met
+      where
+        was : Pairing
+        was = pairing (end_with (Present c) t) there out arrived
+
+        by_state : (b : Bool) → Meets limit was → Meets limit (pairing (end_with (presence_in (cond (is_kept (if b then Removed else Stays)) (Some (Connected (if b then c else connection_calls.aborted c) l)) None)) t) there out arrived)
+        by_state true met = moved limit was (pairing (end_with Departed t) there out arrived) (leaves was c t.closed refl (λ e. e)) met
+        by_state false met = moved limit was (pairing (end_with (Present (connection_calls.aborted c)) t) there out arrived) (stops was c (connection_calls.aborted c) t.closed refl (stops-left c (connection_calls.aborted c) refl refl) (λ e. e)) met
+    aborting (Listener b n) met = met
+    aborting (Idle b n) met = met
+
+    waiting : (b : Bool) → Meets limit (pairing (end_with (presence_in (Some r)) t) there out arrived)
+        → Meets limit (pairing (end_with (presence_in (settle (if b then abort_fate_of r else Stays) (λ q. if b then aborted q else q) r)) t) there out arrived)
+    waiting true met = aborting r met
+    waiting false met = met
+
+-- Closing a socket.
+
+-- the socket that is closed
+pub record ClosesOn (h : HostView) (id : SocketId) : Type 0 where
+  pub role : Role
+  pub found : find (is_socket id) h.entries ≡ Some (record { id = id; role = role })
+  pub closes : after_socket_closed h id ≡ record h { entries = settled (close_fate_of role) (is_socket id) (closed h.kept) h.entries }
+
+pub closes-on : (h : HostView) (id : SocketId) → close_refusal h id ≡ None → ClosesOn h id
+closes-on h id none = by_entry (find (is_socket id) h.entries) refl
+  where
+    by_entry : (o : Option Entry) → find (is_socket id) h.entries ≡ o → ClosesOn h id
+    by_entry None at = let refused : close_refusal h id ≡ Some EBADF = rw at in cc
+    by_entry (Some e) at = record { role = e.role; found = found_socket h.entries id e e.role at refl; closes = rw at }
+
+-- its own entry
+own-closed : (limit : ℕ) (hs ts : Side) (a b : Addr) (own other : HostView) (n : NetworkView) (trace : List Happening) (id : SocketId) (r : Role) → IsSoundHost own → ts ≡ other_side hs → find (is_socket id) own.entries ≡ Some (record { id = id; role = r })
+    → Projects limit hs ts a b own other n.frames n.openings trace
+    → Projects limit hs ts a b (record own { entries = settled (close_fate_of r) (is_socket id) (closed own.kept) own.entries }) other n.frames n.openings (trace ++ answered hs (call.Close id) reply.Done ∷ [])
+own-closed limit hs ts a b own other n trace id (Connected c l) sound opposite found h =
+    let trace' = trace ++ answered hs (call.Close id) reply.Done ∷ [] in
+    let t = forsakes-told hs trace id in
+    let x : Entry = record { id = id; role = Connected c l } in
+    let before : role_at own.entries id.0 ≡ Some (Connected c l) = found-role (is_socket id) own.entries x h.own_table.sole found in
+    let k : IsOpened hs a b n.openings id c = h.own_table.noted id (Connected c l) before in
+    let solid = sound_socket own id c l sound found in
+    let one = told hs trace id in
+    projects-moved limit hs ts a b own (record own { entries = settled (connection_calls.close_fate c) (is_socket id) (closed own.kept) own.entries }) other n.frames n.openings trace trace' id (settle (connection_calls.close_fate c) (closed own.kept) (Connected c l)) refl refl refl
+    (becomes-settled (connection_calls.close_fate c) (is_socket id) (closed own.kept) own.entries x h.own_table.sole found)
+    (λ role is. (subst (λ q. IsNoted hs a b n.openings id q) (kept (is_kept (connection_calls.close_fate c)) role is) (opened-kept hs a b n.openings id c (connection_calls.after_close c own.kept) (keeps-close c own.kept) k), h.own_table.bound id (Connected c l) before))
+    t.1 (λ none may. let bad : None ≡ Some k.opening = sym none ∙ k.at in cc) (told-other hs ts trace (call.Close id) reply.Done opposite)
+    (subst (λ r. EndGoes limit (end_with (presence_in r) one) (end_with (presence_in (settle (connection_calls.close_fate c) (closed own.kept) (Connected c l))) (told hs trace' id))) (sym before)
+    (subst (λ y. EndGoes limit (end_with (Present c) one) (end_with (presence_in (settle (connection_calls.close_fate c) (closed own.kept) (Connected c l))) y)) (sym t.0) (closing limit c l own.kept one solid.sound))) h
+  where
+    kept : (b : Bool) (role : Role) → cond b (Some (Connected (connection_calls.after_close c own.kept) l)) None ≡ Some role → Connected (connection_calls.after_close c own.kept) l ≡ role
+    kept true role e = cc
+    kept false role e = cc
+own-closed limit hs ts a b own other n trace id (Listener local backlog) sound opposite found h =
+    let x : Entry = record { id = id; role = Listener local backlog } in
+    let before : role_at own.entries id.0 ≡ Some (Listener local backlog) = found-role (is_socket id) own.entries x h.own_table.sole found in
+    projects-unopened limit hs ts a b own (record own { entries = settled Removed (is_socket id) (closed own.kept) own.entries }) other n.frames n.openings trace (trace ++ answered hs (call.Close id) reply.Done ∷ []) id refl refl refl
+    (becomes-settled Removed (is_socket id) (closed own.kept) own.entries x h.own_table.sole found) (h.own_table.bound id (Listener local backlog) before) (h.own_table.noted id (Listener local backlog) before)
+    (forsakes-told hs trace id).1 (told-other hs ts trace (call.Close id) reply.Done opposite) h
+own-closed limit hs ts a b own other n trace id (Idle buffers bound) sound opposite found h =
+    let x : Entry = record { id = id; role = Idle buffers bound } in
+    let before : role_at own.entries id.0 ≡ Some (Idle buffers bound) = found-role (is_socket id) own.entries x h.own_table.sole found in
+    projects-unopened limit hs ts a b own (record own { entries = settled Removed (is_socket id) (closed own.kept) own.entries }) other n.frames n.openings trace (trace ++ answered hs (call.Close id) reply.Done ∷ []) id refl refl refl
+    (becomes-settled Removed (is_socket id) (closed own.kept) own.entries x h.own_table.sole found) (h.own_table.bound id (Idle buffers bound) before) (h.own_table.noted id (Idle buffers bound) before)
+    (forsakes-told hs trace id).1 (told-other hs ts trace (call.Close id) reply.Done opposite) h
+
+pub call-forsakes : (limit : ℕ) (hs ts : Side) (a b : Addr) (own other : HostView) (n : NetworkView) (place : ℕ) (trace : List Happening) (id : SocketId) → IsSoundHost own → ts ≡ other_side hs → close_refusal own id ≡ None
+    → Projects limit hs ts a b own other n.frames n.openings trace → CallGoes limit hs ts a b (after_close own id) other n (call.Close id) reply.Done place trace
+call-forsakes limit hs ts a b own other n place trace id sound opposite accepted h =
+    let k = closes-on own id accepted in
+    let e = answered hs (call.Close id) reply.Done in
+    let first = own-closed limit hs ts a b own other n trace id k.role sound opposite k.found h in
+    GoesPlain refl
+    (projects-settled limit hs ts a b (after_socket_closed own id) (after_close own id) other n.frames n.openings (trace ++ e ∷ []) (forsaken_fate id) (forsaken id) refl refl refl refl noted (forsaking limit id)
+    (subst (λ w. Projects limit hs ts a b w other n.frames n.openings (trace ++ e ∷ [])) (sym k.closes) first))
+    (tallies-quiet trace n.openings e (λ s i. refl))
+  where
+    aborts : (i : SocketId) (r : Role) → IsNoted hs a b n.openings i r → IsNoted hs a b n.openings i (aborted r)
+    aborts i (Connected c l) m = opened-kept hs a b n.openings i c (connection_calls.after_abort c) (keeps-abort c) m
+    aborts i (Listener local backlog) m = m
+    aborts i (Idle buffers bound) m = m
+
+    noted : (i : SocketId) (r : Role) → IsNoted hs a b n.openings i r → IsNoted hs a b n.openings i (forsaken id r)
+    noted i r m = by_waiting (waits_at id r)
+      where
+        by_waiting : (test : Bool) → IsNoted hs a b n.openings i (if test then aborted r else r)
+        by_waiting true = aborts i r m
+        by_waiting false = m

@@ -1,0 +1,103 @@
+-- A step of every entry of a table, as a tick is one, is a move of every pairing whose end it changes.
+use Rattle.std.proofs.Common.{◌≡◌, ℕ, ◌&&◌, inl, inr, Bool, true, false, cond, if◌then◌else◌, List, Option, Some, None, refl, sym, ◌∙◌, ap, subst}
+use Rattle.std.specs.List.{find}
+use Rattle.ipv4.specs.declared.addr.Addr.{Addr}
+use Rattle.ipv4.specs.declared.addr.Pair.{Pair}
+use Rattle.tcp_state.specs.declared.connection.Fate.{Fate}
+use Rattle.tcp_state.specs.declared.connection.Fate.TheVariants.{Stays, Removed}
+use Rattle.clock.specs.declared.moment.Moment.{Moment}
+use Rattle.tcp_state.specs.View.{is_at_end, after_stop, after_resend, after_tick}
+use Rattle.wire_sim.specs.declared.event.Side.{Side}
+use Rattle.wire_sim.specs.declared.event.Opening.{Opening}
+use Rattle.wire_sim.specs.declared.event.Happening.{Happening}
+use Rattle.host.specs.declared.entry.SocketId.{SocketId}
+use Rattle.host.specs.declared.role.Role.{Role}
+use Rattle.host.specs.declared.role.Role.TheVariants.{Idle, Listener, Connected}
+use Rattle.host.specs.Entries.{is_kept, all_settled, ticked, tick_fate_of}
+use Rattle.wire_sim.specs.declared.world.bag.Frame.{Frame}
+use Rattle.host.specs.Ticks as host_ticks
+use Rattle.host.specs.HostView.{HostView, later}
+use Rattle.stream_law.specs.Pairing.{Present, Departed, Meets, rests, stops, leaves}
+use Rattle.stream_law.proofs.PairingEndings.{stops-at_end}
+use Rattle.stream_law.proofs.PairingMoves.{same-resend}
+use Rattle.wire_sim.specs.Tallies.{is_opening_of}
+use Rattle.wire_sim.proofs.tables.EntryChanges.{opened-kept}
+use Rattle.wire_sim.proofs.pairing.EndMoves.{pairing, EndGoes, moved, end-stays}
+use Rattle.host.proofs.KeptEnds.{keeps-tick}
+use Rattle.wire_sim.proofs.pairing.WorldAsPairings.{told, Projects, projects-turned}
+use Rattle.wire_sim.proofs.tables.TableById.{Account, role_at, settle, settle_each, role_at-settled, sole-settled, presence_in, end_with, end_of, end_at, IsNoted, MayOpen, IsTable}
+
+-- what is left of an entry
+pub left-behind : (fate : Role → Fate) (g : Role → Role) (o : Option Role) (r : Role) → settle_each fate g o ≡ Some r → (q : Role) × (o ≡ Some q) × (is_kept (fate q) ≡ true) × (g q ≡ r)
+left-behind fate g None r e = cc
+left-behind fate g (Some q) r e = by_fate (is_kept (fate q)) refl e
+  where
+    by_fate : (b : Bool) → is_kept (fate q) ≡ b → cond b (Some (g q)) None ≡ Some r → (p : Role) × (Some q ≡ Some p) × (is_kept (fate p) ≡ true) × (g p ≡ r)
+    by_fate true is e = (q, refl, is, cc)
+    by_fate false is e = cc
+
+-- Each entry takes a step that is moves of its end, if it has one.
+pub projects-settled : (limit : ℕ) (hs ts : Side) (a b : Addr) (own own' other : HostView) (frames : List Frame) (openings : List Opening) (trace : List Happening) (fate : Role → Fate) (g : Role → Role) → own'.addr ≡ own.addr → own'.neighbour ≡ own.neighbour → own'.last_id ≡ own.last_id
+    → own'.entries ≡ all_settled fate g own.entries → ((id : SocketId) (q : Role) → IsNoted hs a b openings id q → IsNoted hs a b openings id (g q))
+    → ((t : Account) (q : Role) → EndGoes limit (end_with (presence_in (Some q)) t) (end_with (presence_in (settle (fate q) g q)) t))
+    → Projects limit hs ts a b own other frames openings trace → Projects limit hs ts a b own' other frames openings trace
+projects-settled limit hs ts a b own own' other frames openings trace fate g addr neighbour last becomes noted goes h =
+    projects-turned limit hs ts a b own own' other frames openings trace trace h (record {
+      addr = addr;
+      neighbour = neighbour;
+      table = subst (λ xs. IsTable hs a b own'.last_id xs openings (told hs trace)) (sym becomes) (subst (λ n. IsTable hs a b n (all_settled fate g own.entries) openings (told hs trace)) (sym last) (record {
+        sole = sole-settled fate g own.entries h.own_table.sole;
+        bound = λ id r at. let was = before id r at in h.own_table.bound id was.0 was.1;
+        noted = λ id r at. let was = before id r at in subst (λ q. IsNoted hs a b openings id q) was.3 (noted id was.0 (h.own_table.noted id was.0 was.1));
+        later = h.own_table.later;
+        silent = λ id none may. h.own_table.silent id none (earlier id may);
+      }));
+      other_told = λ i. refl;
+      meets = λ pair epoch. by_found pair epoch (find (is_opening_of hs pair epoch) openings) refl;
+    })
+  where
+    before : (id : SocketId) (r : Role) → role_at (all_settled fate g own.entries) id.0 ≡ Some r → (q : Role) × (role_at own.entries id.0 ≡ Some q) × (is_kept (fate q) ≡ true) × (g q ≡ r)
+    before id r at = left-behind fate g (role_at own.entries id.0) r (sym (role_at-settled fate g own.entries id.0 (h.own_table.sole id.0)) ∙ at)
+
+    earlier : (id : SocketId) → MayOpen own.last_id (all_settled fate g own.entries) id → MayOpen own.last_id own.entries id
+    earlier id (inl above) = inl above
+    earlier id (inr at) = let was = before id at.0 at.1 in inr (was.0, was.1)
+
+    each : (t : Account) (o : Option Role) → EndGoes limit (end_with (presence_in o) t) (end_with (presence_in (settle_each fate g o)) t)
+    each t None = end-stays limit (end_with Departed t) (end_with Departed t) refl
+    each t (Some q) = goes t q
+
+    by_found : (pair : Pair) (epoch : ℕ) (o : Option Opening) → find (is_opening_of hs pair epoch) openings ≡ o
+        → Meets limit (pairing (end_at hs openings own'.entries (told hs trace) pair epoch) (end_at ts openings other.entries (told ts trace) pair epoch) (h.out pair epoch) (h.arrived pair epoch))
+    by_found pair epoch None at =
+        subst (λ e. Meets limit (pairing e (end_at ts openings other.entries (told ts trace) pair epoch) (h.out pair epoch) (h.arrived pair epoch)))
+        (ap (end_of own.entries (told hs trace)) at ∙ sym (ap (end_of own'.entries (told hs trace)) at)) (h.meets pair epoch)
+    by_found pair epoch (Some o) at =
+        let there = end_at ts openings other.entries (told ts trace) pair epoch in
+        let now : role_at own'.entries o.id.0 ≡ settle_each fate g (role_at own.entries o.id.0) = ap (λ xs. role_at xs o.id.0) becomes ∙ role_at-settled fate g own.entries o.id.0 (h.own_table.sole o.id.0) in
+        subst (λ e. Meets limit (pairing e there (h.out pair epoch) (h.arrived pair epoch))) (sym (ap (end_of own'.entries (told hs trace)) at ∙ ap (λ r. end_with (presence_in r) (told hs trace o.id)) now))
+        (each (told hs trace o.id) (role_at own.entries o.id.0) there (h.out pair epoch) (h.arrived pair epoch)
+        (subst (λ e. Meets limit (pairing e there (h.out pair epoch) (h.arrived pair epoch))) (ap (end_of own.entries (told hs trace)) at) (h.meets pair epoch)))
+
+-- what a tick makes of one end
+role_goes : (limit : ℕ) (now : Moment) (t : Account) (r : Role) → EndGoes limit (end_with (presence_in (Some r)) t) (end_with (presence_in (settle (tick_fate_of now r) (ticked now) r)) t)
+role_goes limit now t (Connected c l) there out arrived = by_end (is_at_end c now) c.released refl refl
+  where
+    by_end : (over left : Bool) → is_at_end c now ≡ over → c.released ≡ left → Meets limit (pairing (end_with (Present c) t) there out arrived)
+        → Meets limit (pairing (end_with (presence_in (cond (is_kept (if over && left then Removed else Stays)) (Some (Connected (if over then after_stop c else after_resend c now) l)) None)) t) there out arrived)
+    by_end true true is was = moved limit (pairing (end_with (Present c) t) there out arrived) (pairing (end_with Departed t) there out arrived) (leaves (pairing (end_with (Present c) t) there out arrived) c t.closed refl (λ e. e))
+    by_end true false is was = moved limit (pairing (end_with (Present c) t) there out arrived) (pairing (end_with (Present (after_stop c)) t) there out arrived) (stops (pairing (end_with (Present c) t) there out arrived) c (after_stop c) t.closed refl (stops-at_end c now is) (λ e. e))
+    by_end false left is was = moved limit (pairing (end_with (Present c) t) there out arrived) (pairing (end_with (Present (after_resend c now)) t) there out arrived) (rests (pairing (end_with (Present c) t) there out arrived) c (after_resend c now) refl (same-resend c now))
+role_goes limit now t (Listener b n) there out arrived = end-stays limit (end_with Departed t) (end_with Departed t) refl there out arrived
+role_goes limit now t (Idle b n) there out arrived = end-stays limit (end_with Departed t) (end_with Departed t) refl there out arrived
+
+pub projects-ticked : (limit : ℕ) (hs ts : Side) (a b : Addr) (own other : HostView) (frames : List Frame) (openings : List Opening) (trace : List Happening) (moment : Moment)
+    → Projects limit hs ts a b own other frames openings trace → Projects limit hs ts a b (host_ticks.after_tick own moment) other frames openings trace
+projects-ticked limit hs ts a b own other frames openings trace moment h =
+    let now = later own moment in
+    projects-settled limit hs ts a b own (host_ticks.after_tick own moment) other frames openings trace (tick_fate_of now) (ticked now) refl refl refl refl (noted now) (role_goes limit now) h
+  where
+    noted : (now : Moment) (id : SocketId) (r : Role) → IsNoted hs a b openings id r → IsNoted hs a b openings id (ticked now r)
+    noted now id (Connected c l) k = opened-kept hs a b openings id c (after_tick c now) (keeps-tick c now) k
+    noted now id (Listener b n) k = k
+    noted now id (Idle b n) k = k

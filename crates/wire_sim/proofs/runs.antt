@@ -1,0 +1,4 @@
+pub mod RunsAreLawful
+pub mod FieldsAreReached
+pub mod RunsAreReached
+pub mod CopyIsSame

@@ -1,0 +1,53 @@
+-- A world's own fields stand for a run.
+use Rattle.std.proofs.Common.{◌≡◌, ℕ, ◌≤◌, ◌^◌, List, [], false, get_or, arith, sym, ap, subst}
+use Rattle.ipv4.specs.declared.addr.Addr.{Addr}
+use Rattle.wire_sim.specs.declared.event.Event.{Event}
+use Rattle.wire_sim.specs.declared.event.Answer.{Answer}
+use Rattle.wire_sim.specs.declared.event.Happening.{Happening}
+use Rattle.ipv4.specs.Addresses.{same_addr}
+use Rattle.wire_sim.specs.Runs.{IsStep, IsReached, begins, goes_on}
+use Rattle.wire_sim.specs.Trace.{StreamLaw}
+use Rattle.wire_sim.specs.WorldRoom.{RoomyWorld}
+use Rattle.wire_sim.specs.WorldView.{NetworkView, WorldView, fresh_network}
+use Rattle.wire_sim.proofs.runs.RunsAreLawful.{orderly, run_lawful}
+
+-- two hosts on which nothing happened
+pub reached-fresh : (limit : ℕ) (a b : Addr) (n : NetworkView) (t : List Happening) → same_addr a b ≡ false → limit ≤ 2 ^ 30 → n ≡ fresh_network a b limit → t ≡ [] → IsReached n.limit (record { network = n; trace = t })
+reached-fresh limit a b n t apart small is_n is_t =
+    subst (λ t. IsReached n.limit (record { network = n; trace = t })) (sym is_t)
+    (subst (λ (m : NetworkView). IsReached m.limit (record { network = m; trace = [] })) (sym is_n) (begins a b apart small))
+
+-- in the limit that they were made with
+pub reached-within : (limit : ℕ) (a b : Addr) (n : NetworkView) (t : List Happening) → n ≡ fresh_network a b limit → IsReached n.limit (record { network = n; trace = t }) → IsReached limit (record { network = n; trace = t })
+reached-within limit a b n t is_n reached = subst (λ l. IsReached l (record { network = n; trace = t })) (ap (λ (m : NetworkView). m.limit) is_n) reached
+
+-- nothing is counted
+pub uncounted : (limit : ℕ) (a b : Addr) (n : NetworkView) (i m : ℕ) → n ≡ fresh_network a b limit → get_or n.written i 0 ≤ m
+uncounted limit a b n i m is = let none : get_or n.written i 0 ≡ 0 = ap (λ (x : NetworkView). get_or x.written i 0) is in omega (arith, none)
+
+-- one event more
+pub reached-next : (old new : WorldView) (happens : Event) (answer : Answer) → IsReached old.network.limit old → IsStep happens answer old new → IsReached new.network.limit new
+reached-next old new happens answer reached step =
+    let run = goes_on old new happens answer reached step in
+    let o = orderly old.network.limit new run in
+    subst (λ l. IsReached l new) (sym o.is_limit) run
+
+-- the same worlds were reached, whatever room they have
+pub seen-is : {w v : RoomyWorld} → w ≡ v → w.seen ≡ v.seen
+seen-is same = ap (λ (x : RoomyWorld). x.seen) same
+
+-- a world by its parts
+pub same-parts : (n m : NetworkView) (t u : List Happening) → n ≡ m → t ≡ u → ◌≡◌ {A = WorldView} (record { network = n; trace = t }) (record { network = m; trace = u })
+same-parts n m t u same_n same_t = cc
+
+-- the same world was reached
+pub reached-again : (w v : WorldView) → v ≡ w → IsReached w.network.limit w → IsReached v.network.limit v
+reached-again w v same reached = subst (λ (x : WorldView). IsReached x.network.limit x) (sym same) reached
+
+-- whatever was reached keeps the law
+pub lawful : (limit : ℕ) (w v : WorldView) → v ≡ w → IsReached limit w → StreamLaw v.trace v.network.openings
+lawful limit w v same reached = subst (λ (x : WorldView). StreamLaw x.trace x.network.openings) (sym same) (run_lawful limit w reached)
+
+-- a step from what is the same world
+pub step_from : (happens : Event) (answer : Answer) (w v new : WorldView) → v ≡ w → IsStep happens answer w new → IsStep happens answer v new
+step_from happens answer w v new same step = subst (λ (x : WorldView). IsStep happens answer x new) (sym same) step

@@ -1,0 +1,7 @@
+pub mod TableById
+pub mod EntryChanges
+pub mod EntryIsMade
+pub mod PairOfPorts
+pub mod CallsOnTable
+pub mod FrameDelivered
+pub mod UnseenRoles

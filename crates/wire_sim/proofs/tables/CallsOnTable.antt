@@ -1,0 +1,376 @@
+-- What a call that was not refused tells of the host's table.
+use Rattle.std.proofs.Common.{◌≡◌, ℕ, zero, suc, ◌+◌, ◌==◌, ◌&&◌, ◌||◌, ◌⊎◌, inl, inr, not, Bool, true, false, cond, if◌then◌else◌, List, [], ◌∷◌, length, take, Option, Some, None, is_some, option_map, Result, Ok, Err, refl, sym, ◌∙◌, ap}
+use Rattle.std.specs.List.{find, list_any}
+use Rattle.std.specs.Option.{option_or}
+use Rattle.std.specs.Cmp.Lexicographic.{same_text}
+use Rattle.std.proofs.lemmas.Bool.{eqb-true}
+use Rattle.ipv4.specs.declared.addr.Addr.{Addr}
+use Rattle.ipv4.specs.declared.addr.Endpoint.{Endpoint}
+use Rattle.ipv4.specs.Addresses.{pair_of, same_addr, is_single_host}
+use Rattle.tcp_state.specs.declared.buffers.Buffers.{Buffers}
+use Rattle.tcp_state.specs.declared.calls.Received.{Received}
+use Rattle.tcp_state.specs.declared.calls.Received.TheVariants.{Octets, EndOfStream}
+use Rattle.tcp_state.specs.declared.calls.Refusal.{Refusal as ConnectionRefusal}
+use Rattle.tcp_state.specs.declared.calls.Refusal.TheVariants as connection_variants
+use Rattle.tcp_state.specs.Calls as connection_calls
+use Rattle.tcp_state.specs.Calls.{unless_pending, send_count, recv_count, after_recv}
+use Rattle.tcp_state.specs.Stream.{send_room}
+use Rattle.tcp_state.specs.View.{View, is_opening, is_write_closed, is_read_closed, opened_actively}
+use Rattle.host.specs.declared.entry.SocketId.{SocketId}
+use Rattle.host.specs.declared.entry.Entry.{Entry}
+use Rattle.host.specs.declared.role.Role.{Role}
+use Rattle.host.specs.declared.role.Role.TheVariants.{Idle, Listener, Connected}
+use Rattle.host.specs.declared.refusal.Refusal.{Refusal}
+use Rattle.host.specs.declared.refusal.Refusal.TheVariants.{EBADF, EINVAL, EADDRINUSE, EADDRNOTAVAIL, EISCONN, ENOTCONN, EALREADY, ENETUNREACH}
+use Rattle.wire_sim.specs.declared.event.Answer.{Answer}
+use Rattle.wire_sim.specs.declared.event.Answer.TheVariants.{Refused}
+use Rattle.host.specs.Ports.{port_after, first_port, first_port-step, first_port-zero, is_free_port}
+use Rattle.host.specs.Entries.{is_pending, has_socket, is_socket, is_bound_at, is_between, connecting, received, write_shut, with_role}
+use Rattle.host.specs.HostView.{HostView, with_socket}
+use Rattle.host.specs.Lists.{change_first}
+use Rattle.host.specs.Calls.{unless_refused, of_connection, sent_answer, received_answer, send_answer, recv_answer, is_pair_held, port_for, reach_refusal, had_connection, open_answer, connect_refusal, counted_port, after_connect, refusal_of, shut_refusal, shutdown_refusal, pair_connected}
+use Rattle.wire_sim.specs.Steps.{Answers, readable_on}
+use Rattle.host.specs.Pairs.{socket_pair}
+use Rattle.wire_sim.proofs.lists.FoundAfterChange.{find-passes}
+use Rattle.wire_sim.proofs.tables.TableById.{entry_with}
+use Rattle.host.proofs.Connected.{after_connect-accepted}
+
+-- Tests.
+
+both_first : (b c : Bool) → (b && c) ≡ true → b ≡ true
+both_first true c e = refl
+both_first false c e = cc
+
+both_second : (b c : Bool) → (b && c) ≡ true → c ≡ true
+both_second true c e = e
+both_second false c e = cc
+
+not_true : (b : Bool) → not b ≡ true → b ≡ false
+not_true true e = cc
+not_true false e = refl
+
+-- where no element passes, none is found
+pub find-not_any : {X : Type 0} (t : X → Bool) (xs : List X) → list_any t xs ≡ false → find t xs ≡ None
+find-not_any {X} t = go
+  where
+    step : (x : X) (a : Bool) (o : Option X) → (a ≡ false → o ≡ None) → (b : Bool) → (b || a) ≡ false → cond b (Some x) o ≡ None
+    step x a o more true e = cc
+    step x a o more false e = more e
+
+    go : (xs : List X) → list_any t xs ≡ false → find t xs ≡ None
+    go [] e = refl
+    go (x ∷ xs) e = step x (list_any t xs) (find t xs) (go xs) (t x) e
+
+-- The entry of a socket.
+
+-- an id that a test finds is that id
+pub socket-id : (id : SocketId) (e : Entry) → is_socket id e ≡ true → e.id ≡ id
+socket-id id e is = ap (λ n. let i : SocketId = record { 0 = n } in i) (eqb-true e.id.0 id.0 (both_first (e.id.0 == id.0) (has_socket e.role) is))
+
+-- a connection that a socket names was not closed by its caller
+pub socket-kept : (xs : List Entry) (id : SocketId) (c : View) (l : Option SocketId) → find (is_socket id) xs ≡ Some (record { id = id; role = Connected c l }) → c.released ≡ false
+socket-kept xs id c l found =
+    neither (is_pending (Connected c l)) c.released (not_true (is_pending (Connected c l) || c.released) (both_second (id.0 == id.0) (has_socket (Connected c l)) (find-passes (is_socket id) xs (record { id = id; role = Connected c l }) found)))
+  where
+    neither : (a b : Bool) → (a || b) ≡ false → b ≡ false
+    neither true b e = cc
+    neither false b e = e
+
+-- the entry that is found for a socket, by its role
+pub found_socket : (xs : List Entry) (id : SocketId) (e : Entry) (r : Role) → find (is_socket id) xs ≡ Some e → e.role ≡ r → find (is_socket id) xs ≡ Some (record { id = id; role = r })
+found_socket xs id e r found is =
+    found ∙ (ap Some (entry_with e r is) ∙ ap (λ i. let x : Entry = record { id = i; role = r } in Some x) (socket-id id e (find-passes (is_socket id) xs e found)))
+
+-- The answer of a call.
+
+-- a value is told and the host becomes the next one, or a refusal is told and the host stays
+pub outcome : {T : Type 0} (r : Result T Refusal) (told : T → Answer) (next old : HostView) (answer : Answer) (new : HostView) → Answers r told next old answer new
+    → ((v : T) × (r ≡ Ok v) × (answer ≡ told v) × (new ≡ next)) ⊎ ((e : Refusal) × (r ≡ Err e) × (answer ≡ Refused e) × (new ≡ old))
+outcome (Ok v) told next old answer new is = inl (v, refl, is.0, is.1)
+outcome (Err e) told next old answer new is = inr (e, refl, is.0, is.1)
+
+-- where a call is answered, nothing refuses it
+pub not_refused : (o : Option Refusal) (v : Unit {0}) → unless_refused o tt ≡ Ok v → o ≡ None
+not_refused None v e = refl
+not_refused (Some refusal) v e = cc
+
+-- Send.
+
+-- The socket is a connection that is open, and this many of the octets are taken.
+pub record SendsOn (h : HostView) (id : SocketId) (octets : List ℕ) (count : ℕ) : Type 0 where
+  pub c : View
+  pub l : Option SocketId
+  pub found : find (is_socket id) h.entries ≡ Some (record { id = id; role = Connected c l })
+  pub untold : is_some c.pending_error ≡ false
+  pub opened : is_opening c.state ≡ false
+  pub unclosed : is_write_closed c.state ≡ false
+  pub takes : count ≡ send_count c octets
+
+-- a send that is answered with a count is one on an open connection
+pub sends-on : (h : HostView) (id : SocketId) (octets : List ℕ) (count : ℕ) → send_answer h id octets ≡ Ok count → SendsOn h id octets count
+sends-on h id octets count answered = by_entry (find (is_socket id) h.entries) refl
+  where
+    by_tests : (c : View) (l : Option SocketId) → find (is_socket id) h.entries ≡ Some (record { id = id; role = Connected c l }) → (error : Option ConnectionRefusal) (b closed full : Bool) → c.pending_error ≡ error → is_opening c.state ≡ b → is_write_closed c.state ≡ closed
+        → of_connection (unless_pending error (if b then Err connection_variants.EAGAIN else if closed then Err connection_variants.EPIPE else if full then Err connection_variants.EAGAIN else Ok (send_count c octets))) ≡ Ok count → SendsOn h id octets count
+    by_tests c l at (Some error) opening closed full told is was e = cc
+    by_tests c l at None true closed full told is was e = cc
+    by_tests c l at None false true full told is was e = cc
+    by_tests c l at None false false true told is was e = cc
+    by_tests c l at None false false false told is was e = record { c = c; l = l; found = at; untold = ap is_some told; opened = is; unclosed = was; takes = cc }
+
+    by_role : (e : Entry) → find (is_socket id) h.entries ≡ Some e → (r : Role) → e.role ≡ r → sent_answer r octets ≡ Ok count → SendsOn h id octets count
+    by_role e at (Idle buffers bound) is a = cc
+    by_role e at (Listener bound backlog) is a = cc
+    by_role e at (Connected c l) is a = by_tests c l (found_socket h.entries id e (Connected c l) at is) c.pending_error (is_opening c.state) (is_write_closed c.state) ((send_room c.sending == 0) && not (length octets == 0)) refl refl refl a
+
+    by_entry : (o : Option Entry) → find (is_socket id) h.entries ≡ o → SendsOn h id octets count
+    by_entry None at = let bad : Err EBADF ≡ Ok count = sym (rw at) ∙ answered in cc
+    by_entry (Some e) at =
+        let told : send_answer h id octets ≡ sent_answer e.role octets = rw at in
+        by_role e at e.role refl (sym told ∙ answered)
+
+-- Receive.
+
+-- The socket is a connection that answers so, and the buffer has room.
+pub record ReadsOn (h : HostView) (id : SocketId) (len : ℕ) (got : Received) : Type 0 where
+  pub c : View
+  pub l : Option SocketId
+  pub found : find (is_socket id) h.entries ≡ Some (record { id = id; role = Connected c l })
+  pub some : (len == 0) ≡ false
+  pub told : connection_calls.recv_answer c len ≡ Ok got
+
+-- octets are answered of an open connection that has some, and then as many as the buffer holds
+pub octets_told : (c : View) (len count : ℕ) → connection_calls.recv_answer c len ≡ Ok (Octets count) → (is_some c.pending_error ≡ false) × (is_opening c.state ≡ false) × (count ≡ recv_count c len)
+octets_told c len count = by_tests c.pending_error (is_opening c.state) (length c.receiving.readable == 0) (is_read_closed c.state) refl refl
+  where
+    again : Result Received ConnectionRefusal
+    again = Err connection_variants.EAGAIN
+
+    ended : Result Received ConnectionRefusal
+    ended = Ok EndOfStream
+
+    by_tests : (error : Option ConnectionRefusal) (opening none seen : Bool) → c.pending_error ≡ error → is_opening c.state ≡ opening
+        → unless_pending error (if opening then again else if not none then Ok (Octets (recv_count c len)) else if seen then ended else again) ≡ Ok (Octets count)
+        → (is_some c.pending_error ≡ false) × (is_opening c.state ≡ false) × (count ≡ recv_count c len)
+    by_tests (Some error) opening none seen told is e = cc
+    by_tests None true none seen told is e = let bad : again ≡ Ok (Octets count) = e in cc
+    by_tests None false false seen told is e = let same : recv_count c len ≡ count = cc in (ap is_some told, is, sym same)
+    by_tests None false true true told is e = let bad : ended ≡ Ok (Octets count) = e in cc
+    by_tests None false true false told is e = let bad : again ≡ Ok (Octets count) = e in cc
+
+-- where the end is told nothing is readable, so that nothing is read
+pub end_told : (c : View) (len : ℕ) → connection_calls.recv_answer c len ≡ Ok EndOfStream → after_recv c len ≡ c
+end_told c len = by_tests c.pending_error (is_opening c.state) (length c.receiving.readable == 0) (is_read_closed c.state) refl refl refl
+  where
+    again : Result Received ConnectionRefusal
+    again = Err connection_variants.EAGAIN
+
+    ended : Result Received ConnectionRefusal
+    ended = Ok EndOfStream
+
+    by_tests : (error : Option ConnectionRefusal) (opening none seen : Bool) → c.pending_error ≡ error → is_opening c.state ≡ opening → (length c.receiving.readable == 0) ≡ none
+        → unless_pending error (if opening then again else if not none then Ok (Octets (recv_count c len)) else if seen then ended else again) ≡ Ok EndOfStream → after_recv c len ≡ c
+    by_tests (Some error) opening none seen told is empty e = cc
+    by_tests None true none seen told is empty e = let bad : again ≡ Ok EndOfStream = e in cc
+    by_tests None false false seen told is empty e = let bad : Ok (Octets (recv_count c len)) ≡ ended = e in cc
+    by_tests None false true seen told is empty e = rw (told, is, empty)
+
+-- a receive that is answered is one on a connection
+pub reads-on : (h : HostView) (id : SocketId) (len : ℕ) (got : Received) → recv_answer h id len ≡ Ok got → ReadsOn h id len got
+reads-on h id len got answered = by_entry (find (is_socket id) h.entries) refl
+  where
+    by_tests : (c : View) (l : Option SocketId) → find (is_socket id) h.entries ≡ Some (record { id = id; role = Connected c l }) → (none : Bool) (r : Result Received ConnectionRefusal)
+        → (len == 0) ≡ none → connection_calls.recv_answer c len ≡ r → cond none (Err EINVAL) (of_connection r) ≡ Ok got
+        → ReadsOn h id len got
+    by_tests c l at true r room is e = cc
+    by_tests c l at false (Ok x) room is e = let same : x ≡ got = cc in record { c = c; l = l; found = at; some = room; told = is ∙ ap Ok same }
+    by_tests c l at false (Err x) room is e = cc
+
+    of_idle : (none : Bool) → cond none (Err EINVAL) (Err ENOTCONN) ≡ Ok got → ⊥
+    of_idle true e = cc
+    of_idle false e = cc
+
+    by_role : (e : Entry) → find (is_socket id) h.entries ≡ Some e → (r : Role) → e.role ≡ r → received_answer r len ≡ Ok got → ReadsOn h id len got
+    by_role e at (Idle buffers bound) is a = absurd (of_idle (len == 0) a)
+    by_role e at (Listener bound backlog) is a = cc
+    by_role e at (Connected c l) is a = by_tests c l (found_socket h.entries id e (Connected c l) at is) (len == 0) (connection_calls.recv_answer c len) refl refl a
+
+    by_entry : (o : Option Entry) → find (is_socket id) h.entries ≡ o → ReadsOn h id len got
+    by_entry None at = let bad : Err EBADF ≡ Ok got = sym (rw at) ∙ answered in cc
+    by_entry (Some e) at =
+        let told : recv_answer h id len ≡ received_answer e.role len = rw at in
+        by_role e at e.role refl (sym told ∙ answered)
+
+-- a receive into a buffer with room is one of the connection
+pub received-connected : (c : View) (l : Option SocketId) (len : ℕ) → (len == 0) ≡ false → received len (Connected c l) ≡ Connected (after_recv c len) l
+received-connected c l len room = ap (λ b. Connected (cond b c (after_recv c len)) l) room
+
+-- what is readable on a connected socket is what its connection has
+pub readable_on-connected : (h : HostView) (id : SocketId) (count : ℕ) (c : View) (l : Option SocketId) → find (is_socket id) h.entries ≡ Some (record { id = id; role = Connected c l })
+    → readable_on h id count ≡ take count c.receiving.readable
+readable_on-connected h id count c l found = rw found
+
+-- Connect.
+
+-- a port that is first to pass does pass
+pub first_port-passes : (test : ℕ → Bool) (last steps n port : ℕ) → first_port test last steps n ≡ Some port → test port ≡ true
+first_port-passes test last steps zero port e = let bad : None ≡ Some port = sym (first_port-zero test last steps) ∙ e in cc
+first_port-passes test last steps (suc n) port e = step (test (port_after last steps)) refl (first_port-passes test last (steps + 1) n port) (sym (first_port-step test last steps n) ∙ e)
+  where
+    step : (b : Bool) → test (port_after last steps) ≡ b → (first_port test last (steps + 1) n ≡ Some port → test port ≡ true)
+        → cond b (Some (port_after last steps)) (first_port test last (steps + 1) n) ≡ Some port → test port ≡ true
+    step true is more e = let same : port_after last steps ≡ port = cc in ap test (sym same) ∙ is
+    step false is more e = more e
+
+-- The socket is idle, the peer is the neighbour, and no connection goes to it from the port that is given.
+pub record ConnectsOn (h : HostView) (id : SocketId) (peer : Endpoint) : Type 0 where
+  pub b : Buffers
+  pub bound : Option Endpoint
+  pub port : ℕ
+  pub found : find (is_socket id) h.entries ≡ Some (record { id = id; role = Idle b bound })
+  pub reached : peer.addr ≡ h.neighbour
+  pub free : find (is_between (record { addr = h.addr; port = port }) peer) h.entries ≡ None
+  pub foreseen : pair_connected h id peer ≡ Some (pair_of (record { addr = h.addr; port = port }) peer)
+  pub becomes : (isn : ℕ) → after_connect h isn id peer ≡ with_socket (record h { last_port = counted_port h bound port }) id (connecting (record { addr = h.addr; port = port }) peer isn)
+
+-- no connection goes to the peer from the port that is given
+pub port_for-free : (h : HostView) (bound : Option Endpoint) (peer : Endpoint) (port : ℕ) → port_for h bound peer ≡ Some port
+    → find (is_between (record { addr = h.addr; port = port }) peer) h.entries ≡ None
+port_for-free h None peer port given =
+    let test = is_between (record { addr = h.addr; port = port }) peer in
+    let passes = first_port-passes (is_free_port h.entries h.addr peer) h.last_port 0 16384 port given in
+    find-not_any test h.entries (not_true (list_any test h.entries) (both_second (not (list_any (is_bound_at port) h.entries)) (not (list_any test h.entries)) passes))
+port_for-free h (Some bound) peer port given = step (is_pair_held h bound.port peer) refl given
+  where
+    step : (held : Bool) → is_pair_held h bound.port peer ≡ held → cond held None (Some bound.port) ≡ Some port → find (is_between (record { addr = h.addr; port = port }) peer) h.entries ≡ None
+    step true is e = cc
+    step false is e =
+        let same : bound.port ≡ port = cc in
+        ap (λ p. find (is_between (record { addr = h.addr; port = p }) peer) h.entries) (sym same) ∙ find-not_any (is_between (record { addr = h.addr; port = bound.port }) peer) h.entries is
+
+-- a peer that may be reached is the neighbour
+pub reached-neighbour : (h : HostView) (peer : Endpoint) → reach_refusal h peer ≡ None → peer.addr ≡ h.neighbour
+reached-neighbour h peer = step ((peer.port == 0) || not (is_single_host peer.addr) || same_addr peer.addr h.addr) (same_addr peer.addr h.neighbour) refl
+  where
+    step : (bad near : Bool) → same_addr peer.addr h.neighbour ≡ near
+        → cond bad (Some EADDRNOTAVAIL) (cond near None (Some ENETUNREACH)) ≡ None → peer.addr ≡ h.neighbour
+    step true near is e = cc
+    step false true is e = ap (λ xs. let a : Addr = record { 0 = xs } in a) (same_text peer.addr.0 h.neighbour.0 (sym is))
+    step false false is e = cc
+
+-- a role that may open a connection is an idle socket
+pub opens_idle : (r : Role) (bound : Option Endpoint) → open_answer r ≡ Ok bound → (b : Buffers) × (r ≡ Idle b bound)
+opens_idle (Idle buffers at) bound e = let same : at ≡ bound = cc in (buffers, ap (Idle buffers) same)
+opens_idle (Listener local backlog) bound e = cc
+opens_idle (Connected c l) bound e = absurd (by_error c.pending_error e)
+  where
+    step : (opening : Bool) → cond opening (Err EALREADY) (Err EISCONN) ≡ Ok bound → ⊥
+    step true e = cc
+    step false e = cc
+
+    by_error : (error : Option ConnectionRefusal) → had_connection c.state error ≡ Ok bound → ⊥
+    by_error (Some x) e = cc
+    by_error None e = step (is_opening c.state) e
+
+-- a connect that is not refused is one of an idle socket, to the neighbour
+pub connects-on : (h : HostView) (id : SocketId) (peer : Endpoint) → connect_refusal h id peer ≡ None → ConnectsOn h id peer
+connects-on h id peer none = by_entry (find (is_socket id) h.entries) refl
+  where
+    by_port : (e : Entry) (bound : Option Endpoint) → find (is_socket id) h.entries ≡ Some e → open_answer e.role ≡ Ok bound → reach_refusal h peer ≡ None
+        → (o : Option ℕ) → port_for h bound peer ≡ o → ConnectsOn h id peer
+    by_port e bound at may near None given =
+        let held : connect_refusal h id peer ≡ Some EADDRINUSE = rw (at, may, near, given) in
+        cc
+    by_port e bound at may near (Some port) given =
+        let idle = opens_idle e.role bound may in
+        record {
+          b = idle.0;
+          bound = bound;
+          port = port;
+          found = found_socket h.entries id e (Idle idle.0 bound) at idle.1;
+          reached = reached-neighbour h peer near;
+          free = port_for-free h bound peer port given;
+          foreseen = rw (at, may, near, given);
+          becomes = λ isn. after_connect-accepted h isn id peer e bound port at may near given;
+        }
+
+    by_reach : (e : Entry) (bound : Option Endpoint) → find (is_socket id) h.entries ≡ Some e → open_answer e.role ≡ Ok bound → (o : Option Refusal) → reach_refusal h peer ≡ o
+        → ConnectsOn h id peer
+    by_reach e bound at may (Some refusal) far =
+        let refused : connect_refusal h id peer ≡ Some refusal = rw (at, may, far) in
+        cc
+    by_reach e bound at may None near = by_port e bound at may near (port_for h bound peer) refl
+
+    by_open : (e : Entry) → find (is_socket id) h.entries ≡ Some e → (o : Result (Option Endpoint) Refusal) → open_answer e.role ≡ o → ConnectsOn h id peer
+    by_open e at (Err refusal) may =
+        let refused : connect_refusal h id peer ≡ Some refusal = rw (at, may) in
+        cc
+    by_open e at (Ok bound) may = by_reach e bound at may (reach_refusal h peer) refl
+
+    by_entry : (o : Option Entry) → find (is_socket id) h.entries ≡ o → ConnectsOn h id peer
+    by_entry None at =
+        let refused : connect_refusal h id peer ≡ Some EBADF = rw at in
+        cc
+    by_entry (Some e) at = by_open e at (open_answer e.role) refl
+
+-- The socket's pair afterwards.
+
+-- the pair of a connected socket is that of its connection
+pub socket_pair-connected : (h : HostView) (id : SocketId) (c : View) (l : Option SocketId) → find (is_socket id) h.entries ≡ Some (record { id = id; role = Connected c l })
+    → socket_pair h id ≡ Some (pair_of c.local c.peer)
+socket_pair-connected h id c l found = rw found
+
+-- what was found is found changed where it passes still
+pub found-itself : {X : Type 0} (t : X → Bool) (f : X → X) (xs : List X) (x : X) → find t xs ≡ Some x → t (f x) ≡ true → find t (change_first t f xs) ≡ Some (f x)
+found-itself {X} t f xs x = go xs
+  where
+    head : (y : X) (o : Option X) → y ≡ x → t (f x) ≡ true → cond (t (f y)) (Some (f y)) o ≡ Some (f x)
+    head y o same is = ap (λ b. cond b (Some (f y)) o) (ap (λ z. t (f z)) same ∙ is) ∙ ap (λ z. Some (f z)) same
+
+    step : (y : X) (ys : List X) → (find t ys ≡ Some x → find t (change_first t f ys) ≡ Some (f x)) → (b : Bool) → t y ≡ b → cond b (Some y) (find t ys) ≡ Some x → t (f x) ≡ true
+        → find t (cond b (f y ∷ ys) (y ∷ change_first t f ys)) ≡ Some (f x)
+    step y ys more true is e passes = let same : y ≡ x = cc in head y (find t ys) same passes
+    step y ys more false is e passes = ap (λ b. cond b (Some y) (find t (change_first t f ys))) is ∙ more e
+
+    go : (ys : List X) → find t ys ≡ Some x → t (f x) ≡ true → find t (change_first t f ys) ≡ Some (f x)
+    go [] e passes = cc
+    go (y ∷ ys) e passes = step y ys (λ e. go ys e passes) (t y) refl e passes
+
+-- the socket that a connect was for is a connection in SYN-SENT
+pub found-connecting : (xs : List Entry) (id : SocketId) (b : Buffers) (bound : Option Endpoint) (local peer : Endpoint) (isn : ℕ)
+    → find (is_socket id) xs ≡ Some (record { id = id; role = Idle b bound })
+    → find (is_socket id) (change_first (is_socket id) (with_role (connecting local peer isn)) xs) ≡ Some (record { id = id; role = Connected (opened_actively local peer isn) None })
+found-connecting xs id b bound local peer isn found = found-itself (is_socket id) (with_role (connecting local peer isn)) xs x found (find-passes (is_socket id) xs x found)
+  where
+    x : Entry
+    x = record { id = id; role = Idle b bound }
+
+-- Shutdown.
+
+-- The socket is a connection past its opening that tells no error, and its side is closed.
+pub record ShutsOn (h : HostView) (id : SocketId) : Type 0 where
+  pub c : View
+  pub l : Option SocketId
+  pub found : find (is_socket id) h.entries ≡ Some (record { id = id; role = Connected c l })
+  pub opened : is_opening c.state ≡ false
+  pub shuts : write_shut (Connected c l) ≡ Connected (connection_calls.after_shutdown c) l
+
+pub shuts-on : (h : HostView) (id : SocketId) → shutdown_refusal h id ≡ None → ShutsOn h id
+shuts-on h id none = by_entry (find (is_socket id) h.entries) refl
+  where
+    by_tests : (c : View) (l : Option SocketId) → find (is_socket id) h.entries ≡ Some (record { id = id; role = Connected c l }) → (error : Option ConnectionRefusal) (opening : Bool) → c.pending_error ≡ error → is_opening c.state ≡ opening
+        → option_map refusal_of (option_or error (if opening then Some connection_variants.ENOTCONN else None)) ≡ None → ShutsOn h id
+    by_tests c l at (Some error) opening told is e = cc
+    by_tests c l at None true told is e = cc
+    by_tests c l at None false told is e = record { c = c; l = l; found = at; opened = is; shuts = rw (told, is) }
+
+    by_role : (e : Entry) → find (is_socket id) h.entries ≡ Some e → (r : Role) → e.role ≡ r → shut_refusal r ≡ None → ShutsOn h id
+    by_role e at (Idle buffers bound) is a = cc
+    by_role e at (Listener bound backlog) is a = cc
+    by_role e at (Connected c l) is a = by_tests c l (found_socket h.entries id e (Connected c l) at is) c.pending_error (is_opening c.state) refl refl a
+
+    by_entry : (o : Option Entry) → find (is_socket id) h.entries ≡ o → ShutsOn h id
+    by_entry None at = let refused : shutdown_refusal h id ≡ Some EBADF = rw at in cc
+    by_entry (Some e) at =
+        let told : shutdown_refusal h id ≡ shut_refusal e.role = rw at in
+        by_role e at e.role refl (sym told ∙ none)

@@ -1,0 +1,173 @@
+-- The pair of two ports of the two hosts.
+use Rattle.std.proofs.Common.{◌≡◌, ℕ, ◌==◌, ◌&&◌, ◌||◌, not, Bool, true, false, cond, List, Option, Some, None, option_map, refl, sym, ◌∙◌, ap}
+use Rattle.std.specs.List.{find}
+use Rattle.std.specs.Ordering.{is_le}
+use Rattle.std.specs.Cmp.Lexicographic.{same_text}
+use Rattle.std.proofs.lemmas.Bool.{eqb-true, and_parts, and_from, and_right, false_from_ne_true}
+use Rattle.ipv4.specs.declared.addr.Addr.{Addr}
+use Rattle.ipv4.specs.declared.addr.Endpoint.{Endpoint}
+use Rattle.ipv4.specs.declared.addr.Pair.{Pair}
+use Rattle.ipv4.specs.Addresses.{endpoint_cmp, pair_of, same_addr, same_end}
+use Rattle.ipv4.proofs.Pairs.{pair_of-swapped}
+use Rattle.host.specs.declared.entry.SocketId.{SocketId}
+use Rattle.host.specs.declared.entry.Entry.{Entry}
+use Rattle.host.specs.declared.role.Role.{Role}
+use Rattle.host.specs.declared.role.Role.TheVariants.{Idle, Listener, Connected}
+use Rattle.tcp_state.specs.View.{View, is_closed}
+use Rattle.host.specs.Entries.{is_live_between, is_between, joins, is_of_pair}
+use Rattle.host.specs.HostView.{HostView, holder_id}
+use Rattle.wire_sim.specs.Tallies.{same_pair}
+use Rattle.wire_sim.proofs.lists.FoundAfterChange.{find-passes}
+use Rattle.wire_sim.proofs.tables.TableById.{AreSole, role_at, found-role, none-role, eqb-same, same_addr-same}
+
+-- the pair of a port of one host and a port of the other
+abbrev pub pair_at : Addr → Addr → ℕ → ℕ → Pair
+pair_at own other p q = pair_of (record { addr = own; port = p }) (record { addr = other; port = q })
+
+-- either host may be named first
+pub pair_at-swapped : (own other : Addr) (p q : ℕ) → pair_at own other p q ≡ pair_at other own q p
+pair_at-swapped own other p q = pair_of-swapped (record { addr = own; port = p }) (record { addr = other; port = q })
+
+-- Tests of addresses, endpoints and pairs.
+
+same_addr-true : (a b : Addr) → same_addr a b ≡ true → a ≡ b
+same_addr-true a b e = ap (λ xs. let x : Addr = record { 0 = xs } in x) (same_text a.0 b.0 (sym e))
+
+-- the test of two addresses is symmetric
+pub same_addr-other : (a b : Addr) → same_addr a b ≡ false → same_addr b a ≡ false
+same_addr-other a b other = false_from_ne_true (same_addr b a)
+    (λ e. let bad : true ≡ false = sym (same_addr-same a b (sym (same_addr-true b a e))) ∙ other in cc)
+
+pub same_end-same : (a : Endpoint) → same_end a a ≡ true
+same_end-same a = and_from (same_addr a.addr a.addr) (a.port == a.port) (same_addr-same a.addr a.addr refl) (eqb-same a.port)
+
+pub same_end-true : (a b : Endpoint) → same_end a b ≡ true → a ≡ b
+same_end-true a b e =
+    let parts = and_parts (same_addr a.addr b.addr) (a.port == b.port) e in
+    let addr : a.addr ≡ b.addr = same_addr-true a.addr b.addr parts.0 in
+    let port : a.port ≡ b.port = eqb-true a.port b.port parts.1 in
+    ap (λ x. let y : Endpoint = record { addr = x; port = a.port } in y) addr ∙ ap (λ n. let y : Endpoint = record { addr = b.addr; port = n } in y) port
+
+-- a pair is the same as itself ..
+pub same_pair-same : (pair : Pair) → same_pair pair pair ≡ true
+same_pair-same pair = and_from (same_end pair.first pair.first) (same_end pair.second pair.second) (same_end-same pair.first) (same_end-same pair.second)
+
+-- .. and as no other
+pub same_pair-true : (a b : Pair) → same_pair a b ≡ true → a ≡ b
+same_pair-true a b e =
+    let parts = and_parts (same_end a.first b.first) (same_end a.second b.second) e in
+    let first : a.first ≡ b.first = same_end-true a.first b.first parts.0 in
+    let second : a.second ≡ b.second = same_end-true a.second b.second parts.1 in
+    ap (λ x. let y : Pair = record { first = x; second = a.second } in y) first ∙ ap (λ x. let y : Pair = record { first = b.first; second = x } in y) second
+
+-- a pair of two different hosts names its ports
+pub pair_at-injective : (own other : Addr) (p q p' q' : ℕ) → same_addr own other ≡ false → pair_at own other p q ≡ pair_at own other p' q' → (p ≡ p') × (q ≡ q')
+pair_at-injective own other p q p' q' apart = step (is_le (endpoint_cmp (here p) (there q))) (is_le (endpoint_cmp (here p') (there q')))
+  where
+    here : ℕ → Endpoint
+    here n = record { addr = own; port = n }
+
+    there : ℕ → Endpoint
+    there n = record { addr = other; port = n }
+
+    mixed : (m n : ℕ) → here m ≡ there n → (p ≡ p') × (q ≡ q')
+    mixed m n same = let bad : true ≡ false = sym (same_addr-same own other (ap (λ x. x.addr) same)) ∙ apart in cc
+
+    step : (b c : Bool)
+        → ◌≡◌ {A = Pair} (cond b (record { first = here p; second = there q }) (record { first = there q; second = here p }))
+        (cond c (record { first = here p'; second = there q' }) (record { first = there q'; second = here p' }))
+        → (p ≡ p') × (q ≡ q')
+    step true true e = (ap (λ x. x.first.port) e, ap (λ x. x.second.port) e)
+    step true false e = mixed p q' (ap (λ x. x.first) e)
+    step false true e = mixed p' q (sym (ap (λ x. x.first) e))
+    step false false e = (ap (λ x. x.second.port) e, ap (λ x. x.first.port) e)
+
+-- Who holds a pair.
+
+-- a connection that is not CLOSED is one of its pair
+pub joins-own : (c : View) (l : Option SocketId) → is_closed c.state ≡ false → joins (pair_of c.local c.peer) (Connected c l) ≡ true
+joins-own c l live = step (is_le (endpoint_cmp c.local c.peer))
+  where
+    own : is_live_between c.local c.peer (Connected c l) ≡ true
+    own = and_from (not (is_closed c.state)) (same_end c.local c.local && same_end c.peer c.peer) (ap not live) (and_from (same_end c.local c.local) (same_end c.peer c.peer) (same_end-same c.local) (same_end-same c.peer))
+
+    second : (b d : Bool) → d ≡ true → (b || d) ≡ true
+    second true d e = refl
+    second false d e = e
+
+    step : (b : Bool) → joins (cond b (record { first = c.local; second = c.peer }) (record { first = c.peer; second = c.local })) (Connected c l) ≡ true
+    step true = ap (λ b. b || is_live_between c.peer c.local (Connected c l)) own
+    step false = second (is_live_between c.peer c.local (Connected c l)) (is_live_between c.local c.peer (Connected c l)) own
+
+-- a role with a connection from our address to the neighbour's
+abbrev pub IsOurs : Addr → Addr → Role → Type 0
+IsOurs own other (Connected c listener) = (c.local.addr ≡ own) × (c.peer.addr ≡ other)
+IsOurs own other (Listener local backlog) = Unit {0}
+IsOurs own other (Idle buffers bound) = Unit {0}
+
+-- a connection of ours lies not from the neighbour to us
+not_reversed : (own other : Addr) (p q : ℕ) (r : Role) → same_addr own other ≡ false → IsOurs own other r
+    → is_live_between (record { addr = other; port = q }) (record { addr = own; port = p }) r ≡ false
+not_reversed own other p q (Connected c l) apart k =
+    let local : same_addr c.local.addr other ≡ false = ap (λ a. same_addr a other) k.0 ∙ apart in
+    and_right (not (is_closed c.state)) ((same_addr c.local.addr other && (c.local.port == q)) && (same_addr c.peer.addr own && (c.peer.port == p)))
+    (ap (λ b. (b && (c.local.port == q)) && (same_addr c.peer.addr own && (c.peer.port == p))) local)
+not_reversed own other p q (Listener local backlog) apart k = refl
+not_reversed own other p q (Idle buffers bound) apart k = refl
+
+-- a role of ours is of the pair just where it lies between the two ends
+pub joins-between : (own other : Addr) (p q : ℕ) (r : Role) → same_addr own other ≡ false → IsOurs own other r
+    → joins (pair_at own other p q) r ≡ is_live_between (record { addr = own; port = p }) (record { addr = other; port = q }) r
+joins-between own other p q r apart ours = step (is_le (endpoint_cmp here there)) (is_live_between here there r) refl
+  where
+    here : Endpoint
+    here = record { addr = own; port = p }
+
+    there : Endpoint
+    there = record { addr = other; port = q }
+
+    wrong : is_live_between there here r ≡ false
+    wrong = not_reversed own other p q r apart ours
+
+    step : (b c : Bool) → is_live_between here there r ≡ c → joins (cond b (record { first = here; second = there }) (record { first = there; second = here })) r ≡ c
+    step true true is = ap (λ x. x || is_live_between there here r) is
+    step true false is = ap (λ x. x || is_live_between there here r) is ∙ wrong
+    step false c is = ap (λ x. x || is_live_between here there r) wrong ∙ is
+
+-- where none lies between the two ends, none holds their pair
+pub unheld-between : (own other : Addr) (p q : ℕ) (xs : List Entry) → same_addr own other ≡ false → AreSole xs → ((i : ℕ) (r : Role) → role_at xs i ≡ Some r → IsOurs own other r)
+    → find (is_between (record { addr = own; port = p }) (record { addr = other; port = q })) xs ≡ None → find (is_of_pair (pair_at own other p q)) xs ≡ None
+unheld-between own other p q xs apart sole ours none = decide (find (is_of_pair (pair_at own other p q)) xs) refl
+  where
+    here : Endpoint
+    here = record { addr = own; port = p }
+
+    there : Endpoint
+    there = record { addr = other; port = q }
+
+    decide : (o : Option Entry) → find (is_of_pair (pair_at own other p q)) xs ≡ o → o ≡ None
+    decide None at = refl
+    decide (Some e) at =
+        let role = found-role (is_of_pair (pair_at own other p q)) xs e sole at in
+        let between = joins-between own other p q e.role apart (ours e.id.0 e.role role) in
+        let passes = find-passes (is_of_pair (pair_at own other p q)) xs e at in
+        let bad : true ≡ false = sym passes ∙ (between ∙ none-role (is_live_between here there) xs e.id.0 e.role none role) in
+        cc
+
+-- where none holds a pair, each of its connections is CLOSED
+pub unheld-closed : (xs : List Entry) (pair : Pair) (i : ℕ) (c : View) (l : Option SocketId) → find (is_of_pair pair) xs ≡ None → role_at xs i ≡ Some (Connected c l) → pair_of c.local c.peer ≡ pair → is_closed c.state ≡ true
+unheld-closed xs pair i c l none at same = decide (is_closed c.state) refl
+  where
+    decide : (b : Bool) → is_closed c.state ≡ b → b ≡ true
+    decide true is = refl
+    decide false is =
+        let bad : true ≡ false = sym (joins-own c l is) ∙ (ap (λ p. joins p (Connected c l)) same ∙ none-role (joins pair) xs i (Connected c l) none at) in
+        cc
+
+-- a host without a holder of a pair
+pub unheld : (h : HostView) (pair : Pair) → holder_id h pair ≡ None → find (is_of_pair pair) h.entries ≡ None
+unheld h pair = decide (find (is_of_pair pair) h.entries)
+  where
+    decide : (o : Option Entry) → option_map (λ (e : Entry). e.id) o ≡ None → o ≡ None
+    decide None e = refl
+    decide (Some x) e = cc

@@ -1,0 +1,2 @@
+pub mod TraceAndOneMore
+pub mod AccountAndOneMore
