@@ -14,7 +14,7 @@ pub enum TextFault {
     /// The line with this number, counted from 1 over all lines, is the first that is bad.
     #[error("line {0}")]
     Line(usize),
-    /// The text has more octets than it may have.
+    /// The script has more octets than one may have.
     #[error("too long")]
     TooLong,
     /// The text isn't pairs of hexadecimal digits and white space.
