@@ -80,7 +80,7 @@ aborted v = record (after_stop v) { released = true; owes_reset = true }
 abbrev pub after_abort : View → View
 after_abort v = if is_closed v.state then v else aborted v
 
--- what is CLOSED already is gone at once
+-- what is CLOSED already is taken out at once
 abbrev pub abort_fate : View → Fate
 abort_fate v = if is_closed v.state then Removed else Stays
 

@@ -19,8 +19,8 @@ use tcp_segment::{Seq, TcpView};
 pub enum Fate {
     /// The connection keeps its place.
     Stays,
-    /// The connection is gone: one that a listener opened and that was not established (RFC 9293 section 3.10.7.4), or one that its
-    /// caller closed and that is over.
+    /// The connection is taken out of the table: one that a listener opened and that was not established (RFC 9293 section
+    /// 3.10.7.4), or one that its caller closed and that is over.
     Removed,
     /// The connection keeps its place and is as it was. The segment is answered by a reset at its acknowledgement (RFC 9293 sections
     /// 3.10.7.3 and 3.10.7.4).
