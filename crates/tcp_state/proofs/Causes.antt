@@ -10,7 +10,7 @@ use Rattle.tcp_state.specs.declared.state.State.TheVariants.{Closed, Established
 use Rattle.tcp_state.specs.Numbers.{is_before}
 use Rattle.tcp_state.specs.Stream.{is_new_ack, is_in_window}
 use Rattle.tcp_state.specs.View.{View, is_opening, is_syn_sent, is_syn_received, is_closed, is_over, awaits_fin_ack, is_write_closed, is_at_end, after_stop, after_resend, is_fin_next}
-use Rattle.tcp_state.specs.Calls.{after_send, after_recv, beyond_shutdown, shutdown_refusal, after_shutdown, aborted, after_release, is_removed_by_close, is_aborted_by_close}
+use Rattle.tcp_state.specs.Calls.{after_send, after_recv, beyond_shutdown, shutdown_refusal, after_shutdown, aborted_at, after_release, is_removed_by_close, is_aborted_by_close}
 use Rattle.tcp_state.specs.Arrival.{owing_ack, after_establishment, is_receiving, beyond_fin, beyond_end, fin_acknowledged, after_new_ack, after_ack, is_read_on, is_read, after_window, after_text, counts_fin, after_fin, after_acknowledging_segment, after_acceptable_segment, ends_by_syn, ends_by_reset, ends_opening, is_acting_reset, is_acceptable_to, after_reset, reset_error, after_rst_in_syn_sent, after_rst, is_right_syn_ack, after_syn_ack, after_segment, is_lost, after_lost, after_heard, is_rejected}
 use Rattle.tcp_state.specs.Due.{first_due, after_ack_paid, after_numbers}
 use Rattle.tcp_state.specs.Edges.{Event, Hears, Ticks, Emits, Sends, Receives, Shuts, Closes, Aborts, after_first, fate_by, is_removed, is_reset_by, is_last_ack, ends_by_ack, is_cause, ends_by}
@@ -263,6 +263,6 @@ ends_caused v Shuts lives e = absurd (
 ends_caused v (Closes now) lives e = by (is_cause v (Closes now) ≡ true) (is_removed_by_close v) (or_left (is_removed_by_close v) (is_aborted_by_close v))
     (λ stays. by (is_cause v (Closes now) ≡ true) (is_aborted_by_close v) (or_right (is_removed_by_close v) (is_aborted_by_close v))
     (λ released.
-    let tried : Bool → Bool → Bool = λ a b. is_removed (if a then Removed else Stays) || (not (is_closed v.state) && is_closed (if a then v else (if b then aborted v else after_release v now)).state) in
+    let tried : Bool → Bool → Bool = λ a b. is_removed (if a then Removed else Stays) || (not (is_closed v.state) && is_closed (if a then v else (if b then aborted_at v now else after_release v now)).state) in
     absurd (shut_closes_none v.state (sym (ap (λ a. tried a (is_aborted_by_close v)) stays ∙ ap (tried false) released) ∙ e))))
-ends_caused v Aborts lives e = refl
+ends_caused v (Aborts now) lives e = refl

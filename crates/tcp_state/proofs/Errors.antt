@@ -11,7 +11,7 @@ use Rattle.tcp_state.specs.declared.state.State.TheVariants.{SynSent, SynReceive
 use Rattle.tcp_state.specs.Numbers.{is_before}
 use Rattle.tcp_state.specs.Stream.{is_new_ack, is_in_window}
 use Rattle.tcp_state.specs.View.{View, IsSound, is_opening, is_syn_sent, is_syn_received, is_closed, is_write_closed, is_at_end, after_stop, after_resend, is_fin_next}
-use Rattle.tcp_state.specs.Calls.{shutdown_refusal, after_shutdown, aborted, after_release, is_removed_by_close, is_aborted_by_close}
+use Rattle.tcp_state.specs.Calls.{shutdown_refusal, after_shutdown, aborted_at, after_release, is_removed_by_close, is_aborted_by_close}
 use Rattle.tcp_state.specs.Arrival.{owing_ack, after_establishment, is_receiving, fin_acknowledged, after_new_ack, after_ack, is_read_on, after_window, after_text, counts_fin, after_fin, after_acknowledging_segment, after_acceptable_segment, ends_by_syn, ends_by_reset, is_acting_reset, is_acceptable_to, after_reset, reset_error, after_rst_in_syn_sent, after_rst, is_right_syn_ack, after_syn_ack, after_segment, is_lost, after_lost, after_heard}
 use Rattle.tcp_state.specs.Due.{first_due, after_ack_paid, after_numbers}
 use Rattle.tcp_state.specs.Edges.{Event, Hears, Ticks, Emits, Sends, Receives, Shuts, Closes, Aborts, after_first, after_event, is_reset_by, is_error_of, may_raise}
@@ -112,10 +112,10 @@ told_by_shutdown v = either View (λ w. w.pending_error ≡ v.pending_error) (is
 told_by_close : (v : View) (now : Moment) → (after_event v (Closes now)).pending_error ≡ v.pending_error
 told_by_close v now =
     either View (λ w. w.pending_error ≡ v.pending_error) (is_removed_by_close v) v _ (λ removed. refl)
-    (λ stays. either View (λ w. w.pending_error ≡ v.pending_error) (is_aborted_by_close v) (aborted v) (after_release v now) (λ lost. refl) (λ released. refl))
+    (λ stays. either View (λ w. w.pending_error ≡ v.pending_error) (is_aborted_by_close v) (aborted_at v now) (after_release v now) (λ lost. refl) (λ released. refl))
 
-told_by_abort : (v : View) → (after_event v Aborts).pending_error ≡ v.pending_error
-told_by_abort v = either View (λ w. w.pending_error ≡ v.pending_error) (is_closed v.state) v (aborted v) (λ closed. refl) (λ lives. refl)
+told_by_abort : (v : View) (now : Moment) → (after_event v (Aborts now)).pending_error ≡ v.pending_error
+told_by_abort v now = either View (λ w. w.pending_error ≡ v.pending_error) (is_closed v.state) v (aborted_at v now) (λ closed. refl) (λ lives. refl)
 
 -- each error has its states
 error_of : (t : State) (error : Refusal) → reset_error t ≡ Some error → is_error_of t error ≡ true
@@ -138,7 +138,7 @@ errors_caused v (Sends octets) error e = inl (sym (told_by_send v octets) ∙ e)
 errors_caused v (Receives len) error e = inl (sym (told_by_recv v len) ∙ e)
 errors_caused v Shuts error e = inl (sym (told_by_shutdown v) ∙ e)
 errors_caused v (Closes now) error e = inl (sym (told_by_close v now) ∙ e)
-errors_caused v Aborts error e = inl (sym (told_by_abort v) ∙ e)
+errors_caused v (Aborts now) error e = inl (sym (told_by_abort v now) ∙ e)
 
 closed_where_told : (told closed : Bool) → (told && not closed) ≡ false → told ≡ true → closed ≡ true
 closed_where_told true true e f = refl
@@ -156,4 +156,4 @@ errors_kept v (Sends octets) sound some = told_by_send v octets
 errors_kept v (Receives len) sound some = told_by_recv v len
 errors_kept v Shuts sound some = told_by_shutdown v
 errors_kept v (Closes now) sound some = told_by_close v now
-errors_kept v Aborts sound some = told_by_abort v
+errors_kept v (Aborts now) sound some = told_by_abort v now

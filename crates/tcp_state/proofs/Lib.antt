@@ -11,3 +11,4 @@ pub mod Windows
 pub mod Onward
 pub mod Waiting
 pub mod Gains
+pub mod ResetAges

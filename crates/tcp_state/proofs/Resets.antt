@@ -7,15 +7,15 @@ use Rattle.tcp_segment.specs.Segment.{Segment, span_of}
 use Rattle.clock.specs.declared.moment.Moment.{Moment}
 use Rattle.tcp_state.specs.declared.connection.Fate.TheVariants.{Stays, Removed, Rejected}
 use Rattle.tcp_state.specs.declared.state.State.{State}
-use Rattle.tcp_state.specs.declared.state.State.TheVariants.{SynSent, FinWait2, TimeWait}
+use Rattle.tcp_state.specs.declared.state.State.TheVariants.{SynSent}
 use Rattle.tcp_state.specs.Halves.{Receiving}
 use Rattle.tcp_state.specs.Stream.{outstanding, is_new_ack, is_in_window, receive_window, is_acceptable}
 use Rattle.tcp_state.specs.View.{View, IsSound, is_opening, is_syn_sent, is_closed, is_over, is_time_wait, is_fin_next}
-use Rattle.tcp_state.specs.Arrival.{owing_ack, is_acceptable_to, is_acting_reset, is_read, is_lost, after_lost, ends_by_syn, ends_by_reset, ends_opening, acknowledges_unsent, is_rejected, after_reset, reset_error, after_rst_in_syn_sent, after_rst, after_syn_ack, after_acceptable_segment, after_segment, begins_wait, repeats_fin, after_segment_at, after_heard}
+use Rattle.tcp_state.specs.Arrival.{owing_ack, is_acceptable_to, is_acting_reset, is_read, is_lost, after_lost, ends_by_syn, ends_by_reset, ends_opening, acknowledges_unsent, is_rejected, after_reset, reset_error, after_rst_in_syn_sent, after_rst, after_syn_ack, after_acceptable_segment, after_segment, starts_clock, repeats_fin, after_segment_at, after_heard}
 use Rattle.tcp_state.specs.Edges.{Hears, after_event, fate_by, is_removed, is_reset_by, ends_by, ends_by_ack}
 use Rattle.tcp_state.proofs.Edges.{either, and_left, and_right}
 use Rattle.tcp_state.proofs.Causes.{both, or_left, or_right, or_else, not_true, of_false, by, segment-cause}
-use Rattle.tcp_state.proofs.Unchanged.{clash}
+use Rattle.tcp_state.proofs.Unchanged.{clash, starts_none}
 
 -- a segment that is read has no RST
 pub read_is_no_rst : (v : View) (s : Segment) → is_read v s ≡ true → s.flags.rst ≡ false
@@ -78,12 +78,6 @@ acts_at_nxt v s now sound fits waits rst e =
     let most : past s.acknowledgement v.sending.una ≤ outstanding v.sending = leb-true (past s.acknowledgement v.sending.una) (outstanding v.sending) (and_right (nat_lt 0 (past s.acknowledgement v.sending.una)) _ new) in
     (and_left s.flags.ack (is_new_ack v.sending s.acknowledgement) acts, omega (arith, one, some, most, fits, sound.una, sound.nxt))
 
--- no wait begins where the state stays
-begins_none : (t : State) → begins_wait t t ≡ false
-begins_none FinWait2 = refl
-begins_none TimeWait = refl
-begins_none _ = refl
-
 -- what changes nothing but what is owed
 abbrev Owing : View → View → Type 0
 Owing v w = w ≡ record v { owes_ack = w.owes_ack }
@@ -135,10 +129,10 @@ repeats_no_rst v s rst =
     (and_left (is_time_wait v.state && not s.flags.rst && not (is_acceptable_to v s) && s.flags.fin) _ repeats))))))
     (λ none. none)
 
-no_wait : (v w : View) (now : Moment) (repeats : Bool) → repeats ≡ false → Owing v w → (if repeats || begins_wait v.state w.state then now else w.since) ≡ w.since
+no_wait : (v w : View) (now : Moment) (repeats : Bool) → repeats ≡ false → Owing v w → (if repeats || starts_clock v w then now else w.since) ≡ w.since
 no_wait v w now repeats none same =
-    let begins : begins_wait v.state w.state ≡ false = ap (λ (x : View). begins_wait v.state x.state) same ∙ begins_none v.state in
-    ap (λ b. if b || begins_wait v.state w.state then now else w.since) none ∙ ap (λ b. if b then now else w.since) begins
+    let begins : starts_clock v w ≡ false = ap (λ (x : View). starts_clock v x) same ∙ starts_none v in
+    ap (λ b. if b || starts_clock v w then now else w.since) none ∙ ap (λ b. if b then now else w.since) begins
 
 pub elsewhere_changes : (v : View) (s : Segment) (now : Moment) → is_syn_sent v.state ≡ false → s.flags.rst ≡ true → (s.number == v.receiving.rnext) ≡ false
     → after_segment_at v s now ≡ record v { owes_ack = (after_segment_at v s now).owes_ack }

@@ -6,7 +6,7 @@ use Rattle.tcp_state.specs.declared.state.State.{State}
 use Rattle.tcp_state.specs.declared.state.State.TheVariants.{Closed, SynSent, SynReceived, Established, FinWait1, FinWait2, CloseWait, Closing, LastAck, TimeWait, Listen}
 use Rattle.tcp_state.specs.Stream.{is_new_ack, is_in_window}
 use Rattle.tcp_state.specs.View.{View, IsSound, is_syn_sent, is_opening, is_closed, is_read_closed, is_listening, is_write_closed, end_of_wait, is_reached, is_at_end, after_stop, after_resend, is_fin_next}
-use Rattle.tcp_state.specs.Calls.{after_send, after_recv, beyond_shutdown, shutdown_refusal, after_shutdown, aborted, after_release, is_removed_by_close, is_aborted_by_close}
+use Rattle.tcp_state.specs.Calls.{after_send, after_recv, beyond_shutdown, shutdown_refusal, after_shutdown, aborted_at, after_release, is_removed_by_close, is_aborted_by_close}
 use Rattle.tcp_state.specs.Arrival.{owing_ack, ends_by_syn, ends_by_reset, is_acting_reset, is_acceptable_to, after_reset, reset_error, after_rst_in_syn_sent, after_rst, is_right_syn_ack, after_syn_ack, after_acknowledging_segment, after_acceptable_segment, after_segment, is_lost, after_lost}
 use Rattle.tcp_state.specs.Due.{first_due}
 use Rattle.tcp_state.specs.Edges.{Event, Hears, Ticks, Emits, Sends, Receives, Shuts, Closes, Aborts, after_first, after_event, is_last_ack}
@@ -95,10 +95,10 @@ seen_by_event v Shuts sound lives k =
     (λ refused. still v v refl lives) (λ shuts l. let bad : true ≡ false = sym l.closed ∙ shut_open v.state lives in cc) k
 seen_by_event v (Closes now) sound lives k =
     either View (λ w. IsSilentEnd w → is_read_closed v.state ≡ true) (is_removed_by_close v) v _ (λ removed. still v v refl lives)
-    (λ stays. either View (λ w. IsSilentEnd w → is_read_closed v.state ≡ true) (is_aborted_by_close v) (aborted v) (after_release v now)
+    (λ stays. either View (λ w. IsSilentEnd w → is_read_closed v.state ≡ true) (is_aborted_by_close v) (aborted_at v now) (after_release v now)
     (λ lost l. let bad : true ≡ false = l.kept in cc) (λ leaves l. let bad : true ≡ false = l.kept in cc)) k
-seen_by_event v Aborts sound lives k =
-    either View (λ w. IsSilentEnd w → is_read_closed v.state ≡ true) (is_closed v.state) v (aborted v) (λ closed. still v v refl lives) (λ aborts l. let bad : true ≡ false = l.kept in cc) k
+seen_by_event v (Aborts now) sound lives k =
+    either View (λ w. IsSilentEnd w → is_read_closed v.state ≡ true) (is_closed v.state) v (aborted_at v now) (λ closed. still v v refl lives) (λ aborts l. let bad : true ≡ false = l.kept in cc) k
 
 pub silent_ends_seen : (v : View) (e : Event) → IsSound v → is_closed v.state ≡ false → is_closed (after_event v e).state ≡ true → (after_event v e).pending_error ≡ None → (after_event v e).released ≡ false
     → is_read_closed v.state ≡ true

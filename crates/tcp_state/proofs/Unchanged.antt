@@ -8,15 +8,28 @@ use Rattle.tcp_state.specs.declared.connection.Resend.TheVariants.{Idle}
 use Rattle.tcp_state.specs.declared.emission.Due.{Due}
 use Rattle.tcp_state.specs.declared.emission.Due.TheVariants.{Rst, Syn, Text, Fin, Ack}
 use Rattle.tcp_state.specs.declared.state.State.{State}
-use Rattle.tcp_state.specs.declared.state.State.TheVariants.{Closed, SynSent, SynReceived}
+use Rattle.tcp_state.specs.declared.state.State.TheVariants.{Closed, SynSent, SynReceived, FinWait2, TimeWait}
 use Rattle.tcp_state.specs.Numbers.{is_before}
 use Rattle.tcp_state.specs.Stream.{outstanding, is_new_ack}
 use Rattle.tcp_state.specs.Windows.{sendable}
 use Rattle.tcp_state.specs.View.{View, IsSound, is_opening, is_syn_sent, is_syn_received, is_closed, is_over, is_due, is_idle, is_time_wait, awaits_fin_ack, is_write_finished, is_fin_next}
-use Rattle.tcp_state.specs.Arrival.{owing_ack, after_establishment, after_ack, is_read_on, after_acknowledging_segment, after_acceptable_segment, ends_opening, is_acceptable_to, is_right_syn_ack, after_syn_ack, after_segment, is_lost, after_lost, after_heard, begins_wait, repeats_fin, timed, after_segment_at, acknowledges_unsent, is_rejected, fate}
+use Rattle.tcp_state.specs.Arrival.{owing_ack, after_establishment, after_ack, is_read_on, after_acknowledging_segment, after_acceptable_segment, ends_opening, is_acceptable_to, is_right_syn_ack, after_syn_ack, after_segment, is_lost, after_lost, after_heard, begins_wait, starts_clock, repeats_fin, timed, after_segment_at, acknowledges_unsent, is_rejected, fate}
 use Rattle.tcp_state.specs.Due.{first_due, again}
 use Rattle.tcp_state.proofs.Edges.{either, and_left, and_right}
 use Rattle.tcp_state.proofs.Causes.{or_else, not_true}
+
+-- no wait begins where the state stays, and none of a reset where that is owed as before
+begins_none : (t : State) → begins_wait t t ≡ false
+begins_none FinWait2 = refl
+begins_none TimeWait = refl
+begins_none _ = refl
+
+apart_from_itself : (b : Bool) → (b && not b) ≡ false
+apart_from_itself true = refl
+apart_from_itself false = refl
+
+pub starts_none : (v : View) → starts_clock v v ≡ false
+starts_none v = ap (λ b. b || (v.owes_reset && not v.owes_reset)) (begins_none v.state) ∙ apart_from_itself v.owes_reset
 
 -- the tests of a fate that refuses
 record Refuses (lost refused : Bool) : Type 0 where
@@ -38,11 +51,11 @@ record IsUnsent (v : View) (s : Segment) : Type 0 where
   pub ack : s.flags.ack ≡ true
   pub old : is_new_ack v.sending s.acknowledgement ≡ false
   pub received : is_syn_sent v.state ≡ false → (is_syn_received v.state ≡ true) × (is_acceptable_to v s ≡ true) × (s.flags.syn ≡ false)
-  pub opening : (is_time_wait v.state ≡ false) × (begins_wait v.state v.state ≡ false)
+  pub opening : is_time_wait v.state ≡ false
 
-opening_waits_not : (t : State) → (is_syn_sent t ≡ true) ⊎ (is_syn_received t ≡ true) → (is_time_wait t ≡ false) × (begins_wait t t ≡ false)
-opening_waits_not SynSent e = (refl, refl)
-opening_waits_not SynReceived e = (refl, refl)
+opening_waits_not : (t : State) → (is_syn_sent t ≡ true) ⊎ (is_syn_received t ≡ true) → is_time_wait t ≡ false
+opening_waits_not SynSent e = refl
+opening_waits_not SynReceived e = refl
 opening_waits_not _ (inl e) = cc
 opening_waits_not _ (inr e) = cc
 
@@ -101,9 +114,9 @@ refused_leaves v s now e =
     let r = refuses (is_closed v.state) (is_lost v s) (is_over (after_segment v s)) (is_rejected v s) (ends_opening v s) e in
     let u = unsent v s r.answered in
     let same : after_heard v s ≡ v = ap (λ b. if b then after_lost v s else after_segment v s) r.kept ∙ unsent_leaves v s u in
-    let first : repeats_fin v s ≡ false = ap (λ b. b && not s.flags.rst && not (is_acceptable_to v s) && s.flags.fin && ((s.number + span_of s) % 2 ^ 32 == v.receiving.rnext)) u.opening.0 in
-    ap (timed v s now) same ∙ (ap (λ b. record v { since = if b || begins_wait v.state v.state then now else v.since }) first
-    ∙ ap (λ b. record v { since = if b then now else v.since }) u.opening.1)
+    let first : repeats_fin v s ≡ false = ap (λ b. b && not s.flags.rst && not (is_acceptable_to v s) && s.flags.fin && ((s.number + span_of s) % 2 ^ 32 == v.receiving.rnext)) u.opening in
+    ap (timed v s now) same ∙ (ap (λ b. record v { since = if b || starts_clock v v then now else v.since }) first
+    ∙ ap (λ b. record v { since = if b then now else v.since }) (starts_none v))
 
 -- What is CLOSED.
 

@@ -203,12 +203,16 @@ begins_wait before TimeWait = not (is_time_wait before)
 begins_wait before FinWait2 = not (is_fin_wait_2 before)
 begins_wait before _ = false
 
+-- .. or by which a reset comes to be owed ..
+abbrev pub starts_clock : View → View → Bool
+starts_clock v w = begins_wait v.state w.state || (w.owes_reset && not v.owes_reset)
+
 -- .. and in TIME-WAIT again from one that brings the peer's FIN once more (section 3.10.7.4, eighth)
 abbrev pub repeats_fin : View → Segment → Bool
 repeats_fin v s = is_time_wait v.state && not s.flags.rst && not (is_acceptable_to v s) && s.flags.fin && ((s.number + span_of s) % 2 ^ 32 == v.receiving.rnext)
 
 abbrev pub timed : View → Segment → Moment → View → View
-timed v s now w = record w { since = if repeats_fin v s || begins_wait v.state w.state then now else w.since }
+timed v s now w = record w { since = if repeats_fin v s || starts_clock v w then now else w.since }
 
 abbrev pub after_segment_at : View → Segment → Moment → View
 after_segment_at v s now = timed v s now (after_heard v s)

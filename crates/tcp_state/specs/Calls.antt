@@ -77,8 +77,12 @@ after_shutdown v = record v { state = beyond_shutdown v.state }
 abbrev pub aborted : View → View
 aborted v = record (after_stop v) { released = true; owes_reset = true }
 
-abbrev pub after_abort : View → View
-after_abort v = if is_closed v.state then v else aborted v
+-- which waits from this moment on
+abbrev pub aborted_at : View → Moment → View
+aborted_at v now = record (aborted v) { since = now }
+
+abbrev pub after_abort : View → Moment → View
+after_abort v now = if is_closed v.state then v else aborted_at v now
 
 -- what is CLOSED already is taken out at once
 abbrev pub abort_fate : View → Fate
@@ -104,7 +108,7 @@ is_aborted_by_close v = is_syn_received v.state || not (length v.receiving.reada
 abbrev pub after_close : View → Moment → View
 after_close v now =
     if is_removed_by_close v then v
-    else if is_aborted_by_close v then aborted v
+    else if is_aborted_by_close v then aborted_at v now
     else after_release v now
 
 abbrev pub close_fate : View → Fate

@@ -58,7 +58,16 @@ pub data Event : Type 0 where
   Receives : ℕ → Event
   Shuts : Event
   Closes : Moment → Event
-  Aborts : Event
+  Aborts : Moment → Event
+
+-- when it happens, where it has a moment
+abbrev pub moment_of : Event → Option Moment
+moment_of (Hears s now) = Some now
+moment_of (Ticks now) = Some now
+moment_of (Emits now) = Some now
+moment_of (Closes now) = Some now
+moment_of (Aborts now) = Some now
+moment_of _ = None
 
 -- what is due goes out, if anything is
 abbrev pub after_first : View → Option Due → Moment → View
@@ -74,7 +83,7 @@ after_event v (Sends octets) = after_send v octets
 after_event v (Receives len) = after_recv v len
 after_event v Shuts = if is_some (shutdown_refusal v) then v else after_shutdown v
 after_event v (Closes now) = after_close v now
-after_event v Aborts = after_abort v
+after_event v (Aborts now) = after_abort v now
 
 -- what becomes of its place; it is taken out after an emission where it is over
 abbrev pub fate_by : View → Event → Fate
@@ -85,7 +94,7 @@ fate_by v (Sends octets) = Stays
 fate_by v (Receives len) = Stays
 fate_by v Shuts = Stays
 fate_by v (Closes now) = close_fate v
-fate_by v Aborts = abort_fate v
+fate_by v (Aborts now) = abort_fate v
 
 abbrev pub is_removed : Fate → Bool
 is_removed Removed = true
@@ -117,7 +126,7 @@ ends_by_ack v s = is_last_ack v.state && is_read v s && is_new_ack v.sending s.a
 -- the reset of an abort.
 abbrev pub is_cause : View → Event → Bool
 is_cause v (Closes now) = is_removed_by_close v || is_aborted_by_close v
-is_cause v Aborts = true
+is_cause v (Aborts now) = true
 is_cause v (Hears s now) = is_reset_by v s || (not s.flags.rst && ends_by_syn v s) || is_lost v s || ends_by_ack v s
 is_cause v (Ticks now) = is_at_end v now
 is_cause v (Emits now) = v.owes_reset
@@ -148,4 +157,4 @@ may_raise v (Sends octets) error = false
 may_raise v (Receives len) error = false
 may_raise v Shuts error = false
 may_raise v (Closes now) error = false
-may_raise v Aborts error = false
+may_raise v (Aborts now) error = false

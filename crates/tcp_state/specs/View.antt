@@ -34,7 +34,7 @@ pub record View : Type 0 where
   pub released : Bool
   -- it was aborted, and its reset has not gone out
   pub owes_reset : Bool
-  -- the moment from which its wait in TIME-WAIT, or in FIN-WAIT-2 where it is released, is counted
+  -- the moment from which its wait in TIME-WAIT, or in FIN-WAIT-2 where it is released, or that of the reset that it owes, is counted
   pub since : Moment
 
 -- SYN-SENT or SYN-RECEIVED
@@ -129,6 +129,10 @@ after_stop v = record v { state = Closed; sending = record v.sending { held = []
 -- closed by its caller and CLOSED, and no reset is owed: nothing is left of it
 abbrev pub is_over : View → Bool
 is_over v = is_closed v.state && v.released && not v.owes_reset
+
+-- since when the reset of an abort waits to go out
+abbrev pub reset_since : View → Option Moment
+reset_since v = if v.owes_reset then Some v.since else None
 
 abbrev pub resend_after : Resend → Moment → Resend
 resend_after (At moment) now = if nat_le moment.0 now.0 then Due else At moment

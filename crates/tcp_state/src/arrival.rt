@@ -18,9 +18,10 @@ impl Connection {
         ensures after { self.new ≡ after_segment_at self.old segment.now now }
     {
         let before = self.state;
+        let owed_reset = self.owes_reset;
         let waits_anew = self.repeats_fin(segment);
         let fate = self.hear(segment);
-        if waits_anew || before.begins_wait(self.state) {
+        if waits_anew || before.begins_wait(self.state) || (self.owes_reset && !owed_reset) {
             self.since = now;
         }
         fate

@@ -1,7 +1,7 @@
 //! A connection: what it is made of, how it is opened, and what can be asked of it (RFC 9293 section 3.3).
 
 ghost use Rattle.std.specs.Prelude.{◌≡◌};
-ghost use Rattle.tcp_state.specs.View.{View, IsSound, opened_actively, is_fin_next, is_over};
+ghost use Rattle.tcp_state.specs.View.{View, IsSound, opened_actively, is_fin_next, is_over, reset_since};
 ghost use Rattle.tcp_state.specs.Arrival.{opened_passively};
 
 use crate::buffers::Buffers;
@@ -154,6 +154,13 @@ impl Connection {
         ensures { result ≡ self.now.released }
     {
         self.is_released
+    }
+
+    /// Since when the reset of an abort waits to go out; None where none is owed.
+    pub fn reset_since(&self) -> Option<Moment>
+        ensures { result ≡ reset_since self.now }
+    {
+        self.owes_reset.then_some(self.since)
     }
 
     /// Whether nothing is left of a connection that its caller closed: it is CLOSED and owes no reset.

@@ -2,7 +2,7 @@
 
 ghost use Rattle.std.specs.Prelude.{◌≡◌, ◌&&◌, ◌||◌, ◌==◌, false, length, if◌then◌else◌};
 ghost use Rattle.tcp_state.specs.View.{is_opening, ends_at, is_at_end, after_stop, after_resend, after_tick, tick_fate, deadline};
-ghost use Rattle.tcp_state.specs.Calls.{aborted, after_abort, abort_fate, after_release, after_close, close_fate};
+ghost use Rattle.tcp_state.specs.Calls.{aborted, aborted_at, after_abort, abort_fate, after_release, after_close, close_fate};
 
 use crate::connection::{Connection, Fate, Resend};
 use crate::state::State;
@@ -88,18 +88,27 @@ impl Connection {
         self.resend = Resend::Idle;
     }
 
-    /// Ends the connection by a reset (RFC 9293 section 3.10.5): it is CLOSED, no caller has it any more, and the reset is due.
+    /// Ends the connection by a reset (RFC 9293 section 3.10.5): it is CLOSED, no caller has it any more, and the reset is due, and
+    /// waits from `now` on.
     ///
     /// `Removed` where it is CLOSED already, and then nothing changes.
-    pub fn abort(&mut self) -> Fate
+    pub fn abort(&mut self, now: Moment) -> Fate
         ensures fate { result ≡ abort_fate self.old }
-        ensures after { self.new ≡ after_abort self.old }
+        ensures after { self.new ≡ after_abort self.old now }
     {
         if self.state == State::Closed {
             return Fate::Removed;
         }
-        self.reset_peer();
+        self.reset_peer_at(now);
         Fate::Stays
+    }
+
+    /// The connection is CLOSED, and the peer is owed a reset, which waits from `now` on.
+    fn reset_peer_at(&mut self, now: Moment)
+        ensures { self.new ≡ aborted_at self.old now }
+    {
+        self.reset_peer();
+        self.since = now;
     }
 
     /// The connection is CLOSED, and the peer is owed a reset.
@@ -121,7 +130,7 @@ impl Connection {
     {
         match self.state {
             State::Closed | State::SynSent => return Fate::Removed,
-            State::SynReceived => self.reset_peer(),
+            State::SynReceived => self.reset_peer_at(now),
             _ => self.close_opened(now),
         }
         Fate::Stays
@@ -130,12 +139,12 @@ impl Connection {
     /// Closes what is past its opening: aborts it where octets are unread, else releases it.
     fn close_opened(&mut self, now: Moment)
         requires { is_opening self.old.state ≡ false }
-        ensures { self.new ≡ (if length self.old.receiving.readable == 0 then after_release self.old now else aborted self.old) }
+        ensures { self.new ≡ (if length self.old.receiving.readable == 0 then after_release self.old now else aborted_at self.old now) }
     {
         if self.receiver.is_empty() {
             self.release(now);
         } else {
-            self.reset_peer();
+            self.reset_peer_at(now);
         }
     }
 

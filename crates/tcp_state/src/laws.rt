@@ -6,7 +6,7 @@ ghost use Rattle.tcp_state.specs.declared.calls.Refusal.{Refusal};
 ghost use Rattle.clock.specs.declared.moment.Moment.{Moment};
 ghost use Rattle.tcp_state.specs.declared.connection.Fate.{Fate};
 ghost use Rattle.tcp_state.specs.declared.emission.Due.{Due};
-ghost use Rattle.tcp_state.specs.View.{View, IsSound, is_closed, is_syn_sent, is_over, is_due, is_read_closed, is_reached, deadline, after_tick};
+ghost use Rattle.tcp_state.specs.View.{View, IsSound, is_closed, is_syn_sent, is_over, is_due, is_read_closed, is_reached, deadline, after_tick, reset_since};
 ghost use Rattle.tcp_segment.specs.Wire.{wire, IsBefore};
 ghost use Rattle.tcp_state.specs.Numbers.{is_before};
 ghost use Rattle.tcp_state.specs.Halves.{Sending, Receiving};
@@ -15,7 +15,7 @@ ghost use Rattle.tcp_state.specs.Windows.{updates_window};
 ghost use Rattle.tcp_state.specs.Positions.{ReceivesAt, IsNear, MeetsWindow, AreNear, NeverBack, HasNumber, HasToSend, takes_numbers};
 ghost use Rattle.tcp_state.specs.Arrival.{fate, is_acceptable_to, is_receiving, is_read, after_ack, after_segment_at};
 ghost use Rattle.tcp_state.specs.Due.{first_due};
-ghost use Rattle.tcp_state.specs.Edges.{Event, after_event, state_after, IsEdge, ends_by, is_cause, may_raise};
+ghost use Rattle.tcp_state.specs.Edges.{Event, after_event, moment_of, state_after, IsEdge, ends_by, is_cause, may_raise};
 
 /// One event joins only states that the table of edges joins, or leaves the state.
 pub fn events_follow_edges()
@@ -67,6 +67,12 @@ pub fn rejected_changes_nothing()
 /// Of a connection that is CLOSED the reset of an abort alone is due.
 pub fn closed_owes_a_reset_alone()
     ensures { (v : View) → IsSound v → is_closed v.state ≡ true → first_due v ≡ (if v.owes_reset then Some Due.Rst else None) }
+{}
+
+/// The reset of an abort waits from the moment of the event by which it is owed, and as long as it is owed no event moves that moment.
+pub fn resets_wait_from_their_event()
+    ensures begins { (v : View) (e : Event) (since : Moment) → IsSound v → reset_since v ≡ None → reset_since (after_event v e) ≡ Some since → moment_of e ≡ Some since }
+    ensures stays { (v : View) (e : Event) (since : Moment) → IsSound v → reset_since v ≡ Some since → (reset_since (after_event v e) ≡ Some since) ⊎ (reset_since (after_event v e) ≡ None) }
 {}
 
 /// No segment gives octets to a connection that its caller closed.
