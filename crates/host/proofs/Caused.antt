@@ -291,40 +291,40 @@ socket_closing h id = by_role (role_of h id) refl
         (λ gone x passes found.
         both _ _ passes (socket_gone h.kept x.role (and_right _ _ passes) (ap (λ (r : Role). is_kept (close_fate_of r)) (sym (same_role role x is found)) ∙ gone))))
 
-abbrev IsForsaking : SocketId → Entry → Option Entry → Type 0
-IsForsaking id y None = is_kept (forsaken_fate id y.role) ≡ false
-IsForsaking id y (Some z) = (z ≡ with_role (forsaken id) y) × (is_kept (forsaken_fate id y.role) ≡ true)
+abbrev IsForsaking : Moment → SocketId → Entry → Option Entry → Type 0
+IsForsaking now id y None = is_kept (forsaken_fate id y.role) ≡ false
+IsForsaking now id y (Some z) = (z ≡ with_role (forsaken now id) y) × (is_kept (forsaken_fate id y.role) ≡ true)
 
-abort_edge : (role : Role) → is_kept (abort_fate_of role) ≡ true → edge.IsEdge (shown_state role) (shown_state (aborted role))
-abort_edge (Idle buffers bound) kept = inl refl
-abort_edge (Listener l b) kept = inl refl
-abort_edge (Connected c l) kept = kept_edge c edge.Aborts kept
+abort_edge : (now : Moment) (role : Role) → is_kept (abort_fate_of role) ≡ true → edge.IsEdge (shown_state role) (shown_state (aborted now role))
+abort_edge now (Idle buffers bound) kept = inl refl
+abort_edge now (Listener l b) kept = inl refl
+abort_edge now (Connected c l) kept = kept_edge c (edge.Aborts now) kept
 
-forsaken_edge : (id : SocketId) (role : Role) → is_kept (forsaken_fate id role) ≡ true → edge.IsEdge (shown_state role) (shown_state (forsaken id role))
-forsaken_edge id role kept =
+forsaken_edge : (now : Moment) (id : SocketId) (role : Role) → is_kept (forsaken_fate id role) ≡ true → edge.IsEdge (shown_state role) (shown_state (forsaken now id role))
+forsaken_edge now id role kept =
     by_test (waits_at id role)
-    (λ waits. rw waits (abort_edge role (ap (λ (b : Bool). is_kept (if b then abort_fate_of role else Stays)) (sym waits) ∙ kept)))
+    (λ waits. rw waits (abort_edge now role (ap (λ (b : Bool). is_kept (if b then abort_fate_of role else Stays)) (sym waits) ∙ kept)))
     (λ other. rw other (inl refl))
 
-aborted_mute : IsMute aborted
-aborted_mute (Idle buffers bound) error told = told
-aborted_mute (Listener l b) error told = told
-aborted_mute (Connected c l) error told = told_before (errors_caused c edge.Aborts error told)
+aborted_mute : (now : Moment) → IsMute (aborted now)
+aborted_mute now (Idle buffers bound) error told = told
+aborted_mute now (Listener l b) error told = told
+aborted_mute now (Connected c l) error told = told_before (errors_caused c (edge.Aborts now) error told)
 
-forsaken_mute : (id : SocketId) → IsMute (forsaken id)
-forsaken_mute id role error told =
-    let of_test : Bool → Option Error = λ b. told_in (if b then aborted role else role) in
-    by_test (waits_at id role) (λ waits. aborted_mute role error (ap of_test (sym waits) ∙ told)) (λ other. ap of_test (sym other) ∙ told)
+forsaken_mute : (now : Moment) (id : SocketId) → IsMute (forsaken now id)
+forsaken_mute now id role error told =
+    let of_test : Bool → Option Error = λ b. told_in (if b then aborted now role else role) in
+    by_test (waits_at id role) (λ waits. aborted_mute now role error (ap of_test (sym waits) ∙ told)) (λ other. ap of_test (sym other) ∙ told)
 
-forsaken_step : (h : HostView) (id : SocketId) (x : Entry) → is_kept (forsaken_fate id x.role) ≡ true → IsStep h (Closes id) x (Some (with_role (forsaken id) x))
+forsaken_step : (h : HostView) (id : SocketId) (x : Entry) → is_kept (forsaken_fate id x.role) ≡ true → IsStep h (Closes id) x (Some (with_role (forsaken h.kept id) x))
 forsaken_step h id x kept = (
   refl,
-  forsaken_edge id x.role kept,
+  forsaken_edge h.kept id x.role kept,
   λ closes. by_test (waits_at id x.role)
       (λ waits. or_right (is_socket id x && is_close_cause h.kept x.role) _ waits)
-      (λ other. let same : forsaken id x.role ≡ x.role = rw other in
-      let none : becomes_closed x.role (forsaken id x.role) ≡ false = ap (λ (r : Role). becomes_closed x.role r) same ∙ never (is_closed (shown_state x.role)) in cc),
-  λ error told. inl (forsaken_mute id x.role error told),
+      (λ other. let same : forsaken h.kept id x.role ≡ x.role = rw other in
+      let none : becomes_closed x.role (forsaken h.kept id x.role) ≡ false = ap (λ (r : Role). becomes_closed x.role r) same ∙ never (is_closed (shown_state x.role)) in cc),
+  λ error told. inl (forsaken_mute h.kept id x.role error told),
 )
 
 forsaken_gone : (h : HostView) (id : SocketId) (x : Entry) → is_kept (forsaken_fate id x.role) ≡ false → IsStep h (Closes id) x None
@@ -334,25 +334,25 @@ forsaken_gone h id x gone =
     (λ other. let kept : is_kept (forsaken_fate id x.role) ≡ true = rw other in cc)
 
 -- what waits at no listener is left alone
-socket_left : (h : HostView) (id : SocketId) (x y : Entry) → y.id ≡ x.id → is_socket id x ≡ true → edge.IsEdge (shown_state x.role) (shown_state y.role) → waits_at id y.role ≡ false → ((error : Error) → told_in y.role ≡ Some error → told_in x.role ≡ Some error) → (becomes_closed x.role y.role ≡ true → is_close_cause h.kept x.role ≡ true) → IsStep h (Closes id) x (Some (with_role (forsaken id) y))
+socket_left : (h : HostView) (id : SocketId) (x y : Entry) → y.id ≡ x.id → is_socket id x ≡ true → edge.IsEdge (shown_state x.role) (shown_state y.role) → waits_at id y.role ≡ false → ((error : Error) → told_in y.role ≡ Some error → told_in x.role ≡ Some error) → (becomes_closed x.role y.role ≡ true → is_close_cause h.kept x.role ≡ true) → IsStep h (Closes id) x (Some (with_role (forsaken h.kept id) y))
 socket_left h id x y ids socket along other mute caused =
-    let same : forsaken id y.role ≡ y.role = rw other in
+    let same : forsaken h.kept id y.role ≡ y.role = rw other in
     let P : Role → Type 0 = λ r. edge.IsEdge (shown_state x.role) (shown_state r) in
     (ids, subst P (sym same) along, λ closes. or_left _ _ (both _ _ socket (caused (ap (λ (r : Role). becomes_closed x.role r) (sym same) ∙ closes))), λ error told. inl (mute error (ap (λ (r : Role). told_in r) (sym same) ∙ told)))
 
 close_followed : (h : HostView) (id : SocketId) → Follows (IsStep h (Closes id)) (IsAdded h (Closes id)) h.entries (let after = after_close h id in after.entries)
 close_followed h id =
     let middle : List Entry = let after = after_socket_closed h id in after.entries in
-    steps_joined (IsClosing h id) (IsForsaking id) (IsStep h (Closes id)) (λ x cause. or_left _ _ cause) joins h.entries middle _
+    steps_joined (IsClosing h id) (IsForsaking h.kept id) (IsStep h (Closes id)) (λ x cause. or_left _ _ cause) joins h.entries middle _
     (socket_closing h id)
-    (each_followed (IsForsaking id) IsNothing refl (λ x. is_kept (forsaken_fate id x.role)) (with_role (forsaken id)) middle (λ x kept. (refl, kept)) (λ x gone. gone))
+    (each_followed (IsForsaking h.kept id) IsNothing refl (λ x. is_kept (forsaken_fate id x.role)) (with_role (forsaken h.kept id)) middle (λ x kept. (refl, kept)) (λ x gone. gone))
   where
-    forsakes : (x : Entry) (o : Option Entry) → IsForsaking id x o → IsStep h (Closes id) x o
+    forsakes : (x : Entry) (o : Option Entry) → IsForsaking h.kept id x o → IsStep h (Closes id) x o
     forsakes x None gone = forsaken_gone h id x gone
     forsakes x (Some z) step = let P : Entry → Type 0 = λ w. IsStep h (Closes id) x (Some w) in subst P (sym step.0) (forsaken_step h id x step.1)
 
-    joins : (x y : Entry) (o : Option Entry) → IsClosing h id x (Some y) → IsForsaking id y o → IsStep h (Closes id) x o
-    joins x y o (inl same) step = let P : Entry → Type 0 = λ z. IsForsaking id z o in forsakes x o (subst P same step)
+    joins : (x y : Entry) (o : Option Entry) → IsClosing h id x (Some y) → IsForsaking h.kept id y o → IsStep h (Closes id) x o
+    joins x y o (inl same) step = let P : Entry → Type 0 = λ z. IsForsaking h.kept id z o in forsakes x o (subst P same step)
     joins x y None (inr socket) step = let kept : is_kept (forsaken_fate id y.role) ≡ true = rw socket.3 in cc
     joins x y (Some z) (inr socket) step =
         let P : Entry → Type 0 = λ w. IsStep h (Closes id) x (Some w) in

@@ -9,7 +9,7 @@ use Rattle.tcp_state.specs.declared.state.State.TheVariants.{Closed, Listen, Syn
 use Rattle.tcp_state.specs.Numbers.{is_before}
 use Rattle.tcp_state.specs.Stream.{is_new_ack, is_in_window}
 use Rattle.tcp_state.specs.View.{View, is_opening, is_syn_sent, is_syn_received, is_closed, is_write_closed, is_at_end, after_stop, after_resend, after_tick, is_fin_next}
-use Rattle.tcp_state.specs.Calls.{after_send, after_recv, beyond_shutdown, after_shutdown, aborted, after_abort, is_removed_by_close, is_aborted_by_close, after_release, after_close}
+use Rattle.tcp_state.specs.Calls.{after_send, after_recv, beyond_shutdown, after_shutdown, aborted, aborted_at, after_abort, is_removed_by_close, is_aborted_by_close, after_release, after_close}
 use Rattle.tcp_state.specs.Due.{after_emitted, after_ack_paid, after_numbers}
 use Rattle.tcp_state.specs.Arrival.{after_segment, after_syn_ack, is_right_syn_ack, is_acceptable_to, after_acceptable_segment, after_acknowledging_segment, after_ack, is_read_on, after_window, after_text, owing_ack, after_establishment, ends_by_syn, fin_acknowledged, after_new_ack, is_receiving, counts_fin, after_fin, after_reset, reset_error, after_rst_in_syn_sent, is_acting_reset, ends_by_reset, after_rst, is_lost, after_lost, after_heard, after_segment_at}
 
@@ -65,10 +65,10 @@ keeps-tick v now = either (is_at_end v now)
     either false = record { local = refl; peer = refl; live = λ e. e }
 
 -- it is aborted, as far as it is not CLOSED
-pub keeps-abort : (v : View) → KeepsEnds v (after_abort v)
-keeps-abort v = either (is_closed v.state)
+pub keeps-abort : (v : View) (now : Moment) → KeepsEnds v (after_abort v now)
+keeps-abort v now = either (is_closed v.state)
   where
-    either : (test : Bool) → KeepsEnds v (if test then v else aborted v)
+    either : (test : Bool) → KeepsEnds v (if test then v else aborted_at v now)
     either true = keeps-nothing v
     either false = record { local = refl; peer = refl; live = λ e. let bad : true ≡ false = e in cc }
 
@@ -76,11 +76,11 @@ keeps-abort v = either (is_closed v.state)
 pub keeps-close : (v : View) (now : Moment) → KeepsEnds v (after_close v now)
 keeps-close v now = first (is_removed_by_close v)
   where
-    second : (test : Bool) → KeepsEnds v (if test then aborted v else after_release v now)
+    second : (test : Bool) → KeepsEnds v (if test then aborted_at v now else after_release v now)
     second true = record { local = refl; peer = refl; live = λ e. let bad : true ≡ false = e in cc }
     second false = let shuts = keeps-shutdown v in record { local = refl; peer = refl; live = shuts.live }
 
-    first : (test : Bool) → KeepsEnds v (if test then v else (if is_aborted_by_close v then aborted v else after_release v now))
+    first : (test : Bool) → KeepsEnds v (if test then v else (if is_aborted_by_close v then aborted_at v now else after_release v now))
     first true = keeps-nothing v
     first false = second (is_aborted_by_close v)
 

@@ -81,13 +81,13 @@ closed_keeps now (Idle buffers bound) = keeps_role (Idle buffers bound)
 closed_keeps now (Listener l b) = keeps_role (Listener l b)
 closed_keeps now (Connected c l) = keeps_connection c _ l l (keeps-close c now)
 
-aborted_keeps : (r : Role) → KeepsRole r (aborted r)
-aborted_keeps (Idle buffers bound) = keeps_role (Idle buffers bound)
-aborted_keeps (Listener l b) = keeps_role (Listener l b)
-aborted_keeps (Connected c l) = keeps_connection c _ l l (keeps-abort c)
+aborted_keeps : (now : Moment) (r : Role) → KeepsRole r (aborted now r)
+aborted_keeps now (Idle buffers bound) = keeps_role (Idle buffers bound)
+aborted_keeps now (Listener l b) = keeps_role (Listener l b)
+aborted_keeps now (Connected c l) = keeps_connection c _ l l (keeps-abort c now)
 
-forsaken_keeps : (id : SocketId) (r : Role) → KeepsRole r (forsaken id r)
-forsaken_keeps id r = by_test (waits_at id r) (λ waits. rw waits (aborted_keeps r)) (λ other. rw other (keeps_role r))
+forsaken_keeps : (now : Moment) (id : SocketId) (r : Role) → KeepsRole r (forsaken now id r)
+forsaken_keeps now id r = by_test (waits_at id r) (λ waits. rw waits (aborted_keeps now r)) (λ other. rw other (keeps_role r))
 
 emitted_keeps : (now : Moment) (r : Role) → KeepsRole r (emitted_at now r)
 emitted_keeps now (Idle buffers bound) = keeps_role (Idle buffers bound)
@@ -286,7 +286,7 @@ close_ordered : (h : HostView) (id : SocketId) → IsOrdered h → IsOrdered (af
 close_ordered h id o =
     let w : HostView = after_socket_closed h id in
     ordered_still w (after_event h (Closes id)) refl refl refl refl
-    (each_followed (Keeps nowhere no_port w.addr w.neighbour) IsNothing refl (λ x. is_kept (forsaken_fate id x.role)) (with_role (forsaken id)) w.entries (λ x kept. (refl, forsaken_keeps id x.role w.addr w.neighbour)) (λ x gone. tt))
+    (each_followed (Keeps nowhere no_port w.addr w.neighbour) IsNothing refl (λ x. is_kept (forsaken_fate id x.role)) (with_role (forsaken h.kept id)) w.entries (λ x kept. (refl, forsaken_keeps h.kept id x.role w.addr w.neighbour)) (λ x gone. tt))
     (socket_closed_ordered h id o)
 
 -- The clock.

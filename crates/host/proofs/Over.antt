@@ -141,15 +141,15 @@ close_left now (Idle buffers bound) kept = cc
 close_left now (Listener l b) kept = cc
 close_left now (Connected c l) kept = grind (arith, common_steps)
 
-abort_left : (role : Role) → is_kept (abort_fate_of role) ≡ true → is_over_in (aborted role) ≡ false
-abort_left (Idle buffers bound) kept = refl
-abort_left (Listener l b) kept = refl
-abort_left (Connected c l) kept = by_test (is_closed c.state) (λ ended. let gone : is_kept (abort_fate_of (Connected c l)) ≡ false = rw ended in cc) (λ live. rw live)
+abort_left : (now : Moment) (role : Role) → is_kept (abort_fate_of role) ≡ true → is_over_in (aborted now role) ≡ false
+abort_left now (Idle buffers bound) kept = refl
+abort_left now (Listener l b) kept = refl
+abort_left now (Connected c l) kept = by_test (is_closed c.state) (λ ended. let gone : is_kept (abort_fate_of (Connected c l)) ≡ false = rw ended in cc) (λ live. rw live)
 
-forsaken_left : (id : SocketId) (role : Role) → is_kept (forsaken_fate id role) ≡ true → is_over_in role ≡ false → is_over_in (forsaken id role) ≡ false
-forsaken_left id role kept left =
+forsaken_left : (now : Moment) (id : SocketId) (role : Role) → is_kept (forsaken_fate id role) ≡ true → is_over_in role ≡ false → is_over_in (forsaken now id role) ≡ false
+forsaken_left now id role kept left =
     by_test (waits_at id role)
-    (λ waits. rw waits (abort_left role (ap (λ (b : Bool). is_kept (if b then abort_fate_of role else Stays)) (sym waits) ∙ kept)))
+    (λ waits. rw waits (abort_left now role (ap (λ (b : Bool). is_kept (if b then abort_fate_of role else Stays)) (sym waits) ∙ kept)))
     (λ other. rw other left)
 
 -- what a kept fate of a segment tells of its tests
@@ -255,7 +255,7 @@ none_over h (Receives id len) all = changed_left (is_socket id) (received len) h
 none_over h (Shuts id) all = changed_left (is_socket id) write_shut h.entries shut_left all
 none_over h (Closes id) all =
     let middle : List Entry = let after = after_socket_closed h id in after.entries in
-    all_retained (λ x. is_kept (forsaken_fate id x.role)) (with_role (forsaken id)) middle (λ x kept left. forsaken_left id x.role kept left) (socket_closed_left h id all)
+    all_retained (λ x. is_kept (forsaken_fate id x.role)) (with_role (forsaken h.kept id)) middle (λ x kept left. forsaken_left h.kept id x.role kept left) (socket_closed_left h id all)
 none_over h (Ticks now) all = all_retained (λ x. is_kept (tick_fate_of (later h now) x.role)) (with_role (ticked (later h now))) h.entries (λ x kept left. tick_left (later h now) x.role kept left) all
 none_over h (Hears now isn s) all = segment_left h now isn s all
 none_over h (Emits now) all = emission_left h now all

@@ -190,7 +190,7 @@ after_socket_closed h id = of_socket h (λ role. record h { entries = settled (c
 abbrev pub after_close : HostView → SocketId → HostView
 after_close h id =
     let closed_socket = after_socket_closed h id in
-    record closed_socket { entries = all_settled (forsaken_fate id) (forsaken id) closed_socket.entries }
+    record closed_socket { entries = all_settled (forsaken_fate id) (forsaken h.kept id) closed_socket.entries }
 
 -- a connection from our port to the peer is in the table, in any state but CLOSED
 abbrev pub is_pair_held : HostView → ℕ → Endpoint → Bool

@@ -206,15 +206,15 @@ abbrev pub close_fate_of : Role → Fate
 close_fate_of role = in_connection Removed close_fate role
 
 -- the connection is aborted
-abbrev pub aborted : Role → Role
-aborted role = on_connection after_abort role
+abbrev pub aborted : Moment → Role → Role
+aborted now role = on_connection (λ c. after_abort c now) role
 
 abbrev pub abort_fate_of : Role → Fate
 abort_fate_of role = in_connection Stays abort_fate role
 
 -- a listener is closed: a connection that waits at it is aborted
-abbrev pub forsaken : SocketId → Role → Role
-forsaken id role = if waits_at id role then aborted role else role
+abbrev pub forsaken : Moment → SocketId → Role → Role
+forsaken now id role = if waits_at id role then aborted now role else role
 
 abbrev pub forsaken_fate : SocketId → Role → Fate
 forsaken_fate id role = if waits_at id role then abort_fate_of role else Stays

@@ -23,7 +23,7 @@ impl Host {
         ensures err { OnErr result (self.new ≡ self.old) }
     {
         self.close_socket(id)?;
-        table::forsake(&mut self.entries, id);
+        table::forsake(&mut self.entries, self.kept, id);
         Ok(())
     }
 

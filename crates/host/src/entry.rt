@@ -141,11 +141,11 @@ impl Entry {
     }
 
     /// The listener `id` is closed. Answers whether the entry keeps its place.
-    pub(crate) fn forsake(&mut self, id: SocketId) -> bool
+    pub(crate) fn forsake(&mut self, now: Moment, id: SocketId) -> bool
         ensures kept { result ≡ is_kept (forsaken_fate id self.old.role) }
-        ensures after { self.new ≡ with_role (forsaken id) self.old }
+        ensures after { self.new ≡ with_role (forsaken now id) self.old }
     {
-        is_kept(self.role.forsake(id))
+        is_kept(self.role.forsake(now, id))
     }
 
     /// Hands a segment to the connection, and answers what becomes of the entry.

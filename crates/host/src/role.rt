@@ -329,24 +329,24 @@ impl Role {
     }
 
     /// The listener `id` is closed: a connection that waits at it is aborted. Answers what becomes of the entry.
-    pub(crate) fn forsake(&mut self, id: SocketId) -> Fate
+    pub(crate) fn forsake(&mut self, now: Moment, id: SocketId) -> Fate
         ensures fate { result ≡ forsaken_fate id self.old }
-        ensures after { self.new ≡ forsaken id self.old }
+        ensures after { self.new ≡ forsaken now id self.old }
     {
         if self.waits_at(id) {
-            self.abort()
+            self.abort(now)
         } else {
             Fate::Stays
         }
     }
 
     /// Aborts the connection, and answers what becomes of the entry.
-    fn abort(&mut self) -> Fate
+    fn abort(&mut self, now: Moment) -> Fate
         ensures fate { result ≡ abort_fate_of self.old }
-        ensures after { self.new ≡ aborted self.old }
+        ensures after { self.new ≡ aborted now self.old }
     {
         match self {
-            Role::Connected { connection, .. } => connection.abort(),
+            Role::Connected { connection, .. } => connection.abort(now),
             _ => Fate::Stays,
         }
     }

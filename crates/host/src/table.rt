@@ -107,10 +107,10 @@ pub(crate) fn tick(entries: &mut ArrayVec<Entry, ENTRIES>, now: Moment)
 }
 
 /// Aborts the connections that wait at the listener `id`, which is closed, and takes out those that are CLOSED already.
-pub(crate) fn forsake(entries: &mut ArrayVec<Entry, ENTRIES>, id: SocketId)
-    ensures { entries.new.items ≡ all_settled (forsaken_fate id) (forsaken id) entries.old.items }
+pub(crate) fn forsake(entries: &mut ArrayVec<Entry, ENTRIES>, now: Moment, id: SocketId)
+    ensures { entries.new.items ≡ all_settled (forsaken_fate id) (forsaken now id) entries.old.items }
 {
-    entries.retain(|entry| entry.forsake(id));
+    entries.retain(|entry| entry.forsake(now, id));
 }
 
 /// The least deadline of the entries.

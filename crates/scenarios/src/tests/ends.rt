@@ -308,7 +308,7 @@ fn act_at(end: &mut End, other: &mut End, act: Act) -> Told {
         Act::Recv => end.recv(),
         Act::Shutdown => end.shutdown(),
         Act::Close(now) => Told::Becomes(end.connection.close(Moment(now))),
-        Act::Abort => Told::Becomes(end.connection.abort()),
+        Act::Abort => Told::Becomes(end.connection.abort(Moment(0))),
         Act::Tick(now) => Told::Becomes(end.connection.tick(Moment(now))),
         Act::Emit(now) => end.emit(now),
         Act::Arrive(now) => other.hear(now, end.sent()),

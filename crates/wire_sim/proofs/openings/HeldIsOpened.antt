@@ -114,16 +114,16 @@ unheld_closed now pair (Idle b bound) out = refl
 unheld_closed now pair (Listener x y) out = refl
 unheld_closed now pair (Connected c l) out = unjoined pair c (after_close c now) l l (keeps-close c now) out
 
-unheld_aborted : KeepsUnheld aborted
-unheld_aborted pair (Idle b bound) out = refl
-unheld_aborted pair (Listener x y) out = refl
-unheld_aborted pair (Connected c l) out = unjoined pair c (after_abort c) l l (keeps-abort c) out
+unheld_aborted : (now : Moment) → KeepsUnheld (aborted now)
+unheld_aborted now pair (Idle b bound) out = refl
+unheld_aborted now pair (Listener x y) out = refl
+unheld_aborted now pair (Connected c l) out = unjoined pair c (after_abort c now) l l (keeps-abort c now) out
 
-pub unheld_forsaken : (id : SocketId) → KeepsUnheld (forsaken id)
-unheld_forsaken id pair r out = either (waits_at id r)
+pub unheld_forsaken : (now : Moment) (id : SocketId) → KeepsUnheld (forsaken now id)
+unheld_forsaken now id pair r out = either (waits_at id r)
   where
-    either : (b : Bool) → joins pair (if b then aborted r else r) ≡ false
-    either true = unheld_aborted pair r out
+    either : (b : Bool) → joins pair (if b then aborted now r else r) ≡ false
+    either true = unheld_aborted now pair r out
     either false = out
 
 pub unheld_emitted_at : (now : Moment) → KeepsUnheld (emitted_at now)

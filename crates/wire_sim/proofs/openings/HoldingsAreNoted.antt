@@ -116,7 +116,7 @@ call-keeps (call.Close id) answer own own' other m =
           let gone : find (is_of_pair pair) (let w = after_socket_closed own id in w.entries) ≡ None =
           ap (λ (w : HostView). find (is_of_pair pair) w.entries) k.closes ∙ unheld-settled (close_fate_of k.role) (is_socket id) (closed own.kept) pair own.entries (unheld_closed own.kept) none
           in
-          unheld-all (forsaken_fate id) (forsaken id) pair (let w = after_socket_closed own id in w.entries) (unheld_forsaken id) gone)
+          unheld-all (forsaken_fate id) (forsaken own.kept id) pair (let w = after_socket_closed own id in w.entries) (unheld_forsaken own.kept id) gone)
       | inr x ↦ keeps-same own own' x.3
     ]
 call-keeps (call.State id) answer own own' other m =

@@ -104,36 +104,36 @@ closing limit c l now t sound there out arrived = first (connection_calls.is_rem
     not_first false b e = refl
 
     second : connection_calls.is_removed_by_close c ≡ false → (b : Bool) → connection_calls.is_aborted_by_close c ≡ b → Meets limit was
-        → Meets limit (pairing (end_with (Present (if b then connection_calls.aborted c else connection_calls.after_release c now)) t') there out arrived)
-    second stays true is met = moved limit was (pairing (end_with (Present (connection_calls.aborted c)) t') there out arrived) (stops was c (connection_calls.aborted c) true refl (stops-left c (connection_calls.aborted c) refl refl) (λ e. refl)) met
+        → Meets limit (pairing (end_with (Present (if b then connection_calls.aborted_at c now else connection_calls.after_release c now)) t') there out arrived)
+    second stays true is met = moved limit was (pairing (end_with (Present (connection_calls.aborted_at c now)) t') there out arrived) (stops was c (connection_calls.aborted_at c now) true refl (stops-left c (connection_calls.aborted_at c now) refl refl) (λ e. refl)) met
     second stays false is met =
         let shut = pairing (end_with (Present (connection_calls.after_shutdown c)) t') there out arrived in
         moved limit shut (pairing (end_with (Present (connection_calls.after_release c now)) t') there out arrived) (rests shut (connection_calls.after_shutdown c) (connection_calls.after_release c now) refl (same-released c now))
         (moved limit was shut (closes was c refl sound (opened c.state stays (not_first (is_syn_received c.state) (not (length c.receiving.readable == 0)) is))) met)
 
     first : (b : Bool) → connection_calls.is_removed_by_close c ≡ b → Meets limit was
-        → Meets limit (pairing (end_with (presence_in (cond (is_kept (if b then Removed else Stays)) (Some (Connected (if b then c else (if connection_calls.is_aborted_by_close c then connection_calls.aborted c else connection_calls.after_release c now)) l)) None)) t') there out arrived)
+        → Meets limit (pairing (end_with (presence_in (cond (is_kept (if b then Removed else Stays)) (Some (Connected (if b then c else (if connection_calls.is_aborted_by_close c then connection_calls.aborted_at c now else connection_calls.after_release c now)) l)) None)) t') there out arrived)
     first true is met = moved limit was (pairing (end_with Departed t') there out arrived) (leaves was c true refl (λ e. refl)) met
     first false is met = second is (connection_calls.is_aborted_by_close c) refl met
 
 -- What is made of a connection that waits at a listener which is closed.
-forsaking : (limit : ℕ) (id : SocketId) (t : Account) (r : Role) → EndGoes limit (end_with (presence_in (Some r)) t) (end_with (presence_in (settle (forsaken_fate id r) (forsaken id) r)) t)
-forsaking limit id t r there out arrived = waiting (waits_at id r)
+forsaking : (limit : ℕ) (now : Moment) (id : SocketId) (t : Account) (r : Role) → EndGoes limit (end_with (presence_in (Some r)) t) (end_with (presence_in (settle (forsaken_fate id r) (forsaken now id) r)) t)
+forsaking limit now id t r there out arrived = waiting (waits_at id r)
   where
-    aborting : (r : Role) → Meets limit (pairing (end_with (presence_in (Some r)) t) there out arrived) → Meets limit (pairing (end_with (presence_in (settle (abort_fate_of r) aborted r)) t) there out arrived)
+    aborting : (r : Role) → Meets limit (pairing (end_with (presence_in (Some r)) t) there out arrived) → Meets limit (pairing (end_with (presence_in (settle (abort_fate_of r) (aborted now) r)) t) there out arrived)
     aborting (Connected c l) met = by_state (is_closed c.state) met
       where
         was : Pairing
         was = pairing (end_with (Present c) t) there out arrived
 
-        by_state : (b : Bool) → Meets limit was → Meets limit (pairing (end_with (presence_in (cond (is_kept (if b then Removed else Stays)) (Some (Connected (if b then c else connection_calls.aborted c) l)) None)) t) there out arrived)
+        by_state : (b : Bool) → Meets limit was → Meets limit (pairing (end_with (presence_in (cond (is_kept (if b then Removed else Stays)) (Some (Connected (if b then c else connection_calls.aborted_at c now) l)) None)) t) there out arrived)
         by_state true met = moved limit was (pairing (end_with Departed t) there out arrived) (leaves was c t.closed refl (λ e. e)) met
-        by_state false met = moved limit was (pairing (end_with (Present (connection_calls.aborted c)) t) there out arrived) (stops was c (connection_calls.aborted c) t.closed refl (stops-left c (connection_calls.aborted c) refl refl) (λ e. e)) met
+        by_state false met = moved limit was (pairing (end_with (Present (connection_calls.aborted_at c now)) t) there out arrived) (stops was c (connection_calls.aborted_at c now) t.closed refl (stops-left c (connection_calls.aborted_at c now) refl refl) (λ e. e)) met
     aborting (Listener b n) met = met
     aborting (Idle b n) met = met
 
     waiting : (b : Bool) → Meets limit (pairing (end_with (presence_in (Some r)) t) there out arrived)
-        → Meets limit (pairing (end_with (presence_in (settle (if b then abort_fate_of r else Stays) (λ q. if b then aborted q else q) r)) t) there out arrived)
+        → Meets limit (pairing (end_with (presence_in (settle (if b then abort_fate_of r else Stays) (λ q. if b then aborted now q else q) r)) t) there out arrived)
     waiting true met = aborting r met
     waiting false met = met
 
@@ -194,18 +194,18 @@ call-forsakes limit hs ts a b own other n place trace id sound opposite accepted
     let e = answered hs (call.Close id) reply.Done in
     let first = own-closed limit hs ts a b own other n trace id k.role sound opposite k.found h in
     GoesPlain refl
-    (projects-settled limit hs ts a b (after_socket_closed own id) (after_close own id) other n.frames n.openings (trace ++ e ∷ []) (forsaken_fate id) (forsaken id) refl refl refl refl noted (forsaking limit id)
+    (projects-settled limit hs ts a b (after_socket_closed own id) (after_close own id) other n.frames n.openings (trace ++ e ∷ []) (forsaken_fate id) (forsaken own.kept id) refl refl refl refl noted (forsaking limit own.kept id)
     (subst (λ w. Projects limit hs ts a b w other n.frames n.openings (trace ++ e ∷ [])) (sym k.closes) first))
     (tallies-quiet trace n.openings e (λ s i. refl))
   where
-    aborts : (i : SocketId) (r : Role) → IsNoted hs a b n.openings i r → IsNoted hs a b n.openings i (aborted r)
-    aborts i (Connected c l) m = opened-kept hs a b n.openings i c (connection_calls.after_abort c) (keeps-abort c) m
+    aborts : (i : SocketId) (r : Role) → IsNoted hs a b n.openings i r → IsNoted hs a b n.openings i (aborted own.kept r)
+    aborts i (Connected c l) m = opened-kept hs a b n.openings i c (connection_calls.after_abort c own.kept) (keeps-abort c own.kept) m
     aborts i (Listener local backlog) m = m
     aborts i (Idle buffers bound) m = m
 
-    noted : (i : SocketId) (r : Role) → IsNoted hs a b n.openings i r → IsNoted hs a b n.openings i (forsaken id r)
+    noted : (i : SocketId) (r : Role) → IsNoted hs a b n.openings i r → IsNoted hs a b n.openings i (forsaken own.kept id r)
     noted i r m = by_waiting (waits_at id r)
       where
-        by_waiting : (test : Bool) → IsNoted hs a b n.openings i (if test then aborted r else r)
+        by_waiting : (test : Bool) → IsNoted hs a b n.openings i (if test then aborted own.kept r else r)
         by_waiting true = aborts i r m
         by_waiting false = m

@@ -6,4 +6,4 @@ use Rattle.host.proofs.Retained.{retained}
 use Rattle.host.proofs.table.forsake.Goals as goal
 
 pub returns : goal.returns
-returns c = retained _ (λ (e : Entry). is_kept (forsaken_fate c.args.id e.role)) (with_role (forsaken c.args.id)) _ (λ x b f' y called. search rules) _ _ c.retain.ensures.filtered
+returns c = retained _ (λ (e : Entry). is_kept (forsaken_fate c.args.id e.role)) (with_role (forsaken c.args.now c.args.id)) _ (λ x b f' y called. search rules) _ _ c.retain.ensures.filtered
