@@ -1,0 +1,5 @@
+pub mod Routing
+pub mod InterfaceView
+pub mod Ways
+pub mod Replies
+pub mod Emission
