@@ -4,7 +4,7 @@ use Rattle.std.specs.List.{list_any}
 use Rattle.std.proofs.lemmas.Bool.Decides.{nat_tests}
 use Rattle.ipv4.specs.declared.addr.Addr.{Addr}
 use Rattle.arp.specs.declared.entry.Asked.{Asked}
-use Rattle.arp.specs.declared.moment.Moment.{Moment}
+use Rattle.clock.specs.declared.moment.Moment.{Moment}
 use Rattle.arp.specs.Cache.{is_note_of, live_notes, has_place_for, may_ask, asked_after}
 
 -- a request that may go out has a place

@@ -1,14 +1,15 @@
 -- What a host keeps of the packets that it heard, and of the requests that it sent. Who is learnt is RFC 826; that old pairs
 -- are flushed, and one request a second for an address, are RFC 1122 section 2.3.2.1. The twenty minutes, the 64 pairs, the 64
 -- notes and which pair gives way are this stack's own.
-use Rattle.std.specs.Prelude.{ℕ, ◌+◌, ◌-◌, ◌^◌, min, Bool, true, false, not, ◌&&◌, nat_eq, nat_lt, nat_le, if◌then◌else◌, List, [], ◌∷◌, ◌++◌, length, map, filter, find, remove, Option, option_map}
+use Rattle.std.specs.Prelude.{ℕ, Bool, true, false, not, ◌&&◌, nat_eq, nat_lt, nat_le, if◌then◌else◌, List, [], ◌∷◌, ◌++◌, length, map, filter, find, remove, Option, option_map}
 use Rattle.std.specs.List.{list_any, list_all, position_or_len}
 use Rattle.std.specs.Cmp.Lexicographic.{pointwise}
 use Rattle.ether.specs.declared.mac.Mac.{Mac}
 use Rattle.ipv4.specs.declared.addr.Addr.{Addr}
 use Rattle.arp.specs.declared.entry.Asked.{Asked}
 use Rattle.arp.specs.declared.entry.Neighbour.{Neighbour}
-use Rattle.arp.specs.declared.moment.Moment.{Moment}
+use Rattle.clock.specs.declared.moment.Moment.{Moment}
+use Rattle.clock.specs.Moments.{after}
 use Rattle.arp.specs.declared.packet.ArpPacket.{ArpPacket}
 use Rattle.arp.specs.declared.packet.Operation.{Operation}
 use Rattle.arp.specs.declared.packet.Operation.TheVariants.{Request, Reply}
@@ -24,7 +25,7 @@ empty = record { pairs = []; asked = [] }
 
 -- a moment is live for so many milliseconds: until their sum, which the end of the clock bounds, is reached
 abbrev pub is_live : ℕ → Moment → Moment → Bool
-is_live milliseconds now t = nat_lt now.0 (min (t.0 + milliseconds) (2 ^ 64 - 1))
+is_live milliseconds now t = let end = after t milliseconds in nat_lt now.0 end.0
 
 -- octet by octet
 abbrev pub same_addr : Addr → Addr → Bool

@@ -5,9 +5,9 @@ ghost use Rattle.std.specs.List.{list_any};
 ghost use Rattle.arp.specs.Cache.{empty, is_pair_of, is_note_of, updated, added, longest_unheard, pairs_after, is_request_for, after_hear, look, after_age, after_ask, may_ask, has_place_for};
 
 use crate::entry::{Asked, Neighbour};
-use crate::moment::Moment;
 use crate::packet::{ArpPacket, Operation};
 use arrayvec::ArrayVec;
+use clock::Moment;
 use ether::Mac;
 use ipv4::Addr;
 use std::marker::Model;

@@ -1,10 +1,10 @@
 //! What a cache keeps.
 
 ghost use Rattle.std.specs.Prelude.{◌≡◌};
-ghost use Rattle.arp.specs.Cache.{is_live_pair, is_live_note, sender_of, after_sender};
+ghost use Rattle.arp.specs.Cache.{is_live, is_live_pair, is_live_note, sender_of, after_sender};
 
-use crate::moment::Moment;
 use crate::packet::ArpPacket;
+use clock::Moment;
 use ether::Mac;
 use ipv4::Addr;
 
@@ -48,7 +48,7 @@ impl Neighbour {
     pub(crate) fn is_live(&self, now: Moment) -> bool
         ensures { result ≡ is_live_pair now self.now }
     {
-        self.heard.is_live(PAIR_LIFE, now)
+        is_live(PAIR_LIFE, now, self.heard)
     }
 }
 
@@ -75,7 +75,7 @@ impl Asked {
     pub(crate) fn is_live(&self, now: Moment) -> bool
         ensures { result ≡ is_live_note now self.now }
     {
-        self.at.is_live(NOTE_LIFE, now)
+        is_live(NOTE_LIFE, now, self.at)
     }
 }
 
@@ -87,4 +87,11 @@ impl Default for Asked {
             at: Moment(0),
         }
     }
+}
+
+/// Whether `now` lies less than so many milliseconds past a moment. At the last moment of the clock nothing is live.
+fn is_live(milliseconds: u64, now: Moment, moment: Moment) -> bool
+    ensures { result ≡ is_live milliseconds now moment }
+{
+    moment.after(milliseconds) > now
 }

@@ -4,9 +4,7 @@
 mod cache;
 mod entry;
 pub mod laws;
-mod moment;
 mod packet;
 
 pub use cache::ArpCache;
-pub use moment::Moment;
 pub use packet::{ArpFault, ArpPacket, LEN, Operation};

@@ -5,7 +5,7 @@ use Rattle.tcp_segment.specs.declared.head.Head.{Head}
 use Rattle.tcp_segment.specs.Segment.{Segment}
 use Rattle.tcp_state.specs.declared.connection.Fate.{Fate}
 use Rattle.tcp_state.specs.declared.connection.Fate.TheVariants.{Stays, Removed, Refused}
-use Rattle.tcp_state.specs.declared.moment.Moment.{Moment}
+use Rattle.clock.specs.declared.moment.Moment.{Moment}
 use Rattle.host.specs.declared.entry.Role.{Role}
 use Rattle.host.specs.declared.entry.Entry.{Entry}
 use Rattle.host.specs.declared.refusal.DropCause.{DropCause}

@@ -1,22 +1,23 @@
 -- The least deadline of a host's entries, and that a tick before it changes none of them.
-use Rattle.std.proofs.Common.{◌≡◌, ◌⊎◌, inl, inr, ℕ, suc, ◌<◌, ◌≤◌, Bool, true, false, if◌then◌else◌, nat_lt, nat_le, List, [], ◌∷◌, Option, Some, None, length, refl, sym, ◌∙◌, ap, subst, arith}
+use Rattle.std.proofs.Common.{◌≡◌, ◌⊎◌, inl, inr, ℕ, suc, ◌<◌, ◌≤◌, Bool, true, false, if◌then◌else◌, nat_le, List, [], ◌∷◌, Option, Some, None, length, refl, sym, ◌∙◌, ap, subst, arith}
 use Rattle.std.specs.List.{fold, Contains, AllByRecursion}
-use Rattle.std.proofs.lemmas.Bool.{ltb-true, ltb-false, leb-true, leb-false, lt-leb}
-use Rattle.tcp_state.specs.declared.moment.Moment.{Moment}
+use Rattle.std.proofs.lemmas.Bool.{leb-true, leb-false, lt-leb}
+use Rattle.clock.specs.declared.moment.Moment.{Moment}
+use Rattle.clock.specs.Moments.{sooner}
 use Rattle.tcp_state.specs.declared.connection.Resend.{Resend}
 use Rattle.tcp_state.specs.declared.connection.Resend.TheVariants.{Idle as Rests, At, Due}
-use Rattle.tcp_state.specs.View.{View, is_reached, is_at_end, ends_at, resend_at, resend_after, after_resend, after_tick, stopped, deadline, earlier as earlier_of}
+use Rattle.tcp_state.specs.View.{View, is_reached, is_at_end, ends_at, resend_at, resend_after, after_resend, after_tick, stopped, deadline}
 use Rattle.host.specs.declared.entry.Entry.{Entry}
 use Rattle.host.specs.declared.entry.Role.{Role}
 use Rattle.host.specs.declared.entry.Role.TheVariants.{Idle, Listener, Connected}
 use Rattle.host.specs.Entries.{deadline_of, ticked, tick_fate_of, is_kept, with_role, all_settled}
-use Rattle.host.specs.HostView.{HostView, later, earlier, least_deadline, IsLeastDeadline, HasNoDeadline}
+use Rattle.host.specs.HostView.{HostView, later, least_deadline, IsLeastDeadline, HasNoDeadline}
 use Rattle.host.specs.HostView as host
 use Rattle.host.proofs.Followed.{by_test}
 
--- The earlier of two moments.
+-- The sooner of two moments.
 
-record IsEarlier (a b : Option Moment) (m : Moment) : Type 0 where
+record IsSooner (a b : Option Moment) (m : Moment) : Type 0 where
   one : (a ≡ Some m) ⊎ (b ≡ Some m)
   left : (d : Moment) → a ≡ Some d → m.0 ≤ d.0
   right : (d : Moment) → b ≡ Some d → m.0 ≤ d.0
@@ -27,28 +28,30 @@ own a d e = let same : a ≡ d = cc in subst (λ (x : Moment). a.0 ≤ x.0) same
 under : (a m d : Moment) → m.0 ≤ a.0 → ◌≡◌ {A = Option Moment} (Some a) (Some d) → m.0 ≤ d.0
 under a m d less e = let same : a ≡ d = cc in subst (λ (x : Moment). m.0 ≤ x.0) same less
 
-earlier_some : (a b : Option Moment) (m : Moment) → earlier a b ≡ Some m → IsEarlier a b m
-earlier_some None b m e = record { one = inr e; left = λ d f. cc; right = λ d f. let same : ◌≡◌ {A = Option Moment} (Some m) (Some d) = sym e ∙ f in own m d same }
-earlier_some (Some a) None m e = record { one = inl e; left = λ d f. let same : ◌≡◌ {A = Option Moment} (Some m) (Some d) = sym e ∙ f in own m d same; right = λ d f. cc }
-earlier_some (Some a) (Some b) m e = by_test (nat_lt b.0 a.0)
-    (λ less. let same : b ≡ m = (let f : ◌≡◌ {A = Option Moment} (Some b) (Some m) = ap (λ t. let x : Moment = if t then b else a in Some x) (sym less) ∙ e in cc) in
-    let lower : b.0 < a.0 = ltb-true b.0 a.0 less in
-    let P : Moment → Type 0 = λ x. IsEarlier (Some a) (Some b) x in
-    subst P same (record { one = inr refl; left = λ d f. under a b d (omega arith) f; right = λ d f. own b d f }))
-    (λ more. let same : a ≡ m = (let f : ◌≡◌ {A = Option Moment} (Some a) (Some m) = ap (λ t. let x : Moment = if t then b else a in Some x) (sym more) ∙ e in cc) in
-    let higher : a.0 ≤ b.0 = ltb-false b.0 a.0 more in
-    let P : Moment → Type 0 = λ x. IsEarlier (Some a) (Some b) x in
+sooner_some : (a b : Option Moment) (m : Moment) → sooner a b ≡ Some m → IsSooner a b m
+sooner_some None b m e = record { one = inr e; left = λ d f. cc; right = λ d f. let same : ◌≡◌ {A = Option Moment} (Some m) (Some d) = sym e ∙ f in own m d same }
+sooner_some (Some a) None m e = record { one = inl e; left = λ d f. let same : ◌≡◌ {A = Option Moment} (Some m) (Some d) = sym e ∙ f in own m d same; right = λ d f. cc }
+sooner_some (Some a) (Some b) m e = by_test (nat_le a.0 b.0)
+    (λ less. let same : a ≡ m = (let f : ◌≡◌ {A = Option Moment} (Some a) (Some m) = ap (λ t. if t then Some a else Some b) (sym less) ∙ e in cc) in
+    let higher : a.0 ≤ b.0 = leb-true a.0 b.0 less in
+    let P : Moment → Type 0 = λ x. IsSooner (Some a) (Some b) x in
     subst P same (record { one = inl refl; left = λ d f. own a d f; right = λ d f. under b a d higher f }))
+    (λ more. let same : b ≡ m = (let f : ◌≡◌ {A = Option Moment} (Some b) (Some m) = ap (λ t. if t then Some a else Some b) (sym more) ∙ e in cc) in
+    let lower : b.0 < a.0 = leb-false a.0 b.0 more in
+    let P : Moment → Type 0 = λ x. IsSooner (Some a) (Some b) x in
+    subst P same (record { one = inr refl; left = λ d f. under a b d (omega arith) f; right = λ d f. own b d f }))
 
-earlier_none : (a b : Option Moment) → earlier a b ≡ None → (a ≡ None) × (b ≡ None)
-earlier_none None b e = (refl, e)
-earlier_none (Some a) None e = cc
-earlier_none (Some a) (Some b) e = cc
+sooner_none : (a b : Option Moment) → sooner a b ≡ None → (a ≡ None) × (b ≡ None)
+sooner_none None b e = (refl, e)
+sooner_none (Some a) None e = cc
+sooner_none (Some a) (Some b) e = by_test (nat_le a.0 b.0)
+    (λ less. let same : ◌≡◌ {A = Option Moment} (Some a) None = ap (λ t. if t then Some a else Some b) (sym less) ∙ e in cc)
+    (λ more. let same : ◌≡◌ {A = Option Moment} (Some b) None = ap (λ t. if t then Some a else Some b) (sym more) ∙ e in cc)
 
 -- The least of a list's deadlines, from one on.
 
 abbrev least_from : Option Moment → List Entry → Option Moment
-least_from least xs = fold (λ (least : Option Moment) (e : Entry). earlier least (deadline_of e.role)) least xs
+least_from least xs = fold (λ (least : Option Moment) (e : Entry). sooner least (deadline_of e.role)) least xs
 
 abbrev HasIt : Moment → List Entry → Type 0
 HasIt m xs = (e : Entry) × Contains xs e × (deadline_of e.role ≡ Some m)
@@ -69,27 +72,27 @@ has_there x xs m h = let k : ℕ = h.1.0 in let within : k < length xs = h.1.1 i
 
 least : (first : Option Moment) (xs : List Entry) (m : Moment) → least_from first xs ≡ Some m → IsLeast first xs m
 least first [] m is = record { one = inl is; before = λ d e. let same : ◌≡◌ {A = Option Moment} (Some m) (Some d) = sym is ∙ e in own m d same; others = tt }
-least first (x ∷ xs) m is = joined (least (earlier first (deadline_of x.role)) xs m is)
+least first (x ∷ xs) m is = joined (least (sooner first (deadline_of x.role)) xs m is)
   where
-    one_of : (earlier first (deadline_of x.role) ≡ Some m) ⊎ HasIt m xs → (first ≡ Some m) ⊎ HasIt m (x ∷ xs)
+    one_of : (sooner first (deadline_of x.role) ≡ Some m) ⊎ HasIt m xs → (first ≡ Some m) ⊎ HasIt m (x ∷ xs)
     one_of (inr h) = inr (has_there x xs m h)
-    one_of (inl e) = elim (earlier_some first (deadline_of x.role) m e).one [ inl f ↦ inl f | inr f ↦ inr (has_here x xs m f) ]
+    one_of (inl e) = elim (sooner_some first (deadline_of x.role) m e).one [ inl f ↦ inl f | inr f ↦ inr (has_here x xs m f) ]
 
-    some_of : (o : Option Moment) → earlier first (deadline_of x.role) ≡ o → ((d : Moment) → earlier first (deadline_of x.role) ≡ Some d → m.0 ≤ d.0) → ((d : Moment) → first ≡ Some d → m.0 ≤ d.0) × ((d : Moment) → deadline_of x.role ≡ Some d → m.0 ≤ d.0)
-    some_of None e below = let none = earlier_none first (deadline_of x.role) e in (λ d f. cc (none.0), λ d f. cc (none.1))
+    some_of : (o : Option Moment) → sooner first (deadline_of x.role) ≡ o → ((d : Moment) → sooner first (deadline_of x.role) ≡ Some d → m.0 ≤ d.0) → ((d : Moment) → first ≡ Some d → m.0 ≤ d.0) × ((d : Moment) → deadline_of x.role ≡ Some d → m.0 ≤ d.0)
+    some_of None e below = let none = sooner_none first (deadline_of x.role) e in (λ d f. cc (none.0), λ d f. cc (none.1))
     some_of (Some n) e below =
-        let both = earlier_some first (deadline_of x.role) n e in
+        let both = sooner_some first (deadline_of x.role) n e in
         let less : m.0 ≤ n.0 = below n e in
         (λ d f. let more : n.0 ≤ d.0 = both.left d f in omega arith, λ d f. let more : n.0 ≤ d.0 = both.right d f in omega arith)
 
-    joined : IsLeast (earlier first (deadline_of x.role)) xs m → IsLeast first (x ∷ xs) m
-    joined rest = let both = some_of (earlier first (deadline_of x.role)) refl rest.before in record { one = one_of rest.one; before = both.0; others = (both.1, rest.others) }
+    joined : IsLeast (sooner first (deadline_of x.role)) xs m → IsLeast first (x ∷ xs) m
+    joined rest = let both = some_of (sooner first (deadline_of x.role)) refl rest.before in record { one = one_of rest.one; before = both.0; others = (both.1, rest.others) }
 
 none_from : (first : Option Moment) (xs : List Entry) → least_from first xs ≡ None → (first ≡ None) × AllByRecursion (λ (e : Entry). deadline_of e.role ≡ None) xs
 none_from first [] is = (is, tt)
 none_from first (x ∷ xs) is =
-    let rest = none_from (earlier first (deadline_of x.role)) xs is in
-    let both = earlier_none first (deadline_of x.role) rest.0 in
+    let rest = none_from (sooner first (deadline_of x.role)) xs is in
+    let both = sooner_none first (deadline_of x.role) rest.0 in
     (both.0, (both.1, rest.1))
 
 pub least_found : (h : HostView) (moment : Moment) → least_deadline h ≡ Some moment → IsLeastDeadline h moment
@@ -107,19 +110,10 @@ none_found h is = (none_from None h.entries is).1
 unreached : (a b now : ℕ) → a ≤ b → nat_le a now ≡ false → nat_le b now ≡ false
 unreached a b now less e = let past : now < a = leb-false a now e in lt-leb b now (omega arith)
 
-both_unreached : (a b : Option Moment) (now : Moment) → is_reached (earlier a b) now ≡ false → (is_reached a now ≡ false) × (is_reached b now ≡ false)
+both_unreached : (a b : Option Moment) (now : Moment) → is_reached (sooner a b) now ≡ false → (is_reached a now ≡ false) × (is_reached b now ≡ false)
 both_unreached None b now e = (refl, e)
 both_unreached (Some a) None now e = (e, refl)
-both_unreached (Some a) (Some b) now e = by_test (nat_lt b.0 a.0)
-    (λ less. let at : nat_le b.0 now.0 ≡ false = ap (λ t. let x : Moment = if t then b else a in nat_le x.0 now.0) (sym less) ∙ e in
-    let lower : b.0 < a.0 = ltb-true b.0 a.0 less in (unreached b.0 a.0 now.0 (omega arith) at, at))
-    (λ more. let at : nat_le a.0 now.0 ≡ false = ap (λ t. let x : Moment = if t then b else a in nat_le x.0 now.0) (sym more) ∙ e in
-    let higher : a.0 ≤ b.0 = ltb-false b.0 a.0 more in (at, unreached a.0 b.0 now.0 higher at))
-
-both_unreached_of : (a b : Option Moment) (now : Moment) → is_reached (earlier_of a b) now ≡ false → (is_reached a now ≡ false) × (is_reached b now ≡ false)
-both_unreached_of None b now e = (refl, e)
-both_unreached_of (Some a) None now e = (e, refl)
-both_unreached_of (Some a) (Some b) now e = by_test (nat_le a.0 b.0)
+both_unreached (Some a) (Some b) now e = by_test (nat_le a.0 b.0)
     (λ less. let at : nat_le a.0 now.0 ≡ false = ap (λ t. is_reached (if t then Some a else Some b) now) (sym less) ∙ e in
     let higher : a.0 ≤ b.0 = leb-true a.0 b.0 less in (at, unreached a.0 b.0 now.0 higher at))
     (λ more. let at : nat_le b.0 now.0 ≡ false = ap (λ t. is_reached (if t then Some a else Some b) now) (sym more) ∙ e in
@@ -133,7 +127,7 @@ resend_waits (At moment) now e = rw e
 
 pub tick_waits_at : (v : View) (now : Moment) → is_reached (deadline v) now ≡ false → after_tick v now ≡ v
 tick_waits_at v now e =
-    let both = both_unreached_of (resend_at v.resend) (ends_at v) now e in
+    let both = both_unreached (resend_at v.resend) (ends_at v) now e in
     let same : after_resend v now ≡ v = ap (λ (r : Resend). let w : View = record v { resend = r } in w) (resend_waits v.resend now both.0) in
     ap (λ (b : Bool). if b then stopped v else after_resend v now) both.1 ∙ same
 
@@ -141,13 +135,13 @@ role_waits : (role : Role) (now : Moment) → is_reached (deadline_of role) now 
 role_waits (Idle buffers bound) now e = (refl, refl)
 role_waits (Listener l b) now e = (refl, refl)
 role_waits (Connected c l) now e =
-    let end : is_at_end c now ≡ false = (both_unreached_of (resend_at c.resend) (ends_at c) now e).1 in
+    let end : is_at_end c now ≡ false = (both_unreached (resend_at c.resend) (ends_at c) now e).1 in
     (rw end, ap (λ (v : View). Connected v l) (tick_waits_at c now e))
 
 entries_wait : (first : Option Moment) (xs : List Entry) (now : Moment) → is_reached (least_from first xs) now ≡ false → (is_reached first now ≡ false) × (all_settled (tick_fate_of now) (ticked now) xs ≡ xs)
 entries_wait first [] now e = (e, refl)
 entries_wait first (x ∷ xs) now e =
-    let rest = entries_wait (earlier first (deadline_of x.role)) xs now e in
+    let rest = entries_wait (sooner first (deadline_of x.role)) xs now e in
     let both = both_unreached first (deadline_of x.role) now rest.0 in
     let here = role_waits x.role now both.1 in
     let same : with_role (ticked now) x ≡ x = ap (λ (r : Role). let y : Entry = record x { role = r } in y) here.1 in

@@ -1,7 +1,7 @@
 -- What an emission makes of a host.
 use Rattle.std.proofs.Common.{◌≡◌, [], Some}
 use Rattle.std.specs.List.{find}
-use Rattle.tcp_state.specs.declared.moment.Moment.{Moment}
+use Rattle.clock.specs.declared.moment.Moment.{Moment}
 use Rattle.host.specs.declared.entry.Entry.{Entry}
 use Rattle.host.specs.Entries.{is_due, emitted_at, emitted_fate, settled}
 use Rattle.host.specs.HostView.{HostView, later, after_emission}

@@ -3,7 +3,7 @@ use Rattle.std.proofs.Common.{◌≡◌, ℕ, List, Result, Ok, Err, arith, refl
 use Rattle.std.proofs.lemmas.Grind.{common_steps}
 use Rattle.tcp_state.specs.declared.calls.Refusal.{Refusal as ConnectionRefusal}
 use Rattle.tcp_segment.specs.Segment.{Segment}
-use Rattle.tcp_state.specs.declared.moment.Moment.{Moment}
+use Rattle.clock.specs.declared.moment.Moment.{Moment}
 use Rattle.tcp_state.specs.declared.connection.Fate.TheVariants.{Refused}
 use Rattle.tcp_state.specs.View.{View}
 use Rattle.tcp_state.specs.Calls.{send_answer, after_send}

@@ -4,7 +4,8 @@ use Rattle.std.specs.List.{Contains, AllByRecursion}
 use Rattle.ipv4.specs.declared.addr.Addr.{Addr}
 use Rattle.ipv4.specs.declared.addr.Pair.{Pair}
 use Rattle.tcp_segment.specs.declared.head.Head.{Head}
-use Rattle.tcp_state.specs.declared.moment.Moment.{Moment}
+use Rattle.clock.specs.declared.moment.Moment.{Moment}
+use Rattle.clock.specs.Moments.{sooner}
 use Rattle.host.specs.declared.entry.SocketId.{SocketId}
 use Rattle.host.specs.declared.entry.Entry.{Entry}
 use Rattle.host.specs.declared.entry.Role.{Role}
@@ -106,15 +107,9 @@ emission_front h out = of_replies h.replies
 abbrev pub after_tick : HostView → Moment → HostView
 after_tick h now = record h { kept = later h now; entries = all_settled (tick_fate_of (later h now)) (ticked (later h now)) h.entries }
 
--- the earlier of two moments, as far as there are any
-abbrev pub earlier : Option Moment → Option Moment → Option Moment
-earlier (Some a) (Some b) = Some (if nat_lt b.0 a.0 then b else a)
-earlier (Some a) None = Some a
-earlier None b = b
-
 -- the least deadline of all entries
 abbrev pub least_deadline : HostView → Option Moment
-least_deadline h = fold (λ least e. earlier least (deadline_of e.role)) None h.entries
+least_deadline h = fold (λ least e. sooner least (deadline_of e.role)) None h.entries
 
 -- an entry of the host has this deadline, and none has an earlier one
 pub record IsLeastDeadline (h : HostView) (moment : Moment) : Type 0 where

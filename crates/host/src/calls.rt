@@ -9,9 +9,10 @@ ghost use Rattle.host.specs.Calls.{open_answer};
 
 use crate::entry::{Entry, Role};
 use crate::{Host, Kind, Refusal, SocketId, ports, table};
+use clock::Moment;
 use ipv4::{Addr, Endpoint, Pair};
 use tcp_segment::Seq;
-use tcp_state::{Buffers, Moment, Received, State};
+use tcp_state::{Buffers, Received, State};
 
 /// The address that stands for every address of the host.
 const ANY: Addr = Addr([0; 4]);

@@ -4,10 +4,11 @@ ghost use Rattle.std.specs.Prelude.{◌≡◌, ◌≤◌, ◌<◌, length, IfSom
 ghost use Rattle.host.specs.Entries.{is_kept, is_pending, is_left, has_socket, is_socket, is_live_between, joins, uses_port, waits_at, offered_peer, shown_state, deadline_of, has_due, bound_to, listening, connecting, accepted, ticked, with_role};
 
 use crate::Refusal;
+use clock::Moment;
 use ipv4::{Addr, Endpoint, Pair};
 use std::mem;
 use tcp_segment::{Seq, TcpView};
-use tcp_state::{Buffers, Connection, Fate, Moment, Received, State};
+use tcp_state::{Buffers, Connection, Fate, Received, State};
 
 /// Names a socket of one host. Ids count from 1, and none is given twice.
 #[derive(Clone, Copy, PartialEq, Eq, PartialOrd, Ord, Debug)]

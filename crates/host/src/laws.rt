@@ -6,7 +6,7 @@ ghost use Rattle.ipv4.specs.declared.addr.Endpoint.{Endpoint};
 ghost use Rattle.ipv4.specs.declared.addr.Pair.{Pair};
 ghost use Rattle.ipv4.specs.Addresses.{pair_of};
 ghost use Rattle.tcp_segment.specs.Segment.{Segment};
-ghost use Rattle.tcp_state.specs.declared.moment.Moment.{Moment};
+ghost use Rattle.clock.specs.declared.moment.Moment.{Moment};
 ghost use Rattle.host.specs.declared.entry.SocketId.{SocketId};
 ghost use Rattle.tcp_state.specs.View.{is_reached};
 ghost use Rattle.host.specs.HostView.{HostView, holder_id, fresh, later, after_tick, least_deadline, IsLeastDeadline, HasNoDeadline};

@@ -15,6 +15,7 @@ mod replies;
 mod table;
 
 use arrayvec::ArrayVec;
+use clock::Moment;
 use entry::Entry;
 pub use entry::SocketId;
 use ipv4::{Addr, Endpoint, Pair};
@@ -23,7 +24,7 @@ use replies::{REPLIES, Reply};
 use std::alloc::{AllocError, Global};
 use std::marker::Model;
 use tcp_segment::{Flags, Seq, TcpView};
-use tcp_state::{Buffers, Connection, Fate, Moment};
+use tcp_state::{Buffers, Connection, Fate};
 
 /// How many entries the table of one host holds.
 pub(crate) const ENTRIES: usize = 8;

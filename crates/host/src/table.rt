@@ -2,15 +2,16 @@
 
 ghost use Rattle.std.specs.Prelude.{◌≡◌, ◌<◌, ◌≤◌, ◌&&◌, not, if◌then◌else◌, length, remove, position, count_by, fold, None, IfSome};
 ghost use Rattle.std.specs.List.{list_any, AllByRecursion};
+ghost use Rattle.clock.specs.Moments.{sooner};
 ghost use Rattle.host.specs.Entries.{is_kept, all_settled, tick_fate_of, forsaken, forsaken_fate, is_socket, is_between, is_of_pair, has_port, is_bound_at, is_waiting_at, is_offered_at, is_due, is_listening_at, deadline_of, ticked, with_role};
-ghost use Rattle.host.specs.HostView.{earlier};
 ghost use Rattle.host.specs.Sound.{IsSoundRole};
 
 use crate::entry::{Entry, is_kept};
 use crate::{ENTRIES, SocketId};
 use arrayvec::ArrayVec;
+use clock::{Moment, sooner};
 use ipv4::{Endpoint, Pair};
-use tcp_state::{Fate, Moment};
+use tcp_state::Fate;
 
 /// The place of the socket `id`.
 pub(crate) fn socket_of(entries: &[Entry], id: SocketId) -> Option<usize>
@@ -113,22 +114,11 @@ pub(crate) fn forsake(entries: &mut ArrayVec<Entry, ENTRIES>, id: SocketId)
 
 /// The least deadline of the entries.
 pub(crate) fn least_deadline(entries: &[Entry]) -> Option<Moment>
-    ensures { result ≡ fold (λ least e. earlier least (deadline_of e.role)) None entries.now }
+    ensures { result ≡ fold (λ least e. sooner least (deadline_of e.role)) None entries.now }
 {
     entries
         .iter()
-        .fold(None, |least, entry| earlier(least, entry.deadline()))
-}
-
-/// The earlier of two moments, as far as there are any.
-fn earlier(a: Option<Moment>, b: Option<Moment>) -> Option<Moment>
-    ensures { result ≡ earlier a b }
-{
-    match (a, b) {
-        (Some(a), Some(b)) => Some(if b < a { b } else { a }),
-        (Some(a), None) => Some(a),
-        (None, b) => b,
-    }
+        .fold(None, |least, entry| sooner(least, entry.deadline()))
 }
 
 /// What each connection keeps of itself, for the contracts above; it changes nothing.

@@ -4,7 +4,7 @@ use Rattle.std.specs.List.{list_any}
 use Rattle.std.proofs.lemmas.Bool.Decides.{nat_tests}
 use Rattle.std.proofs.lemmas.List.{length-take-le, length-drop, length-replicate, length-map}
 use Rattle.ipv4.specs.Datagram.{Datagram}
-use Rattle.reassembly.specs.declared.moment.Moment.{Moment}
+use Rattle.clock.specs.declared.moment.Moment.{Moment}
 use Rattle.reassembly.specs.Fragments.{begin_of, end_of, is_last, contradicts, is_contradictory}
 use Rattle.reassembly.specs.Octets.{reaching, put, laid}
 use Rattle.reassembly.specs.Reassembly.{Reassembly, begun, conflicts, with_fragment, after_fragments}

@@ -2,7 +2,7 @@
 use Rattle.std.proofs.Common.{◌≡◌, ℕ, true, false, List, [], ◌∷◌, ◌++◌, Option, Some, None, refl, sym, ◌∙◌, ap}
 use Rattle.std.proofs.lemmas.List.Sums.{fold-append}
 use Rattle.ipv4.specs.Datagram.{Datagram}
-use Rattle.reassembly.specs.declared.moment.Moment.{Moment}
+use Rattle.clock.specs.declared.moment.Moment.{Moment}
 use Rattle.reassembly.specs.Fragments.{is_contradictory, IsPayload}
 use Rattle.reassembly.specs.Octets.{whole_of}
 use Rattle.reassembly.specs.Reassembly.{Reassembly, begun, after_fragments, with_fragment, outcome}

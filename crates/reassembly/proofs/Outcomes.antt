@@ -3,7 +3,7 @@ use Rattle.std.proofs.Common.{◌≡◌, ℕ, ◌+◌, ◌-◌, ◌≤◌, ◌<�
 use Rattle.std.proofs.lemmas.Bool.Decides.{nat_tests}
 use Rattle.std.proofs.lemmas.List.{length-take-le, length-drop, length-replicate, length-map, take_all}
 use Rattle.ipv4.specs.Datagram.{Datagram}
-use Rattle.reassembly.specs.declared.moment.Moment.{Moment}
+use Rattle.clock.specs.declared.moment.Moment.{Moment}
 use Rattle.reassembly.specs.Fragments.{begin_of, end_of, is_last}
 use Rattle.reassembly.specs.Octets.{reaching, put, laid, is_covered, filled, whole_of}
 use Rattle.reassembly.specs.Inside.{EndsWithin}

@@ -4,7 +4,7 @@ use Rattle.std.specs.Option.{option_or}
 use Rattle.std.proofs.lemmas.List.{reverse-append}
 use Rattle.std.proofs.lemmas.List.Folds.{find-append}
 use Rattle.ipv4.specs.Datagram.{Datagram}
-use Rattle.reassembly.specs.declared.moment.Moment.{Moment}
+use Rattle.clock.specs.declared.moment.Moment.{Moment}
 use Rattle.reassembly.specs.Fragments.{quote_of, latest_quote}
 use Rattle.reassembly.specs.Reassembly.{Reassembly, begun, with_fragment, after_fragments}
 

@@ -4,8 +4,9 @@ use Rattle.std.proofs.lemmas.Bool.Decides.{nat_tests}
 use Rattle.std.proofs.lemmas.List.{get_or-map}
 use Rattle.std.proofs.lemmas.List.Elements.{All-from_recursion, recursion_from_All}
 use Rattle.std.specs.List.{Any, AllByRecursion}
-use Rattle.reassembly.specs.declared.moment.Moment.{Moment}
-use Rattle.reassembly.specs.Places.{is_over, after_time, expired_of, after_age, expired, sooner, next_deadline}
+use Rattle.clock.specs.declared.moment.Moment.{Moment}
+use Rattle.clock.specs.Moments.{sooner}
+use Rattle.reassembly.specs.Places.{is_over, after_time, expired_of, after_age, expired, next_deadline}
 use Rattle.reassembly.specs.Reassembly.{Reassembly, deadline_of}
 
 -- the soonest of these deadlines and this one

@@ -2,7 +2,7 @@
 use Rattle.std.proofs.Common.{◌≡◌, ℕ, List, slice_index_or, Option, Some, None, refl, sym, ◌∙◌, ap}
 use Rattle.std.specs.Option.{option_or}
 use Rattle.ipv4.specs.Datagram.{Datagram}
-use Rattle.reassembly.specs.declared.moment.Moment.{Moment}
+use Rattle.clock.specs.declared.moment.Moment.{Moment}
 use Rattle.reassembly.specs.Fragments.{latest, told_end, IsPayload}
 use Rattle.reassembly.specs.Octets.{whole_of}
 use Rattle.reassembly.specs.Reassembly.{begun, after_fragments}

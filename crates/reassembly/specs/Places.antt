@@ -1,11 +1,12 @@
 -- The places of a pool, and what a fragment or the time changes in them (RFC 791 section 3.2, RFC 1122 section 3.3.2).
-use Rattle.std.specs.Prelude.{◌≡◌, ℕ, Bool, false, nat_le, if◌then◌else◌, List, map, fold, position, slice_index_or, slice_set, Option, Some, None, is_none, option_map}
+use Rattle.std.specs.Prelude.{◌≡◌, ℕ, Bool, false, if◌then◌else◌, List, map, fold, position, slice_index_or, slice_set, Option, Some, None, is_none, option_map}
 use Rattle.std.specs.List.{filter_map}
 use Rattle.std.specs.Option.{option_or}
 use Rattle.ipv4.specs.Datagram.{Datagram}
 use Rattle.reassembly.specs.declared.expired.Expired.{Expired}
 use Rattle.reassembly.specs.declared.key.Key.{Key}
-use Rattle.reassembly.specs.declared.moment.Moment.{Moment}
+use Rattle.clock.specs.declared.moment.Moment.{Moment}
+use Rattle.clock.specs.Moments.{sooner}
 use Rattle.reassembly.specs.declared.taken.Loss.TheVariants.{NoPlace}
 use Rattle.reassembly.specs.declared.taken.Taken.{Taken}
 use Rattle.reassembly.specs.declared.taken.Taken.TheVariants.{Dropped}
@@ -61,11 +62,6 @@ after_age now places = map (after_time now) places
 abbrev pub expired : Moment → List (Option Reassembly) → List Expired
 expired now places = filter_map (expired_of now) places
 
--- the sooner of two deadlines, and the soonest of all
-abbrev pub sooner : Option Moment → Option Moment → Option Moment
-sooner None b = b
-sooner (Some a) None = Some a
-sooner (Some a) (Some b) = if nat_le a.0 b.0 then Some a else Some b
-
+-- the soonest deadline of all
 abbrev pub next_deadline : List (Option Reassembly) → Option Moment
 next_deadline places = fold (λ soonest place. sooner soonest (option_map deadline_of place)) None places

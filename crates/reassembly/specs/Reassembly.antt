@@ -1,9 +1,10 @@
 -- A datagram that is being put together, and one fragment more (RFC 791 section 3.2).
-use Rattle.std.specs.Prelude.{◌≡◌, ℕ, ◌+◌, ◌-◌, ◌^◌, ◌==◌, min, Bool, not, ◌&&◌, ◌||◌, nat_lt, nat_le, if◌then◌else◌, List, [], length, fold, Option, Some, None, unwrap_or}
+use Rattle.std.specs.Prelude.{◌≡◌, ℕ, ◌==◌, Bool, not, ◌&&◌, ◌||◌, nat_lt, nat_le, if◌then◌else◌, List, [], length, fold, Option, Some, None, unwrap_or}
 use Rattle.std.specs.Option.{option_or, option_map_or}
 use Rattle.ipv4.specs.Datagram.{Datagram}
 use Rattle.reassembly.specs.declared.key.Key.{Key}
-use Rattle.reassembly.specs.declared.moment.Moment.{Moment}
+use Rattle.clock.specs.declared.moment.Moment.{Moment}
+use Rattle.clock.specs.Moments.{after}
 use Rattle.reassembly.specs.declared.taken.Loss.TheVariants.{GivenUp}
 use Rattle.reassembly.specs.declared.taken.Taken.{Taken}
 use Rattle.reassembly.specs.declared.taken.Taken.TheVariants.{Waiting, Whole, Dropped}
@@ -24,7 +25,7 @@ pub record Reassembly : Type 0 where
 
 -- the time for it runs out sixty seconds after its first fragment arrived, or at the end of the clock
 abbrev pub deadline_after : Moment → Moment
-deadline_after since = record { 0 = min (since.0 + 60000) (2 ^ 64 - 1) }
+deadline_after since = after since 60000
 
 abbrev pub deadline_of : Reassembly → Moment
 deadline_of r = deadline_after r.since

@@ -3,7 +3,7 @@
 ghost use Rattle.std.specs.Prelude.{◌≡◌, ◌≢◌, ◌<◌, ◌≤◌, ◌↔◌, ◌++◌, ◌∷◌, [], ℕ, List, All, length, true, false, Option, Some, None, IfSome, option_map, slice_index_or};
 ghost use Rattle.std.specs.List.{Any};
 ghost use Rattle.ipv4.specs.Datagram.{Datagram};
-ghost use Rattle.reassembly.specs.declared.moment.Moment.{Moment};
+ghost use Rattle.clock.specs.declared.moment.Moment.{Moment};
 ghost use Rattle.reassembly.specs.Fragments.{key_of, latest, latest_quote, told_end, is_contradictory, IsPayload};
 ghost use Rattle.reassembly.specs.Octets.{whole_of};
 ghost use Rattle.reassembly.specs.Places.{after_age, expired, next_deadline};

@@ -6,8 +6,8 @@ ghost use Rattle.reassembly.specs.Reassembly.{begun, deadline_after, is_over_aft
 
 use crate::fragment;
 use crate::key::Key;
-use crate::moment::Moment;
 use crate::quote::Quote;
+use clock::Moment;
 use ipv4::Ipv4View;
 
 /// How long the fragments of a datagram are waited for, in milliseconds (RFC 1122 section 3.3.2).

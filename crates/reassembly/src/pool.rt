@@ -4,15 +4,15 @@ ghost use Rattle.std.specs.Prelude.{◌≡◌, ◌≤◌, ◌<◌, None, IfOk, I
 ghost use Rattle.std.specs.Borrow.{sem};
 ghost use Rattle.std.specs.Io.BufRead.{Rests};
 ghost use Rattle.reassembly.specs.contracts.pool.Pool.{the_row};
-ghost use Rattle.reassembly.specs.Places.{is_of, place_for, after_take, AnswersTake, after_age, expired, sooner, next_deadline};
+ghost use Rattle.reassembly.specs.Places.{is_of, place_for, after_take, AnswersTake, after_age, expired, next_deadline};
 
 use crate::expired::Expired;
 use crate::fault::PoolFault;
 use crate::key::Key;
-use crate::moment::Moment;
 use crate::place::Place;
 use crate::taken::{Loss, Taken};
 use arrayvec::ArrayVec;
+use clock::{Moment, sooner};
 use ipv4::Ipv4View;
 use std::alloc::Global;
 use std::marker::Model;
@@ -121,14 +121,4 @@ fn free_place(places: &[Place]) -> Option<usize>
     ensures within { IfSome result (λ i. i < length places.now) }
 {
     places.iter().position(|place| place.is_free())
-}
-
-/// The sooner of two deadlines.
-fn sooner(a: Option<Moment>, b: Option<Moment>) -> Option<Moment>
-    ensures { result ≡ sooner a b }
-{
-    match (a, b) {
-        (None, deadline) | (deadline, None) => deadline,
-        (Some(a), Some(b)) => Some(a.min(b)),
-    }
 }

@@ -3,8 +3,9 @@
 
 ghost use Rattle.std.specs.Prelude.{◌≡◌, ℕ, ◌*◌, ◌^◌, ◌≤◌, min, List, [], ◌∷◌, ◌++◌, replicate, Option};
 ghost use Rattle.std.specs.List.{list_any};
-ghost use Rattle.retransmit.specs.declared.moment.Moment.{Moment};
-ghost use Rattle.retransmit.specs.Deadlines.{has_come, next_of};
+ghost use Rattle.clock.specs.declared.moment.Moment.{Moment};
+ghost use Rattle.clock.specs.Moments.{has_come};
+ghost use Rattle.retransmit.specs.Deadlines.{next_of};
 ghost use Rattle.retransmit.specs.Events.{Event, after_event, timeout_after};
 ghost use Rattle.retransmit.specs.Events.Event.{Expiry};
 

@@ -2,10 +2,8 @@
 #![tactic(auto)]
 
 pub mod laws;
-mod moment;
 mod rto;
 mod timers;
 
-pub use moment::Moment;
 pub use rto::{Estimate, Rto};
 pub use timers::Timers;

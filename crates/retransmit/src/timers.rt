@@ -1,9 +1,9 @@
 //! The deadlines of a connection's timers.
 
 ghost use Rattle.std.specs.Prelude.{◌≡◌, ◌<◌, Some, None, length, replicate, slice_set};
-ghost use Rattle.retransmit.specs.Deadlines.{is_due, sooner, next_of};
+ghost use Rattle.retransmit.specs.Deadlines.{is_due, next_of};
 
-use crate::moment::Moment;
+use clock::{Moment, sooner};
 use std::marker::Model;
 
 /// A deadline or none for each of `KINDS` kinds of timer, which are numbered from 0.
@@ -14,7 +14,7 @@ pub struct Timers<const KINDS: usize> {
 
 impl<const KINDS: usize> Model for Timers<KINDS> {
     ghost use Rattle.std.specs.Prelude.{List, Option};
-    ghost use Rattle.retransmit.specs.declared.moment.Moment.{Moment};
+    ghost use Rattle.clock.specs.declared.moment.Moment.{Moment};
 
     ghost Value = { List (Option Moment) };
 
@@ -65,16 +65,6 @@ impl<const KINDS: usize> Timers<KINDS> {
     {
         self.deadlines
             .iter()
-            .fold(None, |next, deadline| earlier(next, *deadline))
-    }
-}
-
-/// The sooner of two deadlines.
-fn earlier(a: Option<Moment>, b: Option<Moment>) -> Option<Moment>
-    ensures { result ≡ sooner a b }
-{
-    match (a, b) {
-        (None, deadline) | (deadline, None) => deadline,
-        (Some(a), Some(b)) => Some(a.min(b)),
+            .fold(None, |next, deadline| sooner(next, *deadline))
     }
 }

@@ -5,9 +5,9 @@ ghost use Rattle.script.specs.Keywords.{keyword_of};
 ghost use Rattle.script.specs.Actions.{action_of, said_by, id_of, moment_of, isn_of, port_of, octets_of};
 
 use crate::words::{Text, number};
+use clock::Moment;
 use host::SocketId;
 use tcp_segment::Seq;
-use tcp_state::Moment;
 
 // The greatest count of octets, and the greatest MAX, of a line.
 const MOST_OCTETS: u64 = 2_000_000;

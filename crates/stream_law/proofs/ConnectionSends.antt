@@ -3,7 +3,7 @@ use Rattle.std.proofs.Common.{◌≡◌, ℕ, ◌+◌, ◌<◌, ◌≤◌, ◌^�
 use Rattle.std.proofs.lemmas.List.{length-take, take-append-drop}
 use Rattle.tcp_segment.specs.Wire.{past}
 use Rattle.tcp_segment.specs.Sent.{sent}
-use Rattle.tcp_state.specs.declared.moment.Moment.{Moment}
+use Rattle.clock.specs.declared.moment.Moment.{Moment}
 use Rattle.tcp_state.specs.declared.emission.Due.TheVariants.{Syn, Text, Fin}
 use Rattle.tcp_state.specs.View.{View, is_opening, is_syn_sent, is_syn_received, is_fin_acknowledged, is_write_closed}
 use Rattle.tcp_state.specs.Numbers.{later_number}

@@ -2,7 +2,7 @@
 use Rattle.std.proofs.Common.{◌≡◌, ℕ, ◌&&◌, ◌||◌, not, Bool, true, false, is_some, refl, sym, ◌∙◌, ap, subst}
 use Rattle.tcp_segment.specs.Segment.{Segment}
 use Rattle.tcp_state.specs.declared.state.State.{State}
-use Rattle.tcp_state.specs.declared.moment.Moment.{Moment}
+use Rattle.clock.specs.declared.moment.Moment.{Moment}
 use Rattle.tcp_state.specs.declared.state.State.TheVariants.{Closed, Listen, FinWait2, Closing, LastAck, TimeWait}
 use Rattle.tcp_state.specs.View.{View, is_syn_sent, is_closed, is_listening, is_write_closed, is_end_seen, end_of_wait, is_reached, is_at_end, stopped}
 use Rattle.tcp_state.specs.Stream.{is_new_ack, is_in_window}

@@ -8,7 +8,7 @@ use Rattle.tcp_segment.specs.Sent.{sent}
 use Rattle.tcp_state.specs.declared.connection.Fate.{Fate}
 use Rattle.tcp_state.specs.declared.connection.Fate.TheVariants.{Stays, Removed, Refused}
 use Rattle.tcp_state.specs.declared.emission.Due.{Due}
-use Rattle.tcp_state.specs.declared.moment.Moment.{Moment}
+use Rattle.clock.specs.declared.moment.Moment.{Moment}
 use Rattle.tcp_state.specs.View.{View, IsSound, is_opening, is_write_closed, opened_actively}
 use Rattle.tcp_state.specs.Calls.{taken, after_send, moved, recv_answer, after_recv, after_shutdown}
 use Rattle.tcp_state.specs.Arrival.{opened_passively, after_segment, fate}

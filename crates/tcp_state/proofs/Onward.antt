@@ -4,7 +4,7 @@ use Rattle.std.proofs.lemmas.Bool.{ltb-true, leb-true}
 use Rattle.std.proofs.lemmas.List.{length-take}
 use Rattle.tcp_segment.specs.Wire.{past}
 use Rattle.tcp_segment.specs.Segment.{Segment}
-use Rattle.tcp_state.specs.declared.moment.Moment.{Moment}
+use Rattle.clock.specs.declared.moment.Moment.{Moment}
 use Rattle.tcp_state.specs.declared.emission.Due.{Due}
 use Rattle.tcp_state.specs.declared.emission.Due.TheVariants.{Rst, Syn, Text, Fin, Ack}
 use Rattle.tcp_state.specs.Numbers.{is_before}

@@ -1,7 +1,7 @@
 -- Why a connection that becomes CLOSED in silence had seen the peer's end.
 use Rattle.std.proofs.Common.{◌≡◌, ◌==◌, ◌||◌, ◌&&◌, if◌then◌else◌, Bool, true, false, length, None, refl, sym, ◌∙◌, ap, is_some}
 use Rattle.tcp_segment.specs.Segment.{Segment}
-use Rattle.tcp_state.specs.declared.moment.Moment.{Moment}
+use Rattle.clock.specs.declared.moment.Moment.{Moment}
 use Rattle.tcp_state.specs.declared.state.State.{State}
 use Rattle.tcp_state.specs.declared.state.State.TheVariants.{Closed, SynSent, SynReceived, Established, FinWait1, FinWait2, CloseWait, Closing, LastAck, TimeWait, Listen}
 use Rattle.tcp_state.specs.Stream.{is_new_ack, is_in_window}

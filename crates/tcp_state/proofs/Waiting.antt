@@ -2,7 +2,8 @@
 use Rattle.std.proofs.Common.{◌≡◌, ◌<◌, ◌≤◌, ◌==◌, ◌||◌, ◌&&◌, ◌⊎◌, not, nat_lt, if◌then◌else◌, Bool, true, false, length, Option, Some, None, inl, inr, arith, refl, ◌∙◌, ap, subst, is_some}
 use Rattle.std.proofs.lemmas.Bool.{lt-ltb}
 use Rattle.std.proofs.lemmas.Bool.Decides.{eqb_tells}
-use Rattle.tcp_state.specs.declared.moment.Moment.{Moment}
+use Rattle.clock.specs.declared.moment.Moment.{Moment}
+use Rattle.clock.specs.Moments.{sooner}
 use Rattle.tcp_state.specs.declared.connection.Resend.{Resend}
 use Rattle.tcp_state.specs.declared.connection.Resend.TheVariants.{Idle, At, Due}
 use Rattle.tcp_state.specs.declared.state.State.{State}
@@ -11,7 +12,7 @@ use Rattle.tcp_state.specs.declared.emission.Due.{Due as Segment}
 use Rattle.tcp_state.specs.declared.emission.Due.TheVariants.{Rst, Syn, Text, Fin}
 use Rattle.tcp_state.specs.Stream.{outstanding}
 use Rattle.tcp_state.specs.Windows.{sendable}
-use Rattle.tcp_state.specs.View.{View, IsSound, is_opening, is_closed, awaits_fin_ack, is_fin_acknowledged, is_due, is_idle, resend_at, ends_at, earlier, deadline}
+use Rattle.tcp_state.specs.View.{View, IsSound, is_opening, is_closed, awaits_fin_ack, is_fin_acknowledged, is_due, is_idle, resend_at, ends_at, deadline}
 use Rattle.tcp_state.specs.Arrival.{is_fin_next}
 use Rattle.tcp_state.specs.Due.{first_due, ack_due, again}
 use Rattle.tcp_state.specs.Positions.{HasToSend, takes_numbers}
@@ -25,10 +26,10 @@ running Idle e = cc
 running (At moment) e = inr refl
 running Due e = inl refl
 
-earlier_some : (a b : Option Moment) → is_some a ≡ true → is_some (earlier a b) ≡ true
-earlier_some None b e = cc
-earlier_some (Some m) None e = refl
-earlier_some (Some m) (Some n) e = either (Option Moment) (λ o. is_some o ≡ true) _ (Some m) (Some n) (λ first. refl) (λ second. refl)
+sooner_some : (a b : Option Moment) → is_some a ≡ true → is_some (sooner a b) ≡ true
+sooner_some None b e = cc
+sooner_some (Some m) None e = refl
+sooner_some (Some m) (Some n) e = either (Option Moment) (λ o. is_some o ≡ true) _ (Some m) (Some n) (λ first. refl) (λ second. refl)
 
 -- A reset is owed only where nothing waits.
 
@@ -119,6 +120,6 @@ goes_out v sound has =
       | inl none ↦ or_left due timed (due_first v sound none.0 has)
       | inr some ↦ elim (running v.resend (sound.timer ∙ some.0)) [
         | inl goes ↦ or_left due timed (due_again v (no_reset v sound has) goes)
-        | inr waits ↦ or_right due timed (earlier_some (resend_at v.resend) (ends_at v) waits)
+        | inr waits ↦ or_right due timed (sooner_some (resend_at v.resend) (ends_at v) waits)
       ]
     ]

@@ -7,7 +7,7 @@ use Rattle.tcp_state.specs.Halves.{Sending}
 use Rattle.tcp_state.specs.Windows.{tells_window}
 use Rattle.tcp_state.specs.Positions.{AreNear}
 use Rattle.tcp_segment.specs.Segment.{Segment}
-use Rattle.tcp_state.specs.declared.moment.Moment.{Moment}
+use Rattle.clock.specs.declared.moment.Moment.{Moment}
 use Rattle.tcp_state.specs.Stream.{is_new_ack, is_in_window}
 use Rattle.tcp_state.specs.View.{View, is_syn_sent, is_syn_received, is_closed}
 use Rattle.tcp_state.specs.Arrival.{owing_ack, established, is_fin_next, fin_acknowledged, after_new_ack, after_ack, is_read_on, after_window, after_text, after_fin, after_acceptable, after_accepted, ends_by_syn, ends_by_reset, is_acting_reset, is_accepted, after_reset, reset_error, after_refusal, after_rst, is_right_syn_ack, after_syn_ack, after_segment, is_lost, after_lost, after_segment_at}

@@ -5,11 +5,12 @@ use Rattle.tcp_segment.specs.declared.head.Head.{Head}
 use Rattle.tcp_segment.specs.Sent.{sent_offset, sent_octets}
 use Rattle.tcp_state.specs.declared.emission.Due.{Due}
 use Rattle.tcp_state.specs.declared.emission.Due.TheVariants.{Rst, Syn, Text, Fin, Ack}
-use Rattle.tcp_state.specs.declared.moment.Moment.{Moment}
+use Rattle.clock.specs.declared.moment.Moment.{Moment}
+use Rattle.clock.specs.Moments.{after}
 use Rattle.tcp_state.specs.declared.connection.Resend.TheVariants.{At}
 use Rattle.tcp_state.specs.Stream.{outstanding, after_sent, receive_window}
 use Rattle.tcp_state.specs.Windows.{sendable, after_told}
-use Rattle.tcp_state.specs.View.{View, later, is_opening, is_syn_sent, is_syn_received, is_closed, is_due}
+use Rattle.tcp_state.specs.View.{View, is_opening, is_syn_sent, is_syn_received, is_closed, is_due}
 use Rattle.tcp_state.specs.Arrival.{is_fin_next}
 
 -- The segment that goes out for each thing that may be due.
@@ -63,7 +64,7 @@ after_ack_paid v = record v { receiving = after_told v.receiving; owes_ack = fal
 
 -- what is outstanding goes out again after a second
 abbrev pub after_numbers : View → ℕ → Moment → View
-after_numbers v count now = record v { sending = after_sent v.sending count; resend = At (later now 1000) }
+after_numbers v count now = record v { sending = after_sent v.sending count; resend = At (after now 1000) }
 
 abbrev pub after_emitted : View → Due → Moment → View
 after_emitted v Rst now = record v { owes_reset = false }

@@ -1,10 +1,11 @@
 -- A connection as its callers see it (RFC 9293 section 3.3).
-use Rattle.std.specs.Prelude.{◌≡◌, ℕ, ◌+◌, ◌-◌, ◌≤◌, ◌^◌, ◌==◌, ◌&&◌, ◌||◌, ◌<◌, not, nat_le, min, Bool, true, false, if◌then◌else◌, [], length, Option, Some, None, is_some}
+use Rattle.std.specs.Prelude.{◌≡◌, ℕ, ◌≤◌, ◌^◌, ◌==◌, ◌&&◌, ◌||◌, ◌<◌, not, nat_le, min, Bool, true, false, if◌then◌else◌, [], length, Option, Some, None, is_some}
 use Rattle.ipv4.specs.declared.addr.Endpoint.{Endpoint}
 use Rattle.tcp_state.specs.declared.buffers.TheConstants.{CAPACITY}
 use Rattle.tcp_state.specs.declared.state.State.{State}
 use Rattle.tcp_state.specs.declared.state.State.TheVariants.{Closed, Listen, SynSent, SynReceived, FinWait1, FinWait2, CloseWait, Closing, LastAck, TimeWait}
-use Rattle.tcp_state.specs.declared.moment.Moment.{Moment}
+use Rattle.clock.specs.declared.moment.Moment.{Moment}
+use Rattle.clock.specs.Moments.{after, sooner}
 use Rattle.tcp_state.specs.declared.calls.Refusal.{Refusal}
 use Rattle.tcp_state.specs.declared.connection.Fate.{Fate}
 use Rattle.tcp_state.specs.declared.connection.Fate.TheVariants.{Stays, Removed}
@@ -101,15 +102,11 @@ is_idle _ = false
 
 -- The clock.
 
--- so many milliseconds later, or the last moment where that would lie past it
-abbrev pub later : Moment → ℕ → Moment
-later moment milliseconds = record { 0 = min (moment.0 + milliseconds) (2 ^ 64 - 1) }
-
 -- when a wait that began at a moment ends: TIME-WAIT lasts twice the two minutes that a segment may live (section 3.4.2), FIN-WAIT-2
 -- a minute where no caller is left to read
 abbrev pub end_of_wait : State → Bool → Moment → Option Moment
-end_of_wait TimeWait released since = Some (later since 240000)
-end_of_wait FinWait2 true since = Some (later since 60000)
+end_of_wait TimeWait released since = Some (after since 240000)
+end_of_wait FinWait2 true since = Some (after since 60000)
 end_of_wait FinWait2 false since = None
 end_of_wait _ released since = None
 
@@ -150,14 +147,9 @@ abbrev pub resend_at : Resend → Option Moment
 resend_at (At moment) = Some moment
 resend_at _ = None
 
-abbrev pub earlier : Option Moment → Option Moment → Option Moment
-earlier None other = other
-earlier (Some a) None = Some a
-earlier (Some a) (Some b) = if nat_le a.0 b.0 then Some a else Some b
-
 -- the moment at which a tick does something
 abbrev pub deadline : View → Option Moment
-deadline v = earlier (resend_at v.resend) (ends_at v)
+deadline v = sooner (resend_at v.resend) (ends_at v)
 
 -- a connection that its caller opens (RFC 9293 section 3.10.1)
 abbrev pub opened_actively : Endpoint → Endpoint → ℕ → View

@@ -6,8 +6,8 @@ ghost use Rattle.tcp_state.specs.Arrival.{after_segment, after_syn_ack, owing_ac
 ghost use Rattle.tcp_state.specs.Stream.{is_new_ack};
 
 use crate::connection::{Connection, Fate, Resend};
-use crate::moment::Moment;
 use crate::state::State;
+use clock::Moment;
 use tcp_segment::{Seq, TcpView};
 
 impl Connection {

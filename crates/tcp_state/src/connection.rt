@@ -4,10 +4,10 @@ ghost use Rattle.tcp_state.specs.Arrival.{opened_passively};
 
 use crate::buffers::Buffers;
 use crate::calls::Refusal;
-use crate::moment::Moment;
 use crate::receiver::Receiver;
 use crate::sender::Sender;
 use crate::state::State;
+use clock::Moment;
 use ipv4::Endpoint;
 use std::marker::Model;
 use tcp_segment::{Seq, TcpView};

@@ -5,8 +5,8 @@ ghost use Rattle.tcp_state.specs.View.{is_opening, is_due, most_outstanding};
 ghost use Rattle.tcp_state.specs.Due.{MayGoOut, first_due, again, flags_of, number_of, octets_of, window_of, head_of, emitted, emitted_len, after_emitted, after_ack_paid, after_numbers};
 
 use crate::connection::{Connection, Resend};
-use crate::moment::Moment;
 use crate::state::State;
+use clock::Moment;
 use tcp_segment::{Flags, Head, Seq};
 
 /// The octets that a frame has at most.

@@ -5,8 +5,8 @@ ghost use Rattle.tcp_state.specs.View.{is_opening, ends_at, is_at_end, stopped, 
 ghost use Rattle.tcp_state.specs.Calls.{aborted, after_abort, abort_fate, after_release, after_close, close_fate};
 
 use crate::connection::{Connection, Fate, Resend};
-use crate::moment::{Moment, earlier};
 use crate::state::State;
+use clock::{Moment, sooner};
 
 /// How long TIME-WAIT lasts, in milliseconds: twice the time that a segment may live (RFC 9293 section 3.4.2).
 const TIME_WAIT: u64 = 240_000;
@@ -75,7 +75,7 @@ impl Connection {
             Resend::At(moment) => Some(moment),
             Resend::Idle | Resend::Due => None,
         };
-        earlier(again, self.ends_at())
+        sooner(again, self.ends_at())
     }
 
     /// The connection is CLOSED: nothing is held, owed or due, and no number is outstanding.

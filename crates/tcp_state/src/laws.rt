@@ -3,7 +3,7 @@
 ghost use Rattle.std.specs.Prelude.{◌≡◌, ℕ, ◌+◌, ◌-◌, ◌<◌, ◌≤◌, ◌==◌, nat_lt, ◌^◌, ◌⊎◌, ◌↔◌, ◌||◌, List, [], ◌++◌, slice_get, length, true, false, if◌then◌else◌, Some, None, is_some};
 ghost use Rattle.tcp_segment.specs.Segment.{Segment, span_of};
 ghost use Rattle.tcp_state.specs.declared.calls.Refusal.{Refusal};
-ghost use Rattle.tcp_state.specs.declared.moment.Moment.{Moment};
+ghost use Rattle.clock.specs.declared.moment.Moment.{Moment};
 ghost use Rattle.tcp_state.specs.declared.connection.Fate.{Fate};
 ghost use Rattle.tcp_state.specs.declared.emission.Due.{Due};
 ghost use Rattle.tcp_state.specs.View.{View, IsSound, is_closed, is_syn_sent, is_over, is_due, is_end_seen, is_reached, deadline, after_tick};

@@ -12,7 +12,7 @@ use Rattle.tcp_state.specs.declared.emission.Due.{Due}
 use Rattle.tcp_state.specs.declared.emission.Due.TheVariants.{Rst, Syn, Text, Fin, Ack}
 use Rattle.tcp_state.specs.declared.connection.Resend.{Resend}
 use Rattle.tcp_state.specs.declared.connection.Resend.TheVariants as resend
-use Rattle.tcp_state.specs.declared.moment.Moment.{Moment}
+use Rattle.clock.specs.declared.moment.Moment.{Moment}
 use Rattle.tcp_state.specs.Stream.{outstanding}
 use Rattle.tcp_state.specs.Windows.{sendable}
 use Rattle.tcp_state.specs.declared.state.State.{State}

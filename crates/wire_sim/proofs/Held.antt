@@ -10,7 +10,7 @@ use Rattle.ipv4.proofs.Pairs.{pair_of-swapped}
 use Rattle.tcp_segment.specs.Segment.{Segment}
 use Rattle.tcp_state.specs.declared.connection.Fate.{Fate}
 use Rattle.tcp_state.specs.declared.emission.Due.{Due}
-use Rattle.tcp_state.specs.declared.moment.Moment.{Moment}
+use Rattle.clock.specs.declared.moment.Moment.{Moment}
 use Rattle.tcp_state.specs.View.{opened_actively, View, is_closed, is_opening, after_tick}
 use Rattle.tcp_state.specs.Calls.{after_send, after_recv, after_shutdown, after_abort, after_close}
 use Rattle.tcp_state.specs.Due.{first_due, after_emitted}

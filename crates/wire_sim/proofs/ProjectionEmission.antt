@@ -14,7 +14,7 @@ use Rattle.tcp_segment.proofs.Checksum.{sent_spelled}
 use Rattle.tcp_state.specs.declared.connection.Fate.TheVariants.{Stays, Removed}
 use Rattle.tcp_state.specs.declared.emission.Due.{Due}
 use Rattle.tcp_state.specs.declared.emission.Due.TheVariants.{Rst}
-use Rattle.tcp_state.specs.declared.moment.Moment.{Moment}
+use Rattle.clock.specs.declared.moment.Moment.{Moment}
 use Rattle.tcp_state.specs.View.{View, IsSound, is_closed, is_over}
 use Rattle.tcp_state.specs.Due.{first_due, flags_of, head_of, octets_of, emitted, after_emitted}
 use Rattle.wire_sim.specs.declared.event.Side.{Side}

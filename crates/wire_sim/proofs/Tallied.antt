@@ -7,7 +7,7 @@ use Rattle.std.proofs.lemmas.List.{append-nil, length-take-le}
 use Rattle.ipv4.specs.declared.addr.Endpoint.{Endpoint}
 use Rattle.ipv4.specs.declared.addr.Pair.{Pair}
 use Rattle.tcp_segment.specs.declared.seq.Seq.{Seq}
-use Rattle.tcp_state.specs.declared.moment.Moment.{Moment}
+use Rattle.clock.specs.declared.moment.Moment.{Moment}
 use Rattle.host.specs.declared.Kind.{Kind}
 use Rattle.host.specs.declared.entry.SocketId.{SocketId}
 use Rattle.host.specs.declared.refusal.Refusal.{Refusal}

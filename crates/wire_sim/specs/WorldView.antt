@@ -2,7 +2,7 @@
 use Rattle.std.specs.Prelude.{◌≡◌, ℕ, List, [], vec_len, Option, Some, None}
 use Rattle.ipv4.specs.declared.addr.Addr.{Addr}
 use Rattle.ipv4.specs.declared.addr.Pair.{Pair}
-use Rattle.tcp_state.specs.declared.moment.Moment.{Moment}
+use Rattle.clock.specs.declared.moment.Moment.{Moment}
 use Rattle.wire_sim.specs.declared.event.Side.{Side}
 use Rattle.wire_sim.specs.declared.event.Side.TheVariants.{A, B}
 use Rattle.wire_sim.specs.declared.event.Answer.{Answer}

@@ -3,10 +3,11 @@
 ghost use Rattle.std.specs.Prelude.{◌≡◌, ◌<◌, ◌≤◌, ◌==◌, ◌&&◌, vec_len, vec_capacity};
 
 use crate::room::filled;
+use clock::Moment;
 use host::{DropCause, Kind, Refusal, SocketId};
 use ipv4::{Endpoint, Pair};
 use tcp_segment::Seq;
-use tcp_state::{Moment, State};
+use tcp_state::State;
 use thiserror::Error;
 
 /// One of the two hosts.

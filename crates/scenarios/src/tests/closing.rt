@@ -3,7 +3,8 @@
 use super::ends::Side::{A, B};
 use super::ends::Start::Open;
 use super::ends::{Act, STAYS, Scenario, Step, Told, plays};
-use tcp_state::{Fate, Moment, Received, Refusal, State};
+use clock::Moment;
+use tcp_state::{Fate, Received, Refusal, State};
 
 /// A closes its side behind its octets.
 const FIRST_SIDE: &[Step] = &[

@@ -1,10 +1,11 @@
 //! The two ends of a connection, what is done at each, and what that tells.
 
+use clock::Moment;
 use ipv4::{Addr, Endpoint};
 use std::alloc::Global;
 use std::process::Abort;
 use tcp_segment::{Flags, Head, Seq, TcpView};
-use tcp_state::{Buffers, Connection, Due, FRAME, Fate, Moment, Received, Refusal, State};
+use tcp_state::{Buffers, Connection, Due, FRAME, Fate, Received, Refusal, State};
 
 const CALLER: Endpoint = Endpoint {
     addr: Addr([10, 0, 0, 1]),

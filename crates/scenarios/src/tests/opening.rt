@@ -3,7 +3,8 @@
 use super::ends::Side::{A, B};
 use super::ends::Start::{Called, Open};
 use super::ends::{ACK, Act, STAYS, SYN_SEGMENT, Scenario, Step, Told, plays};
-use tcp_state::{Due, Fate, Moment, Received, Refusal, State};
+use clock::Moment;
+use tcp_state::{Due, Fate, Received, Refusal, State};
 
 /// The segment that carries `hello` from A to B after the handshake.
 const HELLO_SEGMENT: [u8; 25] = [

@@ -1,11 +1,12 @@
 //! Two hosts, each the other's neighbour, what is done at each, and what that tells.
 
+use clock::Moment;
 use host::{Config, DropCause, Host, Kind, Refusal, SocketId};
 use ipv4::{Addr, Endpoint, Pair};
 use std::alloc::Global;
 use std::process::Abort;
 use tcp_segment::Seq;
-use tcp_state::{Moment, Received, State};
+use tcp_state::{Received, State};
 
 const A: Addr = Addr([10, 0, 0, 1]);
 

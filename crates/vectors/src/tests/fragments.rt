@@ -1,8 +1,9 @@
 //! Datagrams put together from their fragments (RFC 791 section 3.2), within a time (RFC 1122 section 3.3.2).
 
 use super::A;
+use clock::Moment;
 use ipv4::Ipv4View;
-use reassembly::{Expired, Loss, Moment, Pool, Taken};
+use reassembly::{Expired, Loss, Pool, Taken};
 use std::process::Abort;
 use std::test::Fail;
 

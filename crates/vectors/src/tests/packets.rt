@@ -1,7 +1,8 @@
 //! The Address Resolution Protocol: its packets (RFC 826), and the cache of what they tell.
 
 use super::{A, B};
-use arp::{ArpCache, ArpFault, ArpPacket, LEN, Moment, Operation};
+use arp::{ArpCache, ArpFault, ArpPacket, LEN, Operation};
+use clock::Moment;
 use ether::{EtherView, Head, Mac, SPACE};
 use ipv4::Addr;
 

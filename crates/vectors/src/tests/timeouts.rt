@@ -1,6 +1,7 @@
 //! The retransmission timeout and the timers (RFC 6298).
 
-use retransmit::{Moment, Rto, Timers};
+use clock::Moment;
+use retransmit::{Rto, Timers};
 
 /// What happens to a timeout.
 enum Event {

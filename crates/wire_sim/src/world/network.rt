@@ -8,11 +8,11 @@ use super::ledger::Ledger;
 use super::station::Station;
 use crate::event::{Answer, Call, Event, Opening, Side, Unfair, WorldFault};
 use crate::room::{MOST_FRAME, filled};
+use clock::Moment;
 use host::{Config, SocketId};
 use ipv4::{Endpoint, Pair};
 use std::alloc::{AllocError, Global};
 use tcp_segment::Seq;
-use tcp_state::Moment;
 
 /// Two hosts, each the other's neighbour, the frames that they emitted, and the openings.
 #[derive(Drop)]

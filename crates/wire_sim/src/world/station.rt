@@ -7,11 +7,12 @@ ghost use Rattle.host.specs.Calls.{recv_answer};
 ghost use Rattle.wire_sim.specs.Steps.{MeetsReceived};
 
 use crate::event::{Answer, Call, WorldFault};
+use clock::Moment;
 use host::{Config, Host, Refusal, SocketId};
 use ipv4::{Addr, Endpoint, Pair};
 use std::alloc::Global;
 use tcp_segment::Seq;
-use tcp_state::{Moment, Received};
+use tcp_state::Received;
 
 /// A host, and the greatest moment of its ticks.
 #[derive(Drop)]

@@ -1,6 +1,6 @@
 use Rattle.std.proofs.Common.{◌≡◌, ℕ, List, true, false, length, Option, Some, None, refl, sym, ◌∙◌, ap, subst}
 use Rattle.ipv4.specs.Datagram.{Datagram}
-use Rattle.reassembly.specs.declared.moment.Moment.{Moment}
+use Rattle.clock.specs.declared.moment.Moment.{Moment}
 use Rattle.reassembly.specs.declared.pending.Pending.{Pending}
 use Rattle.reassembly.specs.declared.taken.Loss.TheVariants.{GivenUp as LossGivenUp}
 use Rattle.reassembly.specs.declared.taken.Taken.TheVariants.{Waiting, Whole, Dropped}
