@@ -1,1 +1,3 @@
 pub mod BestRoute
+pub mod Retained
+pub mod Framed

@@ -3,7 +3,7 @@ use Rattle.std.specs.Prelude.{ℕ, List, [], remove, Option, Some, None}
 use Rattle.std.specs.List.{slice_get}
 use Rattle.ether.specs.declared.mac.Mac.{Mac}
 use Rattle.ipv4.specs.declared.addr.Addr.{Addr}
-use Rattle.arp.specs.declared.moment.Moment.{Moment}
+use Rattle.clock.specs.declared.moment.Moment.{Moment}
 use Rattle.arp.specs.Cache.{after_ask}
 use Rattle.arp.specs.Packet.{request_of}
 use Rattle.tcp_segment.specs.Sent.{sent_octets}
@@ -32,7 +32,7 @@ request_frame h hop = packet_frame (request_of h.mac h.addr hop)
 -- the frame of a reply for this interface: a reset has no octets (RFC 9293 section 3.5.2)
 unfoldable pub reply_frame : InterfaceView → Mac → Reply → List ℕ
 reply_frame h mac (Arp packet) = packet_frame packet
-reply_frame h mac (Reset to head) = segment_frame (head_to h mac to) (sent_octets h.addr to head [])
+reply_frame h mac (Reset to head) = segment_frame_to h mac to (sent_octets h.addr to head [])
 
 -- the request for a neighbour is noted
 abbrev pub asked : InterfaceView → Moment → Addr → InterfaceView

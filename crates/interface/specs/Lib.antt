@@ -3,3 +3,4 @@ pub mod InterfaceView
 pub mod Ways
 pub mod Replies
 pub mod Emission
+pub mod Timing

@@ -2,7 +2,7 @@
 -- most is this stack's own.
 use Rattle.std.specs.Prelude.{Bool, true, false, not, ◌&&◌, ◌==◌, if◌then◌else◌, List, [], ◌∷◌, ◌++◌, length, position, Option, Result, Ok, Err}
 use Rattle.ipv4.specs.declared.addr.Addr.{Addr}
-use Rattle.arp.specs.declared.moment.Moment.{Moment}
+use Rattle.clock.specs.declared.moment.Moment.{Moment}
 use Rattle.arp.specs.declared.packet.ArpPacket.{ArpPacket}
 use Rattle.arp.specs.Cache.{after_hear, is_request_for}
 use Rattle.arp.specs.Packet.{reply_to}

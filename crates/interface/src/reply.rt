@@ -1,12 +1,17 @@
 //! The control replies that wait to go out.
 
 ghost use Rattle.std.specs.Prelude.{◌≡◌};
+ghost use Rattle.interface.specs.Timing.{sought, end_of, is_over};
 
-use arp::{ArpPacket, Moment};
+use arp::ArpPacket;
+use clock::Moment;
 use ether::Mac;
 use ipv4::Addr;
 use tcp_segment::Head;
 use thiserror::Error;
+
+/// How long a reset waits for a hop that isn't known, in milliseconds. It is this stack's own.
+const PATIENCE: u64 = 3_000;
 
 /// Why a control reply isn't queued.
 #[derive(Clone, Copy, PartialEq, Eq, Debug, Error)]
@@ -25,11 +30,39 @@ pub(crate) enum Reply {
     Reset { to: Addr, head: Head },
 }
 
+impl Reply {
+    /// The address whose next hop it needs; none where it names its MAC.
+    pub(crate) fn sought(&self) -> Option<Addr>
+        ensures { result ≡ sought self.now }
+    {
+        match *self {
+            Reply::Arp(_) => None,
+            Reply::Reset { to, .. } => Some(to),
+        }
+    }
+}
+
 /// A reply, and the moment since when it waits.
 #[derive(Clone, Copy, PartialEq, Eq, Debug)]
 pub(crate) struct Waiting {
     pub(crate) since: Moment,
     pub(crate) reply: Reply,
+}
+
+impl Waiting {
+    /// The moment until which it waits for a hop that isn't known.
+    pub(crate) fn end(&self) -> Moment
+        ensures { result ≡ end_of self.now }
+    {
+        self.since.after(PATIENCE)
+    }
+
+    /// Whether that moment has come.
+    pub(crate) fn is_over(&self, now: Moment) -> bool
+        ensures { result ≡ is_over now self.now }
+    {
+        self.end() <= now
+    }
 }
 
 impl Default for Waiting {
