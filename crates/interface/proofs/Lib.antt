@@ -1,3 +1,4 @@
 pub mod BestRoute
-pub mod Retained
 pub mod Framed
+pub mod Waits
+pub mod Heard

@@ -4,3 +4,4 @@ pub mod Ways
 pub mod Replies
 pub mod Emission
 pub mod Timing
+pub mod Sound

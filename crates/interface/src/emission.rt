@@ -1,10 +1,11 @@
 //! The frames that go out.
 
-ghost use Rattle.std.specs.Prelude.{◌≡◌, ◌+◌, ◌≤◌, ◌++◌, drop, max, slice_range, IsTrue};
+ghost use Rattle.std.specs.Prelude.{◌≡◌, ◌+◌, ◌<◌, ◌≤◌, ◌++◌, length, drop, max, slice_range, IsTrue};
 ghost use Rattle.arp.specs.Cache.{may_ask};
 
 use crate::Interface;
 use crate::reply::Reply;
+use crate::way::Way;
 use arp::ArpPacket;
 use clock::Moment;
 use ether::{Mac, SPACE};
@@ -15,7 +16,7 @@ use ipv4::Addr;
 const HEADS: usize = 34;
 
 impl Interface {
-    ghost use Rattle.interface.specs.Emission.{asked, segment_frame_to, request_frame, reply_frame};
+    ghost use Rattle.interface.specs.Emission.{asked, segment_frame_to, request_frame, reply_frame, way_at, len_by, frame_at, after_emission};
 
     /// Writes the frame of a segment for an address, which stands at `out[34..]` already and has so many octets, at most 1,480, round
     /// it, for the interface with this MAC (RFC 894, RFC 791 section 3.1). Answers the frame's length, 60 octets at least. What stands
@@ -52,6 +53,28 @@ impl Interface {
     {
         self.cache.ask(now, hop);
         emit_arp(&ArpPacket::request(self.mac, self.addr, hop), out)
+    }
+
+    /// Writes the frame that goes out now for the reply at a place, as `first_reply` names it: the reply, which waits no longer then, or the
+    /// request for its hop, which is noted, and the reply stays as it is (RFC 1122 section 2.3.2.2). Answers the frame's length, 60 octets; 0
+    /// where the reply waits on, and then nothing has changed. What stands behind the frame in `out` stays.
+    #[tactic(auto, using(crate::proofs::Waits::at_place, crate::proofs::Waits::reply_asks))]
+    pub fn emit_reply(&mut self, now: Moment, place: usize, out: &mut [u8; SPACE]) -> usize
+        requires { place < length self.old.replies }
+        ensures len { result ≡ len_by (way_at self.old now place) }
+        ensures after { self.new ≡ after_emission self.old now place }
+        ensures octets { out.new ≡ frame_at self.old now place ++ drop result out.old }
+    {
+        let waiting = self.replies[place];
+        match self.way_of(now, &waiting.reply) {
+            Way::To(mac) => {
+                let len = self.emit_to(mac, &waiting.reply, out);
+                self.replies.remove(place);
+                len
+            }
+            Way::Ask(hop) => self.emit_request(now, hop, out),
+            Way::Waits => 0,
+        }
     }
 
     /// Writes the frame of a reply for the interface with this MAC, and answers its length, 60 octets. What stands behind it in

@@ -2,8 +2,9 @@
 
 ghost use Rattle.std.specs.Prelude.{◌≡◌};
 ghost use Rattle.interface.specs.Routing.{next_hop, neighbour_by};
-ghost use Rattle.interface.specs.Ways.{mac_of};
+ghost use Rattle.interface.specs.Ways.{mac_of, way_over, way_by_mac};
 
+use crate::way::Way;
 use arp::ArpCache;
 use clock::Moment;
 use ether::Mac;
@@ -36,5 +37,26 @@ pub(crate) fn hop_mac(routes: &Routes, cache: &ArpCache, now: Moment, to: Addr) 
     match next_hop(routes, to) {
         Some(hop) => cache.look(now, hop),
         None => None,
+    }
+}
+
+/// What can be done now for what is to go to a neighbour.
+pub(crate) fn way_over(cache: &ArpCache, now: Moment, hop: Option<Addr>) -> Way
+    ensures { result ≡ way_over now cache.now hop }
+{
+    match hop {
+        Some(hop) => way_by_mac(cache, now, hop, cache.look(now, hop)),
+        None => Way::Waits,
+    }
+}
+
+/// The same where its MAC was looked up.
+fn way_by_mac(cache: &ArpCache, now: Moment, hop: Addr, mac: Option<Mac>) -> Way
+    ensures { result ≡ way_by_mac now cache.now.asked hop mac }
+{
+    match mac {
+        Some(mac) => Way::To(mac),
+        None if cache.may_ask(now, hop) => Way::Ask(hop),
+        None => Way::Waits,
     }
 }

@@ -2,11 +2,13 @@
 //! until a frame can carry them (RFC 826, RFC 1122 sections 2.3.2 and 3.3.1). It knows no socket and no connection.
 #![tactic(auto)]
 
-ghost use Rattle.std.specs.Prelude.{◌≡◌};
+ghost use Rattle.std.specs.Prelude.{◌≡◌, position};
 
 mod emission;
 mod hop;
+pub mod laws;
 mod reply;
+mod sound;
 mod timing;
 mod way;
 
@@ -14,7 +16,7 @@ use arp::{ArpCache, ArpPacket};
 use arrayvec::ArrayVec;
 use clock::Moment;
 use ether::Mac;
-use hop::{hop_mac, next_hop};
+use hop::{hop_mac, next_hop, way_over};
 use ipv4::Addr;
 pub use reply::QueueFault;
 use reply::{Reply, Waiting};
@@ -53,8 +55,8 @@ impl Model for Interface {
 
 impl Interface {
     ghost use Rattle.interface.specs.InterfaceView.{fresh};
-    ghost use Rattle.interface.specs.Ways.{is_routed, knows_hop};
-    ghost use Rattle.interface.specs.Replies.{owed, owed_answer, after_heard, heard_answer, after_answer, answer_result};
+    ghost use Rattle.interface.specs.Ways.{is_routed, knows_hop, way};
+    ghost use Rattle.interface.specs.Replies.{owed, owed_answer, after_heard, heard_answer, after_answer, answer_result, way_of, is_due};
 
     /// An interface with this MAC, address and routes, that heard nothing.
     pub fn new(mac: Mac, addr: Addr, routes: Routes) -> Interface
@@ -97,6 +99,15 @@ impl Interface {
         hop_mac(&self.routes, &self.cache, now, to).is_some()
     }
 
+    /// What can be done now for a datagram to an address: it can go out to the MAC of its next hop (RFC 1122 section 3.3.1.1), where that is
+    /// known; else a request for the hop can, where `emit_request` may send one (RFC 1122 section 2.3.2.1); else it waits. Without a
+    /// route it waits.
+    pub fn way(&self, now: Moment, to: Addr) -> Way
+        ensures { result ≡ way self.now now to }
+    {
+        way_over(&self.cache, now, next_hop(&self.routes, to))
+    }
+
     /// Takes an ARP packet that was heard (RFC 826): what it tells is learnt, and where it is a request for our address the
     /// reply to it is queued. NoRoom where 16 replies wait already, and then it is learnt all the same.
     pub fn hear(&mut self, now: Moment, packet: &ArpPacket) -> Result<(), QueueFault>
@@ -115,6 +126,33 @@ impl Interface {
     {
         let is_owed = self.is_routed(to);
         self.owe(is_owed, now, Reply::Reset { to, head })
+    }
+
+    /// The place of the first reply that waits and for which a frame can go out now, the reply or a request for its hop; none where every
+    /// reply waits on.
+    pub fn first_reply(&self, now: Moment) -> Option<usize>
+        ensures { result ≡ position (is_due self.now now) self.now.replies }
+    {
+        self.replies
+            .iter()
+            .position(|waiting| self.is_due(now, waiting))
+    }
+
+    /// Whether a frame can go out for a reply now.
+    fn is_due(&self, now: Moment, waiting: &Waiting) -> bool
+        ensures { result ≡ is_due self.now now waiting.now }
+    {
+        self.way_of(now, &waiting.reply).goes_out()
+    }
+
+    /// What can be done now for a reply.
+    fn way_of(&self, now: Moment, reply: &Reply) -> Way
+        ensures { result ≡ way_of self.now now reply.now }
+    {
+        match *reply {
+            Reply::Arp(packet) => Way::To(packet.target_mac),
+            Reply::Reset { to, .. } => self.way(now, to),
+        }
     }
 
     /// Queues a reply where it is owed and there is room.

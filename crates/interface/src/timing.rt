@@ -1,18 +1,18 @@
 //! What time does to what waits.
 
 ghost use Rattle.std.specs.Prelude.{◌≡◌, not, ◌&&◌};
-ghost use Rattle.interface.specs.Timing.{is_unknown, is_over, sought};
+ghost use Rattle.interface.specs.Timing.{is_unknown, is_over, sought, asked_until_over};
 
 use crate::Interface;
-use crate::hop::hop_mac;
+use crate::hop::{hop_mac, next_hop};
 use crate::reply::Waiting;
 use arp::ArpCache;
-use clock::Moment;
+use clock::{Moment, sooner};
 use ipv4::Addr;
 use routes::Routes;
 
 impl Interface {
-    ghost use Rattle.interface.specs.Timing.{after_tick};
+    ghost use Rattle.interface.specs.Timing.{after_tick, asked_until, deadline_of, least_deadline};
 
     /// Forgets the neighbours that were not heard in the last 20 minutes (RFC 1122 section 2.3.2.1), and drops each reset that has waited
     /// 3,000 ms or more for its next hop and whose next hop isn't known now. All else stays, in order.
@@ -23,6 +23,46 @@ impl Interface {
         self.replies
             .retain(|waiting| stays(routes, cache, now, waiting));
         self.cache.age(now);
+    }
+
+    /// The least moment at which a tick may drop a reset, or a request that one waits for may go out. A reset counts while its next hop
+    /// isn't known at `now`: with the end of its 3,000 ms, and, where no request may go out now, with the moment from which one may.
+    pub fn deadline(&self, now: Moment) -> Option<Moment>
+        ensures { result ≡ least_deadline self.now now }
+    {
+        self.replies.iter().fold(None, |least, waiting| {
+            sooner(least, self.deadline_of(now, waiting))
+        })
+    }
+
+    /// The moment from which a request for the next hop to an address may go out, where none may now and its MAC isn't known (RFC 1122
+    /// section 2.3.2.1).
+    pub fn asked_until(&self, now: Moment, to: Addr) -> Option<Moment>
+        ensures { result ≡ asked_until self.now now to }
+    {
+        asked_until_over(&self.cache, now, next_hop(&self.routes, to))
+    }
+
+    /// The deadline of one reply.
+    fn deadline_of(&self, now: Moment, waiting: &Waiting) -> Option<Moment>
+        ensures { result ≡ deadline_of self.now now waiting.now }
+    {
+        match waiting.reply.sought() {
+            Some(to) if !self.knows_hop(now, to) => {
+                sooner(Some(waiting.end()), self.asked_until(now, to))
+            }
+            _ => None,
+        }
+    }
+}
+
+/// The moment from which a request for a neighbour may go out, where none may now and its MAC isn't known.
+fn asked_until_over(cache: &ArpCache, now: Moment, hop: Option<Addr>) -> Option<Moment>
+    ensures { result ≡ asked_until_over cache.now now hop }
+{
+    match hop {
+        Some(hop) if cache.look(now, hop).is_none() => cache.asked_until(now, hop),
+        _ => None,
     }
 }
 

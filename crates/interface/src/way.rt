@@ -1,5 +1,8 @@
 //! What can be done for what is to go to an address.
 
+ghost use Rattle.std.specs.Prelude.{◌≡◌};
+ghost use Rattle.interface.specs.Replies.{goes_out};
+
 use ether::Mac;
 use ipv4::Addr;
 
@@ -12,4 +15,16 @@ pub enum Way {
     Ask(Addr),
     /// Nothing can go out for it.
     Waits,
+}
+
+impl Way {
+    /// Whether a frame goes out this way: what is to go, or a request.
+    pub fn goes_out(self) -> bool
+        ensures { result ≡ goes_out self }
+    {
+        match self {
+            Way::To(_) | Way::Ask(_) => true,
+            Way::Waits => false,
+        }
+    }
 }
