@@ -6,7 +6,8 @@ use Rattle.arp.specs.declared.entry.Asked.{Asked}
 use Rattle.arp.specs.declared.entry.Neighbour.{Neighbour}
 use Rattle.clock.specs.declared.moment.Moment.{Moment}
 use Rattle.arp.specs.declared.packet.ArpPacket.{ArpPacket}
-use Rattle.arp.specs.Cache.{Cache, same_addr, is_live, is_pair_of, is_note_of, is_live_pair, is_live_note, updated, longest_unheard, added, pairs_after, sender_of, after_hear, look, live_notes, has_place_for, may_ask, asked_after}
+use Rattle.arp.specs.Cache.{Cache, is_live, is_pair_of, is_note_of, is_live_pair, is_live_note, updated, longest_unheard, added, pairs_after, sender_of, after_hear, look, live_notes, has_place_for, may_ask, asked_after}
+use Rattle.ipv4.specs.Addresses.{same_addr}
 use Rattle.arp.proofs.History.{same_addr-refl}
 
 -- the pair of an address that is live

@@ -8,7 +8,8 @@ use Rattle.ipv4.specs.declared.addr.Addr.{Addr}
 use Rattle.arp.specs.declared.entry.Neighbour.{Neighbour}
 use Rattle.clock.specs.declared.moment.Moment.{Moment}
 use Rattle.arp.specs.declared.packet.ArpPacket.{ArpPacket}
-use Rattle.arp.specs.Cache.{Cache, empty, same_addr, is_live, is_pair_of, is_live_pair, after_sender, updated, longest_unheard, added, pairs_after, sender_of, look}
+use Rattle.arp.specs.Cache.{Cache, empty, is_live, is_pair_of, is_live_pair, after_sender, updated, longest_unheard, added, pairs_after, sender_of, look}
+use Rattle.ipv4.specs.Addresses.{same_addr}
 use Rattle.arp.specs.Events.{Event, after_event, cache_after, IsFrom, IsLastFrom}
 use Rattle.arp.specs.Events.Event.{Hear, Ask, Age}
 use Rattle.arp.proofs.Found.{is_found}

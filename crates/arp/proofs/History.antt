@@ -10,7 +10,8 @@ use Rattle.ipv4.specs.declared.addr.Addr.{Addr}
 use Rattle.arp.specs.declared.entry.Asked.{Asked}
 use Rattle.arp.specs.declared.entry.Neighbour.{Neighbour}
 use Rattle.clock.specs.declared.moment.Moment.{Moment}
-use Rattle.arp.specs.Cache.{Cache, empty, same_addr, is_pair_of, is_live_pair, is_live_note, after_sender, updated, longest_unheard, added, pairs_after, sender_of, live_notes, has_place_for, asked_after}
+use Rattle.arp.specs.Cache.{Cache, empty, is_pair_of, is_live_pair, is_live_note, after_sender, updated, longest_unheard, added, pairs_after, sender_of, live_notes, has_place_for, asked_after}
+use Rattle.ipv4.specs.Addresses.{same_addr}
 use Rattle.arp.specs.Events.{Event, after_event, cache_after}
 use Rattle.arp.specs.Events.Event.{Hear, Ask, Age}
 use Rattle.arp.proofs.Asking.{has_place}

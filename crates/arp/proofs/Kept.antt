@@ -9,7 +9,8 @@ use Rattle.arp.specs.declared.entry.Asked.{Asked}
 use Rattle.arp.specs.declared.entry.Neighbour.{Neighbour}
 use Rattle.clock.specs.declared.moment.Moment.{Moment}
 use Rattle.arp.specs.declared.packet.ArpPacket.{ArpPacket}
-use Rattle.arp.specs.Cache.{Cache, same_addr, is_live, is_pair_of, is_note_of, is_live_pair, is_live_note, updated, longest_unheard, added, pairs_after, sender_of, after_hear, after_age, look, live_notes, has_place_for, may_ask, asked_after, after_ask}
+use Rattle.arp.specs.Cache.{Cache, is_live, is_pair_of, is_note_of, is_live_pair, is_live_note, updated, longest_unheard, added, pairs_after, sender_of, after_hear, after_age, look, live_notes, has_place_for, may_ask, asked_after, after_ask}
+use Rattle.ipv4.specs.Addresses.{same_addr}
 use Rattle.arp.specs.Events.{Event, moment_of, after_event}
 use Rattle.arp.specs.Events.Event.{Hear, Ask, Age}
 use Rattle.arp.proofs.Found.{is_found, refused_where_noted}

@@ -10,3 +10,4 @@ pub mod Reading
 pub mod Spelling
 pub mod Unheard
 pub mod PlainReading
+pub mod WaitsOver

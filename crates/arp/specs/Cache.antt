@@ -1,11 +1,11 @@
 -- What a host keeps of the packets that it heard, and of the requests that it sent. Who is learnt is RFC 826; that old pairs
 -- are flushed, and one request a second for an address, are RFC 1122 section 2.3.2.1. The twenty minutes, the 64 pairs, the 64
 -- notes and which pair gives way are this stack's own.
-use Rattle.std.specs.Prelude.{ℕ, Bool, true, false, not, ◌&&◌, nat_eq, nat_lt, nat_le, if◌then◌else◌, List, [], ◌∷◌, ◌++◌, length, map, filter, find, remove, Option, option_map}
+use Rattle.std.specs.Prelude.{◌≡◌, ◌<◌, ℕ, Bool, true, false, not, ◌&&◌, nat_lt, nat_le, if◌then◌else◌, List, [], ◌∷◌, ◌++◌, length, map, filter, find, remove, Option, Some, None, option_map}
 use Rattle.std.specs.List.{list_any, list_all, position_or_len}
-use Rattle.std.specs.Cmp.Lexicographic.{pointwise}
 use Rattle.ether.specs.declared.mac.Mac.{Mac}
 use Rattle.ipv4.specs.declared.addr.Addr.{Addr}
+use Rattle.ipv4.specs.Addresses.{same_addr}
 use Rattle.arp.specs.declared.entry.Asked.{Asked}
 use Rattle.arp.specs.declared.entry.Neighbour.{Neighbour}
 use Rattle.clock.specs.declared.moment.Moment.{Moment}
@@ -26,10 +26,6 @@ empty = record { pairs = []; asked = [] }
 -- a moment is live for so many milliseconds: until their sum, which the end of the clock bounds, is reached
 abbrev pub is_live : ℕ → Moment → Moment → Bool
 is_live milliseconds now t = let end = after t milliseconds in nat_lt now.0 end.0
-
--- octet by octet
-abbrev pub same_addr : Addr → Addr → Bool
-same_addr a b = pointwise nat_eq a.0 b.0
 
 -- a pair is live for twenty minutes after it was heard, and a note for a second after the request
 abbrev pub is_live_pair : Moment → Neighbour → Bool
@@ -113,3 +109,13 @@ asked_after now addr asked =
 
 abbrev pub after_ask : Moment → Addr → Cache → Cache
 after_ask now addr cache = record cache { asked = asked_after now addr cache.asked }
+
+-- when a note is no longer live
+abbrev pub end_of : Asked → Moment
+end_of note = after note.at 1000
+
+-- From when on a request for an address may go out, as long as none goes out for any: at no moment before, and at each from then on.
+-- None where one may go out at every moment.
+abbrev pub IsNextAsk : Addr → List Asked → Option Moment → Type 0
+IsNextAsk addr asked None = (now : Moment) → may_ask now addr asked ≡ true
+IsNextAsk addr asked (Some next) = (0 < next.0) × ((now : Moment) → may_ask now addr asked ≡ nat_le next.0 now.0)

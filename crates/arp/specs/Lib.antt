@@ -2,3 +2,4 @@ pub mod Packet
 pub mod Cache
 pub mod Events
 pub mod Reading
+pub mod Waits

@@ -1,13 +1,14 @@
 //! What a host knows of its neighbours.
 
-ghost use Rattle.std.specs.Prelude.{◌≡◌, ◌<◌, length};
+ghost use Rattle.std.specs.Prelude.{◌≡◌, ◌<◌, ◌&&◌, length};
 ghost use Rattle.std.specs.List.{list_any};
-ghost use Rattle.arp.specs.Cache.{empty, is_pair_of, is_note_of, updated, added, longest_unheard, pairs_after, is_request_for, after_hear, look, after_age, after_ask, may_ask, has_place_for};
+ghost use Rattle.arp.specs.Cache.{empty, is_pair_of, is_note_of, updated, added, longest_unheard, pairs_after, is_request_for, after_hear, look, after_age, is_live_note, live_notes, after_ask, may_ask, has_place_for, IsNextAsk};
+ghost use Rattle.arp.specs.Waits.{later, own_end, first_end, room_end};
 
 use crate::entry::{Asked, Neighbour};
 use crate::packet::{ArpPacket, Operation};
 use arrayvec::ArrayVec;
-use clock::Moment;
+use clock::{Moment, sooner};
 use ether::Mac;
 use ipv4::Addr;
 use std::marker::Model;
@@ -80,6 +81,22 @@ impl ArpCache {
             self.asked.push(Asked { addr, at: now });
         }
         may_go_out
+    }
+
+    /// Whether `ask` would let a request for an address go out now. Nothing changes.
+    pub fn may_ask(&self, now: Moment, addr: Addr) -> bool
+        ensures { result ≡ may_ask now addr self.now.asked }
+    {
+        live_count(&self.asked, now) < REQUESTS && !was_asked_lately(&self.asked, now, addr)
+    }
+
+    /// From when on `ask` would let a request for an address go out, as long as it lets none out for any: a second after the
+    /// last one for this address (RFC 1122 section 2.3.2.1), and where 64 are noted not before the first of them is a second
+    /// old. None where it would let one out at every moment.
+    pub fn next_ask(&self, addr: Addr) -> Option<Moment>
+        ensures { IsNextAsk addr self.now.asked result }
+    {
+        later(room_end(&self.asked), own_end(&self.asked, addr))
     }
 
     /// Forgets the pairs that were not heard in the last 20 minutes. That old pairs are flushed is RFC 1122
@@ -156,4 +173,61 @@ fn was_asked(asked: &[Asked], addr: Addr) -> bool
     ensures { result ≡ list_any (is_note_of addr) asked.now }
 {
     asked.iter().any(|note| note.addr == addr)
+}
+
+/// How many of these requests went out in the last second.
+#[tactic(auto, using(crate::proofs::WaitsOver::count_is))]
+fn live_count(asked: &[Asked], now: Moment) -> usize
+    ensures { result ≡ length (live_notes now asked.now) }
+{
+    asked.iter().filter(|note| note.is_live(now)).count()
+}
+
+/// Whether one of these requests was for an address and went out in the last second.
+fn was_asked_lately(asked: &[Asked], now: Moment, addr: Addr) -> bool
+    ensures { result ≡ list_any (λ note. is_note_of addr note && is_live_note now note) asked.now }
+{
+    asked
+        .iter()
+        .any(|note| note.addr == addr && note.is_live(now))
+}
+
+/// When the last of the notes for an address ends.
+fn own_end(asked: &[Asked], addr: Addr) -> Option<Moment>
+    ensures { result ≡ own_end addr asked.now }
+{
+    asked
+        .iter()
+        .filter(|note| note.addr == addr)
+        .fold(None, |latest, note| later(latest, Some(note.end())))
+}
+
+/// When a place is free: where all are taken, once the first note ends.
+fn room_end(asked: &[Asked]) -> Option<Moment>
+    ensures { result ≡ room_end asked.now }
+{
+    if asked.len() < REQUESTS {
+        None
+    } else {
+        first_end(asked)
+    }
+}
+
+/// When the first of the notes ends.
+fn first_end(asked: &[Asked]) -> Option<Moment>
+    ensures { result ≡ first_end asked.now }
+{
+    asked
+        .iter()
+        .fold(None, |soonest, note| sooner(soonest, Some(note.end())))
+}
+
+/// The later of two ends, as far as there are any.
+fn later(a: Option<Moment>, b: Option<Moment>) -> Option<Moment>
+    ensures { result ≡ later a b }
+{
+    match (a, b) {
+        (None, end) | (end, None) => end,
+        (Some(a), Some(b)) => Some(a.max(b)),
+    }
 }

@@ -1,7 +1,7 @@
 //! What a cache keeps.
 
 ghost use Rattle.std.specs.Prelude.{◌≡◌};
-ghost use Rattle.arp.specs.Cache.{is_live, is_live_pair, is_live_note, sender_of, after_sender};
+ghost use Rattle.arp.specs.Cache.{end_of, is_live, is_live_pair, is_live_note, sender_of, after_sender};
 
 use crate::packet::ArpPacket;
 use clock::Moment;
@@ -76,6 +76,13 @@ impl Asked {
         ensures { result ≡ is_live_note now self.now }
     {
         is_live(NOTE_LIFE, now, self.at)
+    }
+
+    /// When it is no longer live.
+    pub(crate) fn end(&self) -> Moment
+        ensures { result ≡ end_of self.now }
+    {
+        self.at.after(NOTE_LIFE)
     }
 }
 

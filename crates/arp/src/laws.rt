@@ -1,15 +1,17 @@
 //! Laws of the definitions that the contracts of this crate cite: each is the contract of a function
 //! that does nothing.
 
-ghost use Rattle.std.specs.Prelude.{◌≡◌, ◌≢◌, ℕ, List, ◌++◌, ◌<◌, ◌≤◌, length, take, filter, fold, All, false, IsTrue, Some, None, Result, Ok, Err};
+ghost use Rattle.std.specs.Prelude.{◌≡◌, ◌≢◌, ℕ, List, ◌++◌, ◌<◌, ◌≤◌, length, take, filter, fold, All, false, IsTrue, Option, Some, None, Result, Ok, Err};
 ghost use Rattle.ether.specs.declared.mac.Mac.{Mac};
 ghost use Rattle.ipv4.specs.declared.addr.Addr.{Addr};
 ghost use Rattle.arp.specs.declared.packet.ArpFault.{ArpFault};
 ghost use Rattle.arp.specs.declared.packet.ArpFault.TheVariants.{UpperHeader};
 ghost use Rattle.arp.specs.declared.packet.ArpPacket.{ArpPacket};
+ghost use Rattle.arp.specs.declared.packet.TheConstants.{LEN};
 ghost use Rattle.arp.specs.declared.entry.Asked.{Asked};
 ghost use Rattle.clock.specs.declared.moment.Moment.{Moment};
-ghost use Rattle.arp.specs.Cache.{Cache, same_addr, is_live, is_pair_of, after_hear, look, after_age, may_ask, asked_after, after_ask};
+ghost use Rattle.arp.specs.Cache.{Cache, is_live, is_pair_of, after_hear, look, after_age, may_ask, asked_after, after_ask, IsNextAsk};
+ghost use Rattle.ipv4.specs.Addresses.{same_addr};
 ghost use Rattle.arp.specs.Events.{Event, moment_of, after_event, cache_after, IsLastFrom};
 ghost use Rattle.arp.specs.Packet.{spelling, HasWidths, Spells, IsParsed};
 ghost use Rattle.arp.specs.Reading.{packet_in};
@@ -114,4 +116,16 @@ pub fn noted_while_live()
         → IsTrue (may_ask now addr cache.asked) → IsTrue (is_live 1000 later now)
         → All (λ event. (moment_of event).0 ≤ later.0) between
         → may_ask later addr (fold after_event (after_ask now addr cache) between).asked ≡ false }
+{}
+
+/// There is one moment at most from which a request for an address may go out, so what `ArpCache::next_ask` answers is
+/// determined; and `ask` lets one out exactly where `may_ask` says so, by their contracts.
+pub fn one_next_ask()
+    ensures { (addr : Addr) (asked : List Asked) (first second : Option Moment)
+        → IsNextAsk addr asked first → IsNextAsk addr asked second → first ≡ second }
+{}
+
+/// What the public constant is: a packet for IPv4 over Ethernet has 28 octets (RFC 826).
+pub fn constants()
+    ensures { LEN ≡ 28 }
 {}

@@ -88,9 +88,9 @@ impl ArpPacket {
         Ok(ArpPacket {
             operation,
             sender_mac: mac_at(octets, 8),
-            sender_addr: addr_at(octets, 14),
+            sender_addr: Addr::at(octets, 14),
             target_mac: mac_at(octets, 18),
-            target_addr: addr_at(octets, 24),
+            target_addr: Addr::at(octets, 24),
         })
     }
 
@@ -144,14 +144,4 @@ fn mac_at(octets: &[u8], at: usize) -> Mac
     let mut mac = [0; 6];
     mac.copy_from_slice(&octets[at..at + 6]);
     Mac(mac)
-}
-
-/// The address in the four octets from `at` on.
-fn addr_at(octets: &[u8], at: usize) -> Addr
-    requires { at + 4 ≤ length octets.now }
-    ensures { result.0 ≡ take 4 (drop at octets.now) }
-{
-    let mut addr = [0; 4];
-    addr.copy_from_slice(&octets[at..at + 4]);
-    Addr(addr)
 }

@@ -19,7 +19,7 @@ const THIRD: u8 = 3;
 pub struct Cwnd {
     smss: u16,
     cwnd: u32,
-    pub(crate) ssthresh: u32,
+    ssthresh: u32,
     duplicates: u8,
     expired: bool,
 }
@@ -59,6 +59,21 @@ impl Cwnd {
         ensures sound { IsSound self.now }
     {
         self.cwnd
+    }
+
+    /// The slow start threshold, in octets: below it the window grows by slow start, and from it on by congestion avoidance
+    /// (RFC 5681 section 3.1).
+    pub fn ssthresh(&self) -> u32
+        ensures { result ≡ self.now.ssthresh }
+    {
+        self.ssthresh
+    }
+
+    /// Whether fast recovery runs: the third duplicate ACK came, and no new ACK or expiry since (RFC 5681 section 3.2).
+    pub fn is_recovering(&self) -> bool
+        ensures { result ≡ is_recovering self.now }
+    {
+        self.duplicates >= THIRD
     }
 
     /// Takes an ACK of so many new octets (RFC 5681 sections 3.1 and 3.2).
@@ -105,13 +120,6 @@ impl Cwnd {
             self.cwnd = (self.ssthresh + 3 * smss).min(GREATEST);
         }
         is_third
-    }
-
-    /// Whether fast recovery runs: the third duplicate ACK came, and no new ACK or expiry since.
-    fn is_recovering(&self) -> bool
-        ensures { result ≡ is_recovering self.now }
-    {
-        self.duplicates >= THIRD
     }
 
     /// What an ACK of so many new octets adds: slow start below the threshold, then congestion avoidance.

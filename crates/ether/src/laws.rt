@@ -1,7 +1,9 @@
 //! Laws of the definitions that the contracts of this crate cite: each is the contract of a function that does nothing.
 
-ghost use Rattle.std.specs.Prelude.{◌≡◌, ◌↔◌, List, ℕ, ◌+◌, ◌<◌, ◌^◌, length, max, All, Some, None, Result, Ok, Err};
+ghost use Rattle.std.specs.Prelude.{◌≡◌, ◌↔◌, List, ℕ, ◌+◌, ◌<◌, ◌^◌, length, max, replicate, All, Some, None, Result, Ok, Err};
 ghost use Rattle.ether.specs.declared.head.Head.{Head};
+ghost use Rattle.ether.specs.declared.head.TheConstants.{LEAST_PAYLOAD, MOST_PAYLOAD, SPACE};
+ghost use Rattle.ether.specs.declared.mac.TheConstants.Mac.{BROADCAST};
 ghost use Rattle.ether.specs.declared.view.FrameFault.{FrameFault};
 ghost use Rattle.ether.specs.declared.view.FrameFault.TheVariants.{Short};
 ghost use Rattle.ether.specs.Frame.{Frame, Spells, IsParsed, sent, spelling};
@@ -36,4 +38,13 @@ pub fn emitted_parses()
         → IsParsed (spelling (sent head payload)) answer → answer ≡ Ok (sent head payload) }
     ensures len { (head : Head) (payload : List ℕ) → length head.destination.0 ≡ 6 → length head.source.0 ≡ 6
         → length (spelling (sent head payload)) ≡ 14 + max (length payload) 46 }
+{}
+
+/// What the public constants are: a payload has 46 to 1,500 octets (RFC 894), so a frame with its head of 14 has 1,514 at most,
+/// and the address of every interface has all bits set (RFC 894, IEEE 802).
+pub fn constants()
+    ensures least { LEAST_PAYLOAD ≡ 46 }
+    ensures most { MOST_PAYLOAD ≡ 1500 }
+    ensures space { SPACE ≡ 14 + MOST_PAYLOAD }
+    ensures broadcast { BROADCAST ≡ record { 0 = replicate 6 255 } }
 {}

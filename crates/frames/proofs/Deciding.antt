@@ -6,10 +6,10 @@ use Rattle.std.proofs.lemmas.Slice.Eq.{bytes_eq-Decides}
 use Rattle.ether.specs.declared.mac.Mac.{Mac}
 use Rattle.ether.specs.Frame.{Frame}
 use Rattle.ipv4.specs.declared.addr.Addr.{Addr}
-use Rattle.ipv4.specs.Addresses.{IsSingleHost}
+use Rattle.ipv4.specs.Addresses.{IsSingleHost, is_single_host, same_addr}
 use Rattle.ipv4.specs.Datagram.{Datagram}
 use Rattle.frames.specs.Heard.{IsFor, IsWhole, MaySend}
-use Rattle.frames.specs.Meaning.{arp_type, broadcast, is_for, is_fragment, is_single_host, may_send, same_addr, same_mac}
+use Rattle.frames.specs.Meaning.{arp_type, broadcast, is_for, is_fragment, may_send, same_mac}
 
 -- a test that is decided
 pub refuted : {P : Type 0} (b : Bool) → Decides b P → (P → ⊥) → b ≡ false

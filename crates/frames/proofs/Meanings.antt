@@ -28,7 +28,8 @@ use Rattle.frames.specs.declared.drop.DropCause.TheVariants.{Short, OtherMac, Ot
 use Rattle.frames.specs.declared.meaning.Meaning.{Meaning}
 use Rattle.frames.specs.declared.meaning.Meaning.TheVariants.{Arp, Tcp, Other}
 use Rattle.frames.specs.Heard.{Brings, BringsDatagram, BringsTcp, IsHeard, MaySend}
-use Rattle.frames.specs.Meaning.{arp_type, datagram_heard, heard, ipv4_type, is_for, is_fragment, may_send, packet_heard, payload_heard, same_addr, segment_heard, upper_heard}
+use Rattle.frames.specs.Meaning.{arp_type, datagram_heard, heard, ipv4_type, is_for, is_fragment, may_send, packet_heard, payload_heard, segment_heard, upper_heard}
+use Rattle.ipv4.specs.Addresses.{same_addr}
 use Rattle.frames.proofs.Layers.{as_frame, for_another, for_us, from_none, from_other, too_many}
 use Rattle.frames.proofs.Deciding.{ends-Decides, for-Decides, fragmented, number-Decides, refuted, send-Decides, unfragmented}
 

@@ -19,7 +19,8 @@ use Rattle.tcp_segment.proofs.Answering.{alike}
 use Rattle.frames.specs.declared.drop.DropCause.TheVariants.{Short, OtherMac, OtherType, OtherAddress, Fragment}
 use Rattle.frames.specs.declared.meaning.Meaning.TheVariants.{Arp, Tcp, Other}
 use Rattle.frames.specs.declared.meaning.Received.{Received}
-use Rattle.frames.specs.Meaning.{arp_type, datagram_heard, frame_heard, heard, ipv4_type, is_for, is_fragment, may_send, packet_heard, same_addr, segment_heard, upper_heard}
+use Rattle.frames.specs.Meaning.{arp_type, datagram_heard, frame_heard, heard, ipv4_type, is_for, is_fragment, may_send, packet_heard, segment_heard, upper_heard}
+use Rattle.ipv4.specs.Addresses.{same_addr}
 use Rattle.frames.specs.Pairs.{datagram_pair, frame_pair, pair_between, pair_in, segment_pair}
 use Rattle.frames.proofs.Deciding.{addr-Decides}
 

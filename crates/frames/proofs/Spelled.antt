@@ -26,7 +26,8 @@ use Rattle.frames.specs.declared.drop.DropCause.TheVariants.{OtherMac, OtherType
 use Rattle.frames.specs.declared.meaning.Meaning.{Meaning}
 use Rattle.frames.specs.declared.meaning.Meaning.TheVariants.{Arp, Other}
 use Rattle.frames.specs.Heard.{Brings, BringsDatagram, BringsTcp, IsHeard}
-use Rattle.frames.specs.Meaning.{arp_type, datagram_heard, frame_heard, heard, ipv4_type, is_for, is_fragment, may_send, packet_heard, payload_heard, same_addr, segment_heard, upper_heard}
+use Rattle.frames.specs.Meaning.{arp_type, datagram_heard, frame_heard, heard, ipv4_type, is_for, is_fragment, may_send, packet_heard, payload_heard, segment_heard, upper_heard}
+use Rattle.ipv4.specs.Addresses.{same_addr}
 use Rattle.frames.proofs.Layers.{as_frame, too_many}
 use Rattle.frames.proofs.Meanings.{AreOctets, brought_octets, source_len, spelled_heard, upper_octets}
 use Rattle.frames.proofs.Deciding.{ends-Decides, for-Decides, never, number-Decides, send-Decides, unfragmented, whole}

@@ -1,7 +1,7 @@
 -- What octets are to a host with this MAC and this address, or the first cause to drop them. They are tested layer by layer,
 -- from the lowest up: the frame (RFC 894), the ARP packet (RFC 826) or the datagram (RFC 791), its addresses (RFC 1122
 -- section 3.2.1.3), and the segment (RFC 9293 section 3.1).
-use Rattle.std.specs.Prelude.{ℕ, ◌==◌, nat_eq, nat_lt, nat_le, Bool, not, ◌&&◌, ◌||◌, if◌then◌else◌, List, length, replicate, slice_index, Option, Some, None, Result, Ok, Err}
+use Rattle.std.specs.Prelude.{ℕ, ◌==◌, nat_eq, nat_lt, Bool, not, ◌&&◌, ◌||◌, if◌then◌else◌, List, length, replicate, Option, Some, None, Result, Ok, Err}
 use Rattle.std.specs.Cmp.Lexicographic.{pointwise}
 use Rattle.ether.specs.declared.mac.Mac.{Mac}
 use Rattle.ether.specs.Frame.{Frame}
@@ -9,6 +9,7 @@ use Rattle.ether.specs.Reading.{frame_in}
 use Rattle.arp.specs.declared.packet.ArpPacket.{ArpPacket}
 use Rattle.arp.specs.Reading.{packet_in}
 use Rattle.ipv4.specs.declared.addr.Addr.{Addr}
+use Rattle.ipv4.specs.Addresses.{is_single_host, same_addr}
 use Rattle.ipv4.specs.declared.fault.Ipv4Fault.{Ipv4Fault}
 use Rattle.ipv4.specs.declared.fault.Ipv4Fault.TheVariants as datagram
 use Rattle.ipv4.specs.Datagram.{Datagram}
@@ -35,13 +36,6 @@ broadcast = record { 0 = replicate 6 255 }
 
 abbrev pub same_mac : Mac → Mac → Bool
 same_mac a b = pointwise nat_eq a.0 b.0
-
-abbrev pub same_addr : Addr → Addr → Bool
-same_addr a b = pointwise nat_eq a.0 b.0
-
--- one host may have this address
-abbrev pub is_single_host : Addr → Bool
-is_single_host addr = let first = slice_index addr.0 0 in nat_le 1 first && nat_le first 223 && not (first == 127)
 
 -- the frame is for this interface: by its MAC, or for all of the link where it carries ARP
 abbrev pub is_for : Mac → Frame → Bool

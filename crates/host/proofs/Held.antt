@@ -5,7 +5,7 @@ use Rattle.std.specs.Ordering.{is_le}
 use Rattle.std.proofs.lemmas.Bool.{and_from, and_right}
 use Rattle.ipv4.specs.declared.addr.Endpoint.{Endpoint}
 use Rattle.ipv4.specs.declared.addr.Pair.{Pair}
-use Rattle.ipv4.specs.Addresses.{endpoint_cmp, pair_of}
+use Rattle.ipv4.specs.Addresses.{endpoint_cmp, pair_of, same_addr, same_end}
 use Rattle.tcp_segment.specs.declared.head.Head.{Head}
 use Rattle.tcp_segment.specs.Segment.{Segment}
 use Rattle.clock.specs.declared.moment.Moment.{Moment}
@@ -17,7 +17,6 @@ use Rattle.host.specs.declared.entry.SocketId.{SocketId}
 use Rattle.host.specs.declared.entry.Entry.{Entry}
 use Rattle.host.specs.declared.entry.Role.{Role}
 use Rattle.host.specs.declared.entry.Role.TheVariants.{Idle, Listener, Connected}
-use Rattle.host.specs.Endpoints.{same_addr, same_end}
 use Rattle.host.specs.Entries.{is_between, is_of_pair, is_listening_at, is_live_between, joins, fate_of, new_waiting}
 use Rattle.host.specs.HostView.{HostView, holder_id}
 use Rattle.host.specs.Dispatch.{Becomes, Opens, NoPlace, local_end, peer_end, is_opening, has_no_place, answered, after_opening, arrival}

@@ -20,7 +20,7 @@ use Rattle.host.specs.declared.entry.SocketId.{SocketId}
 use Rattle.host.specs.declared.entry.Entry.{Entry}
 use Rattle.host.specs.declared.entry.Role.{Role}
 use Rattle.host.specs.declared.entry.Role.TheVariants.{Idle, Listener, Connected}
-use Rattle.host.specs.Endpoints.{same_addr, same_end}
+use Rattle.ipv4.specs.Addresses.{same_addr, same_end}
 use Rattle.host.specs.Entries.{is_socket, waits_at, is_between, is_live_between, is_listening_at, is_due, is_offered_at, is_kept, has_port, uses_port, settled, fate_of, arrived, ticked, tick_fate_of, emitted_at, emitted_fate, aborted, forsaken, forsaken_fate, closed, close_fate_of, bound_to, listening, connecting, accepted, sent, received, write_shut, new_socket, new_waiting, with_role}
 use Rattle.host.specs.HostView.{HostView, fresh, later, role_of, after_emission}
 use Rattle.host.specs.Calls.{open_answer, reach_refusal, port_for, counted_port, is_pair_held, is_port_taken, bind_refusal, connect_refusal, after_connect, after_socket_closed}

@@ -11,7 +11,7 @@ use Rattle.host.specs.declared.entry.SocketId.{SocketId}
 use Rattle.host.specs.declared.entry.Entry.{Entry}
 use Rattle.host.specs.declared.entry.Role.{Role}
 use Rattle.host.specs.declared.entry.Role.TheVariants.{Connected}
-use Rattle.host.specs.Endpoints.{same_end}
+use Rattle.ipv4.specs.Addresses.{same_end}
 use Rattle.host.specs.Entries.{is_live_between, is_between}
 use Rattle.host.specs.HostView.{HostView}
 use Rattle.host.specs.Lists.{change_first}

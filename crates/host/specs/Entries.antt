@@ -19,7 +19,7 @@ use Rattle.host.specs.declared.entry.SocketId.{SocketId}
 use Rattle.host.specs.declared.entry.Entry.{Entry}
 use Rattle.host.specs.declared.entry.Role.{Role}
 use Rattle.host.specs.declared.entry.Role.TheVariants.{Idle, Listener, Connected}
-use Rattle.host.specs.Endpoints.{same_end}
+use Rattle.ipv4.specs.Addresses.{same_end}
 use Rattle.host.specs.Lists.{change_first, remove_first}
 
 -- a connection that nobody has accepted yet

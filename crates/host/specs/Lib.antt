@@ -1,5 +1,4 @@
 pub mod Lists
-pub mod Endpoints
 pub mod Replies
 pub mod Entries
 pub mod HostView

@@ -4,7 +4,7 @@ ghost use Rattle.std.specs.Prelude.{◌≡◌, ◌^◌, ◌<◌, ◌≤◌, ◌�
 ghost use Rattle.tcp_state.specs.declared.buffers.Buffers.{Buffers};
 ghost use Rattle.std.specs.Result.{result_err};
 ghost use Rattle.std.specs.Option.{ok_or};
-ghost use Rattle.host.specs.Endpoints.{is_single_host};
+ghost use Rattle.ipv4.specs.Addresses.{is_single_host};
 ghost use Rattle.host.specs.Calls.{open_answer};
 
 use crate::entry::{Entry, Role};

@@ -4,14 +4,13 @@ ghost use Rattle.std.specs.Prelude.{◌≡◌, ℕ, ◌+◌, ◌≤◌, Bool, tr
 ghost use Rattle.ipv4.specs.declared.addr.Addr.{Addr};
 ghost use Rattle.ipv4.specs.declared.addr.Endpoint.{Endpoint};
 ghost use Rattle.ipv4.specs.declared.addr.Pair.{Pair};
-ghost use Rattle.ipv4.specs.Addresses.{pair_of};
+ghost use Rattle.ipv4.specs.Addresses.{pair_of, same_addr};
 ghost use Rattle.tcp_segment.specs.Segment.{Segment};
 ghost use Rattle.clock.specs.declared.moment.Moment.{Moment};
 ghost use Rattle.host.specs.declared.entry.SocketId.{SocketId};
 ghost use Rattle.tcp_state.specs.View.{is_reached};
 ghost use Rattle.host.specs.HostView.{HostView, holder_id, fresh, later, after_tick, least_deadline, IsLeastDeadline, HasNoDeadline};
 ghost use Rattle.host.specs.Dispatch.{Opens, local_end, peer_end, arrival, opened_by, pair_opened};
-ghost use Rattle.host.specs.Endpoints.{same_addr};
 ghost use Rattle.host.specs.Calls.{connect_refusal, after_connect, pair_connected};
 ghost use Rattle.host.specs.Pairs.{socket_pair};
 ghost use Rattle.host.specs.Sound.{IsSoundHost, NoneIsOver};

@@ -1,9 +1,9 @@
 -- The laws of parsing and sending.
-use Rattle.std.proofs.Common.{◌≡◌, ◌↔◌, ℕ, zero, suc, ◌+◌, ◌-◌, ◌%◌, ◌^◌, ◌<◌, ◌≤◌, false, nat_eq, List, ◌++◌, length, take, All, Bool, Result, Ok, Err, refl, sym, ◌∙◌, ap, subst, inl, inr, ⊎_elim, arith}
+use Rattle.std.proofs.Common.{◌≡◌, ◌↔◌, ℕ, ◌+◌, ◌^◌, ◌<◌, ◌≤◌, List, ◌++◌, length, take, All, Bool, Result, Ok, Err, refl, sym, ◌∙◌, ap, subst, inl, inr, ⊎_elim, arith}
 use Rattle.std.proofs.lemmas.Bool.{cases_lt}
-use Rattle.std.proofs.lemmas.Bool.Decides.{nat_tests}
 use Rattle.std.proofs.lemmas.List.{get_or_past}
 use Rattle.inet_sum.specs.Sum.{word_sum, ones_complement, checksum_of}
+use Rattle.inet_sum.proofs.Complements.{with_complement}
 use Rattle.ipv4.specs.Datagram.{Datagram, IsDatagram, header_octets}
 use Rattle.icmp.specs.declared.error.Reason.{Reason}
 use Rattle.icmp.specs.declared.error.Reason.TheVariants.{NetUnreachable, HostUnreachable, ProtocolUnreachable, PortUnreachable, FragmentationNeeded, SourceRouteFailed, TransitTimeExceeded, ReassemblyTimeExceeded}
@@ -46,16 +46,6 @@ short octets each = (forth, λ few m form. absurd (omega (arith, form_least m oc
     forth : ((m : Message) → HasForm m octets → ⊥) → length octets < 8
     forth none =
         ⊎_elim (λ few. few) (λ enough. absurd (none (message_of octets) (are_read octets (are_octets octets each) enough).form)) (cases_lt (length octets) 8)
-
--- a sum and its complement
-with_complement : (total : ℕ) → ones_complement (total + (65535 - ones_complement total)) ≡ 65535
-with_complement zero = refl
-with_complement (suc n) =
-    let total : ℕ = suc n in
-    let here : nat_eq total 0 ≡ false = grind (arith, nat_tests) in
-    let value : ones_complement total ≡ 1 + (total - 1) % 65535 = rw here refl in
-    let there : nat_eq (total + (65535 - ones_complement total)) 0 ≡ false = grind (arith, nat_tests, value) in
-    rw there (omega (arith, value))
 
 -- what the checksum adds to the sum of the words
 words : (head : Head) (payload : List ℕ) (checksum : ℕ) → checksum < 2 ^ 16

@@ -3,8 +3,11 @@
 ghost use Rattle.std.specs.Prelude.{◌≡◌, ◌↔◌, ℕ, ◌<◌, ◌≤◌, List, length, All, Bool, Result, Ok, Err};
 ghost use Rattle.ipv4.specs.Datagram.{Datagram, IsDatagram, header_octets};
 ghost use Rattle.icmp.specs.declared.error.Reason.{Reason};
+ghost use Rattle.icmp.specs.declared.error.TheConstants.{QUOTED_LEN};
 ghost use Rattle.icmp.specs.declared.fault.IcmpFault.{IcmpFault};
 ghost use Rattle.icmp.specs.declared.fault.IcmpFault.TheVariants.{UpperHeader};
+ghost use Rattle.icmp.specs.declared.head.TheConstants.{HEADER_LEN};
+ghost use Rattle.icmp.specs.declared.kind.TheConstants.Kind.{ECHO_REPLY, DESTINATION_UNREACHABLE, ECHO, TIME_EXCEEDED, PARAMETER_PROBLEM};
 ghost use Rattle.icmp.specs.declared.quote.Quote.{Quote};
 ghost use Rattle.icmp.specs.MayAnswer.{MayAnswer};
 ghost use Rattle.icmp.specs.Message.{Message, IsMessage, IsParsed, Spells, spelling};
@@ -45,4 +48,16 @@ pub fn cause_is_quoted()
 pub fn errors_are_unanswered()
     ensures { (reason : Reason) (header payload : List ℕ) (d : Datagram) (link_broadcast : Bool) → d.protocol ≡ 1
         → d.payload ≡ spelling (error_for reason header payload) → MayAnswer d link_broadcast → ⊥ }
+{}
+
+/// What the public constants are: the types of messages, a header of 8 octets, and the octets of a cause that an error quotes
+/// behind the cause's header (RFC 792).
+pub fn constants()
+    ensures echo_reply { ECHO_REPLY ≡ record { 0 = 0 } }
+    ensures unreachable { DESTINATION_UNREACHABLE ≡ record { 0 = 3 } }
+    ensures echo { ECHO ≡ record { 0 = 8 } }
+    ensures exceeded { TIME_EXCEEDED ≡ record { 0 = 11 } }
+    ensures parameter { PARAMETER_PROBLEM ≡ record { 0 = 12 } }
+    ensures header { HEADER_LEN ≡ 8 }
+    ensures quoted { QUOTED_LEN ≡ 8 }
 {}

@@ -41,11 +41,11 @@ impl Quote {
         Some(Quote {
             protocol: Protocol(octets[9]),
             source: Endpoint {
-                addr: addr_at(octets, 12),
+                addr: Addr::at(octets, 12),
                 port: BigEndian::read_u16(&octets[header..]),
             },
             destination: Endpoint {
-                addr: addr_at(octets, 16),
+                addr: Addr::at(octets, 16),
                 port: BigEndian::read_u16(&octets[header + 2..]),
             },
             number: BigEndian::read_u32(&octets[header + 4..]),
@@ -65,12 +65,4 @@ fn header_len(octets: &[u8]) -> Option<usize>
         return None;
     }
     (octets[0] >> 4 == VERSION).then_some(header)
-}
-
-/// The address at a place of a header.
-fn addr_at(header: &[u8], at: usize) -> Addr
-    requires { at + 4 ≤ length header.now }
-    ensures { result.0 ≡ take 4 (drop at header.now) }
-{
-    Addr([header[at], header[at + 1], header[at + 2], header[at + 3]])
 }

@@ -1,5 +1,5 @@
 -- Sums and their complements.
-use Rattle.std.proofs.Common.{◌≡◌, ℕ, zero, suc, ◌+◌, ◌-◌, ◌*◌, ◌^◌, ◌<◌, nat_lt, if◌then◌else◌, List, ◌∷◌, ◌++◌, length, refl, ◌∙◌, ap, append_assoc, arith}
+use Rattle.std.proofs.Common.{◌≡◌, ℕ, zero, suc, ◌+◌, ◌-◌, ◌*◌, ◌^◌, ◌<◌, ◌≤◌, nat_lt, if◌then◌else◌, List, ◌∷◌, ◌++◌, length, refl, ◌∙◌, ap, append_assoc, arith}
 use Rattle.std.proofs.lemmas.Bool.Decides.{nat_tests}
 use Rattle.byteorder.specs.Endian.{big_bytes}
 use Rattle.inet_sum.specs.Sum.{word_sum, ones_complement, sum_of, checksum_of}
@@ -9,6 +9,16 @@ use Rattle.inet_sum.proofs.Words.{word_sum-append}
 pub with_complement : (total : ℕ) → ones_complement (total + (65535 - ones_complement total)) ≡ 65535
 with_complement zero = refl
 with_complement (suc total) = grind arith
+
+-- 0xFFFF changes no sum but that of nothing
+pub with_full : (total : ℕ) → 0 < total → ones_complement (total + 65535) ≡ ones_complement total
+with_full zero some = absurd (omega (arith, some))
+with_full (suc total) some = grind arith
+
+-- a sum is a number of 16 bits
+pub sum_fits : (total : ℕ) → ones_complement total ≤ 65535
+sum_fits zero = omega arith
+sum_fits (suc total) = grind arith
 
 -- no number but the complement, and in its place 0xFFFF, makes the sum right
 pub one_complement : (total n : ℕ) → n < 65535 → ones_complement (total + n) ≡ 65535 → n ≡ 65535 - ones_complement total

@@ -21,7 +21,7 @@ pub struct Pseudo {
     pub length: u16,
 }
 
-// The most octets whose words are added with no look at the total: 65,536 words of 16 bits sum to less than 2^32.
+/// The most octets whose words are added with no look at the total: 65,536 words of 16 bits sum to less than 2^32.
 const PART: usize = 1 << 17;
 
 /// The one's complement sum of `octets`, an odd last one padded with zero.

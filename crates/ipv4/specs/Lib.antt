@@ -2,4 +2,5 @@ pub mod Addresses
 pub mod Prefixes
 pub mod Datagram
 pub mod Sent
+pub mod Sums
 pub mod Reading

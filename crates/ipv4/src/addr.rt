@@ -1,7 +1,7 @@
 //! Addresses, endpoints, and the pair of endpoints of a connection.
 
-ghost use Rattle.std.specs.Prelude.{◌≡◌, ◌↔◌, IsTrue};
-ghost use Rattle.ipv4.specs.Addresses.{IsSingleHost, pair_of};
+ghost use Rattle.std.specs.Prelude.{◌≡◌, ◌≤◌, ◌+◌, ◌↔◌, IsTrue, length, take, drop};
+ghost use Rattle.ipv4.specs.Addresses.{IsSingleHost, is_single_host, pair_of};
 
 use std::fmt::{Display, Error, Formatter, Write};
 
@@ -12,9 +12,23 @@ pub struct Addr(pub [u8; 4]);
 impl Addr {
     /// Whether one host may have this address: the first octet is 1 to 223, and not 127.
     pub fn is_single_host(self) -> bool
-        ensures { IsTrue result ↔ IsSingleHost self }
+        ensures test { result ≡ is_single_host self }
+        ensures host { IsTrue result ↔ IsSingleHost self }
     {
         matches!(self.0[0], 1..=126 | 128..=223)
+    }
+
+    /// The address in the four octets from a place on.
+    pub fn at(octets: &[u8], place: usize) -> Addr
+        requires { place + 4 ≤ length octets.now }
+        ensures { result.0 ≡ take 4 (drop place octets.now) }
+    {
+        Addr([
+            octets[place],
+            octets[place + 1],
+            octets[place + 2],
+            octets[place + 3],
+        ])
     }
 }
 

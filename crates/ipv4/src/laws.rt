@@ -4,6 +4,8 @@
 ghost use Rattle.std.specs.Prelude.{◌≡◌, ◌⊎◌, IsTrue};
 ghost use Rattle.std.specs.Ordering.{is_le};
 ghost use Rattle.ipv4.specs.declared.addr.Endpoint.{Endpoint};
+ghost use Rattle.ipv4.specs.declared.head.TheConstants.{HEADER_LEN};
+ghost use Rattle.ipv4.specs.declared.protocol.TheConstants.Protocol.{ICMP, TCP, UDP};
 ghost use Rattle.ipv4.specs.Addresses.{endpoint_cmp, pair_of};
 
 pub mod datagram;
@@ -14,4 +16,13 @@ pub fn one_pair()
     ensures alike { (a b : Endpoint) → pair_of a b ≡ pair_of b a }
     ensures ends { (a b c d : Endpoint) → pair_of a b ≡ pair_of c d → ((a ≡ c) × (b ≡ d)) ⊎ ((a ≡ d) × (b ≡ c)) }
     ensures lesser { (a b : Endpoint) → IsTrue (is_le (endpoint_cmp (pair_of a b).first (pair_of a b).second)) }
+{}
+
+/// What the public constants are: a header without options has 20 octets (RFC 791 section 3.1), and the numbers of the protocols
+/// (RFC 792, RFC 9293 section 3.1, RFC 768).
+pub fn constants()
+    ensures header { HEADER_LEN ≡ 20 }
+    ensures icmp { ICMP ≡ record { 0 = 1 } }
+    ensures tcp { TCP ≡ record { 0 = 6 } }
+    ensures udp { UDP ≡ record { 0 = 17 } }
 {}

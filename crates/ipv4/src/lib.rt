@@ -8,6 +8,7 @@ mod head;
 pub mod laws;
 mod prefix;
 mod protocol;
+mod sum;
 mod view;
 
 pub use addr::{Addr, Endpoint, Pair};
@@ -15,4 +16,5 @@ pub use fault::Ipv4Fault;
 pub use head::{HEADER_LEN, Head};
 pub use prefix::{Prefix, PrefixFault};
 pub use protocol::Protocol;
+pub use sum::sum_between;
 pub use view::Ipv4View;

@@ -1,6 +1,6 @@
 //! A datagram that was received (RFC 791 section 3.1).
 
-ghost use Rattle.std.specs.Prelude.{◌≡◌, ◌*◌, ◌+◌, ◌≤◌, IfSome, IfNone, length, take, drop};
+ghost use Rattle.std.specs.Prelude.{◌≡◌, ◌*◌, ◌+◌, ◌≤◌, IfSome, IfNone, length};
 ghost use Rattle.ipv4.specs.Datagram.{Datagram, HasForm, IsDatagram, IsParsed, header_octets, total_len};
 ghost use Rattle.ipv4.specs.Reading.{lengths_in};
 
@@ -135,14 +135,14 @@ impl<'a> Ipv4View<'a> {
     pub fn source(&self) -> Addr
         ensures { result ≡ self.now.source }
     {
-        addr_at(self.header, 12)
+        Addr::at(self.header, 12)
     }
 
     /// The address that it is for.
     pub fn destination(&self) -> Addr
         ensures { result ≡ self.now.destination }
     {
-        addr_at(self.header, 16)
+        Addr::at(self.header, 16)
     }
 
     /// The options, which this stack skips, a part of the frame that was parsed.
@@ -183,12 +183,4 @@ fn lengths(octets: &[u8]) -> Option<(usize, usize)>
         return None;
     }
     (octets[0] >> 4 == VERSION).then_some((header, total))
-}
-
-/// The address at a place of a header.
-fn addr_at(header: &[u8], at: usize) -> Addr
-    requires { at + 4 ≤ length header.now }
-    ensures { result.0 ≡ take 4 (drop at header.now) }
-{
-    Addr([header[at], header[at + 1], header[at + 2], header[at + 3]])
 }

@@ -1,12 +1,7 @@
 -- Keys of datagrams.
-use Rattle.std.specs.Prelude.{Bool, ◌&&◌, ◌==◌, nat_eq}
-use Rattle.std.specs.Cmp.Lexicographic.{pointwise}
-use Rattle.ipv4.specs.declared.addr.Addr.{Addr}
+use Rattle.std.specs.Prelude.{Bool, ◌&&◌, ◌==◌}
+use Rattle.ipv4.specs.Addresses.{same_addr}
 use Rattle.reassembly.specs.declared.key.Key.{Key}
-
--- octet by octet
-abbrev pub same_addr : Addr → Addr → Bool
-same_addr a b = pointwise nat_eq a.0 b.0
 
 -- source, destination, protocol and identification are the same
 abbrev pub same_key : Key → Key → Bool

@@ -4,6 +4,7 @@ ghost use Rattle.std.specs.Prelude.{◌≡◌, ◌≢◌, ◌<◌, ◌≤◌, �
 ghost use Rattle.std.specs.List.{Any};
 ghost use Rattle.ipv4.specs.Datagram.{Datagram};
 ghost use Rattle.clock.specs.declared.moment.Moment.{Moment};
+ghost use Rattle.reassembly.specs.declared.pool.TheConstants.{PLACES};
 ghost use Rattle.reassembly.specs.Fragments.{key_of, latest, latest_quote, told_end, is_contradictory, IsPayload};
 ghost use Rattle.reassembly.specs.Octets.{whole_of};
 ghost use Rattle.reassembly.specs.Places.{after_age, expired, next_deadline};
@@ -94,4 +95,9 @@ pub fn next_is_least()
         → (after_age now places ≡ places) × (expired now places ≡ []) }
     ensures reached { (places : List (Option Reassembly)) (now : Moment)
         → IfSome (next_deadline places) (λ next. next.0 ≤ now.0 → after_age now places ≢ places) }
+{}
+
+/// What the public constant is: a pool has four places, which is this stack's own number.
+pub fn constants()
+    ensures { PLACES ≡ 4 }
 {}

@@ -6,4 +6,4 @@ mod rto;
 mod timers;
 
 pub use rto::{Estimate, Rto};
-pub use timers::Timers;
+pub use timers::{TimerKind, Timers};

@@ -5,6 +5,7 @@ ghost use Rattle.ipv4.specs.declared.addr.Addr.{Addr};
 ghost use Rattle.ipv4.specs.declared.prefix.Prefix.{Prefix};
 ghost use Rattle.routes.specs.declared.route.Route.{Route};
 ghost use Rattle.routes.specs.declared.route.Hop.{Hop};
+ghost use Rattle.routes.specs.declared.table.TheConstants.{MOST};
 ghost use Rattle.routes.specs.Routes.{IsTable, HasPrefix, TakesOut, IsBest, Picks};
 
 /// Of a table, in which no two entries have one prefix, one route at most is the best for an address.
@@ -31,4 +32,9 @@ pub fn one_rest()
     ensures one { (old first second : List Route) (prefix : Prefix) → IsTable old → TakesOut old first prefix → TakesOut old second prefix
         → first ≡ second }
     ensures gone { (old new : List Route) (prefix : Prefix) → IsTable old → TakesOut old new prefix → ¬ HasPrefix new prefix }
+{}
+
+/// What the public constant is: a table has 32 routes at most, which is this stack's own limit.
+pub fn constants()
+    ensures { MOST ≡ 32 }
 {}

@@ -1,8 +1,10 @@
 -- The laws of parsing and sending.
-use Rattle.std.proofs.Common.{◌≡◌, ◌≢◌, ℕ, ◌+◌, ◌-◌, ◌%◌, ◌^◌, ◌<◌, Bool, true, false, nat_eq, inr, List, [], ◌∷◌, ◌++◌, length, take, cond, Result, Ok, Err, refl, ◌∙◌, ap, subst, arith}
+use Rattle.std.proofs.Common.{◌≡◌, ◌≢◌, ℕ, ◌+◌, ◌-◌, ◌^◌, ◌<◌, Bool, true, false, nat_eq, inr, List, [], ◌∷◌, ◌++◌, length, take, cond, Result, Ok, Err, refl, ◌∙◌, ap, subst, arith}
+use Rattle.std.proofs.lemmas.Bool.{eqb-true}
 use Rattle.std.proofs.lemmas.Bool.Decides.{nat_tests}
 use Rattle.byteorder.specs.Endian.{big_bytes}
 use Rattle.inet_sum.specs.Sum.{word_sum, ones_complement, sum_of, checksum_of}
+use Rattle.inet_sum.proofs.Complements.{with_complement, with_full, sum_fits}
 use Rattle.ipv4.specs.declared.addr.Addr.{Addr}
 use Rattle.udp.specs.declared.fault.UdpFault.{UdpFault}
 use Rattle.udp.specs.declared.fault.UdpFault.TheVariants.{UpperHeader, UpperSum}
@@ -34,28 +36,12 @@ pub one_spelling : (src dst : Addr) (d : UserDatagram) (octets : List ℕ) → S
 one_spelling src dst d octets spells = (form_read d octets spells.form).spelled
 
 -- a sum and its complement, where 0xFFFF goes out for 0
-with_complement : (total : ℕ) → 0 < total → ones_complement (total + told_checksum (65535 - ones_complement total)) ≡ 65535
-with_complement total some =
-    let here : nat_eq total 0 ≡ false = grind (arith, nat_tests) in
-    let value : ones_complement total ≡ 1 + (total - 1) % 65535 = rw here refl in
-    of_told (65535 - ones_complement total) total some (omega (arith, value))
+told_complement : (total : ℕ) → 0 < total → ones_complement (total + told_checksum (65535 - ones_complement total)) ≡ 65535
+told_complement total some = by_test (nat_eq (65535 - ones_complement total) 0) refl
   where
-    added : (c total : ℕ) → 0 < total → (1 + (total - 1) % 65535) + c ≡ 65535 → ones_complement (total + c) ≡ 65535
-    added c total some e =
-        let there : nat_eq (total + c) 0 ≡ false = grind (arith, nat_tests) in
-        rw there (omega (arith, e))
-
-    whole : (total : ℕ) → 0 < total → 1 + (total - 1) % 65535 ≡ 65535 → ones_complement (total + 65535) ≡ 65535
-    whole total some e =
-        let there : nat_eq (total + 65535) 0 ≡ false = grind (arith, nat_tests) in
-        rw there (omega (arith, e))
-
-    by_test : (b : Bool) (c total : ℕ) → 0 < total → (1 + (total - 1) % 65535) + c ≡ 65535 → (b ≡ true → c ≡ 0) → ones_complement (total + cond b 65535 c) ≡ 65535
-    by_test true c total some e zero_is = whole total some (omega (arith, e, zero_is refl))
-    by_test false c total some e zero_is = added c total some e
-
-    of_told : (c total : ℕ) → 0 < total → (1 + (total - 1) % 65535) + c ≡ 65535 → ones_complement (total + told_checksum c) ≡ 65535
-    of_told c total some e = by_test (nat_eq c 0) c total some e (λ is_zero. grind (arith, nat_tests, is_zero))
+    by_test : (b : Bool) → nat_eq (65535 - ones_complement total) 0 ≡ b → ones_complement (total + cond b 65535 (65535 - ones_complement total)) ≡ 65535
+    by_test false test = with_complement total
+    by_test true test = let full : 65535 - ones_complement total ≡ 0 = eqb-true (65535 - ones_complement total) 0 test in with_full total some ∙ omega (arith, full, sum_fits total)
 
 -- what the checksum adds to the sum of the words
 abbrev pseudo_before : List ℕ → List ℕ → ℕ → List ℕ → List ℕ
@@ -102,7 +88,7 @@ sum_right src dst head payload can =
     let is_told : told_checksum (checksum_of (summed src dst (spelling (sent_with head payload 0)))) ≡ told =
     ap (λ (octets : List ℕ). told_checksum (checksum_of octets)) (summed_is src dst head payload 0) in
     ap (λ (c : ℕ). sum_of (summed src dst (spelling (sent_with head payload c)))) is_told
-    ∙ ap sum_of (summed_is src dst head payload told) ∙ ap ones_complement are.0 ∙ with_complement before are.1
+    ∙ ap sum_of (summed_is src dst head payload told) ∙ ap ones_complement are.0 ∙ told_complement before are.1
 
 -- what is sent spells the user datagram that is meant
 pub sent_spelled : (src dst : Addr) (head : Head) (payload padding : List ℕ) → CanBeSent src dst head payload

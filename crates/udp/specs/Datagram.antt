@@ -1,8 +1,9 @@
 -- A user datagram, and the octets that spell it (RFC 768).
 use Rattle.std.specs.Prelude.{◌≡◌, ℕ, ◌+◌, ◌<◌, ◌^◌, ◌⊎◌, List, ◌++◌, length, Result, Ok, Err}
 use Rattle.byteorder.specs.Endian.{big_bytes}
-use Rattle.inet_sum.specs.Sum.{sum_of, pseudo_octets}
+use Rattle.inet_sum.specs.Sum.{sum_of}
 use Rattle.ipv4.specs.declared.addr.Addr.{Addr}
+use Rattle.ipv4.specs.Sums.{summed_for}
 use Rattle.udp.specs.declared.fault.UdpFault.{UdpFault}
 use Rattle.udp.specs.declared.fault.UdpFault.TheVariants.{UpperHeader, UpperSum}
 
@@ -40,8 +41,7 @@ pub record HasForm (d : UserDatagram) (octets : List ℕ) : Type 0 where
 
 -- what the checksum covers: the pseudo header of a user datagram of this length, and its octets
 abbrev pub summed : Addr → Addr → List ℕ → List ℕ
-summed src dst octets =
-    pseudo_octets (record { src = src.0; dst = dst.0; protocol = 17; length = length octets }) ++ octets
+summed src dst octets = summed_for 17 src dst octets
 
 -- there is no checksum, or it is right: all that it covers has the sum 0xFFFF
 abbrev pub SumIsRight : Addr → Addr → UserDatagram → Type 0

@@ -5,8 +5,11 @@ ghost use Rattle.std.specs.List.{flat_map};
 ghost use Rattle.inet_sum.specs.Sum.{sum_of};
 ghost use Rattle.ipv4.specs.Datagram.{HasPlace};
 ghost use Rattle.ipv4.specs.declared.addr.Addr.{Addr};
+ghost use Rattle.udp.specs.declared.cutting.TheConstants.{MOST_IN_FRAGMENT};
 ghost use Rattle.udp.specs.declared.fault.UdpFault.{UdpFault};
+ghost use Rattle.udp.specs.declared.head.TheConstants.{HEADER_LEN};
 ghost use Rattle.udp.specs.declared.head.Head.{Head};
+ghost use Rattle.udp.specs.declared.waiting.TheConstants.{CAPACITY, COUNTED_BESIDE, MOST_WAITING};
 ghost use Rattle.udp.specs.Datagram.{UserDatagram, IsParsed, Spells, datagram_len, spelling, summed};
 ghost use Rattle.udp.specs.Fragments.{fragments_of, part_of};
 ghost use Rattle.udp.specs.Sent.{CanBeSent, sent};
@@ -47,4 +50,15 @@ pub fn fragments_cover()
     ensures last { (len : ℕ) → map (λ f. f.more_fragments) (fragments_of len) ≡ replicate (length (fragments_of len) - 1) true ++ false ∷ [] }
     ensures filled { (len : ℕ) → 0 < len → All (λ f. 0 < f.len) (fragments_of len) }
     ensures places { (len : ℕ) → len ≤ 65515 → All (λ f. HasPlace f.more_fragments f.offset f.len) (fragments_of len) }
+{}
+
+/// What the public constants are: a header has 8 octets (RFC 768); a fragment in a frame of 1,500 octets (RFC 894) has room
+/// for 1,480 behind its header of 20 (RFC 791 section 3.1), a number of units of 8. The limits of a queue are this stack's
+/// own: 64 datagrams, and 65,535 octets, the most that a length of IPv4 says, where each datagram counts 8 beside its own.
+pub fn constants()
+    ensures header { HEADER_LEN ≡ 8 }
+    ensures fragment { MOST_IN_FRAGMENT ≡ 1480 }
+    ensures datagrams { MOST_WAITING ≡ 64 }
+    ensures octets { CAPACITY ≡ 65535 }
+    ensures beside { COUNTED_BESIDE ≡ 8 }
 {}

@@ -14,4 +14,4 @@ pub use cutting::{Fragment, FragmentIter, MOST_IN_FRAGMENT, fragments};
 pub use fault::UdpFault;
 pub use head::{HEADER_LEN, Head};
 pub use view::UdpView;
-pub use waiting::{CAPACITY, COUNTED_BESIDE, Entry, MOST_WAITING, Queue, QueueFault};
+pub use waiting::{CAPACITY, COUNTED_BESIDE, Entry, MOST_WAITING, MakingFault, Queue, QueueFault};

@@ -4,11 +4,7 @@ ghost use Rattle.std.specs.Prelude.{◌≡◌, ◌<◌, ◌^◌, length};
 ghost use Rattle.inet_sum.specs.Sum.{sum_of};
 ghost use Rattle.udp.specs.Datagram.{summed};
 
-use inet_sum::Pseudo;
-use ipv4::Addr;
-
-/// UDP's number among the protocols above IPv4 (RFC 768).
-const UDP: u8 = 17;
+use ipv4::{Addr, Protocol};
 
 /// The one's complement sum of the pseudo header between these addresses and of a datagram.
 pub(crate) fn sum_between(src: Addr, dst: Addr, datagram: &[u8]) -> u16
@@ -17,14 +13,5 @@ pub(crate) fn sum_between(src: Addr, dst: Addr, datagram: &[u8]) -> u16
     ensures src_octets { length src.0 ≡ 4 }
     ensures dst_octets { length dst.0 ≡ 4 }
 {
-    let length = datagram.len() as u16;
-    let Addr(src) = src;
-    let Addr(dst) = dst;
-    let pseudo = Pseudo {
-        src,
-        dst,
-        protocol: UDP,
-        length,
-    };
-    pseudo.sum_with(datagram)
+    ipv4::sum_between(Protocol::UDP, src, dst, datagram)
 }

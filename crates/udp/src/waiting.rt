@@ -5,7 +5,7 @@ ghost use Rattle.udp.specs.Waiting.{IsWithin, HasRoom, first_entry, first_octets
 
 use circular_buffer::HeapCircularBuffer;
 use ipv4::Endpoint;
-use std::alloc::{AllocError, Global};
+use std::alloc::Global;
 use std::marker::Model;
 use thiserror::Error;
 
@@ -24,6 +24,14 @@ pub enum QueueFault {
     /// There are 64 datagrams, or it would count more octets than are left.
     #[error("F9 NoRoom")]
     NoRoom,
+}
+
+/// Why there is no queue.
+#[derive(Clone, Copy, Debug, PartialEq, Eq, Error)]
+pub enum MakingFault {
+    /// There is no memory for it.
+    #[error("E16 ENOMEM")]
+    ENOMEM,
 }
 
 /// What is known of a datagram that waits, beside its octets.
@@ -55,12 +63,16 @@ impl Model for Queue {
 }
 
 impl Queue {
-    /// A queue in which nothing waits, for so many octets. It takes its whole memory here, and an error only where that fails.
-    pub fn with_capacity(alloc: Global, capacity: usize) -> Result<Queue, AllocError>
+    /// A queue in which nothing waits, for so many octets. It takes its whole memory here; ENOMEM where there is none.
+    pub fn with_capacity(alloc: Global, capacity: usize) -> Result<Queue, MakingFault>
         ensures { IfOk result (λ queue. queue ≡ record { items = []; capacity = capacity }) }
     {
-        let entries = HeapCircularBuffer::with_capacity(alloc, MOST_WAITING)?;
-        let octets = HeapCircularBuffer::with_capacity(alloc, capacity)?;
+        let entries = HeapCircularBuffer::with_capacity(alloc, MOST_WAITING).map_err(
+            |_| MakingFault::ENOMEM,
+        )?;
+        let octets = HeapCircularBuffer::with_capacity(alloc, capacity).map_err(
+            |_| MakingFault::ENOMEM,
+        )?;
         Ok(Queue { entries, octets })
     }
 

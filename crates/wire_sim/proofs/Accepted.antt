@@ -6,7 +6,7 @@ use Rattle.std.specs.Cmp.Lexicographic.{same_text}
 use Rattle.std.proofs.lemmas.Bool.{eqb-true}
 use Rattle.ipv4.specs.declared.addr.Addr.{Addr}
 use Rattle.ipv4.specs.declared.addr.Endpoint.{Endpoint}
-use Rattle.ipv4.specs.Addresses.{pair_of}
+use Rattle.ipv4.specs.Addresses.{pair_of, same_addr, is_single_host}
 use Rattle.tcp_state.specs.declared.buffers.Buffers.{Buffers}
 use Rattle.tcp_state.specs.declared.calls.Received.{Received}
 use Rattle.tcp_state.specs.declared.calls.Received.TheVariants.{Octets, EndOfStream}
@@ -24,7 +24,6 @@ use Rattle.host.specs.declared.refusal.Refusal.{Refusal}
 use Rattle.host.specs.declared.refusal.Refusal.TheVariants.{EBADF, EINVAL, EADDRINUSE, EADDRNOTAVAIL, EISCONN, ENOTCONN, EALREADY, ENETUNREACH}
 use Rattle.wire_sim.specs.declared.event.Answer.{Answer}
 use Rattle.wire_sim.specs.declared.event.Answer.TheVariants.{Refused}
-use Rattle.host.specs.Endpoints.{same_addr, is_single_host}
 use Rattle.host.specs.Ports.{port_after, first_port, first_port-step, first_port-zero, is_free_port}
 use Rattle.host.specs.Entries.{is_pending, has_socket, is_socket, is_bound_at, is_between, connecting, received, write_shut, with_role}
 use Rattle.host.specs.HostView.{HostView, with_socket}

@@ -5,7 +5,7 @@ use Rattle.std.proofs.lemmas.Bool.{and_parts}
 use Rattle.ipv4.specs.declared.addr.Endpoint.{Endpoint}
 use Rattle.ipv4.specs.declared.addr.Pair.{Pair}
 use Rattle.std.specs.Ordering.{is_le}
-use Rattle.ipv4.specs.Addresses.{endpoint_cmp, pair_of}
+use Rattle.ipv4.specs.Addresses.{endpoint_cmp, pair_of, same_end}
 use Rattle.ipv4.proofs.Pairs.{pair_of-swapped}
 use Rattle.tcp_segment.specs.Segment.{Segment}
 use Rattle.tcp_state.specs.declared.connection.Fate.{Fate}
@@ -19,7 +19,6 @@ use Rattle.host.specs.declared.entry.SocketId.{SocketId}
 use Rattle.host.specs.declared.entry.Entry.{Entry}
 use Rattle.host.specs.declared.entry.Role.{Role}
 use Rattle.host.specs.declared.entry.Role.TheVariants.{Idle, Listener, Connected}
-use Rattle.host.specs.Endpoints.{same_end}
 use Rattle.host.specs.Entries.{is_live_between, connecting, is_between, joins, is_of_pair, is_kept, settled, all_settled, with_role, bound_to, listening, accepted, ticked, arrived, sent, write_shut, received, emitted_at, closed, aborted, forsaken, waits_at}
 use Rattle.host.specs.Lists.{change_first, remove_first}
 use Rattle.wire_sim.proofs.Finding.{none-removed}

@@ -7,13 +7,12 @@ use Rattle.std.proofs.lemmas.Bool.{eqb-true, and_parts, and_from, and_right, fal
 use Rattle.ipv4.specs.declared.addr.Addr.{Addr}
 use Rattle.ipv4.specs.declared.addr.Endpoint.{Endpoint}
 use Rattle.ipv4.specs.declared.addr.Pair.{Pair}
-use Rattle.ipv4.specs.Addresses.{endpoint_cmp, pair_of}
+use Rattle.ipv4.specs.Addresses.{endpoint_cmp, pair_of, same_addr, same_end}
 use Rattle.ipv4.proofs.Pairs.{pair_of-swapped}
 use Rattle.host.specs.declared.entry.SocketId.{SocketId}
 use Rattle.host.specs.declared.entry.Entry.{Entry}
 use Rattle.host.specs.declared.entry.Role.{Role}
 use Rattle.host.specs.declared.entry.Role.TheVariants.{Idle, Listener, Connected}
-use Rattle.host.specs.Endpoints.{same_addr, same_end}
 use Rattle.tcp_state.specs.View.{View, is_closed}
 use Rattle.host.specs.Entries.{is_live_between, is_between, joins, is_of_pair}
 use Rattle.host.specs.HostView.{HostView, holder_id}

@@ -11,7 +11,7 @@ use Rattle.wire_sim.specs.declared.event.Happening.{Happening}
 use Rattle.wire_sim.specs.declared.world.bag.Frame.{Frame}
 use Rattle.wire_sim.specs.declared.world.bag.Note.{Note}
 use Rattle.stream_law.specs.Channel.{IsAmong}
-use Rattle.host.specs.Endpoints.{same_addr}
+use Rattle.ipv4.specs.Addresses.{same_addr}
 use Rattle.host.specs.HostView.{HostView}
 use Rattle.stream_law.specs.Pairing.{Emission, Pairing, Meets, begins, here_moves, there_moves, from_other}
 use Rattle.wire_sim.specs.Sides.{other_side}

@@ -5,7 +5,7 @@ use Rattle.std.proofs.lemmas.Bool.{and_parts}
 use Rattle.ipv4.specs.declared.addr.Addr.{Addr}
 use Rattle.ipv4.specs.declared.addr.Endpoint.{Endpoint}
 use Rattle.ipv4.specs.declared.addr.Pair.{Pair}
-use Rattle.ipv4.specs.Addresses.{pair_of}
+use Rattle.ipv4.specs.Addresses.{pair_of, same_end}
 use Rattle.tcp_segment.specs.Segment.{Segment, IsParsed}
 use Rattle.tcp_segment.proofs.Answering.{read_ok}
 use Rattle.tcp_state.specs.declared.connection.Fate.{Fate}
@@ -27,7 +27,6 @@ use Rattle.stream_law.specs.Channel.{IsAmong}
 use Rattle.stream_law.specs.ChannelViews.{SameStream}
 use Rattle.stream_law.proofs.PairingEndings.{stops-left}
 use Rattle.host.specs.Dispatch.{local_end, peer_end, after_opening, is_opening, pair_opened}
-use Rattle.host.specs.Endpoints.{same_end}
 use Rattle.host.specs.Entries.{is_between, is_of_pair, is_kept, arrived, settled}
 use Rattle.host.specs.HostView.{HostView, later, holder_id}
 use Rattle.wire_sim.specs.Fairness.{is_stale, second_by_frame, pair_foreseen}

@@ -4,7 +4,7 @@ use Rattle.ipv4.specs.declared.addr.Addr.{Addr}
 use Rattle.wire_sim.specs.declared.event.Event.{Event}
 use Rattle.wire_sim.specs.declared.event.Answer.{Answer}
 use Rattle.wire_sim.specs.declared.event.Happening.{Happening}
-use Rattle.host.specs.Endpoints.{same_addr}
+use Rattle.ipv4.specs.Addresses.{same_addr}
 use Rattle.wire_sim.specs.Runs.{IsStep, IsReached, begins, goes_on}
 use Rattle.wire_sim.specs.Trace.{StreamLaw}
 use Rattle.wire_sim.specs.WorldRoom.{RoomyWorld}

@@ -6,13 +6,12 @@ use Rattle.std.specs.Cmp.Lexicographic.{pointwise}
 use Rattle.std.proofs.lemmas.Bool.{eqb-true, eq-eqb}
 use Rattle.ipv4.specs.declared.addr.Addr.{Addr}
 use Rattle.ipv4.specs.declared.addr.Pair.{Pair}
-use Rattle.ipv4.specs.Addresses.{pair_of}
+use Rattle.ipv4.specs.Addresses.{pair_of, same_addr}
 use Rattle.tcp_state.specs.View.{View, is_closed}
 use Rattle.host.specs.declared.entry.SocketId.{SocketId}
 use Rattle.host.specs.declared.entry.Entry.{Entry}
 use Rattle.host.specs.declared.entry.Role.{Role}
 use Rattle.host.specs.declared.entry.Role.TheVariants.{Idle, Listener, Connected}
-use Rattle.host.specs.Endpoints.{same_addr}
 use Rattle.tcp_state.specs.declared.connection.Fate.{Fate}
 use Rattle.host.specs.Entries.{is_kept, settled, all_settled, with_role}
 use Rattle.host.specs.Lists.{change_first, remove_first}

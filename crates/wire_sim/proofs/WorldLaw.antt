@@ -23,7 +23,7 @@ use Rattle.wire_sim.specs.declared.world.bag.Note.{Note}
 use Rattle.wire_sim.specs.declared.world.station.Station.{Station}
 use Rattle.host.specs.declared.entry.Entry.{Entry}
 use Rattle.host.specs.declared.entry.Role.{Role}
-use Rattle.host.specs.Endpoints.{same_addr}
+use Rattle.ipv4.specs.Addresses.{same_addr}
 use Rattle.wire_sim.specs.Fairness.{is_stale, late_note, second_by_frame, pair_foreseen, unfair_frame, unfair_call, unfair_counted}
 use Rattle.host.specs.HostView.{HostView}
 use Rattle.host.specs.HostView as host_view

@@ -11,7 +11,7 @@ use Rattle.wire_sim.specs.declared.event.Event.TheVariants as event
 use Rattle.wire_sim.specs.declared.event.Answer.{Answer}
 use Rattle.wire_sim.specs.declared.event.Unfair.{Unfair}
 use Rattle.wire_sim.specs.declared.event.Unfair.TheVariants.{NoMemory}
-use Rattle.host.specs.Endpoints.{same_addr}
+use Rattle.ipv4.specs.Addresses.{same_addr}
 use Rattle.host.specs.Sound.{IsSoundHost}
 use Rattle.wire_sim.specs.Fairness.{Amount, unfair_event}
 use Rattle.wire_sim.specs.WorldView.{WorldView, SameAnswer, written_at, fresh_world}

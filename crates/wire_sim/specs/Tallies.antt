@@ -4,7 +4,7 @@ use Rattle.ipv4.specs.declared.addr.Pair.{Pair}
 use Rattle.wire_sim.specs.declared.event.Side.{Side}
 use Rattle.wire_sim.specs.declared.event.Opening.{Opening}
 use Rattle.host.specs.declared.entry.SocketId.{SocketId}
-use Rattle.host.specs.Endpoints.{same_end}
+use Rattle.ipv4.specs.Addresses.{same_end}
 use Rattle.wire_sim.specs.Sides.{same_side}
 
 abbrev pub same_pair : Pair → Pair → Bool

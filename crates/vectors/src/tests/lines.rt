@@ -6,7 +6,7 @@ use std::test::Fail;
 /// A frame, the lines that are printed of it, and why it is dropped.
 type Row = (&'static str, &'static str, Option<DropCause>);
 
-// A request, padded to 60 octets, and the reply to it (RFC 826).
+/// A request, padded to 60 octets, and the reply to it (RFC 826).
 const ARP: [Row; 2] = [
     (
         "ffffffffffff020000000001 0806 0001080006040001 020000000001 0a000001 000000000000 0a000002 000000000000000000000000000000000000",
@@ -24,7 +24,7 @@ arp reply 0a:1b:2c:3d:4e:5f 192.168.1.254 02:00:00:00:00:01 10.0.0.1
     ),
 ];
 
-// A SYN with a size (RFC 793, 3.1), padded; data; every control bit; none of them; three of them and then the others; the size behind another option.
+/// A SYN with a size (RFC 793, 3.1), padded; data; every control bit; none of them; three of them and then the others; the size behind another option.
 const SEGMENTS: [Row; 6] = [
     (
         "020000000002020000000001 0800 4500002c00004000400626ca0a0000010a000002 c0000050ffffffff000000006002ffffc3d30000020405b4 0000",
@@ -76,7 +76,7 @@ tcp 1 65535 seq 7 ack 9 flags SPA win 256 mss 536 data 0
     ),
 ];
 
-// A user datagram with a checksum, and one without (RFC 768), and one behind options of IPv4; an echo request and an unreachable (RFC 792).
+/// A user datagram with a checksum, and one without (RFC 768), and one behind options of IPv4; an echo request and an unreachable (RFC 792).
 const OTHERS: [Row; 5] = [
     (
         "020000000002020000000001 0800 4500001e00004000401126cd0a0000010a000002 13881389000a5c5d6869",
@@ -120,7 +120,7 @@ icmp type 3 code 4 data 0
     ),
 ];
 
-// Fragments (RFC 791): the first, the last, one between, and one that may not be fragmented again. And another protocol.
+/// Fragments (RFC 791): the first, the last, one between, and one that may not be fragmented again. And another protocol.
 const PARTS: [Row; 6] = [
     (
         "020000000002020000000001 0800 4500002401022000401145c50a0000010a000002 1388138900185c416162636465666768",
@@ -166,7 +166,7 @@ ipv4 10.0.0.1 10.0.0.2 proto 89 ttl 64 id 7 off 0 flags - payload 3
     ),
 ];
 
-// What cannot be read, behind the lines of the layers below, which can.
+/// What cannot be read, behind the lines of the layers below, which can.
 const DROPS: [Row; 15] = [
     (
         "020000000002020000000001 08",
@@ -279,7 +279,7 @@ drop F8
     ),
 ];
 
-// Texts, and the octets that they spell.
+/// Texts, and the octets that they spell.
 const PAIRS: [(&str, &[u8]); 7] = [
     ("", b""),
     (" \t\n\r ", b""),
@@ -293,7 +293,7 @@ const PAIRS: [(&str, &[u8]); 7] = [
     ),
 ];
 
-// Texts that spell none.
+/// Texts that spell none.
 const NO_PAIRS: [&str; 10] = [
     "0", "00 1", "0 0", "000", "0g", "G0", "+0", "-1", "0x00", "00,01",
 ];

@@ -1,7 +1,7 @@
 //! The retransmission timeout and the timers (RFC 6298).
 
 use clock::Moment;
-use retransmit::{Rto, Timers};
+use retransmit::{Rto, TimerKind, Timers};
 
 /// What happens to a timeout.
 enum Event {
@@ -48,20 +48,22 @@ fn timeouts(rt: HostRuntime) {
 
 #[test]
 fn deadlines(rt: HostRuntime) {
-    let mut timers = Timers::<3>::new();
+    let mut timers = Timers::new();
     assert!(rt; timers.next() == None);
-    timers.set(0, Moment(500).after(1_000));
-    timers.set(2, Moment(900));
+    timers.set(TimerKind::Retransmission, Moment(500).after(1_000));
+    timers.set(TimerKind::DelayedAck, Moment(900));
     for (kind, now, want) in [
-        (2, 899, false),
-        (2, 900, true),
-        (0, 900, false),
-        (1, 9_999, false),
+        (TimerKind::DelayedAck, 899, false),
+        (TimerKind::DelayedAck, 900, true),
+        (TimerKind::Retransmission, 900, false),
+        (TimerKind::Probe, 9_999, false),
     ] {
-        assert!(rt; timers.due(kind, Moment(now)) == want, "of {kind} at {now}");
+        assert!(rt; timers.due(kind, Moment(now)) == want, "at {now}");
     }
+    assert!(rt; timers.deadline(TimerKind::Retransmission) == Some(Moment(1_500)));
+    assert!(rt; timers.deadline(TimerKind::Wait) == None);
     assert!(rt; timers.next() == Some(Moment(900)));
-    timers.clear(2);
+    timers.clear(TimerKind::DelayedAck);
     assert!(rt; timers.next() == Some(Moment(1_500)));
     assert!(rt; Moment(9).after(u64::MAX) == Moment(u64::MAX));
 }

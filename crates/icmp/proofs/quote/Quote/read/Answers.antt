@@ -8,8 +8,8 @@ pub returns-clause-some : goal.returns-clause-some
 returns-clause-some c =
     let xs = c.args.octets.now in
     let header = c.in_ok-header.header in
-    fields_read xs header c.addr_at.result c.addr_at-2.result c.read_u16.result c.read_u16-2.result c.read_u32.result
+    fields_read xs header c.at.result c.at-2.result c.read_u16.result c.read_u16-2.result c.read_u32.result
     (λ i. omega (arith, c.type_inv.octets i)) (sym c.in_ok-header.ensures)
-    c.addr_at.ensures (c.read_u16.ensures ∙ ap (big_number 2) (take_rest xs header))
-    c.addr_at-2.ensures (c.read_u16-2.ensures ∙ ap (big_number 2) (take_rest xs (header + 2)))
+    c.at.ensures (c.read_u16.ensures ∙ ap (big_number 2) (take_rest xs header))
+    c.at-2.ensures (c.read_u16-2.ensures ∙ ap (big_number 2) (take_rest xs (header + 2)))
     (c.read_u32.ensures ∙ ap (big_number 4) (take_rest xs (header + 4)))

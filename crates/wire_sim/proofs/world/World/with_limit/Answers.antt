@@ -1,7 +1,7 @@
 -- Two hosts at two addresses, on which nothing happened, are the beginning of every run.
 use Rattle.std.proofs.Common.{◌∙◌, sym, ap, ◌*◌, length}
 use Rattle.ipv4.specs.declared.addr.Addr.{Addr}
-use Rattle.host.specs.Endpoints.{same_addr}
+use Rattle.ipv4.specs.Addresses.{same_addr}
 use Rattle.wire_sim.specs.WorldView.{network_view}
 use Rattle.wire_sim.proofs.StepReached.{reached-fresh, reached-within, uncounted}
 use Rattle.wire_sim.proofs.world.World.with_limit.Goals as goal

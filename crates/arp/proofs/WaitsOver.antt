@@ -1,0 +1,249 @@
+-- When the waits of the notes are over.
+use Rattle.std.proofs.Common.{◌≡◌, ◌<◌, ◌≤◌, ℕ, suc, Bool, true, false, not, ◌&&◌, ◌||◌, nat_lt, nat_le, List, [], ◌∷◌, length, filter, fold, count_by, cond, Option, Some, None, IfSome, refl, sym, ◌∙◌, ap, subst, arith}
+use Rattle.std.specs.List.{list_any}
+use Rattle.std.proofs.lemmas.Bool.Decides.{nat_tests}
+use Rattle.std.proofs.lemmas.List.Sums.{length-filter}
+use Rattle.ipv4.specs.declared.addr.Addr.{Addr}
+use Rattle.clock.specs.declared.moment.Moment.{Moment}
+use Rattle.clock.specs.Moments.{sooner}
+use Rattle.arp.specs.declared.entry.Asked.{Asked}
+use Rattle.arp.specs.Cache.{end_of, is_note_of, is_live_note, live_notes, may_ask, IsNextAsk}
+use Rattle.arp.specs.Waits.{is_over, later, own_end, first_end, room_end}
+use Rattle.arp.proofs.History.{length-filter-le}
+
+-- the live notes, counted
+pub count_is : (now : Moment) (asked : List Asked) → count_by (is_live_note now) asked ≡ length (live_notes now asked)
+count_is now asked = sym (length-filter (is_live_note now) asked)
+
+and_true : (b : Bool) → b ≡ (b && true)
+and_true true = refl
+and_true false = refl
+
+and_false : (b : Bool) → false ≡ (b && false)
+and_false true = refl
+and_false false = refl
+
+-- a test of the live ones
+any_live : (p q : Asked → Bool) (notes : List Asked) → list_any p (filter q notes) ≡ list_any (λ note. p note && q note) notes
+any_live p q [] = refl
+any_live p q (note ∷ notes) = by_test (q note) (any_live p q notes)
+  where
+    rest : Bool
+    rest = list_any (λ other. p other && q other) notes
+
+    by_test : (b : Bool) → list_any p (filter q notes) ≡ rest → list_any p (cond b (note ∷ filter q notes) (filter q notes)) ≡ ((p note && b) || rest)
+    by_test true past = ap (λ c. p note || c) past ∙ ap (λ c. c || rest) (and_true (p note))
+    by_test false past = past ∙ ap (λ c. c || rest) (and_false (p note))
+
+-- both tests of a request
+may_is : (now : Moment) (addr : Addr) (asked : List Asked) (count : ℕ) (any : Bool) → count ≡ length (live_notes now asked)
+    → any ≡ list_any (λ note. is_note_of addr note && is_live_note now note) asked → (nat_lt count 64 && not any) ≡ may_ask now addr asked
+unfolding may_ask
+may_is now addr asked count any counted found =
+    ap (λ (n : ℕ). nat_lt n 64 && not any) counted ∙ ap (λ b. nat_lt (length (live_notes now asked)) 64 && not b) (found ∙ sym (any_live (is_note_of addr) (is_live_note now) asked))
+
+pub may_yes : (now : Moment) (addr : Addr) (asked : List Asked) (count : ℕ) (any : Bool) → nat_lt count 64 ≡ true → count ≡ length (live_notes now asked)
+    → any ≡ list_any (λ note. is_note_of addr note && is_live_note now note) asked → not any ≡ may_ask now addr asked
+may_yes now addr asked count any room counted found = ap (λ b. b && not any) (sym room) ∙ may_is now addr asked count any counted found
+
+pub may_no : (now : Moment) (addr : Addr) (asked : List Asked) (count : ℕ) → nat_lt count 64 ≡ false → count ≡ length (live_notes now asked)
+    → nat_lt count 64 ≡ may_ask now addr asked
+may_no now addr asked count full counted =
+    full ∙ ap (λ b. b && not any) (sym full) ∙ may_is now addr asked count any counted refl
+  where
+    any : Bool
+    any = list_any (λ note. is_note_of addr note && is_live_note now note) asked
+
+-- a note is live until its end
+live_until : (now : Moment) (note : Asked) → is_over (Some (end_of note)) now ≡ not (is_live_note now note)
+live_until now note = apart (end_of note).0 now.0
+  where
+    apart : (a b : ℕ) → nat_le a b ≡ not (nat_lt b a)
+    apart a b = grind (arith, nat_tests)
+
+-- the later of two waits is over where both are
+both_over : (a b now : Moment) → is_over (later (Some a) (Some b)) now ≡ (is_over (Some a) now && is_over (Some b) now)
+both_over a b now = grind (arith, nat_tests)
+
+later_over : (a b : Option Moment) (now : Moment) → is_over (later a b) now ≡ (is_over a now && is_over b now)
+later_over None b now = refl
+later_over (Some a) None now = and_true (is_over (Some a) now)
+later_over (Some a) (Some b) now = both_over a b now
+
+-- the notes for the address
+
+abbrev last_end : Option Moment → List Asked → Option Moment
+last_end first notes = fold (λ (latest : Option Moment) (note : Asked). later latest (Some (end_of note))) first notes
+
+own_over : (addr : Addr) (notes : List Asked) (first : Option Moment) (now : Moment)
+    → is_over (last_end first (filter (is_note_of addr) notes)) now ≡ (is_over first now && not (list_any (is_note_of addr) (filter (is_live_note now) notes)))
+own_over addr [] first now = and_true (is_over first now)
+own_over addr (note ∷ notes) first now = by_tests (λ f. own_over addr notes f now) (is_note_of addr note) refl (is_live_note now note) refl
+  where
+    rest : Bool
+    rest = list_any (is_note_of addr) (filter (is_live_note now) notes)
+
+    -- where it is for the address
+    own : ((f : Option Moment) → is_over (last_end f (filter (is_note_of addr) notes)) now ≡ (is_over f now && not rest)) → (live : Bool) → is_live_note now note ≡ live
+        → is_over (last_end (later first (Some (end_of note))) (filter (is_note_of addr) notes)) now ≡ ((is_over first now && not live) && not rest)
+    own past live test =
+        past (later first (Some (end_of note)))
+        ∙ ap (λ b. b && not rest) (later_over first (Some (end_of note)) now ∙ ap (λ b. is_over first now && b) (live_until now note ∙ ap not test))
+
+    shut : (b : Bool) → ((b && false) && not rest) ≡ (b && false)
+    shut true = refl
+    shut false = refl
+
+    through : (b : Bool) → ((b && true) && not rest) ≡ (b && not rest)
+    through true = refl
+    through false = refl
+
+    by_tests : ((f : Option Moment) → is_over (last_end f (filter (is_note_of addr) notes)) now ≡ (is_over f now && not rest)) → (mine : Bool) → is_note_of addr note ≡ mine → (live : Bool) → is_live_note now note ≡ live
+        → is_over (last_end first (cond mine (note ∷ filter (is_note_of addr) notes) (filter (is_note_of addr) notes))) now
+        ≡ (is_over first now && not (list_any (is_note_of addr) (cond live (note ∷ filter (is_live_note now) notes) (filter (is_live_note now) notes))))
+    by_tests past true is true test = own past true test ∙ shut (is_over first now) ∙ ap (λ b. is_over first now && not (b || rest)) (sym is)
+    by_tests past true is false test = own past false test ∙ through (is_over first now)
+    by_tests past false is true test = past first ∙ ap (λ b. is_over first now && not (b || rest)) (sym is)
+    by_tests past false is false test = past first
+
+-- the places
+
+one_less : (a b : ℕ) → nat_lt (suc a) (suc b) ≡ nat_lt a b
+one_less a b = grind (arith, nat_tests)
+
+some_dead : (p : Asked → Bool) (notes : List Asked) → nat_lt (length (filter p notes)) (length notes) ≡ list_any (λ note. not (p note)) notes
+some_dead p [] = refl
+some_dead p (note ∷ notes) = by_test (p note) (some_dead p notes)
+  where
+    less : nat_lt (length (filter p notes)) (suc (length notes)) ≡ true
+    less = let most = length-filter-le p notes in grind (arith, nat_tests, most)
+
+    by_test : (b : Bool) → nat_lt (length (filter p notes)) (length notes) ≡ list_any (λ other. not (p other)) notes
+        → nat_lt (length (cond b (note ∷ filter p notes) (filter p notes))) (suc (length notes)) ≡ (not b || list_any (λ other. not (p other)) notes)
+    by_test true rest = one_less (length (filter p notes)) (length notes) ∙ rest
+    by_test false rest = less
+
+abbrev soonest_end : Option Moment → List Asked → Option Moment
+soonest_end first notes = fold (λ (soonest : Option Moment) (note : Asked). sooner soonest (Some (end_of note))) first notes
+
+either_over : (a b now : Moment) → is_over (sooner (Some a) (Some b)) now ≡ (is_over (Some a) now || is_over (Some b) now)
+either_over a b now = grind (arith, nat_tests)
+
+or_assoc : (a b c : Bool) → ((a || b) || c) ≡ (a || (b || c))
+or_assoc true b c = refl
+or_assoc false b c = refl
+
+first_over : (notes : List Asked) (first now : Moment)
+    → is_over (soonest_end (Some first) notes) now ≡ (is_over (Some first) now || list_any (λ note. not (is_live_note now note)) notes)
+first_over [] first now = or_false (is_over (Some first) now)
+  where
+    or_false : (b : Bool) → b ≡ (b || false)
+    or_false true = refl
+    or_false false = refl
+first_over (note ∷ notes) first now = by_test (λ f. first_over notes f now) (nat_le first.0 (end_of note).0) refl
+  where
+    rest : Bool
+    rest = list_any (λ other. not (is_live_note now other)) notes
+
+    joined : (b : Bool) → b ≡ (is_over (Some first) now || is_over (Some (end_of note)) now) → (b || rest) ≡ (is_over (Some first) now || (not (is_live_note now note) || rest))
+    joined b is = ap (λ c. c || rest) (is ∙ ap (λ c. is_over (Some first) now || c) (live_until now note)) ∙ or_assoc (is_over (Some first) now) (not (is_live_note now note)) rest
+
+    by_test : ((f : Moment) → is_over (soonest_end (Some f) notes) now ≡ (is_over (Some f) now || rest)) → (b : Bool) → nat_le first.0 (end_of note).0 ≡ b
+        → is_over (soonest_end (cond b (Some first) (Some (end_of note))) notes) now ≡ (is_over (Some first) now || (not (is_live_note now note) || rest))
+    by_test past true test =
+        past first ∙ joined (is_over (Some first) now) (ap (λ c. is_over (cond c (Some first) (Some (end_of note))) now) (sym test) ∙ either_over first (end_of note) now)
+    by_test past false test =
+        past (end_of note) ∙ joined (is_over (Some (end_of note)) now) (ap (λ c. is_over (cond c (Some first) (Some (end_of note))) now) (sym test) ∙ either_over first (end_of note) now)
+
+full_over : (asked : List Asked) (now : Moment) → length asked ≡ 64 → is_over (first_end asked) now ≡ nat_lt (length (live_notes now asked)) 64
+full_over [] now full = absurd (omega (arith, full))
+full_over (note ∷ notes) now full =
+    first_over notes (end_of note) now
+    ∙ ap (λ b. b || list_any (λ other. not (is_live_note now other)) notes) (live_until now note)
+    ∙ sym (some_dead (is_live_note now) (note ∷ notes))
+    ∙ ap (λ (n : ℕ). nat_lt (length (live_notes now (note ∷ notes))) n) full
+
+room_over : (asked : List Asked) (now : Moment) → length asked ≤ 64 → is_over (room_end asked) now ≡ nat_lt (length (live_notes now asked)) 64
+room_over asked now few = by_test (nat_lt (length asked) 64) refl
+  where
+    by_test : (b : Bool) → nat_lt (length asked) 64 ≡ b → is_over (cond b None (first_end asked)) now ≡ nat_lt (length (live_notes now asked)) 64
+    by_test true test = let most = length-filter-le (is_live_note now) asked in grind (arith, nat_tests, test, most)
+    by_test false test = full_over asked now (grind (arith, nat_tests, test, few))
+
+-- both
+over_is : (addr : Addr) (asked : List Asked) (now : Moment) → length asked ≤ 64 → may_ask now addr asked ≡ is_over (later (room_end asked) (own_end addr asked)) now
+unfolding may_ask
+over_is addr asked now few =
+    sym (later_over (room_end asked) (own_end addr asked) now
+    ∙ ap (λ b. b && is_over (own_end addr asked) now) (room_over asked now few)
+    ∙ ap (λ b. nat_lt (length (live_notes now asked)) 64 && b) (own_over addr asked None now))
+
+-- The end of a note lies behind the first moment of the clock.
+
+end_ahead : (note : Asked) → 0 < (end_of note).0
+end_ahead note = grind arith
+
+either_ahead : (t : Bool) (a b : Moment) → 0 < a.0 → 0 < b.0 → IfSome (cond t (Some a) (Some b)) (λ m. 0 < m.0)
+either_ahead true a b p q = p
+either_ahead false a b p q = q
+
+later_ahead : (a : Option Moment) (b : Moment) → IfSome a (λ m. 0 < m.0) → 0 < b.0 → IfSome (later a (Some b)) (λ m. 0 < m.0)
+later_ahead None b p q = q
+later_ahead (Some a) b p q = either_ahead (nat_le a.0 b.0) b a q p
+
+sooner_ahead : (a : Option Moment) (b : Moment) → IfSome a (λ m. 0 < m.0) → 0 < b.0 → IfSome (sooner a (Some b)) (λ m. 0 < m.0)
+sooner_ahead None b p q = q
+sooner_ahead (Some a) b p q = either_ahead (nat_le a.0 b.0) a b p q
+
+last_ahead : (first : Option Moment) (notes : List Asked) → IfSome first (λ m. 0 < m.0) → IfSome (last_end first notes) (λ m. 0 < m.0)
+last_ahead first [] p = p
+last_ahead first (note ∷ notes) p = last_ahead (later first (Some (end_of note))) notes (later_ahead first (end_of note) p (end_ahead note))
+
+soonest_ahead : (first : Option Moment) (notes : List Asked) → IfSome first (λ m. 0 < m.0) → IfSome (soonest_end first notes) (λ m. 0 < m.0)
+soonest_ahead first [] p = p
+soonest_ahead first (note ∷ notes) p = soonest_ahead (sooner first (Some (end_of note))) notes (sooner_ahead first (end_of note) p (end_ahead note))
+
+room_ahead : (asked : List Asked) → IfSome (room_end asked) (λ m. 0 < m.0)
+room_ahead asked = by_test (nat_lt (length asked) 64)
+  where
+    by_test : (b : Bool) → IfSome (cond b None (first_end asked)) (λ m. 0 < m.0)
+    by_test true = tt
+    by_test false = soonest_ahead None asked tt
+
+both_ahead : (a b : Option Moment) → IfSome a (λ m. 0 < m.0) → IfSome b (λ m. 0 < m.0) → IfSome (later a b) (λ m. 0 < m.0)
+both_ahead None b p q = q
+both_ahead (Some a) None p q = p
+both_ahead (Some a) (Some b) p q = later_ahead (Some a) b p q
+
+next_ahead : (addr : Addr) (asked : List Asked) (next : Option Moment) → next ≡ later (room_end asked) (own_end addr asked) → IfSome next (λ m. 0 < m.0)
+next_ahead addr asked next is =
+    subst (λ o. IfSome o (λ m. 0 < m.0)) (sym is) (both_ahead (room_end asked) (own_end addr asked) (room_ahead asked) (last_ahead None (filter (is_note_of addr) asked) tt))
+
+pub next_is : (addr : Addr) (asked : List Asked) (next : Option Moment) → length asked ≤ 64 → next ≡ later (room_end asked) (own_end addr asked) → IsNextAsk addr asked next
+next_is addr asked None few is = λ now. over_is addr asked now few ∙ ap (λ o. is_over o now) (sym is)
+next_is addr asked (Some next) few is = (next_ahead addr asked (Some next) is, λ now. over_is addr asked now few ∙ ap (λ o. is_over o now) (sym is))
+
+-- There is one such moment at most.
+
+below : (a b : ℕ) → nat_le b a ≡ nat_le a a → b ≤ a
+below a b e = grind (arith, nat_tests, e)
+
+begins : (n : ℕ) → 0 < n → nat_le n 0 ≡ true → ⊥
+begins n some e = grind (arith, nat_tests, some, e)
+
+pub one_next : (addr : Addr) (asked : List Asked) (first second : Option Moment) → IsNextAsk addr asked first → IsNextAsk addr asked second → first ≡ second
+one_next addr asked None None p q = refl
+one_next addr asked None (Some second) p q = absurd (begins second.0 q.0 (sym (q.1 start) ∙ p start))
+  where
+    start : Moment
+    start = record { 0 = 0 }
+one_next addr asked (Some first) None p q = absurd (begins first.0 p.0 (sym (p.1 start) ∙ q start))
+  where
+    start : Moment
+    start = record { 0 = 0 }
+one_next addr asked (Some first) (Some second) p q =
+    let same : first.0 ≡ second.0 = omega (arith, below first.0 second.0 (sym (q.1 first) ∙ p.1 first), below second.0 first.0 (sym (p.1 second) ∙ q.1 second)) in
+    ap made same
+  where
+    made : ℕ → Option Moment
+    made n = let m : Moment = record { 0 = n } in Some m
