@@ -1,13 +1,12 @@
 -- The best route as a function is the one that `Routes::pick` finds.
-use Rattle.std.proofs.Common.{◌≡◌, ℕ, zero, suc, ◌+◌, ◌<◌, ◌≤◌, Bool, true, false, not, ◌&&◌, ◌||◌, nat_eq, nat_le, cond, List, [], ◌∷◌, length, get_or, find, Option, Some, None, option_map, Contains, refl, sym, ◌∙◌, ap, arith, subst}
+use Rattle.std.proofs.Common.{◌≡◌, ℕ, zero, suc, ◌<◌, ◌≤◌, Bool, true, false, not, ◌&&◌, ◌||◌, nat_eq, nat_le, List, [], ◌∷◌, length, get_or, find, Option, Some, None, option_map, Contains, refl, sym, ◌∙◌, ap, arith, subst}
 use Rattle.std.specs.List.{list_all}
 use Rattle.std.proofs.lemmas.Bool.Decides.{nat_tests}
-use Rattle.std.proofs.lemmas.Grind.{common_steps}
 use Rattle.ipv4.specs.declared.addr.Addr.{Addr}
 use Rattle.ipv4.specs.Prefixes.{bit, StartAlike}
 use Rattle.routes.specs.declared.route.Route.{Route}
 use Rattle.routes.specs.declared.route.Hop.{Hop}
-use Rattle.routes.specs.Routes.{IsTable, Matches, IsBest, Picks}
+use Rattle.routes.specs.Routes.{IsTable, IsBest, Picks}
 use Rattle.routes.proofs.Tables.{one_best}
 use Rattle.interface.specs.Routing.{start_alike, matches, is_best, pick}
 
@@ -120,7 +119,7 @@ best_from_test table addr best here e = record {
     longer : (other : Route) → Contains table other → matches addr other ≡ true → other.prefix.length ≤ best.prefix.length
     longer other inside its =
         let tested : (not (matches addr other) || nat_le other.prefix.length best.prefix.length) ≡ true =
-            all_from_test (λ (o : Route). not (matches addr o) || nat_le o.prefix.length best.prefix.length) table (right_of (matches addr best) (list_all _ table) e) other inside in
+        all_from_test (λ (o : Route). not (matches addr o) || nat_le o.prefix.length best.prefix.length) table (right_of (matches addr best) (list_all _ table) e) other inside in
         let less : nat_le other.prefix.length best.prefix.length ≡ true = ap (λ b. not b || nat_le other.prefix.length best.prefix.length) (sym its) ∙ tested in
         grind (arith, nat_tests, less)
 

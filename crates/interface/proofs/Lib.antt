@@ -2,3 +2,4 @@ pub mod BestRoute
 pub mod Framed
 pub mod Waits
 pub mod Heard
+pub mod Deadlines

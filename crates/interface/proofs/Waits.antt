@@ -1,5 +1,5 @@
 -- What waits: until when, in which order, and what a request leaves.
-use Rattle.std.proofs.Common.{◌≡◌, ◌≢◌, ℕ, zero, suc, ◌+◌, ◌<◌, ◌≤◌, Bool, true, false, not, ◌&&◌, nat_le, cond, if◌then◌else◌, List, [], ◌∷◌, ◌++◌, length, get_or, find, filter, fold, remove, All, Contains, Option, Some, None, is_some, refl, sym, ◌∙◌, ap, arith, subst}
+use Rattle.std.proofs.Common.{◌≡◌, ◌≢◌, ℕ, zero, suc, ◌<◌, ◌≤◌, Bool, true, false, not, ◌&&◌, nat_le, cond, if◌then◌else◌, List, [], ◌∷◌, ◌++◌, length, get_or, find, filter, fold, remove, All, Contains, Option, Some, None, is_some, refl, sym, ◌∙◌, ap, arith, subst}
 use Rattle.std.specs.List.{position, position_or_len, slice_get}
 use Rattle.std.proofs.lemmas.Bool.{lt-leb, ltb-false}
 use Rattle.std.proofs.lemmas.Bool.Decides.{nat_tests}
@@ -195,7 +195,7 @@ pub asked_once : (h : InterfaceView) (now later : Moment) (to hop : Addr) (betwe
 asked_once h now later to hop between may live order e =
     let refused : may_ask later hop (fold after_event (after_ask now hop h.cache) between).asked ≡ false = noted_while_live h.cache now later hop between may live order in
     let allowed : may_ask later hop (fold after_event (after_ask now hop h.cache) between).asked ≡ true =
-        asks (record h { cache = fold after_event (after_ask now hop h.cache) between }) later to hop e in
+    asks (record h { cache = fold after_event (after_ask now hop h.cache) between }) later to hop e in
     absurd cc
 
 -- What goes out at a place, by the way of the reply there.

@@ -1,6 +1,6 @@
 -- The control replies that wait: ARP replies (RFC 826), and resets that answer segments (RFC 9293 section 3.5.2). That 16 wait at
 -- most is this stack's own.
-use Rattle.std.specs.Prelude.{Bool, true, false, not, ◌&&◌, ◌==◌, if◌then◌else◌, List, [], ◌∷◌, ◌++◌, length, position, Option, Result, Ok, Err}
+use Rattle.std.specs.Prelude.{Bool, true, false, not, ◌&&◌, ◌==◌, if◌then◌else◌, [], ◌∷◌, ◌++◌, length, Result, Ok, Err}
 use Rattle.ipv4.specs.declared.addr.Addr.{Addr}
 use Rattle.clock.specs.declared.moment.Moment.{Moment}
 use Rattle.arp.specs.declared.packet.ArpPacket.{ArpPacket}

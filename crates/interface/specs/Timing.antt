@@ -1,11 +1,11 @@
 -- What time does to what waits. That a reset waits 3,000 milliseconds for its hop, and no longer, is this stack's own; that old pairs
 -- are flushed is RFC 1122 section 2.3.2.1.
-use Rattle.std.specs.Prelude.{Bool, false, not, ◌&&◌, nat_le, if◌then◌else◌, List, filter, fold, Option, Some, None, is_some}
+use Rattle.std.specs.Prelude.{Bool, false, not, ◌&&◌, ◌||◌, nat_le, if◌then◌else◌, List, filter, fold, Option, Some, None, is_some}
 use Rattle.ipv4.specs.declared.addr.Addr.{Addr}
 use Rattle.clock.specs.declared.moment.Moment.{Moment}
 use Rattle.clock.specs.Moments.{after, sooner}
-use Rattle.arp.specs.Cache.{Cache, look, after_age}
-use Rattle.arp.specs.Asking.{asked_until as asked_until_of}
+use Rattle.arp.specs.Cache.{Cache, look, may_ask, after_age}
+use Rattle.arp.specs.Waits.{next_ask}
 use Rattle.routes.specs.declared.route.Route.{Route}
 use Rattle.interface.specs.declared.reply.Reply.{Reply}
 use Rattle.interface.specs.declared.reply.Reply.TheVariants.{Arp, Reset}
@@ -48,7 +48,7 @@ after_tick h now = record h { cache = after_age now h.cache; replies = filter (s
 -- the moment from which a request for a neighbour may go out, where none may now and its MAC isn't known
 abbrev pub asked_until_over : Cache → Moment → Option Addr → Option Moment
 asked_until_over cache now None = None
-asked_until_over cache now (Some hop) = if is_some (look now hop cache) then None else asked_until_of now hop cache.asked
+asked_until_over cache now (Some hop) = if is_some (look now hop cache) || may_ask now hop cache.asked then None else next_ask hop cache.asked
 
 -- the same for the next hop to an address
 abbrev pub asked_until : InterfaceView → Moment → Addr → Option Moment

@@ -1,6 +1,6 @@
 //! Laws of the definitions that the contracts of this crate cite: each is the contract of a function that does nothing.
 
-ghost use Rattle.std.specs.Prelude.{◌≡◌, ◌≢◌, ℕ, ◌+◌, ◌*◌, ◌<◌, ◌≤◌, ◌++◌, [], ◌∷◌, List, length, position, fold, All, Contains, IsTrue, false, Option, Some, None, Ok};
+ghost use Rattle.std.specs.Prelude.{◌≡◌, ◌≢◌, ℕ, ◌+◌, ◌*◌, ◌<◌, ◌≤◌, ◌++◌, [], ◌∷◌, List, length, position, fold, All, Contains, IsTrue, IfSome, false, Option, Some, None, Ok};
 ghost use Rattle.ether.specs.declared.mac.Mac.{Mac};
 ghost use Rattle.ipv4.specs.declared.addr.Addr.{Addr};
 ghost use Rattle.tcp_segment.specs.declared.head.Head.{Head};
@@ -8,7 +8,9 @@ ghost use Rattle.tcp_segment.specs.Sent.{CanBeSent, sent, sent_octets, sent_offs
 ghost use Rattle.clock.specs.declared.moment.Moment.{Moment};
 ghost use Rattle.arp.specs.declared.packet.ArpPacket.{ArpPacket};
 ghost use Rattle.arp.specs.declared.packet.Operation.TheVariants as operation;
-ghost use Rattle.arp.specs.Cache.{is_live, may_ask, after_age, after_ask};
+ghost use Rattle.arp.specs.declared.entry.Asked.{Asked};
+ghost use Rattle.arp.specs.Cache.{is_live, may_ask, after_age, after_ask, IsNextAsk};
+ghost use Rattle.arp.specs.Waits.{next_ask};
 ghost use Rattle.arp.specs.Events.{Event, moment_of, after_event};
 ghost use Rattle.arp.specs.Packet.{HasWidths, request_of};
 ghost use Rattle.routes.specs.declared.route.Route.{Route};
@@ -25,7 +27,7 @@ ghost use Rattle.interface.specs.Routing.{pick, next_hop};
 ghost use Rattle.interface.specs.Ways.{knows_hop, way};
 ghost use Rattle.interface.specs.Replies.{is_due};
 ghost use Rattle.interface.specs.Emission.{asked, way_at, frame_at, after_emission, segment_frame_to, request_frame, reply_frame};
-ghost use Rattle.interface.specs.Timing.{end_of, lacks_hop, after_tick};
+ghost use Rattle.interface.specs.Timing.{end_of, after_tick, deadline_of, least_deadline};
 
 /// The hop that a table of routes picks for an address is the one that `Routes::pick` answers (RFC 4632 section 5.1).
 pub fn one_route()
@@ -78,6 +80,15 @@ pub fn asked_once_a_second()
     ensures once { (h : InterfaceView) (now later : Moment) (to hop : Addr) (between : List Event)
         → IsTrue (may_ask now hop h.cache.asked) → IsTrue (is_live 1000 later now) → All (λ event. (moment_of event).0 ≤ later.0) between
         → way (record h { cache = fold after_event (after_ask now hop h.cache) between }) later to ≢ Ask hop }
+{}
+
+/// The deadline is one of those of the replies that wait, and none of theirs comes before it; there is none where none of them has one. From
+/// the moment that `next_ask` names, and not before, a request for a hop may go out, as long as none goes out.
+pub fn deadlines_are_the_least()
+    ensures some { (h : InterfaceView) (now m : Moment) → least_deadline h now ≡ Some m
+        → ((w : Waiting) × Contains h.replies w × (deadline_of h now w ≡ Some m)) × All (λ w. IfSome (deadline_of h now w) (λ other. m.0 ≤ other.0)) h.replies }
+    ensures none { (h : InterfaceView) (now : Moment) → least_deadline h now ≡ None → All (λ w. deadline_of h now w ≡ None) h.replies }
+    ensures asked { (hop : Addr) (asked : List Asked) → length asked ≤ 64 → IsNextAsk hop asked (next_ask hop asked) }
 {}
 
 /// A frame that goes out is heard, where it is for, as the very packet or segment that is meant (RFC 826, RFC 9293 section 3.1), where its

@@ -61,8 +61,9 @@ fn asked_until_over(cache: &ArpCache, now: Moment, hop: Option<Addr>) -> Option<
     ensures { result ≡ asked_until_over cache.now now hop }
 {
     match hop {
-        Some(hop) if cache.look(now, hop).is_none() => cache.asked_until(now, hop),
-        _ => None,
+        Some(hop) if cache.look(now, hop).is_some() || cache.may_ask(now, hop) => None,
+        Some(hop) => cache.next_ask(hop),
+        None => None,
     }
 }
 

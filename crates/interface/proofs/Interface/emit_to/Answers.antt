@@ -1,5 +1,5 @@
 -- A reset stands behind the place of the two heads before they are written.
-use Rattle.std.proofs.Common.{◌≡◌, ◌+◌, ◌-◌, ◌*◌, ◌++◌, ◌≤◌, ℕ, Bool, true, false, cond, List, [], length, take, drop, max, slice_range, arith, sym, ◌∙◌, ap}
+use Rattle.std.proofs.Common.{◌≡◌, ◌+◌, ◌-◌, ◌*◌, ◌++◌, ◌≤◌, ℕ, Bool, true, false, cond, List, [], length, take, drop, slice_range, arith, sym, ◌∙◌, ap}
 use Rattle.ether.specs.declared.mac.Mac.{Mac}
 use Rattle.ipv4.specs.declared.addr.Addr.{Addr}
 use Rattle.tcp_segment.specs.declared.head.Head.{Head}
@@ -30,10 +30,10 @@ returns-in-Reset-clause-octets c =
     let most : 4 * sent_offset head ≤ 24 = offset_most head.flags.syn in
     let none : n - 4 * sent_offset head ≡ 0 = omega (arith, is_n) in
     let empty : slice_range (mid_of 34 1480 out) (4 * sent_offset head) n ≡ [] =
-        ap (λ (k : ℕ). take k (drop (4 * sent_offset head) (mid_of 34 1480 out))) none in
+    ap (λ (k : ℕ). take k (drop (4 * sent_offset head) (mid_of 34 1480 out))) none in
     let whole : List ℕ = sent_octets own to head [] in
     let new : c.emit-segment_len.new.out ≡ whole ++ drop n (mid_of 34 1480 out) =
-        c.emit-segment_len.ensures.octets ∙ ap (λ (l : List ℕ). sent_octets own to head l ++ drop n (mid_of 34 1480 out)) empty in
+    c.emit-segment_len.ensures.octets ∙ ap (λ (l : List ℕ). sent_octets own to head l ++ drop n (mid_of 34 1480 out)) empty in
     let len : length whole ≡ n = sent_octets_len own to head [] ∙ sym is_n in
     let before : List ℕ = put_mid 34 1480 out c.emit-segment_len.new.out in
     let segment : slice_range before 34 (34 + n) ≡ whole = framed_segment out c.emit-segment_len.new.out whole n c.told-out new len (omega (arith, is_n, most)) in
