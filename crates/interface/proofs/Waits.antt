@@ -24,7 +24,7 @@ use Rattle.interface.specs.InterfaceView.{InterfaceView}
 use Rattle.interface.specs.Routing.{next_hop}
 use Rattle.interface.specs.Ways.{mac_of, knows_hop, way_by_mac, way_over, way}
 use Rattle.interface.specs.Replies.{way_of, goes_out, is_due}
-use Rattle.interface.specs.Emission.{request_frame, frame_by, left_by, way_of_one, way_at, frame_of_one, frame_at, after_emission}
+use Rattle.interface.specs.Emission.{request_frame, frame_by, left_by, len_by, way_of_one, way_at, frame_of_one, frame_at, after_emission}
 use Rattle.interface.specs.Timing.{end_of, is_over, lacks_hop, stays, after_tick}
 
 -- A hop is known after ageing where it was known before.
@@ -141,6 +141,24 @@ first_waits h now place k at before = one_waits h now k not_due
     not_due w e =
         let first = position-Some (is_due h now) h.replies place w at in
         ap (is_due h now) (sym (get_or_from_slice_get h.replies k w w e)) ∙ first.2 k before
+
+sixty : (way : Way) → goes_out way ≡ true → len_by way ≡ 60
+sixty (To mac) e = refl
+sixty (Ask hop) e = refl
+sixty Waits e = absurd cc
+
+goes_at : (h : InterfaceView) (now : Moment) (ws : List Waiting) (place : ℕ) → position (is_due h now) ws ≡ Some place
+    → (place < length ws) × (len_by (way_of_one h now (slice_get ws place)) ≡ 60)
+goes_at h now [] place at = absurd cc
+goes_at h now (first ∷ ws) place at =
+    let found = position-Some (is_due h now) (first ∷ ws) place first at in
+    let w : Waiting = get_or (first ∷ ws) place first in
+    let here : slice_get (first ∷ ws) place ≡ Some w = slice_get-get_or (first ∷ ws) place first found.0 in
+    (found.0, ap (λ (o : Option Waiting). len_by (way_of_one h now o)) here ∙ sixty (way_of h now w.reply) found.1)
+
+pub first_goes : (h : InterfaceView) (now : Moment) (place : ℕ) → position (is_due h now) h.replies ≡ Some place
+    → (place < length h.replies) × (len_by (way_at h now place) ≡ 60)
+first_goes h now place at = goes_at h now h.replies place at
 
 pub none_waits : (h : InterfaceView) (now : Moment) (k : ℕ) → position (is_due h now) h.replies ≡ None → way_at h now k ≡ Waits
 none_waits h now k none = one_waits h now k (λ w e. none_passes (is_due h now) h.replies (none_found (is_due h now) h.replies none) k w e)

@@ -26,7 +26,7 @@ ghost use Rattle.interface.specs.InterfaceView.{InterfaceView};
 ghost use Rattle.interface.specs.Routing.{pick, next_hop};
 ghost use Rattle.interface.specs.Ways.{knows_hop, way};
 ghost use Rattle.interface.specs.Replies.{is_due};
-ghost use Rattle.interface.specs.Emission.{asked, way_at, frame_at, after_emission, segment_frame_to, request_frame, reply_frame};
+ghost use Rattle.interface.specs.Emission.{asked, way_at, len_by, frame_at, after_emission, segment_frame_to, request_frame, reply_frame};
 ghost use Rattle.interface.specs.Timing.{end_of, after_tick, deadline_of, least_deadline};
 
 /// The hop that a table of routes picks for an address is the one that `Routes::pick` answers (RFC 4632 section 5.1).
@@ -55,11 +55,13 @@ pub fn nothing_waits_for_ever()
         knows_hop h now to ≡ false → (end_of w).0 ≤ now.0 → ¬ Contains (after_tick h now).replies w }
 {}
 
-/// What goes out is for the first reply for which anything can: each before it waits. Where it goes out itself, what waited before it
+/// What goes out is for the first reply for which anything can: each before it waits, and for it a frame of 60 octets goes out. Where it goes out itself, what waited before it
 /// and behind it stays, in order.
 pub fn replies_leave_in_order()
     ensures first { (h : InterfaceView) (now : Moment) (place k : ℕ) → position (is_due h now) h.replies ≡ Some place → k < place
         → way_at h now k ≡ Waits }
+    ensures goes { (h : InterfaceView) (now : Moment) (place : ℕ) → position (is_due h now) h.replies ≡ Some place
+        → (place < length h.replies) × (len_by (way_at h now place) ≡ 60) }
     ensures none { (h : InterfaceView) (now : Moment) (k : ℕ) → position (is_due h now) h.replies ≡ None → way_at h now k ≡ Waits }
     ensures left { (h : InterfaceView) (now : Moment) (before after : List Waiting) (w : Waiting) (mac : Mac) → h.replies ≡ before ++ w ∷ after
         → way_at h now (length before) ≡ To mac → (after_emission h now (length before)).replies ≡ before ++ after }
