@@ -3,6 +3,7 @@ use Rattle.std.specs.Prelude.{ℕ, ◌-◌, ◌<◌, ◌^◌, ◌≡◌, List, �
 use Rattle.byteorder.specs.Endian.{big_bytes}
 use Rattle.ether.specs.declared.mac.Mac.{Mac}
 use Rattle.ether.specs.declared.head.Head.{Head}
+use Rattle.ether.specs.declared.head.TheConstants.{LEAST_PAYLOAD}
 use Rattle.ether.specs.declared.view.FrameFault.{FrameFault}
 use Rattle.ether.specs.declared.view.FrameFault.TheVariants.{Short}
 
@@ -34,9 +35,9 @@ abbrev pub IsParsed : List ℕ → Result Frame FrameFault → Type 0
 IsParsed octets (Ok f) = Spells f octets
 IsParsed octets (Err Short) = (f : Frame) → Spells f octets → ⊥
 
--- zeros up to the least payload of a frame, 46 octets
+-- zeros up to the least payload of a frame
 abbrev pub padding : List ℕ → List ℕ
-padding payload = replicate (46 - length payload) 0
+padding payload = replicate (LEAST_PAYLOAD - length payload) 0
 
 -- the frame that goes out for a head and a payload
 abbrev pub sent : Head → List ℕ → Frame

@@ -31,8 +31,8 @@ impl Head {
     /// Writes the head before a payload of so many octets, which stands at `out[14..]` already, pads a short one with
     /// zeros, and answers the length of the frame, in octets. What stands behind it in `out` stays.
     pub fn emit(&self, payload_len: usize, out: &mut [u8; SPACE]) -> usize
-        requires { payload_len ≤ 1500 }
-        ensures len { result ≡ 14 + max payload_len 46 }
+        requires { payload_len ≤ MOST_PAYLOAD }
+        ensures len { result ≡ HEAD + max payload_len LEAST_PAYLOAD }
         ensures octets { out.new ≡ spelling (sent self.now (slice_range out.old 14 (14 + payload_len))) ++ drop result out.old }
     {
         let end = HEAD + payload_len.max(LEAST_PAYLOAD);

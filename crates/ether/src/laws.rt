@@ -37,7 +37,7 @@ pub fn emitted_parses()
         → length head.destination.0 ≡ 6 → length head.source.0 ≡ 6 → head.kind < 2 ^ 16
         → IsParsed (spelling (sent head payload)) answer → answer ≡ Ok (sent head payload) }
     ensures len { (head : Head) (payload : List ℕ) → length head.destination.0 ≡ 6 → length head.source.0 ≡ 6
-        → length (spelling (sent head payload)) ≡ 14 + max (length payload) 46 }
+        → length (spelling (sent head payload)) ≡ 14 + max (length payload) LEAST_PAYLOAD }
 {}
 
 /// What the public constants are: a payload has 46 to 1,500 octets (RFC 894), so a frame with its head of 14 has 1,514 at most,

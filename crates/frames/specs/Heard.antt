@@ -1,6 +1,7 @@
 -- What octets are to a host, told by what they spell: for each answer the record of each layer that they spell, and for each
 -- cause to drop them that the layers below it are well and this one isn't. `laws::one_meaning` says that this is `heard`.
 use Rattle.std.specs.Prelude.{◌≡◌, ◌≢◌, ◌<◌, ◌≤◌, ℕ, ◌⊎◌, false, List, length, Result, Ok, Err}
+use Rattle.ether.specs.declared.head.TheConstants.{SPACE}
 use Rattle.ether.specs.declared.mac.Mac.{Mac}
 use Rattle.ether.specs.Frame.{Frame, Spells as SpellsFrame}
 use Rattle.arp.specs.declared.packet.ArpFault.TheVariants as packet
@@ -26,7 +27,7 @@ IsFor mac f = (f.destination ≡ mac) ⊎ ((f.destination ≡ broadcast) × (f.k
 pub record Brings (mac : Mac) (octets : List ℕ) (kind : ℕ) (payload : List ℕ) : Type 0 where
   pub frame : Frame
   pub spelled : SpellsFrame frame octets
-  pub most : length octets ≤ 1514
+  pub most : length octets ≤ SPACE
   pub ours : IsFor mac frame
   pub type : frame.kind ≡ kind
   pub carried : frame.payload ≡ payload
@@ -57,8 +58,8 @@ abbrev pub IsHeard : Mac → Addr → List ℕ → Result Meaning DropCause → 
 IsHeard mac ours octets (Ok (Arp p)) = (payload : List ℕ) × Brings mac octets arp_type payload × SpellsPacket p payload × MaySend ours p.sender_addr
 IsHeard mac ours octets (Ok (Tcp t)) = (d : Datagram) × BringsTcp mac ours octets d × SpellsSegment d.source d.destination t.segment d.payload × (t.source ≡ d.source)
 IsHeard mac ours octets (Ok (Other d)) = BringsDatagram mac ours octets d × (d.protocol ≢ 6) × (d.protocol ≢ 17 → IsWhole d)
-IsHeard mac ours octets (Err Short) = (length octets < 14) ⊎ (1514 < length octets)
-IsHeard mac ours octets (Err OtherMac) = (f : Frame) × SpellsFrame f octets × (length octets ≤ 1514) × (IsFor mac f → ⊥)
+IsHeard mac ours octets (Err Short) = (length octets < 14) ⊎ (SPACE < length octets)
+IsHeard mac ours octets (Err OtherMac) = (f : Frame) × SpellsFrame f octets × (length octets ≤ SPACE) × (IsFor mac f → ⊥)
 IsHeard mac ours octets (Err OtherType) = (kind : ℕ) × (payload : List ℕ) × Brings mac octets kind payload × (kind ≢ ipv4_type) × (kind ≢ arp_type)
 IsHeard mac ours octets (Err IpHeader) = (payload : List ℕ) × Brings mac octets ipv4_type payload × IsDatagram payload (Err datagram.IpHeader)
 IsHeard mac ours octets (Err IpSum) = (payload : List ℕ) × Brings mac octets ipv4_type payload × IsDatagram payload (Err datagram.IpSum)

@@ -3,6 +3,7 @@
 -- section 3.2.1.3), and the segment (RFC 9293 section 3.1).
 use Rattle.std.specs.Prelude.{ℕ, ◌==◌, nat_eq, nat_lt, Bool, not, ◌&&◌, ◌||◌, if◌then◌else◌, List, length, replicate, Option, Some, None, Result, Ok, Err}
 use Rattle.std.specs.Cmp.Lexicographic.{pointwise}
+use Rattle.ether.specs.declared.head.TheConstants.{SPACE}
 use Rattle.ether.specs.declared.mac.Mac.{Mac}
 use Rattle.ether.specs.Frame.{Frame}
 use Rattle.ether.specs.Reading.{frame_in}
@@ -87,4 +88,4 @@ frame_heard mac ours (Some f) = if is_for mac f then payload_heard ours f.kind f
 
 -- octets: a frame has 1,514 at most
 unfoldable pub heard : Mac → Addr → List ℕ → Result Meaning DropCause
-heard mac ours octets = if nat_lt 1514 (length octets) then Err Short else frame_heard mac ours (frame_in octets)
+heard mac ours octets = if nat_lt SPACE (length octets) then Err Short else frame_heard mac ours (frame_in octets)

@@ -2,6 +2,7 @@
 use Rattle.std.specs.Prelude.{◌≡◌, ℕ, List, ◌++◌, take}
 use Rattle.inet_sum.specs.Sum.{checksum_of}
 use Rattle.icmp.specs.declared.error.Reason.{Reason}
+use Rattle.icmp.specs.declared.error.TheConstants.{QUOTED_LEN}
 use Rattle.icmp.specs.declared.head.Head.{Head}
 use Rattle.icmp.specs.Message.{Message, spelling}
 use Rattle.icmp.specs.Errors.{kind_of, code_of}
@@ -38,4 +39,4 @@ pub record RepliesTo (reply request : Message) : Type 0 where
 -- and the first 8 octets of the payload, fewer where there are fewer.
 abbrev pub error_for : Reason → List ℕ → List ℕ → Message
 error_for reason header payload =
-    sent (record { kind = kind_of reason; code = code_of reason; identifier = 0; number = 0 }) (header ++ take 8 payload)
+    sent (record { kind = kind_of reason; code = code_of reason; identifier = 0; number = 0 }) (header ++ take QUOTED_LEN payload)

@@ -41,7 +41,7 @@ impl Model for Pool {
 impl Pool {
     /// Four free places. ENOMEM where there is no memory for them.
     pub fn new(alloc: Global) -> Result<Pool, PoolFault>
-        ensures { IfOk result (λ pool. pool ≡ replicate 4 None) }
+        ensures { IfOk result (λ pool. pool ≡ replicate PLACES None) }
     {
         let mut places = Vec::new(alloc);
         for _ in 0..PLACES {
@@ -86,7 +86,7 @@ impl Pool {
     /// When the time of a datagram runs out next (RFC 1122 section 3.3.2).
     pub fn next_deadline(&self) -> Option<Moment>
         ensures value { result ≡ next_deadline self.now }
-        ensures places { length self.now ≡ 4 }
+        ensures places { length self.now ≡ PLACES }
     {
         let mut next = None;
         for place in &self.places {

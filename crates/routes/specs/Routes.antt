@@ -5,10 +5,11 @@ use Rattle.ipv4.specs.declared.prefix.Prefix.{Prefix}
 use Rattle.ipv4.specs.Prefixes.{StartAlike}
 use Rattle.routes.specs.declared.route.Route.{Route}
 use Rattle.routes.specs.declared.route.Hop.{Hop}
+use Rattle.routes.specs.declared.table.TheConstants.{MOST}
 
 -- no two entries of a table have one prefix, and there are 32 at most
 pub record IsTable (table : List Route) : Type 0 where
-  pub limit : length table ≤ 32
+  pub limit : length table ≤ MOST
   pub apart : AllPairs (λ one other. one.prefix ≢ other.prefix) table
 
 -- an entry has this prefix

@@ -64,7 +64,7 @@ impl Routes {
     /// Adds a route. SamePrefix where there is one for the prefix; else Full where there are 32. A refusal changes nothing.
     pub fn add(&mut self, prefix: Prefix, hop: Hop) -> Result<(), AddFault>
         ensures same_prefix { (result ≡ Err AddFault.SamePrefix) ↔ HasPrefix self.old prefix }
-        ensures full { (result ≡ Err AddFault.Full) ↔ (¬ HasPrefix self.old prefix × (length self.old ≡ 32)) }
+        ensures full { (result ≡ Err AddFault.Full) ↔ (¬ HasPrefix self.old prefix × (length self.old ≡ MOST)) }
         ensures ok { OnOk result (self.new ≡ self.old ++ record { prefix = prefix; hop = hop } ∷ []) }
         ensures err { OnErr result (self.new ≡ self.old) }
     {

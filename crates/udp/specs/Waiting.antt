@@ -2,6 +2,7 @@
 use Rattle.std.specs.Prelude.{ℕ, ◌+◌, ◌<◌, ◌≤◌, List, [], ◌∷◌, length, sum_by, Option, Some, None}
 use Rattle.ipv4.specs.declared.addr.Endpoint.{Endpoint}
 use Rattle.udp.specs.declared.waiting.Entry.{Entry}
+use Rattle.udp.specs.declared.waiting.TheConstants.{COUNTED_BESIDE, MOST_WAITING}
 
 -- a datagram that waits: the endpoint that it is from or for, and its octets
 pub record Waiting : Type 0 where
@@ -15,7 +16,7 @@ pub record Line : Type 0 where
 
 -- what a datagram counts: its octets, and 8 beside them
 abbrev pub counted : Waiting → ℕ
-counted item = 8 + length item.octets
+counted item = COUNTED_BESIDE + length item.octets
 
 -- what all that wait count
 abbrev pub load : Line → ℕ
@@ -23,13 +24,13 @@ load line = sum_by counted line.items
 
 -- a queue keeps its limits: 64 datagrams at most, and what they count
 pub record IsWithin (line : Line) : Type 0 where
-  pub datagrams : length line.items ≤ 64
+  pub datagrams : length line.items ≤ MOST_WAITING
   pub octets : load line ≤ line.capacity
 
 -- a further datagram of so many octets has room
 pub record HasRoom (line : Line) (len : ℕ) : Type 0 where
-  pub datagrams : length line.items < 64
-  pub octets : load line + (8 + len) ≤ line.capacity
+  pub datagrams : length line.items < MOST_WAITING
+  pub octets : load line + (COUNTED_BESIDE + len) ≤ line.capacity
 
 -- what is known of a datagram beside its octets
 abbrev pub entry_of : Waiting → Entry

@@ -99,7 +99,7 @@ impl Queue {
     pub fn first(&self) -> Option<Entry>
         ensures first { result ≡ first_entry self.now.items }
         ensures limits { IsWithin self.now }
-        ensures fits { IfSome result (λ entry. 8 + entry.len ≤ self.now.capacity) }
+        ensures fits { IfSome result (λ entry. COUNTED_BESIDE + entry.len ≤ self.now.capacity) }
     {
         self.entries.front().copied()
     }

@@ -1,6 +1,5 @@
 //! Tables of vectors, a module for each format or part. Octets stand in them as byte strings.
 
-mod constants;
 mod datagrams;
 mod fragments;
 mod heard;

@@ -148,6 +148,8 @@ enum Event {
     Look(Addr, Option<Mac>),
     /// It asks for an address, and may or not.
     Ask(Addr, bool),
+    /// It tells from when on it may ask for an address.
+    NextAsk(Addr, Option<u64>),
     /// It forgets what is old.
     Age,
 }
@@ -158,7 +160,10 @@ fn answers(cache: &mut ArpCache, now: u64, event: Event) -> bool {
     match event {
         Event::Hear(packet, want) => cache.hear(now, &packet, A) == want,
         Event::Look(addr, want) => cache.look(now, addr) == want,
-        Event::Ask(addr, want) => cache.ask(now, addr) == want,
+        Event::Ask(addr, want) => {
+            cache.may_ask(now, addr) == want && cache.ask(now, addr) == want
+        }
+        Event::NextAsk(addr, want) => cache.next_ask(addr) == want.map(Moment),
         Event::Age => {
             cache.age(now);
             true
@@ -269,16 +274,21 @@ fn the_longest_unheard_gives_way(rt: HostRuntime) {
     }
 }
 
-const ASKED: [(u64, Event); 3] = [
+const ASKED: [(u64, Event); 5] = [
+    (7, Event::NextAsk(B, None)),
     (7, Event::Ask(B, true)),
+    (8, Event::NextAsk(B, Some(1_007))),
     (1_006, Event::Ask(B, false)),
     (1_007, Event::Ask(B, true)),
 ];
 
 /// After 63 others at 1,500.
-const ASKED_LATER: [(u64, Event); 4] = [
+const ASKED_LATER: [(u64, Event); 7] = [
+    (1_500, Event::NextAsk(FIRST, Some(2_007))),
     (2_006, Event::Ask(FIRST, false)),
     (2_007, Event::Ask(FIRST, true)),
+    (2_007, Event::NextAsk(FIRST, Some(3_007))),
+    (2_007, Event::NextAsk(SECOND, Some(2_500))),
     (2_007, Event::Ask(SECOND, false)),
     (2_500, Event::Ask(SECOND, true)),
 ];

@@ -76,3 +76,16 @@ fn windows(rt: HostRuntime) {
         }
     }
 }
+
+#[test]
+fn recoveries(rt: HostRuntime) {
+    let mut cwnd = Cwnd::new(1_460, false);
+    assert!(rt; (cwnd.ssthresh(), cwnd.is_recovering()) == (65_535, false));
+    for third in [false, false, true] {
+        assert!(rt; cwnd.duplicate(8_760) == third);
+        assert!(rt; cwnd.is_recovering() == third);
+    }
+    assert!(rt; cwnd.ssthresh() == 4_380);
+    cwnd.acked(1_460);
+    assert!(rt; !cwnd.is_recovering());
+}
