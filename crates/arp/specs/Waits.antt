@@ -1,4 +1,4 @@
--- From when on a request may go out, as the code finds it. It is for the proofs: no statement of a public call rests on it.
+-- From when on a request may go out, as a function: `IsNextAsk` says what it tells.
 use Rattle.std.specs.Prelude.{Bool, true, nat_le, nat_lt, if◌then◌else◌, List, length, filter, fold, Option, Some, None}
 use Rattle.clock.specs.declared.moment.Moment.{Moment}
 use Rattle.clock.specs.Moments.{sooner}
@@ -28,3 +28,7 @@ first_end asked = fold (λ soonest note. sooner soonest (Some (end_of note))) No
 -- where all 64 places are taken, one is free from the first end on
 abbrev pub room_end : List Asked → Option Moment
 room_end asked = if nat_lt (length asked) 64 then None else first_end asked
+
+-- once a place is free, and the notes for the address have ended
+unfoldable pub next_ask : Addr → List Asked → Option Moment
+next_ask addr asked = later (room_end asked) (own_end addr asked)

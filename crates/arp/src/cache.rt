@@ -3,7 +3,7 @@
 ghost use Rattle.std.specs.Prelude.{◌≡◌, ◌<◌, ◌&&◌, length};
 ghost use Rattle.std.specs.List.{list_any};
 ghost use Rattle.arp.specs.Cache.{empty, is_pair_of, is_note_of, updated, added, longest_unheard, pairs_after, is_request_for, after_hear, look, after_age, is_live_note, live_notes, after_ask, may_ask, has_place_for, IsNextAsk};
-ghost use Rattle.arp.specs.Waits.{later, own_end, first_end, room_end};
+ghost use Rattle.arp.specs.Waits.{later, own_end, first_end, room_end, next_ask};
 
 use crate::entry::{Asked, Neighbour};
 use crate::packet::{ArpPacket, Operation};
@@ -94,7 +94,8 @@ impl ArpCache {
     /// last one for this address (RFC 1122 section 2.3.2.1), and where 64 are noted not before the first of them is a second
     /// old. None where it would let one out at every moment.
     pub fn next_ask(&self, addr: Addr) -> Option<Moment>
-        ensures { IsNextAsk addr self.now.asked result }
+        ensures value { result ≡ next_ask addr self.now.asked }
+        ensures next { IsNextAsk addr self.now.asked result }
     {
         later(room_end(&self.asked), own_end(&self.asked, addr))
     }

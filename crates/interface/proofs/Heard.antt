@@ -1,0 +1,44 @@
+-- What goes out is heard as what it is.
+use Rattle.std.proofs.Common.{◌≡◌, ℕ, ◌+◌, ◌*◌, ◌≤◌, Bool, true, false, cond, List, [], length, Ok, refl, arith}
+use Rattle.ether.specs.declared.mac.Mac.{Mac}
+use Rattle.ipv4.specs.declared.addr.Addr.{Addr}
+use Rattle.tcp_segment.specs.declared.head.Head.{Head}
+use Rattle.tcp_segment.specs.Sent.{CanBeSent, sent, sent_octets, sent_offset}
+use Rattle.arp.specs.declared.packet.ArpPacket.{ArpPacket}
+use Rattle.arp.specs.declared.packet.Operation.TheVariants as operation
+use Rattle.arp.specs.Packet.{HasWidths, request_of}
+use Rattle.frames.specs.declared.meaning.Meaning.TheVariants as meaning
+use Rattle.frames.specs.Heard.{MaySend}
+use Rattle.frames.specs.Meaning.{heard}
+use Rattle.frames.proofs.Carried.{segments_heard, requests_heard, replies_heard}
+use Rattle.interface.specs.declared.reply.Reply.TheVariants.{Arp, Reset}
+use Rattle.interface.specs.InterfaceView.{InterfaceView}
+use Rattle.interface.specs.Emission.{head_to, segment_frame_to, request_frame, reply_frame}
+
+pub packet_heard : (h : InterfaceView) (mac : Mac) (ours : Addr) (packet : ArpPacket) → HasWidths packet → packet.operation ≡ operation.Reply → MaySend ours packet.sender_addr
+    → heard packet.target_mac ours (reply_frame h mac (Arp packet)) ≡ Ok (meaning.Arp packet)
+unfolding reply_frame
+packet_heard h mac ours packet widths is_reply may = replies_heard packet ours widths may is_reply
+
+pub segment_heard : (h : InterfaceView) (mac : Mac) (to : Addr) (head : Head) (octets : List ℕ) → CanBeSent h.addr to head octets
+    → length mac.0 ≡ 6 → length h.mac.0 ≡ 6 → MaySend to h.addr → 4 * sent_offset head + length octets ≤ 1480
+    → heard mac to (segment_frame_to h mac to (sent_octets h.addr to head octets)) ≡ Ok (meaning.Tcp (record { source = h.addr; segment = sent head octets }))
+unfolding segment_frame_to
+segment_heard h mac to head octets can theirs own may fits = segments_heard (head_to h mac to) head octets can theirs own may fits
+
+offset_most : (b : Bool) → 4 * cond b 6 5 ≤ 1480
+offset_most true = omega arith
+offset_most false = omega arith
+
+pub reset_heard : (h : InterfaceView) (mac : Mac) (to : Addr) (head : Head) → CanBeSent h.addr to head []
+    → length mac.0 ≡ 6 → length h.mac.0 ≡ 6 → MaySend to h.addr
+    → heard mac to (reply_frame h mac (Reset to head)) ≡ Ok (meaning.Tcp (record { source = h.addr; segment = sent head [] }))
+unfolding reply_frame
+reset_heard h mac to head can theirs own may =
+    let most : 4 * sent_offset head ≤ 1480 = offset_most head.flags.syn in
+    segment_heard h mac to head [] can theirs own may (omega (arith, most))
+
+pub request_heard : (h : InterfaceView) (hop : Addr) (mac : Mac) (ours : Addr) → HasWidths (request_of h.mac h.addr hop) → MaySend ours h.addr
+    → heard mac ours (request_frame h hop) ≡ Ok (meaning.Arp (request_of h.mac h.addr hop))
+unfolding request_frame
+request_heard h hop mac ours widths may = requests_heard (request_of h.mac h.addr hop) mac ours widths may refl

@@ -1,0 +1,5 @@
+pub mod BestRoute
+pub mod Framed
+pub mod Waits
+pub mod Heard
+pub mod Deadlines

@@ -1,0 +1,9 @@
+use Rattle.interface.proofs.Waits.{asked_once}
+use Rattle.interface.proofs.Waits.{asks}
+use Rattle.interface.proofs.laws.asked_once_a_second.Goals as goal
+
+pub returns-clause-allowed : goal.returns-clause-allowed
+returns-clause-allowed c = asks
+
+pub returns-clause-once : goal.returns-clause-once
+returns-clause-once c = asked_once

@@ -1,0 +1,17 @@
+use Rattle.interface.proofs.Heard.{packet_heard}
+use Rattle.interface.proofs.Heard.{request_heard}
+use Rattle.interface.proofs.Heard.{reset_heard}
+use Rattle.interface.proofs.Heard.{segment_heard}
+use Rattle.interface.proofs.laws.emitted_frames_are_heard.Goals as goal
+
+pub returns-clause-packet : goal.returns-clause-packet
+returns-clause-packet c = packet_heard
+
+pub returns-clause-reset : goal.returns-clause-reset
+returns-clause-reset c = reset_heard
+
+pub returns-clause-request : goal.returns-clause-request
+returns-clause-request c = request_heard
+
+pub returns-clause-segment : goal.returns-clause-segment
+returns-clause-segment c = segment_heard

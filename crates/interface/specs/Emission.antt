@@ -1,0 +1,76 @@
+-- The frames that go out for what waits, and what is left then.
+use Rattle.std.specs.Prelude.{ℕ, List, [], remove, Option, Some, None}
+use Rattle.std.specs.List.{slice_get}
+use Rattle.ether.specs.declared.mac.Mac.{Mac}
+use Rattle.ipv4.specs.declared.addr.Addr.{Addr}
+use Rattle.clock.specs.declared.moment.Moment.{Moment}
+use Rattle.arp.specs.Cache.{after_ask}
+use Rattle.arp.specs.Packet.{request_of}
+use Rattle.tcp_segment.specs.Sent.{sent_octets}
+use Rattle.frames.specs.declared.emission.FrameHead.{FrameHead}
+use Rattle.frames.specs.Sent.{segment_frame, packet_frame}
+use Rattle.interface.specs.declared.reply.Reply.{Reply}
+use Rattle.interface.specs.declared.reply.Reply.TheVariants.{Arp, Reset}
+use Rattle.interface.specs.declared.reply.Waiting.{Waiting}
+use Rattle.interface.specs.declared.way.Way.{Way}
+use Rattle.interface.specs.declared.way.Way.TheVariants.{To, Ask, Waits}
+use Rattle.interface.specs.InterfaceView.{InterfaceView}
+use Rattle.interface.specs.Replies.{way_of}
+
+-- what stands before a segment for this address in a frame for this interface
+abbrev pub head_to : InterfaceView → Mac → Addr → FrameHead
+head_to h mac to = record { destination = mac; source = h.mac; from = h.addr; to = to }
+
+-- the frame of a segment
+unfoldable pub segment_frame_to : InterfaceView → Mac → Addr → List ℕ → List ℕ
+segment_frame_to h mac to segment = segment_frame (head_to h mac to) segment
+
+-- the frame of a request for the MAC of a neighbour (RFC 826)
+unfoldable pub request_frame : InterfaceView → Addr → List ℕ
+request_frame h hop = packet_frame (request_of h.mac h.addr hop)
+
+-- the frame of a reply for this interface: a reset has no octets (RFC 9293 section 3.5.2)
+unfoldable pub reply_frame : InterfaceView → Mac → Reply → List ℕ
+reply_frame h mac (Arp packet) = packet_frame packet
+reply_frame h mac (Reset to head) = segment_frame_to h mac to (sent_octets h.addr to head [])
+
+-- the request for a neighbour is noted
+abbrev pub asked : InterfaceView → Moment → Addr → InterfaceView
+asked h now hop = record h { cache = after_ask now hop h.cache }
+
+-- the frame that goes out for a reply by this way, its length, and what is left: a reply that has gone out waits no longer, and one
+-- whose hop is asked for goes on waiting
+abbrev pub frame_by : InterfaceView → Reply → Way → List ℕ
+frame_by h reply (To mac) = reply_frame h mac reply
+frame_by h reply (Ask hop) = request_frame h hop
+frame_by h reply Waits = []
+
+abbrev pub len_by : Way → ℕ
+len_by (To mac) = 60
+len_by (Ask hop) = 60
+len_by Waits = 0
+
+abbrev pub left_by : InterfaceView → Moment → ℕ → Way → InterfaceView
+left_by h now place (To mac) = record h { replies = remove h.replies place }
+left_by h now place (Ask hop) = asked h now hop
+left_by h now place Waits = h
+
+-- the way of the reply at a place
+abbrev pub way_of_one : InterfaceView → Moment → Option Waiting → Way
+way_of_one h now None = Waits
+way_of_one h now (Some waiting) = way_of h now waiting.reply
+
+abbrev pub way_at : InterfaceView → Moment → ℕ → Way
+way_at h now place = way_of_one h now (slice_get h.replies place)
+
+-- what goes out for the reply at a place
+abbrev pub frame_of_one : InterfaceView → Moment → Option Waiting → List ℕ
+frame_of_one h now None = []
+frame_of_one h now (Some waiting) = frame_by h waiting.reply (way_of h now waiting.reply)
+
+abbrev pub frame_at : InterfaceView → Moment → ℕ → List ℕ
+frame_at h now place = frame_of_one h now (slice_get h.replies place)
+
+-- what is left where it has gone out
+abbrev pub after_emission : InterfaceView → Moment → ℕ → InterfaceView
+after_emission h now place = left_by h now place (way_at h now place)

@@ -1,0 +1,7 @@
+pub mod Routing
+pub mod InterfaceView
+pub mod Ways
+pub mod Replies
+pub mod Emission
+pub mod Timing
+pub mod Sound

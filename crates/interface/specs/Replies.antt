@@ -1,0 +1,66 @@
+-- The control replies that wait: ARP replies (RFC 826), and resets that answer segments (RFC 9293 section 3.5.2). That 16 wait at
+-- most is this stack's own.
+use Rattle.std.specs.Prelude.{Bool, true, false, not, ◌&&◌, ◌==◌, if◌then◌else◌, [], ◌∷◌, ◌++◌, length, Result, Ok, Err}
+use Rattle.ipv4.specs.declared.addr.Addr.{Addr}
+use Rattle.clock.specs.declared.moment.Moment.{Moment}
+use Rattle.arp.specs.declared.packet.ArpPacket.{ArpPacket}
+use Rattle.arp.specs.Cache.{after_hear, is_request_for}
+use Rattle.arp.specs.Packet.{reply_to}
+use Rattle.tcp_segment.specs.declared.head.Head.{Head}
+use Rattle.interface.specs.declared.reply.Reply.{Reply}
+use Rattle.interface.specs.declared.reply.Reply.TheVariants.{Arp, Reset}
+use Rattle.interface.specs.declared.reply.Waiting.{Waiting}
+use Rattle.interface.specs.declared.reply.QueueFault.{QueueFault}
+use Rattle.interface.specs.declared.reply.QueueFault.TheVariants.{NoRoom}
+use Rattle.interface.specs.declared.way.Way.{Way}
+use Rattle.interface.specs.declared.way.Way.TheVariants.{To, Ask, Waits}
+use Rattle.interface.specs.InterfaceView.{InterfaceView}
+use Rattle.interface.specs.Ways.{is_routed, way}
+
+-- sixteen wait
+abbrev pub is_full : InterfaceView → Bool
+is_full h = length h.replies == 16
+
+-- a reply that begins to wait now stands behind the others
+abbrev pub queued : Moment → Reply → InterfaceView → InterfaceView
+queued now reply h = record h { replies = h.replies ++ record { since = now; reply = reply } ∷ [] }
+
+-- a reply that is owed joins them where there is room
+abbrev pub owed : Bool → Moment → Reply → InterfaceView → InterfaceView
+owed is_owed now reply h = if is_owed && not (is_full h) then queued now reply h else h
+
+-- and it is refused where there is none
+abbrev pub owed_answer : Bool → InterfaceView → Result (Unit {0}) QueueFault
+owed_answer is_owed h = if is_owed && is_full h then Err NoRoom else Ok tt
+
+-- what an ARP packet tells is learnt
+abbrev pub learnt : Moment → ArpPacket → InterfaceView → InterfaceView
+learnt now packet h = record h { cache = after_hear now packet h.addr h.cache }
+
+-- an ARP packet is learnt, and a request for our address is answered
+abbrev pub after_heard : InterfaceView → Moment → ArpPacket → InterfaceView
+after_heard h now packet = owed (is_request_for h.addr packet) now (Arp (reply_to packet h.mac)) (learnt now packet h)
+
+abbrev pub heard_answer : InterfaceView → ArpPacket → Result (Unit {0}) QueueFault
+heard_answer h packet = owed_answer (is_request_for h.addr packet) h
+
+-- a reset is owed to an address that a route leads to
+abbrev pub after_answer : InterfaceView → Moment → Addr → Head → InterfaceView
+after_answer h now to head = owed (is_routed h to) now (Reset to head) h
+
+abbrev pub answer_result : InterfaceView → Addr → Result (Unit {0}) QueueFault
+answer_result h to = owed_answer (is_routed h to) h
+
+-- an ARP reply names the MAC that it is for, and a reset goes the way to its address
+abbrev pub way_of : InterfaceView → Moment → Reply → Way
+way_of h now (Arp packet) = To packet.target_mac
+way_of h now (Reset to head) = way h now to
+
+-- a frame goes out for it
+abbrev pub goes_out : Way → Bool
+goes_out (To mac) = true
+goes_out (Ask hop) = true
+goes_out Waits = false
+
+abbrev pub is_due : InterfaceView → Moment → Waiting → Bool
+is_due h now waiting = goes_out (way_of h now waiting.reply)

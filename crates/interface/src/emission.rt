@@ -1,0 +1,95 @@
+//! The frames that go out.
+
+ghost use Rattle.std.specs.Prelude.{◌≡◌, ◌+◌, ◌<◌, ◌≤◌, ◌++◌, length, drop, max, slice_range, IsTrue};
+ghost use Rattle.arp.specs.Cache.{may_ask};
+
+use crate::Interface;
+use crate::reply::Reply;
+use crate::way::Way;
+use arp::ArpPacket;
+use clock::Moment;
+use ether::{Mac, SPACE};
+use frames::{FrameHead, emit_arp};
+use ipv4::Addr;
+
+/// The length of the heads of a frame and a datagram, in octets (RFC 894, RFC 791 section 3.1).
+const HEADS: usize = 34;
+
+impl Interface {
+    ghost use Rattle.interface.specs.Emission.{asked, segment_frame_to, request_frame, reply_frame, way_at, len_by, frame_at, after_emission};
+
+    /// Writes the frame of a segment for an address, which stands at `out[34..]` already and has so many octets, at most 1,480, round
+    /// it, for the interface with this MAC (RFC 894, RFC 791 section 3.1). Answers the frame's length, 60 octets at least. What stands
+    /// behind it in `out` stays.
+    #[tactic(auto, unfolding(crate::specs::Emission::segment_frame_to))]
+    pub fn emit_segment(
+        &self,
+        mac: Mac,
+        to: Addr,
+        segment_len: usize,
+        out: &mut [u8; SPACE],
+    ) -> usize
+        requires { segment_len ≤ 1480 }
+        ensures len { result ≡ max (34 + segment_len) 60 }
+        ensures octets { out.new ≡ segment_frame_to self.now mac to (slice_range out.old 34 (34 + segment_len)) ++ drop result out.old }
+    {
+        FrameHead {
+            destination: mac,
+            source: self.mac,
+            from: self.addr,
+            to,
+        }
+        .emit_tcp(segment_len, out)
+    }
+
+    /// Writes the frame of a request for the MAC of a neighbour, and notes that it goes out now (RFC 826). The caller knows that one
+    /// may (RFC 1122 section 2.3.2.1). Answers its length, 60 octets. What stands behind it in `out` stays.
+    #[tactic(auto, unfolding(crate::specs::Emission::request_frame))]
+    pub fn emit_request(&mut self, now: Moment, hop: Addr, out: &mut [u8; SPACE]) -> usize
+        requires { IsTrue (may_ask now hop self.old.cache.asked) }
+        ensures after { self.new ≡ asked self.old now hop }
+        ensures len { result ≡ 60 }
+        ensures octets { out.new ≡ request_frame self.old hop ++ drop 60 out.old }
+    {
+        self.cache.ask(now, hop);
+        emit_arp(&ArpPacket::request(self.mac, self.addr, hop), out)
+    }
+
+    /// Writes the frame that goes out now for the reply at a place, as `first_reply` names it: the reply, which waits no longer then, or the
+    /// request for its hop, which is noted, and the reply stays as it is (RFC 1122 section 2.3.2.2). Answers the frame's length, 60 octets; 0
+    /// where the reply waits on, and then nothing has changed. What stands behind the frame in `out` stays.
+    #[tactic(auto, using(crate::proofs::Waits::at_place, crate::proofs::Waits::reply_asks))]
+    pub fn emit_reply(&mut self, now: Moment, place: usize, out: &mut [u8; SPACE]) -> usize
+        requires { place < length self.old.replies }
+        ensures len { result ≡ len_by (way_at self.old now place) }
+        ensures after { self.new ≡ after_emission self.old now place }
+        ensures octets { out.new ≡ frame_at self.old now place ++ drop result out.old }
+    {
+        let waiting = self.replies[place];
+        match self.way_of(now, &waiting.reply) {
+            Way::To(mac) => {
+                let len = self.emit_to(mac, &waiting.reply, out);
+                self.replies.remove(place);
+                len
+            }
+            Way::Ask(hop) => self.emit_request(now, hop, out),
+            Way::Waits => 0,
+        }
+    }
+
+    /// Writes the frame of a reply for the interface with this MAC, and answers its length, 60 octets. What stands behind it in
+    /// `out` stays.
+    #[tactic(auto, unfolding(crate::specs::Emission::reply_frame))]
+    fn emit_to(&self, mac: Mac, reply: &Reply, out: &mut [u8; SPACE]) -> usize
+        ensures len { result ≡ 60 }
+        ensures octets { out.new ≡ reply_frame self.now mac reply.now ++ drop 60 out.old }
+    {
+        match *reply {
+            Reply::Arp(packet) => emit_arp(&packet, out),
+            Reply::Reset { to, head } => {
+                let segment_len = head.emit(self.addr, to, 0, &mut out[HEADS..]);
+                self.emit_segment(mac, to, segment_len, out)
+            }
+        }
+    }
+}

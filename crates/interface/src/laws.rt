@@ -1,0 +1,109 @@
+//! Laws of the definitions that the contracts of this crate cite: each is the contract of a function that does nothing.
+
+ghost use Rattle.std.specs.Prelude.{◌≡◌, ◌≢◌, ℕ, ◌+◌, ◌*◌, ◌<◌, ◌≤◌, ◌++◌, [], ◌∷◌, List, length, position, fold, All, Contains, IsTrue, IfSome, false, Option, Some, None, Ok};
+ghost use Rattle.ether.specs.declared.mac.Mac.{Mac};
+ghost use Rattle.ipv4.specs.declared.addr.Addr.{Addr};
+ghost use Rattle.tcp_segment.specs.declared.head.Head.{Head};
+ghost use Rattle.tcp_segment.specs.Sent.{CanBeSent, sent, sent_octets, sent_offset};
+ghost use Rattle.clock.specs.declared.moment.Moment.{Moment};
+ghost use Rattle.arp.specs.declared.packet.ArpPacket.{ArpPacket};
+ghost use Rattle.arp.specs.declared.packet.Operation.TheVariants as operation;
+ghost use Rattle.arp.specs.declared.entry.Asked.{Asked};
+ghost use Rattle.arp.specs.Cache.{is_live, may_ask, after_age, after_ask, IsNextAsk};
+ghost use Rattle.arp.specs.Waits.{next_ask};
+ghost use Rattle.arp.specs.Events.{Event, moment_of, after_event};
+ghost use Rattle.arp.specs.Packet.{HasWidths, request_of};
+ghost use Rattle.routes.specs.declared.route.Route.{Route};
+ghost use Rattle.routes.specs.declared.route.Hop.{Hop};
+ghost use Rattle.routes.specs.Routes.{IsTable, Picks};
+ghost use Rattle.frames.specs.declared.meaning.Meaning.TheVariants as meaning;
+ghost use Rattle.frames.specs.Heard.{MaySend};
+ghost use Rattle.frames.specs.Meaning.{heard};
+ghost use Rattle.interface.specs.declared.reply.Reply.TheVariants.{Arp, Reset};
+ghost use Rattle.interface.specs.declared.reply.Waiting.{Waiting};
+ghost use Rattle.interface.specs.declared.way.Way.TheVariants.{To, Ask, Waits};
+ghost use Rattle.interface.specs.InterfaceView.{InterfaceView};
+ghost use Rattle.interface.specs.Routing.{pick, next_hop};
+ghost use Rattle.interface.specs.Ways.{knows_hop, way};
+ghost use Rattle.interface.specs.Replies.{is_due};
+ghost use Rattle.interface.specs.Emission.{asked, way_at, len_by, frame_at, after_emission, segment_frame_to, request_frame, reply_frame};
+ghost use Rattle.interface.specs.Timing.{end_of, after_tick, deadline_of, least_deadline};
+
+/// The hop that a table of routes picks for an address is the one that `Routes::pick` answers (RFC 4632 section 5.1).
+pub fn one_route()
+    ensures { (table : List Route) (addr : Addr) (hop : Option Hop) → IsTable table → Picks table addr hop → pick table addr ≡ hop }
+{}
+
+/// Whether a hop is known doesn't depend on whether the cache was aged at that moment (RFC 1122 section 2.3.2.1).
+pub fn aging_hides_no_hop()
+    ensures { (h : InterfaceView) (now : Moment) (to : Addr) → knows_hop (record h { cache = after_age now h.cache }) now to ≡ knows_hop h now to }
+{}
+
+/// No tick drops a reply whose 3,000 ms aren't over, wherever it goes, nor an ARP reply at any time, nor a reset whose hop is known then.
+pub fn nothing_is_lost_early()
+    ensures early { (h : InterfaceView) (now : Moment) (w : Waiting) → Contains h.replies w → now.0 < (end_of w).0
+        → Contains (after_tick h now).replies w }
+    ensures packet { (h : InterfaceView) (now : Moment) (since : Moment) (packet : ArpPacket) → let w : Waiting = record { since = since; reply = Arp packet } in
+        Contains h.replies w → Contains (after_tick h now).replies w }
+    ensures known { (h : InterfaceView) (now : Moment) (since : Moment) (to : Addr) (head : Head) → let w : Waiting = record { since = since; reply = Reset to head } in
+        Contains h.replies w → IsTrue (knows_hop h now to) → Contains (after_tick h now).replies w }
+{}
+
+/// A reset whose hop isn't known at a tick 3,000 ms after it was queued, or later, is gone then.
+pub fn nothing_waits_for_ever()
+    ensures { (h : InterfaceView) (now : Moment) (since : Moment) (to : Addr) (head : Head) → let w : Waiting = record { since = since; reply = Reset to head } in
+        knows_hop h now to ≡ false → (end_of w).0 ≤ now.0 → ¬ Contains (after_tick h now).replies w }
+{}
+
+/// What goes out is for the first reply for which anything can: each before it waits, and for it a frame of 60 octets goes out. Where it goes out itself, what waited before it
+/// and behind it stays, in order.
+pub fn replies_leave_in_order()
+    ensures first { (h : InterfaceView) (now : Moment) (place k : ℕ) → position (is_due h now) h.replies ≡ Some place → k < place
+        → way_at h now k ≡ Waits }
+    ensures goes { (h : InterfaceView) (now : Moment) (place : ℕ) → position (is_due h now) h.replies ≡ Some place
+        → (place < length h.replies) × (len_by (way_at h now place) ≡ 60) }
+    ensures none { (h : InterfaceView) (now : Moment) (k : ℕ) → position (is_due h now) h.replies ≡ None → way_at h now k ≡ Waits }
+    ensures left { (h : InterfaceView) (now : Moment) (before after : List Waiting) (w : Waiting) (mac : Mac) → h.replies ≡ before ++ w ∷ after
+        → way_at h now (length before) ≡ To mac → (after_emission h now (length before)).replies ≡ before ++ after }
+{}
+
+/// A request stands in the place of what it holds back: that stays as it is, in its place, and the note of the request is all that changes
+/// (RFC 1122 section 2.3.2.2).
+pub fn requests_hold_nothing_back()
+    ensures frame { (h : InterfaceView) (now : Moment) (place : ℕ) (hop : Addr) → way_at h now place ≡ Ask hop → frame_at h now place ≡ request_frame h hop }
+    ensures left { (h : InterfaceView) (now : Moment) (place : ℕ) (hop : Addr) → way_at h now place ≡ Ask hop
+        → after_emission h now place ≡ record h { cache = record { pairs = h.cache.pairs; asked = (after_ask now hop h.cache).asked } } }
+{}
+
+/// A neighbour is asked for only where a request for it may go out, and once it was asked for, not again within the second, whatever is
+/// heard, asked for or aged meanwhile (RFC 1122 section 2.3.2.1).
+pub fn asked_once_a_second()
+    ensures allowed { (h : InterfaceView) (now : Moment) (to hop : Addr) → way h now to ≡ Ask hop → IsTrue (may_ask now hop h.cache.asked) }
+    ensures once { (h : InterfaceView) (now later : Moment) (to hop : Addr) (between : List Event)
+        → IsTrue (may_ask now hop h.cache.asked) → IsTrue (is_live 1000 later now) → All (λ event. (moment_of event).0 ≤ later.0) between
+        → way (record h { cache = fold after_event (after_ask now hop h.cache) between }) later to ≢ Ask hop }
+{}
+
+/// The deadline is one of those of the replies that wait, and none of theirs comes before it; there is none where none of them has one. From
+/// the moment that `next_ask` names, and not before, a request for a hop may go out, as long as none goes out.
+pub fn deadlines_are_the_least()
+    ensures some { (h : InterfaceView) (now m : Moment) → least_deadline h now ≡ Some m
+        → ((w : Waiting) × Contains h.replies w × (deadline_of h now w ≡ Some m)) × All (λ w. IfSome (deadline_of h now w) (λ other. m.0 ≤ other.0)) h.replies }
+    ensures none { (h : InterfaceView) (now : Moment) → least_deadline h now ≡ None → All (λ w. deadline_of h now w ≡ None) h.replies }
+    ensures asked { (hop : Addr) (asked : List Asked) → length asked ≤ 64 → IsNextAsk hop asked (next_ask hop asked) }
+{}
+
+/// A frame that goes out is heard, where it is for, as the very packet or segment that is meant (RFC 826, RFC 9293 section 3.1), where its
+/// sender may send.
+pub fn emitted_frames_are_heard()
+    ensures packet { (h : InterfaceView) (mac : Mac) (ours : Addr) (packet : ArpPacket) → HasWidths packet → packet.operation ≡ operation.Reply
+        → MaySend ours packet.sender_addr → heard packet.target_mac ours (reply_frame h mac (Arp packet)) ≡ Ok (meaning.Arp packet) }
+    ensures reset { (h : InterfaceView) (mac : Mac) (to : Addr) (head : Head) → CanBeSent h.addr to head []
+        → length mac.0 ≡ 6 → length h.mac.0 ≡ 6 → MaySend to h.addr
+        → heard mac to (reply_frame h mac (Reset to head)) ≡ Ok (meaning.Tcp (record { source = h.addr; segment = sent head [] })) }
+    ensures request { (h : InterfaceView) (hop : Addr) (mac : Mac) (ours : Addr) → HasWidths (request_of h.mac h.addr hop) → MaySend ours h.addr
+        → heard mac ours (request_frame h hop) ≡ Ok (meaning.Arp (request_of h.mac h.addr hop)) }
+    ensures segment { (h : InterfaceView) (mac : Mac) (to : Addr) (head : Head) (octets : List ℕ) → CanBeSent h.addr to head octets
+        → length mac.0 ≡ 6 → length h.mac.0 ≡ 6 → MaySend to h.addr → 4 * sent_offset head + length octets ≤ 1480
+        → heard mac to (segment_frame_to h mac to (sent_octets h.addr to head octets)) ≡ Ok (meaning.Tcp (record { source = h.addr; segment = sent head octets })) }
+{}

@@ -1,0 +1,172 @@
+//! The frame side of a host: its MAC, address and routes, what it heard of its neighbours, and its control replies, which wait
+//! until a frame can carry them (RFC 826, RFC 1122 sections 2.3.2 and 3.3.1). It knows no socket and no connection.
+#![tactic(auto)]
+
+ghost use Rattle.std.specs.Prelude.{◌≡◌, position};
+
+mod emission;
+mod hop;
+pub mod laws;
+mod reply;
+mod sound;
+mod timing;
+mod way;
+
+use arp::{ArpCache, ArpPacket};
+use arrayvec::ArrayVec;
+use clock::Moment;
+use ether::Mac;
+use hop::{hop_mac, next_hop, way_over};
+use ipv4::Addr;
+pub use reply::QueueFault;
+use reply::{Reply, Waiting};
+use routes::Routes;
+use std::marker::Model;
+use tcp_segment::Head;
+pub use way::Way;
+
+/// How many control replies wait at most.
+const REPLIES: usize = 16;
+
+/// What a host has of its link: its MAC, its address and its routes, what it heard of its neighbours and asked for, and the
+/// control replies that wait. No call takes memory.
+#[derive(Drop)]
+pub struct Interface {
+    mac: Mac,
+    addr: Addr,
+    routes: Routes,
+    cache: ArpCache,
+    replies: ArrayVec<Waiting, REPLIES>,
+}
+
+impl Model for Interface {
+    ghost use Rattle.interface.specs.InterfaceView.{InterfaceView};
+
+    ghost Value = { InterfaceView };
+
+    ghost view = { λ i. record {
+      mac = i.mac;
+      addr = i.addr;
+      routes = i.routes;
+      cache = i.cache;
+      replies = i.replies.items;
+    } };
+}
+
+impl Interface {
+    ghost use Rattle.interface.specs.InterfaceView.{fresh};
+    ghost use Rattle.interface.specs.Ways.{is_routed, knows_hop, way};
+    ghost use Rattle.interface.specs.Replies.{owed, owed_answer, after_heard, heard_answer, after_answer, answer_result, way_of, is_due};
+
+    /// An interface with this MAC, address and routes, that heard nothing.
+    pub fn new(mac: Mac, addr: Addr, routes: Routes) -> Interface
+        ensures { result ≡ fresh mac addr routes }
+    {
+        Interface {
+            mac,
+            addr,
+            routes,
+            cache: ArpCache::new(),
+            replies: ArrayVec::new(),
+        }
+    }
+
+    /// Its MAC.
+    pub fn mac(&self) -> Mac
+        ensures { result ≡ self.now.mac }
+    {
+        self.mac
+    }
+
+    /// Its address.
+    pub fn addr(&self) -> Addr
+        ensures { result ≡ self.now.addr }
+    {
+        self.addr
+    }
+
+    /// Whether a route leads to an address.
+    pub fn is_routed(&self, to: Addr) -> bool
+        ensures { result ≡ is_routed self.now to }
+    {
+        next_hop(&self.routes, to).is_some()
+    }
+
+    /// Whether the MAC of the next hop to an address is known: a route leads there, and the hop was heard in the last 20 minutes.
+    pub fn knows_hop(&self, now: Moment, to: Addr) -> bool
+        ensures { result ≡ knows_hop self.now now to }
+    {
+        hop_mac(&self.routes, &self.cache, now, to).is_some()
+    }
+
+    /// What can be done now for a datagram to an address: it can go out to the MAC of its next hop (RFC 1122 section 3.3.1.1), where that is
+    /// known; else a request for the hop can, where `emit_request` may send one (RFC 1122 section 2.3.2.1); else it waits. Without a
+    /// route it waits.
+    pub fn way(&self, now: Moment, to: Addr) -> Way
+        ensures { result ≡ way self.now now to }
+    {
+        way_over(&self.cache, now, next_hop(&self.routes, to))
+    }
+
+    /// Takes an ARP packet that was heard (RFC 826): what it tells is learnt, and where it is a request for our address the
+    /// reply to it is queued. NoRoom where 16 replies wait already, and then it is learnt all the same.
+    pub fn hear(&mut self, now: Moment, packet: &ArpPacket) -> Result<(), QueueFault>
+        ensures after { self.new ≡ after_heard self.old now packet.now }
+        ensures answer { result ≡ heard_answer self.old packet.now }
+    {
+        let is_owed = self.cache.hear(now, packet, self.addr);
+        self.owe(is_owed, now, Reply::Arp(packet.reply(self.mac)))
+    }
+
+    /// Queues a reset to an address, a segment with this header and no octets (RFC 9293 section 3.5.2). Where no route leads there
+    /// nothing is queued. NoRoom where 16 replies wait already. A refusal changes nothing.
+    pub fn answer(&mut self, now: Moment, to: Addr, head: Head) -> Result<(), QueueFault>
+        ensures after { self.new ≡ after_answer self.old now to head }
+        ensures answer { result ≡ answer_result self.old to }
+    {
+        let is_owed = self.is_routed(to);
+        self.owe(is_owed, now, Reply::Reset { to, head })
+    }
+
+    /// The place of the first reply that waits and for which a frame can go out now, the reply or a request for its hop; none where every
+    /// reply waits on.
+    pub fn first_reply(&self, now: Moment) -> Option<usize>
+        ensures { result ≡ position (is_due self.now now) self.now.replies }
+    {
+        self.replies
+            .iter()
+            .position(|waiting| self.is_due(now, waiting))
+    }
+
+    /// Whether a frame can go out for a reply now.
+    fn is_due(&self, now: Moment, waiting: &Waiting) -> bool
+        ensures { result ≡ is_due self.now now waiting.now }
+    {
+        self.way_of(now, &waiting.reply).goes_out()
+    }
+
+    /// What can be done now for a reply.
+    fn way_of(&self, now: Moment, reply: &Reply) -> Way
+        ensures { result ≡ way_of self.now now reply.now }
+    {
+        match *reply {
+            Reply::Arp(packet) => Way::To(packet.target_mac),
+            Reply::Reset { to, .. } => self.way(now, to),
+        }
+    }
+
+    /// Queues a reply where it is owed and there is room.
+    fn owe(&mut self, is_owed: bool, now: Moment, reply: Reply) -> Result<(), QueueFault>
+        ensures after { self.new ≡ owed is_owed now reply self.old }
+        ensures answer { result ≡ owed_answer is_owed self.old }
+    {
+        if !is_owed {
+            return Ok(());
+        }
+        if self.replies.is_full() {
+            return Err(QueueFault::NoRoom);
+        }
+        self.replies.push(Waiting { since: now, reply });
+        Ok(())
+    }
+}

@@ -1,0 +1,77 @@
+//! The control replies that wait to go out.
+
+ghost use Rattle.std.specs.Prelude.{◌≡◌};
+ghost use Rattle.interface.specs.Timing.{sought, end_of, is_over};
+
+use arp::ArpPacket;
+use clock::Moment;
+use ether::Mac;
+use ipv4::Addr;
+use tcp_segment::Head;
+use thiserror::Error;
+
+/// How long a reset waits for a hop that isn't known, in milliseconds. It is this stack's own.
+const PATIENCE: u64 = 3_000;
+
+/// Why a control reply isn't queued.
+#[derive(Clone, Copy, PartialEq, Eq, Debug, Error)]
+pub enum QueueFault {
+    /// Sixteen wait already.
+    #[error("F9 NoRoom")]
+    NoRoom,
+}
+
+/// What the stack answers by itself.
+#[derive(Clone, Copy, PartialEq, Eq, Debug)]
+pub(crate) enum Reply {
+    /// An ARP reply (RFC 826).
+    Arp(ArpPacket),
+    /// A reset to an address: a segment with this header and no octets (RFC 9293 section 3.5.2).
+    Reset { to: Addr, head: Head },
+}
+
+impl Reply {
+    /// The address whose next hop it needs; none where it names its MAC.
+    pub(crate) fn sought(&self) -> Option<Addr>
+        ensures { result ≡ sought self.now }
+    {
+        match *self {
+            Reply::Arp(_) => None,
+            Reply::Reset { to, .. } => Some(to),
+        }
+    }
+}
+
+/// A reply, and the moment since when it waits.
+#[derive(Clone, Copy, PartialEq, Eq, Debug)]
+pub(crate) struct Waiting {
+    pub(crate) since: Moment,
+    pub(crate) reply: Reply,
+}
+
+impl Waiting {
+    /// The moment until which it waits for a hop that isn't known.
+    pub(crate) fn end(&self) -> Moment
+        ensures { result ≡ end_of self.now }
+    {
+        self.since.after(PATIENCE)
+    }
+
+    /// Whether that moment has come.
+    pub(crate) fn is_over(&self, now: Moment) -> bool
+        ensures { result ≡ is_over now self.now }
+    {
+        self.end() <= now
+    }
+}
+
+impl Default for Waiting {
+    /// What stands in a place of the queue that is not in use.
+    fn default() -> Waiting {
+        let packet = ArpPacket::request(Mac([0; 6]), Addr([0; 4]), Addr([0; 4]));
+        Waiting {
+            since: Moment(0),
+            reply: Reply::Arp(packet),
+        }
+    }
+}

@@ -1,0 +1,79 @@
+//! What an interface keeps of itself.
+
+ghost use Rattle.std.specs.Prelude.{◌≡◌, [], length};
+ghost use Rattle.std.specs.List.{AllByRecursion};
+ghost use Rattle.arp.specs.Packet.{HasWidths};
+ghost use Rattle.tcp_segment.specs.Sent.{CanBeSent};
+ghost use Rattle.interface.specs.Sound.{IsSoundReply};
+
+use crate::Interface;
+use crate::reply::{Reply, Waiting};
+use arp::ArpPacket;
+use ether::Mac;
+use ipv4::Addr;
+use tcp_segment::Head;
+
+impl Interface {
+    ghost use Rattle.interface.specs.Sound.{IsSound};
+
+    /// What an interface keeps of itself, for the contracts above; it changes nothing.
+    pub fn sound(&self)
+        ensures { IsSound self.now }
+    {
+        is_whole_mac(self.mac);
+        is_whole(self.addr);
+        sound_replies(&self.replies, self.addr);
+    }
+}
+
+/// What each reply keeps of itself.
+fn sound_replies(replies: &[Waiting], own: Addr)
+    ensures { AllByRecursion (λ waiting. IsSoundReply own waiting.reply) replies.now }
+{
+    for waiting in replies {
+        sound_reply(&waiting.reply, own);
+    }
+}
+
+/// What a reply keeps of itself.
+fn sound_reply(reply: &Reply, own: Addr)
+    ensures { IsSoundReply own reply.now }
+{
+    match *reply {
+        Reply::Arp(packet) => has_widths(packet),
+        Reply::Reset { to, head } => can_be_sent(own, to, head),
+    }
+}
+
+/// The addresses of a packet have their widths.
+fn has_widths(packet: ArpPacket)
+    ensures { HasWidths packet }
+{
+    is_whole_mac(packet.sender_mac);
+    is_whole(packet.sender_addr);
+    is_whole_mac(packet.target_mac);
+    is_whole(packet.target_addr);
+}
+
+/// A header without octets behind it can be sent.
+fn can_be_sent(own: Addr, to: Addr, head: Head)
+    ensures { CanBeSent own to head [] }
+{
+    is_whole(own);
+    is_whole(to);
+    let _ = head.len();
+}
+
+/// An address has four octets.
+fn is_whole(addr: Addr)
+    ensures { length addr.0 ≡ 4 }
+{
+    let _ = addr;
+}
+
+/// A MAC has six octets.
+fn is_whole_mac(mac: Mac)
+    ensures { length mac.0 ≡ 6 }
+{
+    let _ = mac;
+}
