@@ -10,7 +10,7 @@ use tcp_state::{Moment, State};
 /// A host at 10.0.0.1 that opens a connection to port 80 of its neighbour, and the connection's socket.
 fn client(alloc: Global, now: Moment, isn: Seq) -> Result<(Host, SocketId), Refusal> {
     let neighbour = Addr([10, 0, 0, 2]);
-    let mut host = Host::new(alloc, Config::new(Addr([10, 0, 0, 1]))?, neighbour)?;
+    let mut host = Host::new(alloc, Config::new(Addr([10, 0, 0, 1]))?, neighbour);
     let id = host.socket(Kind::Tcp)?;
     let peer = Endpoint {
         addr: neighbour,
