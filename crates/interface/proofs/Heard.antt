@@ -3,7 +3,7 @@ use Rattle.std.proofs.Common.{◌≡◌, ℕ, ◌+◌, ◌*◌, ◌≤◌, Bool,
 use Rattle.ether.specs.declared.mac.Mac.{Mac}
 use Rattle.ipv4.specs.declared.addr.Addr.{Addr}
 use Rattle.tcp_segment.specs.declared.head.Head.{Head}
-use Rattle.tcp_segment.specs.Sent.{CanBeSent, sent, sent_octets, sent_offset}
+use Rattle.tcp_segment.specs.Sent.{CanBeSent, sent_segment, sent_octets, sent_offset}
 use Rattle.arp.specs.declared.packet.ArpPacket.{ArpPacket}
 use Rattle.arp.specs.declared.packet.Operation.TheVariants as operation
 use Rattle.arp.specs.Packet.{HasWidths, request_of}
@@ -22,7 +22,7 @@ packet_heard h mac ours packet widths is_reply may = replies_heard packet ours w
 
 pub segment_heard : (h : InterfaceView) (mac : Mac) (to : Addr) (head : Head) (octets : List ℕ) → CanBeSent h.addr to head octets
     → length mac.0 ≡ 6 → length h.mac.0 ≡ 6 → MaySend to h.addr → 4 * sent_offset head + length octets ≤ 1480
-    → heard mac to (segment_frame_to h mac to (sent_octets h.addr to head octets)) ≡ Ok (meaning.Tcp (record { source = h.addr; segment = sent head octets }))
+    → heard mac to (segment_frame_to h mac to (sent_octets h.addr to head octets)) ≡ Ok (meaning.Tcp (record { source = h.addr; segment = sent_segment head octets }))
 unfolding segment_frame_to
 segment_heard h mac to head octets can theirs own may fits = segments_heard (head_to h mac to) head octets can theirs own may fits
 
@@ -32,7 +32,7 @@ offset_most false = omega arith
 
 pub reset_heard : (h : InterfaceView) (mac : Mac) (to : Addr) (head : Head) → CanBeSent h.addr to head []
     → length mac.0 ≡ 6 → length h.mac.0 ≡ 6 → MaySend to h.addr
-    → heard mac to (reply_frame h mac (Reset to head)) ≡ Ok (meaning.Tcp (record { source = h.addr; segment = sent head [] }))
+    → heard mac to (reply_frame h mac (Reset to head)) ≡ Ok (meaning.Tcp (record { source = h.addr; segment = sent_segment head [] }))
 unfolding reply_frame
 reset_heard h mac to head can theirs own may =
     let most : 4 * sent_offset head ≤ 1480 = offset_most head.flags.syn in

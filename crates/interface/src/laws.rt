@@ -4,7 +4,7 @@ ghost use Rattle.std.specs.Prelude.{◌≡◌, ◌≢◌, ℕ, ◌+◌, ◌*◌,
 ghost use Rattle.ether.specs.declared.mac.Mac.{Mac};
 ghost use Rattle.ipv4.specs.declared.addr.Addr.{Addr};
 ghost use Rattle.tcp_segment.specs.declared.head.Head.{Head};
-ghost use Rattle.tcp_segment.specs.Sent.{CanBeSent, sent, sent_octets, sent_offset};
+ghost use Rattle.tcp_segment.specs.Sent.{CanBeSent, sent_segment, sent_octets, sent_offset};
 ghost use Rattle.clock.specs.declared.moment.Moment.{Moment};
 ghost use Rattle.arp.specs.declared.packet.ArpPacket.{ArpPacket};
 ghost use Rattle.arp.specs.declared.packet.Operation.TheVariants as operation;
@@ -100,10 +100,10 @@ pub fn emitted_frames_are_heard()
         → MaySend ours packet.sender_addr → heard packet.target_mac ours (reply_frame h mac (Arp packet)) ≡ Ok (meaning.Arp packet) }
     ensures reset { (h : InterfaceView) (mac : Mac) (to : Addr) (head : Head) → CanBeSent h.addr to head []
         → length mac.0 ≡ 6 → length h.mac.0 ≡ 6 → MaySend to h.addr
-        → heard mac to (reply_frame h mac (Reset to head)) ≡ Ok (meaning.Tcp (record { source = h.addr; segment = sent head [] })) }
+        → heard mac to (reply_frame h mac (Reset to head)) ≡ Ok (meaning.Tcp (record { source = h.addr; segment = sent_segment head [] })) }
     ensures request { (h : InterfaceView) (hop : Addr) (mac : Mac) (ours : Addr) → HasWidths (request_of h.mac h.addr hop) → MaySend ours h.addr
         → heard mac ours (request_frame h hop) ≡ Ok (meaning.Arp (request_of h.mac h.addr hop)) }
     ensures segment { (h : InterfaceView) (mac : Mac) (to : Addr) (head : Head) (octets : List ℕ) → CanBeSent h.addr to head octets
         → length mac.0 ≡ 6 → length h.mac.0 ≡ 6 → MaySend to h.addr → 4 * sent_offset head + length octets ≤ 1480
-        → heard mac to (segment_frame_to h mac to (sent_octets h.addr to head octets)) ≡ Ok (meaning.Tcp (record { source = h.addr; segment = sent head octets })) }
+        → heard mac to (segment_frame_to h mac to (sent_octets h.addr to head octets)) ≡ Ok (meaning.Tcp (record { source = h.addr; segment = sent_segment head octets })) }
 {}
