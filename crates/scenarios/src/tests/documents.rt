@@ -1,11 +1,12 @@
 //! The Rust of `README.md` and of `docs/EMBEDDING.md`, as it stands there. By it a client and a listener come to a connection.
 
 use super::stations::{CLIENT, ONE, SERVER, Station, TWO};
+use clock::Moment;
 use host::{Config, Host, Kind, Refusal, SocketId};
 use ipv4::{Addr, Endpoint};
 use std::alloc::Global;
 use tcp_segment::Seq;
-use tcp_state::{Moment, State};
+use tcp_state::State;
 
 /// A host at 10.0.0.1 that opens a connection to port 80 of its neighbour, and the connection's socket.
 fn client(alloc: Global, now: Moment, isn: Seq) -> Result<(Host, SocketId), Refusal> {
