@@ -3,10 +3,10 @@ use Rattle.std.proofs.Common.{◌≡◌, ◌⊎◌, inl, inr, ℕ, suc, ◌<◌,
 use Rattle.std.specs.List.{fold, Contains, AllByRecursion}
 use Rattle.std.proofs.lemmas.Bool.{leb-true, leb-false, lt-leb}
 use Rattle.clock.specs.declared.moment.Moment.{Moment}
-use Rattle.clock.specs.Moments.{sooner}
+use Rattle.clock.specs.Moments.{has_come, sooner}
 use Rattle.tcp_state.specs.declared.connection.Resend.{Resend}
 use Rattle.tcp_state.specs.declared.connection.Resend.TheVariants.{Idle as Rests, At, Due}
-use Rattle.tcp_state.specs.View.{View, is_reached, is_at_end, ends_at, resend_at, resend_after, after_resend, after_tick, after_stop, deadline}
+use Rattle.tcp_state.specs.View.{View, is_at_end, ends_at, resend_at, resend_after, after_resend, after_tick, after_stop, deadline}
 use Rattle.host.specs.declared.entry.Entry.{Entry}
 use Rattle.host.specs.declared.role.Role.{Role}
 use Rattle.host.specs.declared.role.Role.TheVariants.{Idle, Listener, Connected}
@@ -111,35 +111,35 @@ none_found h is = (none_from None h.entries is).1
 unreached : (a b now : ℕ) → a ≤ b → nat_le a now ≡ false → nat_le b now ≡ false
 unreached a b now less e = let past : now < a = leb-false a now e in lt-leb b now (omega arith)
 
-both_unreached : (a b : Option Moment) (now : Moment) → is_reached (sooner a b) now ≡ false → (is_reached a now ≡ false) × (is_reached b now ≡ false)
+both_unreached : (a b : Option Moment) (now : Moment) → has_come (sooner a b) now ≡ false → (has_come a now ≡ false) × (has_come b now ≡ false)
 both_unreached None b now e = (refl, e)
 both_unreached (Some a) None now e = (e, refl)
 both_unreached (Some a) (Some b) now e = by_test (nat_le a.0 b.0)
-    (λ less. let at : nat_le a.0 now.0 ≡ false = ap (λ t. is_reached (if t then Some a else Some b) now) (sym less) ∙ e in
+    (λ less. let at : nat_le a.0 now.0 ≡ false = ap (λ t. has_come (if t then Some a else Some b) now) (sym less) ∙ e in
     let higher : a.0 ≤ b.0 = leb-true a.0 b.0 less in (at, unreached a.0 b.0 now.0 higher at))
-    (λ more. let at : nat_le b.0 now.0 ≡ false = ap (λ t. is_reached (if t then Some a else Some b) now) (sym more) ∙ e in
+    (λ more. let at : nat_le b.0 now.0 ≡ false = ap (λ t. has_come (if t then Some a else Some b) now) (sym more) ∙ e in
     let lower : b.0 < a.0 = leb-false a.0 b.0 more in (unreached b.0 a.0 now.0 (omega arith) at, at))
 
 -- a connection of which no timer acts
-resend_waits : (r : Resend) (now : Moment) → is_reached (resend_at r) now ≡ false → resend_after r now ≡ r
+resend_waits : (r : Resend) (now : Moment) → has_come (resend_at r) now ≡ false → resend_after r now ≡ r
 resend_waits Rests now e = refl
 resend_waits Due now e = refl
 resend_waits (At moment) now e = rw e
 
-pub tick_waits_at : (v : View) (now : Moment) → is_reached (deadline v) now ≡ false → after_tick v now ≡ v
+pub tick_waits_at : (v : View) (now : Moment) → has_come (deadline v) now ≡ false → after_tick v now ≡ v
 tick_waits_at v now e =
     let both = both_unreached (resend_at v.resend) (ends_at v) now e in
     let same : after_resend v now ≡ v = ap (λ (r : Resend). let w : View = record v { resend = r } in w) (resend_waits v.resend now both.0) in
     ap (λ (b : Bool). if b then after_stop v else after_resend v now) both.1 ∙ same
 
-role_waits : (role : Role) (now : Moment) → is_reached (deadline_of role) now ≡ false → (is_kept (tick_fate_of now role) ≡ true) × (ticked now role ≡ role)
+role_waits : (role : Role) (now : Moment) → has_come (deadline_of role) now ≡ false → (is_kept (tick_fate_of now role) ≡ true) × (ticked now role ≡ role)
 role_waits (Idle buffers bound) now e = (refl, refl)
 role_waits (Listener l b) now e = (refl, refl)
 role_waits (Connected c l) now e =
     let end : is_at_end c now ≡ false = (both_unreached (resend_at c.resend) (ends_at c) now e).1 in
     (rw end, ap (λ (v : View). Connected v l) (tick_waits_at c now e))
 
-entries_wait : (first : Option Moment) (xs : List Entry) (now : Moment) → is_reached (least_from first xs) now ≡ false → (is_reached first now ≡ false) × (all_settled (tick_fate_of now) (ticked now) xs ≡ xs)
+entries_wait : (first : Option Moment) (xs : List Entry) (now : Moment) → has_come (least_from first xs) now ≡ false → (has_come first now ≡ false) × (all_settled (tick_fate_of now) (ticked now) xs ≡ xs)
 entries_wait first [] now e = (e, refl)
 entries_wait first (x ∷ xs) now e =
     let rest = entries_wait (sooner first (deadline_of x.role)) xs now e in
@@ -149,5 +149,5 @@ entries_wait first (x ∷ xs) now e =
     let test = here.0 in
     (both.0, rw test (ap (λ (y : Entry). y ∷ all_settled (tick_fate_of now) (ticked now) xs) same ∙ ap (λ (ys : List Entry). x ∷ ys) rest.1))
 
-pub tick_waits : (h : HostView) (now : Moment) → is_reached (least_deadline h) (later h now) ≡ false → host.after_tick h now ≡ record h { kept = later h now }
+pub tick_waits : (h : HostView) (now : Moment) → has_come (least_deadline h) (later h now) ≡ false → host.after_tick h now ≡ record h { kept = later h now }
 tick_waits h now e = ap (λ (xs : List Entry). let w : HostView = record h { kept = later h now; entries = xs } in w) (entries_wait None h.entries (later h now) e).1

@@ -4,7 +4,6 @@ ghost use Rattle.std.specs.Prelude.{◌≡◌, ◌^◌, ◌<◌, ◌≤◌, ◌�
 ghost use Rattle.tcp_state.specs.declared.buffers.Buffers.{Buffers};
 ghost use Rattle.std.specs.Result.{result_err};
 ghost use Rattle.std.specs.Option.{ok_or};
-ghost use Rattle.ipv4.specs.Addresses.{is_single_host};
 ghost use Rattle.host.specs.Calls.{open_answer};
 
 use crate::entry::{Entry, Kind, SocketId};
@@ -179,7 +178,7 @@ impl Host {
     fn may_reach(&self, peer: Endpoint) -> Result<(), Refusal>
         ensures { result_err result ≡ reach_refusal self.now peer }
     {
-        if peer.port == 0 || !is_single_host(peer.addr) || peer.addr == self.addr {
+        if peer.port == 0 || !peer.addr.is_single_host() || peer.addr == self.addr {
             return Err(Refusal::EADDRNOTAVAIL);
         }
         if peer.addr != self.neighbour {
@@ -294,13 +293,6 @@ impl Host {
     {
         table::socket_of(&self.entries, id).ok_or(Refusal::EBADF)
     }
-}
-
-/// Whether one host may have this address.
-fn is_single_host(addr: Addr) -> bool
-    ensures { result ≡ is_single_host addr }
-{
-    addr.is_single_host()
 }
 
 /// The endpoint to which an idle socket is bound, which may open a connection; why any other may not.

@@ -7,8 +7,8 @@ ghost use Rattle.ipv4.specs.declared.addr.Pair.{Pair};
 ghost use Rattle.ipv4.specs.Addresses.{pair_of, same_addr};
 ghost use Rattle.tcp_segment.specs.Segment.{Segment};
 ghost use Rattle.clock.specs.declared.moment.Moment.{Moment};
+ghost use Rattle.clock.specs.Moments.{has_come};
 ghost use Rattle.host.specs.declared.entry.SocketId.{SocketId};
-ghost use Rattle.tcp_state.specs.View.{is_reached};
 ghost use Rattle.host.specs.HostView.{HostView, holder_id, fresh, later};
 ghost use Rattle.host.specs.Ticks.{after_tick, least_deadline, IsLeastDeadline, HasNoDeadline};
 ghost use Rattle.host.specs.Arrival.{Opens, local_end, peer_end, arrival, opened_by, pair_opened};
@@ -61,7 +61,7 @@ pub fn deadline_is_the_least()
 
 /// A tick before the deadline changes nothing but the kept moment, and so does any tick where there is no deadline.
 pub fn ticks_wait()
-    ensures { (h : HostView) (now : Moment) → is_reached (least_deadline h) (later h now) ≡ false → after_tick h now ≡ record h { kept = later h now } }
+    ensures { (h : HostView) (now : Moment) → has_come (least_deadline h) (later h now) ≡ false → after_tick h now ≡ record h { kept = later h now } }
 {}
 
 /// The table of a host stays in order, from the first on, whatever happens but a call that is refused: ids ascend, no two connections but CLOSED

@@ -3,8 +3,9 @@ use Rattle.std.proofs.Common.{◌≡◌, ℕ, ◌&&◌, ◌||◌, not, Bool, tru
 use Rattle.tcp_segment.specs.Segment.{Segment}
 use Rattle.tcp_state.specs.declared.state.State.{State}
 use Rattle.clock.specs.declared.moment.Moment.{Moment}
+use Rattle.clock.specs.Moments.{has_come}
 use Rattle.tcp_state.specs.declared.state.State.TheVariants.{Closed, Listen, FinWait2, Closing, LastAck, TimeWait}
-use Rattle.tcp_state.specs.View.{View, is_syn_sent, is_closed, is_listening, is_write_closed, is_read_closed, end_of_wait, is_reached, is_at_end, after_stop}
+use Rattle.tcp_state.specs.View.{View, is_syn_sent, is_closed, is_listening, is_write_closed, is_read_closed, end_of_wait, is_at_end, after_stop}
 use Rattle.tcp_state.specs.Stream.{is_new_ack, is_in_window}
 use Rattle.tcp_state.specs.Arrival.{after_segment, after_rst_in_syn_sent, after_rst, after_reset, reset_error, owing_ack, fate, is_acting_reset, ends_by_reset}
 use Rattle.stream_law.specs.Channel.{Channel, Open}
@@ -92,7 +93,7 @@ stops-left v w closed left = record {
 pub stops-at_end : (v : View) (now : Moment) → is_at_end v now ≡ true → Stops v (after_stop v)
 stops-at_end v now over = record { closed = refl; telling = λ t. both v.state v.released over t }
   where
-    both : (t : State) (left : Bool) → is_reached (end_of_wait t left v.since) now ≡ true → not (is_some v.pending_error || left) ≡ true → (not (is_closed t && (is_some v.pending_error || left)) ≡ true) × (v.receiving.readable ≡ v.receiving.readable) × (is_read_closed t ≡ true)
+    both : (t : State) (left : Bool) → has_come (end_of_wait t left v.since) now ≡ true → not (is_some v.pending_error || left) ≡ true → (not (is_closed t && (is_some v.pending_error || left)) ≡ true) × (v.receiving.readable ≡ v.receiving.readable) × (is_read_closed t ≡ true)
     both TimeWait left e f = (refl, refl, refl)
     both FinWait2 true e f = absurd_closed (not (is_some v.pending_error || true)) f (ap not (or_true (is_some v.pending_error)))
       where

@@ -2,10 +2,11 @@
 use Rattle.std.proofs.Common.{◌≡◌, ◌==◌, ◌||◌, ◌&&◌, if◌then◌else◌, Bool, true, false, length, None, refl, sym, ◌∙◌, ap, is_some}
 use Rattle.tcp_segment.specs.Segment.{Segment}
 use Rattle.clock.specs.declared.moment.Moment.{Moment}
+use Rattle.clock.specs.Moments.{has_come}
 use Rattle.tcp_state.specs.declared.state.State.{State}
 use Rattle.tcp_state.specs.declared.state.State.TheVariants.{Closed, SynSent, SynReceived, Established, FinWait1, FinWait2, CloseWait, Closing, LastAck, TimeWait, Listen}
 use Rattle.tcp_state.specs.Stream.{is_new_ack, is_in_window}
-use Rattle.tcp_state.specs.View.{View, IsSound, is_syn_sent, is_opening, is_closed, is_read_closed, is_listening, is_write_closed, end_of_wait, is_reached, is_at_end, after_stop, after_resend, is_fin_next}
+use Rattle.tcp_state.specs.View.{View, IsSound, is_syn_sent, is_opening, is_closed, is_read_closed, is_listening, is_write_closed, end_of_wait, is_at_end, after_stop, after_resend, is_fin_next}
 use Rattle.tcp_state.specs.Calls.{after_send, after_recv, beyond_shutdown, shutdown_refusal, after_shutdown, aborted_at, after_release, is_removed_by_close, is_aborted_by_close}
 use Rattle.tcp_state.specs.Arrival.{owing_ack, ends_by_syn, ends_by_reset, is_acting_reset, is_acceptable_to, after_reset, reset_error, after_rst_in_syn_sent, after_rst, is_right_syn_ack, after_syn_ack, after_acknowledging_segment, after_acceptable_segment, after_segment, is_lost, after_lost}
 use Rattle.tcp_state.specs.Due.{first_due}
@@ -37,7 +38,7 @@ seen_at_last LastAck e = refl
 seen_at_last _ e = cc
 
 -- a wait that is over is TIME-WAIT, or the caller has left
-seen_at_end : (t : State) (released : Bool) (since now : Moment) → is_reached (end_of_wait t released since) now ≡ true → released ≡ false → is_read_closed t ≡ true
+seen_at_end : (t : State) (released : Bool) (since now : Moment) → has_come (end_of_wait t released since) now ≡ true → released ≡ false → is_read_closed t ≡ true
 seen_at_end TimeWait released since now e r = refl
 seen_at_end FinWait2 true since now e r = cc
 seen_at_end FinWait2 false since now e r = cc

@@ -7,7 +7,7 @@ use Rattle.tcp_state.specs.declared.state.State.{State}
 use Rattle.tcp_state.specs.declared.state.State.TheVariants.{Closed, Listen, SynSent, SynReceived, FinWait1, FinWait2, CloseWait, Closing, LastAck, TimeWait}
 use Rattle.tcp_state.specs.declared.ending.TheConstants.{TIME_WAIT, FIN_WAIT_2}
 use Rattle.clock.specs.declared.moment.Moment.{Moment}
-use Rattle.clock.specs.Moments.{after, sooner}
+use Rattle.clock.specs.Moments.{after, has_come, sooner}
 use Rattle.tcp_state.specs.declared.calls.Refusal.{Refusal}
 use Rattle.tcp_state.specs.declared.connection.Fate.{Fate}
 use Rattle.tcp_state.specs.declared.connection.Fate.TheVariants.{Stays, Removed}
@@ -115,12 +115,8 @@ end_of_wait _ released since = None
 abbrev pub ends_at : View → Option Moment
 ends_at v = end_of_wait v.state v.released v.since
 
-abbrev pub is_reached : Option Moment → Moment → Bool
-is_reached (Some moment) now = nat_le moment.0 now.0
-is_reached None now = false
-
 abbrev pub is_at_end : View → Moment → Bool
-is_at_end v now = is_reached (ends_at v) now
+is_at_end v now = has_come (ends_at v) now
 
 -- the connection is CLOSED: nothing is held, owed or due, and no number is outstanding
 abbrev pub after_stop : View → View

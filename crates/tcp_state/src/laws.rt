@@ -4,9 +4,10 @@ ghost use Rattle.std.specs.Prelude.{◌≡◌, ℕ, ◌+◌, ◌-◌, ◌<◌, �
 ghost use Rattle.tcp_segment.specs.Segment.{Segment, span_of};
 ghost use Rattle.tcp_state.specs.declared.calls.Refusal.{Refusal};
 ghost use Rattle.clock.specs.declared.moment.Moment.{Moment};
+ghost use Rattle.clock.specs.Moments.{has_come};
 ghost use Rattle.tcp_state.specs.declared.connection.Fate.{Fate};
 ghost use Rattle.tcp_state.specs.declared.emission.Due.{Due};
-ghost use Rattle.tcp_state.specs.View.{View, IsSound, is_closed, is_syn_sent, is_over, is_due, is_read_closed, is_reached, deadline, after_tick, reset_since};
+ghost use Rattle.tcp_state.specs.View.{View, IsSound, is_closed, is_syn_sent, is_over, is_due, is_read_closed, deadline, after_tick, reset_since};
 ghost use Rattle.tcp_segment.specs.Wire.{wire, IsBefore};
 ghost use Rattle.tcp_state.specs.Numbers.{is_before};
 ghost use Rattle.tcp_state.specs.Halves.{Sending, Receiving};
@@ -40,8 +41,8 @@ pub fn errors_stay()
 /// Where the clock has not come to a connection's deadline, a tick changes nothing; where it has, what is outstanding is due again or the
 /// connection is CLOSED.
 pub fn deadlines_are_exact()
-    ensures waits { (v : View) (now : Moment) → is_reached (deadline v) now ≡ false → after_tick v now ≡ v }
-    ensures acts { (v : View) (now : Moment) → is_reached (deadline v) now ≡ true
+    ensures waits { (v : View) (now : Moment) → has_come (deadline v) now ≡ false → after_tick v now ≡ v }
+    ensures acts { (v : View) (now : Moment) → has_come (deadline v) now ≡ true
         → (is_due (after_tick v now).resend || is_closed (after_tick v now).state) ≡ true }
 {}
 
