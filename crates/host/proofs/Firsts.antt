@@ -1,8 +1,10 @@
 -- The first element of a list that passes a test, by its place.
-use Rattle.std.proofs.Common.{◌≡◌, ℕ, zero, suc, ◌<◌, ◌≤◌, Bool, true, false, cond, List, [], ◌∷◌, ◌++◌, length, take, drop, get_or, set, Some, None, refl, sym, ◌∙◌, ap, arith, length-set}
-use Rattle.std.specs.List.{find, position, position_or_len, slice_get}
+use Rattle.std.proofs.Common.{◌≡◌, ℕ, zero, suc, ◌<◌, ◌≤◌, Bool, true, false, cond, nat_lt, List, [], ◌∷◌, ◌++◌, length, take, drop, get_or, set, Some, None, refl, sym, ◌∙◌, ap, arith, length-set}
+use Rattle.std.specs.List.{find, position, position_or_len, slice_get, AllWithin}
 use Rattle.std.proofs.lemmas.List.Quantifiers.{position-Some}
 use Rattle.std.proofs.lemmas.List.Folds.{find_at}
+use Rattle.std.proofs.lemmas.List.Sums.{position_or_len_is}
+use Rattle.std.proofs.lemmas.Bool.Decides.{nat_tests}
 use Rattle.std.proofs.lemmas.Option.{slice_get-get_or, slice_get_past, cond_some}
 use Rattle.std.proofs.lemmas.Bool.{ltb-false}
 use Rattle.std.proofs.lemmas.Grind.{common_steps}
@@ -63,6 +65,22 @@ find-position p xs i x e same = (IsFirst-position p xs i e).found x same
 -- and it passes
 pub passes-position : {X : Type 0} (p : X → Bool) (xs : List X) (i : ℕ) (x : X) → position p xs ≡ Some i → x ≡ get_or xs i x → p x ≡ true
 passes-position p xs i x e same = ap p same ∙ (position-Some p xs i x e).1
+
+-- the place of an element that passes where none before it does
+pub position-from_fails : {X : Type 0} (p : X → Bool) (xs : List X) (i : ℕ) (x : X) → i < length xs → AllWithin (λ y. p y ≡ false) xs 0 i → x ≡ get_or xs i x → p x ≡ true → position p xs ≡ Some i
+position-from_fails p xs i x within fails at passes =
+    let place : position_or_len p xs ≡ i = position_or_len_is p xs i x (omega (arith, within)) (λ k h. fails k x (omega arith) h) (λ h. sym (ap p at) ∙ passes) in
+    let test : nat_lt i (length xs) ≡ true = grind (arith, nat_tests, within) in
+    ap (λ n. cond (nat_lt n (length xs)) (Some n) None) place ∙ ap (λ b. cond b (Some i) None) test
+
+-- and there is none where none passes
+pub position-none_passes : {X : Type 0} (p : X → Bool) (xs : List X) → AllWithin (λ y. p y ≡ false) xs 0 (length xs) → position p xs ≡ None
+position-none_passes p [] fails = refl
+position-none_passes p (y ∷ ys) fails =
+    let n = length (y ∷ ys) in
+    let place : position_or_len p (y ∷ ys) ≡ n = position_or_len_is p (y ∷ ys) n y (omega arith) (λ k h. fails k y (omega arith) h) (λ h. absurd (omega (arith, h))) in
+    let test : nat_lt n n ≡ false = grind (arith, nat_tests) in
+    ap (λ i. cond (nat_lt i n) (Some i) None) place ∙ ap (λ b. cond b (Some n) None) test
 
 -- an element that has a place is found
 pub found_by_place : {X : Type 0} (p : X → Bool) (xs : List X) (i : ℕ) → position p xs ≡ Some i → (x : X) × (find p xs ≡ Some x)

@@ -1,6 +1,6 @@
 -- The entries of a host's table: sockets, and connections that no socket names, not yet or no longer.
 use Rattle.std.specs.List.{retain_mut}
-use Rattle.std.specs.Prelude.{ℕ, Bool, true, false, ◌&&◌, ◌||◌, not, ◌==◌, [], if◌then◌else◌, List, ◌++◌, drop, Option, Some, None, option_map, is_some}
+use Rattle.std.specs.Prelude.{ℕ, Bool, true, false, ◌&&◌, ◌||◌, not, ◌==◌, [], if◌then◌else◌, List, ◌++◌, drop, Option, Some, None, option_map, option_and_then, is_some, find}
 use Rattle.ipv4.specs.declared.addr.Endpoint.{Endpoint}
 use Rattle.ipv4.specs.declared.addr.Pair.{Pair}
 use Rattle.tcp_state.specs.declared.state.State.{State}
@@ -90,6 +90,10 @@ shown_state (Idle buffers bound) = Closed
 abbrev pub deadline_of : Role → Option Moment
 deadline_of role = in_connection None deadline role
 
+-- the segment that is due first
+abbrev pub due_of : Role → Option Due
+due_of role = in_connection None first_due role
+
 -- a segment is due
 abbrev pub has_due : Role → Bool
 has_due role = in_connection false (λ c. is_some (first_due c)) role
@@ -135,6 +139,10 @@ is_offered_at id e = is_some (offered_peer id e.role)
 
 abbrev pub is_due : Entry → Bool
 is_due e = has_due e.role
+
+-- what is due of the first entry that has a segment due
+abbrev pub first_due_of : List Entry → Option Due
+first_due_of entries = option_and_then (λ e. due_of e.role) (find is_due entries)
 
 -- New entries.
 

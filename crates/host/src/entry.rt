@@ -1,14 +1,14 @@
 //! An entry of a host's table: a socket, or a connection that no socket names, not yet or no longer.
 
-ghost use Rattle.std.specs.Prelude.{◌≡◌, ◌≤◌, length, true, Some};
-ghost use Rattle.host.specs.Entries.{is_kept, is_socket, is_due, with_role};
+ghost use Rattle.std.specs.Prelude.{◌≡◌, ◌≤◌, length, Some};
+ghost use Rattle.host.specs.Entries.{is_kept, is_socket, due_of, with_role};
 
 use crate::refusal::Refusal;
 use crate::role::{Role, is_kept};
 use clock::Moment;
 use ipv4::Endpoint;
 use tcp_segment::{Seq, TcpView};
-use tcp_state::{Buffers, Connection, Fate, Received};
+use tcp_state::{Buffers, Connection, Due, Fate, MOST_SEGMENT, Received};
 
 /// The kind of a socket.
 #[derive(Clone, Copy, PartialEq, Eq, Debug)]
@@ -165,13 +165,14 @@ impl Entry {
     }
 
     /// Writes the segment that is due from `out[0]` on, and answers its length in octets.
-    pub(crate) fn emit(&mut self, now: Moment, out: &mut [u8; 1514]) -> usize
-        requires { is_due self.old ≡ true }
+    pub(crate) fn emit(&mut self, due: Due, now: Moment, out: &mut [u8]) -> usize
+        requires due { due_of self.old.role ≡ Some due }
+        requires room { MOST_SEGMENT ≤ length out.old }
         ensures len { Some result ≡ due_len self.old.role }
-        ensures bound { result ≤ 1514 }
+        ensures bound { result ≤ MOST_SEGMENT }
         ensures after { self.new ≡ with_role (emitted_at now) self.old }
         ensures frame { out.new ≡ framed self.old.role out.old }
     {
-        self.role.emit(now, out)
+        self.role.emit(due, now, out)
     }
 }

@@ -67,8 +67,8 @@ impl Host {
         if !self.replies.is_empty() {
             return Some(self.emit_reply(out));
         }
-        let place = table::first_due(&self.entries)?;
-        Some(self.emit_at(now, place, out))
+        let (place, due) = table::first_due(&self.entries)?;
+        Some(self.emit_at(place, due, now, out))
     }
 
     /// Writes the first of the replies, which then waits no more.
@@ -90,7 +90,7 @@ impl Host {
         if let Some(reply) = self.replies.first() {
             return Some(self.reply_pair(reply));
         }
-        let place = table::first_due(&self.entries)?;
+        let (place, _) = table::first_due(&self.entries)?;
         self.entries[place].role.pair()
     }
 

@@ -1,7 +1,7 @@
 //! What an entry of a host's table is: a socket without a connection, a listener, or a connection.
 
-ghost use Rattle.std.specs.Prelude.{◌≡◌, ◌≤◌, length, true, Some};
-ghost use Rattle.host.specs.Entries.{is_pending, is_left, has_socket, is_live_between, joins, uses_port, waits_at, offered_peer, shown_state, deadline_of, has_due, backlog_of, listens_at, is_kept};
+ghost use Rattle.std.specs.Prelude.{◌≡◌, ◌≤◌, length, is_some, Some};
+ghost use Rattle.host.specs.Entries.{is_pending, is_left, has_socket, is_live_between, joins, uses_port, waits_at, offered_peer, shown_state, deadline_of, due_of, has_due, backlog_of, listens_at, is_kept};
 
 use crate::entry::SocketId;
 use crate::refusal::Refusal;
@@ -9,7 +9,7 @@ use clock::Moment;
 use ipv4::{Addr, Endpoint, Pair};
 use std::mem;
 use tcp_segment::{Seq, TcpView};
-use tcp_state::{Buffers, Connection, Fate, Received, State};
+use tcp_state::{Buffers, Connection, Due, Fate, MOST_SEGMENT, Received, State};
 
 /// What an entry is.
 #[derive(Drop)]
@@ -204,13 +204,14 @@ impl Role {
         }
     }
 
-    /// Whether a segment is due.
-    pub(crate) fn is_due(&self) -> bool
-        ensures { result ≡ has_due self.now }
+    /// The segment that is due first.
+    pub(crate) fn due(&self) -> Option<Due>
+        ensures value { result ≡ due_of self.now }
+        ensures some { is_some result ≡ has_due self.now }
     {
         match self {
-            Role::Connected { connection, .. } => connection.due().is_some(),
-            _ => false,
+            Role::Connected { connection, .. } => connection.due(),
+            _ => None,
         }
     }
 
@@ -374,15 +375,16 @@ impl Role {
     }
 
     /// Writes the segment that is due from `out[0]` on, and answers its length in octets.
-    pub(crate) fn emit(&mut self, now: Moment, out: &mut [u8; 1514]) -> usize
-        requires { has_due self.old ≡ true }
+    pub(crate) fn emit(&mut self, due: Due, now: Moment, out: &mut [u8]) -> usize
+        requires due { due_of self.old ≡ Some due }
+        requires room { MOST_SEGMENT ≤ length out.old }
         ensures len { Some result ≡ due_len self.old }
-        ensures bound { result ≤ 1514 }
+        ensures bound { result ≤ MOST_SEGMENT }
         ensures after { self.new ≡ emitted_at now self.old }
         ensures frame { out.new ≡ framed self.old out.old }
     {
         match self {
-            Role::Connected { connection, .. } => connection.emit(now, out).unwrap(),
+            Role::Connected { connection, .. } => connection.emit_due(due, now, out),
             _ => unreachable!(),
         }
     }

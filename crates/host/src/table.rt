@@ -1,8 +1,8 @@
 //! What is looked up in the table, which stands in order of id.
 
-ghost use Rattle.std.specs.Prelude.{◌≡◌, ◌<◌, ◌≤◌, ◌&&◌, not, if◌then◌else◌, length, remove, position, count_by, fold, None, IfSome};
+ghost use Rattle.std.specs.Prelude.{◌≡◌, ◌<◌, ◌≤◌, ◌&&◌, not, if◌then◌else◌, length, remove, position, count_by, fold, Some, None, IfSome, IfNone};
 ghost use Rattle.std.specs.List.{list_any, AllByRecursion};
-ghost use Rattle.host.specs.Entries.{is_kept, all_settled, tick_fate_of, forsaken, forsaken_fate, is_socket, is_between, is_of_pair, has_port, is_bound_at, is_waiting_at, is_offered_at, is_due, is_listening_at, deadline_of, ticked, with_role};
+ghost use Rattle.host.specs.Entries.{is_kept, all_settled, tick_fate_of, forsaken, forsaken_fate, is_socket, is_between, is_of_pair, has_port, is_bound_at, is_waiting_at, is_offered_at, is_due, first_due_of, is_listening_at, deadline_of, ticked, with_role};
 ghost use Rattle.clock.specs.Moments.{sooner};
 ghost use Rattle.host.specs.Sound.{IsSoundRole};
 
@@ -11,7 +11,7 @@ use crate::role::is_kept;
 use arrayvec::ArrayVec;
 use clock::{Moment, sooner};
 use ipv4::{Endpoint, Pair};
-use tcp_state::Fate;
+use tcp_state::{Due, Fate};
 
 /// How many entries the table of one host holds.
 pub(crate) const ENTRIES: usize = 8;
@@ -92,11 +92,18 @@ pub(crate) fn next_accepted(entries: &[Entry], listener: SocketId) -> Option<usi
         .position(|entry| entry.role.offered_peer(listener).is_some())
 }
 
-/// The place of the first entry that has a segment due.
-pub(crate) fn first_due(entries: &[Entry]) -> Option<usize>
-    ensures { result ≡ position is_due entries.now }
+/// The place of the first entry that has a segment due, and what is due of it.
+pub(crate) fn first_due(entries: &[Entry]) -> Option<(usize, Due)>
+    ensures place { IfSome result (λ first. position is_due entries.now ≡ Some first.0) }
+    ensures due { IfSome result (λ first. first_due_of entries.now ≡ Some first.1) }
+    ensures none { IfNone result (position is_due entries.now ≡ None) }
 {
-    entries.iter().position(|entry| entry.role.is_due())
+    for (place, entry) in entries.iter().enumerate() {
+        if let Some(due) = entry.role.due() {
+            return Some((place, due));
+        }
+    }
+    None
 }
 
 /// Lets the timers of every entry act whose moment has come, and takes out those whose connection is gone then.

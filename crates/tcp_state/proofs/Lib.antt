@@ -1,4 +1,5 @@
 pub mod Framing
+pub mod GoesOut
 pub mod Edges
 pub mod Causes
 pub mod Errors

@@ -1,6 +1,6 @@
 //! What is due, and how it goes out (RFC 9293 section 3.8).
 
-ghost use Rattle.std.specs.Prelude.{◌≡◌, ◌+◌, ◌<◌, ◌≤◌, ◌++◌, length, drop, IfSome, MatchOption, option_map, min, if◌then◌else◌, true, false};
+ghost use Rattle.std.specs.Prelude.{◌≡◌, ◌+◌, ◌<◌, ◌≤◌, ◌++◌, length, drop, IfSome, MatchOption, option_map, min, if◌then◌else◌, true, false, Some};
 ghost use Rattle.tcp_state.specs.View.{is_opening, is_due, most_outstanding};
 ghost use Rattle.tcp_state.specs.Due.{MayGoOut, first_due, again, flags_of, number_of, octets_of, window_of, head_of, segment_octets, emitted_len, after_emitted, after_ack_paid, after_numbers};
 
@@ -9,8 +9,9 @@ use crate::state::State;
 use clock::Moment;
 use tcp_segment::{Flags, Head, Seq};
 
-/// The octets that a frame has at most.
-pub const FRAME: usize = 1_514;
+/// The octets that a segment has at most: a header of 20 octets and `tcp_segment::MSS` of text. A SYN's header has 24,
+/// and no text stands behind it.
+pub const MOST_SEGMENT: usize = 1_480;
 
 /// How long what is outstanding waits before it goes out again, in milliseconds.
 const RESEND_AFTER: u64 = 1_000;
@@ -75,30 +76,46 @@ impl Connection {
     /// Writes the segment that is due first to the front of `out`, and answers its length in octets.
     ///
     /// None where nothing is due; then nothing changes.
-    pub fn emit(&mut self, now: Moment, out: &mut [u8; FRAME]) -> Option<usize>
+    pub fn emit(&mut self, now: Moment, out: &mut [u8]) -> Option<usize>
+        requires room { MOST_SEGMENT ≤ length out.old }
         ensures answer { result ≡ option_map (emitted_len self.old) (first_due self.old) }
-        ensures bound { IfSome result (λ len. len ≤ FRAME) }
+        ensures bound { IfSome result (λ len. len ≤ MOST_SEGMENT) }
         ensures frame { MatchOption (first_due self.old) (out.new ≡ out.old) (λ due. out.new ≡ segment_octets self.old due ++ drop (emitted_len self.old due) out.old) }
         ensures after { MatchOption (first_due self.old) (self.new ≡ self.old) (λ due. self.new ≡ after_emitted self.old due now) }
     {
         let due = self.due()?;
+        Some(self.emit_due(due, now, out))
+    }
+
+    /// Writes the segment for `due`, which is what `due` answers, to the front of `out`, and answers its length in octets.
+    pub fn emit_due(&mut self, due: Due, now: Moment, out: &mut [u8]) -> usize
+        requires first { first_due self.old ≡ Some due }
+        requires room { MOST_SEGMENT ≤ length out.old }
+        ensures len { result ≡ emitted_len self.old due }
+        ensures bound { result ≤ MOST_SEGMENT }
+        ensures frame { out.new ≡ segment_octets self.old due ++ drop (emitted_len self.old due) out.old }
+        ensures after { self.new ≡ after_emitted self.old due now }
+    {
         let len = self.write(due, out);
         self.note_emitted(due, now);
-        Some(len)
+        len
     }
 
     /// Writes the segment for what is due to the front of `out`.
-    fn write(&self, due: Due, out: &mut [u8; FRAME]) -> usize
-        requires { MayGoOut self.now due }
+    fn write(&self, due: Due, out: &mut [u8]) -> usize
+        requires first { first_due self.now ≡ Some due }
+        requires room { MOST_SEGMENT ≤ length out.old }
+        ensures may { MayGoOut self.now due }
         ensures len { result ≡ emitted_len self.now due }
-        ensures bound { result ≤ FRAME }
+        ensures bound { result ≤ MOST_SEGMENT }
         ensures frame { out.new ≡ segment_octets self.now due ++ drop result out.old }
     {
+        let (local, peer) = (self.local.addr, self.peer.addr);
         let head = self.head(due);
         let octets = self.octets(due);
         let start = head.len();
         out[start..start + octets.len()].copy_from_slice(octets);
-        head.emit(self.local.addr, self.peer.addr, octets.len(), out)
+        head.emit(local, peer, octets.len(), out)
     }
 
     /// The octets of the segment for what is due.

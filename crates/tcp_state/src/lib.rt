@@ -16,5 +16,5 @@ mod state;
 pub use buffers::{Buffers, CAPACITY};
 pub use calls::{Received, Refusal};
 pub use connection::{Connection, Fate, Resend};
-pub use emission::{Due, FRAME};
+pub use emission::{Due, MOST_SEGMENT};
 pub use state::State;

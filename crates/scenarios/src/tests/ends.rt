@@ -5,7 +5,7 @@ use ipv4::{Addr, Endpoint};
 use std::alloc::Global;
 use std::process::Abort;
 use tcp_segment::{Flags, Head, Seq, TcpView};
-use tcp_state::{Buffers, Connection, Due, FRAME, Fate, Received, Refusal, State};
+use tcp_state::{Buffers, Connection, Due, Fate, MOST_SEGMENT, Received, Refusal, State};
 
 const CALLER: Endpoint = Endpoint {
     addr: Addr([10, 0, 0, 1]),
@@ -144,7 +144,7 @@ pub(super) type Scenario = (&'static str, Start, &'static [&'static [Step]]);
 #[derive(Drop)]
 struct End {
     connection: Connection,
-    frame: [u8; FRAME],
+    frame: [u8; MOST_SEGMENT],
     len: usize,
     buffer: [u8; 9],
 }
@@ -154,7 +154,7 @@ impl End {
     fn new(connection: Connection) -> End {
         End {
             connection,
-            frame: [0; FRAME],
+            frame: [0; MOST_SEGMENT],
             len: 0,
             buffer: [0; 9],
         }
@@ -221,7 +221,7 @@ impl End {
             flags,
             window: 0,
         };
-        let mut frame = [0; FRAME];
+        let mut frame = [0; MOST_SEGMENT];
         let len = head.emit(peer.addr, local.addr, count.min(2), &mut frame);
         self.hear(0, &frame[..len])
     }

@@ -42,7 +42,8 @@ use Rattle.wire_sim.specs.WorldView.{NetworkView, written_at}
 use Rattle.wire_sim.proofs.tables.EntryChanges.{by_test, end-its, end-another, table-becomes, opened-kept}
 use Rattle.wire_sim.proofs.pairing.EndMoves.{pairing, EndGoes, moved}
 use Rattle.wire_sim.proofs.lists.FoundAfterChange.{All-find, All-added, All-weaker, find-passes}
-use Rattle.wire_sim.proofs.emission.SegmentsGoOut.{due-may, due-live, due-kind, due-can, due-width, emitted-state, emitted-spelled, emitted-ports, Emits, emits-some, emitted_at-connected}
+use Rattle.tcp_state.proofs.GoesOut.{due-may}
+use Rattle.wire_sim.proofs.emission.SegmentsGoOut.{due-live, due-kind, due-can, due-width, emitted-state, emitted-spelled, emitted-ports, Emits, emits-some, emitted_at-connected}
 use Rattle.host.proofs.KeptEnds.{keeps-emitted}
 use Rattle.wire_sim.proofs.openings.OpeningIsFound.{opening-found, opening-only, opening-at_parts}
 use Rattle.wire_sim.proofs.tables.PairOfPorts.{pair_at, same_pair-same, same_pair-true}

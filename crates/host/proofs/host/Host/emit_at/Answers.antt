@@ -1,32 +1,34 @@
 -- The write at the place is the change of the first entry that has a segment due, or it is taken out.
-use Rattle.std.proofs.Common.{◌≡◌, ◌∙◌, List, get_or, Some, ap, sym}
+use Rattle.std.proofs.Common.{◌≡◌, ◌∙◌, List, get_or, Option, Some, option_and_then, ap, sym}
 use Rattle.std.specs.List.{find, position}
 use Rattle.tcp_state.specs.declared.connection.Fate.{Fate}
 use Rattle.clock.specs.declared.moment.Moment.{Moment}
 use Rattle.host.specs.declared.entry.Entry.{Entry}
-use Rattle.host.specs.Entries.{is_due, emitted_at, emitted_fate, settled, with_role}
+use Rattle.host.specs.Entries.{is_due, due_of, emitted_at, emitted_fate, settled, with_role}
 use Rattle.host.specs.HostView.{HostView, later}
 use Rattle.host.proofs.Arrived.{entry_settled}
 use Rattle.host.proofs.Emitted.{segment_sent-found}
-use Rattle.host.proofs.Firsts.{find-position, passes-position}
+use Rattle.host.proofs.Firsts.{find-position}
 use Rattle.host.proofs.host.Host.emit_at.Goals as goal
 
--- the entry in the place has a segment due
-pub emit-len-requires : goal.emit-len-requires
-emit-len-requires c =
+-- what is due of the entry in the place
+pub emit-len-requires-clause-due : goal.emit-len-requires-clause-due
+emit-len-requires-clause-due c =
     let h : HostView = c.args.self.now in
     let x : Entry = c.index-deref_mut-place.result in
     let at : x ≡ get_or h.entries c.args.place x =
     c.index-deref_mut-place.is ∙ ap (λ (es : List Entry). get_or es c.args.place x) (c.deref_mut.ensures.value ∙ ap (λ (h : HostView). h.entries) c.self.view_is)
     in
-    sym (ap is_due c.index-deref_mut-place.is) ∙ passes-position is_due h.entries c.args.place x c.requires at
+    let found : find is_due h.entries ≡ Some x = find-position is_due h.entries c.args.place x c.requires.place at in
+    sym (ap (λ (e : Entry). due_of e.role) c.index-deref_mut-place.is)
+    ∙ (ap (λ (o : Option Entry). option_and_then (λ (e : Entry). due_of e.role) o) (sym found) ∙ c.requires.due)
 
 pub returns-clause-after : goal.returns-clause-after
 returns-clause-after c =
     let h : HostView = c.args.self.now in
     let now : Moment = later h c.args.now in
     let entries = ap (λ (h : HostView). h.entries) c.self.view_is in
-    let place : position is_due h.entries ≡ Some c.args.place = c.requires in
+    let place : position is_due h.entries ≡ Some c.args.place = c.requires.place in
     let x : Entry = c.index-deref_mut-place.result in
     let at : x ≡ get_or h.entries c.args.place x =
     c.index-deref_mut-place.is ∙ ap (λ (es : List Entry). get_or es c.args.place x) (c.deref_mut.ensures.value ∙ entries)

@@ -1,8 +1,17 @@
-use Rattle.std.proofs.Common.{◌≡◌, ◌+◌, ◌-◌, ◌*◌, ◌++◌, length, drop, arith, rules, sym, ◌∙◌, ap}
+use Rattle.std.proofs.Common.{◌≡◌, ◌+◌, ◌-◌, ◌*◌, ◌++◌, length, drop, arith, rules, sym, ◌∙◌, ap, subst}
 use Rattle.tcp_state.specs.Due.{head_of, octets_of, segment_octets}
 use Rattle.tcp_state.specs.Inside.{view_of}
+use Rattle.tcp_state.specs.View.{IsSound}
 use Rattle.tcp_state.proofs.Framing.{framed}
+use Rattle.tcp_state.proofs.GoesOut.{due-may}
 use Rattle.tcp_state.proofs.connection.Connection.write.Goals as goal
+
+-- what is due may go out
+pub octets-octets-requires : goal.octets-octets-requires
+octets-octets-requires c = due-may c.args.self.now c.args.due (subst IsSound c.self.view_is c.self.invariant) c.requires.first
+
+pub returns-clause-may : goal.returns-clause-may
+returns-clause-may c = due-may c.args.self.now c.args.due (subst IsSound c.self.view_is c.self.invariant) c.requires.first
 
 pub returns-clause-frame : goal.returns-clause-frame
 returns-clause-frame c =
