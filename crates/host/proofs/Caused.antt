@@ -28,15 +28,15 @@ use Rattle.host.specs.declared.entry.SocketId.{SocketId}
 use Rattle.host.specs.declared.entry.Entry.{Entry}
 use Rattle.host.specs.declared.role.Role.{Role}
 use Rattle.host.specs.declared.role.Role.TheVariants.{Idle, Listener, Connected}
-use Rattle.host.specs.Entries.{is_socket, waits_at, is_between, is_live_between, is_listening_at, is_due, has_due, has_socket, new_waiting, aborted, abort_fate_of, is_offered_at, shown_state, is_kept, settled, fate_of, arrived, ticked, tick_fate_of, emitted_at, emitted_fate, forsaken, forsaken_fate, closed, close_fate_of, bound_to, listening, connecting, accepted, sent, received, write_shut, with_role}
-use Rattle.host.specs.HostView.{HostView, later, role_of}
+use Rattle.host.specs.Entries.{is_socket, waits_at, is_between, is_live_between, is_listening_at, is_due, has_due, has_socket, new_waiting, role_after_abort, abort_fate_of, is_offered_at, shown_state, is_kept, entries_after_step, fate_of, role_after_segment, role_after_tick, tick_fate_of, role_after_emission, emission_fate_of, role_after_listener_close, listener_close_fate_of, role_after_close, close_fate_of, role_after_bind, role_after_listen, role_after_connect, role_after_accept, role_after_send, role_after_recv, role_after_shutdown, with_role}
+use Rattle.host.specs.HostView.{HostView, later_moment, role_of}
 use Rattle.host.specs.Emission.{after_emission}
 use Rattle.host.specs.Calls.{port_connected, after_connect, after_socket_closed, after_close}
-use Rattle.host.specs.Arrival.{local_end, peer_end, is_opening as opens, has_no_place, answered, arrival, arrival_alone}
+use Rattle.host.specs.Arrival.{local_end, peer_end, is_opening as opens, has_no_place, arrival_with_reply, arrival, arrival_alone}
 use Rattle.host.specs.Replies.{reset_at_ack, answer_to, answer_at_listener}
 use Rattle.host.specs.Sound.{IsSoundRole, IsSoundHost}
 use Rattle.host.specs.Lists.{change_first}
-use Rattle.host.specs.Causes.{Event, Makes, Binds, Listens, Accepts, Connects, Sends, Receives, Shuts, Closes, Ticks, Hears, Emits, after_arrival, after_event, is_connection_cause, is_close_cause, becomes_closed, told_in, is_telling, is_telling_to, is_next_out, IsOpenedBy, IsAdded, IsStep, Follows}
+use Rattle.host.specs.Causes.{Event, Makes, Binds, Listens, Accepts, Connects, Sends, Receives, Shuts, Closes, Ticks, Hears, Emits, after_arrival, after_event, is_connection_cause, is_close_cause, becomes_closed, pending_error_in, is_telling, is_telling_to, is_next_out, IsOpenedBy, IsAdded, IsStep, Follows}
 use Rattle.host.proofs.Emitted.{emission-of_entry}
 use Rattle.host.proofs.Ends.{eqb-same, same_end-same}
 use Rattle.host.proofs.Followed.{IsNothing, by_test, as_it_was, joined_by, first_changed, first_removed, each_followed, steps_joined}
@@ -94,7 +94,7 @@ same_step h e x = (refl, inl refl, λ closes. let none = never (is_closed (shown
 
 -- no error is told that was not
 abbrev IsMute : (Role → Role) → Type 0
-IsMute change = (role : Role) (error : Error) → told_in (change role) ≡ Some error → told_in role ≡ Some error
+IsMute change = (role : Role) (error : Error) → pending_error_in (change role) ≡ Some error → pending_error_in role ≡ Some error
 
 told_before : {P : Type 0} → P ⊎ (false ≡ true) → P
 told_before (inl p) = p
@@ -104,33 +104,33 @@ quiet_change : (h : HostView) (e : Event) → IsAdded h e [] → (test : Entry �
 quiet_change h e none test change quiet along mute entries =
     first_changed (IsStep h e) (IsAdded h e) none test (with_role change) entries (same_step h e) (λ x passes found. (refl, along x.role, λ closes. let none = quiet x.role in cc, λ error told. inl (mute x.role error told)))
 
-quiet_bound : (local : Endpoint) (role : Role) → becomes_closed role (bound_to local role) ≡ false
+quiet_bound : (local : Endpoint) (role : Role) → becomes_closed role (role_after_bind local role) ≡ false
 quiet_bound local (Idle buffers bound) = refl
 quiet_bound local (Listener l b) = refl
 quiet_bound local (Connected c l) = never (is_closed c.state)
 
-quiet_listening : (backlog : ℕ) (role : Role) → becomes_closed role (listening backlog role) ≡ false
+quiet_listening : (backlog : ℕ) (role : Role) → becomes_closed role (role_after_listen backlog role) ≡ false
 quiet_listening backlog (Idle buffers None) = refl
 quiet_listening backlog (Idle buffers (Some local)) = refl
 quiet_listening backlog (Listener l b) = refl
 quiet_listening backlog (Connected c l) = never (is_closed c.state)
 
-quiet_connecting : (local peer : Endpoint) (isn : ℕ) (role : Role) → becomes_closed role (connecting local peer isn role) ≡ false
+quiet_connecting : (local peer : Endpoint) (isn : ℕ) (role : Role) → becomes_closed role (role_after_connect local peer isn role) ≡ false
 quiet_connecting local peer isn (Idle buffers bound) = refl
 quiet_connecting local peer isn (Listener l b) = refl
 quiet_connecting local peer isn (Connected c l) = never (is_closed c.state)
 
-quiet_accepted : (role : Role) → becomes_closed role (accepted role) ≡ false
+quiet_accepted : (role : Role) → becomes_closed role (role_after_accept role) ≡ false
 quiet_accepted (Idle buffers bound) = refl
 quiet_accepted (Listener l b) = refl
 quiet_accepted (Connected c l) = never (is_closed c.state)
 
-quiet_sent : (octets : List ℕ) (role : Role) → becomes_closed role (sent octets role) ≡ false
+quiet_sent : (octets : List ℕ) (role : Role) → becomes_closed role (role_after_send octets role) ≡ false
 quiet_sent octets (Idle buffers bound) = refl
 quiet_sent octets (Listener l b) = refl
 quiet_sent octets (Connected c l) = false_from _ (closes_caused c (edge.Sends octets))
 
-quiet_received : (len : ℕ) (role : Role) → becomes_closed role (received len role) ≡ false
+quiet_received : (len : ℕ) (role : Role) → becomes_closed role (role_after_recv len role) ≡ false
 quiet_received len (Idle buffers bound) = refl
 quiet_received len (Listener l b) = refl
 quiet_received len (Connected c l) =
@@ -139,7 +139,7 @@ quiet_received len (Connected c l) =
 shut_closes_none : (state : State) → (not (is_closed state) && is_closed (beyond_shutdown state)) ≡ false
 shut_closes_none state = grind (arith, common_steps)
 
-quiet_shut : (role : Role) → becomes_closed role (write_shut role) ≡ false
+quiet_shut : (role : Role) → becomes_closed role (role_after_shutdown role) ≡ false
 quiet_shut (Idle buffers bound) = refl
 quiet_shut (Listener l b) = refl
 quiet_shut (Connected c l) =
@@ -147,33 +147,33 @@ quiet_shut (Connected c l) =
 
 -- .. along their edges
 
-bound_edge : (local : Endpoint) (role : Role) → edge.IsEdge (shown_state role) (shown_state (bound_to local role))
+bound_edge : (local : Endpoint) (role : Role) → edge.IsEdge (shown_state role) (shown_state (role_after_bind local role))
 bound_edge local (Idle buffers bound) = inl refl
 bound_edge local (Listener l b) = inl refl
 bound_edge local (Connected c l) = inl refl
 
-listening_edge : (backlog : ℕ) (role : Role) → edge.IsEdge (shown_state role) (shown_state (listening backlog role))
+listening_edge : (backlog : ℕ) (role : Role) → edge.IsEdge (shown_state role) (shown_state (role_after_listen backlog role))
 listening_edge backlog (Idle buffers None) = inl refl
 listening_edge backlog (Idle buffers (Some local)) = inr refl
 listening_edge backlog (Listener l b) = inl refl
 listening_edge backlog (Connected c l) = inl refl
 
-connecting_edge : (local peer : Endpoint) (isn : ℕ) (role : Role) → edge.IsEdge (shown_state role) (shown_state (connecting local peer isn role))
+connecting_edge : (local peer : Endpoint) (isn : ℕ) (role : Role) → edge.IsEdge (shown_state role) (shown_state (role_after_connect local peer isn role))
 connecting_edge local peer isn (Idle buffers bound) = inr refl
 connecting_edge local peer isn (Listener l b) = inl refl
 connecting_edge local peer isn (Connected c l) = inl refl
 
-accepted_edge : (role : Role) → edge.IsEdge (shown_state role) (shown_state (accepted role))
+accepted_edge : (role : Role) → edge.IsEdge (shown_state role) (shown_state (role_after_accept role))
 accepted_edge (Idle buffers bound) = inl refl
 accepted_edge (Listener l b) = inl refl
 accepted_edge (Connected c l) = inl refl
 
-sent_edge : (octets : List ℕ) (role : Role) → edge.IsEdge (shown_state role) (shown_state (sent octets role))
+sent_edge : (octets : List ℕ) (role : Role) → edge.IsEdge (shown_state role) (shown_state (role_after_send octets role))
 sent_edge octets (Idle buffers bound) = inl refl
 sent_edge octets (Listener l b) = inl refl
 sent_edge octets (Connected c l) = kept_edge c (edge.Sends octets) refl
 
-received_edge : (len : ℕ) (role : Role) → edge.IsEdge (shown_state role) (shown_state (received len role))
+received_edge : (len : ℕ) (role : Role) → edge.IsEdge (shown_state role) (shown_state (role_after_recv len role))
 received_edge len (Idle buffers bound) = inl refl
 received_edge len (Listener l b) = inl refl
 received_edge len (Connected c l) = by_test (len == 0) (λ none. rw none (inl refl)) (λ some. rw some (kept_edge c (edge.Receives len) refl))
@@ -183,40 +183,40 @@ shut_edge Established = inr refl
 shut_edge CloseWait = inr refl
 shut_edge _ = inl refl
 
-shut_role_edge : (role : Role) → edge.IsEdge (shown_state role) (shown_state (write_shut role))
+shut_role_edge : (role : Role) → edge.IsEdge (shown_state role) (shown_state (role_after_shutdown role))
 shut_role_edge (Idle buffers bound) = inl refl
 shut_role_edge (Listener l b) = inl refl
 shut_role_edge (Connected c l) = by_test (is_some c.pending_error || is_opening c.state) (λ refused. rw refused (inl refl)) (λ shuts. rw shuts (shut_edge c.state))
 
 -- .. and in silence
 
-bound_mute : (local : Endpoint) → IsMute (bound_to local)
+bound_mute : (local : Endpoint) → IsMute (role_after_bind local)
 bound_mute local (Idle buffers bound) error told = told
 bound_mute local (Listener l b) error told = told
 bound_mute local (Connected c l) error told = told
 
-listening_mute : (backlog : ℕ) → IsMute (listening backlog)
+listening_mute : (backlog : ℕ) → IsMute (role_after_listen backlog)
 listening_mute backlog (Idle buffers None) error told = told
 listening_mute backlog (Idle buffers (Some local)) error told = told
 listening_mute backlog (Listener l b) error told = told
 listening_mute backlog (Connected c l) error told = told
 
-connecting_mute : (local peer : Endpoint) (isn : ℕ) → IsMute (connecting local peer isn)
+connecting_mute : (local peer : Endpoint) (isn : ℕ) → IsMute (role_after_connect local peer isn)
 connecting_mute local peer isn (Idle buffers bound) error told = told
 connecting_mute local peer isn (Listener l b) error told = told
 connecting_mute local peer isn (Connected c l) error told = told
 
-accepted_mute : IsMute accepted
+accepted_mute : IsMute role_after_accept
 accepted_mute (Idle buffers bound) error told = told
 accepted_mute (Listener l b) error told = told
 accepted_mute (Connected c l) error told = told
 
-sent_mute : (octets : List ℕ) → IsMute (sent octets)
+sent_mute : (octets : List ℕ) → IsMute (role_after_send octets)
 sent_mute octets (Idle buffers bound) error told = told
 sent_mute octets (Listener l b) error told = told
 sent_mute octets (Connected c l) error told = told_before (errors_caused c (edge.Sends octets) error told)
 
-received_mute : (len : ℕ) → IsMute (received len)
+received_mute : (len : ℕ) → IsMute (role_after_recv len)
 received_mute len (Idle buffers bound) error told = told
 received_mute len (Listener l b) error told = told
 received_mute len (Connected c l) error told =
@@ -225,7 +225,7 @@ received_mute len (Connected c l) error told =
     (λ none. ap of_test (sym none) ∙ told)
     (λ some. told_before (errors_caused c (edge.Receives len) error (ap of_test (sym some) ∙ told)))
 
-shut_mute : IsMute write_shut
+shut_mute : IsMute role_after_shutdown
 shut_mute (Idle buffers bound) error told = told
 shut_mute (Listener l b) error told = told
 shut_mute (Connected c l) error told =
@@ -238,13 +238,13 @@ connect_followed h isn id peer = by_port (port_connected h id peer) refl
     by_port : (r : Result ℕ Refusal) → port_connected h id peer ≡ r → Follows (IsStep h (Connects isn id peer)) (IsAdded h (Connects isn id peer)) h.entries (let after = after_connect h isn id peer in after.entries)
     by_port (Err refusal) given = rw given (as_it_was (IsStep h (Connects isn id peer)) (IsAdded h (Connects isn id peer)) refl (same_step h (Connects isn id peer)) h.entries)
     by_port (Ok port) given =
-        rw given (quiet_change h (Connects isn id peer) refl (is_socket id) (connecting (record { addr = h.addr; port = port }) peer isn) (quiet_connecting (record { addr = h.addr; port = port }) peer isn) (connecting_edge (record { addr = h.addr; port = port }) peer isn) (connecting_mute (record { addr = h.addr; port = port }) peer isn) h.entries)
+        rw given (quiet_change h (Connects isn id peer) refl (is_socket id) (role_after_connect (record { addr = h.addr; port = port }) peer isn) (quiet_connecting (record { addr = h.addr; port = port }) peer isn) (connecting_edge (record { addr = h.addr; port = port }) peer isn) (connecting_mute (record { addr = h.addr; port = port }) peer isn) h.entries)
 
 -- the first that passes takes a step
 pub settled_followed : (Step : Entry → Option Entry → Type 0) (Added : List Entry → Type 0) → Added [] → (r : Fate) (test : Entry → Bool) (change : Role → Role) (entries : List Entry) → ((x : Entry) → Step x (Some x))
     → (is_kept r ≡ true → (x : Entry) → test x ≡ true → find test entries ≡ Some x → Step x (Some (with_role change x)))
     → (is_kept r ≡ false → (x : Entry) → test x ≡ true → find test entries ≡ Some x → Step x None)
-    → Follows Step Added entries (settled r test change entries)
+    → Follows Step Added entries (entries_after_step r test change entries)
 settled_followed Step Added none r test change entries same changed gone =
     by_test (is_kept r)
     (λ kept. rw kept (first_changed Step Added none test (with_role change) entries same (changed kept)))
@@ -254,10 +254,10 @@ settled_followed Step Added none r test change entries same changed gone =
 
 abbrev IsClosing : HostView → SocketId → Entry → Option Entry → Type 0
 IsClosing h id x None = (is_socket id x && is_close_cause h.kept x.role) ≡ true
-IsClosing h id x (Some y) = (y ≡ x) ⊎ ((y.id ≡ x.id) × (is_socket id x ≡ true) × edge.IsEdge (shown_state x.role) (shown_state y.role) × (waits_at id y.role ≡ false) × ((error : Error) → told_in y.role ≡ Some error → told_in x.role ≡ Some error) × (becomes_closed x.role y.role ≡ true → is_close_cause h.kept x.role ≡ true))
+IsClosing h id x (Some y) = (y ≡ x) ⊎ ((y.id ≡ x.id) × (is_socket id x ≡ true) × edge.IsEdge (shown_state x.role) (shown_state y.role) × (waits_at id y.role ≡ false) × ((error : Error) → pending_error_in y.role ≡ Some error → pending_error_in x.role ≡ Some error) × (becomes_closed x.role y.role ≡ true → is_close_cause h.kept x.role ≡ true))
 
 -- a socket whose connection goes on waits at no listener
-socket_goes_on : (id : SocketId) (now : Moment) (role : Role) → has_socket role ≡ true → is_kept (close_fate_of role) ≡ true → edge.IsEdge (shown_state role) (shown_state (closed now role)) × (waits_at id (closed now role) ≡ false) × ((error : Error) → told_in (closed now role) ≡ Some error → told_in role ≡ Some error) × (becomes_closed role (closed now role) ≡ true → is_close_cause now role ≡ true)
+socket_goes_on : (id : SocketId) (now : Moment) (role : Role) → has_socket role ≡ true → is_kept (close_fate_of role) ≡ true → edge.IsEdge (shown_state role) (shown_state (role_after_close now role)) × (waits_at id (role_after_close now role) ≡ false) × ((error : Error) → pending_error_in (role_after_close now role) ≡ Some error → pending_error_in role ≡ Some error) × (becomes_closed role (role_after_close now role) ≡ true → is_close_cause now role ≡ true)
 socket_goes_on id now (Idle buffers bound) socket kept = cc
 socket_goes_on id now (Listener l b) socket kept = cc
 socket_goes_on id now (Connected c (Some l)) socket kept = cc
@@ -284,7 +284,7 @@ socket_closing h id = by_role (role_of h id) refl
     by_role : (o : Option Role) → role_of h id ≡ o → Follows (IsClosing h id) IsNothing h.entries (let after = after_socket_closed h id in after.entries)
     by_role None is = rw is (as_it_was (IsClosing h id) IsNothing refl (λ x. inl refl) h.entries)
     by_role (Some role) is =
-        rw is (settled_followed (IsClosing h id) IsNothing refl (close_fate_of role) (is_socket id) (closed h.kept) h.entries (λ x. inl refl)
+        rw is (settled_followed (IsClosing h id) IsNothing refl (close_fate_of role) (is_socket id) (role_after_close h.kept) h.entries (λ x. inl refl)
         (λ kept x passes found.
         let on = socket_goes_on id h.kept x.role (and_right _ _ passes) (ap (λ (r : Role). is_kept (close_fate_of r)) (sym (same_role role x is found)) ∙ kept) in
         inr (refl, passes, on.0, on.1, on.2, on.3))
@@ -292,60 +292,60 @@ socket_closing h id = by_role (role_of h id) refl
         both _ _ passes (socket_gone h.kept x.role (and_right _ _ passes) (ap (λ (r : Role). is_kept (close_fate_of r)) (sym (same_role role x is found)) ∙ gone))))
 
 abbrev IsForsaking : Moment → SocketId → Entry → Option Entry → Type 0
-IsForsaking now id y None = is_kept (forsaken_fate id y.role) ≡ false
-IsForsaking now id y (Some z) = (z ≡ with_role (forsaken now id) y) × (is_kept (forsaken_fate id y.role) ≡ true)
+IsForsaking now id y None = is_kept (listener_close_fate_of id y.role) ≡ false
+IsForsaking now id y (Some z) = (z ≡ with_role (role_after_listener_close now id) y) × (is_kept (listener_close_fate_of id y.role) ≡ true)
 
-abort_edge : (now : Moment) (role : Role) → is_kept (abort_fate_of role) ≡ true → edge.IsEdge (shown_state role) (shown_state (aborted now role))
+abort_edge : (now : Moment) (role : Role) → is_kept (abort_fate_of role) ≡ true → edge.IsEdge (shown_state role) (shown_state (role_after_abort now role))
 abort_edge now (Idle buffers bound) kept = inl refl
 abort_edge now (Listener l b) kept = inl refl
 abort_edge now (Connected c l) kept = kept_edge c (edge.Aborts now) kept
 
-forsaken_edge : (now : Moment) (id : SocketId) (role : Role) → is_kept (forsaken_fate id role) ≡ true → edge.IsEdge (shown_state role) (shown_state (forsaken now id role))
+forsaken_edge : (now : Moment) (id : SocketId) (role : Role) → is_kept (listener_close_fate_of id role) ≡ true → edge.IsEdge (shown_state role) (shown_state (role_after_listener_close now id role))
 forsaken_edge now id role kept =
     by_test (waits_at id role)
     (λ waits. rw waits (abort_edge now role (ap (λ (b : Bool). is_kept (if b then abort_fate_of role else Stays)) (sym waits) ∙ kept)))
     (λ other. rw other (inl refl))
 
-aborted_mute : (now : Moment) → IsMute (aborted now)
+aborted_mute : (now : Moment) → IsMute (role_after_abort now)
 aborted_mute now (Idle buffers bound) error told = told
 aborted_mute now (Listener l b) error told = told
 aborted_mute now (Connected c l) error told = told_before (errors_caused c (edge.Aborts now) error told)
 
-forsaken_mute : (now : Moment) (id : SocketId) → IsMute (forsaken now id)
+forsaken_mute : (now : Moment) (id : SocketId) → IsMute (role_after_listener_close now id)
 forsaken_mute now id role error told =
-    let of_test : Bool → Option Error = λ b. told_in (if b then aborted now role else role) in
+    let of_test : Bool → Option Error = λ b. pending_error_in (if b then role_after_abort now role else role) in
     by_test (waits_at id role) (λ waits. aborted_mute now role error (ap of_test (sym waits) ∙ told)) (λ other. ap of_test (sym other) ∙ told)
 
-forsaken_step : (h : HostView) (id : SocketId) (x : Entry) → is_kept (forsaken_fate id x.role) ≡ true → IsStep h (Closes id) x (Some (with_role (forsaken h.kept id) x))
+forsaken_step : (h : HostView) (id : SocketId) (x : Entry) → is_kept (listener_close_fate_of id x.role) ≡ true → IsStep h (Closes id) x (Some (with_role (role_after_listener_close h.kept id) x))
 forsaken_step h id x kept = (
   refl,
   forsaken_edge h.kept id x.role kept,
   λ closes. by_test (waits_at id x.role)
       (λ waits. or_right (is_socket id x && is_close_cause h.kept x.role) _ waits)
-      (λ other. let same : forsaken h.kept id x.role ≡ x.role = rw other in
-      let none : becomes_closed x.role (forsaken h.kept id x.role) ≡ false = ap (λ (r : Role). becomes_closed x.role r) same ∙ never (is_closed (shown_state x.role)) in cc),
+      (λ other. let same : role_after_listener_close h.kept id x.role ≡ x.role = rw other in
+      let none : becomes_closed x.role (role_after_listener_close h.kept id x.role) ≡ false = ap (λ (r : Role). becomes_closed x.role r) same ∙ never (is_closed (shown_state x.role)) in cc),
   λ error told. inl (forsaken_mute h.kept id x.role error told),
 )
 
-forsaken_gone : (h : HostView) (id : SocketId) (x : Entry) → is_kept (forsaken_fate id x.role) ≡ false → IsStep h (Closes id) x None
+forsaken_gone : (h : HostView) (id : SocketId) (x : Entry) → is_kept (listener_close_fate_of id x.role) ≡ false → IsStep h (Closes id) x None
 forsaken_gone h id x gone =
     by_test (waits_at id x.role)
     (λ waits. or_right (is_socket id x && is_close_cause h.kept x.role) _ waits)
-    (λ other. let kept : is_kept (forsaken_fate id x.role) ≡ true = rw other in cc)
+    (λ other. let kept : is_kept (listener_close_fate_of id x.role) ≡ true = rw other in cc)
 
 -- what waits at no listener is left alone
-socket_left : (h : HostView) (id : SocketId) (x y : Entry) → y.id ≡ x.id → is_socket id x ≡ true → edge.IsEdge (shown_state x.role) (shown_state y.role) → waits_at id y.role ≡ false → ((error : Error) → told_in y.role ≡ Some error → told_in x.role ≡ Some error) → (becomes_closed x.role y.role ≡ true → is_close_cause h.kept x.role ≡ true) → IsStep h (Closes id) x (Some (with_role (forsaken h.kept id) y))
+socket_left : (h : HostView) (id : SocketId) (x y : Entry) → y.id ≡ x.id → is_socket id x ≡ true → edge.IsEdge (shown_state x.role) (shown_state y.role) → waits_at id y.role ≡ false → ((error : Error) → pending_error_in y.role ≡ Some error → pending_error_in x.role ≡ Some error) → (becomes_closed x.role y.role ≡ true → is_close_cause h.kept x.role ≡ true) → IsStep h (Closes id) x (Some (with_role (role_after_listener_close h.kept id) y))
 socket_left h id x y ids socket along other mute caused =
-    let same : forsaken h.kept id y.role ≡ y.role = rw other in
+    let same : role_after_listener_close h.kept id y.role ≡ y.role = rw other in
     let P : Role → Type 0 = λ r. edge.IsEdge (shown_state x.role) (shown_state r) in
-    (ids, subst P (sym same) along, λ closes. or_left _ _ (both _ _ socket (caused (ap (λ (r : Role). becomes_closed x.role r) (sym same) ∙ closes))), λ error told. inl (mute error (ap (λ (r : Role). told_in r) (sym same) ∙ told)))
+    (ids, subst P (sym same) along, λ closes. or_left _ _ (both _ _ socket (caused (ap (λ (r : Role). becomes_closed x.role r) (sym same) ∙ closes))), λ error told. inl (mute error (ap (λ (r : Role). pending_error_in r) (sym same) ∙ told)))
 
 close_followed : (h : HostView) (id : SocketId) → Follows (IsStep h (Closes id)) (IsAdded h (Closes id)) h.entries (let after = after_close h id in after.entries)
 close_followed h id =
     let middle : List Entry = let after = after_socket_closed h id in after.entries in
     steps_joined (IsClosing h id) (IsForsaking h.kept id) (IsStep h (Closes id)) (λ x cause. or_left _ _ cause) joins h.entries middle _
     (socket_closing h id)
-    (each_followed (IsForsaking h.kept id) IsNothing refl (λ x. is_kept (forsaken_fate id x.role)) (with_role (forsaken h.kept id)) middle (λ x kept. (refl, kept)) (λ x gone. gone))
+    (each_followed (IsForsaking h.kept id) IsNothing refl (λ x. is_kept (listener_close_fate_of id x.role)) (with_role (role_after_listener_close h.kept id)) middle (λ x kept. (refl, kept)) (λ x gone. gone))
   where
     forsakes : (x : Entry) (o : Option Entry) → IsForsaking h.kept id x o → IsStep h (Closes id) x o
     forsakes x None gone = forsaken_gone h id x gone
@@ -353,83 +353,83 @@ close_followed h id =
 
     joins : (x y : Entry) (o : Option Entry) → IsClosing h id x (Some y) → IsForsaking h.kept id y o → IsStep h (Closes id) x o
     joins x y o (inl same) step = let P : Entry → Type 0 = λ z. IsForsaking h.kept id z o in forsakes x o (subst P same step)
-    joins x y None (inr socket) step = let kept : is_kept (forsaken_fate id y.role) ≡ true = rw socket.3 in cc
+    joins x y None (inr socket) step = let kept : is_kept (listener_close_fate_of id y.role) ≡ true = rw socket.3 in cc
     joins x y (Some z) (inr socket) step =
         let P : Entry → Type 0 = λ w. IsStep h (Closes id) x (Some w) in
         subst P (sym step.0) (socket_left h id x y socket.0 socket.1 socket.2 socket.3 socket.4 socket.5)
 
 -- The clock.
 
-tick_step : (h : HostView) (now : Moment) (x : Entry) → is_kept (tick_fate_of (later h now) x.role) ≡ true → IsStep h (Ticks now) x (Some (with_role (ticked (later h now)) x))
+tick_step : (h : HostView) (now : Moment) (x : Entry) → is_kept (tick_fate_of (later_moment h now) x.role) ≡ true → IsStep h (Ticks now) x (Some (with_role (role_after_tick (later_moment h now)) x))
 tick_step h now x kept = (refl, along x.role kept, by_role x.role, λ error told. inl (mute x.role error told))
   where
-    mute : IsMute (ticked (later h now))
+    mute : IsMute (role_after_tick (later_moment h now))
     mute (Idle buffers bound) error told = told
     mute (Listener l b) error told = told
-    mute (Connected c l) error told = told_before (errors_caused c (edge.Ticks (later h now)) error told)
+    mute (Connected c l) error told = told_before (errors_caused c (edge.Ticks (later_moment h now)) error told)
 
-    along : (role : Role) → is_kept (tick_fate_of (later h now) role) ≡ true → edge.IsEdge (shown_state role) (shown_state (ticked (later h now) role))
+    along : (role : Role) → is_kept (tick_fate_of (later_moment h now) role) ≡ true → edge.IsEdge (shown_state role) (shown_state (role_after_tick (later_moment h now) role))
     along (Idle buffers bound) stays = inl refl
     along (Listener l b) stays = inl refl
-    along (Connected c l) stays = kept_edge c (edge.Ticks (later h now)) stays
+    along (Connected c l) stays = kept_edge c (edge.Ticks (later_moment h now)) stays
 
-    by_role : (role : Role) → becomes_closed role (ticked (later h now) role) ≡ true → is_connection_cause (edge.Ticks (later h now)) role ≡ true
+    by_role : (role : Role) → becomes_closed role (role_after_tick (later_moment h now) role) ≡ true → is_connection_cause (edge.Ticks (later_moment h now)) role ≡ true
     by_role (Idle buffers bound) closes = cc
     by_role (Listener l b) closes = cc
-    by_role (Connected c l) closes = closes_caused c (edge.Ticks (later h now)) closes
+    by_role (Connected c l) closes = closes_caused c (edge.Ticks (later_moment h now)) closes
 
-tick_gone : (h : HostView) (now : Moment) (x : Entry) → is_kept (tick_fate_of (later h now) x.role) ≡ false → IsStep h (Ticks now) x None
+tick_gone : (h : HostView) (now : Moment) (x : Entry) → is_kept (tick_fate_of (later_moment h now) x.role) ≡ false → IsStep h (Ticks now) x None
 tick_gone h now x = by_role x.role
   where
-    by_role : (role : Role) → is_kept (tick_fate_of (later h now) role) ≡ false → is_connection_cause (edge.Ticks (later h now)) role ≡ true
+    by_role : (role : Role) → is_kept (tick_fate_of (later_moment h now) role) ≡ false → is_connection_cause (edge.Ticks (later_moment h now)) role ≡ true
     by_role (Idle buffers bound) gone = cc
     by_role (Listener l b) gone = cc
     by_role (Connected c l) gone = grind (arith, common_steps)
 
 -- A segment.
 
-pub answered_same : (h : HostView) (o : Option Head) → (let after = after_arrival h (answered h o) in after.entries) ≡ h.entries
+pub answered_same : (h : HostView) (o : Option Head) → (let after = after_arrival h (arrival_with_reply h o) in after.entries) ≡ h.entries
 answered_same h None = refl
 answered_same h (Some reply) = by_test (length h.replies == 16) (λ full. rw full) (λ room. rw room)
 
-heard_step : (h : HostView) (now : Moment) (isn : ℕ) (s : Segment) (x : Entry) → is_between (local_end h s) (peer_end h s) x ≡ true → is_kept (fate_of s x.role) ≡ true → IsStep h (Hears now isn s) x (Some (with_role (arrived (later h now) s) x))
+heard_step : (h : HostView) (now : Moment) (isn : ℕ) (s : Segment) (x : Entry) → is_between (local_end h s) (peer_end h s) x ≡ true → is_kept (fate_of s x.role) ≡ true → IsStep h (Hears now isn s) x (Some (with_role (role_after_segment (later_moment h now) s) x))
 heard_step h now isn s x passes kept = (refl, along x.role kept, λ closes. both _ _ passes (by_role x.role closes), λ error told. for_it error (tells x.role error told))
   where
-    tells : (role : Role) (error : Error) → told_in (arrived (later h now) s role) ≡ Some error → (told_in role ≡ Some error) ⊎ (is_telling (edge.Hears s (later h now)) error role ≡ true)
+    tells : (role : Role) (error : Error) → pending_error_in (role_after_segment (later_moment h now) s role) ≡ Some error → (pending_error_in role ≡ Some error) ⊎ (is_telling (edge.Hears s (later_moment h now)) error role ≡ true)
     tells (Idle buffers bound) error told = inl told
     tells (Listener l b) error told = inl told
-    tells (Connected c l) error told = errors_caused c (edge.Hears s (later h now)) error told
+    tells (Connected c l) error told = errors_caused c (edge.Hears s (later_moment h now)) error told
 
-    for_it : (error : Error) → (told_in x.role ≡ Some error) ⊎ (is_telling (edge.Hears s (later h now)) error x.role ≡ true) → (told_in x.role ≡ Some error) ⊎ (is_telling_to h (Hears now isn s) error x ≡ true)
+    for_it : (error : Error) → (pending_error_in x.role ≡ Some error) ⊎ (is_telling (edge.Hears s (later_moment h now)) error x.role ≡ true) → (pending_error_in x.role ≡ Some error) ⊎ (is_telling_to h (Hears now isn s) error x ≡ true)
     for_it error (inl told) = inl told
     for_it error (inr tells_now) = inr (both _ _ passes tells_now)
 
-    along : (role : Role) → is_kept (fate_of s role) ≡ true → edge.IsEdge (shown_state role) (shown_state (arrived (later h now) s role))
+    along : (role : Role) → is_kept (fate_of s role) ≡ true → edge.IsEdge (shown_state role) (shown_state (role_after_segment (later_moment h now) s role))
     along (Idle buffers bound) stays = inl refl
     along (Listener l b) stays = inl refl
-    along (Connected c l) stays = kept_edge c (edge.Hears s (later h now)) stays
+    along (Connected c l) stays = kept_edge c (edge.Hears s (later_moment h now)) stays
 
-    by_role : (role : Role) → becomes_closed role (arrived (later h now) s role) ≡ true → is_connection_cause (edge.Hears s (later h now)) role ≡ true
+    by_role : (role : Role) → becomes_closed role (role_after_segment (later_moment h now) s role) ≡ true → is_connection_cause (edge.Hears s (later_moment h now)) role ≡ true
     by_role (Idle buffers bound) closes = cc
     by_role (Listener l b) closes = cc
-    by_role (Connected c l) closes = closes_caused c (edge.Hears s (later h now)) closes
+    by_role (Connected c l) closes = closes_caused c (edge.Hears s (later_moment h now)) closes
 
 heard_gone : (h : HostView) (now : Moment) (isn : ℕ) (s : Segment) (x : Entry) → is_between (local_end h s) (peer_end h s) x ≡ true → fate_of s x.role ≡ Removed → IsStep h (Hears now isn s) x None
 heard_gone h now isn s x passes removed = both _ _ passes (by_role x.role passes removed)
   where
-    by_role : (role : Role) → is_live_between (local_end h s) (peer_end h s) role ≡ true → fate_of s role ≡ Removed → is_connection_cause (edge.Hears s (later h now)) role ≡ true
+    by_role : (role : Role) → is_live_between (local_end h s) (peer_end h s) role ≡ true → fate_of s role ≡ Removed → is_connection_cause (edge.Hears s (later_moment h now)) role ≡ true
     by_role (Idle buffers bound) live gone = cc
     by_role (Listener l b) live gone = cc
-    by_role (Connected c l) live gone = removed_caused c (edge.Hears s (later h now)) (not_over c (not_true _ (and_left _ _ live))) gone
+    by_role (Connected c l) live gone = removed_caused c (edge.Hears s (later_moment h now)) (not_over c (not_true _ (and_left _ _ live))) gone
 
 settled_by_segment : (h : HostView) (now : Moment) (isn : ℕ) (s : Segment) (e : Entry) (r : Fate) → find (is_between (local_end h s) (peer_end h s)) h.entries ≡ Some e → fate_of s e.role ≡ r
-    → Follows (IsStep h (Hears now isn s)) (IsAdded h (Hears now isn s)) h.entries (settled r (is_between (local_end h s) (peer_end h s)) (arrived (later h now) s) h.entries)
+    → Follows (IsStep h (Hears now isn s)) (IsAdded h (Hears now isn s)) h.entries (entries_after_step r (is_between (local_end h s) (peer_end h s)) (role_after_segment (later_moment h now) s) h.entries)
 settled_by_segment h now isn s e r found is =
-    settled_followed (IsStep h (Hears now isn s)) (IsAdded h (Hears now isn s)) (inl refl) r (is_between (local_end h s) (peer_end h s)) (arrived (later h now) s) h.entries (same_step h (Hears now isn s))
+    settled_followed (IsStep h (Hears now isn s)) (IsAdded h (Hears now isn s)) (inl refl) r (is_between (local_end h s) (peer_end h s)) (role_after_segment (later_moment h now) s) h.entries (same_step h (Hears now isn s))
     (λ kept x passes at. heard_step h now isn s x passes (ap (λ (y : Entry). is_kept (fate_of s y.role)) (some_same _ x e at found) ∙ ap is_kept is ∙ kept))
     (λ gone x passes at. heard_gone h now isn s x passes (ap (λ (y : Entry). fate_of s y.role) (some_same _ x e at found) ∙ is ∙ gone_removed r gone))
 
-answer_followed : (h : HostView) (e : Event) → IsAdded h e [] → (o : Option Head) → Follows (IsStep h e) (IsAdded h e) h.entries (let after = after_arrival h (answered h o) in after.entries)
+answer_followed : (h : HostView) (e : Event) → IsAdded h e [] → (o : Option Head) → Follows (IsStep h e) (IsAdded h e) h.entries (let after = after_arrival h (arrival_with_reply h o) in after.entries)
 answer_followed h e none o = let P : List Entry → Type 0 = λ ys. Follows (IsStep h e) (IsAdded h e) h.entries ys in subst P (sym (answered_same h o)) (as_it_was (IsStep h e) (IsAdded h e) none (same_step h e) h.entries)
 
 -- what a segment opens
@@ -488,32 +488,32 @@ due_not_over c sound due =
 next_out : (h : HostView) (x : Entry) → h.replies ≡ [] → find is_due h.entries ≡ Some x → is_next_out h x ≡ true
 next_out h x none found = rw (none, found) (eqb-same x.id.0)
 
-sent_step : (h : HostView) (now : Moment) (x : Entry) → is_next_out h x ≡ true → IsStep h (Emits now) x (Some (with_role (emitted_at (later h now)) x))
+sent_step : (h : HostView) (now : Moment) (x : Entry) → is_next_out h x ≡ true → IsStep h (Emits now) x (Some (with_role (role_after_emission (later_moment h now)) x))
 sent_step h now x next = (refl, along x.role, λ closes. both _ _ next (by_role x.role closes), λ error told. inl (mute x.role error told))
   where
-    mute : IsMute (emitted_at (later h now))
+    mute : IsMute (role_after_emission (later_moment h now))
     mute (Idle buffers bound) error told = told
     mute (Listener l b) error told = told
-    mute (Connected c l) error told = told_before (errors_caused c (edge.Emits (later h now)) error told)
+    mute (Connected c l) error told = told_before (errors_caused c (edge.Emits (later_moment h now)) error told)
 
-    along : (role : Role) → edge.IsEdge (shown_state role) (shown_state (emitted_at (later h now) role))
+    along : (role : Role) → edge.IsEdge (shown_state role) (shown_state (role_after_emission (later_moment h now) role))
     along (Idle buffers bound) = inl refl
     along (Listener l b) = inl refl
-    along (Connected c l) = inl (sym (emitted-state c (first_due c) (later h now)))
+    along (Connected c l) = inl (sym (emitted-state c (first_due c) (later_moment h now)))
 
-    by_role : (role : Role) → becomes_closed role (emitted_at (later h now) role) ≡ true → is_connection_cause (edge.Emits (later h now)) role ≡ true
+    by_role : (role : Role) → becomes_closed role (role_after_emission (later_moment h now) role) ≡ true → is_connection_cause (edge.Emits (later_moment h now)) role ≡ true
     by_role (Idle buffers bound) closes = cc
     by_role (Listener l b) closes = cc
-    by_role (Connected c l) closes = closes_caused c (edge.Emits (later h now)) closes
+    by_role (Connected c l) closes = closes_caused c (edge.Emits (later_moment h now)) closes
 
-sent_gone : (h : HostView) (now : Moment) (x : Entry) → is_next_out h x ≡ true → IsSoundRole x.role → is_due x ≡ true → is_kept (emitted_fate (emitted_at (later h now) x.role)) ≡ false → IsStep h (Emits now) x None
+sent_gone : (h : HostView) (now : Moment) (x : Entry) → is_next_out h x ≡ true → IsSoundRole x.role → is_due x ≡ true → is_kept (emission_fate_of (role_after_emission (later_moment h now) x.role)) ≡ false → IsStep h (Emits now) x None
 sent_gone h now x next sound due gone = both _ _ next (by_role x.role sound due gone)
   where
-    by_role : (role : Role) → IsSoundRole role → has_due role ≡ true → is_kept (emitted_fate (emitted_at (later h now) role)) ≡ false → is_connection_cause (edge.Emits (later h now)) role ≡ true
+    by_role : (role : Role) → IsSoundRole role → has_due role ≡ true → is_kept (emission_fate_of (role_after_emission (later_moment h now) role)) ≡ false → is_connection_cause (edge.Emits (later_moment h now)) role ≡ true
     by_role (Idle buffers bound) sound due gone = cc
     by_role (Listener l b) sound due gone = cc
     by_role (Connected c l) sound due gone =
-        removed_caused c (edge.Emits (later h now)) (due_not_over c sound.sound due) (gone_removed _ gone)
+        removed_caused c (edge.Emits (later_moment h now)) (due_not_over c sound.sound due) (gone_removed _ gone)
 
 -- where nothing is due, and where a reply goes out, the table stays
 idle_emission : (h : HostView) (now : Moment) → h.replies ≡ [] → find is_due h.entries ≡ None → (let after = after_emission h now in after.entries) ≡ h.entries
@@ -529,9 +529,9 @@ emission_followed h now sound = by_replies h.replies refl
     by_entry none None found = let P : List Entry → Type 0 = λ ys. Follows (IsStep h (Emits now)) (IsAdded h (Emits now)) h.entries ys in subst P (sym (idle_emission h now none found)) (as_it_was (IsStep h (Emits now)) (IsAdded h (Emits now)) refl (same_step h (Emits now)) h.entries)
     by_entry none (Some e) found =
         let P : HostView → Type 0 = λ w. Follows (IsStep h (Emits now)) (IsAdded h (Emits now)) h.entries w.entries in
-        subst P (sym (emission-of_entry h now e none found)) (settled_followed (IsStep h (Emits now)) (IsAdded h (Emits now)) refl (emitted_fate (emitted_at (later h now) e.role)) is_due (emitted_at (later h now)) h.entries (same_step h (Emits now))
+        subst P (sym (emission-of_entry h now e none found)) (settled_followed (IsStep h (Emits now)) (IsAdded h (Emits now)) refl (emission_fate_of (role_after_emission (later_moment h now) e.role)) is_due (role_after_emission (later_moment h now)) h.entries (same_step h (Emits now))
         (λ kept x passes at. sent_step h now x (next_out h x none at))
-        (λ gone x passes at. sent_gone h now x (next_out h x none at) (all_found (λ (y : Entry). IsSoundRole y.role) is_due h.entries x sound.entries at) passes (ap (λ (y : Entry). is_kept (emitted_fate (emitted_at (later h now) y.role))) (some_same _ x e at found) ∙ gone)))
+        (λ gone x passes at. sent_gone h now x (next_out h x none at) (all_found (λ (y : Entry). IsSoundRole y.role) is_due h.entries x sound.entries at) passes (ap (λ (y : Entry). is_kept (emission_fate_of (role_after_emission (later_moment h now) y.role))) (some_same _ x e at found) ∙ gone)))
 
     by_replies : (replies : List Head) → h.replies ≡ replies → Follows (IsStep h (Emits now)) (IsAdded h (Emits now)) h.entries (let after = after_emission h now in after.entries)
     by_replies [] is = by_entry is (find is_due h.entries) refl
@@ -539,14 +539,14 @@ emission_followed h now sound = by_replies h.replies refl
 
 pub ends_followed : (h : HostView) (e : Event) → IsSoundHost h → Follows (IsStep h e) (IsAdded h e) h.entries (let after = after_event h e in after.entries)
 ends_followed h (Makes buffers) sound = joined_by (IsStep h (Makes buffers)) (IsAdded h (Makes buffers)) (same_step h (Makes buffers)) h.entries _ refl
-ends_followed h (Binds id local) sound = quiet_change h (Binds id local) refl (is_socket id) (bound_to local) (quiet_bound local) (bound_edge local) (bound_mute local) h.entries
-ends_followed h (Listens id backlog) sound = quiet_change h (Listens id backlog) refl (is_socket id) (listening backlog) (quiet_listening backlog) (listening_edge backlog) (listening_mute backlog) h.entries
-ends_followed h (Accepts id) sound = quiet_change h (Accepts id) refl (is_offered_at id) accepted quiet_accepted accepted_edge accepted_mute h.entries
+ends_followed h (Binds id local) sound = quiet_change h (Binds id local) refl (is_socket id) (role_after_bind local) (quiet_bound local) (bound_edge local) (bound_mute local) h.entries
+ends_followed h (Listens id backlog) sound = quiet_change h (Listens id backlog) refl (is_socket id) (role_after_listen backlog) (quiet_listening backlog) (listening_edge backlog) (listening_mute backlog) h.entries
+ends_followed h (Accepts id) sound = quiet_change h (Accepts id) refl (is_offered_at id) role_after_accept quiet_accepted accepted_edge accepted_mute h.entries
 ends_followed h (Connects isn id peer) sound = connect_followed h isn id peer
-ends_followed h (Sends id octets) sound = quiet_change h (Sends id octets) refl (is_socket id) (sent octets) (quiet_sent octets) (sent_edge octets) (sent_mute octets) h.entries
-ends_followed h (Receives id len) sound = quiet_change h (Receives id len) refl (is_socket id) (received len) (quiet_received len) (received_edge len) (received_mute len) h.entries
-ends_followed h (Shuts id) sound = quiet_change h (Shuts id) refl (is_socket id) write_shut quiet_shut shut_role_edge shut_mute h.entries
+ends_followed h (Sends id octets) sound = quiet_change h (Sends id octets) refl (is_socket id) (role_after_send octets) (quiet_sent octets) (sent_edge octets) (sent_mute octets) h.entries
+ends_followed h (Receives id len) sound = quiet_change h (Receives id len) refl (is_socket id) (role_after_recv len) (quiet_received len) (received_edge len) (received_mute len) h.entries
+ends_followed h (Shuts id) sound = quiet_change h (Shuts id) refl (is_socket id) role_after_shutdown quiet_shut shut_role_edge shut_mute h.entries
 ends_followed h (Closes id) sound = close_followed h id
-ends_followed h (Ticks now) sound = each_followed (IsStep h (Ticks now)) (IsAdded h (Ticks now)) refl (λ x. is_kept (tick_fate_of (later h now) x.role)) (with_role (ticked (later h now))) h.entries (tick_step h now) (tick_gone h now)
+ends_followed h (Ticks now) sound = each_followed (IsStep h (Ticks now)) (IsAdded h (Ticks now)) refl (λ x. is_kept (tick_fate_of (later_moment h now) x.role)) (with_role (role_after_tick (later_moment h now))) h.entries (tick_step h now) (tick_gone h now)
 ends_followed h (Hears now isn s) sound = segment_followed h now isn s
 ends_followed h (Emits now) sound = emission_followed h now sound

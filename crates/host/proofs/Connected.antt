@@ -12,9 +12,9 @@ use Rattle.host.specs.declared.role.Role.{Role}
 use Rattle.host.specs.declared.role.Role.TheVariants.{Idle, Listener, Connected}
 use Rattle.host.specs.declared.refusal.Refusal.{Refusal}
 use Rattle.host.specs.declared.refusal.Refusal.TheVariants.{EALREADY, EISCONN}
-use Rattle.host.specs.Entries.{is_socket, connecting}
+use Rattle.host.specs.Entries.{is_socket, role_after_connect}
 use Rattle.host.specs.HostView.{HostView, role_of, with_socket}
-use Rattle.host.specs.Calls.{had_connection, open_answer, reach_refusal, port_for, bound_of, counted_port, after_connect}
+use Rattle.host.specs.Calls.{had_connection, open_answer, reach_refusal, port_for, bound_of, last_port_after, after_connect}
 
 either_refused : (b : Bool) (x y : Refusal) (bound : Option Endpoint) → ◌≡◌ {A = Result (Option Endpoint) Refusal} (if b then Err x else Err y) (Ok bound) → ⊥
 either_refused true x y bound e = cc
@@ -31,13 +31,13 @@ bound_same (Listener l b) bound opens = cc
 bound_same (Connected c l) bound opens = absurd (had_opens_none c.state c.pending_error bound opens)
 
 pub after_connect-given : (h : HostView) (isn : ℕ) (id : SocketId) (peer : Endpoint) (role : Role) (bound : Option Endpoint) (port : ℕ) → role_of h id ≡ Some role → open_answer role ≡ Ok bound → reach_refusal h peer ≡ None → port_for h bound peer ≡ Some port
-    → after_connect h isn id peer ≡ with_socket (record h { last_port = counted_port h bound port }) id (connecting (record { addr = h.addr; port = port }) peer isn)
+    → after_connect h isn id peer ≡ with_socket (record h { last_port = last_port_after h bound port }) id (role_after_connect (record { addr = h.addr; port = port }) peer isn)
 after_connect-given h isn id peer role bound port is opens reached given =
     let bound_there : option_and_then bound_of (role_of h id) ≡ bound = ap (λ (o : Option Role). option_and_then bound_of o) is ∙ bound_same role bound opens in
-    rw (is, opens, reached, given) (ap (λ (b : Option Endpoint). with_socket (record h { last_port = counted_port h b port }) id (connecting (record { addr = h.addr; port = port }) peer isn)) bound_there)
+    rw (is, opens, reached, given) (ap (λ (b : Option Endpoint). with_socket (record h { last_port = last_port_after h b port }) id (role_after_connect (record { addr = h.addr; port = port }) peer isn)) bound_there)
 
 pub after_connect-accepted : (h : HostView) (isn : ℕ) (id : SocketId) (peer : Endpoint) (x : Entry) (bound : Option Endpoint) (port : ℕ) → find (is_socket id) h.entries ≡ Some x → open_answer x.role ≡ Ok bound → reach_refusal h peer ≡ None → port_for h bound peer ≡ Some port
-    → after_connect h isn id peer ≡ with_socket (record h { last_port = counted_port h bound port }) id (connecting (record { addr = h.addr; port = port }) peer isn)
+    → after_connect h isn id peer ≡ with_socket (record h { last_port = last_port_after h bound port }) id (role_after_connect (record { addr = h.addr; port = port }) peer isn)
 after_connect-accepted h isn id peer x bound port found = after_connect-given h isn id peer x.role bound port (ap (λ (o : Option Entry). option_map (λ (e : Entry). e.role) o) found)
 
 -- a value that was there

@@ -10,8 +10,8 @@ use Rattle.tcp_state.specs.View.{View, is_at_end, ends_at, resend_at, resend_aft
 use Rattle.host.specs.declared.entry.Entry.{Entry}
 use Rattle.host.specs.declared.role.Role.{Role}
 use Rattle.host.specs.declared.role.Role.TheVariants.{Idle, Listener, Connected}
-use Rattle.host.specs.Entries.{deadline_of, ticked, tick_fate_of, is_kept, with_role, all_settled}
-use Rattle.host.specs.HostView.{HostView, later}
+use Rattle.host.specs.Entries.{deadline_of, role_after_tick, tick_fate_of, is_kept, with_role, entries_after_steps}
+use Rattle.host.specs.HostView.{HostView, later_moment}
 use Rattle.host.specs.Ticks.{least_deadline, IsLeastDeadline, HasNoDeadline}
 use Rattle.host.specs.Ticks as host
 use Rattle.host.proofs.Followed.{by_test}
@@ -132,22 +132,22 @@ tick_waits_at v now e =
     let same : after_resend v now ≡ v = ap (λ (r : Resend). let w : View = record v { resend = r } in w) (resend_waits v.resend now both.0) in
     ap (λ (b : Bool). if b then after_stop v else after_resend v now) both.1 ∙ same
 
-role_waits : (role : Role) (now : Moment) → has_come (deadline_of role) now ≡ false → (is_kept (tick_fate_of now role) ≡ true) × (ticked now role ≡ role)
+role_waits : (role : Role) (now : Moment) → has_come (deadline_of role) now ≡ false → (is_kept (tick_fate_of now role) ≡ true) × (role_after_tick now role ≡ role)
 role_waits (Idle buffers bound) now e = (refl, refl)
 role_waits (Listener l b) now e = (refl, refl)
 role_waits (Connected c l) now e =
     let end : is_at_end c now ≡ false = (both_unreached (resend_at c.resend) (ends_at c) now e).1 in
     (rw end, ap (λ (v : View). Connected v l) (tick_waits_at c now e))
 
-entries_wait : (first : Option Moment) (xs : List Entry) (now : Moment) → has_come (least_from first xs) now ≡ false → (has_come first now ≡ false) × (all_settled (tick_fate_of now) (ticked now) xs ≡ xs)
+entries_wait : (first : Option Moment) (xs : List Entry) (now : Moment) → has_come (least_from first xs) now ≡ false → (has_come first now ≡ false) × (entries_after_steps (tick_fate_of now) (role_after_tick now) xs ≡ xs)
 entries_wait first [] now e = (e, refl)
 entries_wait first (x ∷ xs) now e =
     let rest = entries_wait (sooner first (deadline_of x.role)) xs now e in
     let both = both_unreached first (deadline_of x.role) now rest.0 in
     let here = role_waits x.role now both.1 in
-    let same : with_role (ticked now) x ≡ x = ap (λ (r : Role). let y : Entry = record x { role = r } in y) here.1 in
+    let same : with_role (role_after_tick now) x ≡ x = ap (λ (r : Role). let y : Entry = record x { role = r } in y) here.1 in
     let test = here.0 in
-    (both.0, rw test (ap (λ (y : Entry). y ∷ all_settled (tick_fate_of now) (ticked now) xs) same ∙ ap (λ (ys : List Entry). x ∷ ys) rest.1))
+    (both.0, rw test (ap (λ (y : Entry). y ∷ entries_after_steps (tick_fate_of now) (role_after_tick now) xs) same ∙ ap (λ (ys : List Entry). x ∷ ys) rest.1))
 
-pub tick_waits : (h : HostView) (now : Moment) → has_come (least_deadline h) (later h now) ≡ false → host.after_tick h now ≡ record h { kept = later h now }
-tick_waits h now e = ap (λ (xs : List Entry). let w : HostView = record h { kept = later h now; entries = xs } in w) (entries_wait None h.entries (later h now) e).1
+pub tick_waits : (h : HostView) (now : Moment) → has_come (least_deadline h) (later_moment h now) ≡ false → host.after_tick h now ≡ record h { kept = later_moment h now }
+tick_waits h now e = ap (λ (xs : List Entry). let w : HostView = record h { kept = later_moment h now; entries = xs } in w) (entries_wait None h.entries (later_moment h now) e).1

@@ -13,16 +13,16 @@ use Rattle.host.specs.declared.entry.Entry.{Entry}
 use Rattle.host.specs.declared.refusal.Refusal.{Refusal}
 use Rattle.host.specs.HostView.{HostView}
 use Rattle.host.specs.Entries.{is_between, is_listening_at, fate_of}
-use Rattle.host.specs.Arrival.{local_end, peer_end, is_opening, has_no_place, answered, arrival, opened_by, pair_opened}
+use Rattle.host.specs.Arrival.{local_end, peer_end, is_opening, has_no_place, arrival_with_reply, arrival, opened_by, pair_opened}
 use Rattle.host.specs.Replies.{reset_at_ack, answer_to, answer_at_listener}
 use Rattle.host.specs.Calls.{port_connected, connect_refusal, pair_connected}
 
 -- an answer opens nothing, whether there is room for it or not
-answer-opens_nothing : (h : HostView) (s : Segment) (o : Option Head) → None ≡ opened_by h s (answered h o)
+answer-opens_nothing : (h : HostView) (s : Segment) (o : Option Head) → None ≡ opened_by h s (arrival_with_reply h o)
 answer-opens_nothing h s None = refl
 answer-opens_nothing h s (Some reply) = by_room (length h.replies == 16) refl
   where
-    by_room : (full : Bool) → (length h.replies == 16) ≡ full → None ≡ opened_by h s (answered h (Some reply))
+    by_room : (full : Bool) → (length h.replies == 16) ≡ full → None ≡ opened_by h s (arrival_with_reply h (Some reply))
     by_room true full = rw full
     by_room false full = rw full
 

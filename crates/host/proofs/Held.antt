@@ -19,7 +19,7 @@ use Rattle.host.specs.declared.role.Role.{Role}
 use Rattle.host.specs.declared.role.Role.TheVariants.{Idle, Listener, Connected}
 use Rattle.host.specs.Entries.{is_between, is_of_pair, is_listening_at, is_live_between, joins, fate_of, new_waiting}
 use Rattle.host.specs.HostView.{HostView, holder_id}
-use Rattle.host.specs.Arrival.{Becomes, Opens, NoPlace, local_end, peer_end, is_opening, has_no_place, answered, after_opening, arrival}
+use Rattle.host.specs.Arrival.{Becomes, Opens, NoPlace, local_end, peer_end, is_opening, has_no_place, arrival_with_reply, after_opening, arrival}
 use Rattle.host.specs.Replies.{reset_at_ack, answer_to, answer_at_listener}
 use Rattle.host.specs.Order.{LiesBetween, IsOrdered}
 use Rattle.host.proofs.Ends.{same_end-same}
@@ -81,11 +81,11 @@ record IsOpening (h : HostView) (isn : ℕ) (s : Segment) (next : HostView) : Ty
   listener : Entry
   is : next ≡ after_opening h isn listener s
 
-answers_not : (h : HostView) (reply : Option Head) (next : HostView) → answered h reply ≡ Opens next → ⊥
+answers_not : (h : HostView) (reply : Option Head) (next : HostView) → arrival_with_reply h reply ≡ Opens next → ⊥
 answers_not h None next e = cc
 answers_not h (Some reply) next e = by_test (length h.replies == 16)
-    (λ full. let none : answered h (Some reply) ≡ NoPlace = rw full in cc)
-    (λ room. let becomes : answered h (Some reply) ≡ Becomes (record h { replies = h.replies ++ reply ∷ [] }) = rw room in cc)
+    (λ full. let none : arrival_with_reply h (Some reply) ≡ NoPlace = rw full in cc)
+    (λ room. let becomes : arrival_with_reply h (Some reply) ≡ Becomes (record h { replies = h.replies ++ reply ∷ [] }) = rw room in cc)
 
 opening_of : (h : HostView) (now : Moment) (isn : ℕ) (s : Segment) (next : HostView) → arrival h now isn s ≡ Opens next → IsOpening h isn s next
 opening_of h now isn s next opened = by_entry (find (is_between (local_end h s) (peer_end h s)) h.entries) refl
@@ -99,12 +99,12 @@ opening_of h now isn s next opened = by_entry (find (is_between (local_end h s) 
     by_flags : find (is_between (local_end h s) (peer_end h s)) h.entries ≡ None → (listener : Entry) → find (is_listening_at s.destination) h.entries ≡ Some listener → (b : Bool) → is_opening s.flags ≡ b → IsOpening h isn s next
     by_flags none listener found true opens = by_place none listener found opens (has_no_place h listener) refl
     by_flags none listener found false opens =
-        let answers : arrival h now isn s ≡ answered h (answer_at_listener s) = rw (none, found, opens) in
+        let answers : arrival h now isn s ≡ arrival_with_reply h (answer_at_listener s) = rw (none, found, opens) in
         absurd (answers_not h (answer_at_listener s) next (sym answers ∙ opened))
 
     by_listener : find (is_between (local_end h s) (peer_end h s)) h.entries ≡ None → (o : Option Entry) → find (is_listening_at s.destination) h.entries ≡ o → IsOpening h isn s next
     by_listener none None found =
-        let answers : arrival h now isn s ≡ answered h (answer_to s) = rw (none, found) in
+        let answers : arrival h now isn s ≡ arrival_with_reply h (answer_to s) = rw (none, found) in
         absurd (answers_not h (answer_to s) next (sym answers ∙ opened))
     by_listener none (Some listener) found = by_flags none listener found (is_opening s.flags) refl
 
@@ -112,7 +112,7 @@ opening_of h now isn s next opened = by_entry (find (is_between (local_end h s) 
     by_fate e found Stays is = let becomes = (rw (found, is) at opened) in cc
     by_fate e found Removed is = let becomes = (rw (found, is) at opened) in cc
     by_fate e found Rejected is =
-        let answers : arrival h now isn s ≡ answered h (Some (reset_at_ack s)) = rw (found, is) in
+        let answers : arrival h now isn s ≡ arrival_with_reply h (Some (reset_at_ack s)) = rw (found, is) in
         absurd (answers_not h (Some (reset_at_ack s)) next (sym answers ∙ opened))
 
     by_entry : (o : Option Entry) → find (is_between (local_end h s) (peer_end h s)) h.entries ≡ o → IsOpening h isn s next

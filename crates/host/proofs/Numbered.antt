@@ -15,7 +15,7 @@ use Rattle.host.specs.Entries.{is_between, is_listening_at, fate_of}
 use Rattle.host.specs.HostView.{HostView, role_of}
 use Rattle.host.specs.Emission.{after_emission}
 use Rattle.host.specs.Calls.{port_connected, after_connect, after_socket_closed}
-use Rattle.host.specs.Arrival.{local_end, peer_end, is_opening as opens, has_no_place, answered, arrival, arrival_alone}
+use Rattle.host.specs.Arrival.{local_end, peer_end, is_opening as opens, has_no_place, arrival_with_reply, arrival, arrival_alone}
 use Rattle.host.specs.Replies.{reset_at_ack, answer_to, answer_at_listener}
 use Rattle.host.specs.Causes.{Event, Makes, Binds, Listens, Accepts, Connects, Sends, Receives, Shuts, Closes, Ticks, Hears, Emits, after_arrival, after_event}
 use Rattle.host.proofs.Followed.{by_test}
@@ -40,7 +40,7 @@ close_numbered h id = by_role (role_of h id) refl
     by_role None is = rw is (as_before h)
     by_role (Some role) is = rw is (as_before h)
 
-answer_numbered : (h : HostView) (o : Option Head) → NotBefore h (after_arrival h (answered h o))
+answer_numbered : (h : HostView) (o : Option Head) → NotBefore h (after_arrival h (arrival_with_reply h o))
 answer_numbered h None = as_before h
 answer_numbered h (Some reply) = by_test (length h.replies == 16) (λ full. rw full (as_before h)) (λ room. rw room (as_before h))
 

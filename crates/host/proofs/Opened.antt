@@ -10,7 +10,7 @@ use Rattle.host.specs.declared.entry.Entry.{Entry}
 use Rattle.host.specs.declared.role.Role.{Role}
 use Rattle.host.specs.declared.role.Role.TheVariants.{Idle, Listener, Connected}
 use Rattle.host.specs.declared.refusal.Refusal.{Refusal}
-use Rattle.host.specs.Entries.{is_socket, has_socket, connecting, with_role}
+use Rattle.host.specs.Entries.{is_socket, has_socket, role_after_connect, with_role}
 use Rattle.host.specs.HostView.{HostView}
 use Rattle.host.specs.Lists.{change_first}
 use Rattle.host.specs.Pairs.{pair_in, socket_pair}
@@ -39,7 +39,7 @@ found_passes test (y ∷ ys) x found =
 
 -- a role that may open a connection opens it
 opens_pair : (role : Role) (bound : Option Endpoint) (local peer : Endpoint) (isn : ℕ) → open_answer role ≡ Ok bound
-    → (has_socket (connecting local peer isn role) ≡ true) × (pair_in (connecting local peer isn role) ≡ Some (pair_of local peer))
+    → (has_socket (role_after_connect local peer isn role) ≡ true) × (pair_in (role_after_connect local peer isn role) ≡ Some (pair_of local peer))
 opens_pair (Idle buffers b) bound local peer isn e = (refl, refl)
 opens_pair (Listener l b) bound local peer isn e = cc
 opens_pair (Connected c l) bound local peer isn e = absurd (had_opens_none c.state c.pending_error bound e)
@@ -53,8 +53,8 @@ connect_opens h isn id peer pair = by_entry (find (is_socket id) h.entries) refl
         let local : Endpoint = record { addr = h.addr; port = port } in
         let parts = opens_pair x.role bound local peer isn opens in
         let named = and_parts (x.id.0 == id.0) (has_socket x.role) (found_passes (is_socket id) h.entries x found) in
-        let still : is_socket id (with_role (connecting local peer isn) x) ≡ true = and_from (x.id.0 == id.0) (has_socket (connecting local peer isn x.role)) named.0 parts.0 in
-        let after : find (is_socket id) (change_first (is_socket id) (with_role (connecting local peer isn)) h.entries) ≡ Some (with_role (connecting local peer isn) x) = found_changed (is_socket id) (with_role (connecting local peer isn)) h.entries x found still in
+        let still : is_socket id (with_role (role_after_connect local peer isn) x) ≡ true = and_from (x.id.0 == id.0) (has_socket (role_after_connect local peer isn x.role)) named.0 parts.0 in
+        let after : find (is_socket id) (change_first (is_socket id) (with_role (role_after_connect local peer isn)) h.entries) ≡ Some (with_role (role_after_connect local peer isn) x) = found_changed (is_socket id) (with_role (role_after_connect local peer isn)) h.entries x found still in
         let told : pair_connected h id peer ≡ Some (pair_of local peer) = rw (found, opens, reached, given) in
         ap (λ (w : HostView). socket_pair w id) (after_connect-accepted h isn id peer x bound port found opens reached given)
         ∙ ap (λ (o : Option Entry). option_and_then pair_in (option_map (λ (e : Entry). e.role) o)) after

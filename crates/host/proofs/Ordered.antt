@@ -21,11 +21,11 @@ use Rattle.host.specs.declared.entry.Entry.{Entry}
 use Rattle.ipv4.specs.Addresses.{same_addr, same_end}
 use Rattle.host.specs.declared.role.Role.{Role}
 use Rattle.host.specs.declared.role.Role.TheVariants.{Idle, Listener, Connected}
-use Rattle.host.specs.Entries.{is_socket, waits_at, is_between, is_live_between, is_listening_at, is_due, is_offered_at, is_kept, has_port, uses_port, settled, fate_of, arrived, ticked, tick_fate_of, emitted_at, emitted_fate, aborted, forsaken, forsaken_fate, closed, close_fate_of, bound_to, listening, connecting, accepted, sent, received, write_shut, new_socket, new_waiting, with_role}
-use Rattle.host.specs.HostView.{HostView, fresh, later, role_of}
+use Rattle.host.specs.Entries.{is_socket, waits_at, is_between, is_live_between, is_listening_at, is_due, is_offered_at, is_kept, has_port, uses_port, entries_after_step, fate_of, role_after_segment, role_after_tick, tick_fate_of, role_after_emission, emission_fate_of, role_after_abort, role_after_listener_close, listener_close_fate_of, role_after_close, close_fate_of, role_after_bind, role_after_listen, role_after_connect, role_after_accept, role_after_send, role_after_recv, role_after_shutdown, new_socket, new_waiting, with_role}
+use Rattle.host.specs.HostView.{HostView, new_host, later_moment, role_of}
 use Rattle.host.specs.Emission.{after_emission}
-use Rattle.host.specs.Calls.{open_answer, reach_refusal, port_for, counted_port, is_pair_held, is_port_taken, bind_refusal, connect_refusal, after_connect, after_socket_closed}
-use Rattle.host.specs.Arrival.{local_end, peer_end, is_opening as opens, has_no_place, answered, arrival, arrival_alone, after_opening}
+use Rattle.host.specs.Calls.{open_answer, reach_refusal, port_for, last_port_after, is_pair_held, is_port_taken, bind_refusal, connect_refusal, after_connect, after_socket_closed}
+use Rattle.host.specs.Arrival.{local_end, peer_end, is_opening as opens, has_no_place, arrival_with_reply, arrival, arrival_alone, after_opening}
 use Rattle.host.specs.Replies.{reset_at_ack, answer_to, answer_at_listener}
 use Rattle.host.specs.Lists.{change_first}
 use Rattle.host.specs.Ports.{IsDynamic, is_free_port}
@@ -40,65 +40,65 @@ use Rattle.host.proofs.Followed.{IsNothing, by_test, first_changed, each_followe
 use Rattle.host.proofs.KeptEnds.{keeps-nothing, keeps-send, keeps-recv, keeps-shutdown, keeps-tick, keeps-abort, keeps-close, keeps-emitted, keeps-segment}
 use Rattle.host.proofs.Ordering.{IsBound, Keeps, KeepsRole, keeps_role, keeps_connection, nowhere, no_port, ordered_by, ordered_still, ascends_joined, count_changed, count_joined, count_unfound, count_none}
 
-pub fresh_ordered : (addr neighbour : Addr) → IsOrdered (fresh addr neighbour)
+pub fresh_ordered : (addr neighbour : Addr) → IsOrdered (new_host addr neighbour)
 fresh_ordered addr neighbour = record { ids = omega arith; ends = λ local peer. omega arith; ports = λ port. omega arith; own = tt; last_port = record { from_first = omega arith; to_last = omega arith } }
 
 -- Changes of a role that take no end and no port.
 
-listening_keeps : (backlog : ℕ) (r : Role) → KeepsRole r (listening backlog r)
+listening_keeps : (backlog : ℕ) (r : Role) → KeepsRole r (role_after_listen backlog r)
 listening_keeps backlog (Idle buffers None) = keeps_role (Idle buffers None)
 listening_keeps backlog (Idle buffers (Some local)) = λ here there. record { ends = λ l p e live. cc; port = λ port e has. has; own = λ lies. tt }
 listening_keeps backlog (Listener l b) = keeps_role (Listener l b)
 listening_keeps backlog (Connected c l) = keeps_role (Connected c l)
 
-accepted_keeps : (r : Role) → KeepsRole r (accepted r)
+accepted_keeps : (r : Role) → KeepsRole r (role_after_accept r)
 accepted_keeps (Idle buffers bound) = keeps_role (Idle buffers bound)
 accepted_keeps (Listener l b) = keeps_role (Listener l b)
 accepted_keeps (Connected c l) = keeps_connection c c l None (keeps-nothing c)
 
-sent_keeps : (octets : List ℕ) (r : Role) → KeepsRole r (sent octets r)
+sent_keeps : (octets : List ℕ) (r : Role) → KeepsRole r (role_after_send octets r)
 sent_keeps octets (Idle buffers bound) = keeps_role (Idle buffers bound)
 sent_keeps octets (Listener l b) = keeps_role (Listener l b)
 sent_keeps octets (Connected c l) = keeps_connection c _ l l (keeps-send c octets)
 
-received_keeps : (len : ℕ) (r : Role) → KeepsRole r (received len r)
+received_keeps : (len : ℕ) (r : Role) → KeepsRole r (role_after_recv len r)
 received_keeps len (Idle buffers bound) = keeps_role (Idle buffers bound)
 received_keeps len (Listener l b) = keeps_role (Listener l b)
 received_keeps len (Connected c l) = by_test (len == 0) (λ none. rw none (keeps_role (Connected c l))) (λ some. rw some (keeps_connection c _ l l (keeps-recv c len)))
 
-shut_keeps : (r : Role) → KeepsRole r (write_shut r)
+shut_keeps : (r : Role) → KeepsRole r (role_after_shutdown r)
 shut_keeps (Idle buffers bound) = keeps_role (Idle buffers bound)
 shut_keeps (Listener l b) = keeps_role (Listener l b)
 shut_keeps (Connected c l) = by_test (is_some c.pending_error || is_opening c.state) (λ refused. rw refused (keeps_role (Connected c l))) (λ shuts. rw shuts (keeps_connection c _ l l (keeps-shutdown c)))
 
-ticked_keeps : (now : Moment) (r : Role) → KeepsRole r (ticked now r)
+ticked_keeps : (now : Moment) (r : Role) → KeepsRole r (role_after_tick now r)
 ticked_keeps now (Idle buffers bound) = keeps_role (Idle buffers bound)
 ticked_keeps now (Listener l b) = keeps_role (Listener l b)
 ticked_keeps now (Connected c l) = keeps_connection c _ l l (keeps-tick c now)
 
-closed_keeps : (now : Moment) (r : Role) → KeepsRole r (closed now r)
+closed_keeps : (now : Moment) (r : Role) → KeepsRole r (role_after_close now r)
 closed_keeps now (Idle buffers bound) = keeps_role (Idle buffers bound)
 closed_keeps now (Listener l b) = keeps_role (Listener l b)
 closed_keeps now (Connected c l) = keeps_connection c _ l l (keeps-close c now)
 
-aborted_keeps : (now : Moment) (r : Role) → KeepsRole r (aborted now r)
+aborted_keeps : (now : Moment) (r : Role) → KeepsRole r (role_after_abort now r)
 aborted_keeps now (Idle buffers bound) = keeps_role (Idle buffers bound)
 aborted_keeps now (Listener l b) = keeps_role (Listener l b)
 aborted_keeps now (Connected c l) = keeps_connection c _ l l (keeps-abort c now)
 
-forsaken_keeps : (now : Moment) (id : SocketId) (r : Role) → KeepsRole r (forsaken now id r)
+forsaken_keeps : (now : Moment) (id : SocketId) (r : Role) → KeepsRole r (role_after_listener_close now id r)
 forsaken_keeps now id r = by_test (waits_at id r) (λ waits. rw waits (aborted_keeps now r)) (λ other. rw other (keeps_role r))
 
-emitted_keeps : (now : Moment) (r : Role) → KeepsRole r (emitted_at now r)
+emitted_keeps : (now : Moment) (r : Role) → KeepsRole r (role_after_emission now r)
 emitted_keeps now (Idle buffers bound) = keeps_role (Idle buffers bound)
 emitted_keeps now (Listener l b) = keeps_role (Listener l b)
 emitted_keeps now (Connected c l) = by_due (first_due c) refl
   where
-    by_due : (o : Option Due) → first_due c ≡ o → KeepsRole (Connected c l) (emitted_at now (Connected c l))
+    by_due : (o : Option Due) → first_due c ≡ o → KeepsRole (Connected c l) (role_after_emission now (Connected c l))
     by_due None is = rw is (keeps_role (Connected c l))
     by_due (Some due) is = rw is (keeps_connection c _ l l (keeps-emitted c due now))
 
-arrived_keeps : (now : Moment) (s : Segment) (local peer : Endpoint) (r : Role) → is_live_between local peer r ≡ true → KeepsRole r (arrived now s r)
+arrived_keeps : (now : Moment) (s : Segment) (local peer : Endpoint) (r : Role) → is_live_between local peer r ≡ true → KeepsRole r (role_after_segment now s r)
 arrived_keeps now s local peer (Idle buffers bound) live = keeps_role (Idle buffers bound)
 arrived_keeps now s local peer (Listener l b) live = keeps_role (Listener l b)
 arrived_keeps now s local peer (Connected c l) live =
@@ -114,9 +114,9 @@ changed_ordered h test change keeps o =
     let w : HostView = record h { entries = change_first test (with_role change) h.entries } in
     ordered_still h w refl refl refl refl (first_changed (Keeps nowhere no_port h.addr h.neighbour) IsNothing refl test (with_role change) h.entries (stays h) (λ x passes found. (refl, keeps x passes h.addr h.neighbour))) o
 
-settled_ordered : (h : HostView) (r : Fate) (test : Entry → Bool) (change : Role → Role) → ((x : Entry) → test x ≡ true → KeepsRole x.role (change x.role)) → IsOrdered h → IsOrdered (record h { entries = settled r test change h.entries })
+settled_ordered : (h : HostView) (r : Fate) (test : Entry → Bool) (change : Role → Role) → ((x : Entry) → test x ≡ true → KeepsRole x.role (change x.role)) → IsOrdered h → IsOrdered (record h { entries = entries_after_step r test change h.entries })
 settled_ordered h r test change keeps o =
-    let w : HostView = record h { entries = settled r test change h.entries } in
+    let w : HostView = record h { entries = entries_after_step r test change h.entries } in
     ordered_still h w refl refl refl refl (settled_followed (Keeps nowhere no_port h.addr h.neighbour) IsNothing refl r test change h.entries (stays h) (λ kept x passes found. (refl, keeps x passes h.addr h.neighbour)) (λ gone x passes found. tt)) o
 
 -- Joining the table.
@@ -139,7 +139,7 @@ joined_ordered h x id free alone lies o = record {
 
 -- Binding.
 
-bound_role : (h : HostView) (local : Endpoint) (r : Role) → IsBound nowhere (λ (port : ℕ). local.port == port) h.addr h.neighbour r (bound_to local r)
+bound_role : (h : HostView) (local : Endpoint) (r : Role) → IsBound nowhere (λ (port : ℕ). local.port == port) h.addr h.neighbour r (role_after_bind local r)
 bound_role h local (Idle buffers bound) = record { ends = λ l p e live. cc; port = λ port other has. let bad : true ≡ false = sym has ∙ other in cc; own = λ lies. tt }
 bound_role h local (Listener l b) = record { ends = λ l p e live. live; port = λ port other has. has; own = λ lies. lies }
 bound_role h local (Connected c l) = record { ends = λ l p e live. live; port = λ port other has. has; own = λ lies. lies }
@@ -178,7 +178,7 @@ itself at_ends at_port h x = (refl, record { ends = λ l p e live. live; port = 
 bind_ordered : (h : HostView) (id : SocketId) (local : Endpoint) → bind_refusal h id local ≡ None → IsOrdered h → IsOrdered (after_event h (Binds id local))
 bind_ordered h id local allowed o =
     ordered_by nowhere at_port h (after_event h (Binds id local)) refl refl refl (λ (d : IsDynamic h.last_port). d)
-    (first_changed (Keeps nowhere at_port h.addr h.neighbour) IsNothing refl (is_socket id) (with_role (bound_to local)) h.entries (itself nowhere at_port h) (λ x passes found. (refl, bound_role h local x.role)))
+    (first_changed (Keeps nowhere at_port h.addr h.neighbour) IsNothing refl (is_socket id) (with_role (role_after_bind local)) h.entries (itself nowhere at_port h) (λ x passes found. (refl, bound_role h local x.role)))
     (λ l p e. cc)
     (λ port is. subst (λ (n : ℕ). count_by (is_alone_at n) changed ≤ 1) (eqb-true local.port port is) one) o
   where
@@ -186,12 +186,12 @@ bind_ordered h id local allowed o =
     at_port port = local.port == port
 
     changed : List Entry
-    changed = change_first (is_socket id) (with_role (bound_to local)) h.entries
+    changed = change_first (is_socket id) (with_role (role_after_bind local)) h.entries
 
     one : count_by (is_alone_at local.port) changed ≤ 1
     one =
         let none : count_by (is_alone_at local.port) h.entries ≡ 0 = count_none (is_alone_at local.port) h.entries (untaken local.port h.entries (bind_free h id local allowed)) in
-        let more : count_by (is_alone_at local.port) changed ≤ count_by (is_alone_at local.port) h.entries + 1 = count_changed (is_socket id) (is_alone_at local.port) (with_role (bound_to local)) h.entries in
+        let more : count_by (is_alone_at local.port) changed ≤ count_by (is_alone_at local.port) h.entries + 1 = count_changed (is_socket id) (is_alone_at local.port) (with_role (role_after_bind local)) h.entries in
         omega arith
 
 -- Connecting.
@@ -212,22 +212,22 @@ port_free h (Some b) peer port given = by_test (is_pair_held h b.port peer)
 port_free h None peer port given = not_true _ (and_parts _ _ (given_passes (is_free_port h.entries h.addr peer) h.last_port 0 16384 port given)).1
 
 -- the port given last stays dynamic
-counted_dynamic : (h : HostView) (bound : Option Endpoint) (peer : Endpoint) (port : ℕ) → IsDynamic h.last_port → port_for h bound peer ≡ Some port → IsDynamic (counted_port h bound port)
+counted_dynamic : (h : HostView) (bound : Option Endpoint) (peer : Endpoint) (port : ℕ) → IsDynamic h.last_port → port_for h bound peer ≡ Some port → IsDynamic (last_port_after h bound port)
 counted_dynamic h (Some b) peer port dynamic given = dynamic
 counted_dynamic h None peer port dynamic given = given_dynamic (is_free_port h.entries h.addr peer) h.last_port 0 16384 port given
 
 -- between the two ends alone a connection comes to lie
-connecting_role : (h : HostView) (local peer : Endpoint) (isn : ℕ) → local.addr ≡ h.addr → peer.addr ≡ h.neighbour → (r : Role) → IsBound (λ (l p : Endpoint). same_end local l && same_end peer p) no_port h.addr h.neighbour r (connecting local peer isn r)
+connecting_role : (h : HostView) (local peer : Endpoint) (isn : ℕ) → local.addr ≡ h.addr → peer.addr ≡ h.neighbour → (r : Role) → IsBound (λ (l p : Endpoint). same_end local l && same_end peer p) no_port h.addr h.neighbour r (role_after_connect local peer isn r)
 connecting_role h local peer isn own other (Idle buffers bound) = record { ends = λ l p apart live. let bad : true ≡ false = sym live ∙ apart in cc; port = λ port e has. cc; own = λ lies. (own, other) }
 connecting_role h local peer isn own other (Listener l b) = record { ends = λ l p e live. live; port = λ port e has. has; own = λ lies. lies }
 connecting_role h local peer isn own other (Connected c l) = record { ends = λ l p e live. live; port = λ port e has. has; own = λ lies. lies }
 
 opened_ordered : (h : HostView) (id : SocketId) (peer : Endpoint) (isn port last : ℕ) → IsDynamic last → peer.addr ≡ h.neighbour → is_pair_held h port peer ≡ false → IsOrdered h
-    → IsOrdered (record h { last_port = last; entries = change_first (is_socket id) (with_role (connecting (record { addr = h.addr; port = port }) peer isn)) h.entries })
+    → IsOrdered (record h { last_port = last; entries = change_first (is_socket id) (with_role (role_after_connect (record { addr = h.addr; port = port }) peer isn)) h.entries })
 opened_ordered h id peer isn port last dynamic reached free o =
     let w : HostView = record h { last_port = last; entries = changed } in
     ordered_by at_ends no_port h w refl refl refl (λ (d : IsDynamic h.last_port). dynamic)
-    (first_changed (Keeps at_ends no_port h.addr h.neighbour) IsNothing refl (is_socket id) (with_role (connecting local peer isn)) h.entries (itself at_ends no_port h) (λ x passes found. (refl, connecting_role h local peer isn refl reached x.role)))
+    (first_changed (Keeps at_ends no_port h.addr h.neighbour) IsNothing refl (is_socket id) (with_role (role_after_connect local peer isn)) h.entries (itself at_ends no_port h) (λ x passes found. (refl, connecting_role h local peer isn refl reached x.role)))
     at_them
     (λ n e. cc) o
   where
@@ -238,12 +238,12 @@ opened_ordered h id peer isn port last dynamic reached free o =
     at_ends l p = same_end local l && same_end peer p
 
     changed : List Entry
-    changed = change_first (is_socket id) (with_role (connecting local peer isn)) h.entries
+    changed = change_first (is_socket id) (with_role (role_after_connect local peer isn)) h.entries
 
     one : count_by (is_between local peer) changed ≤ 1
     one =
         let none : count_by (is_between local peer) h.entries ≡ 0 = count_none (is_between local peer) h.entries free in
-        let more : count_by (is_between local peer) changed ≤ count_by (is_between local peer) h.entries + 1 = count_changed (is_socket id) (is_between local peer) (with_role (connecting local peer isn)) h.entries in
+        let more : count_by (is_between local peer) changed ≤ count_by (is_between local peer) h.entries + 1 = count_changed (is_socket id) (is_between local peer) (with_role (role_after_connect local peer isn)) h.entries in
         omega arith
 
     at_them : (l p : Endpoint) → at_ends l p ≡ true → count_by (is_between l p) changed ≤ 1
@@ -259,7 +259,7 @@ connect_ordered h isn id peer allowed o = by_role (role_of h id) refl
     by_port role bound is opens_by reached None given = let refused : connect_refusal h id peer ≡ Some EADDRINUSE = rw (is, opens_by, reached, given) in cc
     by_port role bound is opens_by reached (Some port) given =
         subst IsOrdered (sym (after_connect-given h isn id peer role bound port is opens_by reached given))
-        (opened_ordered h id peer isn port (counted_port h bound port) (counted_dynamic h bound peer port o.last_port given) (neighbour_reached h peer reached) (port_free h bound peer port given) o)
+        (opened_ordered h id peer isn port (last_port_after h bound port) (counted_dynamic h bound peer port o.last_port given) (neighbour_reached h peer reached) (port_free h bound peer port given) o)
 
     by_reach : (role : Role) (bound : Option Endpoint) → role_of h id ≡ Some role → open_answer role ≡ Ok bound → (r : Option Refusal) → reach_refusal h peer ≡ r → IsOrdered (after_connect h isn id peer)
     by_reach role bound is opens_by None reached = by_port role bound is opens_by reached (port_for h bound peer) refl
@@ -280,13 +280,13 @@ socket_closed_ordered h id o = by_role (role_of h id) refl
   where
     by_role : (r : Option Role) → role_of h id ≡ r → IsOrdered (after_socket_closed h id)
     by_role None is = rw is o
-    by_role (Some role) is = rw is (settled_ordered h (close_fate_of role) (is_socket id) (closed h.kept) (λ x passes. closed_keeps h.kept x.role) o)
+    by_role (Some role) is = rw is (settled_ordered h (close_fate_of role) (is_socket id) (role_after_close h.kept) (λ x passes. closed_keeps h.kept x.role) o)
 
 close_ordered : (h : HostView) (id : SocketId) → IsOrdered h → IsOrdered (after_event h (Closes id))
 close_ordered h id o =
     let w : HostView = after_socket_closed h id in
     ordered_still w (after_event h (Closes id)) refl refl refl refl
-    (each_followed (Keeps nowhere no_port w.addr w.neighbour) IsNothing refl (λ x. is_kept (forsaken_fate id x.role)) (with_role (forsaken h.kept id)) w.entries (λ x kept. (refl, forsaken_keeps h.kept id x.role w.addr w.neighbour)) (λ x gone. tt))
+    (each_followed (Keeps nowhere no_port w.addr w.neighbour) IsNothing refl (λ x. is_kept (listener_close_fate_of id x.role)) (with_role (role_after_listener_close h.kept id)) w.entries (λ x kept. (refl, forsaken_keeps h.kept id x.role w.addr w.neighbour)) (λ x gone. tt))
     (socket_closed_ordered h id o)
 
 -- The clock.
@@ -294,7 +294,7 @@ close_ordered h id o =
 tick_ordered : (h : HostView) (now : Moment) → IsOrdered h → IsOrdered (after_event h (Ticks now))
 tick_ordered h now o =
     ordered_still h (after_event h (Ticks now)) refl refl refl refl
-    (each_followed (Keeps nowhere no_port h.addr h.neighbour) IsNothing refl (λ x. is_kept (tick_fate_of (later h now) x.role)) (with_role (ticked (later h now))) h.entries (λ x kept. (refl, ticked_keeps (later h now) x.role h.addr h.neighbour)) (λ x gone. tt))
+    (each_followed (Keeps nowhere no_port h.addr h.neighbour) IsNothing refl (λ x. is_kept (tick_fate_of (later_moment h now) x.role)) (with_role (role_after_tick (later_moment h now))) h.entries (λ x kept. (refl, ticked_keeps (later_moment h now) x.role h.addr h.neighbour)) (λ x gone. tt))
     o
 
 -- A segment.
@@ -302,7 +302,7 @@ tick_ordered h now o =
 with_replies : (h : HostView) (replies : List Head) → IsOrdered h → IsOrdered (record h { replies = replies })
 with_replies h replies o = record { ids = o.ids; ends = o.ends; ports = o.ports; own = o.own; last_port = o.last_port }
 
-answer_ordered : (h : HostView) (reply : Option Head) → IsOrdered h → IsOrdered (after_arrival h (answered h reply))
+answer_ordered : (h : HostView) (reply : Option Head) → IsOrdered h → IsOrdered (after_arrival h (arrival_with_reply h reply))
 answer_ordered h None o = o
 answer_ordered h (Some reply) o = by_test (length h.replies == 16) (λ full. rw full o) (λ room. rw room (with_replies h (h.replies ++ reply ∷ []) o))
 
@@ -334,8 +334,8 @@ alone_ordered h isn s none o = by_listener (find (is_listening_at s.destination)
 segment_ordered : (h : HostView) (now : Moment) (isn : ℕ) (s : Segment) → IsOrdered h → IsOrdered (after_arrival h (arrival h now isn s))
 segment_ordered h now isn s o = by_entry (find (is_between (local_end h s) (peer_end h s)) h.entries) refl
   where
-    settles : (r : Fate) → IsOrdered (record h { entries = settled r (is_between (local_end h s) (peer_end h s)) (arrived (later h now) s) h.entries })
-    settles r = settled_ordered h r (is_between (local_end h s) (peer_end h s)) (arrived (later h now) s) (λ x passes. arrived_keeps (later h now) s (local_end h s) (peer_end h s) x.role passes) o
+    settles : (r : Fate) → IsOrdered (record h { entries = entries_after_step r (is_between (local_end h s) (peer_end h s)) (role_after_segment (later_moment h now) s) h.entries })
+    settles r = settled_ordered h r (is_between (local_end h s) (peer_end h s)) (role_after_segment (later_moment h now) s) (λ x passes. arrived_keeps (later_moment h now) s (local_end h s) (peer_end h s) x.role passes) o
 
     by_fate : (e : Entry) → find (is_between (local_end h s) (peer_end h s)) h.entries ≡ Some e → (r : Fate) → fate_of s e.role ≡ r → IsOrdered (after_arrival h (arrival h now isn s))
     by_fate e found Stays is = rw (found, is) (settles Stays)
@@ -355,7 +355,7 @@ emission_ordered h now o = by_replies h.replies refl
     by_entry none None found = rw (none, found) (with_replies h [] o)
     by_entry none (Some e) found =
         let P : HostView → Type 0 = λ w. IsOrdered w in
-        subst P (sym (emission-of_entry h now e none found)) (settled_ordered h (emitted_fate (emitted_at (later h now) e.role)) is_due (emitted_at (later h now)) (λ x passes. emitted_keeps (later h now) x.role) o)
+        subst P (sym (emission-of_entry h now e none found)) (settled_ordered h (emission_fate_of (role_after_emission (later_moment h now) e.role)) is_due (role_after_emission (later_moment h now)) (λ x passes. emitted_keeps (later_moment h now) x.role) o)
 
     by_replies : (replies : List Head) → h.replies ≡ replies → IsOrdered (after_emission h now)
     by_replies [] is = by_entry is (find is_due h.entries) refl
@@ -364,12 +364,12 @@ emission_ordered h now o = by_replies h.replies refl
 pub stays_ordered : (h : HostView) (e : Event) → IsAllowed h e → IsOrdered h → IsOrdered (after_event h e)
 stays_ordered h (Makes buffers) allowed o = joined_ordered h (new_socket (record { 0 = h.last_id + 1 }) buffers) refl (λ l p live. cc) (λ port. refl) tt o
 stays_ordered h (Binds id local) allowed o = bind_ordered h id local allowed o
-stays_ordered h (Listens id backlog) allowed o = changed_ordered h (is_socket id) (listening backlog) (λ x passes. listening_keeps backlog x.role) o
-stays_ordered h (Accepts id) allowed o = changed_ordered h (is_offered_at id) accepted (λ x passes. accepted_keeps x.role) o
+stays_ordered h (Listens id backlog) allowed o = changed_ordered h (is_socket id) (role_after_listen backlog) (λ x passes. listening_keeps backlog x.role) o
+stays_ordered h (Accepts id) allowed o = changed_ordered h (is_offered_at id) role_after_accept (λ x passes. accepted_keeps x.role) o
 stays_ordered h (Connects isn id peer) allowed o = connect_ordered h isn id peer allowed o
-stays_ordered h (Sends id octets) allowed o = changed_ordered h (is_socket id) (sent octets) (λ x passes. sent_keeps octets x.role) o
-stays_ordered h (Receives id len) allowed o = changed_ordered h (is_socket id) (received len) (λ x passes. received_keeps len x.role) o
-stays_ordered h (Shuts id) allowed o = changed_ordered h (is_socket id) write_shut (λ x passes. shut_keeps x.role) o
+stays_ordered h (Sends id octets) allowed o = changed_ordered h (is_socket id) (role_after_send octets) (λ x passes. sent_keeps octets x.role) o
+stays_ordered h (Receives id len) allowed o = changed_ordered h (is_socket id) (role_after_recv len) (λ x passes. received_keeps len x.role) o
+stays_ordered h (Shuts id) allowed o = changed_ordered h (is_socket id) role_after_shutdown (λ x passes. shut_keeps x.role) o
 stays_ordered h (Closes id) allowed o = close_ordered h id o
 stays_ordered h (Ticks now) allowed o = tick_ordered h now o
 stays_ordered h (Hears now isn s) allowed o = segment_ordered h now isn s o

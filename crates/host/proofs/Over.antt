@@ -19,11 +19,11 @@ use Rattle.host.specs.declared.entry.SocketId.{SocketId}
 use Rattle.host.specs.declared.entry.Entry.{Entry}
 use Rattle.host.specs.declared.role.Role.{Role}
 use Rattle.host.specs.declared.role.Role.TheVariants.{Idle, Listener, Connected}
-use Rattle.host.specs.Entries.{is_socket, waits_at, is_between, is_live_between, is_listening_at, is_due, is_offered_at, is_kept, settled, fate_of, arrived, ticked, tick_fate_of, emitted_at, emitted_fate, aborted, abort_fate_of, forsaken, forsaken_fate, closed, close_fate_of, bound_to, listening, connecting, accepted, sent, received, write_shut, with_role}
-use Rattle.host.specs.HostView.{HostView, later, role_of}
+use Rattle.host.specs.Entries.{is_socket, waits_at, is_between, is_live_between, is_listening_at, is_due, is_offered_at, is_kept, entries_after_step, fate_of, role_after_segment, role_after_tick, tick_fate_of, role_after_emission, emission_fate_of, role_after_abort, abort_fate_of, role_after_listener_close, listener_close_fate_of, role_after_close, close_fate_of, role_after_bind, role_after_listen, role_after_connect, role_after_accept, role_after_send, role_after_recv, role_after_shutdown, with_role}
+use Rattle.host.specs.HostView.{HostView, later_moment, role_of}
 use Rattle.host.specs.Emission.{after_emission}
 use Rattle.host.specs.Calls.{port_connected, after_connect, after_socket_closed}
-use Rattle.host.specs.Arrival.{local_end, peer_end, is_opening as opens, has_no_place, answered, arrival, arrival_alone}
+use Rattle.host.specs.Arrival.{local_end, peer_end, is_opening as opens, has_no_place, arrival_with_reply, arrival, arrival_alone}
 use Rattle.host.specs.Replies.{reset_at_ack, answer_to, answer_at_listener}
 use Rattle.host.specs.Sound.{is_over_in, NoneIsOver}
 use Rattle.host.specs.Lists.{change_first, remove_first}
@@ -63,7 +63,7 @@ all_retained test change (x ∷ xs) step all =
     (λ fails. rw fails (all_retained test change xs step all.1))
 
 all_settled_left : (r : Fate) (test : Entry → Bool) (change : Role → Role) (entries : List Entry) → (is_kept r ≡ true → (x : Entry) → test x ≡ true → find test entries ≡ Some x → IsLeft x → IsLeft (with_role change x))
-    → AreLeft entries → AreLeft (settled r test change entries)
+    → AreLeft entries → AreLeft (entries_after_step r test change entries)
 all_settled_left r test change entries step all =
     by_test (is_kept r) (λ kept. rw kept (all_changed test (with_role change) entries (step kept) all)) (λ gone. rw gone (all_removed test entries all))
 
@@ -75,23 +75,23 @@ Leaves change = (role : Role) → is_over_in role ≡ false → is_over_in (chan
 changed_left : (test : Entry → Bool) (change : Role → Role) (entries : List Entry) → Leaves change → AreLeft entries → AreLeft (change_first test (with_role change) entries)
 changed_left test change entries leaves all = all_changed test (with_role change) entries (λ x passes found left. leaves x.role left) all
 
-bound_left : (local : Endpoint) → Leaves (bound_to local)
+bound_left : (local : Endpoint) → Leaves (role_after_bind local)
 bound_left local (Idle buffers bound) left = refl
 bound_left local (Listener l b) left = refl
 bound_left local (Connected c l) left = left
 
-listening_left : (backlog : ℕ) → Leaves (listening backlog)
+listening_left : (backlog : ℕ) → Leaves (role_after_listen backlog)
 listening_left backlog (Idle buffers None) left = refl
 listening_left backlog (Idle buffers (Some local)) left = refl
 listening_left backlog (Listener l b) left = refl
 listening_left backlog (Connected c l) left = left
 
-connecting_left : (local peer : Endpoint) (isn : ℕ) → Leaves (connecting local peer isn)
+connecting_left : (local peer : Endpoint) (isn : ℕ) → Leaves (role_after_connect local peer isn)
 connecting_left local peer isn (Idle buffers bound) left = refl
 connecting_left local peer isn (Listener l b) left = refl
 connecting_left local peer isn (Connected c l) left = left
 
-accepted_left : Leaves accepted
+accepted_left : Leaves role_after_accept
 accepted_left (Idle buffers bound) left = refl
 accepted_left (Listener l b) left = refl
 accepted_left (Connected c l) left = left
@@ -108,23 +108,23 @@ shut_closed state = grind (arith, common_steps)
 shutdown_left : (c : View) → is_over c ≡ false → is_over (after_shutdown c) ≡ false
 shutdown_left c left = rw (shut_closed c.state) left
 
-sent_left : (octets : List ℕ) → Leaves (sent octets)
+sent_left : (octets : List ℕ) → Leaves (role_after_send octets)
 sent_left octets (Idle buffers bound) left = refl
 sent_left octets (Listener l b) left = refl
 sent_left octets (Connected c l) left = send_left c octets left
 
-received_left : (len : ℕ) → Leaves (received len)
+received_left : (len : ℕ) → Leaves (role_after_recv len)
 received_left len (Idle buffers bound) left = refl
 received_left len (Listener l b) left = refl
 received_left len (Connected c l) left = by_test (len == 0) (λ none. rw none left) (λ some. rw some (recv_left c len left))
 
-shut_left : Leaves write_shut
+shut_left : Leaves role_after_shutdown
 shut_left (Idle buffers bound) left = refl
 shut_left (Listener l b) left = refl
 shut_left (Connected c l) left = by_test (is_some c.pending_error || is_opening c.state) (λ refused. rw refused left) (λ shuts. rw shuts (shutdown_left c left))
 
 -- a change of a role that keeps its place
-tick_left : (now : Moment) (role : Role) → is_kept (tick_fate_of now role) ≡ true → is_over_in role ≡ false → is_over_in (ticked now role) ≡ false
+tick_left : (now : Moment) (role : Role) → is_kept (tick_fate_of now role) ≡ true → is_over_in role ≡ false → is_over_in (role_after_tick now role) ≡ false
 tick_left now (Idle buffers bound) kept left = refl
 tick_left now (Listener l b) kept left = refl
 tick_left now (Connected c l) kept left =
@@ -136,17 +136,17 @@ tick_left now (Connected c l) kept left =
     at_end true stays = cc
     at_end false stays = refl
 
-close_left : (now : Moment) (role : Role) → is_kept (close_fate_of role) ≡ true → is_over_in (closed now role) ≡ false
+close_left : (now : Moment) (role : Role) → is_kept (close_fate_of role) ≡ true → is_over_in (role_after_close now role) ≡ false
 close_left now (Idle buffers bound) kept = cc
 close_left now (Listener l b) kept = cc
 close_left now (Connected c l) kept = grind (arith, common_steps)
 
-abort_left : (now : Moment) (role : Role) → is_kept (abort_fate_of role) ≡ true → is_over_in (aborted now role) ≡ false
+abort_left : (now : Moment) (role : Role) → is_kept (abort_fate_of role) ≡ true → is_over_in (role_after_abort now role) ≡ false
 abort_left now (Idle buffers bound) kept = refl
 abort_left now (Listener l b) kept = refl
 abort_left now (Connected c l) kept = by_test (is_closed c.state) (λ ended. let gone : is_kept (abort_fate_of (Connected c l)) ≡ false = rw ended in cc) (λ live. rw live)
 
-forsaken_left : (now : Moment) (id : SocketId) (role : Role) → is_kept (forsaken_fate id role) ≡ true → is_over_in role ≡ false → is_over_in (forsaken now id role) ≡ false
+forsaken_left : (now : Moment) (id : SocketId) (role : Role) → is_kept (listener_close_fate_of id role) ≡ true → is_over_in role ≡ false → is_over_in (role_after_listener_close now id role) ≡ false
 forsaken_left now id role kept left =
     by_test (waits_at id role)
     (λ waits. rw waits (abort_left now role (ap (λ (b : Bool). is_kept (if b then abort_fate_of role else Stays)) (sym waits) ∙ kept)))
@@ -157,7 +157,7 @@ kept_tests : (ended lost over refuses ends : Bool) → ended ≡ false → is_ke
 kept_tests ended lost true refuses ends live kept plain = grind (arith, common_steps)
 kept_tests ended lost false refuses ends live kept plain = refl
 
-heard_left : (now : Moment) (s : Segment) (local peer : Endpoint) (role : Role) → is_live_between local peer role ≡ true → is_kept (fate_of s role) ≡ true → is_over_in (arrived now s role) ≡ false
+heard_left : (now : Moment) (s : Segment) (local peer : Endpoint) (role : Role) → is_live_between local peer role ≡ true → is_kept (fate_of s role) ≡ true → is_over_in (role_after_segment now s role) ≡ false
 heard_left now s local peer (Idle buffers bound) live kept = refl
 heard_left now s local peer (Listener l b) live kept = refl
 heard_left now s local peer (Connected c l) live kept =
@@ -166,13 +166,13 @@ heard_left now s local peer (Connected c l) live kept =
     (λ plain. let over : is_over (after_segment c s) ≡ false = kept_tests (is_closed c.state) (is_lost c s) (is_over (after_segment c s)) (is_rejected c s) (ends_opening c s) (not_true _ (and_left _ _ live)) kept plain in
     rw plain over)
 
-emit_left : (now : Moment) (role : Role) → is_kept (emitted_fate (emitted_at now role)) ≡ true → is_over_in (emitted_at now role) ≡ false
-emit_left now role kept = after (emitted_at now role) kept
+emit_left : (now : Moment) (role : Role) → is_kept (emission_fate_of (role_after_emission now role)) ≡ true → is_over_in (role_after_emission now role) ≡ false
+emit_left now role kept = after (role_after_emission now role) kept
   where
-    after : (r : Role) → is_kept (emitted_fate r) ≡ true → is_over_in r ≡ false
+    after : (r : Role) → is_kept (emission_fate_of r) ≡ true → is_over_in r ≡ false
     after (Idle buffers bound) stays = refl
     after (Listener l b) stays = refl
-    after (Connected c l) stays = by_test (is_over c) (λ over. let gone : is_kept (emitted_fate (Connected c l)) ≡ false = rw over in cc) (λ left. left)
+    after (Connected c l) stays = by_test (is_over c) (λ over. let gone : is_kept (emission_fate_of (Connected c l)) ≡ false = rw over in cc) (λ left. left)
 
 -- Events.
 
@@ -182,7 +182,7 @@ connect_left h isn id peer all = by_port (port_connected h id peer) refl
     by_port : (r : Result ℕ Refusal) → port_connected h id peer ≡ r → NoneIsOver (after_connect h isn id peer)
     by_port (Err refusal) given = rw given all
     by_port (Ok port) given =
-        rw given (changed_left (is_socket id) (connecting (record { addr = h.addr; port = port }) peer isn) h.entries (connecting_left (record { addr = h.addr; port = port }) peer isn) all)
+        rw given (changed_left (is_socket id) (role_after_connect (record { addr = h.addr; port = port }) peer isn) h.entries (connecting_left (record { addr = h.addr; port = port }) peer isn) all)
 
 socket_closed_left : (h : HostView) (id : SocketId) → NoneIsOver h → NoneIsOver (after_socket_closed h id)
 socket_closed_left h id all = by_role (role_of h id) refl
@@ -190,12 +190,12 @@ socket_closed_left h id all = by_role (role_of h id) refl
     by_role : (o : Option Role) → role_of h id ≡ o → NoneIsOver (after_socket_closed h id)
     by_role None is = rw is all
     by_role (Some role) is =
-        rw is (all_settled_left (close_fate_of role) (is_socket id) (closed h.kept) h.entries
+        rw is (all_settled_left (close_fate_of role) (is_socket id) (role_after_close h.kept) h.entries
         (λ kept x passes found left.
         let same : role ≡ x.role = some_same (role_of h id) role x.role is (ap (λ (o : Option Entry). option_map (λ (e : Entry). e.role) o) found) in
         close_left h.kept x.role (ap (λ (r : Role). is_kept (close_fate_of r)) (sym same) ∙ kept)) all)
 
-answer_left : (h : HostView) (o : Option Head) → NoneIsOver h → NoneIsOver (after_arrival h (answered h o))
+answer_left : (h : HostView) (o : Option Head) → NoneIsOver h → NoneIsOver (after_arrival h (arrival_with_reply h o))
 answer_left h o all = subst AreLeft (sym (answered_same h o)) all
 
 alone_left : (h : HostView) (isn : ℕ) (s : Segment) → NoneIsOver h → NoneIsOver (after_arrival h (arrival_alone h isn s))
@@ -216,10 +216,10 @@ alone_left h isn s all = by_listener (find (is_listening_at s.destination) h.ent
 segment_left : (h : HostView) (now : Moment) (isn : ℕ) (s : Segment) → NoneIsOver h → NoneIsOver (after_arrival h (arrival h now isn s))
 segment_left h now isn s all = by_entry (find (is_between (local_end h s) (peer_end h s)) h.entries) refl
   where
-    by_settled : (e : Entry) (r : Fate) → find (is_between (local_end h s) (peer_end h s)) h.entries ≡ Some e → fate_of s e.role ≡ r → AreLeft (settled r (is_between (local_end h s) (peer_end h s)) (arrived (later h now) s) h.entries)
+    by_settled : (e : Entry) (r : Fate) → find (is_between (local_end h s) (peer_end h s)) h.entries ≡ Some e → fate_of s e.role ≡ r → AreLeft (entries_after_step r (is_between (local_end h s) (peer_end h s)) (role_after_segment (later_moment h now) s) h.entries)
     by_settled e r found is =
-        all_settled_left r (is_between (local_end h s) (peer_end h s)) (arrived (later h now) s) h.entries
-        (λ kept x passes at left. heard_left (later h now) s (local_end h s) (peer_end h s) x.role passes (ap (λ (y : Entry). is_kept (fate_of s y.role)) (some_same _ x e at found) ∙ ap is_kept is ∙ kept)) all
+        all_settled_left r (is_between (local_end h s) (peer_end h s)) (role_after_segment (later_moment h now) s) h.entries
+        (λ kept x passes at left. heard_left (later_moment h now) s (local_end h s) (peer_end h s) x.role passes (ap (λ (y : Entry). is_kept (fate_of s y.role)) (some_same _ x e at found) ∙ ap is_kept is ∙ kept)) all
 
     by_fate : (e : Entry) → find (is_between (local_end h s) (peer_end h s)) h.entries ≡ Some e → (r : Fate) → fate_of s e.role ≡ r → NoneIsOver (after_arrival h (arrival h now isn s))
     by_fate e found Stays is = rw (found, is) (by_settled e Stays found is)
@@ -237,8 +237,8 @@ emission_left h now all = by_replies h.replies refl
     by_entry none None found = rw (none, found) all
     by_entry none (Some e) found =
         let P : HostView → Type 0 = λ w. AreLeft w.entries in
-        subst P (sym (emission-of_entry h now e none found)) (all_settled_left (emitted_fate (emitted_at (later h now) e.role)) is_due (emitted_at (later h now)) h.entries
-        (λ kept x passes at left. emit_left (later h now) x.role (ap (λ (y : Entry). is_kept (emitted_fate (emitted_at (later h now) y.role))) (some_same _ x e at found) ∙ kept)) all)
+        subst P (sym (emission-of_entry h now e none found)) (all_settled_left (emission_fate_of (role_after_emission (later_moment h now) e.role)) is_due (role_after_emission (later_moment h now)) h.entries
+        (λ kept x passes at left. emit_left (later_moment h now) x.role (ap (λ (y : Entry). is_kept (emission_fate_of (role_after_emission (later_moment h now) y.role))) (some_same _ x e at found) ∙ kept)) all)
 
     by_replies : (replies : List Head) → h.replies ≡ replies → NoneIsOver (after_emission h now)
     by_replies [] is = by_entry is (find is_due h.entries) refl
@@ -246,16 +246,16 @@ emission_left h now all = by_replies h.replies refl
 
 pub none_over : (h : HostView) (e : Event) → NoneIsOver h → NoneIsOver (after_event h e)
 none_over h (Makes buffers) all = all_joined h.entries _ all (refl, tt)
-none_over h (Binds id local) all = changed_left (is_socket id) (bound_to local) h.entries (bound_left local) all
-none_over h (Listens id backlog) all = changed_left (is_socket id) (listening backlog) h.entries (listening_left backlog) all
-none_over h (Accepts id) all = changed_left (is_offered_at id) accepted h.entries accepted_left all
+none_over h (Binds id local) all = changed_left (is_socket id) (role_after_bind local) h.entries (bound_left local) all
+none_over h (Listens id backlog) all = changed_left (is_socket id) (role_after_listen backlog) h.entries (listening_left backlog) all
+none_over h (Accepts id) all = changed_left (is_offered_at id) role_after_accept h.entries accepted_left all
 none_over h (Connects isn id peer) all = connect_left h isn id peer all
-none_over h (Sends id octets) all = changed_left (is_socket id) (sent octets) h.entries (sent_left octets) all
-none_over h (Receives id len) all = changed_left (is_socket id) (received len) h.entries (received_left len) all
-none_over h (Shuts id) all = changed_left (is_socket id) write_shut h.entries shut_left all
+none_over h (Sends id octets) all = changed_left (is_socket id) (role_after_send octets) h.entries (sent_left octets) all
+none_over h (Receives id len) all = changed_left (is_socket id) (role_after_recv len) h.entries (received_left len) all
+none_over h (Shuts id) all = changed_left (is_socket id) role_after_shutdown h.entries shut_left all
 none_over h (Closes id) all =
     let middle : List Entry = let after = after_socket_closed h id in after.entries in
-    all_retained (λ x. is_kept (forsaken_fate id x.role)) (with_role (forsaken h.kept id)) middle (λ x kept left. forsaken_left h.kept id x.role kept left) (socket_closed_left h id all)
-none_over h (Ticks now) all = all_retained (λ x. is_kept (tick_fate_of (later h now) x.role)) (with_role (ticked (later h now))) h.entries (λ x kept left. tick_left (later h now) x.role kept left) all
+    all_retained (λ x. is_kept (listener_close_fate_of id x.role)) (with_role (role_after_listener_close h.kept id)) middle (λ x kept left. forsaken_left h.kept id x.role kept left) (socket_closed_left h id all)
+none_over h (Ticks now) all = all_retained (λ x. is_kept (tick_fate_of (later_moment h now) x.role)) (with_role (role_after_tick (later_moment h now))) h.entries (λ x kept left. tick_left (later_moment h now) x.role kept left) all
 none_over h (Hears now isn s) all = segment_left h now isn s all
 none_over h (Emits now) all = emission_left h now all

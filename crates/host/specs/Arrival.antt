@@ -15,8 +15,8 @@ use Rattle.tcp_state.specs.Arrival.{opened_passively}
 use Rattle.host.specs.declared.entry.Entry.{Entry}
 use Rattle.host.specs.declared.refusal.DropCause.{DropCause}
 use Rattle.host.specs.declared.refusal.DropCause.TheVariants.{UpperHeader, UpperSum, NoRoom}
-use Rattle.host.specs.Entries.{is_between, is_listening_at, is_waiting_at, backlog_of, arrived, fate_of, new_waiting, settled}
-use Rattle.host.specs.HostView.{HostView, later}
+use Rattle.host.specs.Entries.{is_between, is_listening_at, is_waiting_at, backlog_of, role_after_segment, fate_of, new_waiting, entries_after_step}
+use Rattle.host.specs.HostView.{HostView, later_moment}
 use Rattle.host.specs.Replies.{reset_at_ack, answer_to, answer_at_listener}
 use Rattle.host.specs.Calls.{is_table_full}
 
@@ -49,9 +49,9 @@ pub data Arrival : Type 0 where
   NoPlace : Arrival
 
 -- the reply joins those that wait, where fewer than 16 do; nothing changes where there is none
-abbrev pub answered : HostView → Option Head → Arrival
-answered h None = Becomes h
-answered h (Some reply) = if length h.replies == 16 then NoPlace else Becomes (record h { replies = h.replies ++ reply ∷ [] })
+abbrev pub arrival_with_reply : HostView → Option Head → Arrival
+arrival_with_reply h None = Becomes h
+arrival_with_reply h (Some reply) = if length h.replies == 16 then NoPlace else Becomes (record h { replies = h.replies ++ reply ∷ [] })
 
 -- a segment that opens a connection at this listener
 abbrev pub opening : HostView → ℕ → Segment → Entry → Arrival
@@ -59,20 +59,20 @@ opening h isn s listener = if has_no_place h listener then NoPlace else Opens (a
 
 -- a segment for a listener and no connection (section 3.10.7.2): it opens one, or is answered, or changes nothing
 abbrev pub arrival_at : HostView → ℕ → Segment → Entry → Arrival
-arrival_at h isn s listener = if is_opening s.flags then opening h isn s listener else answered h (answer_at_listener s)
+arrival_at h isn s listener = if is_opening s.flags then opening h isn s listener else arrival_with_reply h (answer_at_listener s)
 
 -- a segment for no connection goes to the listener of its destination port, and is answered where there is none
 abbrev pub arrival_alone : HostView → ℕ → Segment → Arrival
 arrival_alone h isn s = of_listener (find (is_listening_at s.destination) h.entries)
   where
     of_listener : Option Entry → Arrival
-    of_listener None = answered h (answer_to s)
+    of_listener None = arrival_with_reply h (answer_to s)
     of_listener (Some listener) = arrival_at h isn s listener
 
 -- a segment for a connection: it takes it, at the later of the moment and the kept one, or refuses it, which is answered by a reset
 abbrev pub arrival_at_connection : HostView → Moment → Segment → Fate → Arrival
-arrival_at_connection h now s Rejected = answered h (Some (reset_at_ack s))
-arrival_at_connection h now s fate = Becomes (record h { entries = settled fate (is_between (local_end h s) (peer_end h s)) (arrived (later h now) s) h.entries })
+arrival_at_connection h now s Rejected = arrival_with_reply h (Some (reset_at_ack s))
+arrival_at_connection h now s fate = Becomes (record h { entries = entries_after_step fate (is_between (local_end h s) (peer_end h s)) (role_after_segment (later_moment h now) s) h.entries })
 
 -- a segment goes to the connection of its two ends, in any state but CLOSED
 abbrev pub arrival : HostView → Moment → ℕ → Segment → Arrival
@@ -131,7 +131,7 @@ abbrev pub IsDelivered : HostView → Moment → ℕ → List ℕ → Result (Un
 IsDelivered h now isn octets answer new = (parsed : Result Segment SegmentFault) × IsParsed h.neighbour h.addr octets parsed × MeetsParsed parsed h now isn answer new
 
 -- the number of a cause among all that a host may name
-abbrev pub number_of : DropCause → ℕ
-number_of UpperHeader = 7
-number_of UpperSum = 8
-number_of NoRoom = 9
+abbrev pub cause_number : DropCause → ℕ
+cause_number UpperHeader = 7
+cause_number UpperSum = 8
+cause_number NoRoom = 9

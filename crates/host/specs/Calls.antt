@@ -21,7 +21,7 @@ use Rattle.host.specs.declared.role.Role.TheVariants.{Idle, Listener, Connected}
 use Rattle.host.specs.declared.refusal.Refusal.{Refusal}
 use Rattle.host.specs.declared.refusal.Refusal.TheVariants.{EBADF, EINVAL, EADDRINUSE, EADDRNOTAVAIL, EISCONN, ENOTCONN, EALREADY, EAGAIN, ENETUNREACH, EOPNOTSUPP, ECONNREFUSED, ECONNRESET, EPIPE, EDESTADDRREQ}
 use Rattle.host.specs.Ports.{first_port, is_free_port}
-use Rattle.host.specs.Entries.{is_socket, has_port, is_between, is_offered_at, offered_peer, shown_state, new_socket, bound_to, listening, connecting, accepted, sent, received, write_shut, closed, close_fate_of, forsaken, forsaken_fate, settled, all_settled, with_role}
+use Rattle.host.specs.Entries.{is_socket, has_port, is_between, is_offered_at, offered_peer, shown_state, new_socket, role_after_bind, role_after_listen, role_after_connect, role_after_accept, role_after_send, role_after_recv, role_after_shutdown, role_after_close, close_fate_of, role_after_listener_close, listener_close_fate_of, entries_after_step, entries_after_steps, with_role}
 use Rattle.host.specs.HostView.{HostView, role_of, with_socket}
 use Rattle.host.specs.Lists.{change_first}
 
@@ -79,7 +79,7 @@ bind_refusal h id local = refusal_at h id of_role
     of_role (Connected c listener) = Some EINVAL
 
 abbrev pub after_bind : HostView → SocketId → Endpoint → HostView
-after_bind h id local = with_socket h id (bound_to local)
+after_bind h id local = with_socket h id (role_after_bind local)
 
 -- a backlog of 1 alone
 abbrev pub listen_refusal : HostView → SocketId → ℕ → Option Refusal
@@ -92,7 +92,7 @@ listen_refusal h id backlog = refusal_at h id (λ role. if backlog == 1 then of_
     of_role (Connected c listener) = Some EINVAL
 
 abbrev pub after_listen : HostView → SocketId → ℕ → HostView
-after_listen h id backlog = with_socket h id (listening backlog)
+after_listen h id backlog = with_socket h id (role_after_listen backlog)
 
 abbrev pub state_answer : HostView → SocketId → Result State Refusal
 state_answer h id = answer_at h id (λ role. Ok (shown_state role))
@@ -116,7 +116,7 @@ accept_answer h id = answer_at h id of_role
 
 -- it waits no longer
 abbrev pub after_accept : HostView → SocketId → HostView
-after_accept h id = record h { entries = change_first (is_offered_at id) (with_role accepted) h.entries }
+after_accept h id = record h { entries = change_first (is_offered_at id) (with_role role_after_accept) h.entries }
 
 -- what a connection refuses is refused by the same name
 abbrev pub refusal_of : connection_refusal.Refusal → Refusal
@@ -131,16 +131,16 @@ of_connection (Ok value) = Ok value
 of_connection (Err refusal) = Err (refusal_of refusal)
 
 -- what a send of octets answers
-abbrev pub sent_answer : Role → List ℕ → Result ℕ Refusal
-sent_answer (Idle buffers bound) octets = Err ENOTCONN
-sent_answer (Listener bound backlog) octets = Err EOPNOTSUPP
-sent_answer (Connected c listener) octets = of_connection (connection_calls.send_answer c octets)
+abbrev pub role_send_answer : Role → List ℕ → Result ℕ Refusal
+role_send_answer (Idle buffers bound) octets = Err ENOTCONN
+role_send_answer (Listener bound backlog) octets = Err EOPNOTSUPP
+role_send_answer (Connected c listener) octets = of_connection (connection_calls.send_answer c octets)
 
 -- what a receive into a buffer of this length answers
-abbrev pub received_answer : Role → ℕ → Result Received Refusal
-received_answer (Listener bound backlog) len = Err EOPNOTSUPP
-received_answer (Idle buffers bound) len = if len == 0 then Err EINVAL else Err ENOTCONN
-received_answer (Connected c listener) len = if len == 0 then Err EINVAL else of_connection (connection_calls.recv_answer c len)
+abbrev pub role_recv_answer : Role → ℕ → Result Received Refusal
+role_recv_answer (Listener bound backlog) len = Err EOPNOTSUPP
+role_recv_answer (Idle buffers bound) len = if len == 0 then Err EINVAL else Err ENOTCONN
+role_recv_answer (Connected c listener) len = if len == 0 then Err EINVAL else of_connection (connection_calls.recv_answer c len)
 
 -- what a receive leaves in a buffer: the first octets that are readable stand at its front, where it answers octets
 abbrev pub read_front : Role → List ℕ → List ℕ
@@ -154,28 +154,28 @@ abbrev pub recv_front : HostView → SocketId → List ℕ → List ℕ
 recv_front h id buffer = of_socket buffer (λ role. read_front role buffer) (role_of h id)
 
 abbrev pub send_answer : HostView → SocketId → List ℕ → Result ℕ Refusal
-send_answer h id octets = answer_at h id (λ role. sent_answer role octets)
+send_answer h id octets = answer_at h id (λ role. role_send_answer role octets)
 
 abbrev pub after_send : HostView → SocketId → List ℕ → HostView
-after_send h id octets = with_socket h id (sent octets)
+after_send h id octets = with_socket h id (role_after_send octets)
 
 abbrev pub recv_answer : HostView → SocketId → ℕ → Result Received Refusal
-recv_answer h id len = answer_at h id (λ role. received_answer role len)
+recv_answer h id len = answer_at h id (λ role. role_recv_answer role len)
 
 abbrev pub after_recv : HostView → SocketId → ℕ → HostView
-after_recv h id len = with_socket h id (received len)
+after_recv h id len = with_socket h id (role_after_recv len)
 
 -- what closing our side is refused for: no connection, one that is told an error, or one that is not opened yet
-abbrev pub shut_refusal : Role → Option Refusal
-shut_refusal (Idle buffers bound) = Some ENOTCONN
-shut_refusal (Listener bound backlog) = Some EOPNOTSUPP
-shut_refusal (Connected c listener) = option_map refusal_of (connection_calls.shutdown_refusal c)
+abbrev pub role_shutdown_refusal : Role → Option Refusal
+role_shutdown_refusal (Idle buffers bound) = Some ENOTCONN
+role_shutdown_refusal (Listener bound backlog) = Some EOPNOTSUPP
+role_shutdown_refusal (Connected c listener) = option_map refusal_of (connection_calls.shutdown_refusal c)
 
 abbrev pub shutdown_refusal : HostView → SocketId → Option Refusal
-shutdown_refusal h id = refusal_at h id shut_refusal
+shutdown_refusal h id = refusal_at h id role_shutdown_refusal
 
 abbrev pub after_shutdown : HostView → SocketId → HostView
-after_shutdown h id = with_socket h id write_shut
+after_shutdown h id = with_socket h id role_after_shutdown
 
 -- close is refused only where the id names no socket
 abbrev pub close_refusal : HostView → SocketId → Option Refusal
@@ -184,13 +184,13 @@ close_refusal h id = refusal_at h id (λ role. None)
 -- The socket is gone. Nothing is left of one without a connection; a connection goes on without a socket, or is aborted, or is gone,
 -- as its own rules say (RFC 9293 section 3.10.4; 3.6.1 where octets are unread; own in SYN-RECEIVED and at a listener).
 abbrev pub after_socket_closed : HostView → SocketId → HostView
-after_socket_closed h id = of_socket h (λ role. record h { entries = settled (close_fate_of role) (is_socket id) (closed h.kept) h.entries }) (role_of h id)
+after_socket_closed h id = of_socket h (λ role. record h { entries = entries_after_step (close_fate_of role) (is_socket id) (role_after_close h.kept) h.entries }) (role_of h id)
 
 -- and each connection that waits at it, where it listens, is aborted
 abbrev pub after_close : HostView → SocketId → HostView
 after_close h id =
     let closed_socket = after_socket_closed h id in
-    record closed_socket { entries = all_settled (forsaken_fate id) (forsaken h.kept id) closed_socket.entries }
+    record closed_socket { entries = entries_after_steps (listener_close_fate_of id) (role_after_listener_close h.kept id) closed_socket.entries }
 
 -- a connection from our port to the peer is in the table, in any state but CLOSED
 abbrev pub is_pair_held : HostView → ℕ → Endpoint → Bool
@@ -240,9 +240,9 @@ abbrev pub pair_connected : HostView → SocketId → Endpoint → Option Pair
 pair_connected h id peer = option_map (λ port. pair_of (record { addr = h.addr; port = port }) peer) (result_ok (port_connected h id peer))
 
 -- the last port given: a dynamic one counts, that of a bound socket does not
-abbrev pub counted_port : HostView → Option Endpoint → ℕ → ℕ
-counted_port h (Some bound) port = h.last_port
-counted_port h None port = port
+abbrev pub last_port_after : HostView → Option Endpoint → ℕ → ℕ
+last_port_after h (Some bound) port = h.last_port
+last_port_after h None port = port
 
 -- where an idle socket is bound
 abbrev pub bound_of : Role → Option Endpoint
@@ -256,4 +256,4 @@ after_connect h isn id peer = of_port (port_connected h id peer)
   where
     of_port : Result ℕ Refusal → HostView
     of_port (Err refusal) = h
-    of_port (Ok port) = with_socket (record h { last_port = counted_port h (option_and_then bound_of (role_of h id)) port }) id (connecting (record { addr = h.addr; port = port }) peer isn)
+    of_port (Ok port) = with_socket (record h { last_port = last_port_after h (option_and_then bound_of (role_of h id)) port }) id (role_after_connect (record { addr = h.addr; port = port }) peer isn)

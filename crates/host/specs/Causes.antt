@@ -12,7 +12,7 @@ use Rattle.host.specs.declared.entry.SocketId.{SocketId}
 use Rattle.host.specs.declared.entry.Entry.{Entry}
 use Rattle.host.specs.declared.role.Role.{Role}
 use Rattle.host.specs.Entries.{in_connection, is_socket, is_waiting_at, is_between, is_listening_at, is_due, shown_state, new_socket}
-use Rattle.host.specs.HostView.{HostView, later}
+use Rattle.host.specs.HostView.{HostView, later_moment}
 use Rattle.host.specs.Ticks.{after_tick}
 use Rattle.host.specs.Emission.{after_emission}
 use Rattle.host.specs.Calls.{after_socket, after_bind, after_listen, after_accept, after_connect, after_send, after_recv, after_shutdown, after_close}
@@ -73,9 +73,9 @@ is_close_cause now role = in_connection true (λ c. edge.is_cause c (edge.Closes
 -- ends, a tick or the going out of its segment, each as its own rules say.
 abbrev pub is_cause_for : HostView → Event → Entry → Bool
 is_cause_for h (Closes id) x = (is_socket id x && is_close_cause h.kept x.role) || is_waiting_at id x
-is_cause_for h (Ticks now) x = is_connection_cause (edge.Ticks (later h now)) x.role
-is_cause_for h (Hears now isn s) x = is_between (local_end h s) (peer_end h s) x && is_connection_cause (edge.Hears s (later h now)) x.role
-is_cause_for h (Emits now) x = is_next_out h x && is_connection_cause (edge.Emits (later h now)) x.role
+is_cause_for h (Ticks now) x = is_connection_cause (edge.Ticks (later_moment h now)) x.role
+is_cause_for h (Hears now isn s) x = is_between (local_end h s) (peer_end h s) x && is_connection_cause (edge.Hears s (later_moment h now)) x.role
+is_cause_for h (Emits now) x = is_next_out h x && is_connection_cause (edge.Emits (later_moment h now)) x.role
 is_cause_for h _ x = false
 
 -- an entry becomes CLOSED
@@ -83,20 +83,20 @@ abbrev pub becomes_closed : Role → Role → Bool
 becomes_closed before after = not (is_closed (shown_state before)) && is_closed (shown_state after)
 
 -- the error that an entry's connection tells its caller
-abbrev pub told_in : Role → Option Error
-told_in role = in_connection None (λ c. c.pending_error) role
+abbrev pub pending_error_in : Role → Option Error
+pending_error_in role = in_connection None (λ c. c.pending_error) role
 
 -- an event of the entry's connection makes it tell an error: a reset that acts, in a state that has it
 abbrev pub is_telling : edge.Event → Error → Role → Bool
 is_telling e error role = in_connection false (λ c. edge.may_raise c e error) role
 
 abbrev pub is_telling_to : HostView → Event → Error → Entry → Bool
-is_telling_to h (Hears now isn s) error x = is_between (local_end h s) (peer_end h s) x && is_telling (edge.Hears s (later h now)) error x.role
+is_telling_to h (Hears now isn s) error x = is_between (local_end h s) (peer_end h s) x && is_telling (edge.Hears s (later_moment h now)) error x.role
 is_telling_to h _ error x = false
 
 -- the errors that are told after an event were told before, or the event makes the connection tell them
 abbrev pub IsToldBy : HostView → Event → Entry → Entry → Type 0
-IsToldBy h e x y = (error : Error) → told_in y.role ≡ Some error → (told_in x.role ≡ Some error) ⊎ (is_telling_to h e error x ≡ true)
+IsToldBy h e x y = (error : Error) → pending_error_in y.role ≡ Some error → (pending_error_in x.role ≡ Some error) ⊎ (is_telling_to h e error x ≡ true)
 
 -- An entry, and what an event leaves of it: its state stays, or goes along an edge of the table; where it is taken out, or becomes
 -- CLOSED, that has a cause; and so has an error that it tells.
@@ -111,7 +111,7 @@ pub record IsOpenedBy (h : HostView) (s : Segment) (e : Entry) : Type 0 where
   pub id : e.id.0 ≡ h.last_id + 1
   pub between : is_between (local_end h s) (peer_end h s) e ≡ true
   pub state : shown_state e.role ≡ SynReceived
-  pub told : told_in e.role ≡ None
+  pub told : pending_error_in e.role ≡ None
   pub listener : Entry
   pub listens : find (is_listening_at s.destination) h.entries ≡ Some listener
   pub waits : is_waiting_at listener.id e ≡ true

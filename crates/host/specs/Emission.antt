@@ -4,8 +4,8 @@ use Rattle.tcp_segment.specs.declared.head.Head.{Head}
 use Rattle.clock.specs.declared.moment.Moment.{Moment}
 use Rattle.host.specs.declared.entry.Entry.{Entry}
 use Rattle.host.specs.Replies.{reply_len, reply_octets, reply_framed}
-use Rattle.host.specs.Entries.{is_due, due_len, due_octets, framed, emitted_at, emitted_fate, settled}
-use Rattle.host.specs.HostView.{HostView, later}
+use Rattle.host.specs.Entries.{is_due, due_len, due_octets, due_front, role_after_emission, emission_fate_of, entries_after_step}
+use Rattle.host.specs.HostView.{HostView, later_moment}
 
 -- What the table sends.
 
@@ -27,7 +27,7 @@ segment_front h out = of_entry (find is_due h.entries)
   where
     of_entry : Option Entry → List ℕ
     of_entry None = out
-    of_entry (Some e) = framed e.role out
+    of_entry (Some e) = due_front e.role out
 
 -- the first entry that has a segment due once it went out: it is taken out where it is over then
 abbrev pub after_segment_sent : HostView → Moment → List Entry
@@ -35,7 +35,7 @@ after_segment_sent h now = of_entry (find is_due h.entries)
   where
     of_entry : Option Entry → List Entry
     of_entry None = h.entries
-    of_entry (Some e) = settled (emitted_fate (emitted_at now e.role)) is_due (emitted_at now) h.entries
+    of_entry (Some e) = entries_after_step (emission_fate_of (role_after_emission now e.role)) is_due (role_after_emission now) h.entries
 
 -- What the host sends.
 
@@ -45,7 +45,7 @@ after_emission h now = of_replies h.replies
   where
     of_replies : List Head → HostView
     of_replies (reply ∷ rest) = record h { replies = rest }
-    of_replies [] = record h { entries = after_segment_sent h (later h now) }
+    of_replies [] = record h { entries = after_segment_sent h (later_moment h now) }
 
 -- its length in octets
 abbrev pub emission_len : HostView → Option ℕ

@@ -156,83 +156,83 @@ new_waiting id listener c = record { id = id; role = Connected c (Some listener)
 
 -- What the calls make of a role. Each names the role that it is for, and leaves any other.
 
-abbrev pub bound_to : Endpoint → Role → Role
-bound_to local (Idle buffers bound) = Idle buffers (Some local)
-bound_to local (Listener l b) = Listener l b
-bound_to local (Connected c l) = Connected c l
+abbrev pub role_after_bind : Endpoint → Role → Role
+role_after_bind local (Idle buffers bound) = Idle buffers (Some local)
+role_after_bind local (Listener l b) = Listener l b
+role_after_bind local (Connected c l) = Connected c l
 
-abbrev pub listening : ℕ → Role → Role
-listening backlog (Idle buffers (Some local)) = Listener local backlog
-listening backlog (Idle buffers None) = Idle buffers None
-listening backlog (Listener l b) = Listener l b
-listening backlog (Connected c l) = Connected c l
+abbrev pub role_after_listen : ℕ → Role → Role
+role_after_listen backlog (Idle buffers (Some local)) = Listener local backlog
+role_after_listen backlog (Idle buffers None) = Idle buffers None
+role_after_listen backlog (Listener l b) = Listener l b
+role_after_listen backlog (Connected c l) = Connected c l
 
 -- a connection in SYN-SENT (RFC 9293 section 3.10.1)
-abbrev pub connecting : Endpoint → Endpoint → ℕ → Role → Role
-connecting local peer isn (Idle buffers bound) = Connected (opened_actively local peer isn) None
-connecting local peer isn (Listener l b) = Listener l b
-connecting local peer isn (Connected c l) = Connected c l
+abbrev pub role_after_connect : Endpoint → Endpoint → ℕ → Role → Role
+role_after_connect local peer isn (Idle buffers bound) = Connected (opened_actively local peer isn) None
+role_after_connect local peer isn (Listener l b) = Listener l b
+role_after_connect local peer isn (Connected c l) = Connected c l
 
-abbrev pub accepted : Role → Role
-accepted (Connected c listener) = Connected c None
-accepted (Listener l b) = Listener l b
-accepted (Idle buffers bound) = Idle buffers bound
+abbrev pub role_after_accept : Role → Role
+role_after_accept (Connected c listener) = Connected c None
+role_after_accept (Listener l b) = Listener l b
+role_after_accept (Idle buffers bound) = Idle buffers bound
 
 -- octets are given to the connection, and as many are taken as there is room for
-abbrev pub sent : List ℕ → Role → Role
-sent octets role = on_connection (λ c. after_send c octets) role
+abbrev pub role_after_send : List ℕ → Role → Role
+role_after_send octets role = on_connection (λ c. after_send c octets) role
 
 -- our side of the connection is closed, where it is past its opening and told no error
-abbrev pub write_shut : Role → Role
-write_shut role = on_connection (λ c. if is_some c.pending_error || is_opening c.state then c else after_shutdown c) role
+abbrev pub role_after_shutdown : Role → Role
+role_after_shutdown role = on_connection (λ c. if is_some c.pending_error || is_opening c.state then c else after_shutdown c) role
 
 -- octets of the connection are read into a buffer of this length, and none into an empty one
-abbrev pub received : ℕ → Role → Role
-received len role = on_connection (λ c. if len == 0 then c else after_recv c len) role
+abbrev pub role_after_recv : ℕ → Role → Role
+role_after_recv len role = on_connection (λ c. if len == 0 then c else after_recv c len) role
 
 -- What else happens to a role: what becomes of it, and of the entry's place.
 
 -- timers act
-abbrev pub ticked : Moment → Role → Role
-ticked now role = on_connection (λ c. after_tick c now) role
+abbrev pub role_after_tick : Moment → Role → Role
+role_after_tick now role = on_connection (λ c. after_tick c now) role
 
 abbrev pub tick_fate_of : Moment → Role → Fate
 tick_fate_of now role = in_connection Stays (λ c. tick_fate c now) role
 
 -- a segment arrives at the connection
-abbrev pub arrived : Moment → Segment → Role → Role
-arrived now s role = on_connection (λ c. after_segment_at c s now) role
+abbrev pub role_after_segment : Moment → Segment → Role → Role
+role_after_segment now s role = on_connection (λ c. after_segment_at c s now) role
 
 abbrev pub fate_of : Segment → Role → Fate
 fate_of s role = in_connection Stays (λ c. fate c s) role
 
 -- the caller closes the socket, and nothing is left of one without a connection
-abbrev pub closed : Moment → Role → Role
-closed now role = on_connection (λ c. after_close c now) role
+abbrev pub role_after_close : Moment → Role → Role
+role_after_close now role = on_connection (λ c. after_close c now) role
 
 abbrev pub close_fate_of : Role → Fate
 close_fate_of role = in_connection Removed close_fate role
 
 -- the connection is aborted
-abbrev pub aborted : Moment → Role → Role
-aborted now role = on_connection (λ c. after_abort c now) role
+abbrev pub role_after_abort : Moment → Role → Role
+role_after_abort now role = on_connection (λ c. after_abort c now) role
 
 abbrev pub abort_fate_of : Role → Fate
 abort_fate_of role = in_connection Stays abort_fate role
 
 -- a listener is closed: a connection that waits at it is aborted
-abbrev pub forsaken : Moment → SocketId → Role → Role
-forsaken now id role = if waits_at id role then aborted now role else role
+abbrev pub role_after_listener_close : Moment → SocketId → Role → Role
+role_after_listener_close now id role = if waits_at id role then role_after_abort now role else role
 
-abbrev pub forsaken_fate : SocketId → Role → Fate
-forsaken_fate id role = if waits_at id role then abort_fate_of role else Stays
+abbrev pub listener_close_fate_of : SocketId → Role → Fate
+listener_close_fate_of id role = if waits_at id role then abort_fate_of role else Stays
 
 -- the segment that is due goes out; an abort is over once its reset has gone out
-abbrev pub emitted_at : Moment → Role → Role
-emitted_at now role = on_connection (λ c. after_first c (first_due c) now) role
+abbrev pub role_after_emission : Moment → Role → Role
+role_after_emission now role = on_connection (λ c. after_first c (first_due c) now) role
 
-abbrev pub emitted_fate : Role → Fate
-emitted_fate role = in_connection Stays (λ c. if is_over c then Removed else Stays) role
+abbrev pub emission_fate_of : Role → Fate
+emission_fate_of role = in_connection Stays (λ c. if is_over c then Removed else Stays) role
 
 -- its length in octets
 abbrev pub due_len : Role → Option ℕ
@@ -247,8 +247,8 @@ due_octets role = in_connection [] (λ c. of_due c (first_due c)) role
     of_due c (Some due) = segment_octets c due
 
 -- its octets stand at the front of what was there
-abbrev pub framed : Role → List ℕ → List ℕ
-framed role out = in_connection out (λ c. of_due c (first_due c)) role
+abbrev pub due_front : Role → List ℕ → List ℕ
+due_front role out = in_connection out (λ c. of_due c (first_due c)) role
   where
     of_due : View → Option Due → List ℕ
     of_due c None = out
@@ -266,9 +266,9 @@ is_kept Stays = true
 is_kept Rejected = true
 
 -- the first entry that passes the test takes a step: its role changes, or it is taken out
-abbrev pub settled : Fate → (Entry → Bool) → (Role → Role) → List Entry → List Entry
-settled fate test change entries = if is_kept fate then change_first test (with_role change) entries else remove_first test entries
+abbrev pub entries_after_step : Fate → (Entry → Bool) → (Role → Role) → List Entry → List Entry
+entries_after_step fate test change entries = if is_kept fate then change_first test (with_role change) entries else remove_first test entries
 
 -- each entry takes a step: those whose connection is gone are taken out, and the others keep their order
-abbrev pub all_settled : (Role → Fate) → (Role → Role) → List Entry → List Entry
-all_settled fate change entries = retain_mut (λ e. is_kept (fate e.role)) (with_role change) entries
+abbrev pub entries_after_steps : (Role → Fate) → (Role → Role) → List Entry → List Entry
+entries_after_steps fate change entries = retain_mut (λ e. is_kept (fate e.role)) (with_role change) entries

@@ -30,12 +30,12 @@ abbrev pub with_socket : HostView → SocketId → (Role → Role) → HostView
 with_socket h id change = record h { entries = change_first (is_socket id) (with_role change) h.entries }
 
 -- the later of a moment and the kept one
-abbrev pub later : HostView → Moment → Moment
-later h now = if nat_lt h.kept.0 now.0 then now else h.kept
+abbrev pub later_moment : HostView → Moment → Moment
+later_moment h now = if nat_lt h.kept.0 now.0 then now else h.kept
 
 -- a host on which nothing happened
-abbrev pub fresh : Addr → Addr → HostView
-fresh addr neighbour = record {
+abbrev pub new_host : Addr → Addr → HostView
+new_host addr neighbour = record {
   addr = addr;
   neighbour = neighbour;
   kept = record { 0 = 0 };

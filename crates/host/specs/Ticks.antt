@@ -4,13 +4,13 @@ use Rattle.std.specs.List.{Contains, AllByRecursion}
 use Rattle.clock.specs.declared.moment.Moment.{Moment}
 use Rattle.clock.specs.Moments.{sooner}
 use Rattle.host.specs.declared.entry.Entry.{Entry}
-use Rattle.host.specs.Entries.{deadline_of, ticked, tick_fate_of, all_settled}
-use Rattle.host.specs.HostView.{HostView, later}
+use Rattle.host.specs.Entries.{deadline_of, role_after_tick, tick_fate_of, entries_after_steps}
+use Rattle.host.specs.HostView.{HostView, later_moment}
 
 -- each timer acts whose moment has come, at the later of the moment and the kept one, which is then kept; a connection that its
 -- caller closed is taken out where its wait is over
 abbrev pub after_tick : HostView → Moment → HostView
-after_tick h now = record h { kept = later h now; entries = all_settled (tick_fate_of (later h now)) (ticked (later h now)) h.entries }
+after_tick h now = record h { kept = later_moment h now; entries = entries_after_steps (tick_fate_of (later_moment h now)) (role_after_tick (later_moment h now)) h.entries }
 
 -- the least deadline of all entries
 abbrev pub least_deadline : HostView → Option Moment

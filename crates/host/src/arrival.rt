@@ -40,7 +40,7 @@ impl Host {
         requires { position (is_between (local_end self.old segment.now) (peer_end self.old segment.now)) self.old.entries ≡ Some place }
         ensures { (isn : ℕ) → Meets (arrival self.old now isn segment.now) self.old result self.new }
     {
-        let now = self.later(now);
+        let now = self.later_moment(now);
         match self.entries[place].segment(now, segment) {
             Fate::Rejected => self.answer(Some(Reply::at_ack(segment))),
             fate => {

@@ -24,9 +24,9 @@ const BACKLOG: usize = 1;
 
 #[tactic(auto, using(crate::proofs::Firsts::firsts))]
 impl Host {
-    ghost use Rattle.host.specs.HostView.{HostView, later};
+    ghost use Rattle.host.specs.HostView.{HostView, later_moment};
     ghost use Rattle.host.specs.Entries.{is_socket};
-    ghost use Rattle.host.specs.Calls.{bind_refusal, after_bind, listen_refusal, after_listen, state_answer, after_socket, is_table_full, accept_answer, after_accept, send_answer, after_send, recv_answer, recv_front, after_recv, connect_refusal, after_connect, reach_refusal, port_for, counted_port, pair_connected, shutdown_refusal, after_shutdown};
+    ghost use Rattle.host.specs.Calls.{bind_refusal, after_bind, listen_refusal, after_listen, state_answer, after_socket, is_table_full, accept_answer, after_accept, send_answer, after_send, recv_answer, recv_front, after_recv, connect_refusal, after_connect, reach_refusal, port_for, last_port_after, pair_connected, shutdown_refusal, after_shutdown};
 
     /// Makes a socket, with the room for one connection. EMFILE where the table is full or the last id is given, ENOMEM.
     pub fn socket(&mut self, kind: Kind) -> Result<SocketId, Refusal>
@@ -157,7 +157,7 @@ impl Host {
         self.may_reach(peer)?;
         let port = self.local_port(bound, peer)?;
         let addr = self.addr;
-        self.last_port = self.counted_port(bound, port);
+        self.last_port = self.last_port_after(bound, port);
         self.entries[place].connect(Endpoint { addr, port }, peer, isn);
         Ok(())
     }
@@ -207,9 +207,9 @@ impl Host {
     }
 
     /// The dynamic port given last, once a connection has this port: that of a bound socket does not count.
-    fn counted_port(&self, bound: Option<Endpoint>, port: u16) -> u16
+    fn last_port_after(&self, bound: Option<Endpoint>, port: u16) -> u16
         requires { bound ≡ None → 49152 ≤ port }
-        ensures value { result ≡ counted_port self.now bound port }
+        ensures value { result ≡ last_port_after self.now bound port }
         ensures dynamic { 49152 ≤ result }
     {
         match bound {

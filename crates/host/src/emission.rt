@@ -10,7 +10,7 @@ use tcp_state::{Due, MOST_SEGMENT};
 
 #[tactic(auto, using(crate::proofs::Firsts::firsts))]
 impl Host {
-    ghost use Rattle.host.specs.HostView.{later};
+    ghost use Rattle.host.specs.HostView.{later_moment};
     ghost use Rattle.host.specs.Emission.{segment_len, segment_front, after_segment_sent};
 
     /// Writes the segment of the entry in this place, the first that has one due, from `out[0]` on, and answers its length in octets.
@@ -21,13 +21,13 @@ impl Host {
         requires room { MOST_SEGMENT ≤ length out.old }
         ensures len { Some result ≡ segment_len self.old }
         ensures bound { result ≤ MOST_SEGMENT }
-        ensures after { self.new ≡ record self.old { entries = after_segment_sent self.old (later self.old now) } }
+        ensures after { self.new ≡ record self.old { entries = after_segment_sent self.old (later_moment self.old now) } }
         ensures frame { out.new ≡ segment_front self.old out.old }
     {
-        let now = self.later(now);
+        let now = self.later_moment(now);
         let entry = &mut self.entries[place];
         let len = entry.emit(due, now, out);
-        let fate = entry.role.emitted_fate();
+        let fate = entry.role.emission_fate_of();
         table::settle(&mut self.entries, place, fate);
         len
     }

@@ -77,49 +77,49 @@ impl Entry {
 
 /// What happens to the role of an entry; its id stays.
 impl Entry {
-    ghost use Rattle.host.specs.Entries.{bound_to, listening, connecting, accepted, sent, received, write_shut, arrived, fate_of, ticked, tick_fate_of, emitted_at, due_len, framed, closed, close_fate_of, forsaken, forsaken_fate};
-    ghost use Rattle.host.specs.Calls.{sent_answer, received_answer, read_front};
+    ghost use Rattle.host.specs.Entries.{role_after_bind, role_after_listen, role_after_connect, role_after_accept, role_after_send, role_after_recv, role_after_shutdown, role_after_segment, fate_of, role_after_tick, tick_fate_of, role_after_emission, due_len, due_front, role_after_close, close_fate_of, role_after_listener_close, listener_close_fate_of};
+    ghost use Rattle.host.specs.Calls.{role_send_answer, role_recv_answer, read_front};
 
     /// Binds an idle socket to `local`.
     pub(crate) fn bind(&mut self, local: Endpoint)
-        ensures { self.new ≡ with_role (bound_to local) self.old }
+        ensures { self.new ≡ with_role (role_after_bind local) self.old }
     {
         self.role.bind(local);
     }
 
     /// Lets a bound socket listen.
     pub(crate) fn listen(&mut self, backlog: usize)
-        ensures { self.new ≡ with_role (listening backlog) self.old }
+        ensures { self.new ≡ with_role (role_after_listen backlog) self.old }
     {
         self.role.listen(backlog);
     }
 
     /// Lets an idle socket open a connection from `local` to `peer`.
     pub(crate) fn connect(&mut self, local: Endpoint, peer: Endpoint, isn: Seq)
-        ensures { self.new ≡ with_role (connecting local peer isn.0) self.old }
+        ensures { self.new ≡ with_role (role_after_connect local peer isn.0) self.old }
     {
         self.role.connect(local, peer, isn);
     }
 
     /// Lets a connection leave its listener.
     pub(crate) fn accept(&mut self)
-        ensures { self.new ≡ with_role accepted self.old }
+        ensures { self.new ≡ with_role role_after_accept self.old }
     {
         self.role.accept();
     }
 
     /// Gives octets to the connection, and answers how many it took.
     pub(crate) fn send(&mut self, octets: &[u8]) -> Result<usize, Refusal>
-        ensures answer { result ≡ sent_answer self.old.role octets.now }
-        ensures after { self.new ≡ with_role (sent octets.now) self.old }
+        ensures answer { result ≡ role_send_answer self.old.role octets.now }
+        ensures after { self.new ≡ with_role (role_after_send octets.now) self.old }
     {
         self.role.send(octets)
     }
 
     /// Reads octets of the connection into `buffer`.
     pub(crate) fn recv(&mut self, buffer: &mut [u8]) -> Result<Received, Refusal>
-        ensures answer { result ≡ received_answer self.old.role (length buffer.old) }
-        ensures after { self.new ≡ with_role (received (length buffer.old)) self.old }
+        ensures answer { result ≡ role_recv_answer self.old.role (length buffer.old) }
+        ensures after { self.new ≡ with_role (role_after_recv (length buffer.old)) self.old }
         ensures octets { buffer.new ≡ read_front self.old.role buffer.old }
     {
         self.role.recv(buffer)
@@ -127,7 +127,7 @@ impl Entry {
 
     /// Closes our side of the connection.
     pub(crate) fn shutdown(&mut self)
-        ensures { self.new ≡ with_role write_shut self.old }
+        ensures { self.new ≡ with_role role_after_shutdown self.old }
     {
         self.role.shutdown();
     }
@@ -135,15 +135,15 @@ impl Entry {
     /// The caller closes the socket. Answers what becomes of the entry.
     pub(crate) fn close(&mut self, now: Moment) -> Fate
         ensures fate { result ≡ close_fate_of self.old.role }
-        ensures after { self.new ≡ with_role (closed now) self.old }
+        ensures after { self.new ≡ with_role (role_after_close now) self.old }
     {
         self.role.close(now)
     }
 
     /// The listener `id` is closed. Answers whether the entry keeps its place.
     pub(crate) fn forsake(&mut self, now: Moment, id: SocketId) -> bool
-        ensures kept { result ≡ is_kept (forsaken_fate id self.old.role) }
-        ensures after { self.new ≡ with_role (forsaken now id) self.old }
+        ensures kept { result ≡ is_kept (listener_close_fate_of id self.old.role) }
+        ensures after { self.new ≡ with_role (role_after_listener_close now id) self.old }
     {
         is_kept(self.role.forsake(now, id))
     }
@@ -151,7 +151,7 @@ impl Entry {
     /// Hands a segment to the connection, and answers what becomes of the entry.
     pub(crate) fn segment(&mut self, now: Moment, segment: &TcpView<'_>) -> Fate
         ensures fate { result ≡ fate_of segment.now self.old.role }
-        ensures after { self.new ≡ with_role (arrived now segment.now) self.old }
+        ensures after { self.new ≡ with_role (role_after_segment now segment.now) self.old }
     {
         self.role.segment(now, segment)
     }
@@ -159,7 +159,7 @@ impl Entry {
     /// Lets the timers act whose moment has come, and answers whether the entry keeps its place.
     pub(crate) fn tick(&mut self, now: Moment) -> bool
         ensures kept { result ≡ is_kept (tick_fate_of now self.old.role) }
-        ensures after { self.new ≡ with_role (ticked now) self.old }
+        ensures after { self.new ≡ with_role (role_after_tick now) self.old }
     {
         is_kept(self.role.tick(now))
     }
@@ -170,8 +170,8 @@ impl Entry {
         requires room { MOST_SEGMENT ≤ length out.old }
         ensures len { Some result ≡ due_len self.old.role }
         ensures bound { result ≤ MOST_SEGMENT }
-        ensures after { self.new ≡ with_role (emitted_at now) self.old }
-        ensures frame { out.new ≡ framed self.old.role out.old }
+        ensures after { self.new ≡ with_role (role_after_emission now) self.old }
+        ensures frame { out.new ≡ due_front self.old.role out.old }
     {
         self.role.emit(due, now, out)
     }

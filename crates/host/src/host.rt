@@ -47,14 +47,14 @@ impl Model for Host {
 
 #[tactic(auto, using(crate::proofs::Firsts::firsts))]
 impl Host {
-    ghost use Rattle.host.specs.HostView.{later, holder_id, fresh};
+    ghost use Rattle.host.specs.HostView.{later_moment, holder_id, new_host};
     ghost use Rattle.host.specs.Ticks.{after_tick, least_deadline};
     ghost use Rattle.host.specs.Pairs.{socket_pair};
     ghost use Rattle.host.specs.Sound.{IsSoundHost};
 
     /// A host with no sockets, whose kept moment is 0. It takes no memory.
     pub fn new(alloc: Global, config: Config, neighbour: Addr) -> Host
-        ensures { result ≡ fresh config neighbour }
+        ensures { result ≡ new_host config neighbour }
     {
         Host {
             alloc,
@@ -73,7 +73,7 @@ impl Host {
     pub fn tick(&mut self, now: Moment)
         ensures { self.new ≡ after_tick self.old now }
     {
-        let now = self.later(now);
+        let now = self.later_moment(now);
         self.kept = now;
         table::tick(&mut self.entries, now);
     }
@@ -110,8 +110,8 @@ impl Host {
     }
 
     /// The later of `now` and the kept moment.
-    pub(crate) fn later(&self, now: Moment) -> Moment
-        ensures { result ≡ later self.now now }
+    pub(crate) fn later_moment(&self, now: Moment) -> Moment
+        ensures { result ≡ later_moment self.now now }
     {
         if now > self.kept { now } else { self.kept }
     }

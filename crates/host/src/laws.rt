@@ -9,7 +9,7 @@ ghost use Rattle.tcp_segment.specs.Segment.{Segment};
 ghost use Rattle.clock.specs.declared.moment.Moment.{Moment};
 ghost use Rattle.clock.specs.Moments.{has_come};
 ghost use Rattle.host.specs.declared.entry.SocketId.{SocketId};
-ghost use Rattle.host.specs.HostView.{HostView, holder_id, fresh, later};
+ghost use Rattle.host.specs.HostView.{HostView, holder_id, new_host, later_moment};
 ghost use Rattle.host.specs.Ticks.{after_tick, least_deadline, IsLeastDeadline, HasNoDeadline};
 ghost use Rattle.host.specs.Arrival.{Opens, local_end, peer_end, arrival, opened_by, pair_opened};
 ghost use Rattle.host.specs.Calls.{connect_refusal, after_connect, pair_connected};
@@ -61,14 +61,14 @@ pub fn deadline_is_the_least()
 
 /// A tick before the deadline changes nothing but the kept moment, and so does any tick where there is no deadline.
 pub fn ticks_wait()
-    ensures { (h : HostView) (now : Moment) → has_come (least_deadline h) (later h now) ≡ false → after_tick h now ≡ record h { kept = later h now } }
+    ensures { (h : HostView) (now : Moment) → has_come (least_deadline h) (later_moment h now) ≡ false → after_tick h now ≡ record h { kept = later_moment h now } }
 {}
 
 /// The table of a host stays in order, from the first on, whatever happens but a call that is refused: ids ascend, no two connections but CLOSED
 /// ones have the same two ends (RFC 9293 section 3.4.1), and no two sockets without a connection have the same port.
 /// The id given last never goes back, so none is given twice.
 pub fn tables_stay_ordered()
-    ensures fresh { (addr neighbour : Addr) → IsOrdered (fresh addr neighbour) }
+    ensures fresh { (addr neighbour : Addr) → IsOrdered (new_host addr neighbour) }
     ensures kept { (h : HostView) (e : Event) → IsAllowed h e → IsOrdered h → IsOrdered (after_event h e) }
     ensures numbered { (h : HostView) (e : Event) → let after = after_event h e in h.last_id ≤ after.last_id }
 {}

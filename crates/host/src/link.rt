@@ -12,7 +12,7 @@ use tcp_segment::{Seq, TcpView};
 
 #[tactic(auto, using(crate::proofs::Firsts::firsts))]
 impl Host {
-    ghost use Rattle.host.specs.Arrival.{answered, Meets, IsDelivered, IsForeseen};
+    ghost use Rattle.host.specs.Arrival.{arrival_with_reply, Meets, IsDelivered, IsForeseen};
     ghost use Rattle.host.specs.Emission.{emission_len, after_emission, emission_front};
     ghost use Rattle.host.specs.Pairs.{due_pair, reply_pair};
 
@@ -43,7 +43,7 @@ impl Host {
 
     /// Puts a reply behind those that wait; NoRoom where there is no place for it.
     pub(crate) fn answer(&mut self, reply: Option<Reply>) -> Result<(), DropCause>
-        ensures { Meets (answered self.old reply) self.old result self.new }
+        ensures { Meets (arrival_with_reply self.old reply) self.old result self.new }
     {
         let Some(reply) = reply else {
             return Ok(());

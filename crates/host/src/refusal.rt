@@ -106,11 +106,11 @@ pub enum DropCause {
 
 impl DropCause {
     ghost use Rattle.std.specs.Prelude.{◌≡◌};
-    ghost use Rattle.host.specs.Arrival.{number_of};
+    ghost use Rattle.host.specs.Arrival.{cause_number};
 
     /// The number behind the F of its text.
     pub fn number(self) -> u8
-        ensures { result ≡ number_of self }
+        ensures { result ≡ cause_number self }
     {
         match self {
             DropCause::UpperHeader => 7,

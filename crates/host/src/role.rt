@@ -229,12 +229,12 @@ impl Role {
 
 /// What the calls, a segment, the clock and an emission make of a role. Each names the role that it is for, and leaves any other.
 impl Role {
-    ghost use Rattle.host.specs.Entries.{bound_to, listening, connecting, accepted, sent, received, write_shut, arrived, fate_of, ticked, tick_fate_of, emitted_at, emitted_fate, due_len, framed, closed, close_fate_of, aborted, abort_fate_of, forsaken, forsaken_fate};
-    ghost use Rattle.host.specs.Calls.{sent_answer, received_answer, read_front};
+    ghost use Rattle.host.specs.Entries.{role_after_bind, role_after_listen, role_after_connect, role_after_accept, role_after_send, role_after_recv, role_after_shutdown, role_after_segment, fate_of, role_after_tick, tick_fate_of, role_after_emission, emission_fate_of, due_len, due_front, role_after_close, close_fate_of, role_after_abort, abort_fate_of, role_after_listener_close, listener_close_fate_of};
+    ghost use Rattle.host.specs.Calls.{role_send_answer, role_recv_answer, read_front};
 
     /// Binds an idle socket to `local`.
     pub(crate) fn bind(&mut self, to: Endpoint)
-        ensures { self.new ≡ bound_to to self.old }
+        ensures { self.new ≡ role_after_bind to self.old }
     {
         if let Role::Idle { bound, .. } = self {
             *bound = Some(to);
@@ -243,7 +243,7 @@ impl Role {
 
     /// Lets a bound idle socket listen, and frees its buffers.
     pub(crate) fn listen(&mut self, backlog: usize)
-        ensures { self.new ≡ listening backlog self.old }
+        ensures { self.new ≡ role_after_listen backlog self.old }
     {
         if let Role::Idle {
             bound: Some(local),
@@ -257,7 +257,7 @@ impl Role {
 
     /// Lets an idle socket open a connection (RFC 9293 section 3.10.1).
     pub(crate) fn connect(&mut self, local: Endpoint, peer: Endpoint, isn: Seq)
-        ensures { self.new ≡ connecting local peer isn.0 self.old }
+        ensures { self.new ≡ role_after_connect local peer isn.0 self.old }
     {
         *self = match mem::take(self) {
             Role::Idle { buffers, .. } => Role::Connected {
@@ -270,7 +270,7 @@ impl Role {
 
     /// Lets a connection leave its listener.
     pub(crate) fn accept(&mut self)
-        ensures { self.new ≡ accepted self.old }
+        ensures { self.new ≡ role_after_accept self.old }
     {
         if let Role::Connected { listener, .. } = self {
             *listener = None;
@@ -279,8 +279,8 @@ impl Role {
 
     /// Gives octets to the connection, and answers how many it took.
     pub(crate) fn send(&mut self, octets: &[u8]) -> Result<usize, Refusal>
-        ensures answer { result ≡ sent_answer self.old octets.now }
-        ensures after { self.new ≡ sent octets.now self.old }
+        ensures answer { result ≡ role_send_answer self.old octets.now }
+        ensures after { self.new ≡ role_after_send octets.now self.old }
     {
         match self {
             Role::Idle { .. } => Err(Refusal::ENOTCONN),
@@ -294,8 +294,8 @@ impl Role {
 
     /// Reads octets of the connection into `buffer`, as many as there are or as fit.
     pub(crate) fn recv(&mut self, buffer: &mut [u8]) -> Result<Received, Refusal>
-        ensures answer { result ≡ received_answer self.old (length buffer.old) }
-        ensures after { self.new ≡ received (length buffer.old) self.old }
+        ensures answer { result ≡ role_recv_answer self.old (length buffer.old) }
+        ensures after { self.new ≡ role_after_recv (length buffer.old) self.old }
         ensures octets { buffer.new ≡ read_front self.old buffer.old }
     {
         match self {
@@ -311,7 +311,7 @@ impl Role {
 
     /// Closes our side of the connection, where it is past its opening.
     pub(crate) fn shutdown(&mut self)
-        ensures { self.new ≡ write_shut self.old }
+        ensures { self.new ≡ role_after_shutdown self.old }
     {
         if let Role::Connected { connection, .. } = self {
             let _ = connection.shutdown();
@@ -321,7 +321,7 @@ impl Role {
     /// The caller closes the socket. Answers what becomes of the entry: nothing is left of a socket without a connection.
     pub(crate) fn close(&mut self, now: Moment) -> Fate
         ensures fate { result ≡ close_fate_of self.old }
-        ensures after { self.new ≡ closed now self.old }
+        ensures after { self.new ≡ role_after_close now self.old }
     {
         match self {
             Role::Connected { connection, .. } => connection.close(now),
@@ -331,8 +331,8 @@ impl Role {
 
     /// The listener `id` is closed: a connection that waits at it is aborted. Answers what becomes of the entry.
     pub(crate) fn forsake(&mut self, now: Moment, id: SocketId) -> Fate
-        ensures fate { result ≡ forsaken_fate id self.old }
-        ensures after { self.new ≡ forsaken now id self.old }
+        ensures fate { result ≡ listener_close_fate_of id self.old }
+        ensures after { self.new ≡ role_after_listener_close now id self.old }
     {
         if self.waits_at(id) {
             self.abort(now)
@@ -344,7 +344,7 @@ impl Role {
     /// Aborts the connection, and answers what becomes of the entry.
     fn abort(&mut self, now: Moment) -> Fate
         ensures fate { result ≡ abort_fate_of self.old }
-        ensures after { self.new ≡ aborted now self.old }
+        ensures after { self.new ≡ role_after_abort now self.old }
     {
         match self {
             Role::Connected { connection, .. } => connection.abort(now),
@@ -355,7 +355,7 @@ impl Role {
     /// Hands a segment to the connection, and answers what becomes of the entry.
     pub(crate) fn segment(&mut self, now: Moment, segment: &TcpView<'_>) -> Fate
         ensures fate { result ≡ fate_of segment.now self.old }
-        ensures after { self.new ≡ arrived now segment.now self.old }
+        ensures after { self.new ≡ role_after_segment now segment.now self.old }
     {
         match self {
             Role::Connected { connection, .. } => connection.segment(now, segment),
@@ -366,7 +366,7 @@ impl Role {
     /// Lets the timers whose moment has come act, and answers what becomes of the entry.
     pub(crate) fn tick(&mut self, now: Moment) -> Fate
         ensures fate { result ≡ tick_fate_of now self.old }
-        ensures after { self.new ≡ ticked now self.old }
+        ensures after { self.new ≡ role_after_tick now self.old }
     {
         match self {
             Role::Connected { connection, .. } => connection.tick(now),
@@ -380,8 +380,8 @@ impl Role {
         requires room { MOST_SEGMENT ≤ length out.old }
         ensures len { Some result ≡ due_len self.old }
         ensures bound { result ≤ MOST_SEGMENT }
-        ensures after { self.new ≡ emitted_at now self.old }
-        ensures frame { out.new ≡ framed self.old out.old }
+        ensures after { self.new ≡ role_after_emission now self.old }
+        ensures frame { out.new ≡ due_front self.old out.old }
     {
         match self {
             Role::Connected { connection, .. } => connection.emit_due(due, now, out),
@@ -390,8 +390,8 @@ impl Role {
     }
 
     /// What becomes of the entry once its segment went out: an abort is over then.
-    pub(crate) fn emitted_fate(&self) -> Fate
-        ensures { result ≡ emitted_fate self.now }
+    pub(crate) fn emission_fate_of(&self) -> Fate
+        ensures { result ≡ emission_fate_of self.now }
     {
         match self {
             Role::Connected { connection, .. } if connection.is_over() => Fate::Removed,

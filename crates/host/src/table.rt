@@ -2,7 +2,7 @@
 
 ghost use Rattle.std.specs.Prelude.{◌≡◌, ◌<◌, ◌≤◌, ◌&&◌, not, if◌then◌else◌, length, remove, position, count_by, fold, Some, None, IfSome, IfNone};
 ghost use Rattle.std.specs.List.{list_any, AllByRecursion};
-ghost use Rattle.host.specs.Entries.{is_kept, all_settled, tick_fate_of, forsaken, forsaken_fate, is_socket, is_between, is_of_pair, has_port, is_bound_at, is_waiting_at, is_offered_at, is_due, first_due_of, is_listening_at, deadline_of, ticked, with_role};
+ghost use Rattle.host.specs.Entries.{is_kept, entries_after_steps, tick_fate_of, role_after_listener_close, listener_close_fate_of, is_socket, is_between, is_of_pair, has_port, is_bound_at, is_waiting_at, is_offered_at, is_due, first_due_of, is_listening_at, deadline_of, role_after_tick, with_role};
 ghost use Rattle.clock.specs.Moments.{sooner};
 ghost use Rattle.host.specs.Sound.{IsSoundRole};
 
@@ -108,14 +108,14 @@ pub(crate) fn first_due(entries: &[Entry]) -> Option<(usize, Due)>
 
 /// Lets the timers of every entry act whose moment has come, and takes out those whose connection is gone then.
 pub(crate) fn tick(entries: &mut ArrayVec<Entry, ENTRIES>, now: Moment)
-    ensures { entries.new.items ≡ all_settled (tick_fate_of now) (ticked now) entries.old.items }
+    ensures { entries.new.items ≡ entries_after_steps (tick_fate_of now) (role_after_tick now) entries.old.items }
 {
     entries.retain(|entry| entry.tick(now));
 }
 
 /// Aborts the connections that wait at the listener `id`, which is closed, and takes out those that are CLOSED already.
 pub(crate) fn forsake(entries: &mut ArrayVec<Entry, ENTRIES>, now: Moment, id: SocketId)
-    ensures { entries.new.items ≡ all_settled (forsaken_fate id) (forsaken now id) entries.old.items }
+    ensures { entries.new.items ≡ entries_after_steps (listener_close_fate_of id) (role_after_listener_close now id) entries.old.items }
 {
     entries.retain(|entry| entry.forsake(now, id));
 }

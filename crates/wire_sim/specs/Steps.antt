@@ -29,7 +29,7 @@ use Rattle.host.specs.HostView.{HostView, role_of}
 use Rattle.host.specs.Ticks.{after_tick}
 use Rattle.host.specs.Emission.{after_emission, emission_len, emission_octets}
 use Rattle.wire_sim.specs.Sides.{other_side}
-use Rattle.wire_sim.specs.Tallies.{counted}
+use Rattle.wire_sim.specs.Tallies.{counts_after}
 use Rattle.wire_sim.specs.Openings.{epoch_of, opened_by_connect, opened_by_frame}
 use Rattle.host.specs.Pairs.{due_pair}
 use Rattle.wire_sim.specs.WorldView.{NetworkView, station_of, host_of, clock_of, written_at}
@@ -55,8 +55,8 @@ MeetsSocket h (reply.Refused ENOMEM) new = (is_table_full h ≡ false) × (new �
 MeetsSocket h _ new = ⊥
 
 -- how many octets one receive asks for at most
-abbrev pub asked : ℕ → ℕ
-asked len = min len 65535
+abbrev pub recv_len : ℕ → ℕ
+recv_len len = min len 65535
 
 -- the first octets that are readable on a socket
 abbrev pub readable_on : HostView → SocketId → ℕ → List ℕ
@@ -81,7 +81,7 @@ MeetsCall (call.Listen id backlog) h answer new = Answers (unless_refused (liste
 MeetsCall (call.Accept id) h answer new = Answers (accept_answer h id) (λ p. reply.Accepted p.0 p.1) (after_accept h id) h answer new
 MeetsCall (call.Connect isn id peer) h answer new = Answers (unless_refused (connect_refusal h id peer) (tt {0})) (λ _. reply.Started) (after_connect h isn.0 id peer) h answer new
 MeetsCall (call.Send id octets) h answer new = Answers (send_answer h id octets.items) (λ count. reply.Sent count) (after_send h id octets.items) h answer new
-MeetsCall (call.Recv id len) h answer new = MeetsReceived h id (asked len) (recv_answer h id (asked len)) answer new
+MeetsCall (call.Recv id len) h answer new = MeetsReceived h id (recv_len len) (recv_answer h id (recv_len len)) answer new
 MeetsCall (call.Shutdown id) h answer new = Answers (unless_refused (shutdown_refusal h id) (tt {0})) (λ _. reply.Done) (after_shutdown h id) h answer new
 MeetsCall (call.Close id) h answer new = Answers (unless_refused (close_refusal h id) (tt {0})) (λ _. reply.Done) (after_close h id) h answer new
 MeetsCall (call.State id) h answer new = Answers (state_answer h id) (λ state. reply.State state) h h answer new
@@ -93,21 +93,21 @@ with_opening n (Some o) = record n { openings = n.openings ++ o ∷ []; written 
 
 -- the network once a call on a side was answered and its host became another: a connect that was started opens a pair, and octets
 -- that were taken are counted
-abbrev pub called : Side → Call → Answer → ℕ → NetworkView → HostView → NetworkView
-called side (call.Connect isn id peer) reply.Started place n host = with_opening (with_host n side host) (opened_by_connect n.openings side id place host (host_of n (other_side side)))
-called side (call.Send id octets) (reply.Sent count) place n host = record (with_host n side host) { written = counted n.openings n.written side id count }
-called side _ _ place n host = with_host n side host
+abbrev pub after_call : Side → Call → Answer → ℕ → NetworkView → HostView → NetworkView
+after_call side (call.Connect isn id peer) reply.Started place n host = with_opening (with_host n side host) (opened_by_connect n.openings side id place host (host_of n (other_side side)))
+after_call side (call.Send id octets) (reply.Sent count) place n host = record (with_host n side host) { written = counts_after n.openings n.written side id count }
+after_call side _ _ place n host = with_host n side host
 
 -- a tick moves the clock forward, and ticks the host
-abbrev pub ticked_station : Station → Moment → Station
-ticked_station s moment = record s {
+abbrev pub station_after_tick : Station → Moment → Station
+station_after_tick s moment = record s {
   host = after_tick s.host moment;
   clock = if nat_lt s.clock.0 moment.0 then moment else s.clock;
 }
 
 -- what is noted of a frame of a pair that goes out: the pair's epoch, and how much was written at both ends
-abbrev pub noted : NetworkView → Pair → Note
-noted n pair = let epoch = epoch_of n.openings pair in record { pair = pair; epoch = epoch; at_a = written_at n A pair epoch; at_b = written_at n B pair epoch }
+abbrev pub note_of : NetworkView → Pair → Note
+note_of n pair = let epoch = epoch_of n.openings pair in record { pair = pair; epoch = epoch; at_a = written_at n A pair epoch; at_b = written_at n B pair epoch }
 
 -- The first segment that is due at a side's host went out, and its very octets stand at the end of the frames.
 pub record EmitsFrame (side : Side) (index len : ℕ) (old new : NetworkView) : Type 0 where
@@ -116,7 +116,7 @@ pub record EmitsFrame (side : Side) (index len : ℕ) (old new : NetworkView) : 
   pub frame : Frame
   pub sender : frame.sender ≡ side
   pub octets : frame.octets.items ≡ emission_octets (host_of old side)
-  pub note : frame.note ≡ option_map (noted old) (due_pair (host_of old side))
+  pub note : frame.note ≡ option_map (note_of old) (due_pair (host_of old side))
   pub after : new ≡ record (with_host old side (after_emission (host_of old side) (clock_of old side))) { frames = old.frames ++ frame ∷ [] }
 
 -- nothing is due, and then nothing changes
@@ -125,9 +125,9 @@ pub record EmitsNothing (side : Side) (old new : NetworkView) : Type 0 where
   pub after : new ≡ old
 
 -- what a frame made of its host, and the opening of its pair where the host holds it anew
-abbrev pub delivered : Side → ℕ → Option Note → NetworkView → HostView → NetworkView
-delivered side place None n host = with_host n side host
-delivered side place (Some note) n host = with_opening (with_host n side host) (opened_by_frame n.openings side place note.pair (host_of n side) host)
+abbrev pub after_delivery : Side → ℕ → Option Note → NetworkView → HostView → NetworkView
+after_delivery side place None n host = with_host n side host
+after_delivery side place (Some note) n host = with_opening (with_host n side host) (opened_by_frame n.openings side place note.pair (host_of n side) host)
 
 -- the host takes the frame's octets at its clock's moment, or drops them with a cause
 abbrev pub MeetsFrame : HostView → Moment → ℕ → List ℕ → Answer → HostView → Type 0
@@ -138,7 +138,7 @@ MeetsFrame h now isn octets _ new = ⊥
 -- the frame reaches the host just as it was emitted
 abbrev pub DeliversFrame : Side → ℕ → ℕ → Answer → NetworkView → NetworkView → Option Frame → Type 0
 DeliversFrame side isn place answer old new None = ⊥
-DeliversFrame side isn place answer old new (Some f) = MeetsFrame (host_of old side) (clock_of old side) isn f.octets.items answer (host_of new side) × (new ≡ delivered side place f.note old (host_of new side))
+DeliversFrame side isn place answer old new (Some f) = MeetsFrame (host_of old side) (clock_of old side) isn f.octets.items answer (host_of new side) × (new ≡ after_delivery side place f.note old (host_of new side))
 
 -- the frame that is due goes out, or none is
 abbrev pub MeetsEmission : Side → Answer → NetworkView → NetworkView → Type 0
@@ -148,19 +148,19 @@ MeetsEmission side _ old new = ⊥
 
 -- what an event, answered so, makes of the network; its place in the trace is given
 abbrev pub Steps : Event → ℕ → Answer → NetworkView → NetworkView → Type 0
-Steps (event.Call side c) place answer old new = MeetsCall c (host_of old side) answer (host_of new side) × (new ≡ called side c answer place old (host_of new side))
-Steps (event.Tick side moment) place answer old new = (answer ≡ reply.Done) × (new ≡ with_station old side (ticked_station (station_of old side) moment))
+Steps (event.Call side c) place answer old new = MeetsCall c (host_of old side) answer (host_of new side) × (new ≡ after_call side c answer place old (host_of new side))
+Steps (event.Tick side moment) place answer old new = (answer ≡ reply.Done) × (new ≡ with_station old side (station_after_tick (station_of old side) moment))
 Steps (event.Emit side) place answer old new = MeetsEmission side answer old new
 Steps (event.Deliver side index isn) place answer old new = DeliversFrame side isn.0 place answer old new (slice_get old.frames index)
 
 -- how many octets the host that an event names may read for it
-abbrev pub asked_of : Call → ℕ
-asked_of (call.Recv id len) = asked len
-asked_of _ = 0
+abbrev pub call_recv_len : Call → ℕ
+call_recv_len (call.Recv id len) = recv_len len
+call_recv_len _ = 0
 
-abbrev pub asked_by : Event → ℕ
-asked_by (event.Call side c) = asked_of c
-asked_by _ = 0
+abbrev pub event_recv_len : Event → ℕ
+event_recv_len (event.Call side c) = call_recv_len c
+event_recv_len _ = 0
 
 -- the event may put a frame into the network
 abbrev pub is_emission : Event → Bool

@@ -25,7 +25,7 @@ abbrev pub is_opening_at : Side → SocketId → Opening → Bool
 is_opening_at side id o = same_side o.side side && (o.id.0 == id.0)
 
 -- the counts once the caller of a socket gave so many octets more
-abbrev pub counted : List Opening → List ℕ → Side → SocketId → ℕ → List ℕ
-counted [] ws side id more = ws
-counted (o ∷ os) [] side id more = []
-counted (o ∷ os) (w ∷ ws) side id more = (if is_opening_at side id o then w + more else w) ∷ counted os ws side id more
+abbrev pub counts_after : List Opening → List ℕ → Side → SocketId → ℕ → List ℕ
+counts_after [] ws side id more = ws
+counts_after (o ∷ os) [] side id more = []
+counts_after (o ∷ os) (w ∷ ws) side id more = (if is_opening_at side id o then w + more else w) ∷ counts_after os ws side id more

@@ -2,7 +2,7 @@
 use Rattle.std.specs.Prelude.{◌≡◌, ℕ, ◌<◌, ◌≤◌, false, length, vec_capacity}
 use Rattle.wire_sim.specs.declared.event.Event.{Event}
 use Rattle.wire_sim.specs.declared.world.network.Network.{Network}
-use Rattle.wire_sim.specs.Steps.{asked_by, is_emission}
+use Rattle.wire_sim.specs.Steps.{event_recv_len, is_emission}
 use Rattle.wire_sim.specs.WorldView.{WorldView}
 
 -- how many elements each list of a network has room for, those that it holds counted: the frames, the openings, and the counts beside these
@@ -47,5 +47,5 @@ pub record KeepsRoom (old new : ListRoom) : Type 0 where
 
 -- the event wants no octets of its own: it reads none, and puts no frame into the network
 pub record IsPlain (happens : Event) : Type 0 where
-  pub unread : asked_by happens ≡ 0
+  pub unread : event_recv_len happens ≡ 0
   pub unsent : is_emission happens ≡ false

@@ -12,7 +12,7 @@ use Rattle.wire_sim.specs.declared.event.Happening.{Happening}
 use Rattle.wire_sim.specs.declared.world.bag.Frame.{Frame}
 use Rattle.wire_sim.specs.declared.world.station.Station.{Station}
 use Rattle.wire_sim.specs.declared.world.network.Network.{Network}
-use Rattle.host.specs.HostView.{HostView, fresh}
+use Rattle.host.specs.HostView.{HostView, new_host}
 use Rattle.wire_sim.specs.Tallies.{written_by}
 
 -- the limit on what may be written while a frame is under way, the two hosts with their clocks, every frame that was
@@ -76,7 +76,7 @@ octets_len _ = 0
 
 -- a host on which nothing happened, at the moment 0
 abbrev pub fresh_station : Addr → Addr → Station
-fresh_station addr neighbour = record { host = fresh addr neighbour; clock = record { 0 = 0 } }
+fresh_station addr neighbour = record { host = new_host addr neighbour; clock = record { 0 = 0 } }
 
 -- two such hosts, each the other's neighbour, and no frames
 abbrev pub fresh_network : Addr → Addr → ℕ → NetworkView

@@ -23,13 +23,13 @@ pub(crate) struct Room {
 }
 
 impl Room {
-    ghost use Rattle.wire_sim.specs.Steps.{asked_by, is_emission};
+    ghost use Rattle.wire_sim.specs.Steps.{event_recv_len, is_emission};
 
     /// What `event` needs. An event that neither reads octets nor emits a frame needs nothing, and so is refused nothing.
     pub(crate) fn for_event(alloc: Global, event: &Event) -> Result<Room, AllocError>
-        ensures read { IfOk result (λ room. vec_len room.octets ≡ asked_by event.now) }
+        ensures read { IfOk result (λ room. vec_len room.octets ≡ event_recv_len event.now) }
         ensures room { IfOk result (λ room. is_emission event.now ≡ true → 1514 ≤ vec_capacity room.octets) }
-        ensures plain { asked_by event.now ≡ 0 → is_emission event.now ≡ false → IsOk result }
+        ensures plain { event_recv_len event.now ≡ 0 → is_emission event.now ≡ false → IsOk result }
     {
         match event {
             Event::Call(_, Call::Recv { len, .. }) => {

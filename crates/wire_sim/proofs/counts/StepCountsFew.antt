@@ -23,13 +23,13 @@ use Rattle.wire_sim.specs.declared.event.Opening.{Opening}
 use Rattle.wire_sim.specs.declared.world.bag.Frame.{Frame}
 use Rattle.wire_sim.specs.declared.world.bag.Note.{Note}
 use Rattle.wire_sim.specs.declared.world.station.Station.{Station}
-use Rattle.host.specs.Calls.{of_connection, sent_answer, send_answer}
+use Rattle.host.specs.Calls.{of_connection, role_send_answer, send_answer}
 use Rattle.host.specs.HostView.{HostView, role_of}
 use Rattle.host.specs.Emission.{after_emission}
 use Rattle.wire_sim.specs.Openings.{opened_by_connect, opened_by_frame}
 use Rattle.wire_sim.specs.Sides.{other_side}
-use Rattle.wire_sim.specs.Steps.{ticked_station, with_station, with_host, with_opening, Answers, MeetsCall, called, delivered, Steps}
-use Rattle.wire_sim.specs.Tallies.{is_opening_at, counted}
+use Rattle.wire_sim.specs.Steps.{station_after_tick, with_station, with_host, with_opening, Answers, MeetsCall, after_call, after_delivery, Steps}
+use Rattle.wire_sim.specs.Tallies.{is_opening_at, counts_after}
 use Rattle.wire_sim.specs.WorldView.{NetworkView, station_of, host_of}
 
 -- a count beside an opening that may be one of the socket
@@ -37,7 +37,7 @@ counted_or_kept : (b : Bool) (w n : ℕ) → (if b then w + n else w) ≤ w + n
 counted_or_kept true w n = omega arith
 counted_or_kept false w n = omega arith
 
-pub counted-grows : (os : List Opening) (ws : List ℕ) (side : Side) (id : SocketId) (n i : ℕ) → get_or (counted os ws side id n) i 0 ≤ get_or ws i 0 + n
+pub counted-grows : (os : List Opening) (ws : List ℕ) (side : Side) (id : SocketId) (n i : ℕ) → get_or (counts_after os ws side id n) i 0 ≤ get_or ws i 0 + n
 counted-grows [] ws side id n i = omega arith
 counted-grows (o ∷ os) [] side id n i = omega arith
 counted-grows (o ∷ os) (w ∷ ws) side id n zero = counted_or_kept (is_opening_at side id o) w n
@@ -68,7 +68,7 @@ connection_took None false true full n v e = cc
 connection_took None false false true n v e = cc
 connection_took None false false false n v e = cc
 
-role_took : (role : Role) (octets : List ℕ) (v : ℕ) → sent_answer role octets ≡ Ok v → v ≤ 65535
+role_took : (role : Role) (octets : List ℕ) (v : ℕ) → role_send_answer role octets ≡ Ok v → v ≤ 65535
 role_took (Idle buffers bound) octets v e = cc
 role_took (Listener bound backlog) octets v e = cc
 role_took (Connected c listener) octets v e = let same : send_count c octets ≡ v = connection_took _ _ _ _ _ v e in omega (arith, same)
@@ -82,22 +82,22 @@ took h id octets v (Some role) is e = role_took role octets v (rw is at e)
 abbrev pub count_at : NetworkView → ℕ → ℕ
 count_at n i = get_or n.written i 0
 
-send-grows : (side : Side) (id : SocketId) (octets : Vec ℕ Global) (place i : ℕ) (n : NetworkView) (answer : Answer) (next old new : HostView) (r : Result ℕ Refusal) → ((v : ℕ) → r ≡ Ok v → v ≤ 65535) → Answers r (λ v. reply.Sent v) next old answer new → count_at (called side (call.Send id octets) answer place n new) i ≤ count_at n i + 65535
+send-grows : (side : Side) (id : SocketId) (octets : Vec ℕ Global) (place i : ℕ) (n : NetworkView) (answer : Answer) (next old new : HostView) (r : Result ℕ Refusal) → ((v : ℕ) → r ≡ Ok v → v ≤ 65535) → Answers r (λ v. reply.Sent v) next old answer new → count_at (after_call side (call.Send id octets) answer place n new) i ≤ count_at n i + 65535
 send-grows side id octets place i n answer next old new (Ok v) bound meets =
     let few : v ≤ 65535 = bound v refl in
-    subst (λ a. count_at (called side (call.Send id octets) a place n new) i ≤ count_at n i + 65535) (sym meets.0) (omega (arith, counted-grows n.openings n.written side id v i, few))
+    subst (λ a. count_at (after_call side (call.Send id octets) a place n new) i ≤ count_at n i + 65535) (sym meets.0) (omega (arith, counted-grows n.openings n.written side id v i, few))
 send-grows side id octets place i n answer next old new (Err e) bound meets =
-    subst (λ a. count_at (called side (call.Send id octets) a place n new) i ≤ count_at n i + 65535) (sym meets.0) (kept-grows n side new i)
+    subst (λ a. count_at (after_call side (call.Send id octets) a place n new) i ≤ count_at n i + 65535) (sym meets.0) (kept-grows n side new i)
 
-connect-grows : (side : Side) (isn : Seq) (id : SocketId) (peer : Endpoint) (place i : ℕ) (n : NetworkView) (answer : Answer) (next old new : HostView) (r : Result (Unit {0}) Refusal) → Answers r (λ v. reply.Started) next old answer new → count_at (called side (call.Connect isn id peer) answer place n new) i ≤ count_at n i + 65535
+connect-grows : (side : Side) (isn : Seq) (id : SocketId) (peer : Endpoint) (place i : ℕ) (n : NetworkView) (answer : Answer) (next old new : HostView) (r : Result (Unit {0}) Refusal) → Answers r (λ v. reply.Started) next old answer new → count_at (after_call side (call.Connect isn id peer) answer place n new) i ≤ count_at n i + 65535
 connect-grows side isn id peer place i n answer next old new (Ok v) meets =
-    subst (λ a. count_at (called side (call.Connect isn id peer) a place n new) i ≤ count_at n i + 65535) (sym meets.0)
+    subst (λ a. count_at (after_call side (call.Connect isn id peer) a place n new) i ≤ count_at n i + 65535) (sym meets.0)
     (omega (arith, with_opening-grows (with_host n side new) (opened_by_connect n.openings side id place new (host_of n (other_side side))) i, kept-grows n side new i))
 connect-grows side isn id peer place i n answer next old new (Err e) meets =
-    subst (λ a. count_at (called side (call.Connect isn id peer) a place n new) i ≤ count_at n i + 65535) (sym meets.0) (kept-grows n side new i)
+    subst (λ a. count_at (after_call side (call.Connect isn id peer) a place n new) i ≤ count_at n i + 65535) (sym meets.0) (kept-grows n side new i)
 
 -- what a call makes of the counts
-called-grows : (side : Side) (c : Call) (place i : ℕ) (n : NetworkView) (answer : Answer) (new : HostView) → MeetsCall c (host_of n side) answer new → count_at (called side c answer place n new) i ≤ count_at n i + 65535
+called-grows : (side : Side) (c : Call) (place i : ℕ) (n : NetworkView) (answer : Answer) (new : HostView) → MeetsCall c (host_of n side) answer new → count_at (after_call side c answer place n new) i ≤ count_at n i + 65535
 called-grows side (call.Socket kind) place i n answer new meets = kept-grows n side new i
 called-grows side (call.Bind id local) place i n answer new meets = kept-grows n side new i
 called-grows side (call.Listen id backlog) place i n answer new meets = kept-grows n side new i
@@ -111,7 +111,7 @@ called-grows side (call.Close id) place i n answer new meets = kept-grows n side
 called-grows side (call.State id) place i n answer new meets = kept-grows n side new i
 
 -- what a frame makes of them
-delivered-grows : (side : Side) (place i : ℕ) (o : Option Note) (n : NetworkView) (new : HostView) → count_at (delivered side place o n new) i ≤ count_at n i + 65535
+delivered-grows : (side : Side) (place i : ℕ) (o : Option Note) (n : NetworkView) (new : HostView) → count_at (after_delivery side place o n new) i ≤ count_at n i + 65535
 delivered-grows side place i None n new = kept-grows n side new i
 delivered-grows side place i (Some note) n new =
     omega (arith, with_opening-grows (with_host n side new) (opened_by_frame n.openings side place note.pair (host_of n side) new) i, kept-grows n side new i)
@@ -119,7 +119,7 @@ delivered-grows side place i (Some note) n new =
 frame-grows : (side : Side) (index : ℕ) (isn : Seq) (place i : ℕ) (answer : Answer) (old new : NetworkView) (o : Option Frame) → slice_get old.frames index ≡ o → Steps (event.Deliver side index isn) place answer old new → count_at new i ≤ count_at old i + 65535
 frame-grows side index isn place i answer old new None is steps = absurd (rw is at steps)
 frame-grows side index isn place i answer old new (Some f) is steps =
-    let after : new ≡ delivered side place f.note old (host_of new side) = (rw is at steps).1 in
+    let after : new ≡ after_delivery side place f.note old (host_of new side) = (rw is at steps).1 in
     omega (arith, ap (λ m. count_at m i) after, delivered-grows side place i f.note old (host_of new side))
 
 emitted-grows : (side : Side) (place i : ℕ) (answer : Answer) (old new : NetworkView) → Steps (event.Emit side) place answer old new → count_at new i ≤ count_at old i + 65535
@@ -142,6 +142,6 @@ pub Steps-grows : (event : Event) (place i : ℕ) (answer : Answer) (old new : N
 Steps-grows (event.Call side c) place i answer old new steps =
     omega (arith, ap (λ m. count_at m i) steps.1, called-grows side c place i old answer (host_of new side) steps.0)
 Steps-grows (event.Tick side moment) place i answer old new steps =
-    omega (arith, ap (λ m. count_at m i) steps.1, with_station-written old side (ticked_station (station_of old side) moment) i)
+    omega (arith, ap (λ m. count_at m i) steps.1, with_station-written old side (station_after_tick (station_of old side) moment) i)
 Steps-grows (event.Emit side) place i answer old new steps = emitted-grows side place i answer old new steps
 Steps-grows (event.Deliver side index isn) place i answer old new steps = frame-grows side index isn place i answer old new _ refl steps

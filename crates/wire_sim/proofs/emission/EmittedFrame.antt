@@ -9,7 +9,7 @@ use Rattle.wire_sim.specs.declared.world.station.Station.{Station}
 use Rattle.host.specs.HostView.{HostView}
 use Rattle.host.specs.Emission.{after_emission, emission_len, emission_octets, emission_front}
 use Rattle.host.specs.Pairs.{due_pair}
-use Rattle.wire_sim.specs.Steps.{with_station, with_host, noted, EmitsFrame}
+use Rattle.wire_sim.specs.Steps.{with_station, with_host, note_of, EmitsFrame}
 use Rattle.wire_sim.specs.WorldView.{NetworkView, station_of, host_of}
 use Rattle.wire_sim.proofs.emission.EmittedOctets.{take_written, emission_front-due}
 
@@ -75,7 +75,7 @@ front_octets side len out old new w =
     ∙ take_written (emission_octets h) zeros len (omega (arith, w.short, long)) (ap (λ (ws : List ℕ). length ws) (sym front) ∙ w.whole ∙ sym long)
 
 -- the frame that was put behind the others
-pub emits_frame : (side : Side) (index len : ℕ) (out : List ℕ) (old mid : NetworkView) (frame : Frame) (frames : List Frame) → WroteFrame side len out old mid → index ≡ length mid.frames → frame.sender ≡ side → frame.octets.items ≡ take len out → frame.note ≡ option_map (noted old) (due_pair (host_of old side)) → frames ≡ mid.frames ++ frame ∷ [] → EmitsFrame side index len old (record mid { frames = frames })
+pub emits_frame : (side : Side) (index len : ℕ) (out : List ℕ) (old mid : NetworkView) (frame : Frame) (frames : List Frame) → WroteFrame side len out old mid → index ≡ length mid.frames → frame.sender ≡ side → frame.octets.items ≡ take len out → frame.note ≡ option_map (note_of old) (due_pair (host_of old side)) → frames ≡ mid.frames ++ frame ∷ [] → EmitsFrame side index len old (record mid { frames = frames })
 emits_frame side index len out old mid frame frames w place sender octets note pushed = record {
   due = w.due;
   place = place ∙ ap (λ (fs : List Frame). length fs) w.frames;

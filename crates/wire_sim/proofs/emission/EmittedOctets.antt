@@ -7,7 +7,7 @@ use Rattle.tcp_segment.specs.declared.head.Head.{Head}
 use Rattle.host.specs.declared.entry.Entry.{Entry}
 use Rattle.host.specs.declared.role.Role.{Role}
 use Rattle.host.specs.declared.role.Role.TheVariants.{Idle, Listener, Connected}
-use Rattle.host.specs.Entries.{is_due, due_len, due_octets, framed}
+use Rattle.host.specs.Entries.{is_due, due_len, due_octets, due_front}
 use Rattle.host.specs.Replies.{reply_len, reply_octets, reply_framed}
 use Rattle.host.specs.HostView.{HostView}
 use Rattle.host.specs.Emission.{emission_len, emission_octets, emission_front}
@@ -16,7 +16,7 @@ use Rattle.host.specs.Emission.{emission_len, emission_octets, emission_front}
 pub take_written : (xs zs : List ℕ) (n : ℕ) → n ≤ length zs → length (xs ++ drop n zs) ≡ length zs → take n (xs ++ drop n zs) ≡ xs
 take_written xs zs n fits same = grind (arith, common_steps)
 
-pub framed_due : (role : Role) (out : List ℕ) (len : ℕ) → due_len role ≡ Some len → framed role out ≡ due_octets role ++ drop len out
+pub framed_due : (role : Role) (out : List ℕ) (len : ℕ) → due_len role ≡ Some len → due_front role out ≡ due_octets role ++ drop len out
 framed_due (Idle buffers bound) out len due = cc
 framed_due (Listener local backlog) out len due = cc
 framed_due (Connected c listener) out len due =
@@ -41,6 +41,6 @@ emission_front-due h out len due = by_replies h.replies refl
         by_entry None found = let none : emission_len h ≡ None = rw (is, found) in let bad : None ≡ Some len = sym none ∙ due in cc
         by_entry (Some e) found =
             let one : emission_len h ≡ due_len e.role = rw (is, found) in
-            let front : emission_front h out ≡ framed e.role out = rw (is, found) in
+            let front : emission_front h out ≡ due_front e.role out = rw (is, found) in
             let octets : emission_octets h ≡ due_octets e.role = rw (is, found) in
             front ∙ (framed_due e.role out len (sym one ∙ due) ∙ ap (λ l. l ++ drop len out) (sym octets))

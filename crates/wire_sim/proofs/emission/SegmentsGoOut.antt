@@ -18,7 +18,7 @@ use Rattle.host.specs.declared.entry.Entry.{Entry}
 use Rattle.host.specs.declared.role.Role.{Role}
 use Rattle.host.specs.declared.role.Role.TheVariants.{Idle, Listener, Connected}
 use Rattle.stream_law.specs.ChannelViews.{IsOfWidth}
-use Rattle.host.specs.Entries.{is_due, due_len, due_octets, emitted_at}
+use Rattle.host.specs.Entries.{is_due, due_len, due_octets, role_after_emission}
 use Rattle.host.specs.HostView.{HostView}
 use Rattle.host.specs.Emission.{emission_len, emission_octets}
 use Rattle.host.specs.Pairs.{due_pair, pair_in}
@@ -201,5 +201,5 @@ emits-some h len none due = of_entry (find is_due h.entries) refl (sym unreplied
 
 -- the emission makes of a connection what its segment makes of it
 pub emitted_at-connected : (now : Moment) (c : View) (listener : Option SocketId) (due : Due) → first_due c ≡ Some due
-    → emitted_at now (Connected c listener) ≡ Connected (after_emitted c due now) listener
+    → role_after_emission now (Connected c listener) ≡ Connected (after_emitted c due now) listener
 emitted_at-connected now c listener due first = ap (λ (o : Option Due). Connected (after_first c o now) listener) first

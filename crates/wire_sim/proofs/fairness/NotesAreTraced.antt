@@ -36,7 +36,7 @@ use Rattle.wire_sim.specs.Notes.{openings_before, epoch_before, written_before, 
 use Rattle.wire_sim.specs.Openings.{epoch_of, opened_by_connect, opened_by_frame}
 use Rattle.wire_sim.specs.Runs.{written_len, unfair, IsStep, IsReached, begins, goes_on}
 use Rattle.wire_sim.specs.Sides.{same_side, other_side}
-use Rattle.wire_sim.specs.Steps.{with_host, with_opening, noted, called, delivered, ticked_station, EmitsFrame, MeetsEmission, DeliversFrame, Steps}
+use Rattle.wire_sim.specs.Steps.{with_host, with_opening, note_of, after_call, after_delivery, station_after_tick, EmitsFrame, MeetsEmission, DeliversFrame, Steps}
 use Rattle.wire_sim.specs.Tallies.{same_pair, is_opening_of}
 use Rattle.wire_sim.specs.Trace.{written}
 use Rattle.wire_sim.specs.WorldView.{WorldView, NetworkView, station_of, host_of, written_at}
@@ -107,12 +107,12 @@ frames-opened n (Some o) = refl
 frames-host : (n : NetworkView) (side : Side) (h : HostView) → (let m = with_host n side h in m.frames) ≡ n.frames
 frames-host n side h = frames-with n side (let s = station_of n side in record s { host = h })
 
-frames-called : (side : Side) (c : Call) (answer : Answer) (place : ℕ) (n : NetworkView) (h : HostView) → (let m = called side c answer place n h in m.frames) ≡ n.frames
+frames-called : (side : Side) (c : Call) (answer : Answer) (place : ℕ) (n : NetworkView) (h : HostView) → (let m = after_call side c answer place n h in m.frames) ≡ n.frames
 frames-called side (call.Connect isn id peer) reply.Started place n h = frames-opened (with_host n side h) (opened_by_connect n.openings side id place h (host_of n (other_side side))) ∙ frames-host n side h
 frames-called side (call.Send id octets) (reply.Sent count) place n h = frames-host n side h
 frames-called side _ _ place n h = frames-host n side h
 
-frames-delivered : (side : Side) (place : ℕ) (o : Option Note) (n : NetworkView) (h : HostView) → (let m = delivered side place o n h in m.frames) ≡ n.frames
+frames-delivered : (side : Side) (place : ℕ) (o : Option Note) (n : NetworkView) (h : HostView) → (let m = after_delivery side place o n h in m.frames) ≡ n.frames
 frames-delivered side place None n h = frames-host n side h
 frames-delivered side place (Some note) n h = frames-opened (with_host n side h) (opened_by_frame n.openings side place note.pair (host_of n side) h) ∙ frames-host n side h
 
@@ -130,7 +130,7 @@ HasFrames happens answer old new = (new.frames ≡ old.frames) ⊎ PutsFrame hap
 
 frames-step : (happens : Event) (place : ℕ) (answer : Answer) (old new : NetworkView) → Steps happens place answer old new → HasFrames happens answer old new
 frames-step (event.Call side c) place answer old new step = inl (ap (λ (m : NetworkView). m.frames) step.1 ∙ frames-called side c answer place old (host_of new side))
-frames-step (event.Tick side moment) place answer old new step = inl (ap (λ (m : NetworkView). m.frames) step.1 ∙ frames-with old side (ticked_station (station_of old side) moment))
+frames-step (event.Tick side moment) place answer old new step = inl (ap (λ (m : NetworkView). m.frames) step.1 ∙ frames-with old side (station_after_tick (station_of old side) moment))
 frames-step (event.Emit side) place answer old new step = by_answer answer step
   where
     by_answer : (answer : Answer) → MeetsEmission side answer old new → HasFrames (event.Emit side) answer old new
@@ -277,7 +277,7 @@ kept-step limit old new happens answer reached step k = record { all = all; rise
         ∙ (ap (λ t. length (written t (openings_before (length old.trace) new.network.openings) side pair epoch)) (take-append_seam old.trace (h ∷ []))
         ∙ ap (λ os. length (written old.trace os side pair epoch)) now))
 
-    note-now : (o : Option Pair) → IfSome (option_map (noted old.network) o) (IsNoteAt new (length old.trace))
+    note-now : (o : Option Pair) → IfSome (option_map (note_of old.network) o) (IsNoteAt new (length old.trace))
     note-now None = tt
     note-now (Some pair) = record {
       epoch = sym (ap (λ os. epoch_of os pair) now);
@@ -332,14 +332,14 @@ kept limit _ (goes_on w v happens answer reached step) = kept-step limit w v hap
 
 carries-pair : (n : NetworkView) (src dst : Addr) (from to : Side) (f : Frame) → (let h = host_of n from in h.addr) ≡ src → (let h = host_of n to in h.addr) ≡ dst → to ≡ other_side from → f.sender ≡ from
     → (note : Note) → f.note ≡ Some note → (s : Segment) → note.pair ≡ segment_pair src dst s → segment_in src dst f.octets.items ≡ Some s → option_map (λ (note : Note). note.pair) f.note ≡ carried_pair n f
-carries-pair n src dst from to f is_src is_dst opposite sender note noted s pair read =
+carries-pair n src dst from to f is_src is_dst opposite sender note note_of s pair read =
     let own : (let h = host_of n f.sender in h.addr) ≡ src = ap (λ x. let h = host_of n x in h.addr) sender ∙ is_src in
     let other : (let h = host_of n (other_side f.sender) in h.addr) ≡ dst = ap (λ x. let h = host_of n (other_side x) in h.addr) sender ∙ (ap (λ x. let h = host_of n x in h.addr) (sym opposite) ∙ is_dst) in
     let to_addr = (let h = host_of n (other_side f.sender) in h.addr) in
     let carried : carried_pair n f ≡ Some (segment_pair src dst s) =
     ap (λ x. option_map (segment_pair x to_addr) (segment_in x to_addr f.octets.items)) own
     ∙ (ap (λ y. option_map (segment_pair src y) (segment_in src y f.octets.items)) other ∙ ap (option_map (segment_pair src dst)) read) in
-    ap (option_map (λ (note : Note). note.pair)) noted ∙ (ap Some pair ∙ sym carried)
+    ap (option_map (λ (note : Note). note.pair)) note_of ∙ (ap Some pair ∙ sym carried)
 
 pub notes-traced : EveryNoteIsTraced
 notes-traced limit w reached index f at =

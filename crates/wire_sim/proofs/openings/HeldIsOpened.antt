@@ -19,7 +19,7 @@ use Rattle.host.specs.declared.entry.SocketId.{SocketId}
 use Rattle.host.specs.declared.entry.Entry.{Entry}
 use Rattle.host.specs.declared.role.Role.{Role}
 use Rattle.host.specs.declared.role.Role.TheVariants.{Idle, Listener, Connected}
-use Rattle.host.specs.Entries.{is_live_between, connecting, is_between, joins, is_of_pair, is_kept, settled, all_settled, with_role, bound_to, listening, accepted, ticked, arrived, sent, write_shut, received, emitted_at, closed, aborted, forsaken, waits_at}
+use Rattle.host.specs.Entries.{is_live_between, role_after_connect, is_between, joins, is_of_pair, is_kept, entries_after_step, entries_after_steps, with_role, role_after_bind, role_after_listen, role_after_accept, role_after_tick, role_after_segment, role_after_send, role_after_shutdown, role_after_recv, role_after_emission, role_after_close, role_after_abort, role_after_listener_close, waits_at}
 use Rattle.host.specs.Lists.{change_first, remove_first}
 use Rattle.wire_sim.proofs.lists.FoundAfterChange.{none-removed}
 use Rattle.wire_sim.proofs.tables.PairOfPorts.{same_end-true}
@@ -65,33 +65,33 @@ unjoined pair v w l k keeps out = decide (is_closed w.state) refl
     decide false is =
         ap (λ b. test b w.local w.peer) is ∙ (ap (λ x. test false x w.peer) keeps.local ∙ (ap (λ y. test false v.local y) keeps.peer ∙ (sym (ap (λ b. test b v.local v.peer) (keeps.live is)) ∙ out)))
 
-pub unheld_bound_to : (local : Endpoint) → KeepsUnheld (bound_to local)
+pub unheld_bound_to : (local : Endpoint) → KeepsUnheld (role_after_bind local)
 unheld_bound_to local pair (Idle b bound) out = refl
 unheld_bound_to local pair (Listener x y) out = refl
 unheld_bound_to local pair (Connected c l) out = out
 
-pub unheld_listening : (backlog : ℕ) → KeepsUnheld (listening backlog)
+pub unheld_listening : (backlog : ℕ) → KeepsUnheld (role_after_listen backlog)
 unheld_listening backlog pair (Idle b (Some x)) out = refl
 unheld_listening backlog pair (Idle b None) out = refl
 unheld_listening backlog pair (Listener x y) out = refl
 unheld_listening backlog pair (Connected c l) out = out
 
-pub unheld_accepted : KeepsUnheld accepted
+pub unheld_accepted : KeepsUnheld role_after_accept
 unheld_accepted pair (Idle b bound) out = refl
 unheld_accepted pair (Listener x y) out = refl
 unheld_accepted pair (Connected c l) out = unjoined pair c c l None (keeps-nothing c) out
 
-pub unheld_ticked : (now : Moment) → KeepsUnheld (ticked now)
+pub unheld_ticked : (now : Moment) → KeepsUnheld (role_after_tick now)
 unheld_ticked now pair (Idle b bound) out = refl
 unheld_ticked now pair (Listener x y) out = refl
 unheld_ticked now pair (Connected c l) out = unjoined pair c (after_tick c now) l l (keeps-tick c now) out
 
-pub unheld_sent : (octets : List ℕ) → KeepsUnheld (sent octets)
+pub unheld_sent : (octets : List ℕ) → KeepsUnheld (role_after_send octets)
 unheld_sent octets pair (Idle b bound) out = refl
 unheld_sent octets pair (Listener x y) out = refl
 unheld_sent octets pair (Connected c l) out = unjoined pair c (after_send c octets) l l (keeps-send c octets) out
 
-pub unheld_received : (len : ℕ) → KeepsUnheld (received len)
+pub unheld_received : (len : ℕ) → KeepsUnheld (role_after_recv len)
 unheld_received len pair (Idle b bound) out = refl
 unheld_received len pair (Listener x y) out = refl
 unheld_received len pair (Connected c l) out = unjoined pair c (if len == 0 then c else after_recv c len) l l (either (len == 0)) out
@@ -100,7 +100,7 @@ unheld_received len pair (Connected c l) out = unjoined pair c (if len == 0 then
     either true = keeps-nothing c
     either false = keeps-recv c len
 
-pub unheld_write_shut : KeepsUnheld write_shut
+pub unheld_write_shut : KeepsUnheld role_after_shutdown
 unheld_write_shut pair (Idle b bound) out = refl
 unheld_write_shut pair (Listener x y) out = refl
 unheld_write_shut pair (Connected c l) out = unjoined pair c (if is_some c.pending_error || is_opening c.state then c else after_shutdown c) l l (either (is_some c.pending_error || is_opening c.state)) out
@@ -109,34 +109,34 @@ unheld_write_shut pair (Connected c l) out = unjoined pair c (if is_some c.pendi
     either true = keeps-nothing c
     either false = keeps-shutdown c
 
-pub unheld_closed : (now : Moment) → KeepsUnheld (closed now)
+pub unheld_closed : (now : Moment) → KeepsUnheld (role_after_close now)
 unheld_closed now pair (Idle b bound) out = refl
 unheld_closed now pair (Listener x y) out = refl
 unheld_closed now pair (Connected c l) out = unjoined pair c (after_close c now) l l (keeps-close c now) out
 
-unheld_aborted : (now : Moment) → KeepsUnheld (aborted now)
+unheld_aborted : (now : Moment) → KeepsUnheld (role_after_abort now)
 unheld_aborted now pair (Idle b bound) out = refl
 unheld_aborted now pair (Listener x y) out = refl
 unheld_aborted now pair (Connected c l) out = unjoined pair c (after_abort c now) l l (keeps-abort c now) out
 
-pub unheld_forsaken : (now : Moment) (id : SocketId) → KeepsUnheld (forsaken now id)
+pub unheld_forsaken : (now : Moment) (id : SocketId) → KeepsUnheld (role_after_listener_close now id)
 unheld_forsaken now id pair r out = either (waits_at id r)
   where
-    either : (b : Bool) → joins pair (if b then aborted now r else r) ≡ false
+    either : (b : Bool) → joins pair (if b then role_after_abort now r else r) ≡ false
     either true = unheld_aborted now pair r out
     either false = out
 
-pub unheld_emitted_at : (now : Moment) → KeepsUnheld (emitted_at now)
+pub unheld_emitted_at : (now : Moment) → KeepsUnheld (role_after_emission now)
 unheld_emitted_at now pair (Idle b bound) out = refl
 unheld_emitted_at now pair (Listener x y) out = refl
 unheld_emitted_at now pair (Connected c l) out = by_due (first_due c) refl
   where
-    by_due : (o : Option Due) → first_due c ≡ o → joins pair (emitted_at now (Connected c l)) ≡ false
-    by_due None is = let same : emitted_at now (Connected c l) ≡ Connected c l = rw is in ap (joins pair) same ∙ out
-    by_due (Some due) is = let same : emitted_at now (Connected c l) ≡ Connected (after_emitted c due now) l = rw is in ap (joins pair) same ∙ unjoined pair c (after_emitted c due now) l l (keeps-emitted c due now) out
+    by_due : (o : Option Due) → first_due c ≡ o → joins pair (role_after_emission now (Connected c l)) ≡ false
+    by_due None is = let same : role_after_emission now (Connected c l) ≡ Connected c l = rw is in ap (joins pair) same ∙ out
+    by_due (Some due) is = let same : role_after_emission now (Connected c l) ≡ Connected (after_emitted c due now) l = rw is in ap (joins pair) same ∙ unjoined pair c (after_emitted c due now) l l (keeps-emitted c due now) out
 
 -- an idle socket connects, to an end of another pair
-pub unheld_connecting : (local peer : Endpoint) (isn : ℕ) (pair : Pair) → joins pair (Connected (opened_actively local peer isn) None) ≡ false → (r : Role) → joins pair r ≡ false → joins pair (connecting local peer isn r) ≡ false
+pub unheld_connecting : (local peer : Endpoint) (isn : ℕ) (pair : Pair) → joins pair (Connected (opened_actively local peer isn) None) ≡ false → (r : Role) → joins pair r ≡ false → joins pair (role_after_connect local peer isn r) ≡ false
 unheld_connecting local peer isn pair other (Idle b bound) out = other
 unheld_connecting local peer isn pair other (Listener x y) out = refl
 unheld_connecting local peer isn pair other (Connected c l) out = out
@@ -163,14 +163,14 @@ joined c l x y = by_order (is_le (endpoint_cmp x y)) refl
     by_order false is = by_ends y x (pair_of-swapped y x) (here y x) (here x y) refl refl
 
 -- a segment that is heard by a connection that is not CLOSED
-unheld-arrived : (now : Moment) (s : Segment) (pair : Pair) (local peer : Endpoint) (e : Entry) → is_between local peer e ≡ true → is_of_pair pair e ≡ false → is_of_pair pair (with_role (arrived now s) e) ≡ false
+unheld-arrived : (now : Moment) (s : Segment) (pair : Pair) (local peer : Endpoint) (e : Entry) → is_between local peer e ≡ true → is_of_pair pair e ≡ false → is_of_pair pair (with_role (role_after_segment now s) e) ≡ false
 unheld-arrived now s pair local peer e between out = of_role e.role between out
   where
     live : (b : Bool) → not b ≡ true → b ≡ false
     live true e = cc
     live false e = refl
 
-    of_role : (r : Role) → is_live_between local peer r ≡ true → joins pair r ≡ false → joins pair (arrived now s r) ≡ false
+    of_role : (r : Role) → is_live_between local peer r ≡ true → joins pair r ≡ false → joins pair (role_after_segment now s r) ≡ false
     of_role (Idle b bound) between out = refl
     of_role (Listener x y) between out = refl
     of_role (Connected c l) between out =
@@ -188,7 +188,7 @@ pub unheld-changed_at : (test : Entry → Bool) (g : Role → Role) (pair : Pair
 unheld-changed_at test g pair xs keeps none = none-changed test (is_of_pair pair) (with_role g) xs (λ e is out. keeps e.role out) none
 
 -- or takes a step
-pub unheld-settled : (fate : Fate) (test : Entry → Bool) (g : Role → Role) (pair : Pair) (xs : List Entry) → KeepsUnheld g → find (is_of_pair pair) xs ≡ None → find (is_of_pair pair) (settled fate test g xs) ≡ None
+pub unheld-settled : (fate : Fate) (test : Entry → Bool) (g : Role → Role) (pair : Pair) (xs : List Entry) → KeepsUnheld g → find (is_of_pair pair) xs ≡ None → find (is_of_pair pair) (entries_after_step fate test g xs) ≡ None
 unheld-settled fate test g pair xs keeps none = by_fate (is_kept fate)
   where
     by_fate : (b : Bool) → find (is_of_pair pair) (if b then change_first test (with_role g) xs else remove_first test xs) ≡ None
@@ -196,21 +196,21 @@ unheld-settled fate test g pair xs keeps none = by_fate (is_kept fate)
     by_fate false = none-removed test (is_of_pair pair) xs none
 
 -- the one that hears a segment
-pub unheld-heard : (fate : Fate) (local peer : Endpoint) (now : Moment) (s : Segment) (pair : Pair) (xs : List Entry) → find (is_of_pair pair) xs ≡ None → find (is_of_pair pair) (settled fate (is_between local peer) (arrived now s) xs) ≡ None
+pub unheld-heard : (fate : Fate) (local peer : Endpoint) (now : Moment) (s : Segment) (pair : Pair) (xs : List Entry) → find (is_of_pair pair) xs ≡ None → find (is_of_pair pair) (entries_after_step fate (is_between local peer) (role_after_segment now s) xs) ≡ None
 unheld-heard fate local peer now s pair xs none = by_fate (is_kept fate)
   where
-    by_fate : (b : Bool) → find (is_of_pair pair) (if b then change_first (is_between local peer) (with_role (arrived now s)) xs else remove_first (is_between local peer) xs) ≡ None
-    by_fate true = none-changed (is_between local peer) (is_of_pair pair) (with_role (arrived now s)) xs (λ e is out. unheld-arrived now s pair local peer e is out) none
+    by_fate : (b : Bool) → find (is_of_pair pair) (if b then change_first (is_between local peer) (with_role (role_after_segment now s)) xs else remove_first (is_between local peer) xs) ≡ None
+    by_fate true = none-changed (is_between local peer) (is_of_pair pair) (with_role (role_after_segment now s)) xs (λ e is out. unheld-arrived now s pair local peer e is out) none
     by_fate false = none-removed (is_between local peer) (is_of_pair pair) xs none
 
 -- each entry takes a step
-pub unheld-all : (fate : Role → Fate) (g : Role → Role) (pair : Pair) (xs : List Entry) → KeepsUnheld g → find (is_of_pair pair) xs ≡ None → find (is_of_pair pair) (all_settled fate g xs) ≡ None
+pub unheld-all : (fate : Role → Fate) (g : Role → Role) (pair : Pair) (xs : List Entry) → KeepsUnheld g → find (is_of_pair pair) xs ≡ None → find (is_of_pair pair) (entries_after_steps fate g xs) ≡ None
 unheld-all fate g pair xs keeps = go xs
   where
-    step : (e : Entry) (xs : List Entry) → find (is_of_pair pair) (all_settled fate g xs) ≡ None → is_of_pair pair e ≡ false → (b : Bool) → find (is_of_pair pair) (cond b (with_role g e ∷ all_settled fate g xs) (all_settled fate g xs)) ≡ None
-    step e xs more out true = none-from (with_role g e) (find (is_of_pair pair) (all_settled fate g xs)) (is_of_pair pair (with_role g e)) (keeps pair e.role out) more
+    step : (e : Entry) (xs : List Entry) → find (is_of_pair pair) (entries_after_steps fate g xs) ≡ None → is_of_pair pair e ≡ false → (b : Bool) → find (is_of_pair pair) (cond b (with_role g e ∷ entries_after_steps fate g xs) (entries_after_steps fate g xs)) ≡ None
+    step e xs more out true = none-from (with_role g e) (find (is_of_pair pair) (entries_after_steps fate g xs)) (is_of_pair pair (with_role g e)) (keeps pair e.role out) more
     step e xs more out false = more
 
-    go : (xs : List Entry) → find (is_of_pair pair) xs ≡ None → find (is_of_pair pair) (all_settled fate g xs) ≡ None
+    go : (xs : List Entry) → find (is_of_pair pair) xs ≡ None → find (is_of_pair pair) (entries_after_steps fate g xs) ≡ None
     go [] none = refl
     go (e ∷ xs) none = let p = none-parts e (find (is_of_pair pair) xs) (is_of_pair pair e) none in step e xs (go xs p.1) p.0 (is_kept (fate e.role))

@@ -15,8 +15,8 @@ use Rattle.host.specs.declared.role.Role.TheVariants.{Idle, Connected}
 use Rattle.host.specs.Calls.{unless_refused, after_socket, bind_refusal, after_bind, listen_refusal, after_listen, accept_answer, after_accept, connect_refusal, after_connect, send_answer, after_send, after_recv, shutdown_refusal, after_shutdown, close_refusal, after_close, after_socket_closed, state_answer}
 use Rattle.host.specs.declared.refusal.Refusal.{Refusal}
 use Rattle.host.specs.Arrival.{local_end, peer_end, after_opening}
-use Rattle.host.specs.Entries.{is_socket, is_between, arrived, is_offered_at, is_of_pair, is_due, bound_to, listening, accepted, sent, received, write_shut, closed, close_fate_of, forsaken, forsaken_fate, ticked, tick_fate_of, emitted_at, emitted_fate, settled}
-use Rattle.host.specs.HostView.{HostView, holder_id, later}
+use Rattle.host.specs.Entries.{is_socket, is_between, role_after_segment, is_offered_at, is_of_pair, is_due, role_after_bind, role_after_listen, role_after_accept, role_after_send, role_after_recv, role_after_shutdown, role_after_close, close_fate_of, role_after_listener_close, listener_close_fate_of, role_after_tick, tick_fate_of, role_after_emission, emission_fate_of, entries_after_step}
+use Rattle.host.specs.HostView.{HostView, holder_id, later_moment}
 use Rattle.host.specs.Ticks.{after_tick}
 use Rattle.host.specs.Emission.{after_emission, after_segment_sent}
 use Rattle.wire_sim.specs.declared.event.Side.{Side}
@@ -35,7 +35,7 @@ use Rattle.wire_sim.specs.Fairness.{unfair_frame, unfair_counted}
 use Rattle.wire_sim.specs.Holding.{IsBegun, EveryHoldingIsNoted}
 use Rattle.wire_sim.specs.Openings.{epoch_of, epoch_connected, opened_by_connect, opened_by_frame, held_anew}
 use Rattle.wire_sim.specs.Sides.{same_side, other_side}
-use Rattle.wire_sim.specs.Steps.{with_station, with_host, with_opening, called, delivered, ticked_station, asked, MeetsCall, MeetsFrame, MeetsEmission, DeliversFrame, Steps}
+use Rattle.wire_sim.specs.Steps.{with_station, with_host, with_opening, after_call, after_delivery, station_after_tick, recv_len, MeetsCall, MeetsFrame, MeetsEmission, DeliversFrame, Steps}
 use Rattle.wire_sim.specs.WorldView.{NetworkView, WorldView, station_of, host_of, clock_of, written_at}
 use Rattle.wire_sim.proofs.tables.CallsOnTable.{outcome, not_refused}
 use Rattle.wire_sim.proofs.openings.OpeningsAreBegun.{connecting-host, host-opens, epoch-rises}
@@ -75,37 +75,37 @@ call-keeps (call.Socket kind) answer own own' other m =
     ]
 call-keeps (call.Bind id local) answer own own' other m =
     elim (outcome (unless_refused (bind_refusal own id local) (tt {0})) (λ _. reply.Done) (after_bind own id local) own answer own' m) [
-      | inl x ↦ keeps-next own (after_bind own id local) own' x.3 (λ pair none. unheld-changed (is_socket id) (bound_to local) pair own.entries (unheld_bound_to local) none)
+      | inl x ↦ keeps-next own (after_bind own id local) own' x.3 (λ pair none. unheld-changed (is_socket id) (role_after_bind local) pair own.entries (unheld_bound_to local) none)
       | inr x ↦ keeps-same own own' x.3
     ]
 call-keeps (call.Listen id backlog) answer own own' other m =
     elim (outcome (unless_refused (listen_refusal own id backlog) (tt {0})) (λ _. reply.Done) (after_listen own id backlog) own answer own' m) [
-      | inl x ↦ keeps-next own (after_listen own id backlog) own' x.3 (λ pair none. unheld-changed (is_socket id) (listening backlog) pair own.entries (unheld_listening backlog) none)
+      | inl x ↦ keeps-next own (after_listen own id backlog) own' x.3 (λ pair none. unheld-changed (is_socket id) (role_after_listen backlog) pair own.entries (unheld_listening backlog) none)
       | inr x ↦ keeps-same own own' x.3
     ]
 call-keeps (call.Accept id) answer own own' other m =
     elim (outcome (accept_answer own id) (λ p. reply.Accepted p.0 p.1) (after_accept own id) own answer own' m) [
-      | inl x ↦ keeps-next own (after_accept own id) own' x.3 (λ pair none. unheld-changed (is_offered_at id) accepted pair own.entries unheld_accepted none)
+      | inl x ↦ keeps-next own (after_accept own id) own' x.3 (λ pair none. unheld-changed (is_offered_at id) role_after_accept pair own.entries unheld_accepted none)
       | inr x ↦ keeps-same own own' x.3
     ]
 call-keeps (call.Connect isn id peer) answer own own' other m = let bad : true ≡ false = other in cc
 call-keeps (call.Send id octets) answer own own' other m =
     elim (outcome (send_answer own id octets.items) (λ count. reply.Sent count) (after_send own id octets.items) own answer own' m) [
-      | inl x ↦ keeps-next own (after_send own id octets.items) own' x.3 (λ pair none. unheld-changed (is_socket id) (sent octets.items) pair own.entries (unheld_sent octets.items) none)
+      | inl x ↦ keeps-next own (after_send own id octets.items) own' x.3 (λ pair none. unheld-changed (is_socket id) (role_after_send octets.items) pair own.entries (unheld_sent octets.items) none)
       | inr x ↦ keeps-same own own' x.3
     ]
-call-keeps (call.Recv id len) answer own own' other m = by_outcome (recv_outcome own id (asked len) answer own' m)
+call-keeps (call.Recv id len) answer own own' other m = by_outcome (recv_outcome own id (recv_len len) answer own' m)
   where
-    reads : own' ≡ after_recv own id (asked len) → KeepsPairs own own'
-    reads same = keeps-next own (after_recv own id (asked len)) own' same (λ pair none. unheld-changed (is_socket id) (received (asked len)) pair own.entries (unheld_received (asked len)) none)
+    reads : own' ≡ after_recv own id (recv_len len) → KeepsPairs own own'
+    reads same = keeps-next own (after_recv own id (recv_len len)) own' same (λ pair none. unheld-changed (is_socket id) (role_after_recv (recv_len len)) pair own.entries (unheld_received (recv_len len)) none)
 
-    by_outcome : ReadsOctets own id (asked len) answer own' ⊎ (ReadsEnd own id (asked len) answer own' ⊎ ((e : Refusal) × (answer ≡ reply.Refused e) × (own' ≡ own))) → KeepsPairs own own'
+    by_outcome : ReadsOctets own id (recv_len len) answer own' ⊎ (ReadsEnd own id (recv_len len) answer own' ⊎ ((e : Refusal) × (answer ≡ reply.Refused e) × (own' ≡ own))) → KeepsPairs own own'
     by_outcome (inl x) = reads x.becomes
     by_outcome (inr (inl x)) = reads x.becomes
     by_outcome (inr (inr x)) = keeps-same own own' x.2
 call-keeps (call.Shutdown id) answer own own' other m =
     elim (outcome (unless_refused (shutdown_refusal own id) (tt {0})) (λ _. reply.Done) (after_shutdown own id) own answer own' m) [
-      | inl x ↦ keeps-next own (after_shutdown own id) own' x.3 (λ pair none. unheld-changed (is_socket id) write_shut pair own.entries unheld_write_shut none)
+      | inl x ↦ keeps-next own (after_shutdown own id) own' x.3 (λ pair none. unheld-changed (is_socket id) role_after_shutdown pair own.entries unheld_write_shut none)
       | inr x ↦ keeps-same own own' x.3
     ]
 call-keeps (call.Close id) answer own own' other m =
@@ -114,9 +114,9 @@ call-keeps (call.Close id) answer own own' other m =
           let k = closes-on own id (not_refused (close_refusal own id) x.0 x.1) in
           keeps-next own (after_close own id) own' x.3 (λ pair none.
           let gone : find (is_of_pair pair) (let w = after_socket_closed own id in w.entries) ≡ None =
-          ap (λ (w : HostView). find (is_of_pair pair) w.entries) k.closes ∙ unheld-settled (close_fate_of k.role) (is_socket id) (closed own.kept) pair own.entries (unheld_closed own.kept) none
+          ap (λ (w : HostView). find (is_of_pair pair) w.entries) k.closes ∙ unheld-settled (close_fate_of k.role) (is_socket id) (role_after_close own.kept) pair own.entries (unheld_closed own.kept) none
           in
-          unheld-all (forsaken_fate id) (forsaken own.kept id) pair (let w = after_socket_closed own id in w.entries) (unheld_forsaken own.kept id) gone)
+          unheld-all (listener_close_fate_of id) (role_after_listener_close own.kept id) pair (let w = after_socket_closed own id in w.entries) (unheld_forsaken own.kept id) gone)
       | inr x ↦ keeps-same own own' x.3
     ]
 call-keeps (call.State id) answer own own' other m =
@@ -126,22 +126,22 @@ call-keeps (call.State id) answer own own' other m =
     ]
 
 tick-keeps : (own : HostView) (moment : Moment) → KeepsPairs own (after_tick own moment)
-tick-keeps own moment pair none = unheld-all (tick_fate_of (later own moment)) (ticked (later own moment)) pair own.entries (unheld_ticked (later own moment)) none
+tick-keeps own moment pair none = unheld-all (tick_fate_of (later_moment own moment)) (role_after_tick (later_moment own moment)) pair own.entries (unheld_ticked (later_moment own moment)) none
 
 emission-keeps : (own : HostView) (now : Moment) → KeepsPairs own (after_emission own now)
 emission-keeps own now pair none = by_replies own.replies refl
   where
-    by_due : (o : Option Entry) → find is_due own.entries ≡ o → find (is_of_pair pair) (after_segment_sent own (later own now)) ≡ None
-    by_due None is = let same : after_segment_sent own (later own now) ≡ own.entries = rw is in ap (find (is_of_pair pair)) same ∙ none
+    by_due : (o : Option Entry) → find is_due own.entries ≡ o → find (is_of_pair pair) (after_segment_sent own (later_moment own now)) ≡ None
+    by_due None is = let same : after_segment_sent own (later_moment own now) ≡ own.entries = rw is in ap (find (is_of_pair pair)) same ∙ none
     by_due (Some e) is =
-        let at = later own now in
-        let same : after_segment_sent own at ≡ settled (emitted_fate (emitted_at at e.role)) is_due (emitted_at at) own.entries = rw is in
-        ap (find (is_of_pair pair)) same ∙ unheld-settled (emitted_fate (emitted_at at e.role)) is_due (emitted_at at) pair own.entries (unheld_emitted_at at) none
+        let at = later_moment own now in
+        let same : after_segment_sent own at ≡ entries_after_step (emission_fate_of (role_after_emission at e.role)) is_due (role_after_emission at) own.entries = rw is in
+        ap (find (is_of_pair pair)) same ∙ unheld-settled (emission_fate_of (role_after_emission at e.role)) is_due (role_after_emission at) pair own.entries (unheld_emitted_at at) none
 
     by_replies : (rs : List Head) → own.replies ≡ rs → find (is_of_pair pair) (let w = after_emission own now in w.entries) ≡ None
     by_replies (r ∷ rest) is = let same : after_emission own now ≡ record own { replies = rest } = rw is in ap (λ (w : HostView). find (is_of_pair pair) w.entries) same ∙ none
     by_replies [] is =
-        let same : after_emission own now ≡ record own { entries = after_segment_sent own (later own now) } = rw is in
+        let same : after_emission own now ≡ record own { entries = after_segment_sent own (later_moment own now) } = rw is in
         ap (λ (w : HostView). find (is_of_pair pair) w.entries) same ∙ by_due (find is_due own.entries) refl
 
 -- such a step makes the host hold none
@@ -179,7 +179,7 @@ connect-noted limit hs ts old new isn i peer answer w step x y id free held =
                   refl,
                   same,
                   (cc),
-                  host-opens old.network new.network hs own' (opened_by_connect old.network.openings hs i (length old.trace) own' other) (step.1 ∙ ap (λ r. called hs c r (length old.trace) old.network own') z.2) ∙ ap (λ l. old.network.openings ++ as_list l) added,
+                  host-opens old.network new.network hs own' (opened_by_connect old.network.openings hs i (length old.trace) own' other) (step.1 ∙ ap (λ r. after_call hs c r (length old.trace) old.network own') z.2) ∙ ap (λ l. old.network.openings ++ as_list l) added,
                   record { unheld = k.unheld; held = here; place = refl; epoch = epoch-rises old.network.openings other k.pair },
                 )
             | inr none ↦
@@ -205,7 +205,7 @@ frame-noted limit hs ts old new index isn answer w fair step x y id free held = 
     pair : Pair
     pair = pair_of x y
 
-    of_pair : (f : Frame) → (k : Carries w.b w.a ts hs w.projects.arrived f) → k.note.pair ≡ pair → new.network ≡ delivered hs (length old.trace) f.note old.network own' → Noted (event.Deliver hs index isn) old new hs pair id
+    of_pair : (f : Frame) → (k : Carries w.b w.a ts hs w.projects.arrived f) → k.note.pair ≡ pair → new.network ≡ after_delivery hs (length old.trace) f.note old.network own' → Noted (event.Deliver hs index isn) old new hs pair id
     of_pair f k same becomes =
         let o : Opening = record { side = hs; pair = k.note.pair; epoch = epoch_of old.network.openings k.note.pair; id = id; place = length old.trace } in
         let before : holder_id own k.note.pair ≡ None = ap (holder_id own) same ∙ free in
@@ -214,7 +214,7 @@ frame-noted limit hs ts old new index isn answer w fair step x y id free held = 
         ap (λ v. held_anew old.network.openings hs (length old.trace) k.note.pair v (holder_id own' k.note.pair)) before ∙ ap (held_anew old.network.openings hs (length old.trace) k.note.pair None) after
         in
         let whole : new.network ≡ with_opening (with_host old.network hs own') (opened_by_frame old.network.openings hs (length old.trace) k.note.pair own own') =
-        becomes ∙ ap (λ n. delivered hs (length old.trace) n old.network own') k.noted
+        becomes ∙ ap (λ n. after_delivery hs (length old.trace) n old.network own') k.noted
         in (
           o,
           refl,
@@ -225,7 +225,7 @@ frame-noted limit hs ts old new index isn answer w fair step x y id free held = 
         )
 
     began : (f : Frame) (s : Segment) (listener : Entry) → (k : Carries w.b w.a ts hs w.projects.arrived f) → k.note.pair ≡ pair_of (local_end own s) (peer_end own s) → own' ≡ after_opening own isn.0 listener s
-        → new.network ≡ delivered hs (length old.trace) f.note old.network own' → Noted (event.Deliver hs index isn) old new hs pair id
+        → new.network ≡ after_delivery hs (length old.trace) f.note old.network own' → Noted (event.Deliver hs index isn) old new hs pair id
     began f s listener k names opened becomes =
         let c = opened_passively (local_end own s) (peer_end own s) isn.0 s in
         let e : Entry = record { id = record { 0 = own.last_id + 1 }; role = Connected c (Some listener.id) } in
@@ -238,19 +238,19 @@ frame-noted limit hs ts old new index isn answer w fair step x y id free held = 
               absurd (cc)
         ]
 
-    of_delivery : (f : Frame) → (k : Carries w.b w.a ts hs w.projects.arrived f) → Delivery own (clock_of old.network hs) isn.0 f.octets.items own' → new.network ≡ delivered hs (length old.trace) f.note old.network own'
+    of_delivery : (f : Frame) → (k : Carries w.b w.a ts hs w.projects.arrived f) → Delivery own (clock_of old.network hs) isn.0 f.octets.items own' → new.network ≡ after_delivery hs (length old.trace) f.note old.network own'
         → Noted (event.Deliver hs index isn) old new hs pair id
     of_delivery f k (Ignored same) becomes = absurd (holds-none own own' pair id (keeps-same own own' same) free held)
     of_delivery f k (Answered r same) becomes = absurd (holds-none own own' pair id (keeps-next own (record own { replies = own.replies ++ r ∷ [] }) own' same (λ p none. none)) free held)
     of_delivery f k (Heard s c l i parsed found same) becomes =
-        let next : HostView = record own { entries = settled (fate c s) (is_between (local_end own s) (peer_end own s)) (arrived (later own (clock_of old.network hs)) s) own.entries } in
-        absurd (holds-none own own' pair id (keeps-next own next own' same (λ p none. unheld-heard (fate c s) (local_end own s) (peer_end own s) (later own (clock_of old.network hs)) s p own.entries none)) free held)
+        let next : HostView = record own { entries = entries_after_step (fate c s) (is_between (local_end own s) (peer_end own s)) (role_after_segment (later_moment own (clock_of old.network hs)) s) own.entries } in
+        absurd (holds-none own own' pair id (keeps-next own next own' same (λ p none. unheld-heard (fate c s) (local_end own s) (peer_end own s) (later_moment own (clock_of old.network hs)) s p own.entries none)) free held)
     of_delivery f k (Began s listener parsed none opens foreseen same) becomes =
         let r = reached limit hs ts w.a w.b own (host_of old.network ts) old.network old.trace f w.projects k s parsed in
         began f s listener k r.pair same becomes
 
     of_sender : (f : Frame) → Carried hs ts w.a w.b w.projects.out w.projects.arrived f → same_side f.sender hs ≡ false → MeetsFrame own (clock_of old.network hs) isn.0 f.octets.items answer own'
-        → new.network ≡ delivered hs (length old.trace) f.note old.network own' → Noted (event.Deliver hs index isn) old new hs pair id
+        → new.network ≡ after_delivery hs (length old.trace) f.note old.network own' → Noted (event.Deliver hs index isn) old new hs pair id
     of_sender f (inl c) not_ours meets becomes = absurd (not_own hs (ap (λ s. same_side s hs) (sym c.0) ∙ not_ours))
     of_sender f (inr c) not_ours meets becomes = of_delivery f c.1 (frame-delivered own (clock_of old.network hs) isn.0 f.octets.items answer own' meets) becomes
 
@@ -270,7 +270,7 @@ call-noted limit hs ts old new c answer w step x y id free held =
 
 tick-none : (side : Side) (moment : Moment) (answer : Answer) (place : ℕ) (n m : NetworkView) → Steps (event.Tick side moment) place answer n m → (pair : Pair) (id : SocketId) → holder_id (host_of n side) pair ≡ None → holder_id (host_of m side) pair ≡ Some id → ⊥
 tick-none side moment answer place n m step pair id free held =
-    let becomes : host_of m side ≡ after_tick (host_of n side) moment = ap (λ k. host_of k side) step.1 ∙ own-with n side (ticked_station (station_of n side) moment) in
+    let becomes : host_of m side ≡ after_tick (host_of n side) moment = ap (λ k. host_of k side) step.1 ∙ own-with n side (station_after_tick (station_of n side) moment) in
     holds-none (host_of n side) (host_of m side) pair id (keeps-next (host_of n side) (after_tick (host_of n side) moment) (host_of m side) becomes (tick-keeps (host_of n side) moment)) free held
 
 emit-none : (side : Side) (answer : Answer) (n m : NetworkView) → MeetsEmission side answer n m → (pair : Pair) (id : SocketId) → holder_id (host_of n side) pair ≡ None → holder_id (host_of m side) pair ≡ Some id → ⊥
@@ -293,12 +293,12 @@ opened-host n (Some o) side = own-again n (with_opening n (Some o)) side refl re
 other-host : (n : NetworkView) (s t : Side) (h : HostView) → t ≡ other_side s → host_of (with_host n s h) t ≡ host_of n t
 other-host n s t h opposite = other-with n s t (let x = station_of n s in record x { host = h }) opposite
 
-called-other : (s t : Side) (c : Call) (answer : Answer) (place : ℕ) (n : NetworkView) (h : HostView) → t ≡ other_side s → host_of (called s c answer place n h) t ≡ host_of n t
+called-other : (s t : Side) (c : Call) (answer : Answer) (place : ℕ) (n : NetworkView) (h : HostView) → t ≡ other_side s → host_of (after_call s c answer place n h) t ≡ host_of n t
 called-other s t (call.Connect isn id peer) reply.Started place n h opposite = opened-host (with_host n s h) (opened_by_connect n.openings s id place h (host_of n (other_side s))) t ∙ other-host n s t h opposite
-called-other s t (call.Send id octets) (reply.Sent count) place n h opposite = own-again (with_host n s h) (called s (call.Send id octets) (reply.Sent count) place n h) t refl refl ∙ other-host n s t h opposite
+called-other s t (call.Send id octets) (reply.Sent count) place n h opposite = own-again (with_host n s h) (after_call s (call.Send id octets) (reply.Sent count) place n h) t refl refl ∙ other-host n s t h opposite
 called-other s t _ _ place n h opposite = other-host n s t h opposite
 
-delivered-other : (s t : Side) (place : ℕ) (note : Option Note) (n : NetworkView) (h : HostView) → t ≡ other_side s → host_of (delivered s place note n h) t ≡ host_of n t
+delivered-other : (s t : Side) (place : ℕ) (note : Option Note) (n : NetworkView) (h : HostView) → t ≡ other_side s → host_of (after_delivery s place note n h) t ≡ host_of n t
 delivered-other s t place None n h opposite = other-host n s t h opposite
 delivered-other s t place (Some note) n h opposite = opened-host (with_host n s h) (opened_by_frame n.openings s place note.pair (host_of n s) h) t ∙ other-host n s t h opposite
 
@@ -311,7 +311,7 @@ side_of (event.Deliver s index isn) = s
 
 other-stays : (happens : Event) (place : ℕ) (answer : Answer) (n m : NetworkView) (t : Side) → t ≡ other_side (side_of happens) → Steps happens place answer n m → host_of m t ≡ host_of n t
 other-stays (event.Call s c) place answer n m t opposite step = ap (λ v. host_of v t) step.1 ∙ called-other s t c answer place n (host_of m s) opposite
-other-stays (event.Tick s moment) place answer n m t opposite step = ap (λ v. host_of v t) step.1 ∙ other-with n s t (ticked_station (station_of n s) moment) opposite
+other-stays (event.Tick s moment) place answer n m t opposite step = ap (λ v. host_of v t) step.1 ∙ other-with n s t (station_after_tick (station_of n s) moment) opposite
 other-stays (event.Emit s) place answer n m t opposite step = by_answer answer step
   where
     by_answer : (answer : Answer) → MeetsEmission s answer n m → host_of m t ≡ host_of n t

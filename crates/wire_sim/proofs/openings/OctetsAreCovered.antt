@@ -27,7 +27,7 @@ use Rattle.wire_sim.specs.Openings.{opened_by_connect, opened_by_frame}
 use Rattle.wire_sim.specs.Runs.{IsStep, IsReached}
 use Rattle.wire_sim.specs.Runs as runs
 use Rattle.wire_sim.specs.Sides.{same_side, other_side}
-use Rattle.wire_sim.specs.Steps.{with_station, with_host, with_opening, called, delivered, ticked_station, asked, MeetsCall, MeetsEmission, DeliversFrame, Steps}
+use Rattle.wire_sim.specs.Steps.{with_station, with_host, with_opening, after_call, after_delivery, station_after_tick, recv_len, MeetsCall, MeetsEmission, DeliversFrame, Steps}
 use Rattle.wire_sim.specs.Tallies.{is_opening_of, is_opening_at, same_pair}
 use Rattle.wire_sim.specs.Trace.{sent_on, read_on, closed_on, ended_on, of_opening}
 use Rattle.wire_sim.specs.WorldView.{NetworkView, WorldView, station_of, host_of}
@@ -144,12 +144,12 @@ grows-host n side h = grows-not n (with_host n side h) (openings-with n side (le
 grows-opened : (n : NetworkView) (side : Side) (h : HostView) (o : Option Opening) → Grows n (with_opening (with_host n side h) o)
 grows-opened n side h o = record { more = as_list o; openings = opens (with_host n side h) o ∙ ap (λ l. l ++ as_list o) (openings-with n side (let s = station_of n side in record s { host = h })) }
 
-grows-called : (side : Side) (c : Call) (answer : Answer) (place : ℕ) (n : NetworkView) (h : HostView) → Grows n (called side c answer place n h)
+grows-called : (side : Side) (c : Call) (answer : Answer) (place : ℕ) (n : NetworkView) (h : HostView) → Grows n (after_call side c answer place n h)
 grows-called side (call.Connect isn id peer) reply.Started place n h = grows-opened n side h (opened_by_connect n.openings side id place h (host_of n (other_side side)))
-grows-called side (call.Send id octets) (reply.Sent count) place n h = grows-not n (called side (call.Send id octets) (reply.Sent count) place n h) (openings-with n side (let s = station_of n side in record s { host = h }))
+grows-called side (call.Send id octets) (reply.Sent count) place n h = grows-not n (after_call side (call.Send id octets) (reply.Sent count) place n h) (openings-with n side (let s = station_of n side in record s { host = h }))
 grows-called side _ _ place n h = grows-host n side h
 
-grows-delivered : (side : Side) (place : ℕ) (note : Option Note) (n : NetworkView) (h : HostView) → Grows n (delivered side place note n h)
+grows-delivered : (side : Side) (place : ℕ) (note : Option Note) (n : NetworkView) (h : HostView) → Grows n (after_delivery side place note n h)
 grows-delivered side place None n h = grows-host n side h
 grows-delivered side place (Some note) n h = grows-opened n side h (opened_by_frame n.openings side place note.pair (host_of n side) h)
 
@@ -158,7 +158,7 @@ grows-same n m k same g = subst (Grows n) (sym same) g
 
 grows : (happens : Event) (place : ℕ) (answer : Answer) (old new : NetworkView) → Steps happens place answer old new → Grows old new
 grows (event.Call side c) place answer old new step = grows-same old new _ step.1 (grows-called side c answer place old (host_of new side))
-grows (event.Tick side moment) place answer old new step = grows-same old new _ step.1 (grows-not old (with_station old side (ticked_station (station_of old side) moment)) (openings-with old side (ticked_station (station_of old side) moment)))
+grows (event.Tick side moment) place answer old new step = grows-same old new _ step.1 (grows-not old (with_station old side (station_after_tick (station_of old side) moment)) (openings-with old side (station_after_tick (station_of old side) moment)))
 grows (event.Emit side) place answer old new step = by_answer answer step
   where
     by_answer : (answer : Answer) → MeetsEmission side answer old new → Grows old new
@@ -203,7 +203,7 @@ unread-call limit hs ts n trace w (call.Send i octets) answer new m id none =
       | inr k ↦ subst (λ a. IsUnread hs id (answered hs (call.Send i octets) a)) (sym k.2) (refl, refl, refl)
     ]
 unread-call limit hs ts n trace w (call.Recv i len) answer new m id none =
-    elim (recv_outcome (host_of n hs) i (asked len) answer new m) [
+    elim (recv_outcome (host_of n hs) i (recv_len len) answer new m) [
       | inl k ↦
           let apart = socket-opened limit hs ts n trace w id i k.c k.l k.found none in
           subst (λ a. IsUnread hs id (answered hs (call.Recv i len) a)) (sym k.is_answer) (refl, read_by-recv hs i id len k.octets ∙ ap (λ b. cond b k.octets.items []) apart, refl)

@@ -10,8 +10,8 @@ use Rattle.tcp_state.specs.View.{opened_actively}
 use Rattle.host.specs.declared.entry.SocketId.{SocketId}
 use Rattle.host.specs.declared.entry.Entry.{Entry}
 use Rattle.host.specs.declared.role.Role.TheVariants.{Idle}
-use Rattle.host.specs.Calls.{unless_refused, connect_refusal, after_connect, counted_port}
-use Rattle.host.specs.Entries.{is_socket, is_between, is_of_pair, connecting, with_role}
+use Rattle.host.specs.Calls.{unless_refused, connect_refusal, after_connect, last_port_after}
+use Rattle.host.specs.Entries.{is_socket, is_between, is_of_pair, role_after_connect, with_role}
 use Rattle.host.specs.HostView.{HostView, holder_id}
 use Rattle.host.specs.Lists.{change_first}
 use Rattle.host.specs.Pairs.{socket_pair}
@@ -30,7 +30,7 @@ use Rattle.wire_sim.specs.declared.world.bag.Note.{Note}
 use Rattle.wire_sim.specs.Holding.{IsBegun, EveryOpeningIsBegun}
 use Rattle.wire_sim.specs.Openings.{epoch_of, epoch_connected, opened_as, opened_by_connect, opened_by_frame, held_anew}
 use Rattle.wire_sim.specs.Sides.{other_side}
-use Rattle.wire_sim.specs.Steps.{with_host, with_opening, called, delivered, ticked_station, MeetsEmission, DeliversFrame, Steps}
+use Rattle.wire_sim.specs.Steps.{with_host, with_opening, after_call, after_delivery, station_after_tick, MeetsEmission, DeliversFrame, Steps}
 use Rattle.wire_sim.specs.WorldView.{NetworkView, WorldView, station_of, host_of}
 use Rattle.wire_sim.proofs.tables.CallsOnTable.{outcome, not_refused, connects-on, socket_pair-connected, found-connecting}
 use Rattle.wire_sim.proofs.openings.OctetsAreCovered.{as_list, opens}
@@ -70,8 +70,8 @@ connecting-host limit hs ts n trace w isn id peer place may =
     let k = connects-on own id peer may in
     let local : Endpoint = record { addr = own.addr; port = k.port } in
     let c = opened_actively local peer isn.0 in
-    let g = connecting local peer isn.0 in
-    let base : HostView = record own { last_port = counted_port own k.bound k.port } in
+    let g = role_after_connect local peer isn.0 in
+    let base : HostView = record own { last_port = last_port_after own k.bound k.port } in
     let next : HostView = record base { entries = change_first (is_socket id) (with_role g) own.entries } in
     let is_next : after_connect own isn.0 id peer ≡ next = k.becomes isn.0 in
     let peer_addr : peer.addr ≡ b = k.reached ∙ h.own_neighbour in
@@ -119,10 +119,10 @@ connect-noted limit hs ts old new isn id peer answer w step =
           let added : opened_by_connect old.network.openings hs id (length old.trace) own' other ≡ Some o = ap (λ v. opened_by_connect old.network.openings hs id (length old.trace) v other) x.3 ∙ k.opens in
           inr (
             o,
-            host-opens old.network new.network hs own' (opened_by_connect old.network.openings hs id (length old.trace) own' other) (step.1 ∙ ap (λ r. called hs c r (length old.trace) old.network own') x.2) ∙ ap (λ l. old.network.openings ++ as_list l) added,
+            host-opens old.network new.network hs own' (opened_by_connect old.network.openings hs id (length old.trace) own' other) (step.1 ∙ ap (λ r. after_call hs c r (length old.trace) old.network own') x.2) ∙ ap (λ l. old.network.openings ++ as_list l) added,
             record { unheld = k.unheld; held = ap (λ v. holder_id v k.pair) x.3 ∙ k.held; place = refl; epoch = epoch-rises old.network.openings other k.pair },
           )
-      | inr x ↦ inl (host-opens old.network new.network hs own' None (step.1 ∙ ap (λ r. called hs c r (length old.trace) old.network own') x.2) ∙ append-nil old.network.openings)
+      | inr x ↦ inl (host-opens old.network new.network hs own' None (step.1 ∙ ap (λ r. after_call hs c r (length old.trace) old.network own') x.2) ∙ append-nil old.network.openings)
     ]
 
 -- Every other call.
@@ -131,7 +131,7 @@ abbrev is_connecting : Call → Bool
 is_connecting (call.Connect isn id peer) = true
 is_connecting _ = false
 
-call-opens-none : (side : Side) (c : Call) (answer : Answer) (place : ℕ) (n : NetworkView) (h : HostView) → is_connecting c ≡ false → (let m = called side c answer place n h in m.openings) ≡ n.openings
+call-opens-none : (side : Side) (c : Call) (answer : Answer) (place : ℕ) (n : NetworkView) (h : HostView) → is_connecting c ≡ false → (let m = after_call side c answer place n h in m.openings) ≡ n.openings
 call-opens-none side (call.Connect isn id peer) answer place n h other = cc
 call-opens-none side (call.Send id octets) (reply.Sent count) place n h other = openings-with n side (let s = station_of n side in record s { host = h })
 call-opens-none side _ _ place n h other = openings-with n side (let s = station_of n side in record s { host = h })
@@ -155,7 +155,7 @@ frame-noted side index isn answer old new step = by_frame (slice_get old.network
     by_holders pair None None free held grown = inl (grown ∙ append-nil old.network.openings)
     by_holders pair (Some x) after free held grown = inl (grown ∙ append-nil old.network.openings)
 
-    by_note : (o : Option Note) → new.network ≡ delivered side (length old.trace) o old.network (host_of new.network side) → IsNoted (event.Deliver side index isn) old new
+    by_note : (o : Option Note) → new.network ≡ after_delivery side (length old.trace) o old.network (host_of new.network side) → IsNoted (event.Deliver side index isn) old new
     by_note None same = inl (host-opens old.network new.network side (host_of new.network side) None same ∙ append-nil old.network.openings)
     by_note (Some note) same = by_holders note.pair (holder_id (host_of old.network side) note.pair) (holder_id (host_of new.network side) note.pair) refl refl
         (host-opens old.network new.network side (host_of new.network side) (opened_by_frame old.network.openings side (length old.trace) note.pair (host_of old.network side) (host_of new.network side)) same)
@@ -171,7 +171,7 @@ openings-begun limit old new (event.Call A c) answer reached step = call-noted l
 openings-begun limit old new (event.Call B c) answer reached step = call-noted limit B A old new c answer (orderly-swapped limit A B old.network old.trace (orderly limit old reached)) step.network
 openings-begun limit old new (event.Tick side moment) answer reached step =
     let same = step.network.1 in
-    inl (ap (λ (m : NetworkView). m.openings) same ∙ openings-with old.network side (ticked_station (station_of old.network side) moment))
+    inl (ap (λ (m : NetworkView). m.openings) same ∙ openings-with old.network side (station_after_tick (station_of old.network side) moment))
 openings-begun limit old new (event.Emit side) answer reached step = by_answer answer step.network
   where
     by_answer : (answer : Answer) → MeetsEmission side answer old.network new.network → IsNoted (event.Emit side) old new

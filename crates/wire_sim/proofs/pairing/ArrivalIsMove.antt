@@ -27,8 +27,8 @@ use Rattle.stream_law.specs.Channel.{IsAmong}
 use Rattle.stream_law.specs.ChannelViews.{SameStream}
 use Rattle.stream_law.proofs.PairingEndings.{stops-left}
 use Rattle.host.specs.Arrival.{local_end, peer_end, after_opening, is_opening, pair_opened}
-use Rattle.host.specs.Entries.{is_between, is_of_pair, is_kept, arrived, settled}
-use Rattle.host.specs.HostView.{HostView, later, holder_id}
+use Rattle.host.specs.Entries.{is_between, is_of_pair, is_kept, role_after_segment, entries_after_step}
+use Rattle.host.specs.HostView.{HostView, later_moment, holder_id}
 use Rattle.wire_sim.specs.Fairness.{is_stale, second_by_frame, pair_foreseen}
 use Rattle.wire_sim.specs.Openings.{epoch_of, held_anew, opened_by_frame}
 use Rattle.stream_law.specs.Pairing.{Presence, Present, End, Emission, Pairing, Move, IsTimely, Meets, accepts, hears, resets, rests, stops, here_moves, remains, nothing_yet}
@@ -149,22 +149,22 @@ not-lost limit c s now t there out arrivals Rejected met l =
 -- a segment whose octets are lost aborts the connection, and any other is heard
 arriving : (limit : ℕ) (c : View) (l : Option SocketId) (s : Segment) (now : Moment) (t : Account) (there : End) (out arrivals : List Emission) → is_closed c.state ≡ false
     → Move limit (pairing (end_with (Present c) t) there out arrivals) (pairing (end_with (remains (fate c s) (after_segment c s)) t) there out arrivals)
-    → Goes limit (pairing (end_with (Present c) t) there out arrivals) (pairing (end_with (presence_in (settle (fate c s) (arrived now s) (Connected c l))) t) there out arrivals)
+    → Goes limit (pairing (end_with (Present c) t) there out arrivals) (pairing (end_with (presence_in (settle (fate c s) (role_after_segment now s) (Connected c l))) t) there out arrivals)
 arriving limit c l s now t there out arrivals lives move met = by_lost (is_lost c s) refl
   where
     was : Pairing
     was = pairing (end_with (Present c) t) there out arrivals
 
-    by_lost : (b : Bool) → is_lost c s ≡ b → Meets limit (pairing (end_with (presence_in (settle (fate c s) (arrived now s) (Connected c l))) t) there out arrivals)
+    by_lost : (b : Bool) → is_lost c s ≡ b → Meets limit (pairing (end_with (presence_in (settle (fate c s) (role_after_segment now s) (Connected c l))) t) there out arrivals)
     by_lost true lost =
         let w : View = timed c s now (after_lost c s) in
         let stays : fate c s ≡ Stays = rw (lives, lost) in
-        let becomes : arrived now s (Connected c l) ≡ Connected w l = ap (λ b. Connected (timed c s now (cond b (after_lost c s) (after_segment c s))) l) lost in
-        subst (λ x. Meets limit (pairing (end_with (presence_in (settle x (arrived now s) (Connected c l))) t) there out arrivals)) (sym stays)
+        let becomes : role_after_segment now s (Connected c l) ≡ Connected w l = ap (λ b. Connected (timed c s now (cond b (after_lost c s) (after_segment c s))) l) lost in
+        subst (λ x. Meets limit (pairing (end_with (presence_in (settle x (role_after_segment now s) (Connected c l))) t) there out arrivals)) (sym stays)
         (subst (λ r. Meets limit (pairing (end_with (presence_in (Some r)) t) there out arrivals)) (sym becomes)
         (moved limit was (pairing (end_with (Present w) t) there out arrivals) (stops was c w t.closed refl (stops-left c w refl refl) (λ e. e)) met))
     by_lost false kept =
-        let becomes : arrived now s (Connected c l) ≡ Connected (timed c s now (after_segment c s)) l = ap (λ b. Connected (timed c s now (cond b (after_lost c s) (after_segment c s))) l) kept in
+        let becomes : role_after_segment now s (Connected c l) ≡ Connected (timed c s now (after_segment c s)) l = ap (λ b. Connected (timed c s now (cond b (after_lost c s) (after_segment c s))) l) kept in
         subst (λ r. Meets limit (pairing (end_with (presence_in (cond (is_kept (fate c s)) (Some r) None)) t) there out arrivals)) (sym becomes)
         (not-lost limit c s now t there out arrivals (fate c s) (here_moves was (pairing (end_with (remains (fate c s) (after_segment c s)) t) there out arrivals) met move) l)
 
@@ -180,7 +180,7 @@ kept-role x q role = step (is_kept x)
 projects-heard : (limit : ℕ) (hs ts : Side) (a b : Addr) (own own' other : HostView) (n : NetworkView) (trace : List Happening) (now : Moment) (place : ℕ) (f : Frame) (s : Segment) (c : View) (l : Option SocketId) (id : SocketId) → n.limit ≡ limit → IsTallied n trace → IsSoundHost own
     → (h : Projects limit hs ts a b own other n.frames n.openings trace) → (k : Carries b a ts hs h.arrived f) → is_stale n k.note ≡ false → epoch_of n.openings k.note.pair ≡ k.note.epoch → Reaches limit hs ts a b own other n trace f h k s
     → find (is_between (local_end own s) (peer_end own s)) own.entries ≡ Some (record { id = id; role = Connected c l })
-    → own' ≡ record own { entries = settled (fate c s) (is_between (local_end own s) (peer_end own s)) (arrived now s) own.entries }
+    → own' ≡ record own { entries = entries_after_step (fate c s) (is_between (local_end own s) (peer_end own s)) (role_after_segment now s) own.entries }
     → Opens limit hs ts a b own' other n.frames n.openings (opened_by_frame n.openings hs place k.note.pair own own') trace
 projects-heard limit hs ts a b own own' other n trace now place f s c l id is_limit tallied sound h k fresh present r found becomes =
     let test = is_between (local_end own s) (peer_end own s) in
@@ -194,8 +194,8 @@ projects-heard limit hs ts a b own own' other n trace now place f s c l id is_li
     let pair : o.pair ≡ k.note.pair = noted.pair ∙ of_pair in
     let epoch : o.epoch ≡ k.note.epoch = noted.present parts.0 ∙ (ap (epoch_of n.openings) pair ∙ present) in
     let account = told hs trace id in
-    let ys = settled (fate c s) test (arrived now s) own.entries in
-    let z : Becomes own.entries ys id.0 (settle (fate c s) (arrived now s) (Connected c l)) = becomes-settled (fate c s) test (arrived now s) own.entries x h.own_table.sole found in
+    let ys = entries_after_step (fate c s) test (role_after_segment now s) own.entries in
+    let z : Becomes own.entries ys id.0 (settle (fate c s) (role_after_segment now s) (Connected c l)) = becomes-settled (fate c s) test (role_after_segment now s) own.entries x h.own_table.sole found in
     let next : HostView = record own { entries = ys } in
     let there = end_at ts n.openings other.entries (told ts trace) o.pair o.epoch in
     let was = pairing (end_with (Present c) account) there (h.out o.pair o.epoch) (h.arrived o.pair o.epoch) in
@@ -219,11 +219,11 @@ projects-heard limit hs ts a b own own' other n trace now place f s c l id is_li
     projects-turned limit hs ts a b own next other n.frames n.openings trace trace h (record {
       addr = refl;
       neighbour = refl;
-      table = table-becomes hs a b own.last_id own.entries ys n.openings (told hs trace) (told hs trace) id (settle (fate c s) (arrived now s) (Connected c l)) z
-          (λ role is. (subst (λ q. IsNoted hs a b n.openings id q) (kept-role (fate c s) (arrived now s (Connected c l)) role is) (opened-kept hs a b n.openings id c (after_segment_at c s now) (keeps-segment c s now parts.0) noted), h.own_table.bound id (Connected c l) before))
+      table = table-becomes hs a b own.last_id own.entries ys n.openings (told hs trace) (told hs trace) id (settle (fate c s) (role_after_segment now s) (Connected c l)) z
+          (λ role is. (subst (λ q. IsNoted hs a b n.openings id q) (kept-role (fate c s) (role_after_segment now s (Connected c l)) role is) (opened-kept hs a b n.openings id c (after_segment_at c s now) (keeps-segment c s now parts.0) noted), h.own_table.bound id (Connected c l) before))
           (λ i apart. refl) (λ none may. h.own_table.silent id none (inr (Connected c l, before))) h.own_table;
       other_told = λ i. refl;
-      meets = meets-moved_at limit hs ts a b own other n.frames n.openings trace ys id o (Present c) (presence_in (settle (fate c s) (arrived now s) (Connected c l))) h noted.at (ap presence_in before) (ap presence_in z.here) z.others
+      meets = meets-moved_at limit hs ts a b own other n.frames n.openings trace ys id o (Present c) (presence_in (settle (fate c s) (role_after_segment now s) (Connected c l))) h noted.at (ap presence_in before) (ap presence_in z.here) z.others
           (arriving limit c l s now account there (h.out o.pair o.epoch) (h.arrived o.pair o.epoch) parts.0 move);
     }) in
     OpensNone (held-already n.openings hs place k.note.pair own (holder_id own' k.note.pair) c l id parts.0 before of_pair)
@@ -326,6 +326,6 @@ projects-delivered limit hs ts a b own own' other n trace clock isn place f is_l
     (subst (λ w. Projects limit hs ts a b w other n.frames n.openings trace) (sym becomes)
     (projects-turned limit hs ts a b own next other n.frames n.openings trace trace h (record { addr = refl; neighbour = refl; table = h.own_table; other_told = λ i. refl; meets = h.meets })))
 projects-delivered limit hs ts a b own own' other n trace clock isn place f is_limit tallied sound small_isn h k fresh present fair (Heard s c l id parsed found becomes) =
-    projects-heard limit hs ts a b own own' other n trace (later own clock) place f s c l id is_limit tallied sound h k fresh present (reached limit hs ts a b own other n trace f h k s parsed) found becomes
+    projects-heard limit hs ts a b own own' other n trace (later_moment own clock) place f s c l id is_limit tallied sound h k fresh present (reached limit hs ts a b own other n trace f h k s parsed) found becomes
 projects-delivered limit hs ts a b own own' other n trace clock isn place f is_limit tallied sound small_isn h k fresh present fair (Began s listener parsed none opens foreseen becomes) =
     projects-began limit hs ts a b own own' other n trace isn place f s listener is_limit tallied small_isn h k fresh present fair (reached limit hs ts a b own other n trace f h k s parsed) parsed none opens foreseen becomes

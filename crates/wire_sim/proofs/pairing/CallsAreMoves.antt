@@ -23,14 +23,14 @@ use Rattle.host.specs.declared.refusal.Refusal.{Refusal}
 use Rattle.host.specs.declared.refusal.Refusal.TheVariants as refusal
 use Rattle.wire_sim.specs.declared.world.bag.Frame.{Frame}
 use Rattle.host.specs.Calls.{after_socket, send_answer, after_send, recv_answer, after_recv, shutdown_refusal, after_shutdown}
-use Rattle.host.specs.Entries.{is_socket, sent, received as received_role, write_shut, with_role}
+use Rattle.host.specs.Entries.{is_socket, role_after_send, role_after_recv as received_role, role_after_shutdown, with_role}
 use Rattle.host.specs.HostView.{HostView}
 use Rattle.host.specs.Lists.{change_first}
 use Rattle.stream_law.specs.Pairing.{Present, Meets, takes, closes, gives, ends}
 use Rattle.host.specs.Sound.{IsSoundConnection, IsSoundRole, IsSoundHost}
 use Rattle.wire_sim.specs.Sides.{other_side}
-use Rattle.wire_sim.specs.Steps.{MeetsSocket, MeetsReceived, called, with_host, with_opening}
-use Rattle.wire_sim.specs.Tallies.{counted, is_opening_at}
+use Rattle.wire_sim.specs.Steps.{MeetsSocket, MeetsReceived, after_call, with_host, with_opening}
+use Rattle.wire_sim.specs.Tallies.{counts_after, is_opening_at}
 use Rattle.wire_sim.specs.WorldView.{NetworkView}
 use Rattle.wire_sim.proofs.tables.CallsOnTable.{sends-on, reads-on, octets_told, end_told, received-connected, readable_on-connected, socket-kept, shuts-on}
 use Rattle.wire_sim.proofs.tables.EntryChanges.{SameBut, SameTold, table-becomes, table-told, end-told, meets-moved, opened-kept}
@@ -100,12 +100,12 @@ projects-quiet limit hs ts a b own other frames openings trace test g quiet h = 
 
 -- What a call made of the network: nothing beside its host, a count, or an opening.
 pub data CallGoes (limit : ℕ) (hs ts : Side) (a b : Addr) (own' other : HostView) (n : NetworkView) (c : Call) (answer : Answer) (place : ℕ) (trace : List Happening) : Type 0 where
-  GoesPlain : called hs c answer place n own' ≡ with_host n hs own' → Projects limit hs ts a b own' other n.frames n.openings (trace ++ answered hs c answer ∷ [])
+  GoesPlain : after_call hs c answer place n own' ≡ with_host n hs own' → Projects limit hs ts a b own' other n.frames n.openings (trace ++ answered hs c answer ∷ [])
       → tallies (trace ++ answered hs c answer ∷ []) n.openings ≡ tallies trace n.openings → CallGoes limit hs ts a b own' other n c answer place trace
-  GoesCounted : (id : SocketId) (count : ℕ) → called hs c answer place n own' ≡ record (with_host n hs own') { written = counted n.openings n.written hs id count }
+  GoesCounted : (id : SocketId) (count : ℕ) → after_call hs c answer place n own' ≡ record (with_host n hs own') { written = counts_after n.openings n.written hs id count }
       → Projects limit hs ts a b own' other n.frames n.openings (trace ++ answered hs c answer ∷ [])
-      → counted n.openings (tallies trace n.openings) hs id count ≡ tallies (trace ++ answered hs c answer ∷ []) n.openings → CallGoes limit hs ts a b own' other n c answer place trace
-  GoesOpened : (o : Opening) → called hs c answer place n own' ≡ with_opening (with_host n hs own') (Some o) → Projects limit hs ts a b own' other n.frames (n.openings ++ o ∷ []) (trace ++ answered hs c answer ∷ [])
+      → counts_after n.openings (tallies trace n.openings) hs id count ≡ tallies (trace ++ answered hs c answer ∷ []) n.openings → CallGoes limit hs ts a b own' other n c answer place trace
+  GoesOpened : (o : Opening) → after_call hs c answer place n own' ≡ with_opening (with_host n hs own') (Some o) → Projects limit hs ts a b own' other n.frames (n.openings ++ o ∷ []) (trace ++ answered hs c answer ∷ [])
       → tallies (trace ++ answered hs c answer ∷ []) (n.openings ++ o ∷ []) ≡ tallies trace n.openings ++ 0 ∷ [] → CallGoes limit hs ts a b own' other n c answer place trace
 
 -- What a socket call shows, by its answer.
@@ -215,7 +215,7 @@ recv_outcome h id len answer new = by_outcome (recv_answer h id len) refl answer
 
 -- Calls that change no connection.
 
-pub plain : (limit : ℕ) (hs ts : Side) (a b : Addr) (own' other : HostView) (n : NetworkView) (c : Call) (answer : Answer) (place : ℕ) (trace : List Happening) → called hs c answer place n own' ≡ with_host n hs own'
+pub plain : (limit : ℕ) (hs ts : Side) (a b : Addr) (own' other : HostView) (n : NetworkView) (c : Call) (answer : Answer) (place : ℕ) (trace : List Happening) → after_call hs c answer place n own' ≡ with_host n hs own'
     → ((i : SocketId) → IsQuiet hs i (answered hs c answer)) → Projects limit hs ts a b own' other n.frames n.openings trace → CallGoes limit hs ts a b own' other n c answer place trace
 plain limit hs ts a b own' other n c answer place trace is quiet h =
     let silent = quiet-everywhere hs c answer quiet in
@@ -269,7 +269,7 @@ call-sends limit hs ts a b own other n place trace id octets count sound opposit
     let same : told hs (trace ++ answered hs (call.Send id octets) (reply.Sent count) ∷ []) id ≡ more =
     t.0 ∙ ap (λ i. let x : Account = record one { gave = one.gave ++ take i octets.items } in x) k.takes in
     GoesCounted id count refl
-    (projects-socket limit hs ts a b own other n trace (call.Send id octets) (reply.Sent count) id k.c (connection_calls.after_send k.c octets.items) k.l k.l (sent octets.items) opposite k.found refl (keeps-send k.c octets.items) t.1
+    (projects-socket limit hs ts a b own other n trace (call.Send id octets) (reply.Sent count) id k.c (connection_calls.after_send k.c octets.items) k.l k.l (role_after_send octets.items) opposite k.found refl (keeps-send k.c octets.items) t.1
     (subst (λ x. EndGoes limit (end_with (Present k.c) one) (end_with (Present (connection_calls.after_send k.c octets.items)) x)) (sym same)
     (λ there out arrived. moved limit (pairing (end_with (Present k.c) one) there out arrived) (pairing (end_with (Present (connection_calls.after_send k.c octets.items)) more) there out arrived) (takes (pairing (end_with (Present k.c) one) there out arrived) k.c octets.items refl solid.sound k.untold k.opened k.unclosed))) h)
     (tallies-counted trace n.openings hs id octets count (subst (λ i. i ≤ length octets.items) (sym k.takes) (taken_fits k.c octets.items)))
@@ -311,7 +311,7 @@ call-closes limit hs ts a b own other n place trace id sound opposite accepted h
     let t = closes-told hs trace id in
     let one = told hs trace id in
     GoesPlain refl
-    (projects-socket limit hs ts a b own other n trace (call.Shutdown id) reply.Done id k.c (connection_calls.after_shutdown k.c) k.l k.l write_shut opposite k.found k.shuts (keeps-shutdown k.c) t.1
+    (projects-socket limit hs ts a b own other n trace (call.Shutdown id) reply.Done id k.c (connection_calls.after_shutdown k.c) k.l k.l role_after_shutdown opposite k.found k.shuts (keeps-shutdown k.c) t.1
     (subst (λ x. EndGoes limit (end_with (Present k.c) one) (end_with (Present (connection_calls.after_shutdown k.c)) x)) (sym t.0)
     (λ there out arrived. moved limit (pairing (end_with (Present k.c) one) there out arrived) (pairing (end_with (Present (connection_calls.after_shutdown k.c)) (record one { closed = true })) there out arrived) (closes (pairing (end_with (Present k.c) one) there out arrived) k.c refl solid.sound k.opened))) h)
     (tallies-quiet trace n.openings (answered hs (call.Shutdown id) reply.Done) (λ s i. refl))

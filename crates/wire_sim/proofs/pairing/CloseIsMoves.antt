@@ -20,7 +20,7 @@ use Rattle.host.specs.declared.role.Role.{Role}
 use Rattle.host.specs.declared.role.Role.TheVariants.{Idle, Listener, Connected}
 use Rattle.host.specs.declared.refusal.Refusal.TheVariants.{EBADF}
 use Rattle.host.specs.Calls.{close_refusal, after_socket_closed, after_close}
-use Rattle.host.specs.Entries.{is_socket, is_kept, waits_at, closed, close_fate_of, aborted, abort_fate_of, forsaken, forsaken_fate, settled}
+use Rattle.host.specs.Entries.{is_socket, is_kept, waits_at, role_after_close, close_fate_of, role_after_abort, abort_fate_of, role_after_listener_close, listener_close_fate_of, entries_after_step}
 use Rattle.host.specs.HostView.{HostView}
 use Rattle.host.specs.Sound.{IsSoundHost}
 use Rattle.stream_law.specs.ChannelViews.{SameStream}
@@ -77,7 +77,7 @@ same-released : (c : View) (now : Moment) → SameStream (connection_calls.after
 same-released c now = record { state = refl; held = refl; una = refl; nxt = refl; readable = refl; rnext = refl; pending_error = refl; released = λ e. let bad : true ≡ false = e in cc }
 
 closing : (limit : ℕ) (c : View) (l : Option SocketId) (now : Moment) (t : Account) → IsSound c
-    → EndGoes limit (end_with (Present c) t) (end_with (presence_in (settle (connection_calls.close_fate c) (closed now) (Connected c l))) (record t { closed = true }))
+    → EndGoes limit (end_with (Present c) t) (end_with (presence_in (settle (connection_calls.close_fate c) (role_after_close now) (Connected c l))) (record t { closed = true }))
 closing limit c l now t sound there out arrived = first (connection_calls.is_removed_by_close c) refl
   where
     t' : Account
@@ -117,10 +117,10 @@ closing limit c l now t sound there out arrived = first (connection_calls.is_rem
     first false is met = second is (connection_calls.is_aborted_by_close c) refl met
 
 -- What is made of a connection that waits at a listener which is closed.
-forsaking : (limit : ℕ) (now : Moment) (id : SocketId) (t : Account) (r : Role) → EndGoes limit (end_with (presence_in (Some r)) t) (end_with (presence_in (settle (forsaken_fate id r) (forsaken now id) r)) t)
+forsaking : (limit : ℕ) (now : Moment) (id : SocketId) (t : Account) (r : Role) → EndGoes limit (end_with (presence_in (Some r)) t) (end_with (presence_in (settle (listener_close_fate_of id r) (role_after_listener_close now id) r)) t)
 forsaking limit now id t r there out arrived = waiting (waits_at id r)
   where
-    aborting : (r : Role) → Meets limit (pairing (end_with (presence_in (Some r)) t) there out arrived) → Meets limit (pairing (end_with (presence_in (settle (abort_fate_of r) (aborted now) r)) t) there out arrived)
+    aborting : (r : Role) → Meets limit (pairing (end_with (presence_in (Some r)) t) there out arrived) → Meets limit (pairing (end_with (presence_in (settle (abort_fate_of r) (role_after_abort now) r)) t) there out arrived)
     aborting (Connected c l) met = by_state (is_closed c.state) met
       where
         was : Pairing
@@ -133,7 +133,7 @@ forsaking limit now id t r there out arrived = waiting (waits_at id r)
     aborting (Idle b n) met = met
 
     waiting : (b : Bool) → Meets limit (pairing (end_with (presence_in (Some r)) t) there out arrived)
-        → Meets limit (pairing (end_with (presence_in (settle (if b then abort_fate_of r else Stays) (λ q. if b then aborted now q else q) r)) t) there out arrived)
+        → Meets limit (pairing (end_with (presence_in (settle (if b then abort_fate_of r else Stays) (λ q. if b then role_after_abort now q else q) r)) t) there out arrived)
     waiting true met = aborting r met
     waiting false met = met
 
@@ -143,7 +143,7 @@ forsaking limit now id t r there out arrived = waiting (waits_at id r)
 pub record ClosesOn (h : HostView) (id : SocketId) : Type 0 where
   pub role : Role
   pub found : find (is_socket id) h.entries ≡ Some (record { id = id; role = role })
-  pub closes : after_socket_closed h id ≡ record h { entries = settled (close_fate_of role) (is_socket id) (closed h.kept) h.entries }
+  pub closes : after_socket_closed h id ≡ record h { entries = entries_after_step (close_fate_of role) (is_socket id) (role_after_close h.kept) h.entries }
 
 pub closes-on : (h : HostView) (id : SocketId) → close_refusal h id ≡ None → ClosesOn h id
 closes-on h id none = by_entry (find (is_socket id) h.entries) refl
@@ -155,7 +155,7 @@ closes-on h id none = by_entry (find (is_socket id) h.entries) refl
 -- its own entry
 own-closed : (limit : ℕ) (hs ts : Side) (a b : Addr) (own other : HostView) (n : NetworkView) (trace : List Happening) (id : SocketId) (r : Role) → IsSoundHost own → ts ≡ other_side hs → find (is_socket id) own.entries ≡ Some (record { id = id; role = r })
     → Projects limit hs ts a b own other n.frames n.openings trace
-    → Projects limit hs ts a b (record own { entries = settled (close_fate_of r) (is_socket id) (closed own.kept) own.entries }) other n.frames n.openings (trace ++ answered hs (call.Close id) reply.Done ∷ [])
+    → Projects limit hs ts a b (record own { entries = entries_after_step (close_fate_of r) (is_socket id) (role_after_close own.kept) own.entries }) other n.frames n.openings (trace ++ answered hs (call.Close id) reply.Done ∷ [])
 own-closed limit hs ts a b own other n trace id (Connected c l) sound opposite found h =
     let trace' = trace ++ answered hs (call.Close id) reply.Done ∷ [] in
     let t = forsakes-told hs trace id in
@@ -164,12 +164,12 @@ own-closed limit hs ts a b own other n trace id (Connected c l) sound opposite f
     let k : IsOpened hs a b n.openings id c = h.own_table.noted id (Connected c l) before in
     let solid = sound_socket own id c l sound found in
     let one = told hs trace id in
-    projects-moved limit hs ts a b own (record own { entries = settled (connection_calls.close_fate c) (is_socket id) (closed own.kept) own.entries }) other n.frames n.openings trace trace' id (settle (connection_calls.close_fate c) (closed own.kept) (Connected c l)) refl refl refl
-    (becomes-settled (connection_calls.close_fate c) (is_socket id) (closed own.kept) own.entries x h.own_table.sole found)
+    projects-moved limit hs ts a b own (record own { entries = entries_after_step (connection_calls.close_fate c) (is_socket id) (role_after_close own.kept) own.entries }) other n.frames n.openings trace trace' id (settle (connection_calls.close_fate c) (role_after_close own.kept) (Connected c l)) refl refl refl
+    (becomes-settled (connection_calls.close_fate c) (is_socket id) (role_after_close own.kept) own.entries x h.own_table.sole found)
     (λ role is. (subst (λ q. IsNoted hs a b n.openings id q) (kept (is_kept (connection_calls.close_fate c)) role is) (opened-kept hs a b n.openings id c (connection_calls.after_close c own.kept) (keeps-close c own.kept) k), h.own_table.bound id (Connected c l) before))
     t.1 (λ none may. let bad : None ≡ Some k.opening = sym none ∙ k.at in cc) (told-other hs ts trace (call.Close id) reply.Done opposite)
-    (subst (λ r. EndGoes limit (end_with (presence_in r) one) (end_with (presence_in (settle (connection_calls.close_fate c) (closed own.kept) (Connected c l))) (told hs trace' id))) (sym before)
-    (subst (λ y. EndGoes limit (end_with (Present c) one) (end_with (presence_in (settle (connection_calls.close_fate c) (closed own.kept) (Connected c l))) y)) (sym t.0) (closing limit c l own.kept one solid.sound))) h
+    (subst (λ r. EndGoes limit (end_with (presence_in r) one) (end_with (presence_in (settle (connection_calls.close_fate c) (role_after_close own.kept) (Connected c l))) (told hs trace' id))) (sym before)
+    (subst (λ y. EndGoes limit (end_with (Present c) one) (end_with (presence_in (settle (connection_calls.close_fate c) (role_after_close own.kept) (Connected c l))) y)) (sym t.0) (closing limit c l own.kept one solid.sound))) h
   where
     kept : (b : Bool) (role : Role) → cond b (Some (Connected (connection_calls.after_close c own.kept) l)) None ≡ Some role → Connected (connection_calls.after_close c own.kept) l ≡ role
     kept true role e = cc
@@ -177,14 +177,14 @@ own-closed limit hs ts a b own other n trace id (Connected c l) sound opposite f
 own-closed limit hs ts a b own other n trace id (Listener local backlog) sound opposite found h =
     let x : Entry = record { id = id; role = Listener local backlog } in
     let before : role_at own.entries id.0 ≡ Some (Listener local backlog) = found-role (is_socket id) own.entries x h.own_table.sole found in
-    projects-unopened limit hs ts a b own (record own { entries = settled Removed (is_socket id) (closed own.kept) own.entries }) other n.frames n.openings trace (trace ++ answered hs (call.Close id) reply.Done ∷ []) id refl refl refl
-    (becomes-settled Removed (is_socket id) (closed own.kept) own.entries x h.own_table.sole found) (h.own_table.bound id (Listener local backlog) before) (h.own_table.noted id (Listener local backlog) before)
+    projects-unopened limit hs ts a b own (record own { entries = entries_after_step Removed (is_socket id) (role_after_close own.kept) own.entries }) other n.frames n.openings trace (trace ++ answered hs (call.Close id) reply.Done ∷ []) id refl refl refl
+    (becomes-settled Removed (is_socket id) (role_after_close own.kept) own.entries x h.own_table.sole found) (h.own_table.bound id (Listener local backlog) before) (h.own_table.noted id (Listener local backlog) before)
     (forsakes-told hs trace id).1 (told-other hs ts trace (call.Close id) reply.Done opposite) h
 own-closed limit hs ts a b own other n trace id (Idle buffers bound) sound opposite found h =
     let x : Entry = record { id = id; role = Idle buffers bound } in
     let before : role_at own.entries id.0 ≡ Some (Idle buffers bound) = found-role (is_socket id) own.entries x h.own_table.sole found in
-    projects-unopened limit hs ts a b own (record own { entries = settled Removed (is_socket id) (closed own.kept) own.entries }) other n.frames n.openings trace (trace ++ answered hs (call.Close id) reply.Done ∷ []) id refl refl refl
-    (becomes-settled Removed (is_socket id) (closed own.kept) own.entries x h.own_table.sole found) (h.own_table.bound id (Idle buffers bound) before) (h.own_table.noted id (Idle buffers bound) before)
+    projects-unopened limit hs ts a b own (record own { entries = entries_after_step Removed (is_socket id) (role_after_close own.kept) own.entries }) other n.frames n.openings trace (trace ++ answered hs (call.Close id) reply.Done ∷ []) id refl refl refl
+    (becomes-settled Removed (is_socket id) (role_after_close own.kept) own.entries x h.own_table.sole found) (h.own_table.bound id (Idle buffers bound) before) (h.own_table.noted id (Idle buffers bound) before)
     (forsakes-told hs trace id).1 (told-other hs ts trace (call.Close id) reply.Done opposite) h
 
 pub call-forsakes : (limit : ℕ) (hs ts : Side) (a b : Addr) (own other : HostView) (n : NetworkView) (place : ℕ) (trace : List Happening) (id : SocketId) → IsSoundHost own → ts ≡ other_side hs → close_refusal own id ≡ None
@@ -194,18 +194,18 @@ call-forsakes limit hs ts a b own other n place trace id sound opposite accepted
     let e = answered hs (call.Close id) reply.Done in
     let first = own-closed limit hs ts a b own other n trace id k.role sound opposite k.found h in
     GoesPlain refl
-    (projects-settled limit hs ts a b (after_socket_closed own id) (after_close own id) other n.frames n.openings (trace ++ e ∷ []) (forsaken_fate id) (forsaken own.kept id) refl refl refl refl noted (forsaking limit own.kept id)
+    (projects-settled limit hs ts a b (after_socket_closed own id) (after_close own id) other n.frames n.openings (trace ++ e ∷ []) (listener_close_fate_of id) (role_after_listener_close own.kept id) refl refl refl refl noted (forsaking limit own.kept id)
     (subst (λ w. Projects limit hs ts a b w other n.frames n.openings (trace ++ e ∷ [])) (sym k.closes) first))
     (tallies-quiet trace n.openings e (λ s i. refl))
   where
-    aborts : (i : SocketId) (r : Role) → IsNoted hs a b n.openings i r → IsNoted hs a b n.openings i (aborted own.kept r)
+    aborts : (i : SocketId) (r : Role) → IsNoted hs a b n.openings i r → IsNoted hs a b n.openings i (role_after_abort own.kept r)
     aborts i (Connected c l) m = opened-kept hs a b n.openings i c (connection_calls.after_abort c own.kept) (keeps-abort c own.kept) m
     aborts i (Listener local backlog) m = m
     aborts i (Idle buffers bound) m = m
 
-    noted : (i : SocketId) (r : Role) → IsNoted hs a b n.openings i r → IsNoted hs a b n.openings i (forsaken own.kept id r)
+    noted : (i : SocketId) (r : Role) → IsNoted hs a b n.openings i r → IsNoted hs a b n.openings i (role_after_listener_close own.kept id r)
     noted i r m = by_waiting (waits_at id r)
       where
-        by_waiting : (test : Bool) → IsNoted hs a b n.openings i (if test then aborted own.kept r else r)
+        by_waiting : (test : Bool) → IsNoted hs a b n.openings i (if test then role_after_abort own.kept r else r)
         by_waiting true = aborts i r m
         by_waiting false = m

@@ -19,8 +19,8 @@ use Rattle.host.specs.declared.entry.SocketId.{SocketId}
 use Rattle.host.specs.declared.entry.Entry.{Entry}
 use Rattle.host.specs.declared.role.Role.{Role}
 use Rattle.host.specs.declared.role.Role.TheVariants.{Idle, Listener, Connected}
-use Rattle.host.specs.Calls.{unless_refused, after_socket, bind_refusal, after_bind, listen_refusal, after_listen, accept_answer, after_accept, connect_refusal, after_connect, counted_port, pair_connected, send_answer, after_send, shutdown_refusal, after_shutdown, close_refusal, after_close, state_answer}
-use Rattle.host.specs.Entries.{is_socket, is_between, is_of_pair, bound_to, listening, accepted, connecting, with_role}
+use Rattle.host.specs.Calls.{unless_refused, after_socket, bind_refusal, after_bind, listen_refusal, after_listen, accept_answer, after_accept, connect_refusal, after_connect, last_port_after, pair_connected, send_answer, after_send, shutdown_refusal, after_shutdown, close_refusal, after_close, state_answer}
+use Rattle.host.specs.Entries.{is_socket, is_between, is_of_pair, role_after_bind, role_after_listen, role_after_accept, role_after_connect, with_role}
 use Rattle.host.specs.HostView.{HostView, holder_id}
 use Rattle.host.specs.Lists.{change_first}
 use Rattle.wire_sim.specs.Fairness.{second_in, second_by_connect, unfair_call}
@@ -30,7 +30,7 @@ use Rattle.stream_law.specs.Pairing.{connects, nothing_yet}
 use Rattle.wire_sim.specs.Runs.{IsNumberedCall}
 use Rattle.host.specs.Sound.{IsSoundHost}
 use Rattle.wire_sim.specs.Sides.{other_side}
-use Rattle.wire_sim.specs.Steps.{MeetsCall, asked, with_host, with_opening}
+use Rattle.wire_sim.specs.Steps.{MeetsCall, recv_len, with_host, with_opening}
 use Rattle.wire_sim.specs.Trace.{sent_on}
 use Rattle.wire_sim.specs.WorldView.{NetworkView, host_of}
 use Rattle.wire_sim.proofs.tables.CallsOnTable.{outcome, not_refused, connects-on, socket_pair-connected, found-connecting}
@@ -84,9 +84,9 @@ call-connects limit hs ts a b own other n place trace isn id peer fits is_own is
     let k = connects-on own id peer accepted_call in
     let local : Endpoint = record { addr = own.addr; port = k.port } in
     let c = opened_actively local peer isn.0 in
-    let g = connecting local peer isn.0 in
+    let g = role_after_connect local peer isn.0 in
     let ys = change_first (is_socket id) (with_role g) own.entries in
-    let base : HostView = record own { last_port = counted_port own k.bound k.port } in
+    let base : HostView = record own { last_port = last_port_after own k.bound k.port } in
     let next : HostView = record base { entries = ys } in
     let is_next : after_connect own isn.0 id peer ≡ next = k.becomes isn.0 in
     let peer_addr : peer.addr ≡ b = k.reached ∙ h.own_neighbour in
@@ -168,17 +168,17 @@ projects-called limit hs ts a b own own' other n place trace (call.Socket kind) 
     ]
 projects-called limit hs ts a b own own' other n place trace (call.Bind id local) answer sound opposite is_own is_other numbered fair m h =
     elim (outcome (unless_refused (bind_refusal own id local) (tt {0})) (λ _. reply.Done) (after_bind own id local) own answer own' m) [
-      | inl x ↦ plain limit hs ts a b own' other n (call.Bind id local) answer place trace refl (λ i. quiet-bind hs id local answer i) (changed limit hs ts a b own own' other n trace (is_socket id) (bound_to local) (quiet_bound_to local) x.3 h)
+      | inl x ↦ plain limit hs ts a b own' other n (call.Bind id local) answer place trace refl (λ i. quiet-bind hs id local answer i) (changed limit hs ts a b own own' other n trace (is_socket id) (role_after_bind local) (quiet_bound_to local) x.3 h)
       | inr x ↦ plain limit hs ts a b own' other n (call.Bind id local) answer place trace refl (λ i. quiet-bind hs id local answer i) (kept limit hs ts a b own own' other n trace x.3 h)
     ]
 projects-called limit hs ts a b own own' other n place trace (call.Listen id backlog) answer sound opposite is_own is_other numbered fair m h =
     elim (outcome (unless_refused (listen_refusal own id backlog) (tt {0})) (λ _. reply.Done) (after_listen own id backlog) own answer own' m) [
-      | inl x ↦ plain limit hs ts a b own' other n (call.Listen id backlog) answer place trace refl (λ i. quiet-listen hs id backlog answer i) (changed limit hs ts a b own own' other n trace (is_socket id) (listening backlog) (quiet_listening backlog) x.3 h)
+      | inl x ↦ plain limit hs ts a b own' other n (call.Listen id backlog) answer place trace refl (λ i. quiet-listen hs id backlog answer i) (changed limit hs ts a b own own' other n trace (is_socket id) (role_after_listen backlog) (quiet_listening backlog) x.3 h)
       | inr x ↦ plain limit hs ts a b own' other n (call.Listen id backlog) answer place trace refl (λ i. quiet-listen hs id backlog answer i) (kept limit hs ts a b own own' other n trace x.3 h)
     ]
 projects-called limit hs ts a b own own' other n place trace (call.Accept id) answer sound opposite is_own is_other numbered fair m h =
     elim (outcome (accept_answer own id) (λ p. reply.Accepted p.0 p.1) (after_accept own id) own answer own' m) [
-      | inl x ↦ plain limit hs ts a b own' other n (call.Accept id) answer place trace refl (λ i. quiet-accept hs id answer i) (changed limit hs ts a b own own' other n trace (Rattle.host.specs.Entries.is_offered_at id) accepted quiet_accepted x.3 h)
+      | inl x ↦ plain limit hs ts a b own' other n (call.Accept id) answer place trace refl (λ i. quiet-accept hs id answer i) (changed limit hs ts a b own own' other n trace (Rattle.host.specs.Entries.is_offered_at id) role_after_accept quiet_accepted x.3 h)
       | inr x ↦ plain limit hs ts a b own' other n (call.Accept id) answer place trace refl (λ i. quiet-accept hs id answer i) (kept limit hs ts a b own own' other n trace x.3 h)
     ]
 projects-called limit hs ts a b own own' other n place trace (call.Connect isn id peer) answer sound opposite is_own is_other numbered fair m h =
@@ -200,14 +200,14 @@ projects-called limit hs ts a b own own' other n place trace (call.Send id octet
           (plain limit hs ts a b own' other n (call.Send id octets) (reply.Refused x.0) place trace refl (λ i. quiet-send_refused hs id octets x.0 i) (kept limit hs ts a b own own' other n trace x.3 h))
     ]
 projects-called limit hs ts a b own own' other n place trace (call.Recv id len) answer sound opposite is_own is_other numbered fair m h =
-    elim (recv_outcome own id (asked len) answer own' m) [
+    elim (recv_outcome own id (recv_len len) answer own' m) [
       | inl r ↦
           subst (λ x. CallGoes limit hs ts a b own' other n (call.Recv id len) x place trace) (sym r.is_answer)
-          (subst (λ w. CallGoes limit hs ts a b w other n (call.Recv id len) (reply.Octets r.octets) place trace) (sym r.becomes) (call-receives limit hs ts a b own other n place trace id len r.octets (asked len) r.c r.l sound opposite r.found r.untold r.opened r.some r.are_first h))
+          (subst (λ w. CallGoes limit hs ts a b w other n (call.Recv id len) (reply.Octets r.octets) place trace) (sym r.becomes) (call-receives limit hs ts a b own other n place trace id len r.octets (recv_len len) r.c r.l sound opposite r.found r.untold r.opened r.some r.are_first h))
       | inr y ↦ elim y [
         | inl r ↦
             subst (λ x. CallGoes limit hs ts a b own' other n (call.Recv id len) x place trace) (sym r.is_answer)
-            (subst (λ w. CallGoes limit hs ts a b w other n (call.Recv id len) reply.EndOfStream place trace) (sym r.becomes) (call-ends limit hs ts a b own other n place trace id len (asked len) r.c r.l opposite r.found r.some r.told h))
+            (subst (λ w. CallGoes limit hs ts a b w other n (call.Recv id len) reply.EndOfStream place trace) (sym r.becomes) (call-ends limit hs ts a b own other n place trace id len (recv_len len) r.c r.l opposite r.found r.some r.told h))
         | inr x ↦
             subst (λ r. CallGoes limit hs ts a b own' other n (call.Recv id len) r place trace) (sym x.1)
             (plain limit hs ts a b own' other n (call.Recv id len) (reply.Refused x.0) place trace refl (λ i. quiet-recv_refused hs id len x.0 i) (kept limit hs ts a b own own' other n trace x.2 h))

@@ -25,17 +25,17 @@ use Rattle.host.specs.declared.entry.Entry.{Entry}
 use Rattle.host.specs.declared.role.Role.TheVariants.{Connected}
 use Rattle.wire_sim.specs.declared.world.bag.Frame.{Frame}
 use Rattle.stream_law.specs.Channel.{IsAmong, here, there}
-use Rattle.host.specs.Entries.{is_due, emitted_at, emitted_fate, settled, with_role}
+use Rattle.host.specs.Entries.{is_due, role_after_emission, emission_fate_of, entries_after_step, with_role}
 use Rattle.host.specs.Replies.{reply_octets}
 use Rattle.host.proofs.Emitted.{emission-of_entry}
-use Rattle.host.specs.HostView.{HostView, later}
+use Rattle.host.specs.HostView.{HostView, later_moment}
 use Rattle.host.specs.Emission.{emission_len, emission_octets, after_emission}
 use Rattle.host.specs.Lists.{change_first, remove_first}
 use Rattle.host.specs.Pairs.{due_pair, reply_pair}
 use Rattle.wire_sim.specs.Openings.{epoch_of}
 use Rattle.stream_law.specs.Pairing.{End, Emission, Present, Departed, emits, leaves, Meets, here_moves}
 use Rattle.host.specs.Sound.{IsSoundConnection, IsSoundRole, IsSoundReply, IsSoundHost}
-use Rattle.wire_sim.specs.Steps.{noted}
+use Rattle.wire_sim.specs.Steps.{note_of}
 use Rattle.wire_sim.specs.Tallies.{is_opening_of, is_opening_at, same_pair}
 use Rattle.wire_sim.specs.Trace.{sent_on, of_opening, written}
 use Rattle.wire_sim.specs.WorldView.{NetworkView, written_at}
@@ -85,7 +85,7 @@ among_more pair epoch new x out p e among = step (is_at pair epoch p e)
     step true = there x new (out p e) among
     step false = among
 
-at_side-noted : (n : NetworkView) (pair : Pair) (s : Side) → at_side s (noted n pair) ≡ written_at n s pair (epoch_of n.openings pair)
+at_side-noted : (n : NetworkView) (pair : Pair) (s : Side) → at_side s (note_of n pair) ≡ written_at n s pair (epoch_of n.openings pair)
 at_side-noted n pair A = refl
 at_side-noted n pair B = refl
 
@@ -111,9 +111,9 @@ carries-more src dst from to pair epoch new out f c = record {
 
 -- a segment of a connection goes out
 projects-sent : (limit : ℕ) (hs ts : Side) (a b : Addr) (own other : HostView) (n : NetworkView) (trace : List Happening) (now : Moment) (f : Frame) (e : Entry) (c : View) (l : Option SocketId) (due : Due) → Emits own e c l due → (let x = flags_of c due in x.rst) ≡ false
-    → IsTallied n trace → IsSoundHost own → f.sender ≡ hs → f.octets.items ≡ emission_octets own → f.note ≡ option_map (noted n) (due_pair own)
+    → IsTallied n trace → IsSoundHost own → f.sender ≡ hs → f.octets.items ≡ emission_octets own → f.note ≡ option_map (note_of n) (due_pair own)
     → Projects limit hs ts a b own other n.frames n.openings trace
-    → Projects limit hs ts a b (record own { entries = change_first is_due (with_role (emitted_at now)) own.entries }) other (n.frames ++ f ∷ []) n.openings trace
+    → Projects limit hs ts a b (record own { entries = change_first is_due (with_role (role_after_emission now)) own.entries }) other (n.frames ++ f ∷ []) n.openings trace
 projects-sent limit hs ts a b own other n trace now f e c l due m unreset tallied sound sender octets note h =
     let entry : Entry = record { id = e.id; role = Connected c l } in
     let found : find is_due own.entries ≡ Some entry = m.found ∙ ap Some (entry_with e (Connected c l) m.role) in
@@ -123,9 +123,9 @@ projects-sent limit hs ts a b own other n trace now f e c l due m unreset tallie
     let may = due-may c due solid.sound m.first in
     let ports = emitted-ports c due in
     let w = after_emitted c due now in
-    let ys = change_first is_due (with_role (emitted_at now)) own.entries in
+    let ys = change_first is_due (with_role (role_after_emission now)) own.entries in
     let becomes : Becomes own.entries ys e.id.0 (Some (Connected w l)) =
-    subst (λ r. Becomes own.entries ys e.id.0 (Some r)) (emitted_at-connected now c l due m.first) (becomes-changed is_due (emitted_at now) own.entries entry h.own_table.sole found) in
+    subst (λ r. Becomes own.entries ys e.id.0 (Some r)) (emitted_at-connected now c l due m.first) (becomes-changed is_due (role_after_emission now) own.entries entry h.own_table.sole found) in
     let o = k.opening in
     let p0 = o.pair in
     let e0 = o.epoch in
@@ -138,11 +138,11 @@ projects-sent limit hs ts a b own other n trace now f e c l due m unreset tallie
     let is_pair : pair_of c.local c.peer ≡ pair_at a b c.local.port c.peer.port = pair_of-ours a b c k.local k.peer in
     let pair = pair_of c.local c.peer in
     let one : epoch_of n.openings pair ≡ e0 = ap (epoch_of n.openings) (sym k.pair) ∙ sym (k.present (due-live c due solid.sound may unreset)) in
-    let counted : (s : Side) → at_side s (noted n pair) ≡ length (written trace n.openings s p0 e0) =
+    let counted : (s : Side) → at_side s (note_of n pair) ≡ length (written trace n.openings s p0 e0) =
     λ s. at_side-noted n pair s ∙ (tallied s pair (epoch_of n.openings pair) ∙ (ap (λ r. length (written trace n.openings s r (epoch_of n.openings pair))) (sym k.pair) ∙ ap (λ i. length (written trace n.openings s p0 i)) one)) in
     let own_end : end_at hs n.openings own.entries (told hs trace) p0 e0 ≡ end_with (Present c) account = end-its hs n.openings e.id p0 e0 own.entries (told hs trace) o at its ∙ ap (λ r. end_with (presence_in r) account) before in
-    let own_told : at_side hs (noted n pair) ≡ length account.gave = counted hs ∙ (ap length (written-end hs trace n.openings own.entries p0 e0) ∙ ap (λ (v : End). length v.written) own_end) in
-    let other_told : at_side ts (noted n pair) ≡ length there_end.written = counted ts ∙ ap length (written-end ts trace n.openings other.entries p0 e0) in
+    let own_told : at_side hs (note_of n pair) ≡ length account.gave = counted hs ∙ (ap length (written-end hs trace n.openings own.entries p0 e0) ∙ ap (λ (v : End). length v.written) own_end) in
+    let other_told : at_side ts (note_of n pair) ≡ length there_end.written = counted ts ∙ ap length (written-end ts trace n.openings other.entries p0 e0) in
     let now_end : end_at hs n.openings ys (told hs trace) p0 e0 ≡ end_with (Present w) account = end-its hs n.openings e.id p0 e0 ys (told hs trace) o at its ∙ ap (λ r. end_with (presence_in r) account) becomes.here in
     let first_meets : Meets limit (pairing (end_at hs n.openings ys (told hs trace) p0 e0) there_end (new ∷ h.out p0 e0) (h.arrived p0 e0)) =
     subst (λ v. Meets limit (pairing v there_end (new ∷ h.out p0 e0) (h.arrived p0 e0))) (sym now_end)
@@ -181,8 +181,8 @@ projects-sent limit hs ts a b own other n trace now f e c l due m unreset tallie
           (inl (
             sender,
             record {
-              note = noted n pair;
-              noted = note ∙ ap (option_map (noted n)) m.pair;
+              note = note_of n pair;
+              noted = note ∙ ap (option_map (note_of n)) m.pair;
               segment = segment;
               spelled = subst (λ x. Spells x b segment f.octets.items) k.local
                   (subst (λ y. Spells c.local.addr y segment f.octets.items) k.peer (subst (Spells c.local.addr c.peer.addr segment) (sym (octets ∙ m.octets)) (emitted-spelled c due solid may)));
@@ -216,11 +216,11 @@ projects-sent limit hs ts a b own other n trace now f e c l due m unreset tallie
 
 -- what a host has put into the network, which is a reset, belongs to no pairing
 reset-carried : (hs ts : Side) (a b : Addr) (own : HostView) (n : NetworkView) (f : Frame) (out arrived : Sent) (local peer : Endpoint) (head : Head) → f.sender ≡ hs → local.addr ≡ a → peer.addr ≡ b → head.source ≡ local.port → head.destination ≡ peer.port
-    → f.octets.items ≡ sent_octets local.addr peer.addr head [] → f.note ≡ Some (noted n (pair_of local peer)) → CanBeSent local.addr peer.addr head [] → head.flags.rst ≡ true → Carried hs ts a b out arrived f
+    → f.octets.items ≡ sent_octets local.addr peer.addr head [] → f.note ≡ Some (note_of n (pair_of local peer)) → CanBeSent local.addr peer.addr head [] → head.flags.rst ≡ true → Carried hs ts a b out arrived f
 reset-carried hs ts a b own n f out arrived local peer head sender is_a is_b source destination octets note can reset = inl (
   sender,
   record {
-    note = noted n (pair_of local peer);
+    note = note_of n (pair_of local peer);
     noted = note;
     segment = sent_segment head [];
     spelled = subst (λ x. Spells x b (sent_segment head []) f.octets.items) is_a
@@ -255,7 +255,7 @@ with-frame limit hs ts a b own other frames openings trace f h c = record {
 
 -- a reply goes out
 projects-replied : (limit : ℕ) (hs ts : Side) (a b : Addr) (own other : HostView) (n : NetworkView) (trace : List Happening) (f : Frame) (reply : Head) (rest : List Head) → IsSoundHost own → f.sender ≡ hs → f.octets.items ≡ emission_octets own
-    → f.note ≡ option_map (noted n) (due_pair own) → own.replies ≡ reply ∷ rest → Projects limit hs ts a b own other n.frames n.openings trace → Projects limit hs ts a b (record own { replies = rest }) other (n.frames ++ f ∷ []) n.openings trace
+    → f.note ≡ option_map (note_of n) (due_pair own) → own.replies ≡ reply ∷ rest → Projects limit hs ts a b own other n.frames n.openings trace → Projects limit hs ts a b (record own { replies = rest }) other (n.frames ++ f ∷ []) n.openings trace
 projects-replied limit hs ts a b own other n trace f reply rest sound sender octets note is h =
     let local : Endpoint = record { addr = own.addr; port = reply.source } in
     let peer : Endpoint = record { addr = own.neighbour; port = reply.destination } in
@@ -270,11 +270,11 @@ projects-replied limit hs ts a b own other n trace f reply rest sound sender oct
       meets = h.meets;
     }) in
     with-frame limit hs ts a b (record own { replies = rest }) other n.frames n.openings trace f turned
-    (reset-carried hs ts a b own n f turned.out turned.arrived local peer reply sender h.own_addr h.own_neighbour refl refl (octets ∙ its_octets) (note ∙ ap (option_map (noted n)) its_pair) solid.0.sendable solid.0.reset)
+    (reset-carried hs ts a b own n f turned.out turned.arrived local peer reply sender h.own_addr h.own_neighbour refl refl (octets ∙ its_octets) (note ∙ ap (option_map (note_of n)) its_pair) solid.0.sendable solid.0.reset)
 
 -- the reset of an abort goes out, and the entry is over
 projects-reset : (limit : ℕ) (hs ts : Side) (a b : Addr) (own other : HostView) (n : NetworkView) (trace : List Happening) (now : Moment) (f : Frame) (e : Entry) (c : View) (l : Option SocketId) → Emits own e c l Rst → IsSoundHost own → f.sender ≡ hs → f.octets.items ≡ emission_octets own
-    → f.note ≡ option_map (noted n) (due_pair own) → Projects limit hs ts a b own other n.frames n.openings trace
+    → f.note ≡ option_map (note_of n) (due_pair own) → Projects limit hs ts a b own other n.frames n.openings trace
     → Projects limit hs ts a b (record own { entries = remove_first is_due own.entries }) other (n.frames ++ f ∷ []) n.openings trace
 projects-reset limit hs ts a b own other n trace now f e c l m sound sender octets note h =
     let entry : Entry = record { id = e.id; role = Connected c l } in
@@ -290,7 +290,7 @@ projects-reset limit hs ts a b own other n trace now f e c l m sound sender octe
     (subst (λ r. EndGoes limit (end_with (presence_in r) account) (end_with Departed account)) (sym before)
     (λ there out arrived. moved limit (pairing (end_with (Present c) account) there out arrived) (pairing (end_with Departed account) there out arrived) (leaves (pairing (end_with (Present c) account) there out arrived) c account.closed refl (λ e. e)))) h in
     with-frame limit hs ts a b next other n.frames n.openings trace f gone
-    (reset-carried hs ts a b own n f gone.out gone.arrived c.local c.peer (head_of c Rst) sender k.local k.peer refl refl (octets ∙ m.octets) (note ∙ ap (option_map (noted n)) m.pair) (due-can c Rst solid may) refl)
+    (reset-carried hs ts a b own n f gone.out gone.arrived c.local c.peer (head_of c Rst) sender k.local k.peer refl refl (octets ∙ m.octets) (note ∙ ap (option_map (note_of n)) m.pair) (due-can c Rst solid may) refl)
 
 -- what is owed a reset is over once it went out
 over : (c : View) → IsSound c → c.owes_reset ≡ true → is_over (record c { owes_reset = false }) ≡ true
@@ -306,13 +306,13 @@ over c sound owes = both (is_closed c.state) c.released (owed c.owes_reset (not 
     both false left e = cc
 
 pub projects-emitted : (limit : ℕ) (hs ts : Side) (a b : Addr) (own other : HostView) (n : NetworkView) (trace : List Happening) (clock : Moment) (len : ℕ) (f : Frame)
-    → IsTallied n trace → IsSoundHost own → emission_len own ≡ Some len → f.sender ≡ hs → f.octets.items ≡ emission_octets own → f.note ≡ option_map (noted n) (due_pair own)
+    → IsTallied n trace → IsSoundHost own → emission_len own ≡ Some len → f.sender ≡ hs → f.octets.items ≡ emission_octets own → f.note ≡ option_map (note_of n) (due_pair own)
     → Projects limit hs ts a b own other n.frames n.openings trace
     → Projects limit hs ts a b (after_emission own clock) other (n.frames ++ f ∷ []) n.openings trace
 projects-emitted limit hs ts a b own other n trace clock len f tallied sound some sender octets note h = by_replies own.replies refl
   where
     now : Moment
-    now = later own clock
+    now = later_moment own clock
 
     by_replies : (rs : List Head) → own.replies ≡ rs → Projects limit hs ts a b (after_emission own clock) other (n.frames ++ f ∷ []) n.openings trace
     by_replies (reply ∷ rest) is =
@@ -324,21 +324,21 @@ projects-emitted limit hs ts a b own other n trace clock len f tallied sound som
         by_due (e, c, l, due, m) =
             let solid : IsSoundConnection c = subst IsSoundRole m.role (All-find (λ (e : Entry). IsSoundRole e.role) is_due own.entries e sound.entries m.found) in
             let may = due-may c due solid.sound m.first in
-            let role : emitted_at now e.role ≡ Connected (after_emitted c due now) l = ap (emitted_at now) m.role ∙ emitted_at-connected now c l due m.first in
-            let fate : emitted_fate (emitted_at now e.role) ≡ (if is_over (after_emitted c due now) then Removed else Stays) = ap emitted_fate role in
-            let becomes : after_emission own clock ≡ record own { entries = settled (if is_over (after_emitted c due now) then Removed else Stays) is_due (emitted_at now) own.entries } =
-            emission-of_entry own clock e is m.found ∙ ap (λ x. let w : HostView = record own { entries = settled x is_due (emitted_at now) own.entries } in w) fate in
+            let role : role_after_emission now e.role ≡ Connected (after_emitted c due now) l = ap (role_after_emission now) m.role ∙ emitted_at-connected now c l due m.first in
+            let fate : emission_fate_of (role_after_emission now e.role) ≡ (if is_over (after_emitted c due now) then Removed else Stays) = ap emission_fate_of role in
+            let becomes : after_emission own clock ≡ record own { entries = entries_after_step (if is_over (after_emitted c due now) then Removed else Stays) is_due (role_after_emission now) own.entries } =
+            emission-of_entry own clock e is m.found ∙ ap (λ x. let w : HostView = record own { entries = entries_after_step x is_due (role_after_emission now) own.entries } in w) fate in
             subst (λ w. Projects limit hs ts a b w other (n.frames ++ f ∷ []) n.openings trace) (sym becomes)
             (elim (due-kind c due) [
               | inl is_reset ↦
                   let reset_first : first_due c ≡ Some Rst = m.first ∙ ap Some is_reset in
                   let r : Emits own e c l Rst = record { found = m.found; role = m.role; first = reset_first; octets = m.octets ∙ ap (segment_octets c) is_reset; pair = m.pair } in
                   let ended : is_over (after_emitted c due now) ≡ true = ap (λ d. is_over (after_emitted c d now)) is_reset ∙ over c solid.sound (due-may c Rst solid.sound reset_first) in
-                  subst (λ t. Projects limit hs ts a b (record own { entries = settled (if t then Removed else Stays) is_due (emitted_at now) own.entries }) other (n.frames ++ f ∷ []) n.openings trace) (sym ended)
+                  subst (λ t. Projects limit hs ts a b (record own { entries = entries_after_step (if t then Removed else Stays) is_due (role_after_emission now) own.entries }) other (n.frames ++ f ∷ []) n.openings trace) (sym ended)
                   (projects-reset limit hs ts a b own other n trace now f e c l r sound sender octets note h)
               | inr unreset ↦
                   let lives : is_closed (let w = after_emitted c due now in w.state) ≡ false = ap is_closed (emitted-state c due now) ∙ due-live c due solid.sound may unreset in
                   let going : is_over (after_emitted c due now) ≡ false = ap (λ t. t && (let w = after_emitted c due now in w.released) && not (let w = after_emitted c due now in w.owes_reset)) lives in
-                  subst (λ t. Projects limit hs ts a b (record own { entries = settled (if t then Removed else Stays) is_due (emitted_at now) own.entries }) other (n.frames ++ f ∷ []) n.openings trace) (sym going)
+                  subst (λ t. Projects limit hs ts a b (record own { entries = entries_after_step (if t then Removed else Stays) is_due (role_after_emission now) own.entries }) other (n.frames ++ f ∷ []) n.openings trace) (sym going)
                   (projects-sent limit hs ts a b own other n trace now f e c l due m unreset tallied sound sender octets note h)
             ])

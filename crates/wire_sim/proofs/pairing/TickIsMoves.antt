@@ -13,10 +13,10 @@ use Rattle.wire_sim.specs.declared.event.Happening.{Happening}
 use Rattle.host.specs.declared.entry.SocketId.{SocketId}
 use Rattle.host.specs.declared.role.Role.{Role}
 use Rattle.host.specs.declared.role.Role.TheVariants.{Idle, Listener, Connected}
-use Rattle.host.specs.Entries.{is_kept, all_settled, ticked, tick_fate_of}
+use Rattle.host.specs.Entries.{is_kept, entries_after_steps, role_after_tick, tick_fate_of}
 use Rattle.wire_sim.specs.declared.world.bag.Frame.{Frame}
 use Rattle.host.specs.Ticks as host_ticks
-use Rattle.host.specs.HostView.{HostView, later}
+use Rattle.host.specs.HostView.{HostView, later_moment}
 use Rattle.stream_law.specs.Pairing.{Present, Departed, Meets, rests, stops, leaves}
 use Rattle.stream_law.proofs.PairingEndings.{stops-at_end}
 use Rattle.stream_law.proofs.PairingMoves.{same-resend}
@@ -38,14 +38,14 @@ left-behind fate g (Some q) r e = by_fate (is_kept (fate q)) refl e
 
 -- Each entry takes a step that is moves of its end, if it has one.
 pub projects-settled : (limit : ℕ) (hs ts : Side) (a b : Addr) (own own' other : HostView) (frames : List Frame) (openings : List Opening) (trace : List Happening) (fate : Role → Fate) (g : Role → Role) → own'.addr ≡ own.addr → own'.neighbour ≡ own.neighbour → own'.last_id ≡ own.last_id
-    → own'.entries ≡ all_settled fate g own.entries → ((id : SocketId) (q : Role) → IsNoted hs a b openings id q → IsNoted hs a b openings id (g q))
+    → own'.entries ≡ entries_after_steps fate g own.entries → ((id : SocketId) (q : Role) → IsNoted hs a b openings id q → IsNoted hs a b openings id (g q))
     → ((t : Account) (q : Role) → EndGoes limit (end_with (presence_in (Some q)) t) (end_with (presence_in (settle (fate q) g q)) t))
     → Projects limit hs ts a b own other frames openings trace → Projects limit hs ts a b own' other frames openings trace
 projects-settled limit hs ts a b own own' other frames openings trace fate g addr neighbour last becomes noted goes h =
     projects-turned limit hs ts a b own own' other frames openings trace trace h (record {
       addr = addr;
       neighbour = neighbour;
-      table = subst (λ xs. IsTable hs a b own'.last_id xs openings (told hs trace)) (sym becomes) (subst (λ n. IsTable hs a b n (all_settled fate g own.entries) openings (told hs trace)) (sym last) (record {
+      table = subst (λ xs. IsTable hs a b own'.last_id xs openings (told hs trace)) (sym becomes) (subst (λ n. IsTable hs a b n (entries_after_steps fate g own.entries) openings (told hs trace)) (sym last) (record {
         sole = sole-settled fate g own.entries h.own_table.sole;
         bound = λ id r at. let was = before id r at in h.own_table.bound id was.0 was.1;
         noted = λ id r at. let was = before id r at in subst (λ q. IsNoted hs a b openings id q) was.3 (noted id was.0 (h.own_table.noted id was.0 was.1));
@@ -56,10 +56,10 @@ projects-settled limit hs ts a b own own' other frames openings trace fate g add
       meets = λ pair epoch. by_found pair epoch (find (is_opening_of hs pair epoch) openings) refl;
     })
   where
-    before : (id : SocketId) (r : Role) → role_at (all_settled fate g own.entries) id.0 ≡ Some r → (q : Role) × (role_at own.entries id.0 ≡ Some q) × (is_kept (fate q) ≡ true) × (g q ≡ r)
+    before : (id : SocketId) (r : Role) → role_at (entries_after_steps fate g own.entries) id.0 ≡ Some r → (q : Role) × (role_at own.entries id.0 ≡ Some q) × (is_kept (fate q) ≡ true) × (g q ≡ r)
     before id r at = left-behind fate g (role_at own.entries id.0) r (sym (role_at-settled fate g own.entries id.0 (h.own_table.sole id.0)) ∙ at)
 
-    earlier : (id : SocketId) → MayOpen own.last_id (all_settled fate g own.entries) id → MayOpen own.last_id own.entries id
+    earlier : (id : SocketId) → MayOpen own.last_id (entries_after_steps fate g own.entries) id → MayOpen own.last_id own.entries id
     earlier id (inl above) = inl above
     earlier id (inr at) = let was = before id at.0 at.1 in inr (was.0, was.1)
 
@@ -80,7 +80,7 @@ projects-settled limit hs ts a b own own' other frames openings trace fate g add
         (subst (λ e. Meets limit (pairing e there (h.out pair epoch) (h.arrived pair epoch))) (ap (end_of own.entries (told hs trace)) at) (h.meets pair epoch)))
 
 -- what a tick makes of one end
-role_goes : (limit : ℕ) (now : Moment) (t : Account) (r : Role) → EndGoes limit (end_with (presence_in (Some r)) t) (end_with (presence_in (settle (tick_fate_of now r) (ticked now) r)) t)
+role_goes : (limit : ℕ) (now : Moment) (t : Account) (r : Role) → EndGoes limit (end_with (presence_in (Some r)) t) (end_with (presence_in (settle (tick_fate_of now r) (role_after_tick now) r)) t)
 role_goes limit now t (Connected c l) there out arrived = by_end (is_at_end c now) c.released refl refl
   where
     by_end : (over left : Bool) → is_at_end c now ≡ over → c.released ≡ left → Meets limit (pairing (end_with (Present c) t) there out arrived)
@@ -94,10 +94,10 @@ role_goes limit now t (Idle b n) there out arrived = end-stays limit (end_with D
 pub projects-ticked : (limit : ℕ) (hs ts : Side) (a b : Addr) (own other : HostView) (frames : List Frame) (openings : List Opening) (trace : List Happening) (moment : Moment)
     → Projects limit hs ts a b own other frames openings trace → Projects limit hs ts a b (host_ticks.after_tick own moment) other frames openings trace
 projects-ticked limit hs ts a b own other frames openings trace moment h =
-    let now = later own moment in
-    projects-settled limit hs ts a b own (host_ticks.after_tick own moment) other frames openings trace (tick_fate_of now) (ticked now) refl refl refl refl (noted now) (role_goes limit now) h
+    let now = later_moment own moment in
+    projects-settled limit hs ts a b own (host_ticks.after_tick own moment) other frames openings trace (tick_fate_of now) (role_after_tick now) refl refl refl refl (noted now) (role_goes limit now) h
   where
-    noted : (now : Moment) (id : SocketId) (r : Role) → IsNoted hs a b openings id r → IsNoted hs a b openings id (ticked now r)
+    noted : (now : Moment) (id : SocketId) (r : Role) → IsNoted hs a b openings id r → IsNoted hs a b openings id (role_after_tick now r)
     noted now id (Connected c l) k = opened-kept hs a b openings id c (after_tick c now) (keeps-tick c now) k
     noted now id (Listener b n) k = k
     noted now id (Idle b n) k = k

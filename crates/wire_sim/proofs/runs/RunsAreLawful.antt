@@ -33,11 +33,11 @@ use Rattle.wire_sim.specs.Runs.{IsNumbered, IsStep, IsReached}
 use Rattle.host.specs.Sound.{IsSoundHost}
 use Rattle.wire_sim.specs.Runs as runs
 use Rattle.wire_sim.specs.Sides.{same_side, other_side}
-use Rattle.wire_sim.specs.Steps.{with_station, with_host, with_opening, ticked_station, delivered, MeetsFrame, DeliversFrame, Steps}
+use Rattle.wire_sim.specs.Steps.{with_station, with_host, with_opening, station_after_tick, after_delivery, MeetsFrame, DeliversFrame, Steps}
 use Rattle.wire_sim.specs.Openings.{epoch_of, opened_by_frame}
 use Rattle.stream_law.specs.Begins.{Begins}
 use Rattle.wire_sim.specs.Trace.{closed_on, read_on, ended_on, of_opening, written, closed, read, ended, StreamLaw}
-use Rattle.wire_sim.specs.Tallies.{is_opening_of, written_by, counted}
+use Rattle.wire_sim.specs.Tallies.{is_opening_of, written_by, counts_after}
 use Rattle.wire_sim.specs.WorldView.{NetworkView, WorldView, station_of, host_of, clock_of, written_at, fresh_network}
 use Rattle.wire_sim.proofs.tables.FrameDelivered.{frame-delivered}
 use Rattle.wire_sim.proofs.tables.PairOfPorts.{same_addr-other}
@@ -137,12 +137,12 @@ orderly-called limit hs ts old new trace c answer opposite numbered sound fair s
           (ap (λ (m : NetworkView). m.frames) whole ∙ frames-with old hs x) (ap (λ (m : NetworkView). m.openings) whole ∙ openings-with old hs x)
           (ap (λ (m : NetworkView). m.written) whole ∙ (written-with old hs x ∙ (w.tallied ∙ sym t))) p
       | GoesCounted id count is p t ↦
-          let next : NetworkView = record (with_station old hs x) { written = counted old.openings old.written hs id count } in
+          let next : NetworkView = record (with_station old hs x) { written = counts_after old.openings old.written hs id count } in
           let whole : new ≡ next = step.1 ∙ is in
           orderly-of limit hs ts w.a w.b own' (host_of old ts) old.frames old.openings (trace ++ e ∷ []) new
           (ap (λ (m : NetworkView). m.limit) whole ∙ (limit-with old hs x ∙ w.is_limit)) refl (ap (λ m. host_of m ts) whole ∙ (own-again (with_station old hs x) next ts refl refl ∙ other-with old hs ts x opposite))
           (ap (λ (m : NetworkView). m.frames) whole ∙ frames-with old hs x) (ap (λ (m : NetworkView). m.openings) whole ∙ openings-with old hs x)
-          (ap (λ (m : NetworkView). m.written) whole ∙ (ap (λ ws. counted old.openings ws hs id count) w.tallied ∙ t)) p
+          (ap (λ (m : NetworkView). m.written) whole ∙ (ap (λ ws. counts_after old.openings ws hs id count) w.tallied ∙ t)) p
       | GoesOpened o is p t ↦
           let next : NetworkView = with_opening (with_station old hs x) (Some o) in
           let whole : new ≡ next = step.1 ∙ is in
@@ -155,7 +155,7 @@ orderly-called limit hs ts old new trace c answer opposite numbered sound fair s
 orderly-ticked : (limit : ℕ) (hs ts : Side) (old new : NetworkView) (trace : List Happening) (moment : Moment) (answer : Answer) → ts ≡ other_side hs → Steps (event.Tick hs moment) (length trace) answer old new
     → IsOrderly limit hs ts old trace → IsOrderly limit hs ts new (trace ++ record { event = event.Tick hs moment; answer = answer } ∷ [])
 orderly-ticked limit hs ts old new trace moment answer opposite step w =
-    let x = ticked_station (station_of old hs) moment in
+    let x = station_after_tick (station_of old hs) moment in
     let e : Happening = record { event = event.Tick hs moment; answer = answer } in
     let p = projects-silent limit hs ts w.a w.b (host_ticks.after_tick (host_of old hs) moment) (host_of old ts) old.frames old.openings trace e (λ s i. quiet-tick hs moment answer s i)
     (projects-ticked limit hs ts w.a w.b (host_of old hs) (host_of old ts) old.frames old.openings trace moment w.projects) in
@@ -249,10 +249,10 @@ orderly-delivered limit hs ts old new trace index isn answer opposite numbered s
     e : Happening
     e = record { event = event.Deliver hs index isn; answer = answer }
 
-    opened : (f : Frame) (note : Note) → f.note ≡ Some note → new ≡ delivered hs (length trace) f.note old own'
+    opened : (f : Frame) (note : Note) → f.note ≡ Some note → new ≡ after_delivery hs (length trace) f.note old own'
         → Opens limit hs ts w.a w.b own' (host_of old ts) old.frames old.openings (opened_by_frame old.openings hs (length trace) note.pair (host_of old hs) own') trace → IsOrderly limit hs ts new (trace ++ e ∷ [])
     opened f note is becomes (OpensNone none p) =
-        let whole : new ≡ with_station old hs x = becomes ∙ (ap (λ o. delivered hs (length trace) o old own') is ∙ ap (with_opening (with_host old hs own')) none) in
+        let whole : new ≡ with_station old hs x = becomes ∙ (ap (λ o. after_delivery hs (length trace) o old own') is ∙ ap (with_opening (with_host old hs own')) none) in
         orderly-of limit hs ts w.a w.b own' (host_of old ts) old.frames old.openings (trace ++ e ∷ []) new
         (ap (λ (m : NetworkView). m.limit) whole ∙ (limit-with old hs x ∙ w.is_limit)) refl (ap (λ m. host_of m ts) whole ∙ other-with old hs ts x opposite)
         (ap (λ (m : NetworkView). m.frames) whole ∙ frames-with old hs x) (ap (λ (m : NetworkView). m.openings) whole ∙ openings-with old hs x)
@@ -260,7 +260,7 @@ orderly-delivered limit hs ts old new trace index isn answer opposite numbered s
         (projects-silent limit hs ts w.a w.b own' (host_of old ts) old.frames old.openings trace e (λ s i. quiet-deliver hs index isn answer s i) p)
     opened f note is becomes (OpensOne o one unsent p) =
         let next : NetworkView = with_opening (with_station old hs x) (Some o) in
-        let whole : new ≡ next = becomes ∙ (ap (λ o. delivered hs (length trace) o old own') is ∙ ap (with_opening (with_host old hs own')) one) in
+        let whole : new ≡ next = becomes ∙ (ap (λ o. after_delivery hs (length trace) o old own') is ∙ ap (with_opening (with_host old hs own')) one) in
         orderly-of limit hs ts w.a w.b own' (host_of old ts) old.frames (old.openings ++ o ∷ []) (trace ++ e ∷ []) new
         (ap (λ (m : NetworkView). m.limit) whole ∙ (limit-with old hs x ∙ w.is_limit)) refl (ap (λ m. host_of m ts) whole ∙ (own-again (with_station old hs x) next ts refl refl ∙ other-with old hs ts x opposite))
         (ap (λ (m : NetworkView). m.frames) whole ∙ frames-with old hs x) (ap (λ (m : NetworkView). m.openings) whole ∙ ap (λ l. l ++ o ∷ []) (openings-with old hs x))
@@ -269,7 +269,7 @@ orderly-delivered limit hs ts old new trace index isn answer opposite numbered s
         (projects-silent limit hs ts w.a w.b own' (host_of old ts) old.frames (old.openings ++ o ∷ []) trace e (λ s i. quiet-deliver hs index isn answer s i) p)
 
     of_sender : (f : Frame) → Carried hs ts w.a w.b w.projects.out w.projects.arrived f → same_side f.sender hs ≡ false → late_note old (written_at old) f.note ≡ None → second_by_frame old hs (pair_foreseen (host_of old hs) f.octets.items) ≡ None
-        → MeetsFrame (host_of old hs) (clock_of old hs) isn.0 f.octets.items answer own' → new ≡ delivered hs (length trace) f.note old own' → IsOrderly limit hs ts new (trace ++ e ∷ [])
+        → MeetsFrame (host_of old hs) (clock_of old hs) isn.0 f.octets.items answer own' → new ≡ after_delivery hs (length trace) f.note old own' → IsOrderly limit hs ts new (trace ++ e ∷ [])
     of_sender f (inl c) not_ours timely second meets becomes = absurd (not_own hs (ap (λ s. same_side s hs) (sym c.0) ∙ not_ours))
     of_sender f (inr c) not_ours timely second meets becomes =
         let k = c.1 in

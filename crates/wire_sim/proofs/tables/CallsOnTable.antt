@@ -25,10 +25,10 @@ use Rattle.host.specs.declared.refusal.Refusal.TheVariants.{EBADF, EINVAL, EADDR
 use Rattle.wire_sim.specs.declared.event.Answer.{Answer}
 use Rattle.wire_sim.specs.declared.event.Answer.TheVariants.{Refused}
 use Rattle.host.specs.Ports.{port_after, first_port, first_port-step, first_port-zero, is_free_port}
-use Rattle.host.specs.Entries.{is_pending, has_socket, is_socket, is_bound_at, is_between, connecting, received, write_shut, with_role}
+use Rattle.host.specs.Entries.{is_pending, has_socket, is_socket, is_bound_at, is_between, role_after_connect, role_after_recv, role_after_shutdown, with_role}
 use Rattle.host.specs.HostView.{HostView, with_socket}
 use Rattle.host.specs.Lists.{change_first}
-use Rattle.host.specs.Calls.{unless_refused, of_connection, sent_answer, received_answer, send_answer, recv_answer, is_pair_held, port_for, reach_refusal, had_connection, open_answer, connect_refusal, counted_port, after_connect, refusal_of, shut_refusal, shutdown_refusal, pair_connected}
+use Rattle.host.specs.Calls.{unless_refused, of_connection, role_send_answer, role_recv_answer, send_answer, recv_answer, is_pair_held, port_for, reach_refusal, had_connection, open_answer, connect_refusal, last_port_after, after_connect, refusal_of, role_shutdown_refusal, shutdown_refusal, pair_connected}
 use Rattle.wire_sim.specs.Steps.{Answers, readable_on}
 use Rattle.host.specs.Pairs.{socket_pair}
 use Rattle.wire_sim.proofs.lists.FoundAfterChange.{find-passes}
@@ -118,7 +118,7 @@ sends-on h id octets count answered = by_entry (find (is_socket id) h.entries) r
     by_tests c l at None false false true told is was e = cc
     by_tests c l at None false false false told is was e = record { c = c; l = l; found = at; untold = ap is_some told; opened = is; unclosed = was; takes = cc }
 
-    by_role : (e : Entry) → find (is_socket id) h.entries ≡ Some e → (r : Role) → e.role ≡ r → sent_answer r octets ≡ Ok count → SendsOn h id octets count
+    by_role : (e : Entry) → find (is_socket id) h.entries ≡ Some e → (r : Role) → e.role ≡ r → role_send_answer r octets ≡ Ok count → SendsOn h id octets count
     by_role e at (Idle buffers bound) is a = cc
     by_role e at (Listener bound backlog) is a = cc
     by_role e at (Connected c l) is a = by_tests c l (found_socket h.entries id e (Connected c l) at is) c.pending_error (is_opening c.state) (is_write_closed c.state) ((send_room c.sending == 0) && not (length octets == 0)) refl refl refl a
@@ -126,7 +126,7 @@ sends-on h id octets count answered = by_entry (find (is_socket id) h.entries) r
     by_entry : (o : Option Entry) → find (is_socket id) h.entries ≡ o → SendsOn h id octets count
     by_entry None at = let bad : Err EBADF ≡ Ok count = sym (rw at) ∙ answered in cc
     by_entry (Some e) at =
-        let told : send_answer h id octets ≡ sent_answer e.role octets = rw at in
+        let told : send_answer h id octets ≡ role_send_answer e.role octets = rw at in
         by_role e at e.role refl (sym told ∙ answered)
 
 -- Receive.
@@ -190,7 +190,7 @@ reads-on h id len got answered = by_entry (find (is_socket id) h.entries) refl
     of_idle true e = cc
     of_idle false e = cc
 
-    by_role : (e : Entry) → find (is_socket id) h.entries ≡ Some e → (r : Role) → e.role ≡ r → received_answer r len ≡ Ok got → ReadsOn h id len got
+    by_role : (e : Entry) → find (is_socket id) h.entries ≡ Some e → (r : Role) → e.role ≡ r → role_recv_answer r len ≡ Ok got → ReadsOn h id len got
     by_role e at (Idle buffers bound) is a = absurd (of_idle (len == 0) a)
     by_role e at (Listener bound backlog) is a = cc
     by_role e at (Connected c l) is a = by_tests c l (found_socket h.entries id e (Connected c l) at is) (len == 0) (connection_calls.recv_answer c len) refl refl a
@@ -198,11 +198,11 @@ reads-on h id len got answered = by_entry (find (is_socket id) h.entries) refl
     by_entry : (o : Option Entry) → find (is_socket id) h.entries ≡ o → ReadsOn h id len got
     by_entry None at = let bad : Err EBADF ≡ Ok got = sym (rw at) ∙ answered in cc
     by_entry (Some e) at =
-        let told : recv_answer h id len ≡ received_answer e.role len = rw at in
+        let told : recv_answer h id len ≡ role_recv_answer e.role len = rw at in
         by_role e at e.role refl (sym told ∙ answered)
 
 -- a receive into a buffer with room is one of the connection
-pub received-connected : (c : View) (l : Option SocketId) (len : ℕ) → (len == 0) ≡ false → received len (Connected c l) ≡ Connected (after_recv c len) l
+pub received-connected : (c : View) (l : Option SocketId) (len : ℕ) → (len == 0) ≡ false → role_after_recv len (Connected c l) ≡ Connected (after_recv c len) l
 received-connected c l len room = ap (λ b. Connected (cond b c (after_recv c len)) l) room
 
 -- what is readable on a connected socket is what its connection has
@@ -231,7 +231,7 @@ pub record ConnectsOn (h : HostView) (id : SocketId) (peer : Endpoint) : Type 0 
   pub reached : peer.addr ≡ h.neighbour
   pub free : find (is_between (record { addr = h.addr; port = port }) peer) h.entries ≡ None
   pub foreseen : pair_connected h id peer ≡ Some (pair_of (record { addr = h.addr; port = port }) peer)
-  pub becomes : (isn : ℕ) → after_connect h isn id peer ≡ with_socket (record h { last_port = counted_port h bound port }) id (connecting (record { addr = h.addr; port = port }) peer isn)
+  pub becomes : (isn : ℕ) → after_connect h isn id peer ≡ with_socket (record h { last_port = last_port_after h bound port }) id (role_after_connect (record { addr = h.addr; port = port }) peer isn)
 
 -- no connection goes to the peer from the port that is given
 pub port_for-free : (h : HostView) (bound : Option Endpoint) (peer : Endpoint) (port : ℕ) → port_for h bound peer ≡ Some port
@@ -339,8 +339,8 @@ found-itself {X} t f xs x = go xs
 -- the socket that a connect was for is a connection in SYN-SENT
 pub found-connecting : (xs : List Entry) (id : SocketId) (b : Buffers) (bound : Option Endpoint) (local peer : Endpoint) (isn : ℕ)
     → find (is_socket id) xs ≡ Some (record { id = id; role = Idle b bound })
-    → find (is_socket id) (change_first (is_socket id) (with_role (connecting local peer isn)) xs) ≡ Some (record { id = id; role = Connected (opened_actively local peer isn) None })
-found-connecting xs id b bound local peer isn found = found-itself (is_socket id) (with_role (connecting local peer isn)) xs x found (find-passes (is_socket id) xs x found)
+    → find (is_socket id) (change_first (is_socket id) (with_role (role_after_connect local peer isn)) xs) ≡ Some (record { id = id; role = Connected (opened_actively local peer isn) None })
+found-connecting xs id b bound local peer isn found = found-itself (is_socket id) (with_role (role_after_connect local peer isn)) xs x found (find-passes (is_socket id) xs x found)
   where
     x : Entry
     x = record { id = id; role = Idle b bound }
@@ -353,7 +353,7 @@ pub record ShutsOn (h : HostView) (id : SocketId) : Type 0 where
   pub l : Option SocketId
   pub found : find (is_socket id) h.entries ≡ Some (record { id = id; role = Connected c l })
   pub opened : is_opening c.state ≡ false
-  pub shuts : write_shut (Connected c l) ≡ Connected (connection_calls.after_shutdown c) l
+  pub shuts : role_after_shutdown (Connected c l) ≡ Connected (connection_calls.after_shutdown c) l
 
 pub shuts-on : (h : HostView) (id : SocketId) → shutdown_refusal h id ≡ None → ShutsOn h id
 shuts-on h id none = by_entry (find (is_socket id) h.entries) refl
@@ -364,7 +364,7 @@ shuts-on h id none = by_entry (find (is_socket id) h.entries) refl
     by_tests c l at None true told is e = cc
     by_tests c l at None false told is e = record { c = c; l = l; found = at; opened = is; shuts = rw (told, is) }
 
-    by_role : (e : Entry) → find (is_socket id) h.entries ≡ Some e → (r : Role) → e.role ≡ r → shut_refusal r ≡ None → ShutsOn h id
+    by_role : (e : Entry) → find (is_socket id) h.entries ≡ Some e → (r : Role) → e.role ≡ r → role_shutdown_refusal r ≡ None → ShutsOn h id
     by_role e at (Idle buffers bound) is a = cc
     by_role e at (Listener bound backlog) is a = cc
     by_role e at (Connected c l) is a = by_tests c l (found_socket h.entries id e (Connected c l) at is) c.pending_error (is_opening c.state) refl refl a
@@ -372,5 +372,5 @@ shuts-on h id none = by_entry (find (is_socket id) h.entries) refl
     by_entry : (o : Option Entry) → find (is_socket id) h.entries ≡ o → ShutsOn h id
     by_entry None at = let refused : shutdown_refusal h id ≡ Some EBADF = rw at in cc
     by_entry (Some e) at =
-        let told : shutdown_refusal h id ≡ shut_refusal e.role = rw at in
+        let told : shutdown_refusal h id ≡ role_shutdown_refusal e.role = rw at in
         by_role e at e.role refl (sym told ∙ none)

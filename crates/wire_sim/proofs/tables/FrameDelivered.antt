@@ -17,10 +17,10 @@ use Rattle.host.specs.declared.role.Role.TheVariants.{Idle, Listener, Connected}
 use Rattle.host.specs.declared.refusal.DropCause.{DropCause}
 use Rattle.wire_sim.specs.declared.event.Answer.{Answer}
 use Rattle.wire_sim.specs.declared.event.Answer.TheVariants as reply
-use Rattle.host.specs.Arrival.{Becomes, Opens, NoPlace, local_end, peer_end, is_opening, has_no_place, after_opening, answered, opening, arrival_at, arrival_alone, arrival_at_connection, arrival, pair_opened, Meets, MeetsParsed, IsDelivered}
-use Rattle.host.specs.Entries.{is_live_between, is_between, is_listening_at, arrived, fate_of, settled}
+use Rattle.host.specs.Arrival.{Becomes, Opens, NoPlace, local_end, peer_end, is_opening, has_no_place, after_opening, arrival_with_reply, opening, arrival_at, arrival_alone, arrival_at_connection, arrival, pair_opened, Meets, MeetsParsed, IsDelivered}
+use Rattle.host.specs.Entries.{is_live_between, is_between, is_listening_at, role_after_segment, fate_of, entries_after_step}
 use Rattle.host.specs.Replies.{reset_at_ack, answer_to, answer_at_listener}
-use Rattle.host.specs.HostView.{HostView, later}
+use Rattle.host.specs.HostView.{HostView, later_moment}
 use Rattle.wire_sim.specs.Steps.{MeetsFrame}
 use Rattle.wire_sim.proofs.lists.FoundAfterChange.{find-passes}
 use Rattle.wire_sim.proofs.tables.TableById.{entry_with}
@@ -32,7 +32,7 @@ pub data Delivery (h : HostView) (now : Moment) (isn : ℕ) (octets : List ℕ) 
   Answered : (reply : Head) → new ≡ record h { replies = h.replies ++ reply ∷ [] } → Delivery h now isn octets new
   Heard : (s : Segment) (c : View) (l : Option SocketId) (id : SocketId) → IsParsed h.neighbour h.addr octets (Ok s)
       → find (is_between (local_end h s) (peer_end h s)) h.entries ≡ Some (record { id = id; role = Connected c l })
-      → new ≡ record h { entries = settled (fate c s) (is_between (local_end h s) (peer_end h s)) (arrived (later h now) s) h.entries } → Delivery h now isn octets new
+      → new ≡ record h { entries = entries_after_step (fate c s) (is_between (local_end h s) (peer_end h s)) (role_after_segment (later_moment h now) s) h.entries } → Delivery h now isn octets new
   Began : (s : Segment) (listener : Entry) → IsParsed h.neighbour h.addr octets (Ok s) → find (is_between (local_end h s) (peer_end h s)) h.entries ≡ None → is_opening s.flags ≡ true
       → pair_opened h s ≡ Some (pair_of (local_end h s) (peer_end h s)) → new ≡ after_opening h isn listener s → Delivery h now isn octets new
 
@@ -48,7 +48,7 @@ delivery h now isn octets outcome new is = by_parse is.0 is.1 is.2
     by_full reply true meets = Ignored meets.1
     by_full reply false meets = Answered reply meets.1
 
-    by_reply : (o : Option Head) → Meets (answered h o) h outcome new → Delivery h now isn octets new
+    by_reply : (o : Option Head) → Meets (arrival_with_reply h o) h outcome new → Delivery h now isn octets new
     by_reply None meets = Ignored meets.1
     by_reply (Some reply) meets = by_full reply (length h.replies == 16) meets
 
@@ -56,9 +56,9 @@ delivery h now isn octets outcome new is = by_parse is.0 is.1 is.2
         → (x : Fate) → fate c s ≡ x → Meets (arrival_at_connection h now s x) h outcome new → Delivery h now isn octets new
     by_fate s c l id parsed at Rejected is meets = by_reply (Some (reset_at_ack s)) meets
     by_fate s c l id parsed at Stays is meets = Heard s c l id parsed at
-        (meets.1 ∙ ap (λ x. let w : HostView = record h { entries = settled x (is_between (local_end h s) (peer_end h s)) (arrived (later h now) s) h.entries } in w) (sym is))
+        (meets.1 ∙ ap (λ x. let w : HostView = record h { entries = entries_after_step x (is_between (local_end h s) (peer_end h s)) (role_after_segment (later_moment h now) s) h.entries } in w) (sym is))
     by_fate s c l id parsed at Removed is meets = Heard s c l id parsed at
-        (meets.1 ∙ ap (λ x. let w : HostView = record h { entries = settled x (is_between (local_end h s) (peer_end h s)) (arrived (later h now) s) h.entries } in w) (sym is))
+        (meets.1 ∙ ap (λ x. let w : HostView = record h { entries = entries_after_step x (is_between (local_end h s) (peer_end h s)) (role_after_segment (later_moment h now) s) h.entries } in w) (sym is))
 
     heard : (s : Segment) → IsParsed h.neighbour h.addr octets (Ok s) → (e : Entry) → find (is_between (local_end h s) (peer_end h s)) h.entries ≡ Some e
         → Meets (arrival_at_connection h now s (fate_of s e.role)) h outcome new → (r : Role) → e.role ≡ r → Delivery h now isn octets new
@@ -82,14 +82,14 @@ delivery h now isn octets outcome new is = by_parse is.0 is.1 is.2
     by_place s listener parsed none opens at false full meets = of_opens s listener parsed none opens (rw (none, opens, at, full)) outcome meets
 
     by_flags : (s : Segment) (listener : Entry) → IsParsed h.neighbour h.addr octets (Ok s) → find (is_between (local_end h s) (peer_end h s)) h.entries ≡ None → find (is_listening_at s.destination) h.entries ≡ Some listener
-        → (b : Bool) → is_opening s.flags ≡ b → Meets (cond b (opening h isn s listener) (answered h (answer_at_listener s))) h outcome new → Delivery h now isn octets new
+        → (b : Bool) → is_opening s.flags ≡ b → Meets (cond b (opening h isn s listener) (arrival_with_reply h (answer_at_listener s))) h outcome new → Delivery h now isn octets new
     by_flags s listener parsed none at false is meets = by_reply (answer_at_listener s) meets
     by_flags s listener parsed none at true is meets = by_place s listener parsed none is at (has_no_place h listener) refl meets
 
     by_listener : (s : Segment) → IsParsed h.neighbour h.addr octets (Ok s) → find (is_between (local_end h s) (peer_end h s)) h.entries ≡ None
         → (o : Option Entry) → find (is_listening_at s.destination) h.entries ≡ o → Meets (arrival_alone h isn s) h outcome new → Delivery h now isn octets new
     by_listener s parsed none None at meets =
-        let alone : arrival_alone h isn s ≡ answered h (answer_to s) = rw at in
+        let alone : arrival_alone h isn s ≡ arrival_with_reply h (answer_to s) = rw at in
         by_reply (answer_to s) (subst (λ a. Meets a h outcome new) alone meets)
     by_listener s parsed none (Some listener) at meets =
         let alone : arrival_alone h isn s ≡ arrival_at h isn s listener = rw at in

@@ -13,7 +13,7 @@ use Rattle.host.specs.declared.entry.Entry.{Entry}
 use Rattle.host.specs.declared.role.Role.{Role}
 use Rattle.host.specs.declared.role.Role.TheVariants.{Idle, Listener, Connected}
 use Rattle.tcp_state.specs.declared.connection.Fate.{Fate}
-use Rattle.host.specs.Entries.{is_kept, settled, all_settled, with_role}
+use Rattle.host.specs.Entries.{is_kept, entries_after_step, entries_after_steps, with_role}
 use Rattle.host.specs.Lists.{change_first, remove_first}
 use Rattle.stream_law.specs.Pairing.{Presence, Present, Departed, End, nothing_yet}
 use Rattle.wire_sim.specs.declared.event.Side.{Side}
@@ -104,7 +104,7 @@ becomes-added xs x sole none = record {
 abbrev pub settle : Fate → (Role → Role) → Role → Option Role
 settle fate change r = cond (is_kept fate) (Some (change r)) None
 
-pub becomes-settled : (fate : Fate) (test : Entry → Bool) (g : Role → Role) (xs : List Entry) (x : Entry) → AreSole xs → find test xs ≡ Some x → Becomes xs (settled fate test g xs) x.id.0 (settle fate g x.role)
+pub becomes-settled : (fate : Fate) (test : Entry → Bool) (g : Role → Role) (xs : List Entry) (x : Entry) → AreSole xs → find test xs ≡ Some x → Becomes xs (entries_after_step fate test g xs) x.id.0 (settle fate g x.role)
 becomes-settled fate test g xs x sole found = by_fate (is_kept fate)
   where
     by_fate : (b : Bool) → Becomes xs (cond b (change_first test (with_role g) xs) (remove_first test xs)) x.id.0 (cond b (Some (g x.role)) None)
@@ -116,41 +116,41 @@ abbrev pub settle_each : (Role → Fate) → (Role → Role) → Option Role →
 settle_each fate change None = None
 settle_each fate change (Some r) = settle (fate r) change r
 
-none-settled : (fate : Role → Fate) (g : Role → Role) (i : ℕ) (xs : List Entry) → find (has_id i) xs ≡ None → find (has_id i) (all_settled fate g xs) ≡ None
+none-settled : (fate : Role → Fate) (g : Role → Role) (i : ℕ) (xs : List Entry) → find (has_id i) xs ≡ None → find (has_id i) (entries_after_steps fate g xs) ≡ None
 none-settled fate g i = go
   where
-    step : (e : Entry) (xs : List Entry) → (find (has_id i) xs ≡ None → find (has_id i) (all_settled fate g xs) ≡ None) → (b c : Bool) → has_id i e ≡ c → cond c (Some e) (find (has_id i) xs) ≡ None
-        → find (has_id i) (cond b (with_role g e ∷ all_settled fate g xs) (all_settled fate g xs)) ≡ None
+    step : (e : Entry) (xs : List Entry) → (find (has_id i) xs ≡ None → find (has_id i) (entries_after_steps fate g xs) ≡ None) → (b c : Bool) → has_id i e ≡ c → cond c (Some e) (find (has_id i) xs) ≡ None
+        → find (has_id i) (cond b (with_role g e ∷ entries_after_steps fate g xs) (entries_after_steps fate g xs)) ≡ None
     step e xs more b true is n = cc
-    step e xs more true false is n = ap (λ c. cond c (Some (with_role g e)) (find (has_id i) (all_settled fate g xs))) is ∙ more n
+    step e xs more true false is n = ap (λ c. cond c (Some (with_role g e)) (find (has_id i) (entries_after_steps fate g xs))) is ∙ more n
     step e xs more false false is n = more n
 
-    go : (xs : List Entry) → find (has_id i) xs ≡ None → find (has_id i) (all_settled fate g xs) ≡ None
+    go : (xs : List Entry) → find (has_id i) xs ≡ None → find (has_id i) (entries_after_steps fate g xs) ≡ None
     go [] none = refl
     go (e ∷ xs) none = step e xs (go xs) (is_kept (fate e.role)) (has_id i e) refl none
 
-pub role_at-settled : (fate : Role → Fate) (g : Role → Role) (xs : List Entry) (i : ℕ) → IsSole (has_id i) xs → role_at (all_settled fate g xs) i ≡ settle_each fate g (role_at xs i)
+pub role_at-settled : (fate : Role → Fate) (g : Role → Role) (xs : List Entry) (i : ℕ) → IsSole (has_id i) xs → role_at (entries_after_steps fate g xs) i ≡ settle_each fate g (role_at xs i)
 role_at-settled fate g xs i = go xs
   where
-    step : (e : Entry) (xs : List Entry) → role_at (all_settled fate g xs) i ≡ settle_each fate g (role_at xs i) → (has_id i e ≡ true → find (has_id i) xs ≡ None) → (b c : Bool) → is_kept (fate e.role) ≡ b → has_id i e ≡ c
-        → option_map (λ (x : Entry). x.role) (find (has_id i) (cond b (with_role g e ∷ all_settled fate g xs) (all_settled fate g xs))) ≡ settle_each fate g (option_map (λ (x : Entry). x.role) (cond c (Some e) (find (has_id i) xs)))
-    step e xs more first true true kept is = ap (λ c. option_map (λ (x : Entry). x.role) (cond c (Some (with_role g e)) (find (has_id i) (all_settled fate g xs)))) is ∙ sym (ap (λ b. cond b (Some (g e.role)) None) kept)
+    step : (e : Entry) (xs : List Entry) → role_at (entries_after_steps fate g xs) i ≡ settle_each fate g (role_at xs i) → (has_id i e ≡ true → find (has_id i) xs ≡ None) → (b c : Bool) → is_kept (fate e.role) ≡ b → has_id i e ≡ c
+        → option_map (λ (x : Entry). x.role) (find (has_id i) (cond b (with_role g e ∷ entries_after_steps fate g xs) (entries_after_steps fate g xs))) ≡ settle_each fate g (option_map (λ (x : Entry). x.role) (cond c (Some e) (find (has_id i) xs)))
+    step e xs more first true true kept is = ap (λ c. option_map (λ (x : Entry). x.role) (cond c (Some (with_role g e)) (find (has_id i) (entries_after_steps fate g xs)))) is ∙ sym (ap (λ b. cond b (Some (g e.role)) None) kept)
     step e xs more first false true kept is = ap (option_map (λ (x : Entry). x.role)) (none-settled fate g i xs (first is)) ∙ sym (ap (λ b. cond b (Some (g e.role)) None) kept)
-    step e xs more first true false kept is = ap (λ c. option_map (λ (x : Entry). x.role) (cond c (Some (with_role g e)) (find (has_id i) (all_settled fate g xs)))) is ∙ more
+    step e xs more first true false kept is = ap (λ c. option_map (λ (x : Entry). x.role) (cond c (Some (with_role g e)) (find (has_id i) (entries_after_steps fate g xs)))) is ∙ more
     step e xs more first false false kept is = more
 
-    go : (xs : List Entry) → IsSole (has_id i) xs → role_at (all_settled fate g xs) i ≡ settle_each fate g (role_at xs i)
+    go : (xs : List Entry) → IsSole (has_id i) xs → role_at (entries_after_steps fate g xs) i ≡ settle_each fate g (role_at xs i)
     go [] sole = refl
     go (e ∷ xs) sole = step e xs (go xs sole.1) sole.0 (is_kept (fate e.role)) (has_id i e) refl refl
 
-pub sole-settled : (fate : Role → Fate) (g : Role → Role) (xs : List Entry) → AreSole xs → AreSole (all_settled fate g xs)
+pub sole-settled : (fate : Role → Fate) (g : Role → Role) (xs : List Entry) → AreSole xs → AreSole (entries_after_steps fate g xs)
 sole-settled fate g xs sole i = go xs (sole i)
   where
-    step : (e : Entry) (xs : List Entry) → IsSole (has_id i) (all_settled fate g xs) → (has_id i e ≡ true → find (has_id i) xs ≡ None) → (b : Bool) → IsSole (has_id i) (cond b (with_role g e ∷ all_settled fate g xs) (all_settled fate g xs))
+    step : (e : Entry) (xs : List Entry) → IsSole (has_id i) (entries_after_steps fate g xs) → (has_id i e ≡ true → find (has_id i) xs ≡ None) → (b : Bool) → IsSole (has_id i) (cond b (with_role g e ∷ entries_after_steps fate g xs) (entries_after_steps fate g xs))
     step e xs rest first true = (λ is. none-settled fate g i xs (first is), rest)
     step e xs rest first false = rest
 
-    go : (xs : List Entry) → IsSole (has_id i) xs → IsSole (has_id i) (all_settled fate g xs)
+    go : (xs : List Entry) → IsSole (has_id i) xs → IsSole (has_id i) (entries_after_steps fate g xs)
     go [] sole = tt
     go (e ∷ xs) sole = step e xs (go xs sole.1) sole.0 (is_kept (fate e.role))
 

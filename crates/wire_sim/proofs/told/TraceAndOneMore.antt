@@ -22,7 +22,7 @@ use Rattle.wire_sim.specs.declared.event.Opening.{Opening}
 use Rattle.wire_sim.specs.declared.event.Happening.{Happening}
 use Rattle.wire_sim.specs.declared.world.bag.Note.{Note}
 use Rattle.wire_sim.specs.Sides.{same_side, other_side}
-use Rattle.wire_sim.specs.Tallies.{is_opening_of, is_opening_at, same_pair, written_by, counted}
+use Rattle.wire_sim.specs.Tallies.{is_opening_of, is_opening_at, same_pair, written_by, counts_after}
 use Rattle.wire_sim.specs.Trace.{same_socket, sent_by, closed_by, read_by, ended_by, sent_on, closed_on, read_on, ended_on, of_opening, written}
 use Rattle.wire_sim.specs.Fairness.{is_stale}
 use Rattle.wire_sim.specs.WorldView.{NetworkView, written_at}
@@ -138,7 +138,7 @@ written_by-tallies trace openings side pair epoch = go openings
 
 -- octets that a send took are counted
 pub tallies-counted : (trace : List Happening) (openings : List Opening) (side : Side) (id : SocketId) (octets : Vec ℕ) (count : ℕ) → count ≤ length octets.items
-    → counted openings (tallies trace openings) side id count ≡ tallies (trace ++ record { event = event.Call side (call.Send id octets); answer = answer.Sent count } ∷ []) openings
+    → counts_after openings (tallies trace openings) side id count ≡ tallies (trace ++ record { event = event.Call side (call.Send id octets); answer = answer.Sent count } ∷ []) openings
 tallies-counted trace openings side id octets count within = go openings
   where
     h : Happening
@@ -158,9 +158,9 @@ tallies-counted trace openings side id octets count within = go openings
         ∙ (step w (same_socket o.side o.id side id)
         ∙ sym (ap length (sent_on-added o.side o.id trace h) ∙ length-append (sent_on o.side o.id trace) (sent_of o.side o.id h)))
 
-    go : (os : List Opening) → counted os (tallies trace os) side id count ≡ tallies (trace ++ h ∷ []) os
+    go : (os : List Opening) → counts_after os (tallies trace os) side id count ≡ tallies (trace ++ h ∷ []) os
     go [] = refl
-    go (o ∷ os) = ap (λ w. w ∷ counted os (tallies trace os) side id count) (one o) ∙ ap (λ ws. length (sent_on o.side o.id (trace ++ h ∷ [])) ∷ ws) (go os)
+    go (o ∷ os) = ap (λ w. w ∷ counts_after os (tallies trace os) side id count) (one o) ∙ ap (λ ws. length (sent_on o.side o.id (trace ++ h ∷ [])) ∷ ws) (go os)
 
 -- a happening that tells of no octets leaves the counts
 pub tallies-quiet : (trace : List Happening) (openings : List Opening) (h : Happening) → ((side : Side) (id : SocketId) → sent_of side id h ≡ [])

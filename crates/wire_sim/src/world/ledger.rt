@@ -3,7 +3,7 @@
 ghost use Rattle.std.specs.Prelude.{◌≡◌, ℕ, ◌+◌, ◌<◌, ◌≤◌, ◌^◌, [], ◌∷◌, ◌++◌, vec_len, vec_capacity, slice_index_or, IsOk, OnOk};
 ghost use Rattle.ipv4.specs.declared.addr.Pair.{Pair};
 ghost use Rattle.std.specs.List.{list_any};
-ghost use Rattle.wire_sim.specs.Tallies.{is_opening_of, written_by, counted};
+ghost use Rattle.wire_sim.specs.Tallies.{is_opening_of, written_by, counts_after};
 ghost use Rattle.wire_sim.specs.Openings.{epoch_of};
 
 use crate::event::{Opening, Side};
@@ -94,7 +94,7 @@ impl Ledger {
     pub(super) fn wrote(&mut self, side: Side, id: SocketId, octets: usize)
         requires { (i : ℕ) → slice_index_or self.old.written.items i 0 < 2 ^ 127 }
         ensures openings { self.new.openings.items ≡ self.old.openings.items }
-        ensures written { self.new.written.items ≡ counted self.old.openings.items self.old.written.items side id octets }
+        ensures written { self.new.written.items ≡ counts_after self.old.openings.items self.old.written.items side id octets }
         ensures openings_room { vec_capacity self.new.openings ≡ vec_capacity self.old.openings }
         ensures written_room { vec_capacity self.new.written ≡ vec_capacity self.old.written }
     {
@@ -137,7 +137,7 @@ fn written_by(openings: &[Opening], written: &[u128], side: Side, pair: Pair, ep
 /// Counts octets beside each opening by which the host of `side` made the entry `id`.
 fn count(openings: &[Opening], written: &mut [u128], side: Side, id: SocketId, octets: usize)
     requires { (i : ℕ) → slice_index_or written.old i 0 < 2 ^ 127 }
-    ensures { written.new ≡ counted openings.now written.old side id octets }
+    ensures { written.new ≡ counts_after openings.now written.old side id octets }
 {
     for place in 0..openings.len().min(written.len()) {
         if openings[place].is_at(side, id) {

@@ -2,7 +2,7 @@
 
 ghost use Rattle.std.specs.Prelude.{◌≡◌, ◌<◌, ◌≤◌, ◌+◌, true, false, [], ◌∷◌, ◌++◌, length, take, drop, ◌^◌, ◌↔◌, vec_len, vec_capacity, None, IsOk, OnOk, OnErr, IfOk, IfErr, MatchOption};
 ghost use Rattle.wire_sim.specs.declared.event.Answer.{Answer};
-ghost use Rattle.wire_sim.specs.Steps.{asked_by, is_emission};
+ghost use Rattle.wire_sim.specs.Steps.{event_recv_len, is_emission};
 ghost use Rattle.wire_sim.specs.WorldView.{network_view};
 ghost use Rattle.wire_sim.specs.WorldRoom.{network_room, KeepsNetworkRoom};
 
@@ -174,11 +174,11 @@ fn reserve(
     ensures openings { OnOk result (vec_len network.new.ledger.openings < vec_capacity network.new.ledger.openings) }
     ensures counts { OnOk result (vec_len network.new.ledger.written < vec_capacity network.new.ledger.written) }
     ensures happening { OnOk result (vec_len trace.new < vec_capacity trace.new) }
-    ensures read { IfOk result (λ room. vec_len room.octets ≡ asked_by event.now) }
+    ensures read { IfOk result (λ room. vec_len room.octets ≡ event_recv_len event.now) }
     ensures room { IfOk result (λ room. is_emission event.now ≡ true → 1514 ≤ vec_capacity room.octets) }
     ensures memory { vec_len network.old.bag < vec_capacity network.old.bag → vec_len network.old.ledger.openings < vec_capacity network.old.ledger.openings
         → vec_len network.old.ledger.written < vec_capacity network.old.ledger.written → vec_len trace.old < vec_capacity trace.old
-        → asked_by event.now ≡ 0 → is_emission event.now ≡ false → IsOk result }
+        → event_recv_len event.now ≡ 0 → is_emission event.now ≡ false → IsOk result }
     ensures network_room { KeepsNetworkRoom (network_room network.old) (network_room network.new) }
     ensures trace_room { vec_capacity trace.old ≤ vec_capacity trace.new }
 {

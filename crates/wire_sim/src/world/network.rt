@@ -27,7 +27,7 @@ pub(super) struct Network {
 }
 
 impl Network {
-    ghost use Rattle.wire_sim.specs.Steps.{Steps, with_opening, noted, asked_of, asked_by, is_emission};
+    ghost use Rattle.wire_sim.specs.Steps.{Steps, with_opening, note_of, call_recv_len, event_recv_len, is_emission};
     ghost use Rattle.wire_sim.specs.Sides.{other_side};
     ghost use Rattle.host.specs.HostView.{holder_id};
     ghost use Rattle.wire_sim.specs.Runs.{IsNumbered, IsNumberedCall};
@@ -110,7 +110,7 @@ impl Network {
         requires openings { vec_len self.old.ledger.openings < vec_capacity self.old.ledger.openings }
         requires written { vec_len self.old.ledger.written < vec_capacity self.old.ledger.written }
         requires counts { (i : ℕ) → slice_index_or self.old.ledger.written.items i 0 < 2 ^ 127 }
-        requires read { vec_len octets ≡ asked_by event.now }
+        requires read { vec_len octets ≡ event_recv_len event.now }
         requires room { is_emission event.now ≡ true → 1514 ≤ vec_capacity octets }
         ensures octets { octets_len result ≤ vec_len octets }
         ensures numbered { IsNumbered event.now }
@@ -141,7 +141,7 @@ impl Network {
         requires openings { vec_len self.old.ledger.openings < vec_capacity self.old.ledger.openings }
         requires written { vec_len self.old.ledger.written < vec_capacity self.old.ledger.written }
         requires counts { (i : ℕ) → slice_index_or self.old.ledger.written.items i 0 < 2 ^ 127 }
-        requires read { vec_len octets ≡ asked_of call.now }
+        requires read { vec_len octets ≡ call_recv_len call.now }
         ensures octets { octets_len result ≤ vec_len octets }
         ensures numbered { IsNumberedCall call.now }
         ensures step { Steps (Event.Call side call.now) place result (network_view self.old) (network_view self.new) }
@@ -189,7 +189,7 @@ impl Network {
         ensures step { Steps (Event.Emit side) 0 result (network_view self.old) (network_view self.new) }
         ensures room { network_room self.new ≡ network_room self.old }
     {
-        let note = self.noted(side);
+        let note = self.note_of(side);
         let mut out = [0; MOST_FRAME];
         let emitted = match side {
             Side::A => self.a.next_frame(&mut out),
@@ -209,8 +209,8 @@ impl Network {
     }
 
     /// What is noted of the frame that `sender` emits now.
-    fn noted(&self, sender: Side) -> Option<Note>
-        ensures { result ≡ option_map (noted (network_view self.now)) (due_pair (host_of (network_view self.now) sender)) }
+    fn note_of(&self, sender: Side) -> Option<Note>
+        ensures { result ≡ option_map (note_of (network_view self.now)) (due_pair (host_of (network_view self.now) sender)) }
     {
         let pair = self.station(sender).due_pair()?;
         let epoch = self.ledger.epoch(pair);

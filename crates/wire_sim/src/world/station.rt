@@ -25,7 +25,7 @@ impl Station {
     ghost use Rattle.host.specs.HostView.{holder_id};
     ghost use Rattle.host.specs.Emission.{emission_len, emission_front, after_emission};
     ghost use Rattle.wire_sim.specs.WorldView.{fresh_station};
-    ghost use Rattle.wire_sim.specs.Steps.{ticked_station, asked_of, MeetsCall, MeetsFrame};
+    ghost use Rattle.wire_sim.specs.Steps.{station_after_tick, call_recv_len, MeetsCall, MeetsFrame};
     ghost use Rattle.host.specs.Pairs.{socket_pair, due_pair};
     ghost use Rattle.host.specs.Calls.{pair_connected};
     ghost use Rattle.wire_sim.specs.Fairness.{pair_foreseen};
@@ -44,7 +44,7 @@ impl Station {
 
     /// Makes a socket call, which reads octets into `buffer`.
     pub(super) fn call(&mut self, call: &Call, buffer: Vec<u8>) -> Answer
-        requires { vec_len buffer ≡ asked_of call.now }
+        requires { vec_len buffer ≡ call_recv_len call.now }
         ensures octets { octets_len result ≤ vec_len buffer }
         ensures answer { MeetsCall call.now self.old.host result self.new.host }
         ensures numbered { IsNumberedCall call.now }
@@ -76,7 +76,7 @@ impl Station {
     /// Moves the clock forward to `moment`, and ticks the host.
     pub(super) fn tick(&mut self, moment: Moment) -> Answer
         ensures answer { result ≡ Answer.Done }
-        ensures after { self.new ≡ ticked_station self.old moment }
+        ensures after { self.new ≡ station_after_tick self.old moment }
     {
         if moment > self.clock {
             self.clock = moment;

@@ -2,7 +2,7 @@
 use Rattle.std.proofs.Common.{◌≡◌, ◌∙◌, List, Some, ap, sym}
 use Rattle.host.specs.declared.entry.Entry.{Entry}
 use Rattle.std.specs.List.{position}
-use Rattle.host.specs.Entries.{is_offered_at, accepted, with_role}
+use Rattle.host.specs.Entries.{is_offered_at, role_after_accept, with_role}
 use Rattle.host.specs.HostView.{HostView}
 use Rattle.host.proofs.Written.{entry_written}
 use Rattle.host.proofs.host.Host.accept.Goals as goal
@@ -13,4 +13,4 @@ returns-clause-ok c =
     let place : position (is_offered_at c.args.id) c.args.self.now.entries ≡ Some c.in_ok-place.place =
     ap (λ (es : List Entry). position (is_offered_at c.args.id) es) (sym entries ∙ sym c.deref-2.ensures.0) ∙ sym c.next_accepted.ensures ∙ c.in_ok-place.ensures.ok_part
     in
-    entry_written _ _ (is_offered_at c.args.id) (with_role accepted) _ _ _ _ c.self.view_is place c.deref_mut.ensures.value c.index-deref_mut-place.is c.accept.ensures
+    entry_written _ _ (is_offered_at c.args.id) (with_role role_after_accept) _ _ _ _ c.self.view_is place c.deref_mut.ensures.value c.index-deref_mut-place.is c.accept.ensures

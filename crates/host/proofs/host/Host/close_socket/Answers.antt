@@ -4,7 +4,7 @@ use Rattle.std.specs.List.{find}
 use Rattle.tcp_state.specs.declared.connection.Fate.{Fate}
 use Rattle.clock.specs.declared.moment.Moment.{Moment}
 use Rattle.host.specs.declared.entry.Entry.{Entry}
-use Rattle.host.specs.Entries.{is_socket, closed, close_fate_of, settled}
+use Rattle.host.specs.Entries.{is_socket, role_after_close, close_fate_of, entries_after_step}
 use Rattle.host.specs.HostView.{HostView}
 use Rattle.host.proofs.Arrived.{entry_settled}
 use Rattle.host.proofs.Closed.{closed-found, close-allowed}
@@ -22,9 +22,9 @@ returns-clause-ok c =
     in
     let found : find (is_socket c.args.id) h.entries ≡ Some x = find-position (is_socket c.args.id) h.entries c.in_ok-place.place x c.in_ok-place.ensures.place at in
     let fates : c.close-fate.result ≡ close_fate_of x.role = c.close-fate.ensures.fate ∙ ap (λ (e : Entry). close_fate_of e.role) (sym c.index-deref_mut-place.is) in
-    entry_settled _ _ (is_socket c.args.id) (closed c.self.inside.kept) _ _ _ _ _ c.close-fate.result c.self.view_is c.in_ok-place.ensures.place c.deref_mut.ensures.value c.index-deref_mut-place.is c.close-fate.ensures.after c.settle.ensures
-    ∙ ap (λ (r : Fate). let w : HostView = record h { entries = settled r (is_socket c.args.id) (closed c.self.inside.kept) h.entries } in w) fates
-    ∙ ap (λ (m : Moment). let w : HostView = record h { entries = settled (close_fate_of x.role) (is_socket c.args.id) (closed m) h.entries } in w) kept
+    entry_settled _ _ (is_socket c.args.id) (role_after_close c.self.inside.kept) _ _ _ _ _ c.close-fate.result c.self.view_is c.in_ok-place.ensures.place c.deref_mut.ensures.value c.index-deref_mut-place.is c.close-fate.ensures.after c.settle.ensures
+    ∙ ap (λ (r : Fate). let w : HostView = record h { entries = entries_after_step r (is_socket c.args.id) (role_after_close c.self.inside.kept) h.entries } in w) fates
+    ∙ ap (λ (m : Moment). let w : HostView = record h { entries = entries_after_step (close_fate_of x.role) (is_socket c.args.id) (role_after_close m) h.entries } in w) kept
     ∙ sym (closed-found h c.args.id x found)
 
 pub returns-clause-refused : goal.returns-clause-refused

@@ -3,9 +3,9 @@ use Rattle.std.proofs.Common.{◌≡◌, ◌∙◌, ℕ, List, get_or, Some, Non
 use Rattle.std.specs.List.{find}
 use Rattle.ipv4.specs.declared.addr.Addr.{Addr}
 use Rattle.host.specs.declared.entry.Entry.{Entry}
-use Rattle.host.specs.Entries.{is_socket, connecting, with_role}
+use Rattle.host.specs.Entries.{is_socket, role_after_connect, with_role}
 use Rattle.host.specs.HostView.{HostView, with_socket}
-use Rattle.host.specs.Calls.{open_answer, reach_refusal, port_for, counted_port}
+use Rattle.host.specs.Calls.{open_answer, reach_refusal, port_for, last_port_after}
 use Rattle.host.proofs.Connected.{after_connect-accepted, some_from_ok}
 use Rattle.host.proofs.Firsts.{find-position}
 use Rattle.host.proofs.Written.{entry_written}
@@ -25,11 +25,11 @@ returns-clause-ok c =
     let opens : open_answer x.role ≡ Ok c.in_ok-bound.bound = ap (λ (e : Entry). open_answer e.role) c.index-deref-place.is ∙ sym c.in_ok-bound.ensures in
     let given : port_for h c.in_ok-bound.bound c.args.peer ≡ Some c.in_ok-port.port = some_from_ok _ _ _ c.in_ok-port.ensures.value in
     let reached : reach_refusal h c.args.peer ≡ None = sym c.in_ok-may_reach.ensures in
-    let counted : c.counted_port-self-inside.result ≡ counted_port h c.in_ok-bound.bound c.in_ok-port.port = c.counted_port-self-inside.ensures.value in
+    let counted : c.last_port_after-self-inside.result ≡ last_port_after h c.in_ok-bound.bound c.in_ok-port.port = c.last_port_after-self-inside.ensures.value in
     let moved =
-    ap (λ (w : HostView). let r : HostView = record w { last_port = c.counted_port-self-inside.result } in r) c.self.view_is
+    ap (λ (w : HostView). let r : HostView = record w { last_port = c.last_port_after-self-inside.result } in r) c.self.view_is
     ∙ ap (λ (p : ℕ). let r : HostView = record h { last_port = p } in r) counted
     in
-    entry_written _ _ (is_socket c.args.id) (with_role (connecting (record { addr = c.self.inside.addr; port = c.in_ok-port.port }) c.args.peer c.args.isn.0)) _ _ _ _ moved place c.deref_mut.ensures.value c.index-deref_mut-place.is c.connect.ensures
-    ∙ ap (λ (a : Addr). with_socket (record h { last_port = counted_port h c.in_ok-bound.bound c.in_ok-port.port }) c.args.id (connecting (record { addr = a; port = c.in_ok-port.port }) c.args.peer c.args.isn.0)) addr
+    entry_written _ _ (is_socket c.args.id) (with_role (role_after_connect (record { addr = c.self.inside.addr; port = c.in_ok-port.port }) c.args.peer c.args.isn.0)) _ _ _ _ moved place c.deref_mut.ensures.value c.index-deref_mut-place.is c.connect.ensures
+    ∙ ap (λ (a : Addr). with_socket (record h { last_port = last_port_after h c.in_ok-bound.bound c.in_ok-port.port }) c.args.id (role_after_connect (record { addr = a; port = c.in_ok-port.port }) c.args.peer c.args.isn.0)) addr
     ∙ sym (after_connect-accepted h c.args.isn.0 c.args.id c.args.peer x c.in_ok-bound.bound c.in_ok-port.port found opens reached given)

@@ -1,13 +1,13 @@
 -- The write at the socket's place is the change of the first entry that the id names; a refused send writes what was there.
 use Rattle.std.proofs.Common.{◌∙◌, sym}
-use Rattle.host.specs.Entries.{is_socket, sent, with_role}
+use Rattle.host.specs.Entries.{is_socket, role_after_send, with_role}
 use Rattle.host.proofs.Written.{entry_written, entry_kept, on_ok, on_err}
 use Rattle.host.proofs.Refused.{entry_refused}
 use Rattle.host.proofs.host.Host.send.Goals as goal
 
 pub returns-clause-ok : goal.returns-clause-ok
 returns-clause-ok c =
-    on_ok _ _ (entry_written _ _ (is_socket c.args.id) (with_role (sent c.args.octets.now)) _ _ _ _ c.self.view_is c.in_ok-place.ensures.place c.deref_mut.ensures.value c.index-deref_mut-place.is c.send.ensures.after)
+    on_ok _ _ (entry_written _ _ (is_socket c.args.id) (with_role (role_after_send c.args.octets.now)) _ _ _ _ c.self.view_is c.in_ok-place.ensures.place c.deref_mut.ensures.value c.index-deref_mut-place.is c.send.ensures.after)
 
 pub returns-clause-err : goal.returns-clause-err
 returns-clause-err c =

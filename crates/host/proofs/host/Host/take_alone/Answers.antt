@@ -4,7 +4,7 @@ use Rattle.std.specs.List.{position}
 use Rattle.tcp_segment.specs.declared.head.Head.{Head}
 use Rattle.tcp_segment.specs.Segment.{Segment}
 use Rattle.host.specs.declared.entry.Entry.{Entry}
-use Rattle.host.specs.Arrival.{is_opening, answered}
+use Rattle.host.specs.Arrival.{is_opening, arrival_with_reply}
 use Rattle.host.specs.Replies.{answer_at_listener}
 use Rattle.host.specs.Entries.{is_listening_at}
 use Rattle.host.specs.HostView.{HostView}
@@ -25,5 +25,5 @@ returns-in-Some-2 c =
     in
     let found = found_by_place (is_listening_at s.destination) h.entries c.in-Some-2.field-0 place in
     let opens : is_opening s.flags ≡ false = sym c.is_opening.ensures ∙ c.if-is_opening.false in
-    let reply : answered h (answer_at_listener s) ≡ answered h c.of_listener.result = ap (λ (o : Option Head). answered h o) (sym c.of_listener.ensures) in
+    let reply : arrival_with_reply h (answer_at_listener s) ≡ arrival_with_reply h c.of_listener.result = ap (λ (o : Option Head). arrival_with_reply h o) (sym c.of_listener.ensures) in
     meets_same _ _ h _ _ (listener-answers h c.args.isn.0 s found.0 found.1 opens ∙ reply) c.answer-in-Some-2.ensures

@@ -7,7 +7,7 @@ use Rattle.clock.specs.declared.moment.Moment.{Moment}
 use Rattle.host.specs.declared.entry.Entry.{Entry}
 use Rattle.host.specs.Arrival.{local_end, peer_end}
 use Rattle.host.specs.Replies.{reset_at_ack}
-use Rattle.host.specs.Entries.{is_between, fate_of, settled, arrived}
+use Rattle.host.specs.Entries.{is_between, fate_of, entries_after_step, role_after_segment}
 use Rattle.host.specs.HostView.{HostView}
 use Rattle.host.proofs.Arrived.{entry_settled, meets_becomes, meets_same, meets_answered, refusal-answered, taken}
 use Rattle.host.proofs.Refused.{entry_refused_segment}
@@ -28,7 +28,7 @@ returns-in-Rejected c isn =
     let found : find test h.entries ≡ Some x = find-position test h.entries c.args.place x c.requires at in
     let fates : fate_of s x.role ≡ Rejected = ap (λ (e : Entry). fate_of s e.role) c.index-deref_mut-place.is ∙ sym c.segment.ensures.fate ∙ c.in-Rejected.is in
     let same : c.segment.new.self ≡ get_or c.deref_mut.result.now c.args.place x =
-    c.segment.ensures.after ∙ entry_refused_segment _ s c.later-now.result (sym c.segment.ensures.fate ∙ c.in-Rejected.is)
+    c.segment.ensures.after ∙ entry_refused_segment _ s c.later_moment-now.result (sym c.segment.ensures.fate ∙ c.in-Rejected.is)
     in
     meets_same _ _ h _ _ (refusal-answered h c.args.now isn s x found fates)
     (meets_answered _ h _ _ _ (reset_at_ack s) (entry_kept _ h _ _ _ _ c.self.view_is c.deref_mut.ensures.value c.index-deref_mut-place.is same) c.at_ack.ensures c.answer.ensures)
@@ -47,6 +47,6 @@ returns-in_default c isn =
     let fates : fate_of s x.role ≡ c.segment.result = ap (λ (e : Entry). fate_of s e.role) c.index-deref_mut-place.is ∙ sym c.segment.ensures.fate in
     meets_becomes _ _ _ _ (taken h c.args.now isn s x c.segment.result found fates c.in_default.not-Rejected)
     (
-    entry_settled _ _ test (arrived c.later-now.result s) _ _ _ _ _ c.segment.result c.self.view_is c.requires c.deref_mut.ensures.value c.index-deref_mut-place.is c.segment.ensures.after c.settle.ensures
-    ∙ ap (λ (m : Moment). let w : HostView = record h { entries = settled c.segment.result test (arrived m s) h.entries } in w) c.later-now.ensures
+    entry_settled _ _ test (role_after_segment c.later_moment-now.result s) _ _ _ _ _ c.segment.result c.self.view_is c.requires c.deref_mut.ensures.value c.index-deref_mut-place.is c.segment.ensures.after c.settle.ensures
+    ∙ ap (λ (m : Moment). let w : HostView = record h { entries = entries_after_step c.segment.result test (role_after_segment m s) h.entries } in w) c.later_moment-now.ensures
     )

@@ -1,6 +1,6 @@
 -- The count at hand is as it was, and grows where its opening is one of the socket.
 use Rattle.std.proofs.Common.{◌≡◌, ◌∙◌, ℕ, ◌+◌, List, get_or, set, take, add-one, arith, ap, sym}
-use Rattle.wire_sim.specs.Tallies.{counted}
+use Rattle.wire_sim.specs.Tallies.{counts_after}
 use Rattle.wire_sim.proofs.counts.CountsInTurn.{counted-rest, counted-here, counted-next, counted-end}
 use Rattle.wire_sim.proofs.world.ledger.count.Goals as goal
 use Rattle.wire_sim.proofs.world.ledger.count.Goals.{then-is_at, else-is_at}
@@ -16,7 +16,7 @@ grown-requires c =
 pub loop-place-preserved : goal.loop-place-preserved
 loop-place-preserved c =
     let k = c.loop-place.place in
-    let more : ℕ → List ℕ = λ j. counted (take j c.args.openings.now) c.args.written.now c.args.side c.args.id c.args.octets in
+    let more : ℕ → List ℕ = λ j. counts_after (take j c.args.openings.now) c.args.written.now c.args.side c.args.id c.args.octets in
     elim c.if-is_at.branch [
       | then-is_at w ↦
           w.written-is

@@ -9,7 +9,7 @@ use Rattle.wire_sim.proofs.world.network.Network.emit.Goals.{in-A, in-B}
 
 pub returns-clause-step : goal.returns-clause-step
 returns-clause-step c =
-    let frame : Frame = record { sender = c.args.side; octets = c.front-octets.result; note = c.noted-note.result } in
+    let frame : Frame = record { sender = c.args.side; octets = c.front-octets.result; note = c.note_of-note.result } in
     let wrote : WroteFrame c.args.side c.in-Some.len c.match-side.out (network_view c.args.self.now) (network_view c.match-side.self) =
     elim c.match-side.branch [
       | in-A w ↦
@@ -21,4 +21,4 @@ returns-clause-step c =
     ]
     in
     let place : c.len-index.result ≡ length c.match-side.self.bag.items = search rules in
-    emits_frame c.args.side _ c.in-Some.len c.match-side.out (network_view c.args.self.now) (network_view c.match-side.self) frame _ wrote place refl c.front-octets.ensures c.noted-note.ensures c.push_reserved.ensures.items
+    emits_frame c.args.side _ c.in-Some.len c.match-side.out (network_view c.args.self.now) (network_view c.match-side.self) frame _ wrote place refl c.front-octets.ensures c.note_of-note.ensures c.push_reserved.ensures.items
