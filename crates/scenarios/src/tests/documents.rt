@@ -60,10 +60,7 @@ impl Link for Station {
 }
 
 /// A client opens a connection to a listener: its state then, and the connection that the listener takes, with its peer.
-fn meet(
-    alloc: Global,
-    listener: &mut Station,
-) -> Result<(State, (SocketId, Endpoint)), Refusal> {
+fn meet(alloc: Global, listener: &mut Station) -> Result<(State, (SocketId, Endpoint)), Refusal> {
     let now = Moment(0);
     let (mut host, id) = client(alloc, now, Seq(5))?;
     send_due(&mut host, listener, now);
