@@ -1,5 +1,5 @@
 -- When running a script ends in a fault, and in which.
-use Rattle.std.specs.Prelude.{◌≡◌, ℕ, List, Option, Some, None, Result, Ok, Err, Bool, true, false, ⊤, nat_lt, length, option_map, if◌then◌else◌}
+use Rattle.std.specs.Prelude.{◌≡◌, ℕ, List, Option, Some, None, Result, Ok, Err, Bool, true, false, ⊤, ◌<◌, nat_lt, length, option_map, if◌then◌else◌}
 use Rattle.script.specs.Script.{first_bad_line}
 use Rattle.script.specs.declared.fault.ScriptFault.{ScriptFault}
 use Rattle.script.specs.declared.fault.ScriptFault.TheVariants as script
@@ -42,6 +42,15 @@ IsUnread NotHex = ⊥
 IsUnread Read = ⊤
 IsUnread Write = ⊥
 IsUnread NoMemory = ⊤
+
+-- why a script is not read whole: it has too many octets, or what any text may have
+abbrev pub IsScriptUnread : List ℕ → TextFault → Type 0
+IsScriptUnread octets (Line n) = ⊥
+IsScriptUnread octets TooLong = 1000000 < length octets
+IsScriptUnread octets NotHex = ⊥
+IsScriptUnread octets Read = ⊤
+IsScriptUnread octets Write = ⊥
+IsScriptUnread octets NoMemory = ⊤
 
 -- the outcome is what a script's octets ask for
 abbrev pub IsDue : {A : Type 0} → List ℕ → Result A TextFault → Type 0

@@ -2,7 +2,7 @@
 
 ghost use Rattle.std.specs.Prelude.{◌≡◌, ◌⊎◌, true, ◌≤◌, ◌<◌, length, vec_len, IfOk, IfErr, IfSome};
 ghost use Rattle.hostd.specs.Streams.{counted, AddsRead};
-ghost use Rattle.hostd.specs.Sim.{read_fails, is_before_run, IsFaultDue, IsUnread};
+ghost use Rattle.hostd.specs.Sim.{read_fails, is_before_run, IsFaultDue, IsUnread, IsScriptUnread};
 
 use crate::fault::TextFault;
 use crate::streams::Source;
@@ -31,6 +31,7 @@ pub fn whole_script<R: Source>(alloc: Global, script: &mut R) -> Result<Vec<u8>,
     ensures short { IfOk result (λ octets. length octets.items ≤ MOST_OCTETS) }
     ensures all { IfOk result (λ octets. IfSome (R.remaining script.old) (λ told. octets.items ≡ told)) }
     ensures faults { IfErr result (λ fault. is_before_run fault ≡ true ⊎ fault ≡ TextFault.NoMemory) }
+    ensures unread { IfErr result (λ fault. IfSome (R.remaining script.old) (λ told. IsScriptUnread told fault)) }
     ensures due { IfErr result (λ fault. IfSome (R.remaining script.old) (λ told. IsFaultDue told fault)) }
 {
     let mut octets = Vec::new(alloc);
