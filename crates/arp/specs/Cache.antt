@@ -2,7 +2,7 @@
 -- are flushed, and one request a second for an address, are RFC 1122 section 2.3.2.1. The twenty minutes, the 64 pairs, the 64
 -- notes and which pair gives way are this stack's own.
 use Rattle.std.specs.Prelude.{◌≡◌, ◌<◌, ℕ, Bool, true, false, not, ◌&&◌, nat_lt, nat_le, if◌then◌else◌, List, [], ◌∷◌, ◌++◌, length, map, filter, find, remove, Option, Some, None, option_map}
-use Rattle.std.specs.List.{list_any, list_all, position_or_len}
+use Rattle.std.specs.List.{list_any, list_all, position_or_len, AllByRecursion}
 use Rattle.ether.specs.declared.mac.Mac.{Mac}
 use Rattle.ipv4.specs.declared.addr.Addr.{Addr}
 use Rattle.ipv4.specs.Addresses.{same_addr}
@@ -18,6 +18,10 @@ use Rattle.arp.specs.declared.packet.Operation.TheVariants.{Request, Reply}
 pub record Cache : Type 0 where
   pub pairs : List Neighbour
   pub asked : List Asked
+
+-- each MAC that is kept has the width of one
+abbrev pub HasWholeMacs : Cache → Type 0
+HasWholeMacs cache = AllByRecursion (λ (pair : Neighbour). length pair.mac.0 ≡ 6) cache.pairs
 
 -- nothing was heard, and nothing was asked
 abbrev pub empty : Cache

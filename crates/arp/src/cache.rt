@@ -1,8 +1,8 @@
 //! What a host knows of its neighbours.
 
 ghost use Rattle.std.specs.Prelude.{◌≡◌, ◌<◌, ◌&&◌, length};
-ghost use Rattle.std.specs.List.{list_any};
-ghost use Rattle.arp.specs.Cache.{empty, is_pair_of, is_note_of, updated, added, longest_unheard, pairs_after, is_request_for, after_hear, look, after_age, is_live_note, live_notes, after_ask, may_ask, has_place_for, IsNextAsk};
+ghost use Rattle.std.specs.List.{list_any, AllByRecursion};
+ghost use Rattle.arp.specs.Cache.{empty, is_pair_of, is_note_of, updated, added, longest_unheard, pairs_after, is_request_for, after_hear, look, after_age, is_live_note, live_notes, after_ask, may_ask, has_place_for, IsNextAsk, HasWholeMacs};
 ghost use Rattle.arp.specs.Waits.{later, own_end, first_end, room_end, next_ask};
 
 use crate::entry::{Asked, Neighbour};
@@ -107,6 +107,29 @@ impl ArpCache {
     {
         self.pairs.retain(|pair| pair.is_live(now));
     }
+
+    /// What each pair keeps of itself, for the contracts above; it changes nothing.
+    pub fn sound(&self)
+        ensures { HasWholeMacs self.now }
+    {
+        whole_macs(&self.pairs);
+    }
+}
+
+/// Each pair has a whole MAC.
+fn whole_macs(pairs: &[Neighbour])
+    ensures { AllByRecursion (λ pair. length pair.mac.0 ≡ 6) pairs.now }
+{
+    for pair in pairs {
+        is_whole_mac(pair.mac);
+    }
+}
+
+/// A MAC has six octets.
+fn is_whole_mac(mac: Mac)
+    ensures { length mac.0 ≡ 6 }
+{
+    let _ = mac;
 }
 
 /// Learns the sender of a packet: a known address is updated, and another is added where the packet is for us.

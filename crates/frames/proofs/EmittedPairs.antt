@@ -5,7 +5,7 @@ use Rattle.ether.specs.Frame.{padding, sent as frame_sent}
 use Rattle.ether.proofs.Answering.{sent_spelled as frame_spelled}
 use Rattle.ether.proofs.Reading.{read_ok as frame_found}
 use Rattle.arp.specs.declared.packet.ArpPacket.{ArpPacket}
-use Rattle.arp.specs.Packet.{HasWidths, spelling as packet_octets}
+use Rattle.arp.specs.Packet.{spelling as packet_octets}
 use Rattle.ipv4.specs.Datagram.{Datagram, IsDatagram, spelling as datagram_octets}
 use Rattle.ipv4.proofs.Answering.{sent_spelled as datagram_spelled}
 use Rattle.tcp_segment.specs.declared.head.Head.{Head}
@@ -39,9 +39,9 @@ segment_pairs h head octets can destination source most =
       ends = refl;
     })
 
-pub packet_pairs : (p : ArpPacket) → HasWidths p → pair_in (packet_frame p) ≡ None
+pub packet_pairs : (p : ArpPacket) → length p.sender_mac.0 ≡ 6 → length p.target_mac.0 ≡ 6 → pair_in (packet_frame p) ≡ None
 unfolding pair_in
-packet_pairs p widths =
+packet_pairs p sender target =
     let head : EtherHead = record { destination = packet_destination p.operation p.target_mac; source = p.sender_mac; kind = arp_type } in
-    let spells = frame_spelled head (packet_octets p) (destination_len p.operation p.target_mac widths.target_mac) widths.sender_mac (omega arith) in
+    let spells = frame_spelled head (packet_octets p) (destination_len p.operation p.target_mac target) sender (omega arith) in
     ap frame_pair (frame_found (packet_frame p) (frame_sent head (packet_octets p)) spells)

@@ -7,3 +7,5 @@ pub mod PairLemmas
 pub mod Carried
 pub mod CarriedPairs
 pub mod EmittedPairs
+pub mod Hearers
+pub mod PairReading

@@ -60,7 +60,7 @@ of_datagram ours r (Ok d) heard_is = by_ends (same_addr d.destination ours) (may
     by_ends false source is e = cc
 
 -- a packet is no segment
-of_packet : (ours : Addr) (r : Received) (read : Option ArpPacket) → packet_heard ours read ≡ Ok (Tcp r) → ⊥
+pub of_packet : (ours : Addr) (r : Received) (read : Option ArpPacket) → packet_heard ours read ≡ Ok (Tcp r) → ⊥
 of_packet ours r None e = cc
 of_packet ours r (Some p) heard_is = by_sender (may_send ours p.sender_addr) heard_is
   where

@@ -1,6 +1,6 @@
 //! Laws of the definitions that the contracts of this crate cite: each is the contract of a function that does nothing.
 
-ghost use Rattle.std.specs.Prelude.{◌≡◌, ◌↔◌, ℕ, ◌+◌, ◌*◌, ◌<◌, ◌≤◌, List, length, All, Some, None, Result, Ok};
+ghost use Rattle.std.specs.Prelude.{◌≡◌, ◌≢◌, ◌↔◌, true, ℕ, ◌+◌, ◌*◌, ◌<◌, ◌≤◌, List, length, All, Some, None, Result, Ok};
 ghost use Rattle.ether.specs.declared.mac.Mac.{Mac};
 ghost use Rattle.arp.specs.declared.packet.ArpPacket.{ArpPacket};
 ghost use Rattle.arp.specs.declared.packet.Operation.TheVariants.{Request, Reply};
@@ -15,7 +15,7 @@ ghost use Rattle.frames.specs.declared.meaning.Meaning.{Meaning};
 ghost use Rattle.frames.specs.declared.meaning.Received.{Received};
 ghost use Rattle.frames.specs.declared.meaning.Meaning.TheVariants.{Arp, Tcp};
 ghost use Rattle.frames.specs.Heard.{IsHeard, MaySend};
-ghost use Rattle.frames.specs.Meaning.{heard};
+ghost use Rattle.frames.specs.Meaning.{heard, may_send};
 ghost use Rattle.frames.specs.Pairs.{CarryPair, pair_in, pair_between};
 ghost use Rattle.frames.specs.Sent.{segment_frame, packet_frame};
 
@@ -58,11 +58,28 @@ pub fn emitted_packets_are_heard()
         → heard packet.target_mac ours (packet_frame packet) ≡ Ok (Arp packet) }
 {}
 
+/// A segment that is heard is for the host that hears it, and comes from another, from an address that a host may have (RFC 1122 section
+/// 3.2.1.3).
+pub fn heard_from_others()
+    ensures { (mac : Mac) (ours : Addr) (octets : List ℕ) (received : Received) → heard mac ours octets ≡ Ok (Tcp received) → may_send ours received.source ≡ true }
+{}
+
+/// Whoever hears a segment in a frame that goes out is the host at the address that it is for, and hears the very segment that is meant, from
+/// the address that sends it; and nobody hears a segment in the frame of an ARP packet.
+pub fn heard_as_sent()
+    ensures segment { (h : FrameHead) (head : Head) (octets : List ℕ) (mac : Mac) (ours : Addr) (received : Received) → CanBeSent h.from h.to head octets
+        → length h.destination.0 ≡ 6 → length h.source.0 ≡ 6 → 4 * sent_offset head + length octets ≤ 1480
+        → heard mac ours (segment_frame h (sent_octets h.from h.to head octets)) ≡ Ok (Tcp received)
+        → (ours ≡ h.to) × (received ≡ record { source = h.from; segment = sent_segment head octets }) }
+    ensures packet { (packet : ArpPacket) (mac : Mac) (ours : Addr) (received : Received) → length packet.sender_mac.0 ≡ 6 → length packet.target_mac.0 ≡ 6
+        → heard mac ours (packet_frame packet) ≢ Ok (Tcp received) }
+{}
+
 /// What goes out carries the pair of its two ends, whoever it is for, where it is a segment, and no pair where it is an ARP packet
 /// (RFC 9293 section 4).
 pub fn emitted_pairs()
     ensures segment { (h : FrameHead) (head : Head) (octets : List ℕ) → CanBeSent h.from h.to head octets
         → length h.destination.0 ≡ 6 → length h.source.0 ≡ 6 → 4 * sent_offset head + length octets ≤ 1480
         → pair_in (segment_frame h (sent_octets h.from h.to head octets)) ≡ Some (pair_between h.from h.to (sent_segment head octets)) }
-    ensures packet { (packet : ArpPacket) → HasWidths packet → pair_in (packet_frame packet) ≡ None }
+    ensures packet { (packet : ArpPacket) → length packet.sender_mac.0 ≡ 6 → length packet.target_mac.0 ≡ 6 → pair_in (packet_frame packet) ≡ None }
 {}

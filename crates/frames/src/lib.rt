@@ -6,9 +6,11 @@ mod drop;
 mod emission;
 pub mod laws;
 mod meaning;
+mod pairs;
 mod reading;
 
 pub use drop::DropCause;
 pub use emission::{FrameHead, emit_arp};
 pub use meaning::{Meaning, Received};
+pub use pairs::pair_in;
 pub use reading::read;

@@ -126,7 +126,7 @@ fn may_send(addr: Addr, source: Addr) -> bool
 }
 
 /// Whether a datagram is a part of one.
-fn is_fragment(datagram: &Ipv4View<'_>) -> bool
+pub(crate) fn is_fragment(datagram: &Ipv4View<'_>) -> bool
     ensures { result ≡ is_fragment datagram.now }
 {
     datagram.more_fragments() || datagram.offset() != 0

@@ -3,3 +3,4 @@ pub mod Framed
 pub mod Waits
 pub mod Heard
 pub mod Deadlines
+pub mod KnownMacs

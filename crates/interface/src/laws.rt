@@ -23,8 +23,9 @@ ghost use Rattle.interface.specs.declared.reply.Reply.TheVariants.{Arp, Reset};
 ghost use Rattle.interface.specs.declared.reply.Waiting.{Waiting};
 ghost use Rattle.interface.specs.declared.way.Way.TheVariants.{To, Ask, Waits};
 ghost use Rattle.interface.specs.InterfaceView.{InterfaceView};
+ghost use Rattle.interface.specs.Sound.{IsSound};
 ghost use Rattle.interface.specs.Routing.{pick, next_hop};
-ghost use Rattle.interface.specs.Ways.{knows_hop, way};
+ghost use Rattle.interface.specs.Ways.{hop_mac, knows_hop, way};
 ghost use Rattle.interface.specs.Replies.{is_due};
 ghost use Rattle.interface.specs.Emission.{asked, way_at, len_by, frame_at, after_emission, segment_frame_to, request_frame, reply_frame};
 ghost use Rattle.interface.specs.Timing.{end_of, after_tick, deadline_of, least_deadline};
@@ -32,6 +33,11 @@ ghost use Rattle.interface.specs.Timing.{end_of, after_tick, deadline_of, least_
 /// The hop that a table of routes picks for an address is the one that `Routes::pick` answers (RFC 4632 section 5.1).
 pub fn one_route()
     ensures { (table : List Route) (addr : Addr) (hop : Option Hop) → IsTable table → Picks table addr hop → pick table addr ≡ hop }
+{}
+
+/// The MAC of a next hop that is known is a whole one, as `Interface::sound` says of each that is kept.
+pub fn known_macs_are_whole()
+    ensures { (h : InterfaceView) (now : Moment) (to : Addr) (mac : Mac) → IsSound h → hop_mac h now to ≡ Some mac → length mac.0 ≡ 6 }
 {}
 
 /// Whether a hop is known doesn't depend on whether the cache was aged at that moment (RFC 1122 section 2.3.2.1).

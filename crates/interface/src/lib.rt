@@ -2,7 +2,7 @@
 //! until a frame can carry them (RFC 826, RFC 1122 sections 2.3.2 and 3.3.1). It knows no socket and no connection.
 #![tactic(auto)]
 
-ghost use Rattle.std.specs.Prelude.{◌≡◌, position};
+ghost use Rattle.std.specs.Prelude.{◌≡◌, true, position};
 
 mod emission;
 mod hop;
@@ -19,7 +19,7 @@ use ether::Mac;
 use hop::{hop_mac, next_hop, way_over};
 use ipv4::Addr;
 pub use reply::QueueFault;
-use reply::{Reply, Waiting};
+use reply::{Reply, ResetHead, Waiting};
 use routes::Routes;
 use std::marker::Model;
 use tcp_segment::Head;
@@ -118,14 +118,22 @@ impl Interface {
         self.owe(is_owed, now, Reply::Arp(packet.reply(self.mac)))
     }
 
-    /// Queues a reset to an address, a segment with this header and no octets (RFC 9293 section 3.5.2). Where no route leads there
-    /// nothing is queued. NoRoom where 16 replies wait already. A refusal changes nothing.
+    /// Queues a reset to an address, a segment with this header, which has RST, and no octets (RFC 9293 section 3.5.2). Where no route
+    /// leads there nothing is queued. NoRoom where 16 replies wait already. A refusal changes nothing.
     pub fn answer(&mut self, now: Moment, to: Addr, head: Head) -> Result<(), QueueFault>
+        requires { head.flags.rst ≡ true }
         ensures after { self.new ≡ after_answer self.old now to head }
         ensures answer { result ≡ answer_result self.old to }
     {
         let is_owed = self.is_routed(to);
-        self.owe(is_owed, now, Reply::Reset { to, head })
+        self.owe(
+            is_owed,
+            now,
+            Reply::Reset {
+                to,
+                head: ResetHead::new(head),
+            },
+        )
     }
 
     /// The place of the first reply that waits and for which a frame can go out now, the reply or a request for its hop; none where every

@@ -1,12 +1,13 @@
 //! The control replies that wait to go out.
 
-ghost use Rattle.std.specs.Prelude.{◌≡◌};
+ghost use Rattle.std.specs.Prelude.{◌≡◌, true};
 ghost use Rattle.interface.specs.Timing.{sought, end_of, is_over};
 
 use arp::ArpPacket;
 use clock::Moment;
 use ether::Mac;
 use ipv4::Addr;
+use std::marker::Model;
 use tcp_segment::Head;
 use thiserror::Error;
 
@@ -21,13 +22,50 @@ pub enum QueueFault {
     NoRoom,
 }
 
+/// The header of a reset, which is a segment without octets (RFC 9293 section 3.5.2).
+#[derive(Clone, Copy, PartialEq, Eq, Debug)]
+pub(crate) struct ResetHead {
+    head: Head,
+}
+
+impl Model for ResetHead {
+    ghost use Rattle.std.specs.Prelude.{◌≡◌, true};
+    ghost use Rattle.tcp_segment.specs.declared.head.Head.{Head};
+
+    ghost Value = { Head };
+
+    ghost view = { λ r. r.head };
+
+    ghost inverse = { λ head. record { head = head } };
+
+    ghost invariant = { λ r. r.head.flags.rst ≡ true };
+}
+
+impl ResetHead {
+    /// The header of a segment with RST.
+    pub(crate) fn new(head: Head) -> ResetHead
+        requires { head.flags.rst ≡ true }
+        ensures { result ≡ head }
+    {
+        ResetHead { head }
+    }
+
+    /// The header that goes out.
+    pub(crate) fn head(&self) -> Head
+        ensures value { result ≡ self.now }
+        ensures reset { result.flags.rst ≡ true }
+    {
+        self.head
+    }
+}
+
 /// What the stack answers by itself.
 #[derive(Clone, Copy, PartialEq, Eq, Debug)]
 pub(crate) enum Reply {
     /// An ARP reply (RFC 826).
     Arp(ArpPacket),
-    /// A reset to an address: a segment with this header and no octets (RFC 9293 section 3.5.2).
-    Reset { to: Addr, head: Head },
+    /// A reset to an address, with this header (RFC 9293 section 3.5.2).
+    Reset { to: Addr, head: ResetHead },
 }
 
 impl Reply {

@@ -1,17 +1,15 @@
 //! What an interface keeps of itself.
 
-ghost use Rattle.std.specs.Prelude.{◌≡◌, [], length};
+ghost use Rattle.std.specs.Prelude.{◌≡◌, length};
 ghost use Rattle.std.specs.List.{AllByRecursion};
 ghost use Rattle.arp.specs.Packet.{HasWidths};
-ghost use Rattle.tcp_segment.specs.Sent.{CanBeSent};
-ghost use Rattle.interface.specs.Sound.{IsSoundReply};
+ghost use Rattle.interface.specs.Sound.{IsSoundReply, IsSoundReset};
 
 use crate::Interface;
-use crate::reply::{Reply, Waiting};
+use crate::reply::{Reply, ResetHead, Waiting};
 use arp::ArpPacket;
 use ether::Mac;
 use ipv4::Addr;
-use tcp_segment::Head;
 
 impl Interface {
     ghost use Rattle.interface.specs.Sound.{IsSound};
@@ -22,6 +20,7 @@ impl Interface {
     {
         is_whole_mac(self.mac);
         is_whole(self.addr);
+        self.cache.sound();
         sound_replies(&self.replies, self.addr);
     }
 }
@@ -41,7 +40,7 @@ fn sound_reply(reply: &Reply, own: Addr)
 {
     match *reply {
         Reply::Arp(packet) => has_widths(packet),
-        Reply::Reset { to, head } => can_be_sent(own, to, head),
+        Reply::Reset { to, head } => sound_reset(own, to, head),
     }
 }
 
@@ -55,13 +54,13 @@ fn has_widths(packet: ArpPacket)
     is_whole(packet.target_addr);
 }
 
-/// A header without octets behind it can be sent.
-fn can_be_sent(own: Addr, to: Addr, head: Head)
-    ensures { CanBeSent own to head [] }
+/// A reset can be sent, and is one.
+fn sound_reset(own: Addr, to: Addr, reset: ResetHead)
+    ensures { IsSoundReset own to reset }
 {
     is_whole(own);
     is_whole(to);
-    let _ = head.len();
+    let _ = reset.head().len();
 }
 
 /// An address has four octets.

@@ -25,7 +25,7 @@ returns-in-Reset-clause-octets c =
     let h : InterfaceView = c.args.self.now in
     let mac : Mac = c.args.mac in
     let to : Addr = c.in-Reset.to in
-    let head : Head = c.in-Reset.head in
+    let head : Head = c.head.result in
     let is_n : n ≡ 4 * sent_offset head + 0 = c.emit-segment_len.ensures.len in
     let most : 4 * sent_offset head ≤ 24 = offset_most head.flags.syn in
     let none : n - 4 * sent_offset head ≡ 0 = omega (arith, is_n) in
@@ -44,4 +44,5 @@ returns-in-Reset-clause-octets c =
     ∙ ap (λ (k : ℕ). segment_frame_to h mac to whole ++ drop k before) sixty
     ∙ ap (λ (l : List ℕ). segment_frame_to h mac to whole ++ l) kept
     ∙ ap (λ (g : InterfaceView). segment_frame_to h mac to (sent_octets g.addr to head []) ++ drop 60 out) c.self.view_is
+    ∙ ap (λ (x : Head). segment_frame_to h mac to (sent_octets h.addr to x []) ++ drop 60 out) c.head.ensures.value
     ∙ ap (λ (r : Reply). reply_frame h mac r ++ drop 60 out) (sym c.in-Reset.is)

@@ -1,7 +1,6 @@
 -- One reply more is sound, and at the end all are.
-use Rattle.std.proofs.Common.{◌≡◌, ◌<◌, ℕ, length, arith, subst}
-use Rattle.std.proofs.lemmas.List.{get_or_default}
-use Rattle.std.proofs.lemmas.List.Elements.{AllWithin-more, AllWithin-none, All-from_all_within, recursion_from_All}
+use Rattle.std.proofs.Common.{◌≡◌, ℕ, length, arith, subst}
+use Rattle.std.proofs.lemmas.List.Elements.{at_read, AllWithin-more, AllWithin-none, All-from_all_within, recursion_from_All}
 use Rattle.std.specs.List.{AllWithin}
 use Rattle.ipv4.specs.declared.addr.Addr.{Addr}
 use Rattle.interface.specs.declared.reply.Waiting.{Waiting}
@@ -16,9 +15,8 @@ loop-waiting-init c = AllWithin-none (IsSoundWaiting c.args.own) c.args.replies.
 
 pub loop-waiting-preserved : goal.loop-waiting-preserved
 loop-waiting-preserved c =
-    let within : c.loop-waiting.waiting-index < length c.args.replies.now = omega arith in
     AllWithin-more (IsSoundWaiting c.args.own) c.args.replies.now 0 c.loop-waiting.waiting-index c.loop-waiting.invariant
-    (λ d. subst (λ (w : Waiting). IsSoundReply c.args.own w.reply) (get_or_default c.args.replies.now c.loop-waiting.waiting-index _ d within) c.sound_reply.ensures)
+    (at_read c.args.replies.now (IsSoundWaiting c.args.own) c.loop-waiting.waiting-index c.waiting-item.result (omega arith) c.waiting-item.is c.sound_reply.ensures)
 
 pub returns : goal.returns
 returns c =
