@@ -1,137 +1,70 @@
--- What a frame that arrives makes of a host (RFC 9293 section 3.10.7).
-use Rattle.std.specs.Prelude.{◌≡◌, ℕ, ◌+◌, Bool, ◌&&◌, ◌||◌, not, nat_le, ◌==◌, if◌then◌else◌, List, [], ◌∷◌, ◌++◌, length, count_by, Option, Some, None, find, Result, Ok, Err, MatchResult}
-use Rattle.ipv4.specs.declared.addr.Endpoint.{Endpoint}
+-- What a frame that arrives makes of a host: what its octets are to the host is found layer by layer, from the lowest up, and the layer
+-- that they reach takes them (RFC 826, RFC 1122 section 3.2.1, RFC 9293 section 3.10.7).
+use Rattle.std.specs.Prelude.{◌≡◌, ℕ, Bool, if◌then◌else◌, List, Option, None, Result, Ok, Err, MatchResult}
+use Rattle.ipv4.specs.declared.addr.Addr.{Addr}
 use Rattle.ipv4.specs.declared.addr.Pair.{Pair}
-use Rattle.ipv4.specs.Addresses.{pair_of}
-use Rattle.tcp_segment.specs.declared.flags.Flags.{Flags}
-use Rattle.tcp_segment.specs.declared.head.Head.{Head}
-use Rattle.tcp_segment.specs.declared.fault.SegmentFault.{SegmentFault}
-use Rattle.tcp_segment.specs.declared.fault.SegmentFault.TheVariants as fault
-use Rattle.tcp_segment.specs.Segment.{Segment, IsParsed}
-use Rattle.tcp_state.specs.declared.connection.Fate.{Fate}
-use Rattle.tcp_state.specs.declared.connection.Fate.TheVariants.{Rejected}
 use Rattle.clock.specs.declared.moment.Moment.{Moment}
-use Rattle.tcp_state.specs.Arrival.{opened_passively}
-use Rattle.host.specs.declared.entry.Entry.{Entry}
-use Rattle.host.specs.declared.refusal.DropCause.{DropCause}
-use Rattle.host.specs.declared.refusal.DropCause.TheVariants.{UpperHeader, UpperSum, NoRoom}
-use Rattle.host.specs.Entries.{is_between, is_listening_at, is_waiting_at, backlog_of, role_after_segment, fate_of, new_waiting, entries_after_step}
-use Rattle.host.specs.HostView.{HostView, later_moment}
-use Rattle.host.specs.Replies.{reset_at_ack, answer_to, answer_at_listener}
-use Rattle.host.specs.Calls.{is_table_full}
+use Rattle.tcp_segment.specs.Segment.{Segment}
+use Rattle.frames.specs.declared.drop.DropCause.{DropCause}
+use Rattle.frames.specs.declared.drop.DropCause.TheVariants.{NoRoom}
+use Rattle.frames.specs.declared.meaning.Meaning.{Meaning}
+use Rattle.frames.specs.declared.meaning.Meaning.TheVariants.{Arp, Tcp, Other}
+use Rattle.frames.specs.Meaning.{heard}
+use Rattle.interface.specs.declared.reply.QueueFault.{QueueFault}
+use Rattle.interface.specs.Ways.{is_routed}
+use Rattle.interface.specs.Replies.{after_heard, heard_answer, after_answer, answer_result}
+use Rattle.sockets.specs.Arrival.{Arrival, Becomes, Opens, NoPlace, Answers, arrival, pair_opened}
+use Rattle.sockets.specs.SocketsView.{later_moment}
+use Rattle.host.specs.HostView.{HostView, with_interface, with_sockets}
 
--- our end and the neighbour's of a segment that arrived
-abbrev pub local_end : HostView → Segment → Endpoint
-local_end h s = record { addr = h.addr; port = s.destination }
+-- a full queue of replies by its name as a cause
+abbrev pub queue_answer : Result (Unit {0}) QueueFault → Result (Unit {0}) DropCause
+queue_answer (Ok done) = Ok tt
+queue_answer (Err fault) = Err NoRoom
 
-abbrev pub peer_end : HostView → Segment → Endpoint
-peer_end h s = record { addr = h.neighbour; port = s.source }
+-- a connection isn't opened to an address that no route leads to
+abbrev pub arrival_by_route : Bool → Arrival → Arrival
+arrival_by_route routed (Opens next) = if routed then Opens next else NoPlace
+arrival_by_route routed (Becomes next) = Becomes next
+arrival_by_route routed NoPlace = NoPlace
+arrival_by_route routed (Answers head) = Answers head
 
--- a segment with SYN and neither RST nor ACK opens a connection at a listener
-abbrev pub is_opening : Flags → Bool
-is_opening flags = flags.syn && not flags.rst && not flags.ack
+-- what a segment from an address leads to
+abbrev pub segment_arrival : HostView → Moment → ℕ → Addr → Segment → Arrival
+segment_arrival h moment isn source s = arrival_by_route (is_routed h.interface source) (arrival h.sockets moment isn source s)
 
--- no place at this listener: as many wait as its backlog allows, or the table is full, or the last id is given
-abbrev pub has_no_place : HostView → Entry → Bool
-has_no_place h listener = nat_le (backlog_of listener.role) (count_by (is_waiting_at listener.id) h.entries) || is_table_full h
+-- The table becomes what the segment leads to. One that is to be answered joins the control replies, where there is room, and the table stays.
+abbrev pub MeetsSegment : Arrival → HostView → Moment → Addr → Result (Unit {0}) DropCause → HostView → Type 0
+MeetsSegment (Becomes next) h moment source answer new = (answer ≡ Ok tt) × (new ≡ with_sockets h next)
+MeetsSegment (Opens next) h moment source answer new = MatchResult answer (λ _. new ≡ with_sockets h next) (λ cause. (cause ≡ NoRoom) × (new ≡ h))
+MeetsSegment NoPlace h moment source answer new = (answer ≡ Err NoRoom) × (new ≡ h)
+MeetsSegment (Answers head) h moment source answer new =
+    (answer ≡ queue_answer (answer_result h.interface source)) × (new ≡ with_interface h (after_answer h.interface moment source head))
 
--- a connection in SYN-RECEIVED at the end of the table, which waits at the listener
-abbrev pub after_opening : HostView → ℕ → Entry → Segment → HostView
-after_opening h isn listener s = record h {
-  last_id = h.last_id + 1;
-  entries = h.entries ++ new_waiting (record { 0 = h.last_id + 1 }) listener.id (opened_passively (local_end h s) (peer_end h s) isn s) ∷ [];
-}
+-- An ARP packet is learnt, and answered where it asks for our address; a segment goes to the table; another datagram is taken, and changes
+-- nothing; what is dropped changes nothing.
+abbrev pub MeetsHeard : Result Meaning DropCause → HostView → Moment → ℕ → Result (Unit {0}) DropCause → HostView → Type 0
+MeetsHeard (Ok (Arp packet)) h moment isn answer new =
+    (answer ≡ queue_answer (heard_answer h.interface packet)) × (new ≡ with_interface h (after_heard h.interface moment packet))
+MeetsHeard (Ok (Tcp received)) h moment isn answer new =
+    MeetsSegment (segment_arrival h moment isn received.source received.segment) h moment received.source answer new
+MeetsHeard (Ok (Other datagram)) h moment isn answer new = (answer ≡ Ok tt) × (new ≡ h)
+MeetsHeard (Err cause) h moment isn answer new = (answer ≡ Err cause) × (new ≡ h)
 
--- What a segment leads to: the host becomes this, or it does where memory is there, or there is no place.
-pub data Arrival : Type 0 where
-  Becomes : HostView → Arrival
-  Opens : HostView → Arrival
-  NoPlace : Arrival
+-- what the octets of a frame are to the host
+abbrev pub heard_by : HostView → List ℕ → Result Meaning DropCause
+heard_by h octets = heard h.interface.mac h.interface.addr octets
 
--- the reply joins those that wait, where fewer than 16 do; nothing changes where there is none
-abbrev pub arrival_with_reply : HostView → Option Head → Arrival
-arrival_with_reply h None = Becomes h
-arrival_with_reply h (Some reply) = if length h.replies == 16 then NoPlace else Becomes (record h { replies = h.replies ++ reply ∷ [] })
-
--- a segment that opens a connection at this listener
-abbrev pub opening : HostView → ℕ → Segment → Entry → Arrival
-opening h isn s listener = if has_no_place h listener then NoPlace else Opens (after_opening h isn listener s)
-
--- a segment for a listener and no connection (section 3.10.7.2): it opens one, or is answered, or changes nothing
-abbrev pub arrival_at : HostView → ℕ → Segment → Entry → Arrival
-arrival_at h isn s listener = if is_opening s.flags then opening h isn s listener else arrival_with_reply h (answer_at_listener s)
-
--- a segment for no connection goes to the listener of its destination port, and is answered where there is none
-abbrev pub arrival_alone : HostView → ℕ → Segment → Arrival
-arrival_alone h isn s = of_listener (find (is_listening_at s.destination) h.entries)
-  where
-    of_listener : Option Entry → Arrival
-    of_listener None = arrival_with_reply h (answer_to s)
-    of_listener (Some listener) = arrival_at h isn s listener
-
--- a segment for a connection: it takes it, at the later of the moment and the kept one, or refuses it, which is answered by a reset
-abbrev pub arrival_at_connection : HostView → Moment → Segment → Fate → Arrival
-arrival_at_connection h now s Rejected = arrival_with_reply h (Some (reset_at_ack s))
-arrival_at_connection h now s fate = Becomes (record h { entries = entries_after_step fate (is_between (local_end h s) (peer_end h s)) (role_after_segment (later_moment h now) s) h.entries })
-
--- a segment goes to the connection of its two ends, in any state but CLOSED
-abbrev pub arrival : HostView → Moment → ℕ → Segment → Arrival
-arrival h now isn s = of_entry (find (is_between (local_end h s) (peer_end h s)) h.entries)
-  where
-    of_entry : Option Entry → Arrival
-    of_entry (Some e) = arrival_at_connection h now s (fate_of s e.role)
-    of_entry None = arrival_alone h isn s
-
--- the pair that a segment leads to the opening of
-abbrev pub opened_by : HostView → Segment → Arrival → Option Pair
-opened_by h s (Opens next) = Some (pair_of (local_end h s) (peer_end h s))
-opened_by h s (Becomes next) = None
-opened_by h s NoPlace = None
-
--- the same by its tests: the pair of a segment that opens a connection where none is, at a listener that has a place
-abbrev pub pair_at_listener : HostView → Segment → Option Pair
-pair_at_listener h s = of_listener (find (is_listening_at s.destination) h.entries)
-  where
-    of_listener : Option Entry → Option Pair
-    of_listener None = None
-    of_listener (Some listener) = if has_no_place h listener then None else Some (pair_of (local_end h s) (peer_end h s))
-
-abbrev pub pair_opened : HostView → Segment → Option Pair
-pair_opened h s = of_entry (find (is_between (local_end h s) (peer_end h s)) h.entries)
-  where
-    of_entry : Option Entry → Option Pair
-    of_entry (Some e) = None
-    of_entry None = if is_opening s.flags then pair_at_listener h s else None
-
--- what is foreseen of a frame: the pair that its segment opens, and none where the octets are no segment
-abbrev pub foreseen : HostView → Result Segment SegmentFault → Option Pair
-foreseen h (Ok s) = pair_opened h s
-foreseen h (Err fault) = None
-
-abbrev pub IsForeseen : HostView → List ℕ → Option Pair → Type 0
-IsForeseen h octets pair = (parsed : Result Segment SegmentFault) × IsParsed h.neighbour h.addr octets parsed × (pair ≡ foreseen h parsed)
-
--- the answer and the new host are those that a segment leads to
-abbrev pub Meets : Arrival → HostView → Result (Unit {0}) DropCause → HostView → Type 0
-Meets (Becomes next) h answer new = (answer ≡ Ok tt) × (new ≡ next)
-Meets (Opens next) h answer new = MatchResult answer (λ _. new ≡ next) (λ cause. (cause ≡ NoRoom) × (new ≡ h))
-Meets NoPlace h answer new = (answer ≡ Err NoRoom) × (new ≡ h)
-
--- a fault of the segment by its name as a cause
-abbrev pub cause_of : SegmentFault → DropCause
-cause_of fault.UpperHeader = UpperHeader
-cause_of fault.UpperSum = UpperSum
-
--- a frame: the octets of a segment from the neighbour to us, or dropped by their first fault, and then nothing changes
-abbrev pub MeetsParsed : Result Segment SegmentFault → HostView → Moment → ℕ → Result (Unit {0}) DropCause → HostView → Type 0
-MeetsParsed (Ok s) h now isn answer new = Meets (arrival h now isn s) h answer new
-MeetsParsed (Err f) h now isn answer new = (answer ≡ Err (cause_of f)) × (new ≡ h)
-
+-- a frame, at the later of the moment and the kept one
 abbrev pub IsDelivered : HostView → Moment → ℕ → List ℕ → Result (Unit {0}) DropCause → HostView → Type 0
-IsDelivered h now isn octets answer new = (parsed : Result Segment SegmentFault) × IsParsed h.neighbour h.addr octets parsed × MeetsParsed parsed h now isn answer new
+IsDelivered h now isn octets answer new = MeetsHeard (heard_by h octets) h (later_moment h.sockets now) isn answer new
 
--- the number of a cause among all that a host may name
-abbrev pub cause_number : DropCause → ℕ
-cause_number UpperHeader = 7
-cause_number UpperSum = 8
-cause_number NoRoom = 9
+-- the pair that octets lead to the opening of, by what they are to the host
+abbrev pub foreseen_of : HostView → Result Meaning DropCause → Option Pair
+foreseen_of h (Ok (Tcp received)) = if is_routed h.interface received.source then pair_opened h.sockets received.source received.segment else None
+foreseen_of h (Ok (Arp packet)) = None
+foreseen_of h (Ok (Other datagram)) = None
+foreseen_of h (Err cause) = None
+
+abbrev pub foreseen : HostView → List ℕ → Option Pair
+foreseen h octets = foreseen_of h (heard_by h octets)

@@ -1,72 +1,103 @@
--- What goes out: the first of the replies, and where none waits the segment that the first entry has due, in order of id.
-use Rattle.std.specs.Prelude.{ℕ, List, [], ◌∷◌, Option, Some, None, option_and_then, find}
-use Rattle.tcp_segment.specs.declared.head.Head.{Head}
+-- What goes out: for the first control reply for which a frame can, and where there is none for the first entry, in order of id, with a
+-- segment due for which one can. Where the MAC of the next hop isn't known, the request for it goes out in that place (RFC 1122 section 2.3.2.2).
+use Rattle.std.specs.Prelude.{ℕ, ◌+◌, max, Bool, List, [], ◌++◌, drop, position, find, Option, Some, None, option_map}
+use Rattle.ether.specs.declared.mac.Mac.{Mac}
+use Rattle.ipv4.specs.declared.addr.Addr.{Addr}
+use Rattle.ipv4.specs.declared.addr.Endpoint.{Endpoint}
 use Rattle.clock.specs.declared.moment.Moment.{Moment}
-use Rattle.host.specs.declared.entry.Entry.{Entry}
-use Rattle.host.specs.Replies.{reply_len, reply_octets, reply_framed}
-use Rattle.host.specs.Entries.{is_due, due_len, due_octets, due_front, role_after_emission, emission_fate_of, entries_after_step}
-use Rattle.host.specs.HostView.{HostView, later_moment}
+use Rattle.interface.specs.declared.way.Way.{Way}
+use Rattle.interface.specs.declared.way.Way.TheVariants.{To, Ask, Waits}
+use Rattle.interface.specs.Ways.{way}
+use Rattle.interface.specs.Replies.{is_due, goes_out}
+use Rattle.interface.specs.Emission.{segment_frame_to, request_frame, asked, way_at, len_by, frame_at, after_emission as after_reply}
+use Rattle.sockets.specs.declared.entry.Entry.{Entry}
+use Rattle.sockets.specs.Entries.{due_peer, sends}
+use Rattle.sockets.specs.SocketsView.{later_moment}
+use Rattle.sockets.specs.Emission.{segment_len, segment_octets, after_segment_sent}
+use Rattle.host.specs.HostView.{HostView, with_interface, with_sockets}
 
--- What the table sends.
+-- what can be done at a moment for a segment that is due to this peer, where one is due
+abbrev pub way_to : HostView → Moment → Option Endpoint → Way
+way_to h moment None = Waits
+way_to h moment (Some peer) = way h.interface moment peer.addr
 
--- the length in octets of the segment that the first entry has due
-abbrev pub segment_len : HostView → Option ℕ
-segment_len h = option_and_then (λ e. due_len e.role) (find is_due h.entries)
+-- a frame can go out for the segment that an entry has due: it, or the request for its hop
+abbrev pub goes_out_from : HostView → Moment → Entry → Bool
+goes_out_from h moment e = goes_out (way_to h moment (due_peer e.role))
 
--- its octets
-abbrev pub segment_octets : HostView → List ℕ
-segment_octets h = of_entry (find is_due h.entries)
-  where
-    of_entry : Option Entry → List ℕ
-    of_entry None = []
-    of_entry (Some e) = due_octets e.role
+-- What goes out: the frame for the reply in this place, that is the reply or the request for its hop; the segment of the first entry for which
+-- one can, in a frame to this MAC and for this address; in its place the request for this hop; or nothing.
+pub data Emission : Type 0 where
+  Replies : ℕ → Emission
+  Sends : Mac → Addr → Emission
+  Asks : Addr → Emission
+  Nothing : Emission
 
--- its octets stand at the front of what was there
-abbrev pub segment_front : HostView → List ℕ → List ℕ
-segment_front h out = of_entry (find is_due h.entries)
-  where
-    of_entry : Option Entry → List ℕ
-    of_entry None = out
-    of_entry (Some e) = due_front e.role out
+-- for a segment to this address
+abbrev pub emission_by : Addr → Way → Emission
+emission_by to (To mac) = Sends mac to
+emission_by to (Ask hop) = Asks hop
+emission_by to Waits = Nothing
 
--- the first entry that has a segment due once it went out: it is taken out where it is over then
-abbrev pub after_segment_sent : HostView → Moment → List Entry
-after_segment_sent h now = of_entry (find is_due h.entries)
-  where
-    of_entry : Option Entry → List Entry
-    of_entry None = h.entries
-    of_entry (Some e) = entries_after_step (emission_fate_of (role_after_emission now e.role)) is_due (role_after_emission now) h.entries
+-- for the segment that is due to this peer
+abbrev pub emission_to : HostView → Moment → Option Endpoint → Emission
+emission_to h moment None = Nothing
+emission_to h moment (Some peer) = emission_by peer.addr (way h.interface moment peer.addr)
 
--- What the host sends.
+-- for an entry
+abbrev pub emission_from : HostView → Moment → Option Entry → Emission
+emission_from h moment None = Nothing
+emission_from h moment (Some e) = emission_to h moment (due_peer e.role)
 
--- the reply is out of the queue; or the entry makes of itself what the emission of its segment does; nothing else changes
+-- for the first entry
+abbrev pub table_emission : HostView → Moment → Emission
+table_emission h moment = emission_from h moment (find (sends (goes_out_from h moment)) h.sockets.entries)
+
+-- for the first reply, where there is one
+abbrev pub emission_at : HostView → Moment → Option ℕ → Emission
+emission_at h moment (Some place) = Replies place
+emission_at h moment None = table_emission h moment
+
+abbrev pub emission : HostView → Moment → Emission
+emission h moment = emission_at h moment (position (is_due h.interface moment) h.interface.replies)
+
+-- the length of a frame with so many octets of a segment: 60 at least
+abbrev pub framed_len : ℕ → ℕ
+framed_len segment = max (34 + segment) 60
+
+-- the length of what goes out, its octets, and what is left of the host
+abbrev pub len_of : HostView → Moment → Emission → Option ℕ
+len_of h moment (Replies place) = Some (len_by (way_at h.interface moment place))
+len_of h moment (Sends mac to) = option_map framed_len (segment_len h.sockets (goes_out_from h moment))
+len_of h moment (Asks hop) = Some 60
+len_of h moment Nothing = None
+
+abbrev pub octets_of : HostView → Moment → Emission → List ℕ
+octets_of h moment (Replies place) = frame_at h.interface moment place
+octets_of h moment (Sends mac to) = segment_frame_to h.interface mac to (segment_octets h.sockets (goes_out_from h moment))
+octets_of h moment (Asks hop) = request_frame h.interface hop
+octets_of h moment Nothing = []
+
+abbrev pub left_by : HostView → Moment → Emission → HostView
+left_by h moment (Replies place) = with_interface h (after_reply h.interface moment place)
+left_by h moment (Sends mac to) = with_sockets h (after_segment_sent h.sockets (goes_out_from h moment) moment)
+left_by h moment (Asks hop) = with_interface h (asked h.interface moment hop)
+left_by h moment Nothing = h
+
+-- at the later of the moment and the kept one
+abbrev pub emission_len : HostView → Moment → Option ℕ
+emission_len h now = let moment = later_moment h.sockets now in len_of h moment (emission h moment)
+
+abbrev pub emission_octets : HostView → Moment → List ℕ
+emission_octets h now = let moment = later_moment h.sockets now in octets_of h moment (emission h moment)
+
 abbrev pub after_emission : HostView → Moment → HostView
-after_emission h now = of_replies h.replies
-  where
-    of_replies : List Head → HostView
-    of_replies (reply ∷ rest) = record h { replies = rest }
-    of_replies [] = record h { entries = after_segment_sent h (later_moment h now) }
+after_emission h now = let moment = later_moment h.sockets now in left_by h moment (emission h moment)
 
--- its length in octets
-abbrev pub emission_len : HostView → Option ℕ
-emission_len h = of_replies h.replies
-  where
-    of_replies : List Head → Option ℕ
-    of_replies (reply ∷ rest) = Some (reply_len reply)
-    of_replies [] = segment_len h
+-- the octets are at the front of what was there
+abbrev pub front_of : List ℕ → List ℕ → Option ℕ → List ℕ
+front_of octets out None = out
+front_of octets out (Some len) = octets ++ drop len out
 
--- its octets
-abbrev pub emission_octets : HostView → List ℕ
-emission_octets h = of_replies h.replies
-  where
-    of_replies : List Head → List ℕ
-    of_replies (reply ∷ rest) = reply_octets h.addr h.neighbour reply
-    of_replies [] = segment_octets h
-
--- its octets stand at the front of what was there
-abbrev pub emission_front : HostView → List ℕ → List ℕ
-emission_front h out = of_replies h.replies
-  where
-    of_replies : List Head → List ℕ
-    of_replies (reply ∷ rest) = reply_framed h.addr h.neighbour reply out
-    of_replies [] = segment_front h out
+abbrev pub emission_front : HostView → Moment → List ℕ → List ℕ
+emission_front h now out = front_of (emission_octets h now) out (emission_len h now)

@@ -1,50 +1,19 @@
--- What a reader sees of a host.
-use Rattle.std.specs.Prelude.{ℕ, nat_lt, if◌then◌else◌, List, [], Option, option_map, find}
-use Rattle.ipv4.specs.declared.addr.Addr.{Addr}
-use Rattle.ipv4.specs.declared.addr.Pair.{Pair}
-use Rattle.tcp_segment.specs.declared.head.Head.{Head}
-use Rattle.clock.specs.declared.moment.Moment.{Moment}
-use Rattle.host.specs.declared.entry.SocketId.{SocketId}
-use Rattle.host.specs.declared.entry.Entry.{Entry}
-use Rattle.host.specs.declared.role.Role.{Role}
-use Rattle.host.specs.Lists.{change_first}
-use Rattle.host.specs.Entries.{is_socket, is_of_pair, with_role}
+-- What a reader sees of a host: the frame side, and the table of sockets and connections over the same address.
+use Rattle.interface.specs.InterfaceView.{InterfaceView, fresh}
+use Rattle.sockets.specs.SocketsView.{SocketsView, new_sockets}
+use Rattle.host.specs.ConfigView.{ConfigView}
 
--- its address and that of its neighbour, the kept moment, the dynamic port given last (65,535 before the first), the id
--- given last (0 before the first), the table in order of id, and the replies that wait, in the order in which they came
 pub record HostView : Type 0 where
-  pub addr : Addr
-  pub neighbour : Addr
-  pub kept : Moment
-  pub last_port : ℕ
-  pub last_id : ℕ
-  pub entries : List Entry
-  pub replies : List Head
-
--- what the socket that the id names is
-abbrev pub role_of : HostView → SocketId → Option Role
-role_of h id = option_map (λ e. e.role) (find (is_socket id) h.entries)
-
--- that socket changed, and everything else as it was
-abbrev pub with_socket : HostView → SocketId → (Role → Role) → HostView
-with_socket h id change = record h { entries = change_first (is_socket id) (with_role change) h.entries }
-
--- the later of a moment and the kept one
-abbrev pub later_moment : HostView → Moment → Moment
-later_moment h now = if nat_lt h.kept.0 now.0 then now else h.kept
+  pub interface : InterfaceView
+  pub sockets : SocketsView
 
 -- a host on which nothing happened
-abbrev pub new_host : Addr → Addr → HostView
-new_host addr neighbour = record {
-  addr = addr;
-  neighbour = neighbour;
-  kept = record { 0 = 0 };
-  last_port = 65535;
-  last_id = 0;
-  entries = [];
-  replies = [];
-}
+abbrev pub new_host : ConfigView → HostView
+new_host c = record { interface = fresh c.mac c.addr c.routes; sockets = new_sockets c.addr }
 
--- the entry with a connection of the pair, in any state but CLOSED
-abbrev pub holder_id : HostView → Pair → Option SocketId
-holder_id h pair = option_map (λ e. e.id) (find (is_of_pair pair) h.entries)
+-- the frame side is this, or the table is, and all else as it was
+abbrev pub with_interface : HostView → InterfaceView → HostView
+with_interface h interface = record h { interface = interface }
+
+abbrev pub with_sockets : HostView → SocketsView → HostView
+with_sockets h sockets = record h { sockets = sockets }

@@ -1,51 +1,91 @@
 //! How a host is set up.
 
-ghost use Rattle.std.specs.Prelude.{◌≡◌, ◌↔◌, IfOk, IfErr, IsOk};
+ghost use Rattle.std.specs.Prelude.{◌≡◌, ◌↔◌, true, IfOk, IfErr, IsOk, length};
+ghost use Rattle.host.specs.ConfigView.{IsOfOne};
 
-use crate::refusal::Refusal;
+use ether::Mac;
 use ipv4::Addr;
+use routes::Routes;
+use sockets::Refusal;
 use std::marker::Model;
 
-/// How a host is set up: its address.
-#[derive(Clone, Copy, PartialEq, Eq, Debug)]
+/// How a host is set up: its MAC, its address and its routes.
+#[derive(Drop)]
 pub struct Config {
+    mac: Mac,
     addr: Addr,
+    routes: Routes,
 }
 
 impl Model for Config {
-    ghost use Rattle.ipv4.specs.declared.addr.Addr.{Addr};
     ghost use Rattle.ipv4.specs.Addresses.{IsSingleHost};
+    ghost use Rattle.host.specs.ConfigView.{ConfigView, IsOfOne};
 
-    ghost Value = { Addr };
+    ghost Value = { ConfigView };
 
-    ghost view = { λ c. c.addr };
+    ghost view = { λ c. record { mac = c.mac; addr = c.addr; routes = c.routes } };
 
-    ghost invariant = { λ c. IsSingleHost c.addr };
-
-    ghost inverse = { λ addr. record { addr = addr } };
+    ghost invariant = { λ c. IsSingleHost c.addr × IsOfOne c.mac };
 }
 
 impl Config {
     ghost use Rattle.ipv4.specs.Addresses.{IsSingleHost};
+    ghost use Rattle.host.specs.ConfigView.{IsConfig};
 
-    /// A host at `addr`. EINVAL where that is no single host's address.
-    pub fn new(addr: Addr) -> Result<Config, Refusal>
-        ensures valid { IsOk result ↔ IsSingleHost addr }
-        ensures value { IfOk result (λ config. config ≡ addr) }
+    /// A host at `addr`, whose interface has this MAC, with these routes. EINVAL where the address is no single host's (RFC 1122
+    /// section 3.2.1.3), or the MAC is that of a group, with the low bit of its first octet set.
+    pub fn new(mac: Mac, addr: Addr, routes: Routes) -> Result<Config, Refusal>
+        ensures valid { IsOk result ↔ (IsSingleHost addr × IsOfOne mac) }
+        ensures value { IfOk result (λ config. config ≡ record { mac = mac; addr = addr; routes = routes }) }
         ensures refusal { IfErr result (λ refusal. refusal ≡ Refusal.EINVAL) }
     {
-        if addr.is_single_host() {
-            Ok(Config { addr })
+        if addr.is_single_host() && is_of_one(mac) {
+            Ok(Config { mac, addr, routes })
         } else {
             Err(Refusal::EINVAL)
         }
     }
 
+    /// The MAC of the host's interface.
+    pub fn mac(&self) -> Mac
+        ensures { result ≡ self.now.mac }
+    {
+        self.mac
+    }
+
     /// The host's address.
-    pub fn addr(self) -> Addr
-        ensures value { result ≡ self }
-        ensures single { IsSingleHost self }
+    pub fn addr(&self) -> Addr
+        ensures { result ≡ self.now.addr }
     {
         self.addr
     }
+
+    /// What every set-up keeps of itself, for the contracts above; it changes nothing.
+    pub fn sound(&self)
+        ensures { IsConfig self.now }
+    {
+        is_whole_mac(self.mac);
+    }
+
+    /// Its parts.
+    pub(crate) fn into_parts(self) -> (Mac, Addr, Routes)
+        ensures parts { (result.0 ≡ self.mac) × (result.1 ≡ self.addr) × (result.2 ≡ self.routes) }
+        ensures single { IsSingleHost self.addr }
+    {
+        (self.mac, self.addr, self.routes)
+    }
+}
+
+/// Whether a MAC is that of one interface, and of no group: the low bit of its first octet is not set (IEEE 802).
+fn is_of_one(mac: Mac) -> bool
+    ensures { (result ≡ true) ↔ IsOfOne mac }
+{
+    mac.0[0] % 2 == 0
+}
+
+/// A MAC has six octets.
+fn is_whole_mac(mac: Mac)
+    ensures { length mac.0 ≡ 6 }
+{
+    let _ = mac;
 }

@@ -1,74 +1,88 @@
-//! Laws over the definitions alone: functions with nothing to do, whose contracts are the laws.
+//! Laws of the definitions that the contracts of this crate cite: each is the contract of a function that does nothing.
 
-ghost use Rattle.std.specs.Prelude.{◌≡◌, ℕ, ◌+◌, ◌≤◌, Bool, true, false, not, Option, Some, None, is_some};
+ghost use Rattle.std.specs.Prelude.{◌≡◌, ◌≢◌, ℕ, ◌||◌, false, List, find, slice_get, Option, Some, None, option_map, Result, Ok, Err};
+ghost use Rattle.std.specs.List.{list_any};
+ghost use Rattle.ether.specs.declared.mac.Mac.{Mac};
 ghost use Rattle.ipv4.specs.declared.addr.Addr.{Addr};
-ghost use Rattle.ipv4.specs.declared.addr.Endpoint.{Endpoint};
-ghost use Rattle.ipv4.specs.declared.addr.Pair.{Pair};
-ghost use Rattle.ipv4.specs.Addresses.{pair_of, same_addr};
-ghost use Rattle.tcp_segment.specs.Segment.{Segment};
 ghost use Rattle.clock.specs.declared.moment.Moment.{Moment};
 ghost use Rattle.clock.specs.Moments.{has_come};
-ghost use Rattle.host.specs.declared.entry.SocketId.{SocketId};
-ghost use Rattle.host.specs.HostView.{HostView, holder_id, new_host, later_moment};
-ghost use Rattle.host.specs.Ticks.{after_tick, least_deadline, IsLeastDeadline, HasNoDeadline};
-ghost use Rattle.host.specs.Arrival.{Opens, local_end, peer_end, arrival, opened_by, pair_opened};
-ghost use Rattle.host.specs.Calls.{connect_refusal, after_connect, pair_connected};
-ghost use Rattle.host.specs.Pairs.{socket_pair};
-ghost use Rattle.host.specs.Sound.{IsSoundHost, NoneIsOver};
-ghost use Rattle.host.specs.Ports.{first_port, IsDynamic, IsFirstBehind};
-ghost use Rattle.host.specs.Order.{IsOrdered, IsAllowed};
-ghost use Rattle.host.specs.Causes.{Event, after_event, IsAdded, IsStep, Follows};
+ghost use Rattle.arp.specs.Cache.{after_age};
+ghost use Rattle.frames.specs.declared.drop.DropCause.{DropCause};
+ghost use Rattle.frames.specs.declared.drop.DropCause.TheVariants.{NoRoom};
+ghost use Rattle.frames.specs.declared.meaning.Received.{Received};
+ghost use Rattle.frames.specs.declared.meaning.Meaning.TheVariants.{Tcp};
+ghost use Rattle.frames.specs.Meaning.{heard};
+ghost use Rattle.frames.specs.Pairs.{pair_in, pair_between};
+ghost use Rattle.interface.specs.declared.reply.Waiting.{Waiting};
+ghost use Rattle.interface.specs.Timing.{least_deadline as reply_deadline};
+ghost use Rattle.sockets.specs.declared.entry.Entry.{Entry};
+ghost use Rattle.sockets.specs.Entries.{due_peer, sends};
+ghost use Rattle.sockets.specs.Order.{IsOrdered};
+ghost use Rattle.sockets.specs.SocketsView.{later_moment};
+ghost use Rattle.sockets.specs.Ticks.{least_deadline as timer_deadline};
+ghost use Rattle.host.specs.HostView.{HostView, with_interface, with_sockets};
+ghost use Rattle.host.specs.Arrival.{IsDelivered, MeetsSegment, segment_arrival};
+ghost use Rattle.host.specs.Carried.{Carried, carried};
+ghost use Rattle.host.specs.Emission.{Replies, Sends, Nothing, emission, emission_to, emission_len, after_emission, emission_octets, goes_out_from};
+ghost use Rattle.host.specs.Places.{ReplyOf, SegmentOf, places, can_go_out};
+ghost use Rattle.host.specs.Sound.{IsSoundHost};
+ghost use Rattle.host.specs.Ticks.{after_tick, least_deadline, hop_deadline};
 
-/// What `would_open` foresees of a segment is the pair that its delivery leads to the opening of, whatever the moment and the initial number.
-/// Where a segment opens one, the new connection, of the next id, holds that pair.
-pub fn openings_are_foreseen()
-    ensures foreseen { (h : HostView) (now : Moment) (isn : ℕ) (s : Segment) → pair_opened h s ≡ opened_by h s (arrival h now isn s) }
-    ensures opened { (h : HostView) (now : Moment) (isn : ℕ) (s : Segment) (next : HostView) → IsOrdered h → same_addr h.addr h.neighbour ≡ false → arrival h now isn s ≡ Opens next → holder_id next (pair_of (local_end h s) (peer_end h s)) ≡ Some (record { 0 = h.last_id + 1 }) }
+/// The layers compose. A frame that goes out with a segment is heard, where it is for, as the very segment that is meant, from our address, where
+/// that isn't its own: so it is dropped there for nothing but lack of room, and the entry of its pair, or the rule for none, meets that segment. Whoever
+/// else hears a segment in what goes out hears that one, at the address that it is for; and the pair that is read of the frame is that of
+/// its two ends, or none where it carries none (RFC 9293 section 3.1). A host keeps itself sound, as `Host::sound` says, and its table in
+/// order, as `sockets::laws::tables_stay_ordered` does.
+pub fn layers_compose()
+    ensures heard { (h : HostView) (now : Moment) (c : Carried) → IsSoundHost h → IsOrdered h.sockets → carried h now ≡ Some c → h.interface.addr ≢ c.to
+        → heard c.mac c.to (emission_octets h now) ≡ Ok (Tcp (record { source = h.interface.addr; segment = c.segment })) }
+    ensures met { (h g : HostView) (now then : Moment) (isn : ℕ) (c : Carried) (answer : Result (Unit {0}) DropCause) (new : HostView) → IsSoundHost h → IsOrdered h.sockets
+        → carried h now ≡ Some c → h.interface.addr ≢ c.to → g.interface.mac ≡ c.mac → g.interface.addr ≡ c.to → IsDelivered g then isn (emission_octets h now) answer new
+        → let moment = later_moment g.sockets then in MeetsSegment (segment_arrival g moment isn h.interface.addr c.segment) g moment h.interface.addr answer new }
+    ensures hearer { (h : HostView) (now : Moment) (mac : Mac) (ours : Addr) (received : Received) → IsSoundHost h → IsOrdered h.sockets
+        → heard mac ours (emission_octets h now) ≡ Ok (Tcp received)
+        → (c : Carried) × (carried h now ≡ Some c) × (ours ≡ c.to) × (received ≡ record { source = h.interface.addr; segment = c.segment }) }
+    ensures pair { (h : HostView) (now : Moment) → IsSoundHost h → IsOrdered h.sockets
+        → pair_in (emission_octets h now) ≡ option_map (λ c. pair_between h.interface.addr c.to c.segment) (carried h now) }
 {}
 
-/// `would_connect` foresees a pair exactly where `connect` is not refused, and after the `connect` the socket has a connection of that pair.
-pub fn connects_are_foreseen()
-    ensures foreseen { (h : HostView) (id : SocketId) (peer : Endpoint) → is_some (pair_connected h id peer) ≡ not (is_some (connect_refusal h id peer)) }
-    ensures opened { (h : HostView) (isn : ℕ) (id : SocketId) (peer : Endpoint) (pair : Pair) → pair_connected h id peer ≡ Some pair → socket_pair (after_connect h isn id peer) id ≡ Some pair }
+/// What is due at a host is one list of places, and what goes out is for the first of them for which a frame can. Nothing goes out only
+/// where one can for none of them.
+pub fn the_first_place_goes_out()
+    ensures reply { (h : HostView) (moment : Moment) (w : Waiting) → find (can_go_out h moment) (places h) ≡ Some (ReplyOf w)
+        → (place : ℕ) × (slice_get h.interface.replies place ≡ Some w) × (emission h moment ≡ Replies place) }
+    ensures segment { (h : HostView) (moment : Moment) (e : Entry) → find (can_go_out h moment) (places h) ≡ Some (SegmentOf e)
+        → (find (sends (goes_out_from h moment)) h.sockets.entries ≡ Some e) × (emission h moment ≡ emission_to h moment (due_peer e.role)) }
+    ensures none { (h : HostView) (moment : Moment) → find (can_go_out h moment) (places h) ≡ None → emission h moment ≡ Nothing }
+    ensures only { (h : HostView) (now : Moment) → emission_len h now ≡ None → find (can_go_out h (later_moment h.sockets now)) (places h) ≡ None }
 {}
 
-/// The state of an entry stays, or goes along an edge of the table of states. An entry becomes CLOSED, or is taken out of the table, only
-/// by a cause: its close or that of the listener that it waits at, or an event of its connection that ends it. Every other one keeps its
-/// place. An error that its connection tells was told before, or a reset tells it in a state that has it. Behind them a new entry stands only
-/// where a socket was made, or a segment opened a connection at a listener.
-pub fn ends_have_causes()
-    ensures { (h : HostView) (e : Event) → IsSoundHost h → Follows (IsStep h e) (IsAdded h e) h.entries (let after = after_event h e in after.entries) }
+/// Only a segment that goes out itself changes the table: what a request goes out for waits as it is, and so does every entry while a control
+/// reply goes out (RFC 1122 section 2.3.2.2).
+pub fn requests_hold_nothing_back()
+    ensures { (h : HostView) (now : Moment) → let moment = later_moment h.sockets now in ((mac : Mac) (to : Addr) → emission h moment ≢ Sends mac to)
+        → (let after = after_emission h now in after.sockets) ≡ h.sockets }
 {}
 
-/// What is over is taken out at once: no event leaves a connection in the table that its caller closed, that is CLOSED and owes no reset.
-pub fn nothing_over_stays()
-    ensures { (h : HostView) (e : Event) → NoneIsOver h → NoneIsOver (after_event h e) }
+/// A frame that is dropped changes at most what is known of the neighbours (RFC 826), and that only where there was no room to answer its
+/// request.
+pub fn dropped_frames_change_the_cache_alone()
+    ensures alone { (h : HostView) (now : Moment) (isn : ℕ) (octets : List ℕ) (cause : DropCause) (new : HostView) → IsDelivered h now isn octets (Err cause) new
+        → new ≡ with_interface h (record h.interface { cache = (let after = new.interface in after.cache) }) }
+    ensures unchanged { (h : HostView) (now : Moment) (isn : ℕ) (octets : List ℕ) (cause : DropCause) (new : HostView) → IsDelivered h now isn octets (Err cause) new
+        → cause ≢ NoRoom → new ≡ h }
 {}
 
-/// Of the dynamic ports (RFC 6335 section 6: 49152 to 65535) the first one that passes is given, in the turn that begins behind the last one
-/// given; and none exactly where no dynamic port passes. (The port that a host gave last is always dynamic, by `tables_stay_ordered`.)
-pub fn dynamic_ports()
-    ensures given { (test : ℕ → Bool) (last port : ℕ) → IsDynamic last → first_port test last 0 16384 ≡ Some port → IsFirstBehind test last port }
-    ensures none { (test : ℕ → Bool) (last : ℕ) → IsDynamic last → first_port test last 0 16384 ≡ None → (port : ℕ) → IsDynamic port → test port ≡ false }
-{}
-
-/// The moment that `next_deadline` answers is the deadline of an entry, and none has an earlier one; it answers none exactly where no entry has
-/// one.
+/// The deadline is the least: it has come exactly where that of the timers has come, or that of the control replies, or one of those of the
+/// entries that wait for their hops.
 pub fn deadline_is_the_least()
-    ensures some { (h : HostView) (moment : Moment) → least_deadline h ≡ Some moment → IsLeastDeadline h moment }
-    ensures none { (h : HostView) → least_deadline h ≡ None → HasNoDeadline h }
+    ensures { (h : HostView) (now : Moment) → has_come (least_deadline h) now
+        ≡ (has_come (timer_deadline h.sockets) now || has_come (reply_deadline h.interface h.sockets.kept) now || list_any (λ e. has_come (hop_deadline h e) now) h.sockets.entries) }
 {}
 
-/// A tick before the deadline changes nothing but the kept moment, and so does any tick where there is no deadline.
+/// A tick before the deadline, at which no neighbour is forgotten, changes nothing but the kept moment. (One that forgets the hop of what waits,
+/// since that was not heard for 20 minutes, may find the wait over at once.)
 pub fn ticks_wait()
-    ensures { (h : HostView) (now : Moment) → has_come (least_deadline h) (later_moment h now) ≡ false → after_tick h now ≡ record h { kept = later_moment h now } }
-{}
-
-/// The table of a host stays in order, from the first on, whatever happens but a call that is refused: ids ascend, no two connections but CLOSED
-/// ones have the same two ends (RFC 9293 section 3.4.1), and no two sockets without a connection have the same port.
-/// The id given last never goes back, so none is given twice.
-pub fn tables_stay_ordered()
-    ensures fresh { (addr neighbour : Addr) → IsOrdered (new_host addr neighbour) }
-    ensures kept { (h : HostView) (e : Event) → IsAllowed h e → IsOrdered h → IsOrdered (after_event h e) }
-    ensures numbered { (h : HostView) (e : Event) → let after = after_event h e in h.last_id ≤ after.last_id }
+    ensures { (h : HostView) (now : Moment) → let moment = later_moment h.sockets now in has_come (least_deadline h) moment ≡ false → after_age moment h.interface.cache ≡ h.interface.cache
+        → after_tick h now ≡ with_sockets h (record h.sockets { kept = moment }) }
 {}

@@ -1,22 +1,16 @@
-//! One host: a table of sockets and connections over one address, and one neighbour.
+//! One host on an Ethernet link: it takes frames and gives frames (RFC 894, RFC 826, RFC 791), and between them the sockets of its caller
+//! (RFC 9293). The frame side and the table of sockets are crates of their own; this one joins them, event by event.
 #![tactic(auto)]
 
 mod arrival;
 mod calls;
-mod closing;
 mod config;
 mod emission;
-mod entry;
 mod host;
 pub mod laws;
-mod link;
-mod ports;
-mod refusal;
-mod replies;
-mod role;
-mod table;
+mod ticks;
 
 pub use config::Config;
-pub use entry::{Kind, SocketId};
+pub use frames::DropCause;
 pub use host::Host;
-pub use refusal::{DropCause, Refusal};
+pub use sockets::{Kind, Refusal, SocketId};

@@ -2,7 +2,9 @@
 use Rattle.std.proofs.Common.{◌≡◌, ℕ, List, [], ◌++◌, inl, inr, Option, Some, None, Result, Ok, Err, IfErr, OnOk, IfSome, ◌⊎◌, true, false, slice_get, option_to_list, refl, ap, sym, subst, ◌∙◌, append_assoc, append-nil}
 use Rattle.std.specs.Result.{IsErrAnd}
 use Rattle.std.specs.Io.KnownBytes.{Appends, Keeps}
-use Rattle.wire_sim.specs.WorldView.{WorldView}
+use Rattle.wire_sim.specs.declared.event.Side.TheVariants.{A, B}
+use Rattle.wire_sim.specs.WorldView.{WorldView, fresh_world}
+use Rattle.script.proofs.HostLemmas.{set_up, is_set_up}
 use Rattle.script.specs.declared.lines.Command.{Command}
 use Rattle.hostd.specs.declared.fault.TextFault.{TextFault}
 use Rattle.hostd.specs.declared.fault.TextFault.TheVariants.{Line, TooLong, NotHex, Read, Write, NoMemory}
@@ -11,25 +13,33 @@ use Rattle.script.specs.Words.{lines_of}
 use Rattle.script.specs.Script.{limit_of, limits_of, commands_of}
 use Rattle.hostd.specs.Sim.{write_fails_in, is_before_run}
 use Rattle.hostd.specs.Streams.{TakesFront, TakesAllBut}
-use Rattle.hostd.specs.Play.{HasPrinted, starts, IsPlayed, IsCutShort, IsLeft, first_world, limit_line, IsPrinted, IsTold, TakesPrinted, TakesPrintedBy}
+use Rattle.hostd.specs.Play.{HasPrinted, starts, IsPlayed, IsCutShort, IsLeft, IsFirst, limit_by, limit_line, IsPrinted, IsTold, TakesPrinted, TakesPrintedBy}
 use Rattle.hostd.proofs.StreamLemmas.{Appends-more, Keeps-appends}
 
 kept : (o : Option (List ℕ)) → Keeps o o
 kept None = tt
 kept (Some xs) = refl
 
+-- the world before the first command can be made
+first_of : Option ℕ → WorldView
+first_of limit = fresh_world (set_up A) (set_up B) (limit_by limit)
+
+is_first : (limit : Option ℕ) → IsFirst limit (first_of limit)
+unfolding first_of
+is_first limit = record { a = set_up A; b = set_up B; a_is = is_set_up A; b_is = is_set_up B; fresh = refl }
+
 -- memory ran out before anything was run
 pub nothing_told : (r : Result (Unit {0}) TextFault) (fault : TextFault) (limit : Option ℕ) (commands : List Command) (old : Option (List ℕ)) →
     IsErrAnd r (λ e. e ≡ fault) → fault ≡ NoMemory → TakesPrinted r limit commands old old
 nothing_told (Ok done) fault limit commands old is memory = absurd is
 nothing_told (Err e) fault limit commands old is memory =
-    rw (is, memory) ([], commands, limit_line limit ++ [], refl, ([], first_world limit, starts, refl), inr (Keeps-appends old old (kept old)))
+    rw (is, memory) ([], commands, limit_line limit ++ [], refl, ([], first_of limit, first_of limit, is_first limit, starts, refl), inr (Keeps-appends old old (kept old)))
 
 -- what was printed from the first world on, behind the limit's line
-printed_from : (limit : Option ℕ) (world w : WorldView) (commands : List Command) (before text : List ℕ) → world ≡ first_world limit →
+printed_from : (limit : Option ℕ) (world w : WorldView) (commands : List Command) (before text : List ℕ) → IsFirst limit world →
     before ≡ limit_line limit → HasPrinted world commands text w → IsPrinted limit commands (before ++ text)
 printed_from limit world w commands before text first limited printed =
-    (text, w, subst (λ x. HasPrinted x commands text w) first printed, ap (λ b. b ++ text) limited)
+    (text, world, w, first, printed, ap (λ b. b ++ text) limited)
 
 -- what waited went too
 all_taken : (old mid new : Option (List ℕ)) (octets waiting : List ℕ) → TakesAllBut old mid octets waiting → Appends mid new waiting → Appends old new octets
@@ -66,7 +76,7 @@ told_as NoMemory old new printed other all = inl all
 
 -- the sink failed within the run
 pub told_cut : (r : Result (Unit {0}) TextFault) (limit : Option ℕ) (commands : List Command) (world : WorldView) (old new : Option (List ℕ))
-    (before waiting : List ℕ) → world ≡ first_world limit → before ≡ limit_line limit → r ≡ Err Write →
+    (before waiting : List ℕ) → IsFirst limit world → before ≡ limit_line limit → r ≡ Err Write →
     IfErr r (λ fault. IsCutShort fault world commands old new before waiting) → TakesPrinted r limit commands old new
 told_cut r limit commands world old new before waiting first limited is cut = rw is (tell (rw is at cut))
   where
@@ -75,7 +85,7 @@ told_cut r limit commands world old new before waiting first limited is cut = rw
 
 -- the run ended otherwise, and the sink took what waited
 pub told_all : (r : Result (Unit {0}) TextFault) (limit : Option ℕ) (commands : List Command) (world after : WorldView) (old mid new : Option (List ℕ))
-    (before waiting : List ℕ) → world ≡ first_world limit → before ≡ limit_line limit → (r ≡ Err Write → ⊥) →
+    (before waiting : List ℕ) → IsFirst limit world → before ≡ limit_line limit → (r ≡ Err Write → ⊥) →
     OnOk r (IsPlayed world after commands old mid before waiting) → IfErr r (λ fault. IsCutShort fault world commands old mid before waiting) →
     Appends mid new waiting → TakesPrinted r limit commands old new
 told_all (Ok done) limit commands world after old mid new before waiting first limited other played cut more = (
@@ -96,7 +106,7 @@ told_all (Err fault) limit commands world after old mid new before waiting first
 
 -- the run ended otherwise, and then the sink failed
 pub told_front : (r told : Result (Unit {0}) TextFault) (fault : TextFault) (limit : Option ℕ) (commands : List Command) (world after : WorldView)
-    (old mid new : Option (List ℕ)) (before waiting : List ℕ) → world ≡ first_world limit → before ≡ limit_line limit → (r ≡ Err Write → ⊥) →
+    (old mid new : Option (List ℕ)) (before waiting : List ℕ) → IsFirst limit world → before ≡ limit_line limit → (r ≡ Err Write → ⊥) →
     OnOk r (IsPlayed world after commands old mid before waiting) → IfErr r (λ e. IsCutShort e world commands old mid before waiting) →
     IsErrAnd told (λ e. e ≡ fault) → (fault ≡ Write) × TakesFront mid new waiting → TakesPrinted told limit commands old new
 told_front r (Ok done) fault limit commands world after old mid new before waiting first limited other played cut is front = absurd is
@@ -137,7 +147,7 @@ is_no_write r test is = let same : true ≡ false = sym (ap write_fails_in is) �
 none_told : (fault : TextFault) (limit : Option ℕ) (commands : List Command) (old : Option (List ℕ)) → (fault ≡ Write → ⊥) →
     TakesPrinted (Err fault) limit commands old old
 none_told fault limit commands old other =
-    ([], commands, limit_line limit ++ [], refl, ([], first_world limit, starts, refl), none fault other)
+    ([], commands, limit_line limit ++ [], refl, ([], first_of limit, first_of limit, is_first limit, starts, refl), none fault other)
   where
     none : (f : TextFault) → (f ≡ Write → ⊥) → IsTold f old old (limit_line limit ++ [])
     none (Line n) o = inr (Keeps-appends old old (kept old))

@@ -22,7 +22,9 @@ use Rattle.hostd.specs.declared.fault.TextFault.TheVariants.{Write}
 use Rattle.script.specs.Words.{lines_of}
 use Rattle.script.specs.Script.{limit_of, commands_of}
 use Rattle.hostd.specs.Streams.{TakesFront, TakesAllBut}
-use Rattle.script.specs.Events.{IsEventOf, address_of}
+use Rattle.host.specs.ConfigView.{ConfigView}
+use Rattle.script.specs.Hosts.{IsSetUp}
+use Rattle.script.specs.Events.{IsEventOf}
 use Rattle.script.specs.Text.{style_of, shown_of}
 
 -- what is printed of an outcome
@@ -92,10 +94,18 @@ abbrev pub IsPlayed : WorldView → WorldView → List Command → Option (List 
 IsPlayed world after commands old new before waiting =
     (text : List ℕ) × HasPrinted world commands text after × TakesAllBut old new (before ++ text) waiting
 
--- the two hosts at their addresses, and nothing happened; the limit is the script's, or 2^30
-abbrev pub first_world : Option ℕ → WorldView
-first_world None = fresh_world (address_of A) (address_of B) (2 ^ 30)
-first_world (Some limit) = fresh_world (address_of A) (address_of B) limit
+-- the limit of the world: the script's, or 2^30
+abbrev pub limit_by : Option ℕ → ℕ
+limit_by None = 2 ^ 30
+limit_by (Some limit) = limit
+
+-- the two hosts as they are set up, and nothing happened
+pub record IsFirst (limit : Option ℕ) (world : WorldView) : Type 0 where
+  pub a : ConfigView
+  pub b : ConfigView
+  pub a_is : IsSetUp A a
+  pub b_is : IsSetUp B b
+  pub fresh : world ≡ fresh_world a b (limit_by limit)
 
 -- what is printed of a limit
 abbrev pub limit_line : Option ℕ → List ℕ
@@ -105,7 +115,7 @@ limit_line (Some limit) = codes "ok\n"
 -- what a script with this limit prints by these commands
 abbrev pub IsPrinted : Option ℕ → List Command → List ℕ → Type 0
 IsPrinted limit commands printed =
-    (text : List ℕ) × (w : WorldView) × HasPrinted (first_world limit) commands text w × (printed ≡ limit_line limit ++ text)
+    (text : List ℕ) × (first : WorldView) × (w : WorldView) × IsFirst limit first × HasPrinted first commands text w × (printed ≡ limit_line limit ++ text)
 
 -- what a fault lets a sink take of what was printed: all or nothing, but a front where the sink fails
 abbrev pub IsTold : TextFault → Option (List ℕ) → Option (List ℕ) → List ℕ → Type 0

@@ -5,14 +5,13 @@ ghost use Rattle.std.specs.Option.{ForSome};
 ghost use Rattle.hostd.specs.Streams.{counted, TakesFront, TakesAllBut};
 ghost use Rattle.hostd.specs.Sim.{read_fails, write_fails_in, is_before_run, IsDue, IsFaultDue};
 ghost use Rattle.script.specs.Text.{style_of};
-ghost use Rattle.hostd.specs.Play.{line_of_outcome, Emits, Delivers, Carries, Prints, pass_line, IsPlayed, IsCutShort, first_world, limit_line, TakesPrinted, TakesPrintedBy};
+ghost use Rattle.hostd.specs.Play.{line_of_outcome, Emits, Delivers, Carries, Prints, pass_line, IsPlayed, IsCutShort, IsFirst, limit_line, TakesPrinted, TakesPrintedBy};
 
 use crate::fault::TextFault;
 use crate::input::whole_script;
 use crate::output::{finish, hand_on};
 use crate::streams::{Sink, Source};
-use host::Config;
-use script::{Action, Command, Script, Style, address, event, show, show_unfair};
+use script::{Action, Command, Script, Style, config, event, show, show_unfair};
 use std::alloc::{AllocError, Global};
 use tcp_segment::Seq;
 use wire_sim::{Answer, Event, Side, Unfair, World};
@@ -113,15 +112,13 @@ fn add_line<W: Sink>(line: &str, lines: &mut String, out: &mut W) -> Result<(), 
     Ok(())
 }
 
-/// A fresh world. The two addresses are those of single hosts and differ, so it is made unless there is no memory.
+/// A fresh world. The two hosts differ in address and MAC, so it is made unless there is no memory.
 fn new_world(alloc: Global, limit: Option<u64>) -> Result<World, TextFault>
     requires { ForSome limit (λ n. (1 ≤ n) × (n ≤ 2 ^ 30)) }
-    ensures world { IfOk result (λ world. world.seen ≡ first_world limit) }
+    ensures world { IfOk result (λ world. IsFirst limit world.seen) }
     ensures faults { IfErr result (λ fault. fault ≡ TextFault.NoMemory) }
 {
-    let (Ok(a), Ok(b)) = (Config::new(address(Side::A)), Config::new(address(Side::B))) else {
-        return Err(TextFault::NoMemory);
-    };
+    let (a, b) = (config(Side::A), config(Side::B));
     let made = match limit {
         Some(limit) => World::with_limit(alloc, a, b, limit),
         None => World::new(alloc, a, b),

@@ -5,6 +5,7 @@ mod command_line;
 mod devices;
 mod drops;
 mod examples;
+mod hops;
 mod lines;
 mod losses;
 mod refusals;
@@ -22,15 +23,16 @@ use std::alloc::Global;
 use std::process::Abort;
 use std::test::Fail;
 
-/// b listens at port 80 and a opens a connection, whose numbers at a begin with the last one of 32 bits.
+/// b listens at port 80 and a opens a connection, whose numbers at a begin with the last one of 32 bits. a asks for b's MAC first, by
+/// frame 0, which frame 1 answers. The three frames of the handshake are those from 2 to 4.
 const OPENING: &str = "b socket tcp -> id 1
 b bind 1 80 -> ok
 b listen 1 1 -> ok
 a socket tcp -> id 1
 a connect 1 80 4294967295 -> started
 pass 7 -> a 1 b 1
+pass 7 -> a 1 b 1
 pass 7 -> a 1 b 0
-pass 7 -> a 0 b 0
 ";
 
 /// b's caller takes the connection.
@@ -50,10 +52,11 @@ pass 0 -> a 1 b 1
 
 /// All transcripts. Each is a list of parts, in whose lines an arrow parts a script's line from what it prints; a line without
 /// one prints nothing.
-const TRANSCRIPTS: [&[&[&str]]; 7] = [
+const TRANSCRIPTS: [&[&[&str]]; 8] = [
     closing::TRANSCRIPTS,
     drops::TRANSCRIPTS,
     examples::TRANSCRIPTS,
+    hops::TRANSCRIPTS,
     refusals::TRANSCRIPTS,
     resets::TRANSCRIPTS,
     scripts::TRANSCRIPTS,

@@ -1,12 +1,15 @@
 //! Tables of steps, and the harnesses that play them.
 
+mod calls;
 mod closing;
 mod documents;
+mod drops;
 mod ends;
+mod hops;
 mod names;
+mod octets;
 mod opening;
 mod resets;
 mod segments;
-mod sockets;
 mod stations;
 mod world;

@@ -3,7 +3,7 @@ use Rattle.std.specs.Prelude.{ℕ, ◌-◌, ◌^◌, List, [], ◌∷◌, Option
 use Rattle.std.specs.Str.{bytes_eq}
 use Rattle.tcp_segment.specs.declared.seq.Seq.{Seq}
 use Rattle.clock.specs.declared.moment.Moment.{Moment}
-use Rattle.host.specs.declared.entry.SocketId.{SocketId}
+use Rattle.sockets.specs.declared.entry.SocketId.{SocketId}
 use Rattle.script.specs.Words.{number_of, text_of}
 use Rattle.script.specs.Keywords.{keyword_of}
 use Rattle.script.specs.declared.action.Keyword.{Keyword}

@@ -1,21 +1,15 @@
 -- What happens in the world where a host does what a script's line says.
-use Rattle.std.specs.Prelude.{◌≡◌, ℕ, [], ◌∷◌, replicate}
-use Rattle.ipv4.specs.declared.addr.Addr.{Addr}
+use Rattle.std.specs.Prelude.{◌≡◌, ℕ, replicate}
 use Rattle.ipv4.specs.declared.addr.Endpoint.{Endpoint}
 use Rattle.wire_sim.specs.declared.event.Side.{Side}
-use Rattle.wire_sim.specs.declared.event.Side.TheVariants.{A, B}
 use Rattle.wire_sim.specs.Sides.{other_side}
 use Rattle.wire_sim.specs.declared.event.Event.{Event}
 use Rattle.wire_sim.specs.declared.event.Event.TheVariants as event
 use Rattle.wire_sim.specs.declared.event.Call.TheVariants as call
-use Rattle.host.specs.declared.entry.Kind.TheVariants.{Tcp}
+use Rattle.sockets.specs.declared.entry.Kind.TheVariants.{Tcp}
+use Rattle.script.specs.Hosts.{address_of}
 use Rattle.script.specs.declared.action.Action.{Action}
 use Rattle.script.specs.declared.action.Action.TheVariants.{Socket, Bind, Listen, Accept, Connect, Send, Fill, Recv, Count, Shutdown, Close, State, Tick, Emit, Deliver}
-
--- 10.0.0.1 for a, 10.0.0.2 for b
-abbrev pub address_of : Side → Addr
-address_of A = record { 0 = 10 ∷ 0 ∷ 0 ∷ 1 ∷ [] }
-address_of B = record { 0 = 10 ∷ 0 ∷ 0 ∷ 2 ∷ [] }
 
 -- a port of a side's host
 abbrev pub endpoint_of : Side → ℕ → Endpoint

@@ -3,4 +3,5 @@ pub mod Keywords
 pub mod Actions
 pub mod Script
 pub mod Text
+pub mod Hosts
 pub mod Events

@@ -6,8 +6,8 @@ use Rattle.wire_sim.specs.declared.event.Answer.{Answer}
 use Rattle.wire_sim.specs.declared.event.Answer.TheVariants.{Socket, Done, Accepted, Started, Sent, Octets, EndOfStream, State, Frame, NoFrame, Taken, Dropped, Refused}
 use Rattle.ipv4.specs.declared.addr.Endpoint.{Endpoint}
 use Rattle.tcp_state.specs.Names.{state_text}
-use Rattle.host.specs.Names.{refusal_text}
-use Rattle.host.specs.Arrival.{cause_number}
+use Rattle.sockets.specs.Names.{refusal_text}
+use Rattle.frames.specs.Drops.{number_of}
 use Rattle.script.specs.declared.action.Action.{Action}
 use Rattle.script.specs.declared.action.Action.TheVariants.{Count}
 use Rattle.script.specs.declared.answer.Style.{Style}
@@ -53,5 +53,5 @@ shown_of how (State told) = state_text told
 shown_of how (Frame index len) = codes "frame " ++ decimal index ++ codes " " ++ decimal len
 shown_of how NoFrame = codes "none"
 shown_of how Taken = codes "taken"
-shown_of how (Dropped cause) = codes "drop F" ++ decimal (cause_number cause)
+shown_of how (Dropped cause) = codes "drop F" ++ decimal (number_of cause)
 shown_of how (Refused why) = refusal_text why

@@ -1,23 +1,14 @@
 //! What happens in the world where a host does what a line says.
 
 ghost use Rattle.std.specs.Prelude.{◌≡◌, IfOk};
-ghost use Rattle.script.specs.Events.{IsEventOf, address_of, endpoint_of};
+ghost use Rattle.script.specs.Events.{IsEventOf, endpoint_of};
 
 use crate::action::Action;
+use crate::hosts::address;
 use host::Kind;
-use ipv4::{Addr, Endpoint};
+use ipv4::Endpoint;
 use std::alloc::{AllocError, Global};
 use wire_sim::{Call, Event, Side};
-
-/// The address of a side's host.
-pub fn address(side: Side) -> Addr
-    ensures { result ≡ address_of side }
-{
-    match side {
-        Side::A => Addr([10, 0, 0, 1]),
-        Side::B => Addr([10, 0, 0, 2]),
-    }
-}
 
 /// What happens in the world where a host does `action`.
 pub fn event(alloc: Global, side: Side, action: &Action<'_>) -> Result<Event, AllocError>

@@ -5,11 +5,13 @@ mod action;
 mod answer;
 mod events;
 mod fault;
+mod hosts;
 mod lines;
 mod words;
 
 pub use action::Action;
 pub use answer::{Style, show, show_unfair};
-pub use events::{address, event};
+pub use events::event;
 pub use fault::ScriptFault;
+pub use hosts::{address, config};
 pub use lines::{Command, Script};

@@ -3,6 +3,7 @@ pub mod tables
 pub mod openings
 pub mod emission
 pub mod pairing
+pub mod carried
 pub mod told
 pub mod counts
 pub mod fairness

@@ -1,3 +1,4 @@
 pub mod EmittedOctets
 pub mod EmittedFrame
 pub mod SegmentsGoOut
+pub mod NothingGoesOut

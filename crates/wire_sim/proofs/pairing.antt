@@ -7,3 +7,4 @@ pub mod EmissionIsMove
 pub mod TickIsMoves
 pub mod CloseIsMoves
 pub mod ConnectIsMove
+pub mod CallsOfNetwork

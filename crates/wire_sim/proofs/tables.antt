@@ -3,5 +3,5 @@ pub mod EntryChanges
 pub mod EntryIsMade
 pub mod PairOfPorts
 pub mod CallsOnTable
-pub mod FrameDelivered
+pub mod SegmentArrived
 pub mod UnseenRoles

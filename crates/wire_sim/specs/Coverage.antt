@@ -4,14 +4,14 @@ use Rattle.std.specs.Prelude.{◌≡◌, ℕ, Bool, true, false, List, [], Optio
 use Rattle.ipv4.specs.declared.addr.Pair.{Pair}
 use Rattle.ipv4.specs.Addresses.{pair_of}
 use Rattle.tcp_state.specs.View.{View}
-use Rattle.host.specs.declared.entry.SocketId.{SocketId}
-use Rattle.host.specs.declared.role.Role.TheVariants.{Connected}
+use Rattle.sockets.specs.declared.entry.SocketId.{SocketId}
+use Rattle.sockets.specs.declared.role.Role.TheVariants.{Connected}
 use Rattle.wire_sim.specs.declared.event.Side.{Side}
 use Rattle.wire_sim.specs.declared.event.Opening.{Opening}
 use Rattle.wire_sim.specs.Runs.{IsReached}
 use Rattle.wire_sim.specs.Tallies.{is_opening_of, is_opening_at}
 use Rattle.wire_sim.specs.Trace.{sent_on, read_on, closed_on, ended_on, written, read, closed, ended}
-use Rattle.wire_sim.specs.WorldView.{WorldView, host_of}
+use Rattle.wire_sim.specs.WorldView.{WorldView, table_of}
 
 -- the opening by which a side's host came to hold a connection: the same by its id and by its pair and epoch
 pub record IsListed (side : Side) (openings : List Opening) (id : SocketId) (c : View) : Type 0 where
@@ -23,7 +23,7 @@ pub record IsListed (side : Side) (openings : List Opening) (id : SocketId) (c :
 -- every connection in a host's table, wherever it stands there
 abbrev pub EveryConnectionIsListed : Type 0
 EveryConnectionIsListed = (limit : ℕ) (w : WorldView) → IsReached limit w → (side : Side) (place : ℕ) (id : SocketId) (c : View) (listener : Option SocketId)
-    → slice_get (let h = host_of w.network side in h.entries) place ≡ Some (record { id = id; role = Connected c listener }) → IsListed side w.network.openings id c
+    → slice_get (let t = table_of w.network side in t.entries) place ≡ Some (record { id = id; role = Connected c listener }) → IsListed side w.network.openings id c
 
 -- openings that pass the test stand at one place
 abbrev pub AtMostOne : (Opening → Bool) → List Opening → Type 0

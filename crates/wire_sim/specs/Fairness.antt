@@ -1,12 +1,14 @@
 -- Which events are unfair: a network delivers only what the other side emitted, nothing for too long, nothing of a connection whose ports
 -- are used again, and no host opens a pair twice in one epoch.
-use Rattle.std.specs.Prelude.{◌≡◌, ℕ, ◌-◌, ◌<◌, ◌==◌, Bool, ◌||◌, nat_le, not, if◌then◌else◌, List, Option, Some, None, IfSome, option_and_then, slice_get, find}
+use Rattle.std.specs.Prelude.{◌≡◌, ℕ, ◌-◌, ◌<◌, ◌==◌, Bool, ◌||◌, nat_le, not, if◌then◌else◌, List, Option, Some, None, IfSome, slice_get, find}
 use Rattle.std.specs.List.{list_any}
 use Rattle.std.specs.Option.{option_or}
 use Rattle.ipv4.specs.declared.addr.Pair.{Pair}
-use Rattle.tcp_segment.specs.Reading.{segment_in}
-use Rattle.host.specs.Calls.{pair_connected}
-use Rattle.host.specs.Arrival.{pair_opened}
+use Rattle.ipv4.specs.declared.addr.Endpoint.{Endpoint}
+use Rattle.interface.specs.Ways.{is_routed}
+use Rattle.sockets.specs.declared.entry.SocketId.{SocketId}
+use Rattle.sockets.specs.Calls.{pair_connected}
+use Rattle.host.specs.Arrival.{foreseen}
 use Rattle.host.specs.HostView.{HostView}
 use Rattle.wire_sim.specs.declared.event.Side.{Side}
 use Rattle.wire_sim.specs.declared.event.Side.TheVariants.{A, B}
@@ -22,7 +24,7 @@ use Rattle.wire_sim.specs.declared.world.bag.Note.{Note}
 use Rattle.wire_sim.specs.Openings.{epoch_of, epoch_connected}
 use Rattle.wire_sim.specs.Sides.{same_side, other_side}
 use Rattle.wire_sim.specs.Tallies.{is_opening_of}
-use Rattle.wire_sim.specs.WorldView.{NetworkView, host_of, written_at}
+use Rattle.wire_sim.specs.WorldView.{NetworkView, host_of, table_of, written_at}
 
 -- how many octets a side took from its caller for a pair in an epoch
 abbrev pub Amount : Type 0
@@ -44,9 +46,9 @@ late_note n now (Some note) =
 abbrev pub second_in : List Opening → Side → Pair → ℕ → Option Unfair
 second_in openings side pair epoch = if list_any (is_opening_of side pair epoch) openings then Some SecondOpening else None
 
--- the pair that octets would open at a host, if memory were there
-abbrev pub pair_foreseen : HostView → List ℕ → Option Pair
-pair_foreseen h octets = option_and_then (pair_opened h) (segment_in h.neighbour h.addr octets)
+-- the pair that a connect of this socket to this peer would open at a host
+abbrev pub pair_to_connect : HostView → SocketId → Endpoint → Option Pair
+pair_to_connect h id peer = pair_connected h.sockets id peer (is_routed h.interface peer.addr)
 
 -- a frame that would open a pair opens it in the pair's present epoch
 abbrev pub second_by_frame : NetworkView → Side → Option Pair → Option Unfair
@@ -55,17 +57,17 @@ second_by_frame n side (Some pair) = second_in n.openings side pair (epoch_of n.
 
 abbrev pub second_by_connect : NetworkView → Side → Option Pair → Option Unfair
 second_by_connect n side None = None
-second_by_connect n side (Some pair) = second_in n.openings side pair (epoch_connected n.openings (host_of n (other_side side)) pair)
+second_by_connect n side (Some pair) = second_in n.openings side pair (epoch_connected n.openings (table_of n (other_side side)) pair)
 
 -- only a frame that the other side emitted may be delivered to a side, only in time, and only where it opens no pair a second time
 abbrev pub unfair_frame : NetworkView → Amount → Side → Option Frame → Option Unfair
 unfair_frame n now side None = Some NoSuchFrame
 unfair_frame n now side (Some f) =
     if same_side f.sender side then Some NoSuchFrame
-    else option_or (late_note n now f.note) (second_by_frame n side (pair_foreseen (host_of n side) f.octets.items))
+    else option_or (late_note n now f.note) (second_by_frame n side (foreseen (host_of n side) f.octets.items))
 
 abbrev pub unfair_call : NetworkView → Side → Call → Option Unfair
-unfair_call n side (call.Connect isn id peer) = second_by_connect n side (pair_connected (host_of n side) id peer)
+unfair_call n side (call.Connect isn id peer) = second_by_connect n side (pair_to_connect (host_of n side) id peer)
 unfair_call n side _ = None
 
 -- why an event is refused, but for want of memory: the first of the rules that it breaks
@@ -98,12 +100,12 @@ pub record IsFairFrame (n : NetworkView) (now : Amount) (side : Side) (f : Frame
   pub sender : f.sender ≡ other_side side
   pub epoch : IfSome f.note (λ note. epoch_of n.openings note.pair ≡ note.epoch)
   pub recent : IfSome f.note (IsRecent n.limit now)
-  pub once : IfSome (pair_foreseen (host_of n side) f.octets.items) (λ pair. IsUnopened n.openings side pair (epoch_of n.openings pair))
+  pub once : IfSome (foreseen (host_of n side) f.octets.items) (λ pair. IsUnopened n.openings side pair (epoch_of n.openings pair))
 
 -- a call is fair where it opens no pair a second time
 abbrev pub IsFairCall : NetworkView → Side → Call → Type 0
 IsFairCall n side (call.Connect isn id peer) =
-    IfSome (pair_connected (host_of n side) id peer) (λ pair. IsUnopened n.openings side pair (epoch_connected n.openings (host_of n (other_side side)) pair))
+    IfSome (pair_to_connect (host_of n side) id peer) (λ pair. IsUnopened n.openings side pair (epoch_connected n.openings (table_of n (other_side side)) pair))
 IsFairCall n side _ = Unit {0}
 
 -- `laws::fair_is_unrefused`: an event is fair exactly where no rule refuses it

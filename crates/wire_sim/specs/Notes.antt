@@ -1,12 +1,9 @@
 -- What a frame's note says, told by the trace: where in the trace the frame went out, which pair's segment it carries, and what the trace and
 -- the openings said of that pair by then. So whether a frame is late can be told with no note.
 use Rattle.std.specs.Prelude.{◌≡◌, ℕ, ◌-◌, ◌<◌, ◌≤◌, nat_lt, List, length, take, filter, Option, Some, IfSome, option_map, slice_get, ◌⊎◌, ◌↔◌}
-use Rattle.ipv4.specs.declared.addr.Addr.{Addr}
 use Rattle.ipv4.specs.declared.addr.Pair.{Pair}
-use Rattle.ipv4.specs.Addresses.{pair_of}
 use Rattle.tcp_segment.specs.declared.seq.Seq.{Seq}
-use Rattle.tcp_segment.specs.Segment.{Segment}
-use Rattle.tcp_segment.specs.Reading.{segment_in}
+use Rattle.frames.specs.Pairs.{pair_in}
 use Rattle.wire_sim.specs.declared.event.Side.{Side}
 use Rattle.wire_sim.specs.declared.event.Side.TheVariants.{A, B}
 use Rattle.wire_sim.specs.declared.event.Event.TheVariants as event
@@ -19,7 +16,7 @@ use Rattle.wire_sim.specs.Openings.{epoch_of}
 use Rattle.wire_sim.specs.Runs.{written_len, unfair, IsReached}
 use Rattle.wire_sim.specs.Sides.{other_side}
 use Rattle.wire_sim.specs.Trace.{written}
-use Rattle.wire_sim.specs.WorldView.{WorldView, NetworkView, host_of}
+use Rattle.wire_sim.specs.WorldView.{WorldView}
 
 -- the openings that were made before a place in the trace
 abbrev pub openings_before : ℕ → List Opening → List Opening
@@ -33,16 +30,9 @@ epoch_before w place pair = epoch_of (openings_before place w.network.openings) 
 abbrev pub written_before : WorldView → ℕ → Side → Pair → ℕ → ℕ
 written_before w place side pair epoch = length (written (take place w.trace) (openings_before place w.network.openings) side pair epoch)
 
--- the pair of a segment between two addresses (RFC 9293 section 3.3.1)
-abbrev pub segment_pair : Addr → Addr → Segment → Pair
-segment_pair src dst s = pair_of (record { addr = src; port = s.source }) (record { addr = dst; port = s.destination })
-
--- the pair of the segment that a frame carries from its sender to the other side, if it carries one
-abbrev pub carried_pair : NetworkView → Frame → Option Pair
-carried_pair n f =
-    let from = host_of n f.sender in
-    let to = host_of n (other_side f.sender) in
-    option_map (segment_pair from.addr to.addr) (segment_in from.addr to.addr f.octets.items)
+-- the pair of the segment that a frame carries, whoever that is for, and none where it carries no segment
+abbrev pub carried_pair : Frame → Option Pair
+carried_pair f = pair_in f.octets.items
 
 -- at this place in the trace a side put the frame with this index into the network
 abbrev pub IsEmission : WorldView → ℕ → Side → ℕ → Type 0
@@ -59,7 +49,7 @@ pub record IsTraced (w : WorldView) (index : ℕ) (f : Frame) : Type 0 where
   pub place : ℕ
   pub emitted : IsEmission w place f.sender index
   pub only : (p : ℕ) (side : Side) → IsEmission w p side index → p ≡ place
-  pub pair : option_map (λ (note : Note). note.pair) f.note ≡ carried_pair w.network f
+  pub pair : option_map (λ (note : Note). note.pair) f.note ≡ carried_pair f
   pub note : IfSome f.note (IsNoteAt w place)
 
 -- each frame in the network
@@ -85,5 +75,5 @@ HasGrown w place pair =
 abbrev pub EveryDelayIsTraced : Type 0
 EveryDelayIsTraced = (limit : ℕ) (w : WorldView) → IsReached limit w → (side : Side) (index : ℕ) (isn : Seq) (f : Frame) (place : ℕ)
     → slice_get w.network.frames index ≡ Some f → IsEmission w place (other_side side) index
-    → ((unfair w (event.Deliver side index isn) ≡ Some OtherEpoch) ↔ ((pair : Pair) × (carried_pair w.network f ≡ Some pair) × HasRisen w place pair))
-    × ((unfair w (event.Deliver side index isn) ≡ Some Stale) ↔ ((pair : Pair) × (carried_pair w.network f ≡ Some pair) × HasGrown w place pair))
+    → ((unfair w (event.Deliver side index isn) ≡ Some OtherEpoch) ↔ ((pair : Pair) × (carried_pair f ≡ Some pair) × HasRisen w place pair))
+    × ((unfair w (event.Deliver side index isn) ≡ Some Stale) ↔ ((pair : Pair) × (carried_pair f ≡ Some pair) × HasGrown w place pair))

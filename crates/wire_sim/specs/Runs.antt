@@ -1,7 +1,6 @@
 -- Every run of a world: one fair event after another, in any order and of any kind, each answered by its host as the host's own
 -- definitions say. A frame may be delivered never, once or often, in any order.
 use Rattle.std.specs.Prelude.{◌≡◌, ℕ, ◌<◌, ◌≤◌, ◌^◌, false, List, [], ◌∷◌, ◌++◌, length, take, drop, Option, None, Some, ◌⊎◌, ◌↔◌, Result, Ok, Err}
-use Rattle.ipv4.specs.declared.addr.Addr.{Addr}
 use Rattle.ipv4.specs.declared.addr.Pair.{Pair}
 use Rattle.wire_sim.specs.declared.event.Side.{Side}
 use Rattle.wire_sim.specs.declared.event.Call.{Call}
@@ -11,10 +10,10 @@ use Rattle.wire_sim.specs.declared.event.Event.TheVariants as event
 use Rattle.wire_sim.specs.declared.event.Answer.{Answer}
 use Rattle.wire_sim.specs.declared.event.Unfair.{Unfair}
 use Rattle.wire_sim.specs.declared.event.Unfair.TheVariants.{NoMemory}
-use Rattle.ipv4.specs.Addresses.{same_addr}
+use Rattle.host.specs.ConfigView.{ConfigView}
 use Rattle.host.specs.Sound.{IsSoundHost}
 use Rattle.wire_sim.specs.Fairness.{Amount, unfair_event, IsFair}
-use Rattle.wire_sim.specs.WorldView.{WorldView, SameAnswer, written_at, fresh_world}
+use Rattle.wire_sim.specs.WorldView.{WorldView, SameAnswer, written_at, fresh_world, are_alike}
 use Rattle.wire_sim.specs.Steps.{Steps}
 use Rattle.wire_sim.specs.Trace.{written, StreamLaw}
 
@@ -49,9 +48,9 @@ pub record IsStep (happens : Event) (answer : Answer) (old new : WorldView) : Ty
   pub network : Steps happens (length old.trace) answer old.network new.network
   pub trace : new.trace ≡ old.trace ++ record { event = happens; answer = answer } ∷ []
 
--- what a world of two hosts at different addresses may come to
+-- what a world of two hosts of different addresses and MACs may come to
 pub data IsReached (limit : ℕ) : WorldView → Type 0 where
-  begins : (a b : Addr) → same_addr a b ≡ false → limit ≤ 2 ^ 30 → IsReached limit (fresh_world a b limit)
+  begins : (a b : ConfigView) → are_alike a b ≡ false → limit ≤ 2 ^ 30 → IsReached limit (fresh_world a b limit)
   goes_on : (w v : WorldView) (happens : Event) (answer : Answer) → IsReached limit w → IsStep happens answer w v → IsReached limit v
 
 -- the law of the stream, over every run

@@ -1,16 +1,17 @@
 -- What an event makes of the network: the host that it names takes its step, as its own table says, and everything else stays or grows by
 -- what is said here.
 use Rattle.std.specs.Prelude.{◌≡◌, ℕ, ◌+◌, min, nat_lt, Bool, true, false, if◌then◌else◌, List, [], ◌∷◌, ◌++◌, length, take, Option, Some, None, option_map, slice_get, Result, Ok, Err}
+use Rattle.ipv4.specs.declared.addr.Addr.{Addr}
 use Rattle.ipv4.specs.declared.addr.Pair.{Pair}
 use Rattle.clock.specs.declared.moment.Moment.{Moment}
 use Rattle.tcp_state.specs.declared.buffers.Buffers.{Buffers}
 use Rattle.tcp_state.specs.declared.calls.Received.{Received}
 use Rattle.tcp_state.specs.declared.calls.Received.TheVariants as received
-use Rattle.host.specs.declared.entry.SocketId.{SocketId}
-use Rattle.host.specs.declared.role.Role.{Role}
-use Rattle.host.specs.declared.role.Role.TheVariants.{Connected}
-use Rattle.host.specs.declared.refusal.Refusal.{Refusal}
-use Rattle.host.specs.declared.refusal.Refusal.TheVariants.{EMFILE, ENOMEM}
+use Rattle.sockets.specs.declared.entry.SocketId.{SocketId}
+use Rattle.sockets.specs.declared.role.Role.{Role}
+use Rattle.sockets.specs.declared.role.Role.TheVariants.{Connected}
+use Rattle.sockets.specs.declared.refusal.Refusal.{Refusal}
+use Rattle.sockets.specs.declared.refusal.Refusal.TheVariants.{EMFILE, ENOMEM}
 use Rattle.wire_sim.specs.declared.event.Side.{Side}
 use Rattle.wire_sim.specs.declared.event.Side.TheVariants.{A, B}
 use Rattle.wire_sim.specs.declared.event.Call.{Call}
@@ -23,16 +24,18 @@ use Rattle.wire_sim.specs.declared.event.Opening.{Opening}
 use Rattle.wire_sim.specs.declared.world.bag.Frame.{Frame}
 use Rattle.wire_sim.specs.declared.world.bag.Note.{Note}
 use Rattle.wire_sim.specs.declared.world.station.Station.{Station}
-use Rattle.host.specs.Calls.{unless_refused, is_table_full, after_socket, bind_refusal, after_bind, listen_refusal, after_listen, accept_answer, after_accept, connect_refusal, after_connect, send_answer, after_send, recv_answer, after_recv, shutdown_refusal, after_shutdown, close_refusal, after_close, state_answer}
+use Rattle.sockets.specs.Calls.{unless_refused, is_table_full, after_socket, bind_refusal, after_bind, listen_refusal, after_listen, accept_answer, after_accept, connect_refusal, after_connect, send_answer, after_send, recv_answer, after_recv, shutdown_refusal, after_shutdown, close_refusal, after_close, state_answer}
 use Rattle.host.specs.Arrival.{IsDelivered}
-use Rattle.host.specs.HostView.{HostView, role_of}
+use Rattle.sockets.specs.SocketsView.{SocketsView, role_of}
+use Rattle.host.specs.HostView.{HostView}
 use Rattle.host.specs.Ticks.{after_tick}
 use Rattle.host.specs.Emission.{after_emission, emission_len, emission_octets}
 use Rattle.wire_sim.specs.Sides.{other_side}
 use Rattle.wire_sim.specs.Tallies.{counts_after}
 use Rattle.wire_sim.specs.Openings.{epoch_of, opened_by_connect, opened_by_frame}
-use Rattle.host.specs.Pairs.{due_pair}
-use Rattle.wire_sim.specs.WorldView.{NetworkView, station_of, host_of, clock_of, written_at}
+use Rattle.frames.specs.Pairs.{pair_in}
+use Rattle.interface.specs.Ways.{is_routed}
+use Rattle.wire_sim.specs.WorldView.{NetworkView, station_of, host_of, table_of, clock_of, written_at}
 
 -- a side's host and clock are these, and all else is as it was
 abbrev pub with_station : NetworkView → Side → Station → NetworkView
@@ -42,13 +45,15 @@ with_station n B s = record n { b = s }
 abbrev pub with_host : NetworkView → Side → HostView → NetworkView
 with_host n side h = let s = station_of n side in with_station n side (record s { host = h })
 
--- a value is told and the host becomes the next one, or a refusal is told and it is as it was
-abbrev pub Answers : {T : Type 0} → Result T Refusal → (T → Answer) → HostView → HostView → Answer → HostView → Type 0
+-- Calls, of a host's table.
+
+-- a value is told and the table becomes the next one, or a refusal is told and it is as it was
+abbrev pub Answers : {T : Type 0} → Result T Refusal → (T → Answer) → SocketsView → SocketsView → Answer → SocketsView → Type 0
 Answers (Ok value) told next old answer new = (answer ≡ told value) × (new ≡ next)
 Answers (Err refusal) told next old answer new = (answer ≡ reply.Refused refusal) × (new ≡ old)
 
 -- a new socket, but where the table is full or memory is refused
-abbrev pub MeetsSocket : HostView → Answer → HostView → Type 0
+abbrev pub MeetsSocket : SocketsView → Answer → SocketsView → Type 0
 MeetsSocket h (reply.Socket id) new = (is_table_full h ≡ false) × (id.0 ≡ h.last_id + 1) × ((buffers : Buffers) × (new ≡ after_socket h buffers))
 MeetsSocket h (reply.Refused EMFILE) new = (is_table_full h ≡ true) × (new ≡ h)
 MeetsSocket h (reply.Refused ENOMEM) new = (is_table_full h ≡ false) × (new ≡ h)
@@ -59,7 +64,7 @@ abbrev pub recv_len : ℕ → ℕ
 recv_len len = min len 65535
 
 -- the first octets that are readable on a socket
-abbrev pub readable_on : HostView → SocketId → ℕ → List ℕ
+abbrev pub readable_on : SocketsView → SocketId → ℕ → List ℕ
 readable_on h id count = of_role (role_of h id)
   where
     of_role : Option Role → List ℕ
@@ -67,24 +72,29 @@ readable_on h id count = of_role (role_of h id)
     of_role _ = []
 
 -- the octets that a receive answers are the first that were readable
-abbrev pub MeetsReceived : HostView → SocketId → ℕ → Result Received Refusal → Answer → HostView → Type 0
+abbrev pub MeetsReceived : SocketsView → SocketId → ℕ → Result Received Refusal → Answer → SocketsView → Type 0
 MeetsReceived h id len (Ok (received.Octets count)) (reply.Octets octets) new = (octets.items ≡ readable_on h id count) × (new ≡ after_recv h id len)
 MeetsReceived h id len (Ok received.EndOfStream) reply.EndOfStream new = new ≡ after_recv h id len
 MeetsReceived h id len (Err refusal) (reply.Refused told) new = (told ≡ refusal) × (new ≡ h)
 MeetsReceived h id len _ _ new = ⊥
 
--- what a host answers to a call, and what it becomes
-abbrev pub MeetsCall : Call → HostView → Answer → HostView → Type 0
-MeetsCall (call.Socket kind) h answer new = MeetsSocket h answer new
-MeetsCall (call.Bind id local) h answer new = Answers (unless_refused (bind_refusal h id local) (tt {0})) (λ _. reply.Done) (after_bind h id local) h answer new
-MeetsCall (call.Listen id backlog) h answer new = Answers (unless_refused (listen_refusal h id backlog) (tt {0})) (λ _. reply.Done) (after_listen h id backlog) h answer new
-MeetsCall (call.Accept id) h answer new = Answers (accept_answer h id) (λ p. reply.Accepted p.0 p.1) (after_accept h id) h answer new
-MeetsCall (call.Connect isn id peer) h answer new = Answers (unless_refused (connect_refusal h id peer) (tt {0})) (λ _. reply.Started) (after_connect h isn.0 id peer) h answer new
-MeetsCall (call.Send id octets) h answer new = Answers (send_answer h id octets.items) (λ count. reply.Sent count) (after_send h id octets.items) h answer new
-MeetsCall (call.Recv id len) h answer new = MeetsReceived h id (recv_len len) (recv_answer h id (recv_len len)) answer new
-MeetsCall (call.Shutdown id) h answer new = Answers (unless_refused (shutdown_refusal h id) (tt {0})) (λ _. reply.Done) (after_shutdown h id) h answer new
-MeetsCall (call.Close id) h answer new = Answers (unless_refused (close_refusal h id) (tt {0})) (λ _. reply.Done) (after_close h id) h answer new
-MeetsCall (call.State id) h answer new = Answers (state_answer h id) (λ state. reply.State state) h h answer new
+-- what is answered to a call, and what the table becomes, where it is told to which addresses a route leads
+abbrev pub MeetsCall : (Addr → Bool) → Call → SocketsView → Answer → SocketsView → Type 0
+MeetsCall routed (call.Socket kind) h answer new = MeetsSocket h answer new
+MeetsCall routed (call.Bind id local) h answer new = Answers (unless_refused (bind_refusal h id local) (tt {0})) (λ _. reply.Done) (after_bind h id local) h answer new
+MeetsCall routed (call.Listen id backlog) h answer new = Answers (unless_refused (listen_refusal h id backlog) (tt {0})) (λ _. reply.Done) (after_listen h id backlog) h answer new
+MeetsCall routed (call.Accept id) h answer new = Answers (accept_answer h id) (λ p. reply.Accepted p.0 p.1) (after_accept h id) h answer new
+MeetsCall routed (call.Connect isn id peer) h answer new = Answers (unless_refused (connect_refusal h id peer (routed peer.addr)) (tt {0})) (λ _. reply.Started) (after_connect h isn.0 id peer (routed peer.addr)) h answer new
+MeetsCall routed (call.Send id octets) h answer new = Answers (send_answer h id octets.items) (λ count. reply.Sent count) (after_send h id octets.items) h answer new
+MeetsCall routed (call.Recv id len) h answer new = MeetsReceived h id (recv_len len) (recv_answer h id (recv_len len)) answer new
+MeetsCall routed (call.Shutdown id) h answer new = Answers (unless_refused (shutdown_refusal h id) (tt {0})) (λ _. reply.Done) (after_shutdown h id) h answer new
+MeetsCall routed (call.Close id) h answer new = Answers (unless_refused (close_refusal h id) (tt {0})) (λ _. reply.Done) (after_close h id) h answer new
+MeetsCall routed (call.State id) h answer new = Answers (state_answer h id) (λ state. reply.State state) h h answer new
+
+-- a call is of the table alone, and its interface says where a route leads
+pub record HostMeetsCall (c : Call) (h : HostView) (answer : Answer) (new : HostView) : Type 0 where
+  pub table : MeetsCall (is_routed h.interface) c h.sockets answer new.sockets
+  pub others : new ≡ record h { sockets = new.sockets }
 
 -- an opening is added, if there is one, with nothing counted yet
 abbrev pub with_opening : NetworkView → Option Opening → NetworkView
@@ -94,7 +104,7 @@ with_opening n (Some o) = record n { openings = n.openings ++ o ∷ []; written 
 -- the network once a call on a side was answered and its host became another: a connect that was started opens a pair, and octets
 -- that were taken are counted
 abbrev pub after_call : Side → Call → Answer → ℕ → NetworkView → HostView → NetworkView
-after_call side (call.Connect isn id peer) reply.Started place n host = with_opening (with_host n side host) (opened_by_connect n.openings side id place host (host_of n (other_side side)))
+after_call side (call.Connect isn id peer) reply.Started place n host = with_opening (with_host n side host) (opened_by_connect n.openings side id place host.sockets (table_of n (other_side side)))
 after_call side (call.Send id octets) (reply.Sent count) place n host = record (with_host n side host) { written = counts_after n.openings n.written side id count }
 after_call side _ _ place n host = with_host n side host
 
@@ -109,25 +119,25 @@ station_after_tick s moment = record s {
 abbrev pub note_of : NetworkView → Pair → Note
 note_of n pair = let epoch = epoch_of n.openings pair in record { pair = pair; epoch = epoch; at_a = written_at n A pair epoch; at_b = written_at n B pair epoch }
 
--- The first segment that is due at a side's host went out, and its very octets stand at the end of the frames.
+-- The first frame that can go out of a side's host did, and its very octets stand at the end of the frames. It has a note where it carries a segment.
 pub record EmitsFrame (side : Side) (index len : ℕ) (old new : NetworkView) : Type 0 where
-  pub due : emission_len (host_of old side) ≡ Some len
+  pub due : emission_len (host_of old side) (clock_of old side) ≡ Some len
   pub place : index ≡ length old.frames
   pub frame : Frame
   pub sender : frame.sender ≡ side
-  pub octets : frame.octets.items ≡ emission_octets (host_of old side)
-  pub note : frame.note ≡ option_map (note_of old) (due_pair (host_of old side))
+  pub octets : frame.octets.items ≡ emission_octets (host_of old side) (clock_of old side)
+  pub note : frame.note ≡ option_map (note_of old) (pair_in frame.octets.items)
   pub after : new ≡ record (with_host old side (after_emission (host_of old side) (clock_of old side))) { frames = old.frames ++ frame ∷ [] }
 
--- nothing is due, and then nothing changes
+-- none can, and then nothing changes
 pub record EmitsNothing (side : Side) (old new : NetworkView) : Type 0 where
-  pub due : emission_len (host_of old side) ≡ None
+  pub due : emission_len (host_of old side) (clock_of old side) ≡ None
   pub after : new ≡ old
 
 -- what a frame made of its host, and the opening of its pair where the host holds it anew
 abbrev pub after_delivery : Side → ℕ → Option Note → NetworkView → HostView → NetworkView
 after_delivery side place None n host = with_host n side host
-after_delivery side place (Some note) n host = with_opening (with_host n side host) (opened_by_frame n.openings side place note.pair (host_of n side) host)
+after_delivery side place (Some note) n host = with_opening (with_host n side host) (opened_by_frame n.openings side place note.pair (table_of n side) host.sockets)
 
 -- the host takes the frame's octets at its clock's moment, or drops them with a cause
 abbrev pub MeetsFrame : HostView → Moment → ℕ → List ℕ → Answer → HostView → Type 0
@@ -148,7 +158,7 @@ MeetsEmission side _ old new = ⊥
 
 -- what an event, answered so, makes of the network; its place in the trace is given
 abbrev pub Steps : Event → ℕ → Answer → NetworkView → NetworkView → Type 0
-Steps (event.Call side c) place answer old new = MeetsCall c (host_of old side) answer (host_of new side) × (new ≡ after_call side c answer place old (host_of new side))
+Steps (event.Call side c) place answer old new = HostMeetsCall c (host_of old side) answer (host_of new side) × (new ≡ after_call side c answer place old (host_of new side))
 Steps (event.Tick side moment) place answer old new = (answer ≡ reply.Done) × (new ≡ with_station old side (station_after_tick (station_of old side) moment))
 Steps (event.Emit side) place answer old new = MeetsEmission side answer old new
 Steps (event.Deliver side index isn) place answer old new = DeliversFrame side isn.0 place answer old new (slice_get old.frames index)

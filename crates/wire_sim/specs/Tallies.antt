@@ -3,7 +3,7 @@ use Rattle.std.specs.Prelude.{ℕ, ◌+◌, Bool, ◌==◌, ◌&&◌, if◌then�
 use Rattle.ipv4.specs.declared.addr.Pair.{Pair}
 use Rattle.wire_sim.specs.declared.event.Side.{Side}
 use Rattle.wire_sim.specs.declared.event.Opening.{Opening}
-use Rattle.host.specs.declared.entry.SocketId.{SocketId}
+use Rattle.sockets.specs.declared.entry.SocketId.{SocketId}
 use Rattle.ipv4.specs.Addresses.{same_end}
 use Rattle.wire_sim.specs.Sides.{same_side}
 

@@ -1,7 +1,7 @@
 -- What the callers gave to the hosts and got from them, read off the trace, and the law of the stream.
 use Rattle.std.specs.Prelude.{◌≡◌, ℕ, Bool, true, false, ◌==◌, ◌&&◌, ◌||◌, if◌then◌else◌, List, [], ◌∷◌, ◌++◌, take, Option, Some, None, find}
 use Rattle.ipv4.specs.declared.addr.Pair.{Pair}
-use Rattle.host.specs.declared.entry.SocketId.{SocketId}
+use Rattle.sockets.specs.declared.entry.SocketId.{SocketId}
 use Rattle.wire_sim.specs.declared.event.Side.{Side}
 use Rattle.wire_sim.specs.declared.event.Call.TheVariants as call
 use Rattle.wire_sim.specs.declared.event.Event.{Event}

@@ -1,6 +1,5 @@
 -- What a reader sees of a world.
-use Rattle.std.specs.Prelude.{◌≡◌, ℕ, List, [], vec_len, Option, Some, None}
-use Rattle.ipv4.specs.declared.addr.Addr.{Addr}
+use Rattle.std.specs.Prelude.{◌≡◌, ℕ, Bool, ◌||◌, List, [], vec_len, Option, Some, None}
 use Rattle.ipv4.specs.declared.addr.Pair.{Pair}
 use Rattle.clock.specs.declared.moment.Moment.{Moment}
 use Rattle.wire_sim.specs.declared.event.Side.{Side}
@@ -12,6 +11,10 @@ use Rattle.wire_sim.specs.declared.event.Happening.{Happening}
 use Rattle.wire_sim.specs.declared.world.bag.Frame.{Frame}
 use Rattle.wire_sim.specs.declared.world.station.Station.{Station}
 use Rattle.wire_sim.specs.declared.world.network.Network.{Network}
+use Rattle.ipv4.specs.Addresses.{same_addr}
+use Rattle.frames.specs.Meaning.{same_mac}
+use Rattle.sockets.specs.SocketsView.{SocketsView}
+use Rattle.host.specs.ConfigView.{ConfigView}
 use Rattle.host.specs.HostView.{HostView, new_host}
 use Rattle.wire_sim.specs.Tallies.{written_by}
 
@@ -51,6 +54,9 @@ station_of n B = n.b
 abbrev pub host_of : NetworkView → Side → HostView
 host_of n side = let s = station_of n side in s.host
 
+abbrev pub table_of : NetworkView → Side → SocketsView
+table_of n side = let h = host_of n side in h.sockets
+
 abbrev pub clock_of : NetworkView → Side → Moment
 clock_of n side = let s = station_of n side in s.clock
 
@@ -75,19 +81,23 @@ octets_len (answer.Octets octets) = vec_len octets
 octets_len _ = 0
 
 -- a host on which nothing happened, at the moment 0
-abbrev pub fresh_station : Addr → Addr → Station
-fresh_station addr neighbour = record { host = new_host addr neighbour; clock = record { 0 = 0 } }
+abbrev pub fresh_station : ConfigView → Station
+fresh_station config = record { host = new_host config; clock = record { 0 = 0 } }
 
--- two such hosts, each the other's neighbour, and no frames
-abbrev pub fresh_network : Addr → Addr → ℕ → NetworkView
+-- two such hosts on one link, and no frames
+abbrev pub fresh_network : ConfigView → ConfigView → ℕ → NetworkView
 fresh_network a b limit = record {
   limit = limit;
-  a = fresh_station a b;
-  b = fresh_station b a;
+  a = fresh_station a;
+  b = fresh_station b;
   frames = [];
   openings = [];
   written = [];
 }
 
-abbrev pub fresh_world : Addr → Addr → ℕ → WorldView
+abbrev pub fresh_world : ConfigView → ConfigView → ℕ → WorldView
 fresh_world a b limit = record { network = fresh_network a b limit; trace = [] }
+
+-- two hosts have one address or one MAC
+abbrev pub are_alike : ConfigView → ConfigView → Bool
+are_alike a b = same_addr a.addr b.addr || same_mac a.mac b.mac

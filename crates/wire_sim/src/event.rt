@@ -205,7 +205,7 @@ pub enum WorldFault {
     /// Memory ran out.
     #[error("N1 NoMemory")]
     NoMemory,
-    /// Both hosts have the same address.
+    /// Both hosts have the same address, or the same MAC.
     #[error("N2 SameAddress")]
     SameAddress,
 }

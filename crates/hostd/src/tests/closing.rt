@@ -38,10 +38,10 @@ a recv 1 100 -> end
 /// Each side's end is under way to the other.
 const AT_ONCE: &str = "a shutdown 1 -> ok
 b shutdown 2 -> ok
-a emit -> frame 3 20
-b emit -> frame 4 20
-b deliver 3 0 -> taken
-a deliver 4 0 -> taken
+a emit -> frame 5 60
+b emit -> frame 6 60
+b deliver 5 0 -> taken
+a deliver 6 0 -> taken
 a state 1 -> CLOSING
 b state 2 -> CLOSING
 a recv 1 100 -> end
@@ -70,17 +70,19 @@ pass 0 -> a 1 b 1
 b close 2 -> ok
 pass 0 -> a 0 b 1
 pass 0 -> a 1 b 0
-b deliver 0 9 -> U4 SecondOpening
+b deliver 2 9 -> U4 SecondOpening
+a state 1 -> E1 EBADF
 a tick 240000 -> ok
 a socket tcp -> id 2
 a bind 2 49152 -> ok
 a connect 2 80 5 -> started
-b deliver 0 9 -> U3 OtherEpoch
+b deliver 2 9 -> U3 OtherEpoch
 ";
 
 /// No socket has the port.
 const REFUSED: &str = "a socket tcp -> id 1
 a connect 1 81 5 -> started
+pass 0 -> a 1 b 1
 pass 0 -> a 1 b 1
 a state 1 -> CLOSED
 a recv 1 10 -> E9 ECONNREFUSED

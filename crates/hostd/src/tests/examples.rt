@@ -13,31 +13,40 @@ a socket tcp -> id 1
 # Nothing has gone out yet.
 a connect 1 80 100 -> started
 a state 1 -> SYN-SENT
-# a's first frame is its SYN. It lies in the bag with the index 0 and has 24 octets.
-a emit -> frame 0 24
+# a doesn't know b's MAC yet. So its first frame asks every host on the link who has 10.0.0.2 (ARP). It lies in the bag
+# with the index 0 and has 60 octets, the least that a frame has.
+a emit -> frame 0 60
+# Until that is answered the SYN waits, and nobody is asked again within a second.
+a emit -> none
+# b takes the request, learns from it where a is, and answers. The last number counts only for a frame that opens a connection.
+b deliver 0 0 -> taken
+b emit -> frame 1 60
+a deliver 1 0 -> taken
+# Now a's SYN goes out.
+a emit -> frame 2 60
 # b takes it. The last number is the one at which b's numbers begin.
-b deliver 0 300 -> taken
+b deliver 2 300 -> taken
 # b answers with a SYN of its own that acknowledges a's. Until that is acknowledged nothing can be accepted.
 b accept 1 -> E8 EAGAIN
-b emit -> frame 1 24
+b emit -> frame 3 60
 # With that a's side stands, and a acknowledges b's SYN.
-a deliver 1 0 -> taken
+a deliver 3 0 -> taken
 a state 1 -> ESTABLISHED
-a emit -> frame 2 20
-b deliver 2 0 -> taken
+a emit -> frame 4 60
+b deliver 4 0 -> taken
 # Now b's side stands too. b is told the new socket's id, and the address and the port of its peer.
 b accept 1 -> id 2 10.0.0.1 49152
 b state 2 -> ESTABLISHED
-# a sends five octets. The frame has 20 octets of header and these five.
+# a sends five octets. The frame has headers of 14, 20 and 20 octets, these five, and one zero that fills it up to 60.
 a send 1 hello -> sent 5
-a emit -> frame 3 25
-b deliver 3 0 -> taken
+a emit -> frame 5 60
+b deliver 5 0 -> taken
 # b reads them, and then there is nothing more to read.
 b recv 2 100 -> octets hello
 b recv 2 100 -> E8 EAGAIN
 # b acknowledges them, and neither side has anything left to say.
-b emit -> frame 4 20
-a deliver 4 0 -> taken
+b emit -> frame 6 60
+a deliver 6 0 -> taken
 a emit -> none
 b emit -> none
 ";
@@ -46,18 +55,20 @@ b emit -> none
 const LOSS_REPAIRED: &str =
     "# A frame with octets is lost. A second later they go out again, and b reads them once.
 #
-# First the two hosts open a connection: pass lets frames go both ways, and tells how many each side sent.
+# First the two hosts open a connection: pass lets frames go both ways, and tells how many each side sent. By the first two
+# frames a learns b's MAC (ARP).
 b socket tcp -> id 1
 b bind 1 80 -> ok
 b listen 1 1 -> ok
 a socket tcp -> id 1
 a connect 1 80 100 -> started
 pass 300 -> a 1 b 1
+pass 300 -> a 1 b 1
 pass 300 -> a 1 b 0
 b accept 1 -> id 2 10.0.0.1 49152
 # a sends five octets. Their frame lies in the bag and isn't delivered: it is lost.
 a send 1 hello -> sent 5
-a emit -> frame 3 25
+a emit -> frame 5 60
 b recv 2 100 -> E8 EAGAIN
 # a waits for the acknowledgement. One millisecond before a second is over, nothing is due.
 a emit -> none
@@ -65,20 +76,20 @@ a tick 999 -> ok
 a emit -> none
 # At 1,000 milliseconds the same octets go out again, and now they arrive.
 a tick 1000 -> ok
-a emit -> frame 4 25
-b deliver 4 0 -> taken
+a emit -> frame 6 60
+b deliver 6 0 -> taken
 b recv 2 100 -> octets hello
 # b's acknowledgement arrives. So nothing goes out again, however long a waits.
-b emit -> frame 5 20
-a deliver 5 0 -> taken
+b emit -> frame 7 60
+a deliver 7 0 -> taken
 a tick 9000 -> ok
 a emit -> none
 # The lost frame turns up after all. b has read these octets and takes them for no others:
 # it only tells a once more how far it has come.
-b deliver 3 0 -> taken
+b deliver 5 0 -> taken
 b recv 2 100 -> E8 EAGAIN
-b emit -> frame 6 20
-a deliver 6 0 -> taken
+b emit -> frame 8 60
+a deliver 8 0 -> taken
 a emit -> none
 ";
 
@@ -92,6 +103,7 @@ b listen 1 1 -> ok
 a socket tcp -> id 1
 a connect 1 80 100 -> started
 pass 300 -> a 1 b 1
+pass 300 -> a 1 b 1
 pass 300 -> a 1 b 0
 b accept 1 -> id 2 10.0.0.1 49152
 # Each closes its side, and from then on gives no more octets.
@@ -101,10 +113,10 @@ a send 1 x -> E12 EPIPE
 a state 1 -> FIN-WAIT-1
 b state 2 -> FIN-WAIT-1
 # Both ends are under way at once, as frames without octets.
-a emit -> frame 3 20
-b emit -> frame 4 20
-b deliver 3 0 -> taken
-a deliver 4 0 -> taken
+a emit -> frame 5 60
+b emit -> frame 6 60
+b deliver 5 0 -> taken
+a deliver 6 0 -> taken
 # Each side has heard the other's end, and its own isn't acknowledged yet.
 a state 1 -> CLOSING
 b state 2 -> CLOSING
@@ -112,10 +124,10 @@ b state 2 -> CLOSING
 a recv 1 100 -> end
 b recv 2 100 -> end
 # The acknowledgements cross too.
-a emit -> frame 5 20
-b emit -> frame 6 20
-b deliver 5 0 -> taken
-a deliver 6 0 -> taken
+a emit -> frame 7 60
+b emit -> frame 8 60
+b deliver 7 0 -> taken
+a deliver 8 0 -> taken
 a state 1 -> TIME-WAIT
 b state 2 -> TIME-WAIT
 # Both wait 240,000 milliseconds, twice the time that a segment may live.
@@ -134,9 +146,11 @@ pass 0 -> a 0 b 0
 /// examples/reset.txt
 const RESET: &str = "# A connection is refused, and another one is reset.
 #
-# Nobody listens at port 81 of b. a's SYN is answered by a reset, and a's calls tell ECONNREFUSED.
+# Nobody listens at port 81 of b. When a has learnt b's MAC, its SYN goes out and is answered by a reset, and a's calls
+# answer ECONNREFUSED.
 a socket tcp -> id 1
 a connect 1 81 100 -> started
+pass 0 -> a 1 b 1
 pass 0 -> a 1 b 1
 a state 1 -> CLOSED
 a recv 1 100 -> E9 ECONNREFUSED
@@ -145,7 +159,7 @@ a send 1 x -> E9 ECONNREFUSED
 a recv 1 100 -> E9 ECONNREFUSED
 a close 1 -> ok
 a recv 1 100 -> E1 EBADF
-# At port 80 b takes a connection. a's first port was 49152, so this one comes from the next.
+# At port 80 b takes a connection. a's first port was 49152, so this one comes from the next, and it knows b's MAC.
 b socket tcp -> id 1
 b bind 1 80 -> ok
 b listen 1 1 -> ok
@@ -160,8 +174,8 @@ pass 0 -> a 1 b 1
 a state 2 -> ESTABLISHED
 # b's caller gives the socket back. Since octets are unread, a is told by a reset that they were lost.
 b close 2 -> ok
-b emit -> frame 7 20
-a deliver 7 0 -> taken
+b emit -> frame 9 60
+a deliver 9 0 -> taken
 a state 2 -> CLOSED
 # All of a's calls on the connection tell ECONNRESET now.
 a recv 2 100 -> E10 ECONNRESET
@@ -178,12 +192,13 @@ const OLD_SEGMENT_REFUSED: &str =
 #
 # A frame is stale once an end took 16 octets more from its caller. This line must come first.
 limit 16 -> ok
-# The two hosts open a connection. Its first frame, a's SYN, has the index 0.
+# The two hosts open a connection. Its first frame, a's SYN, has the index 2: by the first two a learnt b's MAC.
 b socket tcp -> id 1
 b bind 1 80 -> ok
 b listen 1 1 -> ok
 a socket tcp -> id 1
 a connect 1 80 100 -> started
+pass 300 -> a 1 b 1
 pass 300 -> a 1 b 1
 pass 300 -> a 1 b 0
 b accept 1 -> id 2 10.0.0.1 49152
@@ -194,31 +209,31 @@ b close 2 -> ok
 pass 0 -> a 0 b 1
 pass 0 -> a 1 b 0
 # The SYN comes once more. b still listens at port 80 and would open the same connection a second time.
-b deliver 0 900 -> U4 SecondOpening
+b deliver 2 900 -> U4 SecondOpening
 # When a has waited long enough, its port is free. a opens a second connection between the same ports.
 a tick 240000 -> ok
 a socket tcp -> id 2
 a bind 2 49152 -> ok
 a connect 2 80 5000 -> started
 # From now on every frame of the first connection is one of an earlier epoch of these ports.
-b deliver 0 900 -> U3 OtherEpoch
 b deliver 2 900 -> U3 OtherEpoch
+b deliver 4 900 -> U3 OtherEpoch
 pass 700 -> a 1 b 1
 pass 700 -> a 1 b 0
 b accept 1 -> id 3 10.0.0.1 49152
-b deliver 0 900 -> U3 OtherEpoch
+b deliver 2 900 -> U3 OtherEpoch
 # a sends five octets, and b reads them.
 a send 2 hello -> sent 5
-a emit -> frame 10 25
-b deliver 10 0 -> taken
+a emit -> frame 12 60
+b deliver 12 0 -> taken
 b recv 3 100 -> octets hello
 # a's caller gives 15 octets more. The frame may still come again, and changes nothing.
 a fill 2 15 -> sent 15
-b deliver 10 0 -> taken
+b deliver 12 0 -> taken
 b recv 3 100 -> E8 EAGAIN
 # With the 16th it is stale.
 a fill 2 1 -> sent 1
-b deliver 10 0 -> U2 Stale
+b deliver 12 0 -> U2 Stale
 # What was refused changed nothing: the connection goes on.
 pass 0 -> a 0 b 1
 pass 0 -> a 1 b 1

@@ -36,8 +36,8 @@ struct Dialogue {
     turns: usize,
 }
 
-/// How often a side is asked for a frame at once: more often than it has one.
-const EMISSIONS: usize = 4;
+/// How often a side is asked for a frame at once. What is due beyond that goes out in the next crossing.
+const EMISSIONS: usize = 2;
 
 /// How often frames go both ways in a turn at most.
 const CROSSINGS: usize = 8;
@@ -259,8 +259,8 @@ const NUMBERS: [u32; 11] = [
 /// With this one, `hello` goes past the last number.
 const MID_TEXT: u32 = 4_294_967_292;
 
-/// More than the frames of a course on a network that loses none.
-const FRAMES: usize = 12;
+/// More than the frames of a course on a network that loses none, the two that tell a of b's MAC first.
+const FRAMES: usize = 14;
 
 /// Plays a course from each of the numbers, and then with each of its frames lost or repeated.
 fn plays_everywhere(rt: &impl Abort, alloc: Global, course: &Course) -> Result<(), Fail> {

@@ -157,6 +157,7 @@ b close 2 -> E1 EBADF
 const TOLD_REFUSED: &str = "a socket tcp -> id 1
 a connect 1 81 5 -> started
 pass 0 -> a 1 b 1
+pass 0 -> a 1 b 1
 a state 1 -> CLOSED
 a bind 1 5 -> E2 EINVAL
 a listen 1 1 -> E2 EINVAL
@@ -241,6 +242,7 @@ b socket tcp -> id 6
 b socket tcp -> id 7
 a socket tcp -> id 1
 a connect 1 80 5 -> started
+pass 7 -> a 1 b 1
 pass 7 -> a 1 b 1
 b socket tcp -> E15 EMFILE
 pass 7 -> a 1 b 0

@@ -70,19 +70,20 @@ b bind 1 80 -> ok
 b listen 1 1 -> ok
 a socket tcp -> id 1
 a connect 1 80 5 -> started
-a emit -> frame 0 24
-b deliver 0 7 -> taken
+pass 0 -> a 1 b 1
+a emit -> frame 2 60
+b deliver 2 7 -> taken
 b close 1 -> ok
-b emit -> frame 1 20
+b emit -> frame 3 60
 b emit -> none
-a deliver 1 0 -> taken
+a deliver 3 0 -> taken
 a state 1 -> SYN-SENT
 a recv 1 1 -> E8 EAGAIN
 a tick 1000 -> ok
-a emit -> frame 2 24
-b deliver 2 9 -> taken
-b emit -> frame 3 20
-a deliver 3 0 -> taken
+a emit -> frame 4 60
+b deliver 4 9 -> taken
+b emit -> frame 5 60
+a deliver 5 0 -> taken
 ";
 
 /// A port takes no connection while its socket is only bound, nor once that was given back.
@@ -90,6 +91,7 @@ const NOBODY_LISTENS: &str = "b socket tcp -> id 1
 b bind 1 80 -> ok
 a socket tcp -> id 1
 a connect 1 80 5 -> started
+pass 0 -> a 1 b 1
 pass 0 -> a 1 b 1
 a recv 1 1 -> E9 ECONNREFUSED
 b state 1 -> CLOSED
@@ -115,25 +117,26 @@ b bind 1 80 -> ok
 b listen 1 1 -> ok
 a socket tcp -> id 1
 a connect 1 80 5 -> started
-a emit -> frame 0 24
-b deliver 0 7 -> taken
+pass 0 -> a 1 b 1
+a emit -> frame 2 60
+b deliver 2 7 -> taken
 a socket tcp -> id 2
 a connect 2 80 9 -> started
-a emit -> frame 1 24
-b deliver 1 7 -> drop F9
+a emit -> frame 3 60
+b deliver 3 7 -> drop F9
 a close 1 -> ok
-b emit -> frame 2 24
-a deliver 2 0 -> taken
-a emit -> frame 3 20
-b deliver 3 0 -> taken
+b emit -> frame 4 60
+a deliver 4 0 -> taken
+a emit -> frame 5 60
+b deliver 5 0 -> taken
 b tick 1000 -> ok
 b emit -> none
 b accept 1 -> E8 EAGAIN
-b deliver 1 7 -> taken
-b emit -> frame 4 24
-a deliver 4 0 -> taken
-a emit -> frame 5 20
-b deliver 5 0 -> taken
+b deliver 3 7 -> taken
+b emit -> frame 6 60
+a deliver 6 0 -> taken
+a emit -> frame 7 60
+b deliver 7 0 -> taken
 b accept 1 -> id 3 10.0.0.1 49153
 b state 3 -> ESTABLISHED
 ";
@@ -142,36 +145,36 @@ b state 3 -> ESTABLISHED
 const NOT_ACCEPTED: &str = "a close 1 -> ok
 pass 0 -> a 1 b 1
 a tick 60000 -> ok
-a deliver 4 0 -> taken
-a emit -> frame 5 20
-b deliver 5 0 -> taken
+a deliver 6 0 -> taken
+a emit -> frame 7 60
+b deliver 7 0 -> taken
 a socket tcp -> id 2
 a connect 2 80 9 -> started
-a emit -> frame 6 24
-b deliver 6 8 -> drop F9
+a emit -> frame 8 60
+b deliver 8 8 -> drop F9
 b accept 1 -> id 2 10.0.0.1 49152
 b state 2 -> CLOSED
 b recv 2 1 -> E10 ECONNRESET
 b send 2 x -> E10 ECONNRESET
 b shutdown 2 -> E10 ECONNRESET
-b deliver 6 8 -> taken
+b deliver 8 8 -> taken
 ";
 
 /// Its side is closed, and the end has not gone out.
 const FIN_WAIT_1: &str = "a shutdown 1 -> ok
 a state 1 -> FIN-WAIT-1
 b close 2 -> ok
-b emit -> frame 5 20
-a deliver 5 0 -> taken
+b emit -> frame 7 60
+a deliver 7 0 -> taken
 ";
 
 /// The end has gone out and is lost.
 const FIN_WAIT_1_SENT: &str = "a shutdown 1 -> ok
-a emit -> frame 5 20
+a emit -> frame 7 60
 a state 1 -> FIN-WAIT-1
 b close 2 -> ok
-b emit -> frame 6 20
-a deliver 6 0 -> taken
+b emit -> frame 8 60
+a deliver 8 0 -> taken
 ";
 
 const FIN_WAIT_2: &str = "a shutdown 1 -> ok
@@ -190,30 +193,30 @@ b state 2 -> FIN-WAIT-2
 /// The ends cross, and a's is lost.
 const CLOSING: &str = "a shutdown 1 -> ok
 b shutdown 2 -> ok
-a emit -> frame 5 20
-b emit -> frame 6 20
-a deliver 6 0 -> taken
+a emit -> frame 7 60
+b emit -> frame 8 60
+a deliver 8 0 -> taken
 a state 1 -> CLOSING
 b state 2 -> FIN-WAIT-1
 b close 2 -> ok
-b emit -> frame 7 20
-a deliver 7 0 -> taken
+b emit -> frame 9 60
+a deliver 9 0 -> taken
 ";
 
 /// From CLOSE-WAIT.
 const LAST_ACK: &str = "a shutdown 1 -> ok
 a state 1 -> LAST-ACK
 b close 2 -> ok
-b emit -> frame 7 20
-a deliver 7 0 -> taken
+b emit -> frame 9 60
+a deliver 9 0 -> taken
 ";
 
 /// The same where a has octets that are unread: they are read still, and then the end.
 const LAST_ACK_UNREAD: &str = "a shutdown 1 -> ok
 a state 1 -> LAST-ACK
 b close 2 -> ok
-b emit -> frame 9 20
-a deliver 9 0 -> taken
+b emit -> frame 11 60
+a deliver 11 0 -> taken
 a state 1 -> CLOSED
 a recv 1 3 -> octets wor
 a recv 1 3 -> octets ld
@@ -221,10 +224,10 @@ a recv 1 3 -> octets ld
 
 const TIME_WAIT: &str = "a shutdown 1 -> ok
 b shutdown 2 -> ok
-a emit -> frame 5 20
-b emit -> frame 6 20
-b deliver 5 0 -> taken
-a deliver 6 0 -> taken
+a emit -> frame 7 60
+b emit -> frame 8 60
+b deliver 7 0 -> taken
+a deliver 8 0 -> taken
 pass 0 -> a 1 b 1
 a state 1 -> TIME-WAIT
 b state 2 -> TIME-WAIT
@@ -236,13 +239,13 @@ pass 0 -> a 1 b 1
 b shutdown 2 -> ok
 pass 0 -> a 0 b 1
 a state 1 -> TIME-WAIT
-a emit -> frame 6 20
-b deliver 6 0 -> taken
+a emit -> frame 8 60
+b deliver 8 0 -> taken
 b state 2 -> CLOSED
 b emit -> none
-b deliver 6 0 -> taken
-b emit -> frame 7 20
-a deliver 7 0 -> taken
+b deliver 8 0 -> taken
+b emit -> frame 9 60
+a deliver 9 0 -> taken
 ";
 
 /// The same with a's socket given back: its port is free at once.
@@ -250,41 +253,41 @@ const LATE_COPY_OF_NOBODY: &str = "a close 1 -> ok
 pass 0 -> a 1 b 1
 b shutdown 2 -> ok
 pass 0 -> a 0 b 1
-a emit -> frame 6 20
-b deliver 6 0 -> taken
-b deliver 6 0 -> taken
-b emit -> frame 7 20
+a emit -> frame 8 60
+b deliver 8 0 -> taken
+b deliver 8 0 -> taken
+b emit -> frame 9 60
 a socket tcp -> id 2
 a bind 2 49152 -> E3 EADDRINUSE
-a deliver 7 0 -> taken
+a deliver 9 0 -> taken
 a bind 2 49152 -> ok
 ";
 
 /// Octets of b are lost, so its reset comes from further on: a says how far it has come, and is reset there.
 const PAST_A_GAP: &str = "b send 2 xyz -> sent 3
-b emit -> frame 5 23
+b emit -> frame 7 60
 b close 2 -> ok
-b emit -> frame 6 20
-a deliver 6 0 -> taken
+b emit -> frame 8 60
+a deliver 8 0 -> taken
 a state 1 -> ESTABLISHED
 a recv 1 1 -> E8 EAGAIN
-a emit -> frame 7 20
+a emit -> frame 9 60
 a emit -> none
-b deliver 7 0 -> taken
-b emit -> frame 8 20
-a deliver 8 0 -> taken
+b deliver 9 0 -> taken
+b emit -> frame 10 60
+a deliver 10 0 -> taken
 ";
 
 /// The reset that answers an old frame of a lies outside of a's window and says nothing.
 const BEFORE_THE_WINDOW: &str = "b close 2 -> ok
-b emit -> frame 7 20
-b deliver 2 0 -> taken
-b emit -> frame 8 20
-a deliver 8 0 -> taken
+b emit -> frame 9 60
+b deliver 4 0 -> taken
+b emit -> frame 10 60
+a deliver 10 0 -> taken
 a state 1 -> ESTABLISHED
 a emit -> none
 a recv 1 100 -> octets world
-a deliver 7 0 -> taken
+a deliver 9 0 -> taken
 ";
 
 /// Resets while a connection is opening, some that are reported, and some after both ends.

@@ -4,21 +4,21 @@ use super::{ACCEPTED, NINE_CROSSINGS, OPENING};
 
 /// A frame that comes twice is read once.
 const TWICE: &str = "a send 1 hello -> sent 5
-a emit -> frame 3 25
-b deliver 3 0 -> taken
-b deliver 3 0 -> taken
+a emit -> frame 5 60
+b deliver 5 0 -> taken
+b deliver 5 0 -> taken
 b recv 2 100 -> octets hello
 b recv 2 100 -> E8 EAGAIN
 ";
 
 /// The limit counts what was written since the frame went out, and no side takes a frame of its own.
 const STALE: &str = "a send 1 hello -> sent 5
-a emit -> frame 3 25
+a emit -> frame 5 60
 a send 1 123456789012345 -> sent 15
-b deliver 3 0 -> taken
+b deliver 5 0 -> taken
 a send 1 1 -> sent 1
-b deliver 3 0 -> U2 Stale
-a deliver 3 0 -> U1 NoSuchFrame
+b deliver 5 0 -> U2 Stale
+a deliver 5 0 -> U1 NoSuchFrame
 b deliver 99 0 -> U1 NoSuchFrame
 ";
 
@@ -70,14 +70,20 @@ a socket tcp -> id 1
 a state 1 -> CLOSED
 a connect 1 80 5 -> started
 a state 1 -> SYN-SENT
-a emit -> frame 0 24
+a emit -> frame 0 60
 a emit -> none
 a deliver 0 7 -> U1 NoSuchFrame
 b deliver 0 7 -> taken
+b emit -> frame 1 60
+a deliver 1 7 -> taken
+a emit -> frame 2 60
+a emit -> none
+a deliver 2 7 -> U1 NoSuchFrame
+b deliver 2 7 -> taken
 a socket tcp -> id 2
 a connect 2 80 9 -> started
-a emit -> frame 1 24
-b deliver 1 7 -> drop F9
+a emit -> frame 3 60
+b deliver 3 7 -> drop F9
 b tick 18446744073709551615 -> ok
 b state 1 -> LISTEN
 ";
@@ -92,6 +98,7 @@ a socket tcp -> id 3
 a bind 2 49153 -> ok
 a connect 1 80 1 -> started
 a connect 3 0 1 -> E4 EADDRNOTAVAIL
+pass 7 -> a 1 b 1
 pass 7 -> a 1 b 1
 pass 7 -> a 1 b 0
 b accept 1 -> id 2 10.0.0.1 49152
@@ -124,16 +131,16 @@ b count 2 600 -> octets 400
 /// A second after it went out, what isn't acknowledged goes out again; the clock goes forward alone.
 const RESENT: &str = "a send 1 hello -> sent 5
 a tick 50 -> ok
-a emit -> frame 3 25
+a emit -> frame 5 60
 a emit -> none
 a tick 1049 -> ok
 a emit -> none
 a tick 1050 -> ok
 a tick 3 -> ok
-a emit -> frame 4 25
-b deliver 4 0 -> taken
-b emit -> frame 5 20
-a deliver 5 0 -> taken
+a emit -> frame 6 60
+b deliver 6 0 -> taken
+b emit -> frame 7 60
+a deliver 7 0 -> taken
 a tick 9000 -> ok
 a emit -> none
 ";

@@ -37,20 +37,20 @@ b state 2 -> CLOSE-WAIT
 
 /// With nothing held, the end doesn't wait for the window. There it finds no place, and a second later it goes out again.
 const END_FINDS_NO_PLACE: &str = "a shutdown 1 -> ok
-a emit -> frame 93 20
-b deliver 93 0 -> taken
+a emit -> frame 95 60
+b deliver 95 0 -> taken
 b state 2 -> ESTABLISHED
-b emit -> frame 94 20
-a deliver 94 0 -> taken
+b emit -> frame 96 60
+a deliver 96 0 -> taken
 a state 1 -> FIN-WAIT-1
 b count 2 2000000 -> octets 65535
 b count 2 2000000 -> E8 EAGAIN
-b emit -> frame 95 20
-a deliver 95 0 -> taken
+b emit -> frame 97 60
+a deliver 97 0 -> taken
 a emit -> none
 a tick 1000 -> ok
-a emit -> frame 96 20
-b deliver 96 0 -> taken
+a emit -> frame 98 60
+b deliver 98 0 -> taken
 b state 2 -> CLOSE-WAIT
 b count 2 2000000 -> end
 ";

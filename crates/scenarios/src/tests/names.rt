@@ -1,7 +1,9 @@
 //! The names of states, and the texts of refusals.
 
+use ether::Mac;
 use host::{Config, DropCause, Refusal};
 use ipv4::Addr;
+use routes::Routes;
 use std::alloc::Global;
 use std::fmt::Display;
 use std::process::Abort;
@@ -34,6 +36,7 @@ const STATES: &[(State, &str)] = &[
 
 const REFUSALS: &[(Refusal, &str)] = &[
     (Refusal::EAGAIN, "E8 EAGAIN"),
+    (Refusal::ENETUNREACH, "E14 ENETUNREACH"),
     (Refusal::EDESTADDRREQ, "E18 EDESTADDRREQ"),
 ];
 
@@ -57,6 +60,9 @@ fn texts_are_those_of_the_documents(rt: HostRuntime) -> Result<(), Fail> {
 #[test]
 fn refusals_have_their_numbers(rt: HostRuntime) {
     assert_eq!(rt; DropCause::NoRoom.number(), 9);
-    let loopback = Config::new(Addr([127, 0, 0, 1]));
+    let mac = Mac([2, 0, 0, 0, 0, 1]);
+    let loopback = Config::new(mac, Addr([127, 0, 0, 1]), Routes::new());
     assert!(rt; matches!(loopback, Err(Refusal::EINVAL)));
+    let group = Config::new(Mac([1, 0, 0, 0, 0, 1]), Addr([10, 0, 0, 1]), Routes::new());
+    assert!(rt; matches!(group, Err(Refusal::EINVAL)));
 }

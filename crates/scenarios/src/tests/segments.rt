@@ -1,29 +1,29 @@
-//! The frames that hosts send and take, octet by octet.
+//! The segments that hosts send and take, in their frames.
 
+use super::octets::{
+    ANSWER, CUT_SYN, HELLO, REFUSAL_OF_FIVE, REPLY, REQUEST, STRAY, STRAY_RESET, SYN,
+    SYN_BEHIND_OPTIONS,
+};
 use super::stations::Side::{A, B};
-use super::stations::Start::{Fresh, Listening};
-use super::stations::{Act, ONE, SERVER, Scenario, Step, Told, plays};
+use super::stations::Start::{Listening, Neighbours};
+use super::stations::{Act, ONE, PAIR, SERVER, Scenario, Step, TWO, Told, plays};
 use host::{DropCause, Refusal};
 
-const SYN: &[u8] =
-    b"\xc0\x00\x00\x50\xff\xff\xff\xff\x00\x00\x00\x00\x60\x02\xff\xff\xc3\xd3\x00\x00\x02\x04\x05\xb4";
-
-/// The same without its option.
-const CUT_SYN: &[u8] =
-    b"\xc0\x00\x00\x50\xff\xff\xff\xff\x00\x00\x00\x00\x60\x02\xff\xff\xc3\xd3\x00\x00";
-
-const HELLO: &[u8] =
-    b"\xc0\x00\x00\x50\x00\x00\x00\x00\x00\x00\x00\x08\x50\x18\xff\xff\x97\x9a\x00\x00hello";
-
-/// A connection opens and carries octets.
+/// A asks for B's MAC, and B learns A's by that. Then a connection opens and carries octets.
 const STANDARD: &[Step] = &[
     (A, Act::Connect(4_294_967_295, ONE, SERVER), Told::Done),
-    (A, Act::Emit, Told::Length(24)),
+    (A, Act::Emit, Told::Length(60)),
+    (A, Act::HasSent(REQUEST), Told::Is(true)),
+    (A, Act::Arrive(0), Told::Done),
+    (B, Act::Emit, Told::Length(60)),
+    (B, Act::HasSent(REPLY), Told::Is(true)),
+    (B, Act::Arrive(0), Told::Done),
+    (A, Act::Emit, Told::Length(60)),
     (A, Act::HasSent(SYN), Told::Is(true)),
     (A, Act::Arrive(7), Told::Done),
     (B, Act::Pass(7), Told::Done),
     (A, Act::Send(ONE, b"hello"), Told::Count(5)),
-    (A, Act::Emit, Told::Length(25)),
+    (A, Act::Emit, Told::Length(60)),
     (A, Act::HasSent(HELLO), Told::Is(true)),
     (
         B,
@@ -32,40 +32,37 @@ const STANDARD: &[Step] = &[
     ),
 ];
 
+/// Options of IPv4 are skipped.
+const BEHIND_OPTIONS: &[Step] = &[
+    (B, Act::Hear(7, SYN_BEHIND_OPTIONS), Told::Done),
+    (B, Act::Holder(PAIR), Told::Holder(Some(TWO))),
+];
+
+/// A bit is turned and turned back: one of the IPv4 header, one of the segment, and one of the padding, which nobody reads.
 const DAMAGED: &[Step] = &[
     (A, Act::Socket, Told::Id(ONE)),
     (A, Act::Connect(0, ONE, SERVER), Told::Done),
-    (A, Act::Emit, Told::Length(24)),
-    (A, Act::Damage, Told::Done),
+    (A, Act::Emit, Told::Length(60)),
+    (A, Act::Damage(33), Told::Done),
+    (A, Act::Arrive(7), Told::Dropped(DropCause::IpSum)),
+    (A, Act::Damage(33), Told::Done),
+    (A, Act::Damage(57), Told::Done),
     (A, Act::Arrive(7), Told::Dropped(DropCause::UpperSum)),
+    (A, Act::Damage(57), Told::Done),
+    (A, Act::Damage(59), Told::Done),
+    (A, Act::Arrive(7), Told::Done),
 ];
-
-/// The reset of a SYN with the number 5 that nobody waits for.
-const REFUSAL: &[u8] =
-    b"\x00\x50\xc0\x00\x00\x00\x00\x00\x00\x00\x00\x06\x50\x14\x00\x00\xdb\x77\x00\x00";
 
 const REFUSED: &[Step] = &[
     (A, Act::Socket, Told::Id(ONE)),
     (A, Act::Connect(5, ONE, SERVER), Told::Done),
     (A, Act::Pass(7), Told::Done),
     (A, Act::Emit, Told::Nothing),
-    (B, Act::Emit, Told::Length(20)),
-    (B, Act::HasSent(REFUSAL), Told::Is(true)),
+    (B, Act::Emit, Told::Length(60)),
+    (B, Act::HasSent(REFUSAL_OF_FIVE), Told::Is(true)),
     (B, Act::Arrive(0), Told::Done),
     (A, Act::Recv(ONE), Told::Refused(Refusal::ECONNREFUSED)),
 ];
-
-/// An acknowledgement from no connection.
-const STRAY: &[u8] =
-    b"\xc0\x00\x00\x50\x00\x00\x00\x09\x00\x01\x11\x70\x50\x10\x00\x64\xc9\xa3\x00\x00";
-
-/// A reset from no connection.
-const STRAY_RESET: &[u8] =
-    b"\xc0\x00\x00\x50\x00\x00\x00\x09\x00\x01\x11\x70\x50\x14\x00\x64\xc9\x9f\x00\x00";
-
-/// The reset at the stray's acknowledgement.
-const ANSWER: &[u8] =
-    b"\x00\x50\xc0\x00\x00\x01\x11\x70\x00\x00\x00\x00\x50\x04\x00\x00\xca\x1c\x00\x00";
 
 /// There is room for 16 answers.
 const HEARD: &[Step] = &[(B, Act::Hear(0, STRAY), Told::Done); 16];
@@ -74,16 +71,17 @@ const HEARD: &[Step] = &[(B, Act::Hear(0, STRAY), Told::Done); 16];
 const UNHEARD: &[Step] = &[
     (B, Act::Hear(0, STRAY), Told::Dropped(DropCause::NoRoom)),
     (B, Act::Hear(0, STRAY_RESET), Told::Done),
-    (B, Act::Emit, Told::Length(20)),
+    (B, Act::Emit, Told::Length(60)),
     (B, Act::HasSent(ANSWER), Told::Is(true)),
 ];
 
 const SCENARIOS: &[Scenario] = &[
     ("segments are those of the standard", Listening, &[STANDARD]),
-    ("damaged segments are dropped", Fresh, &[DAMAGED]),
+    ("segments come behind options", Listening, &[BEHIND_OPTIONS]),
+    ("damaged segments are dropped", Neighbours, &[DAMAGED]),
     (
         "strays are answered by resets",
-        Fresh,
+        Neighbours,
         &[REFUSED, HEARD, UNHEARD],
     ),
 ];

@@ -1,8 +1,11 @@
-//! Two hosts, each the other's neighbour, what is done at each, and what that tells.
+//! Two hosts on a link, what is done at each, and what that tells.
 
+use super::octets::{REPLIED_BACK, REPLY};
 use clock::Moment;
+use ether::Mac;
 use host::{Config, DropCause, Host, Kind, Refusal, SocketId};
-use ipv4::{Addr, Endpoint, Pair};
+use ipv4::{Addr, Endpoint, Pair, Prefix};
+use routes::{Hop, Routes};
 use std::alloc::Global;
 use std::process::Abort;
 use tcp_segment::Seq;
@@ -12,6 +15,13 @@ const A: Addr = Addr([10, 0, 0, 1]);
 
 const B: Addr = Addr([10, 0, 0, 2]);
 
+const MAC_OF_A: Mac = Mac([2, 0, 0, 0, 0, 1]);
+
+const MAC_OF_B: Mac = Mac([2, 0, 0, 0, 0, 2]);
+
+/// What leads off the link.
+const GATEWAY: Addr = Addr([10, 0, 0, 254]);
+
 /// The first port that A's sockets are given.
 pub(super) const CLIENT: Endpoint = Endpoint {
     addr: A,
@@ -20,6 +30,12 @@ pub(super) const CLIENT: Endpoint = Endpoint {
 
 /// The port of B that calls are for.
 pub(super) const SERVER: Endpoint = Endpoint { addr: B, port: 80 };
+
+/// A port of a host behind the gateway.
+pub(super) const FAR: Endpoint = Endpoint {
+    addr: Addr([192, 0, 2, 9]),
+    port: 80,
+};
 
 /// A connection between the two.
 pub(super) const PAIR: Pair = Pair {
@@ -73,14 +89,16 @@ pub(super) enum Act {
     Emit,
     /// Whether these are the octets of the frame that went out last.
     HasSent(&'static [u8]),
-    /// On its way the last bit of the frame that went out last is turned.
-    Damage,
+    /// On its way the last bit of this octet of the frame that went out last is turned.
+    Damage(usize),
     /// The frame that went out last reaches the other host, with the initial number of what it may open.
     Arrive(u32),
     /// The frame that is due goes out, and reaches the other host.
     Pass(u32),
     /// These octets reach the host, with the initial number of what they may open.
     Hear(u32, &'static [u8]),
+    /// When a tick would do something, or what waits could go out.
+    Deadline,
 }
 
 /// What an act tells.
@@ -112,6 +130,8 @@ pub(super) enum Told {
     Length(usize),
     /// Whether it is so.
     Is(bool),
+    /// When something is to be done again.
+    Deadline(Option<Moment>),
 }
 
 /// What is done at a host, and what that is to tell.
@@ -120,10 +140,14 @@ pub(super) type Step = (Side, Act, Told);
 /// How far two hosts are when a scenario begins.
 #[derive(Clone, Copy)]
 pub(super) enum Start {
-    /// They have no sockets.
+    /// They have no sockets, and heard nothing.
     Fresh,
+    /// Each has heard of the other's MAC.
+    Neighbours,
     /// B listens, and A has a socket.
     Listening,
+    /// A knows a gateway for all that isn't on its link.
+    Routed,
 }
 
 /// A name, where the scenario begins, and its steps from there on, part after part.
@@ -139,10 +163,9 @@ pub(super) struct Station {
 
 impl Station {
     /// A host with no sockets.
-    pub(super) fn new(rt: &impl Abort, alloc: Global, addr: Addr, neighbour: Addr) -> Station {
-        let config = Config::new(addr).expect(rt, "a host's address");
+    pub(super) fn new(alloc: Global, config: Config) -> Station {
         Station {
-            host: Host::new(alloc, config, neighbour),
+            host: Host::new(alloc, config),
             frame: [0; 1514],
             len: 0,
         }
@@ -213,12 +236,10 @@ impl Station {
         }
     }
 
-    /// The frame's last bit is turned.
-    fn damage(&mut self) -> Told {
-        if let Some((frame, _)) = self.frame.split_at_mut_checked(self.len)
-            && let Some(last) = frame.last_mut()
-        {
-            *last ^= 1;
+    /// The last bit of an octet of the frame is turned.
+    fn damage(&mut self, place: usize) -> Told {
+        if let Some(octet) = self.frame.get_mut(place) {
+            *octet ^= 1;
         }
         Told::Done
     }
@@ -230,6 +251,33 @@ impl Station {
             Err(cause) => Told::Dropped(cause),
         }
     }
+}
+
+/// How the host at 10.0.0.1 or that at 10.0.0.2 is set up, whose link is 10.0.0.0/24.
+pub(super) fn config(rt: &impl Abort, side: Side) -> Config {
+    let (mac, addr) = match side {
+        Side::A => (MAC_OF_A, A),
+        Side::B => (MAC_OF_B, B),
+    };
+    Config::new(mac, addr, link(rt)).expect(rt, "a host's MAC and address")
+}
+
+/// The routes of a host whose link is 10.0.0.0/24.
+fn link(rt: &impl Abort) -> Routes {
+    let mut routes = Routes::new();
+    let prefix = Prefix::new(Addr([10, 0, 0, 0]), 24).expect(rt, "a prefix");
+    routes.add(prefix, Hop::Direct).expect(rt, "no other route");
+    routes
+}
+
+/// How A is set up where a gateway leads to all that isn't on its link.
+fn routed(rt: &impl Abort) -> Config {
+    let mut routes = link(rt);
+    let all = Prefix::default();
+    routes
+        .add(all, Hop::Gateway(GATEWAY))
+        .expect(rt, "one other route");
+    Config::new(MAC_OF_A, A, routes).expect(rt, "a host's MAC and address")
 }
 
 /// What a call without a value tells.
@@ -249,11 +297,25 @@ struct Hosts {
 
 impl Hosts {
     /// Two hosts with no sockets.
-    fn new(rt: &impl Abort, alloc: Global) -> Hosts {
+    fn new(rt: &impl Abort, alloc: Global, start: Start) -> Hosts {
+        let a = match start {
+            Start::Routed => routed(rt),
+            _ => config(rt, Side::A),
+        };
         Hosts {
-            a: Station::new(rt, alloc, A, B),
-            b: Station::new(rt, alloc, B, A),
+            a: Station::new(alloc, a),
+            b: Station::new(alloc, config(rt, Side::B)),
         }
+    }
+
+    /// Does what comes before a scenario.
+    fn set_up(&mut self, rt: &impl Abort, start: Start) {
+        let steps = match start {
+            Start::Neighbours => NEIGHBOURS,
+            Start::Listening => LISTENING,
+            Start::Fresh | Start::Routed => &[],
+        };
+        self.play(rt, "the setting up", 0, steps);
     }
 
     /// Does each step of a part in turn, which tells what it is to tell.
@@ -292,10 +354,11 @@ fn act_at(station: &mut Station, other: &mut Station, act: Act) -> Told {
         Act::Tick(now) => station.tick(now),
         Act::Emit => station.emit(),
         Act::HasSent(octets) => Told::Is(station.sent() == octets),
-        Act::Damage => station.damage(),
+        Act::Damage(place) => station.damage(place),
         Act::Arrive(isn) => other.hear(isn, station.sent()),
         Act::Pass(isn) => pass(station, other, isn),
         Act::Hear(isn, octets) => station.hear(isn, octets),
+        Act::Deadline => Told::Deadline(station.host.next_deadline()),
     }
 }
 
@@ -306,6 +369,12 @@ fn pass(from: &mut Station, to: &mut Station, isn: u32) -> Told {
         nothing => nothing,
     }
 }
+
+/// Each hears of the other's MAC.
+const NEIGHBOURS: &[Step] = &[
+    (Side::A, Act::Hear(0, REPLY), Told::Done),
+    (Side::B, Act::Hear(0, REPLIED_BACK), Told::Done),
+];
 
 /// B listens, and A has a socket.
 const LISTENING: &[Step] = &[
@@ -318,10 +387,8 @@ const LISTENING: &[Step] = &[
 /// Plays each scenario with two hosts of its own.
 pub(super) fn plays(rt: &impl Abort, alloc: Global, scenarios: &[Scenario]) {
     for (name, start, parts) in scenarios {
-        let mut hosts = Hosts::new(rt, alloc);
-        if let Start::Listening = start {
-            hosts.play(rt, "the setting up", 0, LISTENING);
-        }
+        let mut hosts = Hosts::new(rt, alloc, *start);
+        hosts.set_up(rt, *start);
         for (part, steps) in parts.iter().enumerate() {
             hosts.play(rt, name, part, steps);
         }

@@ -1,26 +1,16 @@
 //! A run of a world beside its steps. Whole scripts are run by `hostd`'s tests.
 
+use super::stations::{self, ONE, SERVER, TWO, config};
+use ether::Mac;
 use host::{Config, Kind, SocketId};
 use ipv4::{Addr, Endpoint};
+use routes::Routes;
 use std::alloc::{AllocError, Global};
 use std::process::Abort;
 use std::test::Fail;
 use tcp_segment::Seq;
 use wire_sim::Side::{A, B};
-use wire_sim::{Answer, Call, Event, Side, Unfair, World};
-
-const AT_A: Addr = Addr([10, 0, 0, 1]);
-
-const AT_B: Addr = Addr([10, 0, 0, 2]);
-
-const SERVER: Endpoint = Endpoint {
-    addr: AT_B,
-    port: 80,
-};
-
-const ONE: SocketId = SocketId(1);
-
-const TWO: SocketId = SocketId(2);
+use wire_sim::{Answer, Call, Event, Side, Unfair, World, WorldFault};
 
 /// What is done at a side.
 #[derive(Clone, Copy)]
@@ -45,8 +35,8 @@ enum Act {
     Deliver(usize, u32),
 }
 
-/// A frame comes that nobody sent; then b listens at port 80, a connects, the three segments of the handshake are exchanged,
-/// and b reads what a writes.
+/// A frame comes that nobody sent; then b listens at port 80, a connects, learns b's MAC, the three segments of the handshake are
+/// exchanged, and b reads what a writes.
 const ACTS: &[(Side, Act)] = &[
     (A, Act::Deliver(0, 0)),
     (B, Act::Socket),
@@ -64,10 +54,13 @@ const ACTS: &[(Side, Act)] = &[
     (A, Act::Emit),
     (B, Act::Deliver(2, 7)),
     (B, Act::Emit),
+    (A, Act::Deliver(3, 7)),
+    (A, Act::Emit),
+    (B, Act::Deliver(4, 7)),
     (B, Act::Accept(ONE)),
     (A, Act::Send(ONE, b"hello")),
     (A, Act::Emit),
-    (B, Act::Deliver(3, 0)),
+    (B, Act::Deliver(5, 0)),
     (B, Act::Recv(TWO, 100)),
 ];
 
@@ -151,8 +144,31 @@ fn compare(
 #[test]
 fn run_is_step_by_step(rt: HostRuntime) -> Result<(), Fail> {
     let alloc = rt.alloc();
-    let (a, b) = (Config::new(AT_A)?, Config::new(AT_B)?);
+    let (a, b) = (
+        config(&rt, stations::Side::A),
+        config(&rt, stations::Side::B),
+    );
     let mut together = World::with_limit(alloc, a, b, 1 << 30).expect(&rt, "memory for a world");
+    let (a, b) = (
+        config(&rt, stations::Side::A),
+        config(&rt, stations::Side::B),
+    );
     let mut single = World::new(alloc, a, b).expect(&rt, "memory for a world");
     compare(&rt, alloc, &mut together, &mut single)
+}
+
+/// Two hosts with one MAC or one address are no world.
+const ALIKE: [(Mac, Addr); 2] = [
+    (Mac([2, 0, 0, 0, 0, 1]), Addr([10, 0, 0, 2])),
+    (Mac([2, 0, 0, 0, 0, 2]), Addr([10, 0, 0, 1])),
+];
+
+#[test]
+fn hosts_differ(rt: HostRuntime) -> Result<(), Fail> {
+    for (mac, addr) in ALIKE {
+        let b = Config::new(mac, addr, Routes::new())?;
+        let world = World::new(rt.alloc(), config(&rt, stations::Side::A), b);
+        assert!(rt; matches!(world, Err(WorldFault::SameAddress)));
+    }
+    Ok(())
 }

@@ -2,7 +2,7 @@
 use Rattle.std.proofs.Common.{◌≡◌, ℕ, zero, suc, ◌+◌, ◌<◌, ◌≤◌, min, true, false, List, [], ◌∷◌, ◌++◌, length, get_or, set, take, refl, ap, arith}
 use Rattle.wire_sim.specs.declared.event.Side.{Side}
 use Rattle.wire_sim.specs.declared.event.Opening.{Opening}
-use Rattle.host.specs.declared.entry.SocketId.{SocketId}
+use Rattle.sockets.specs.declared.entry.SocketId.{SocketId}
 use Rattle.wire_sim.specs.Tallies.{is_opening_at, counts_after}
 
 -- a count that is still to be looked at is as it was

@@ -10,12 +10,13 @@ use Rattle.wire_sim.specs.declared.event.Event.TheVariants as event
 use Rattle.wire_sim.specs.declared.event.Unfair.TheVariants.{NoSuchFrame, OtherEpoch, Stale}
 use Rattle.wire_sim.specs.declared.world.bag.Frame.{Frame}
 use Rattle.wire_sim.specs.declared.world.bag.Note.{Note}
-use Rattle.wire_sim.specs.Fairness.{Amount, is_late, late_note, second_by_frame, pair_foreseen, unfair_frame, unfair_counted}
+use Rattle.wire_sim.specs.Fairness.{Amount, is_late, late_note, second_by_frame, unfair_frame, unfair_counted}
+use Rattle.host.specs.Arrival.{foreseen}
 use Rattle.wire_sim.specs.Openings.{epoch_of}
 use Rattle.wire_sim.specs.Runs.{written_len, unfair}
 use Rattle.wire_sim.specs.Sides.{same_side}
 use Rattle.wire_sim.specs.WorldView.{NetworkView, WorldView, host_of, written_at}
-use Rattle.wire_sim.proofs.pairing.EmissionIsMove.{IsTallied}
+use Rattle.wire_sim.proofs.carried.FramesCarry.{IsTallied}
 
 -- two amounts that are the same make the same frames late
 same_late : (limit : ℕ) (m n : Amount) → ((side : Side) (pair : Pair) (epoch : ℕ) → m side pair epoch ≡ n side pair epoch) → (note : Note) → is_late limit m note ≡ is_late limit n note
@@ -29,7 +30,7 @@ same_note n now after same (Some note) = ap (λ b. cond (not (epoch_of n.opening
 
 same_frame : (n : NetworkView) (now after : Amount) → ((side : Side) (pair : Pair) (epoch : ℕ) → now side pair epoch ≡ after side pair epoch) → (side : Side) (o : Option Frame) → unfair_frame n now side o ≡ unfair_frame n after side o
 same_frame n now after same side None = refl
-same_frame n now after same side (Some f) = ap (λ o. cond (same_side f.sender side) (Some NoSuchFrame) (option_or o (second_by_frame n side (pair_foreseen (host_of n side) f.octets.items)))) (same_note n now after same f.note)
+same_frame n now after same side (Some f) = ap (λ o. cond (same_side f.sender side) (Some NoSuchFrame) (option_or o (second_by_frame n side (foreseen (host_of n side) f.octets.items)))) (same_note n now after same f.note)
 
 -- what is counted refuses just what the trace does
 pub same_unfair : (w : WorldView) (happens : Event) → IsTallied w.network w.trace → unfair_counted w.network happens ≡ unfair w happens

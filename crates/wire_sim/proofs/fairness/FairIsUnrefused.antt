@@ -4,7 +4,7 @@ use Rattle.std.specs.List.{find, list_any, slice_get}
 use Rattle.std.specs.Option.{IfSome, option_or}
 use Rattle.std.proofs.lemmas.Bool.{eqb-true, eq-eqb, leb-false, lt-leb, or_parts}
 use Rattle.ipv4.specs.declared.addr.Pair.{Pair}
-use Rattle.host.specs.Calls.{pair_connected}
+use Rattle.host.specs.Arrival.{foreseen}
 use Rattle.wire_sim.specs.declared.event.Side.{Side}
 use Rattle.wire_sim.specs.declared.event.Side.TheVariants.{A, B}
 use Rattle.wire_sim.specs.declared.event.Call.{Call}
@@ -15,12 +15,12 @@ use Rattle.wire_sim.specs.declared.event.Unfair.{Unfair}
 use Rattle.wire_sim.specs.declared.event.Unfair.TheVariants.{NoSuchFrame, OtherEpoch, Stale, SecondOpening}
 use Rattle.wire_sim.specs.declared.world.bag.Frame.{Frame}
 use Rattle.wire_sim.specs.declared.world.bag.Note.{Note}
-use Rattle.wire_sim.specs.Fairness.{Amount, is_late, late_note, second_in, second_by_frame, second_by_connect, pair_foreseen, unfair_frame, unfair_call, IsRecent, IsUnopened, IsFairFrame, IsFairCall}
+use Rattle.wire_sim.specs.Fairness.{Amount, is_late, late_note, second_in, second_by_frame, second_by_connect, pair_to_connect, unfair_frame, unfair_call, IsRecent, IsUnopened, IsFairFrame, IsFairCall}
 use Rattle.wire_sim.specs.Openings.{epoch_of, epoch_connected}
 use Rattle.wire_sim.specs.Runs.{written_len, FairIsUnrefused}
 use Rattle.wire_sim.specs.Sides.{same_side, other_side}
 use Rattle.wire_sim.specs.Tallies.{is_opening_of}
-use Rattle.wire_sim.specs.WorldView.{NetworkView, host_of}
+use Rattle.wire_sim.specs.WorldView.{NetworkView, host_of, table_of}
 
 -- A pair that is opened a second time.
 
@@ -105,7 +105,7 @@ fair-frame : (n : NetworkView) (now : Amount) (side : Side) (f : Frame) → (unf
 fair-frame n now side f = (there, back)
   where
     seen : Option Pair
-    seen = pair_foreseen (host_of n side) f.octets.items
+    seen = foreseen (host_of n side) f.octets.items
 
     rules : (unfair_frame n now side (Some f) ≡ None) ↔ ((same_side f.sender side ≡ false) × (late_note n now f.note ≡ None) × (second_by_frame n side seen ≡ None))
     rules = no_rule (same_side f.sender side) (late_note n now f.note) (second_by_frame n side seen)
@@ -126,12 +126,12 @@ fair-delivery n now side (Some f) =
 
 -- A call.
 
-fair-connect : (n : NetworkView) (side : Side) (o : Option Pair) → (second_by_connect n side o ≡ None) ↔ IfSome o (λ (pair : Pair). IsUnopened n.openings side pair (epoch_connected n.openings (host_of n (other_side side)) pair))
+fair-connect : (n : NetworkView) (side : Side) (o : Option Pair) → (second_by_connect n side o ≡ None) ↔ IfSome o (λ (pair : Pair). IsUnopened n.openings side pair (epoch_connected n.openings (table_of n (other_side side)) pair))
 fair-connect n side None = (λ e. tt, λ e. refl)
-fair-connect n side (Some pair) = unopened n.openings side pair (epoch_connected n.openings (host_of n (other_side side)) pair)
+fair-connect n side (Some pair) = unopened n.openings side pair (epoch_connected n.openings (table_of n (other_side side)) pair)
 
 fair-call : (n : NetworkView) (side : Side) (c : Call) → (unfair_call n side c ≡ None) ↔ IsFairCall n side c
-fair-call n side (call.Connect isn id peer) = fair-connect n side (pair_connected (host_of n side) id peer)
+fair-call n side (call.Connect isn id peer) = fair-connect n side (pair_to_connect (host_of n side) id peer)
 fair-call n side _ = (λ e. tt, λ e. refl)
 
 -- Every event.

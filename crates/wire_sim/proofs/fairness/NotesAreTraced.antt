@@ -8,14 +8,11 @@ use Rattle.std.proofs.lemmas.List.{append-nil, take-append-le}
 use Rattle.std.proofs.lemmas.List.Elements.{filter-append}
 use Rattle.std.proofs.lemmas.Option.{slice_get_within}
 use Rattle.std.proofs.Math.Seq.{take-append_seam}
-use Rattle.ipv4.specs.declared.addr.Addr.{Addr}
 use Rattle.ipv4.specs.declared.addr.Pair.{Pair}
 use Rattle.tcp_segment.specs.declared.seq.Seq.{Seq}
-use Rattle.tcp_segment.specs.Segment.{Segment}
-use Rattle.tcp_segment.specs.Reading.{segment_in}
-use Rattle.tcp_segment.proofs.Answering.{read_ok}
 use Rattle.host.specs.HostView.{HostView}
-use Rattle.host.specs.Pairs.{due_pair}
+use Rattle.host.specs.Arrival.{foreseen}
+use Rattle.frames.specs.Pairs.{pair_in}
 use Rattle.wire_sim.specs.declared.event.Side.{Side}
 use Rattle.wire_sim.specs.declared.event.Side.TheVariants.{A, B}
 use Rattle.wire_sim.specs.declared.event.Call.{Call}
@@ -30,22 +27,21 @@ use Rattle.wire_sim.specs.declared.event.Unfair.{Unfair}
 use Rattle.wire_sim.specs.declared.event.Unfair.TheVariants.{NoSuchFrame, OtherEpoch, Stale, SecondOpening}
 use Rattle.wire_sim.specs.declared.world.bag.Frame.{Frame}
 use Rattle.wire_sim.specs.declared.world.bag.Note.{Note}
-use Rattle.wire_sim.specs.Fairness.{is_late, late_note, second_by_frame, pair_foreseen, unfair_frame}
+use Rattle.wire_sim.specs.Fairness.{is_late, late_note, second_by_frame, unfair_frame}
 use Rattle.wire_sim.specs.Holding.{IsBegun}
-use Rattle.wire_sim.specs.Notes.{openings_before, epoch_before, written_before, written_since, segment_pair, carried_pair, IsEmission, IsNoteAt, IsTraced, EveryNoteIsTraced, HasRisen, HasGrown, EveryDelayIsTraced}
+use Rattle.wire_sim.specs.Notes.{openings_before, epoch_before, written_before, written_since, carried_pair, IsEmission, IsNoteAt, IsTraced, EveryNoteIsTraced, HasRisen, HasGrown, EveryDelayIsTraced}
 use Rattle.wire_sim.specs.Openings.{epoch_of, opened_by_connect, opened_by_frame}
 use Rattle.wire_sim.specs.Runs.{written_len, unfair, IsStep, IsReached, begins, goes_on}
 use Rattle.wire_sim.specs.Sides.{same_side, other_side}
 use Rattle.wire_sim.specs.Steps.{with_host, with_opening, note_of, after_call, after_delivery, station_after_tick, EmitsFrame, MeetsEmission, DeliversFrame, Steps}
 use Rattle.wire_sim.specs.Tallies.{same_pair, is_opening_of}
 use Rattle.wire_sim.specs.Trace.{written}
-use Rattle.wire_sim.specs.WorldView.{WorldView, NetworkView, station_of, host_of, written_at}
+use Rattle.wire_sim.specs.WorldView.{WorldView, NetworkView, station_of, host_of, table_of, written_at}
 use Rattle.wire_sim.proofs.openings.OpeningsAreBegun.{openings-begun}
 use Rattle.wire_sim.proofs.openings.OpeningIsFound.{epoch-added}
 use Rattle.wire_sim.proofs.tables.PairOfPorts.{same_pair-true}
-use Rattle.wire_sim.proofs.pairing.WorldAsPairings.{Carried, Projects}
 use Rattle.wire_sim.proofs.told.TraceAndOneMore.{same_side-other, same_side-swap}
-use Rattle.wire_sim.proofs.runs.RunsAreLawful.{IsOrderly, orderly, All-at, run_tallied, frames-with}
+use Rattle.wire_sim.proofs.runs.RunsAreLawful.{run_tallied, frames-with}
 
 -- Lists that grow by one.
 
@@ -90,6 +86,7 @@ pub record IsWritten (w : WorldView) (index : ℕ) (f : Frame) : Type 0 where
   pub place : ℕ
   pub emitted : IsEmission w place f.sender index
   pub only : (p : ℕ) (side : Side) → IsEmission w p side index → p ≡ place
+  pub pair : option_map (λ (note : Note). note.pair) f.note ≡ carried_pair f
   pub note : IfSome f.note (IsNoteAt w place)
 
 pub record IsKept (w : WorldView) : Type 0 where
@@ -108,13 +105,13 @@ frames-host : (n : NetworkView) (side : Side) (h : HostView) → (let m = with_h
 frames-host n side h = frames-with n side (let s = station_of n side in record s { host = h })
 
 frames-called : (side : Side) (c : Call) (answer : Answer) (place : ℕ) (n : NetworkView) (h : HostView) → (let m = after_call side c answer place n h in m.frames) ≡ n.frames
-frames-called side (call.Connect isn id peer) reply.Started place n h = frames-opened (with_host n side h) (opened_by_connect n.openings side id place h (host_of n (other_side side))) ∙ frames-host n side h
+frames-called side (call.Connect isn id peer) reply.Started place n h = frames-opened (with_host n side h) (opened_by_connect n.openings side id place h.sockets (table_of n (other_side side))) ∙ frames-host n side h
 frames-called side (call.Send id octets) (reply.Sent count) place n h = frames-host n side h
 frames-called side _ _ place n h = frames-host n side h
 
 frames-delivered : (side : Side) (place : ℕ) (o : Option Note) (n : NetworkView) (h : HostView) → (let m = after_delivery side place o n h in m.frames) ≡ n.frames
 frames-delivered side place None n h = frames-host n side h
-frames-delivered side place (Some note) n h = frames-opened (with_host n side h) (opened_by_frame n.openings side place note.pair (host_of n side) h) ∙ frames-host n side h
+frames-delivered side place (Some note) n h = frames-opened (with_host n side h) (opened_by_frame n.openings side place note.pair (table_of n side) h.sockets) ∙ frames-host n side h
 
 -- a frame that went out
 pub record PutsFrame (happens : Event) (answer : Answer) (old new : NetworkView) : Type 0 where
@@ -142,6 +139,11 @@ frames-step (event.Deliver side index isn) place answer old new step = by_frame 
     by_frame : (o : Option Frame) → DeliversFrame side isn.0 place answer old new o → HasFrames (event.Deliver side index isn) answer old new
     by_frame None step = absurd step
     by_frame (Some f) step = inl (ap (λ (m : NetworkView). m.frames) step.1 ∙ frames-delivered side place f.note old (host_of new side))
+
+-- what is noted of a frame is of the pair that it carries
+noted-pair : (n : NetworkView) (o : Option Pair) → option_map (λ (note : Note). note.pair) (option_map (note_of n) o) ≡ o
+noted-pair n None = refl
+noted-pair n (Some pair) = refl
 
 -- One step.
 
@@ -263,6 +265,7 @@ kept-step limit old new happens answer reached step k = record { all = all; rise
             | inl was ↦ w.only p side was.1
             | inr is ↦ absurd (let is_last = is.1 in omega (arith, is_last, inside))
           ];
+          pair = w.pair;
           note = moved f.note w.place (omega (arith, early)) w.note;
         }
 
@@ -299,7 +302,8 @@ kept-step limit old new happens answer reached step k = record { all = all; rise
             | inl was ↦ absurd (let less = k.within place side (length old.network.frames) was.1 in omega (arith, less))
             | inr is ↦ is.0
           ];
-          note = subst (λ o. IfSome o (IsNoteAt new (length old.trace))) (sym p.emits.note) (note-now (due_pair (host_of old.network p.side)));
+          pair = ap (option_map (λ (note : Note). note.pair)) p.emits.note ∙ noted-pair old.network (pair_in f.octets.items);
+          note = subst (λ o. IfSome o (IsNoteAt new (length old.trace))) (sym p.emits.note) (note-now (pair_in f.octets.items));
         }
 
     frames : (index : ℕ) (f : Frame) → slice_get new.network.frames index ≡ Some f → IsWritten new index f
@@ -328,35 +332,10 @@ kept limit _ (begins a b apart small) = record {
     no_frame f e = cc
 kept limit _ (goes_on w v happens answer reached step) = kept-step limit w v happens answer reached step (kept limit w reached)
 
--- The pair of what a frame carries.
-
-carries-pair : (n : NetworkView) (src dst : Addr) (from to : Side) (f : Frame) → (let h = host_of n from in h.addr) ≡ src → (let h = host_of n to in h.addr) ≡ dst → to ≡ other_side from → f.sender ≡ from
-    → (note : Note) → f.note ≡ Some note → (s : Segment) → note.pair ≡ segment_pair src dst s → segment_in src dst f.octets.items ≡ Some s → option_map (λ (note : Note). note.pair) f.note ≡ carried_pair n f
-carries-pair n src dst from to f is_src is_dst opposite sender note note_of s pair read =
-    let own : (let h = host_of n f.sender in h.addr) ≡ src = ap (λ x. let h = host_of n x in h.addr) sender ∙ is_src in
-    let other : (let h = host_of n (other_side f.sender) in h.addr) ≡ dst = ap (λ x. let h = host_of n (other_side x) in h.addr) sender ∙ (ap (λ x. let h = host_of n x in h.addr) (sym opposite) ∙ is_dst) in
-    let to_addr = (let h = host_of n (other_side f.sender) in h.addr) in
-    let carried : carried_pair n f ≡ Some (segment_pair src dst s) =
-    ap (λ x. option_map (segment_pair x to_addr) (segment_in x to_addr f.octets.items)) own
-    ∙ (ap (λ y. option_map (segment_pair src y) (segment_in src y f.octets.items)) other ∙ ap (option_map (segment_pair src dst)) read) in
-    ap (option_map (λ (note : Note). note.pair)) note_of ∙ (ap Some pair ∙ sym carried)
-
 pub notes-traced : EveryNoteIsTraced
 notes-traced limit w reached index f at =
     let x = (kept limit w reached).frames index f at in
-    record { place = x.place; emitted = x.emitted; only = x.only; pair = by_sender (All-at (Carried A B o.a o.b p.out p.arrived) w.network.frames index f p.carried at); note = x.note }
-  where
-    o : IsOrderly limit A B w.network w.trace
-    o = orderly limit w reached
-
-    p : Projects limit A B o.a o.b (host_of w.network A) (host_of w.network B) w.network.frames w.network.openings w.trace
-    p = o.projects
-
-    by_sender : Carried A B o.a o.b p.out p.arrived f → option_map (λ (note : Note). note.pair) f.note ≡ carried_pair w.network f
-    by_sender (inl c) =
-        let k = c.1 in carries-pair w.network o.a o.b A B f p.own_addr p.other_addr refl c.0 k.note k.noted k.segment k.pair (read_ok o.a o.b f.octets.items k.segment k.spelled)
-    by_sender (inr c) =
-        let k = c.1 in carries-pair w.network o.b o.a B A f p.other_addr p.own_addr refl c.0 k.note k.noted k.segment k.pair (read_ok o.b o.a f.octets.items k.segment k.spelled)
+    record { place = x.place; emitted = x.emitted; only = x.only; pair = x.pair; note = x.note }
 
 -- What is refused for its age.
 
@@ -418,20 +397,20 @@ either limit x y = (by_tests (nat_le limit x) (nat_le limit y) refl refl, back)
 
 -- a frame that carries no segment is never late
 abbrev IsDelayed : WorldView → Side → ℕ → Seq → Frame → ℕ → Type 0
-IsDelayed w side index isn f place = ((unfair w (event.Deliver side index isn) ≡ Some OtherEpoch) ↔ ((pair : Pair) × (carried_pair w.network f ≡ Some pair) × HasRisen w place pair))
-    × ((unfair w (event.Deliver side index isn) ≡ Some Stale) ↔ ((pair : Pair) × (carried_pair w.network f ≡ Some pair) × HasGrown w place pair))
+IsDelayed w side index isn f place = ((unfair w (event.Deliver side index isn) ≡ Some OtherEpoch) ↔ ((pair : Pair) × (carried_pair f ≡ Some pair) × HasRisen w place pair))
+    × ((unfair w (event.Deliver side index isn) ≡ Some Stale) ↔ ((pair : Pair) × (carried_pair f ≡ Some pair) × HasGrown w place pair))
 
-delayed-none : (w : WorldView) (side : Side) (index : ℕ) (isn : Seq) (f : Frame) (place : ℕ) (second : Option Unfair) → IsSecond second → unfair w (event.Deliver side index isn) ≡ second → carried_pair w.network f ≡ None → IsDelayed w side index isn f place
+delayed-none : (w : WorldView) (side : Side) (index : ℕ) (isn : Seq) (f : Frame) (place : ℕ) (second : Option Unfair) → IsSecond second → unfair w (event.Deliver side index isn) ≡ second → carried_pair f ≡ None → IsDelayed w side index isn f place
 delayed-none w side index isn f place second seconds told none =
     let u = unfair w (event.Deliver side index isn) in
     ((λ e. absurd (never u second seconds (sym told) (inl e)), λ x. absurd (bad x.0 x.1)), (λ e. absurd (never u second seconds (sym told) (inr e)), λ x. absurd (bad x.0 x.1)))
   where
-    bad : (pair : Pair) → carried_pair w.network f ≡ Some pair → ⊥
+    bad : (pair : Pair) → carried_pair f ≡ Some pair → ⊥
     bad pair some = let e : None ≡ Some pair = sym none ∙ some in cc
 
 -- one that carries a segment is late by what its note says, and so by the trace
 delayed-some : (w : WorldView) (side : Side) (index : ℕ) (isn : Seq) (f : Frame) (place : ℕ) (second : Option Unfair) (note : Note) → IsSecond second
-    → unfair w (event.Deliver side index isn) ≡ option_or (late_note w.network (written_len w) (Some note)) second → carried_pair w.network f ≡ Some note.pair → epoch_before w place note.pair ≤ epoch_of w.network.openings note.pair → IsNoteAt w place note
+    → unfair w (event.Deliver side index isn) ≡ option_or (late_note w.network (written_len w) (Some note)) second → carried_pair f ≡ Some note.pair → epoch_before w place note.pair ≤ epoch_of w.network.openings note.pair → IsNoteAt w place note
     → IsDelayed w side index isn f place
 delayed-some w side index isn f place second note seconds told carried up says = ((rose, rose_back), (grew, grew_back))
   where
@@ -460,21 +439,21 @@ delayed-some w side index isn f place second note seconds told carried up says =
         ∙ (ap (λ k. first_of same (nat_le w.network.limit k || nat_le w.network.limit (written_len w B pair note.epoch - note.at_b)) second) since_a
         ∙ ap (λ k. first_of same (nat_le w.network.limit (since A) || nat_le w.network.limit k) second) since_b))
 
-    its : (p : Pair) → carried_pair w.network f ≡ Some p → p ≡ pair
+    its : (p : Pair) → carried_pair f ≡ Some p → p ≡ pair
     its p c = let e : Some p ≡ Some pair = sym c ∙ carried in cc
 
-    rose : unfair w (event.Deliver side index isn) ≡ Some OtherEpoch → (p : Pair) × (carried_pair w.network f ≡ Some p) × HasRisen w place p
+    rose : unfair w (event.Deliver side index isn) ≡ Some OtherEpoch → (p : Pair) × (carried_pair f ≡ Some p) × HasRisen w place p
     rose e = (pair, carried, (differ (epoch_before w place pair) (epoch_of w.network.openings pair) up).0 ((first-epoch same late second seconds).0 (sym by_trace ∙ e)))
 
-    rose_back : (p : Pair) × (carried_pair w.network f ≡ Some p) × HasRisen w place p → unfair w (event.Deliver side index isn) ≡ Some OtherEpoch
+    rose_back : (p : Pair) × (carried_pair f ≡ Some p) × HasRisen w place p → unfair w (event.Deliver side index isn) ≡ Some OtherEpoch
     rose_back (p, c, less) = by_trace ∙ (first-epoch same late second seconds).1 ((differ (epoch_before w place pair) (epoch_of w.network.openings pair) up).1 (subst (HasRisen w place) (its p c) less))
 
-    grew : unfair w (event.Deliver side index isn) ≡ Some Stale → (p : Pair) × (carried_pair w.network f ≡ Some p) × HasGrown w place p
+    grew : unfair w (event.Deliver side index isn) ≡ Some Stale → (p : Pair) × (carried_pair f ≡ Some p) × HasGrown w place p
     grew e =
         let both = (first-stale same late second seconds).0 (sym by_trace ∙ e) in
         (pair, carried, (eqb-true (epoch_of w.network.openings pair) (epoch_before w place pair) both.0, (either w.network.limit (since A) (since B)).0 both.1))
 
-    grew_back : (p : Pair) × (carried_pair w.network f ≡ Some p) × HasGrown w place p → unfair w (event.Deliver side index isn) ≡ Some Stale
+    grew_back : (p : Pair) × (carried_pair f ≡ Some p) × HasGrown w place p → unfair w (event.Deliver side index isn) ≡ Some Stale
     grew_back (p, c, grown) =
         let here : HasGrown w place pair = subst (HasGrown w place) (its p c) grown in
         by_trace ∙ (first-stale same late second seconds).1 (eq-eqb (epoch_of w.network.openings pair) (epoch_before w place pair) here.0, (either w.network.limit (since A) (since B)).1 here.1)
@@ -501,10 +480,10 @@ delays-traced limit w reached side index isn f place at emission = by_note f.not
     not_own = ap (λ s. same_side s side) sender ∙ (same_side-swap (other_side side) side ∙ same_side-other side)
 
     second : Option Unfair
-    second = second_by_frame n side (pair_foreseen (host_of n side) f.octets.items)
+    second = second_by_frame n side (foreseen (host_of n side) f.octets.items)
 
     seconds : IsSecond second
-    seconds = second-only n side (pair_foreseen (host_of n side) f.octets.items)
+    seconds = second-only n side (foreseen (host_of n side) f.octets.items)
 
     told : unfair w (event.Deliver side index isn) ≡ option_or (late_note n (written_len w) f.note) second
     told = ap (unfair_frame n (written_len w) side) at ∙ cond-false (same_side f.sender side) (Some NoSuchFrame) (option_or (late_note n (written_len w) f.note) second) not_own

@@ -1,7 +1,7 @@
 -- What a search finds in a list of which the first element that passes another test was changed.
-use Rattle.std.proofs.Common.{◌≡◌, Bool, true, false, cond, List, [], ◌∷◌, ◌++◌, map, Option, Some, None, option_map, refl, sym, ◌∙◌, ap, subst}
-use Rattle.std.specs.List.{find, AllByRecursion}
-use Rattle.host.specs.Lists.{change_first, remove_first}
+use Rattle.std.proofs.Common.{◌≡◌, ℕ, zero, suc, Bool, true, false, cond, List, [], ◌∷◌, ◌++◌, map, Option, Some, None, option_map, refl, sym, ◌∙◌, ap, subst}
+use Rattle.std.specs.List.{find, slice_get, AllByRecursion}
+use Rattle.sockets.specs.Lists.{change_first, remove_first}
 
 -- at most one element passes
 abbrev pub IsSole : {X : Type 0} → (X → Bool) → List X → Type 0
@@ -475,3 +475,9 @@ find-missed {X} s t xs x = go xs
     go : (ys : List X) → find s ys ≡ Some x → t x ≡ true → find t ys ≡ None → ⊥
     go [] e passes none = cc
     go (y ∷ ys) e passes none = step y ys (λ e n. go ys e passes n) (s y) (t y) refl e passes none
+
+-- what holds of all holds of what stands at a place
+pub All-at : {X : Type 0} (P : X → Type 0) (xs : List X) (k : ℕ) (x : X) → AllByRecursion P xs → slice_get xs k ≡ Some x → P x
+All-at P [] k x all e = cc
+All-at P (y ∷ ys) zero x all e = let same : y ≡ x = cc in subst P same all.0
+All-at P (y ∷ ys) (suc k) x all e = All-at P ys k x all.1 e

@@ -15,15 +15,15 @@ use Rattle.tcp_state.specs.View.{opened_actively, View, is_closed, is_opening, a
 use Rattle.tcp_state.specs.Calls.{after_send, after_recv, after_shutdown, after_abort, after_close}
 use Rattle.tcp_state.specs.Due.{first_due, after_emitted}
 use Rattle.tcp_state.specs.Arrival.{after_segment_at}
-use Rattle.host.specs.declared.entry.SocketId.{SocketId}
-use Rattle.host.specs.declared.entry.Entry.{Entry}
-use Rattle.host.specs.declared.role.Role.{Role}
-use Rattle.host.specs.declared.role.Role.TheVariants.{Idle, Listener, Connected}
-use Rattle.host.specs.Entries.{is_live_between, role_after_connect, is_between, joins, is_of_pair, is_kept, entries_after_step, entries_after_steps, with_role, role_after_bind, role_after_listen, role_after_accept, role_after_tick, role_after_segment, role_after_send, role_after_shutdown, role_after_recv, role_after_emission, role_after_close, role_after_abort, role_after_listener_close, waits_at}
-use Rattle.host.specs.Lists.{change_first, remove_first}
+use Rattle.sockets.specs.declared.entry.SocketId.{SocketId}
+use Rattle.sockets.specs.declared.entry.Entry.{Entry}
+use Rattle.sockets.specs.declared.role.Role.{Role}
+use Rattle.sockets.specs.declared.role.Role.TheVariants.{Idle, Listener, Connected}
+use Rattle.sockets.specs.Entries.{is_live_between, role_after_connect, is_between, joins, is_of_pair, is_kept, entries_after_step, entries_after_steps, with_role, role_after_bind, role_after_listen, role_after_accept, role_after_tick, role_after_segment, role_after_send, role_after_shutdown, role_after_recv, role_after_emission, role_after_close, role_after_abort, role_after_listener_close, waits_at}
+use Rattle.sockets.specs.Lists.{change_first, remove_first}
 use Rattle.wire_sim.proofs.lists.FoundAfterChange.{none-removed}
 use Rattle.wire_sim.proofs.tables.PairOfPorts.{same_end-true}
-use Rattle.host.proofs.KeptEnds.{KeepsEnds, keeps-nothing, keeps-send, keeps-recv, keeps-shutdown, keeps-tick, keeps-abort, keeps-close, keeps-emitted, keeps-segment}
+use Rattle.sockets.proofs.KeptEnds.{KeepsEnds, keeps-nothing, keeps-send, keeps-recv, keeps-shutdown, keeps-tick, keeps-abort, keeps-close, keeps-emitted, keeps-segment}
 
 -- Lists.
 

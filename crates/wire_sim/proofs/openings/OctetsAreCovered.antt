@@ -4,11 +4,14 @@ use Rattle.std.specs.List.{find, slice_get}
 use Rattle.std.proofs.lemmas.Bool.{and_parts}
 use Rattle.std.proofs.lemmas.List.{append-nil}
 use Rattle.tcp_state.specs.View.{View}
-use Rattle.host.specs.declared.entry.SocketId.{SocketId}
-use Rattle.host.specs.declared.entry.Entry.{Entry}
-use Rattle.host.specs.declared.role.Role.TheVariants.{Connected}
-use Rattle.host.specs.Calls.{send_answer, after_send}
-use Rattle.host.specs.Entries.{is_socket}
+use Rattle.sockets.specs.declared.entry.SocketId.{SocketId}
+use Rattle.sockets.specs.declared.entry.Entry.{Entry}
+use Rattle.sockets.specs.declared.role.Role.TheVariants.{Connected}
+use Rattle.sockets.specs.Calls.{send_answer, after_send}
+use Rattle.sockets.specs.Entries.{is_socket}
+use Rattle.sockets.specs.SocketsView.{SocketsView}
+use Rattle.ipv4.specs.declared.addr.Addr.{Addr}
+use Rattle.interface.specs.Ways.{is_routed}
 use Rattle.host.specs.HostView.{HostView}
 use Rattle.wire_sim.specs.declared.event.Side.{Side}
 use Rattle.wire_sim.specs.declared.event.Side.TheVariants.{A, B}
@@ -30,7 +33,7 @@ use Rattle.wire_sim.specs.Sides.{same_side, other_side}
 use Rattle.wire_sim.specs.Steps.{with_station, with_host, with_opening, after_call, after_delivery, station_after_tick, recv_len, MeetsCall, MeetsEmission, DeliversFrame, Steps}
 use Rattle.wire_sim.specs.Tallies.{is_opening_of, is_opening_at, same_pair}
 use Rattle.wire_sim.specs.Trace.{sent_on, read_on, closed_on, ended_on, of_opening}
-use Rattle.wire_sim.specs.WorldView.{NetworkView, WorldView, station_of, host_of}
+use Rattle.wire_sim.specs.WorldView.{NetworkView, WorldView, station_of, host_of, table_of}
 use Rattle.wire_sim.proofs.tables.CallsOnTable.{outcome, sends-on}
 use Rattle.wire_sim.proofs.lists.FoundAfterChange.{IsSole, find-passes, found-sole}
 use Rattle.wire_sim.proofs.tables.PairOfPorts.{same_pair-same}
@@ -102,13 +105,13 @@ both-ways side os id o ledger found =
 
 -- a connection in a table is listed
 listed : (limit : ℕ) (hs ts : Side) (n : NetworkView) (trace : List Happening) → IsOrderly limit hs ts n trace → (place : ℕ) (id : SocketId) (c : View) (l : Option SocketId)
-    → slice_get (let h = host_of n hs in h.entries) place ≡ Some (record { id = id; role = Connected c l }) → IsListed hs n.openings id c
+    → slice_get (let h = table_of n hs in h.entries) place ≡ Some (record { id = id; role = Connected c l }) → IsListed hs n.openings id c
 listed limit hs ts n trace w place id c l at =
-    let h = host_of n hs in
+    let h = table_of n hs in
     let e : Entry = record { id = id; role = Connected c l } in
     let table = w.projects.own_table in
     let found = found-at (has_id id.0) h.entries place e (table.sole id.0) at (eqb-same id.0) in
-    let opened : IsOpened hs w.a w.b n.openings id c = table.noted id (Connected c l) (found-role (has_id id.0) h.entries e table.sole found) in
+    let opened : IsOpened hs w.a n.openings id c = table.noted id (Connected c l) (found-role (has_id id.0) h.entries e table.sole found) in
     record { opening = opened.opening; by_id = opened.at; pair = opened.pair; by_epoch = both-ways hs n.openings id opened.opening w.projects.ledger opened.at }
 
 pub connections-listed : EveryConnectionIsListed
@@ -145,13 +148,13 @@ grows-opened : (n : NetworkView) (side : Side) (h : HostView) (o : Option Openin
 grows-opened n side h o = record { more = as_list o; openings = opens (with_host n side h) o ∙ ap (λ l. l ++ as_list o) (openings-with n side (let s = station_of n side in record s { host = h })) }
 
 grows-called : (side : Side) (c : Call) (answer : Answer) (place : ℕ) (n : NetworkView) (h : HostView) → Grows n (after_call side c answer place n h)
-grows-called side (call.Connect isn id peer) reply.Started place n h = grows-opened n side h (opened_by_connect n.openings side id place h (host_of n (other_side side)))
+grows-called side (call.Connect isn id peer) reply.Started place n h = grows-opened n side h (opened_by_connect n.openings side id place h.sockets (table_of n (other_side side)))
 grows-called side (call.Send id octets) (reply.Sent count) place n h = grows-not n (after_call side (call.Send id octets) (reply.Sent count) place n h) (openings-with n side (let s = station_of n side in record s { host = h }))
 grows-called side _ _ place n h = grows-host n side h
 
 grows-delivered : (side : Side) (place : ℕ) (note : Option Note) (n : NetworkView) (h : HostView) → Grows n (after_delivery side place note n h)
 grows-delivered side place None n h = grows-host n side h
-grows-delivered side place (Some note) n h = grows-opened n side h (opened_by_frame n.openings side place note.pair (host_of n side) h)
+grows-delivered side place (Some note) n h = grows-opened n side h (opened_by_frame n.openings side place note.pair (table_of n side) h.sockets)
 
 grows-same : (n m k : NetworkView) → m ≡ k → Grows n k → Grows n m
 grows-same n m k same g = subst (Grows n) (sym same) g
@@ -179,31 +182,31 @@ IsUnread side id h = (sent_of side id h ≡ []) × (read_of side id h ≡ []) ×
 
 -- a connection that a call finds has an opening
 socket-opened : (limit : ℕ) (hs ts : Side) (n : NetworkView) (trace : List Happening) → IsOrderly limit hs ts n trace → (id i : SocketId) (c : View) (l : Option SocketId)
-    → find (is_socket i) (let h = host_of n hs in h.entries) ≡ Some (record { id = i; role = Connected c l }) → find (is_opening_at hs id) n.openings ≡ None → (id.0 == i.0) ≡ false
+    → find (is_socket i) (let h = table_of n hs in h.entries) ≡ Some (record { id = i; role = Connected c l }) → find (is_opening_at hs id) n.openings ≡ None → (id.0 == i.0) ≡ false
 socket-opened limit hs ts n trace w id i c l found none = decide (id.0 == i.0) refl
   where
     decide : (b : Bool) → (id.0 == i.0) ≡ b → b ≡ false
     decide false is = refl
     decide true is =
-        let h = host_of n hs in
+        let h = table_of n hs in
         let e : Entry = record { id = i; role = Connected c l } in
         let table = w.projects.own_table in
-        let opened : IsOpened hs w.a w.b n.openings i c = table.noted i (Connected c l) (found-role (is_socket i) h.entries e table.sole found) in
+        let opened : IsOpened hs w.a n.openings i c = table.noted i (Connected c l) (found-role (is_socket i) h.entries e table.sole found) in
         let bad : Some opened.opening ≡ None = sym opened.at ∙ (ap (λ x. find (is_opening_at hs x) n.openings) (sym (same_id id i is)) ∙ none) in
         cc
 
-unread-call : (limit : ℕ) (hs ts : Side) (n : NetworkView) (trace : List Happening) → IsOrderly limit hs ts n trace → (c : Call) (answer : Answer) (new : HostView) → MeetsCall c (host_of n hs) answer new
+unread-call : (limit : ℕ) (hs ts : Side) (n : NetworkView) (trace : List Happening) → IsOrderly limit hs ts n trace → (routed : Addr → Bool) (c : Call) (answer : Answer) (new : SocketsView) → MeetsCall routed c (table_of n hs) answer new
     → (id : SocketId) → find (is_opening_at hs id) n.openings ≡ None → IsUnread hs id (answered hs c answer)
-unread-call limit hs ts n trace w (call.Send i octets) answer new m id none =
-    elim (outcome (send_answer (host_of n hs) i octets.items) (λ count. reply.Sent count) (after_send (host_of n hs) i octets.items) (host_of n hs) answer new m) [
+unread-call limit hs ts n trace w routed (call.Send i octets) answer new m id none =
+    elim (outcome (send_answer (table_of n hs) i octets.items) (λ count. reply.Sent count) (after_send (table_of n hs) i octets.items) (table_of n hs) answer new m) [
       | inl k ↦
-          let s = sends-on (host_of n hs) i octets.items k.0 k.1 in
+          let s = sends-on (table_of n hs) i octets.items k.0 k.1 in
           let apart = socket-opened limit hs ts n trace w id i s.c s.l s.found none in
           subst (λ a. IsUnread hs id (answered hs (call.Send i octets) a)) (sym k.2) (sent_by-send hs i id octets k.0 ∙ ap (λ b. cond b (take k.0 octets.items) []) apart, refl, refl)
       | inr k ↦ subst (λ a. IsUnread hs id (answered hs (call.Send i octets) a)) (sym k.2) (refl, refl, refl)
     ]
-unread-call limit hs ts n trace w (call.Recv i len) answer new m id none =
-    elim (recv_outcome (host_of n hs) i (recv_len len) answer new m) [
+unread-call limit hs ts n trace w routed (call.Recv i len) answer new m id none =
+    elim (recv_outcome (table_of n hs) i (recv_len len) answer new m) [
       | inl k ↦
           let apart = socket-opened limit hs ts n trace w id i k.c k.l k.found none in
           subst (λ a. IsUnread hs id (answered hs (call.Recv i len) a)) (sym k.is_answer) (refl, read_by-recv hs i id len k.octets ∙ ap (λ b. cond b k.octets.items []) apart, refl)
@@ -212,7 +215,7 @@ unread-call limit hs ts n trace w (call.Recv i len) answer new m id none =
           subst (λ a. IsUnread hs id (answered hs (call.Recv i len) a)) (sym k.is_answer) (refl, refl, ended_by-recv hs i id len ∙ apart)
       | inr (inr k) ↦ subst (λ a. IsUnread hs id (answered hs (call.Recv i len) a)) (sym k.1) (refl, refl, refl)
     ]
-unread-call limit hs ts n trace w _ answer new m id none = (refl, refl, refl)
+unread-call limit hs ts n trace w routed _ answer new m id none = (refl, refl, refl)
 
 -- a call of the other side
 unread-other : (side : Side) (c : Call) (a : Answer) (i : SocketId) → IsUnread (other_side side) i (answered side c a)
@@ -220,11 +223,11 @@ unread-other side c a i = let q = other-quiet side c a i in (q.0, q.2, q.3)
 
 unread-step : (limit : ℕ) (old new : WorldView) (happens : Event) (answer : Answer) → IsReached limit old → Steps happens (length old.trace) answer old.network new.network → (side : Side) (id : SocketId)
     → find (is_opening_at side id) old.network.openings ≡ None → IsUnread side id (record { event = happens; answer = answer })
-unread-step limit old new (event.Call A c) answer reached step A id none = unread-call limit A B old.network old.trace (orderly limit old reached) c answer (host_of new.network A) step.0 id none
+unread-step limit old new (event.Call A c) answer reached step A id none = unread-call limit A B old.network old.trace (orderly limit old reached) (is_routed (host_of old.network A).interface) c answer (table_of new.network A) step.0.table id none
 unread-step limit old new (event.Call A c) answer reached step B id none = unread-other A c answer id
 unread-step limit old new (event.Call B c) answer reached step A id none = unread-other B c answer id
 unread-step limit old new (event.Call B c) answer reached step B id none =
-    unread-call limit B A old.network old.trace (orderly-swapped limit A B old.network old.trace (orderly limit old reached)) c answer (host_of new.network B) step.0 id none
+    unread-call limit B A old.network old.trace (orderly-swapped limit A B old.network old.trace (orderly limit old reached)) (is_routed (host_of old.network B).interface) c answer (table_of new.network B) step.0.table id none
 unread-step limit old new (event.Tick s moment) answer reached step side id none = (refl, refl, refl)
 unread-step limit old new (event.Emit s) answer reached step side id none = (refl, refl, refl)
 unread-step limit old new (event.Deliver s index isn) answer reached step side id none = (refl, refl, refl)

@@ -6,10 +6,10 @@ use Rattle.ipv4.specs.declared.addr.Addr.{Addr}
 use Rattle.ipv4.specs.declared.addr.Pair.{Pair}
 use Rattle.ipv4.specs.Addresses.{pair_of}
 use Rattle.tcp_state.specs.View.{View, is_closed}
-use Rattle.host.specs.declared.entry.SocketId.{SocketId}
-use Rattle.host.specs.declared.entry.Entry.{Entry}
-use Rattle.host.specs.declared.role.Role.{Role}
-use Rattle.host.specs.declared.role.Role.TheVariants.{Idle, Listener, Connected}
+use Rattle.sockets.specs.declared.entry.SocketId.{SocketId}
+use Rattle.sockets.specs.declared.entry.Entry.{Entry}
+use Rattle.sockets.specs.declared.role.Role.{Role}
+use Rattle.sockets.specs.declared.role.Role.TheVariants.{Idle, Listener, Connected}
 use Rattle.wire_sim.specs.declared.event.Side.{Side}
 use Rattle.wire_sim.specs.declared.event.Side.TheVariants.{A, B}
 use Rattle.wire_sim.specs.declared.event.Opening.{Opening}
@@ -131,11 +131,10 @@ ledger-added os o n ledger = record {
 abbrev pub MayRise : List Opening → Opening → List Entry → Type 0
 MayRise os o xs = (o.epoch ≡ epoch_of os o.pair) ⊎ ((i : ℕ) (c : View) (l : Option SocketId) → role_at xs i ≡ Some (Connected c l) → pair_of c.local c.peer ≡ o.pair → is_closed c.state ≡ true)
 
-pub opened-added : (side : Side) (own other : Addr) (os : List Opening) (o : Opening) (xs : List Entry) (id : SocketId) (c : View) (l : Option SocketId) → MayRise os o xs → role_at xs id.0 ≡ Some (Connected c l)
-    → IsOpened side own other os id c → IsOpened side own other (os ++ o ∷ []) id c
-opened-added side own other os o xs id c l rises at k = record {
+pub opened-added : (side : Side) (own : Addr) (os : List Opening) (o : Opening) (xs : List Entry) (id : SocketId) (c : View) (l : Option SocketId) → MayRise os o xs → role_at xs id.0 ≡ Some (Connected c l)
+    → IsOpened side own os id c → IsOpened side own (os ++ o ∷ []) id c
+opened-added side own os o xs id c l rises at k = record {
   local = k.local;
-  peer = k.peer;
   opening = k.opening;
   at = find-added_some (is_opening_at side id) os o k.opening k.at;
   pair = k.pair;
@@ -152,8 +151,8 @@ opened-added side own other os o xs id c l rises at k = record {
     stays live false is = refl
 
 -- the table of the other side
-pub table-other : (side : Side) (own other : Addr) (last : ℕ) (xs : List Entry) (os : List Opening) (o : Opening) (told : Rattle.wire_sim.proofs.tables.TableById.Told) → same_side o.side side ≡ false → MayRise os o xs → IsTable side own other last xs os told → IsTable side own other last xs (os ++ o ∷ []) told
-table-other side own other last xs os o told apart rises t = record {
+pub table-other : (side : Side) (own : Addr) (last : ℕ) (xs : List Entry) (os : List Opening) (o : Opening) (told : Rattle.wire_sim.proofs.tables.TableById.Told) → same_side o.side side ≡ false → MayRise os o xs → IsTable side own last xs os told → IsTable side own last xs (os ++ o ∷ []) told
+table-other side own last xs os o told apart rises t = record {
   sole = t.sole;
   bound = t.bound;
   noted = λ id r at. noted id r at (t.noted id r at);
@@ -164,7 +163,7 @@ table-other side own other last xs os o told apart rises t = record {
     same : (id : SocketId) → find (is_opening_at side id) (os ++ o ∷ []) ≡ find (is_opening_at side id) os
     same id = find-added_none (is_opening_at side id) os o (ap (λ b. b && (o.id.0 == id.0)) apart)
 
-    noted : (id : SocketId) (r : Role) → role_at xs id.0 ≡ Some r → IsNoted side own other os id r → IsNoted side own other (os ++ o ∷ []) id r
-    noted id (Connected c l) at k = opened-added side own other os o xs id c l rises at k
+    noted : (id : SocketId) (r : Role) → role_at xs id.0 ≡ Some r → IsNoted side own os id r → IsNoted side own (os ++ o ∷ []) id r
+    noted id (Connected c l) at k = opened-added side own os o xs id c l rises at k
     noted id (Listener local backlog) at k = same id ∙ k
     noted id (Idle buffers bound) at k = same id ∙ k

@@ -1,5 +1,5 @@
 -- An event adds an opening only where a host comes to hold a pair.
-use Rattle.std.proofs.Common.{◌≡◌, ℕ, ◌+◌, ◌⊎◌, inl, inr, ◌&&◌, not, if◌then◌else◌, Bool, true, false, List, [], ◌∷◌, ◌++◌, length, Option, Some, None, is_some, option_map, arith, refl, sym, ◌∙◌, ap}
+use Rattle.std.proofs.Common.{◌≡◌, ℕ, ◌+◌, ◌⊎◌, inl, inr, ◌&&◌, not, if◌then◌else◌, Bool, true, false, List, [], ◌∷◌, ◌++◌, length, Option, Some, None, is_some, option_map, arith, refl, ◌∙◌, ap}
 use Rattle.std.specs.List.{find, slice_get}
 use Rattle.std.proofs.lemmas.List.{append-nil}
 use Rattle.ipv4.specs.declared.addr.Endpoint.{Endpoint}
@@ -7,14 +7,16 @@ use Rattle.ipv4.specs.declared.addr.Pair.{Pair}
 use Rattle.ipv4.specs.Addresses.{pair_of}
 use Rattle.tcp_segment.specs.declared.seq.Seq.{Seq}
 use Rattle.tcp_state.specs.View.{opened_actively}
-use Rattle.host.specs.declared.entry.SocketId.{SocketId}
-use Rattle.host.specs.declared.entry.Entry.{Entry}
-use Rattle.host.specs.declared.role.Role.TheVariants.{Idle}
-use Rattle.host.specs.Calls.{unless_refused, connect_refusal, after_connect, last_port_after}
-use Rattle.host.specs.Entries.{is_socket, is_between, is_of_pair, role_after_connect, with_role}
-use Rattle.host.specs.HostView.{HostView, holder_id}
-use Rattle.host.specs.Lists.{change_first}
-use Rattle.host.specs.Pairs.{socket_pair}
+use Rattle.sockets.specs.declared.entry.SocketId.{SocketId}
+use Rattle.sockets.specs.declared.entry.Entry.{Entry}
+use Rattle.sockets.specs.declared.role.Role.TheVariants.{Idle}
+use Rattle.sockets.specs.Calls.{unless_refused, connect_refusal, after_connect, last_port_after}
+use Rattle.sockets.specs.Entries.{is_socket, is_of_pair, role_after_connect, with_role}
+use Rattle.sockets.specs.SocketsView.{SocketsView, holder_id}
+use Rattle.sockets.specs.Lists.{change_first}
+use Rattle.sockets.specs.Pairs.{socket_pair}
+use Rattle.interface.specs.Ways.{is_routed}
+use Rattle.host.specs.HostView.{HostView}
 use Rattle.wire_sim.specs.declared.event.Side.{Side}
 use Rattle.wire_sim.specs.declared.event.Side.TheVariants.{A, B}
 use Rattle.wire_sim.specs.declared.event.Call.{Call}
@@ -31,12 +33,12 @@ use Rattle.wire_sim.specs.Holding.{IsBegun, EveryOpeningIsBegun}
 use Rattle.wire_sim.specs.Openings.{epoch_of, epoch_connected, opened_as, opened_by_connect, opened_by_frame, held_anew}
 use Rattle.wire_sim.specs.Sides.{other_side}
 use Rattle.wire_sim.specs.Steps.{with_host, with_opening, after_call, after_delivery, station_after_tick, MeetsEmission, DeliversFrame, Steps}
-use Rattle.wire_sim.specs.WorldView.{NetworkView, WorldView, station_of, host_of}
+use Rattle.wire_sim.specs.WorldView.{NetworkView, WorldView, station_of, host_of, table_of}
 use Rattle.wire_sim.proofs.tables.CallsOnTable.{outcome, not_refused, connects-on, socket_pair-connected, found-connecting}
 use Rattle.wire_sim.proofs.openings.OctetsAreCovered.{as_list, opens}
 use Rattle.wire_sim.proofs.lists.FoundAfterChange.{found-made}
 use Rattle.wire_sim.proofs.openings.HeldIsOpened.{joined, unheld_connecting, unheld-changed_at}
-use Rattle.wire_sim.proofs.tables.PairOfPorts.{pair_at, joins-own, unheld-between}
+use Rattle.wire_sim.proofs.tables.PairOfPorts.{joins-own, unheld-between}
 use Rattle.wire_sim.proofs.pairing.WorldAsPairings.{told}
 use Rattle.wire_sim.proofs.pairing.ConnectIsMove.{table-ours}
 use Rattle.wire_sim.proofs.runs.RunsAreLawful.{IsOrderly, orderly, orderly-swapped, openings-with}
@@ -53,38 +55,31 @@ host-opens n m side h o same =
 -- A connect.
 
 -- what a connect that is not refused makes of its host: the pair was not held, and is held by the socket
-pub record Connecting (hs : Side) (n : NetworkView) (own own' : HostView) (id : SocketId) (place : ℕ) : Type 0 where
+pub record Connecting (hs : Side) (n : NetworkView) (own own' : SocketsView) (id : SocketId) (place : ℕ) : Type 0 where
   pub pair : Pair
   pub unheld : holder_id own pair ≡ None
   pub held : holder_id own' pair ≡ Some id
   pub others : (x y : Endpoint) → find (is_of_pair (pair_of x y)) own.entries ≡ None → (pair ≡ pair_of x y) ⊎ (find (is_of_pair (pair_of x y)) own'.entries ≡ None)
-  pub opens : opened_by_connect n.openings hs id place own' (host_of n (other_side hs)) ≡ Some (record { side = hs; pair = pair; epoch = epoch_connected n.openings (host_of n (other_side hs)) pair; id = id; place = place })
+  pub opens : opened_by_connect n.openings hs id place own' (table_of n (other_side hs)) ≡ Some (record { side = hs; pair = pair; epoch = epoch_connected n.openings (table_of n (other_side hs)) pair; id = id; place = place })
 
-pub connecting-host : (limit : ℕ) (hs ts : Side) (n : NetworkView) (trace : List Happening) → IsOrderly limit hs ts n trace → (isn : Seq) (id : SocketId) (peer : Endpoint) (place : ℕ) → connect_refusal (host_of n hs) id peer ≡ None
-    → Connecting hs n (host_of n hs) (after_connect (host_of n hs) isn.0 id peer) id place
+pub connecting-host : (limit : ℕ) (hs ts : Side) (n : NetworkView) (trace : List Happening) → IsOrderly limit hs ts n trace → (isn : Seq) (id : SocketId) (peer : Endpoint) (place : ℕ) → connect_refusal (table_of n hs) id peer (is_routed (host_of n hs).interface peer.addr) ≡ None
+    → Connecting hs n (table_of n hs) (after_connect (table_of n hs) isn.0 id peer (is_routed (host_of n hs).interface peer.addr)) id place
 connecting-host limit hs ts n trace w isn id peer place may =
-    let own = host_of n hs in
+    let own = table_of n hs in
     let h = w.projects in
     let a = w.a in
-    let b = w.b in
-    let k = connects-on own id peer may in
+    let routed = is_routed (host_of n hs).interface peer.addr in
+    let k = connects-on own id peer routed may in
     let local : Endpoint = record { addr = own.addr; port = k.port } in
     let c = opened_actively local peer isn.0 in
     let g = role_after_connect local peer isn.0 in
-    let base : HostView = record own { last_port = last_port_after own k.bound k.port } in
-    let next : HostView = record base { entries = change_first (is_socket id) (with_role g) own.entries } in
-    let is_next : after_connect own isn.0 id peer ≡ next = k.becomes isn.0 in
-    let peer_addr : peer.addr ≡ b = k.reached ∙ h.own_neighbour in
+    let base : SocketsView = record own { last_port = last_port_after own k.bound k.port } in
+    let next : SocketsView = record base { entries = change_first (is_socket id) (with_role g) own.entries } in
+    let is_next : after_connect own isn.0 id peer routed ≡ next = k.becomes isn.0 in
     let pair = pair_of local peer in
     let x : Entry = record { id = id; role = Idle k.b k.bound } in
-    let at_ports : pair ≡ pair_at a b k.port peer.port =
-    ap (λ x. pair_of (record { addr = x; port = k.port }) peer) h.own_addr ∙ ap (λ y. pair_of (record { addr = a; port = k.port }) (record { addr = y; port = peer.port })) peer_addr in
-    let between : find (is_between (record { addr = a; port = k.port }) (record { addr = b; port = peer.port })) own.entries ≡ None =
-    ap (λ x. find (is_between (record { addr = x; port = k.port }) (record { addr = b; port = peer.port })) own.entries) (sym h.own_addr)
-    ∙ (ap (λ y. find (is_between local (record { addr = y; port = peer.port })) own.entries) (sym peer_addr) ∙ k.free) in
     let free : find (is_of_pair pair) own.entries ≡ None =
-    ap (λ p. find (is_of_pair p) own.entries) at_ports
-    ∙ unheld-between a b k.port peer.port own.entries h.distinct h.own_table.sole (table-ours hs a b own.last_id own.entries n.openings (told hs trace) h.own_table) between in
+    unheld-between local peer own.entries k.apart h.own_table.sole (table-ours hs a own.addr own.last_id own.entries n.openings (told hs trace) h.own_addr h.own_table) k.free in
     let named : socket_pair next id ≡ Some pair = socket_pair-connected next id c None (found-connecting own.entries id k.b k.bound local peer isn.0 k.found) in
     record {
       pair = pair;
@@ -92,13 +87,13 @@ connecting-host limit hs ts n trace w isn id peer place may =
       held = ap (λ w. holder_id w pair) is_next ∙ ap (option_map (λ (e : Entry). e.id)) (found-made (is_socket id) (is_of_pair pair) (with_role g) own.entries x k.found free (joins-own c None refl));
       others = λ p q none. elim (joined c None p q) [
         | inl same ↦ inl same
-        | inr out ↦ inr (ap (λ (w : HostView). find (is_of_pair (pair_of p q)) w.entries) is_next ∙ unheld-changed_at (is_socket id) g (pair_of p q) own.entries (unheld_connecting local peer isn.0 (pair_of p q) out) none)
+        | inr out ↦ inr (ap (λ (w : SocketsView). find (is_of_pair (pair_of p q)) w.entries) is_next ∙ unheld-changed_at (is_socket id) g (pair_of p q) own.entries (unheld_connecting local peer isn.0 (pair_of p q) out) none)
       ];
-      opens = ap (λ w. opened_by_connect n.openings hs id place w (host_of n (other_side hs))) is_next ∙ ap (opened_as n.openings hs id place (host_of n (other_side hs))) named;
+      opens = ap (λ w. opened_by_connect n.openings hs id place w (table_of n (other_side hs))) is_next ∙ ap (opened_as n.openings hs id place (table_of n (other_side hs))) named;
     }
 
 -- the epoch of what a connect opens
-pub epoch-rises : (os : List Opening) (other : HostView) (pair : Pair) → epoch_connected os other pair ≡ epoch_of os pair + (if true && not (is_some (holder_id other pair)) then 1 else 0)
+pub epoch-rises : (os : List Opening) (other : SocketsView) (pair : Pair) → epoch_connected os other pair ≡ epoch_of os pair + (if true && not (is_some (holder_id other pair)) then 1 else 0)
 epoch-rises os other pair = by_holder (is_some (holder_id other pair))
   where
     by_holder : (b : Bool) → (if b then epoch_of os pair else epoch_of os pair + 1) ≡ epoch_of os pair + (if true && not b then 1 else 0)
@@ -108,21 +103,23 @@ epoch-rises os other pair = by_holder (is_some (holder_id other pair))
 connect-noted : (limit : ℕ) (hs ts : Side) (old new : WorldView) (isn : Seq) (id : SocketId) (peer : Endpoint) (answer : Answer) → IsOrderly limit hs ts old.network old.trace
     → Steps (event.Call hs (call.Connect isn id peer)) (length old.trace) answer old.network new.network → IsNoted (event.Call hs (call.Connect isn id peer)) old new
 connect-noted limit hs ts old new isn id peer answer w step =
-    let own = host_of old.network hs in
-    let own' = host_of new.network hs in
+    let own = table_of old.network hs in
+    let own' = table_of new.network hs in
+    let host' = host_of new.network hs in
+    let routed = is_routed (host_of old.network hs).interface peer.addr in
     let c = call.Connect isn id peer in
-    elim (outcome (unless_refused (connect_refusal own id peer) (tt {0})) (λ _. reply.Started) (after_connect own isn.0 id peer) own answer own' step.0) [
+    elim (outcome (unless_refused (connect_refusal own id peer routed) (tt {0})) (λ _. reply.Started) (after_connect own isn.0 id peer routed) own answer own' step.0.table) [
       | inl x ↦
-          let k = connecting-host limit hs ts old.network old.trace w isn id peer (length old.trace) (not_refused (connect_refusal own id peer) x.0 x.1) in
-          let other = host_of old.network (other_side hs) in
+          let k = connecting-host limit hs ts old.network old.trace w isn id peer (length old.trace) (not_refused (connect_refusal own id peer routed) x.0 x.1) in
+          let other = table_of old.network (other_side hs) in
           let o : Opening = record { side = hs; pair = k.pair; epoch = epoch_connected old.network.openings other k.pair; id = id; place = length old.trace } in
           let added : opened_by_connect old.network.openings hs id (length old.trace) own' other ≡ Some o = ap (λ v. opened_by_connect old.network.openings hs id (length old.trace) v other) x.3 ∙ k.opens in
           inr (
             o,
-            host-opens old.network new.network hs own' (opened_by_connect old.network.openings hs id (length old.trace) own' other) (step.1 ∙ ap (λ r. after_call hs c r (length old.trace) old.network own') x.2) ∙ ap (λ l. old.network.openings ++ as_list l) added,
+            host-opens old.network new.network hs host' (opened_by_connect old.network.openings hs id (length old.trace) own' other) (step.1 ∙ ap (λ r. after_call hs c r (length old.trace) old.network host') x.2) ∙ ap (λ l. old.network.openings ++ as_list l) added,
             record { unheld = k.unheld; held = ap (λ v. holder_id v k.pair) x.3 ∙ k.held; place = refl; epoch = epoch-rises old.network.openings other k.pair },
           )
-      | inr x ↦ inl (host-opens old.network new.network hs own' None (step.1 ∙ ap (λ r. after_call hs c r (length old.trace) old.network own') x.2) ∙ append-nil old.network.openings)
+      | inr x ↦ inl (host-opens old.network new.network hs host' None (step.1 ∙ ap (λ r. after_call hs c r (length old.trace) old.network host') x.2) ∙ append-nil old.network.openings)
     ]
 
 -- Every other call.
@@ -145,7 +142,7 @@ call-noted limit hs ts old new c answer w step = inl (ap (λ (m : NetworkView). 
 frame-noted : (side : Side) (index : ℕ) (isn : Seq) (answer : Answer) (old new : WorldView) → Steps (event.Deliver side index isn) (length old.trace) answer old.network new.network → IsNoted (event.Deliver side index isn) old new
 frame-noted side index isn answer old new step = by_frame (slice_get old.network.frames index) step
   where
-    by_holders : (pair : Pair) (before after : Option SocketId) → holder_id (host_of old.network side) pair ≡ before → holder_id (host_of new.network side) pair ≡ after
+    by_holders : (pair : Pair) (before after : Option SocketId) → holder_id (table_of old.network side) pair ≡ before → holder_id (table_of new.network side) pair ≡ after
         → new.network.openings ≡ old.network.openings ++ as_list (held_anew old.network.openings side (length old.trace) pair before after) → IsNoted (event.Deliver side index isn) old new
     by_holders pair None (Some id) free held grown = inr (
       record { side = side; pair = pair; epoch = epoch_of old.network.openings pair; id = id; place = length old.trace },
@@ -157,8 +154,8 @@ frame-noted side index isn answer old new step = by_frame (slice_get old.network
 
     by_note : (o : Option Note) → new.network ≡ after_delivery side (length old.trace) o old.network (host_of new.network side) → IsNoted (event.Deliver side index isn) old new
     by_note None same = inl (host-opens old.network new.network side (host_of new.network side) None same ∙ append-nil old.network.openings)
-    by_note (Some note) same = by_holders note.pair (holder_id (host_of old.network side) note.pair) (holder_id (host_of new.network side) note.pair) refl refl
-        (host-opens old.network new.network side (host_of new.network side) (opened_by_frame old.network.openings side (length old.trace) note.pair (host_of old.network side) (host_of new.network side)) same)
+    by_note (Some note) same = by_holders note.pair (holder_id (table_of old.network side) note.pair) (holder_id (table_of new.network side) note.pair) refl refl
+        (host-opens old.network new.network side (host_of new.network side) (opened_by_frame old.network.openings side (length old.trace) note.pair (table_of old.network side) (table_of new.network side)) same)
 
     by_frame : (o : Option Frame) → DeliversFrame side isn.0 (length old.trace) answer old.network new.network o → IsNoted (event.Deliver side index isn) old new
     by_frame None step = absurd step

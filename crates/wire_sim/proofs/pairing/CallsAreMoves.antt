@@ -15,32 +15,30 @@ use Rattle.wire_sim.specs.declared.event.Answer.{Answer}
 use Rattle.wire_sim.specs.declared.event.Answer.TheVariants as reply
 use Rattle.wire_sim.specs.declared.event.Opening.{Opening}
 use Rattle.wire_sim.specs.declared.event.Happening.{Happening}
-use Rattle.host.specs.declared.entry.SocketId.{SocketId}
-use Rattle.host.specs.declared.entry.Entry.{Entry}
-use Rattle.host.specs.declared.role.Role.{Role}
-use Rattle.host.specs.declared.role.Role.TheVariants.{Connected}
-use Rattle.host.specs.declared.refusal.Refusal.{Refusal}
-use Rattle.host.specs.declared.refusal.Refusal.TheVariants as refusal
-use Rattle.wire_sim.specs.declared.world.bag.Frame.{Frame}
-use Rattle.host.specs.Calls.{after_socket, send_answer, after_send, recv_answer, after_recv, shutdown_refusal, after_shutdown}
-use Rattle.host.specs.Entries.{is_socket, role_after_send, role_after_recv as received_role, role_after_shutdown, with_role}
-use Rattle.host.specs.HostView.{HostView}
-use Rattle.host.specs.Lists.{change_first}
+use Rattle.sockets.specs.declared.entry.SocketId.{SocketId}
+use Rattle.sockets.specs.declared.entry.Entry.{Entry}
+use Rattle.sockets.specs.declared.role.Role.{Role}
+use Rattle.sockets.specs.declared.role.Role.TheVariants.{Connected}
+use Rattle.sockets.specs.declared.refusal.Refusal.{Refusal}
+use Rattle.sockets.specs.declared.refusal.Refusal.TheVariants as refusal
+use Rattle.sockets.specs.Calls.{after_socket, send_answer, after_send, recv_answer, after_recv, shutdown_refusal, after_shutdown}
+use Rattle.sockets.specs.Entries.{is_socket, role_after_send, role_after_recv as received_role, role_after_shutdown, with_role}
+use Rattle.sockets.specs.SocketsView.{SocketsView}
+use Rattle.sockets.specs.Lists.{change_first}
 use Rattle.stream_law.specs.Pairing.{Present, Meets, takes, closes, gives, ends}
-use Rattle.host.specs.Sound.{IsSoundConnection, IsSoundRole, IsSoundHost}
+use Rattle.sockets.specs.Sound.{IsSoundConnection, IsSoundRole, IsSoundTable}
 use Rattle.wire_sim.specs.Sides.{other_side}
-use Rattle.wire_sim.specs.Steps.{MeetsSocket, MeetsReceived, after_call, with_host, with_opening}
-use Rattle.wire_sim.specs.Tallies.{counts_after, is_opening_at}
-use Rattle.wire_sim.specs.WorldView.{NetworkView}
+use Rattle.wire_sim.specs.Steps.{MeetsSocket, MeetsReceived}
+use Rattle.wire_sim.specs.Tallies.{is_opening_at}
 use Rattle.wire_sim.proofs.tables.CallsOnTable.{sends-on, reads-on, octets_told, end_told, received-connected, readable_on-connected, socket-kept, shuts-on}
 use Rattle.wire_sim.proofs.tables.EntryChanges.{SameBut, SameTold, table-becomes, table-told, end-told, meets-moved, opened-kept}
 use Rattle.wire_sim.proofs.pairing.EndMoves.{pairing, EndGoes, moved, end-stays}
 use Rattle.wire_sim.proofs.lists.FoundAfterChange.{All-find, change-none}
-use Rattle.host.proofs.KeptEnds.{KeepsEnds, keeps-nothing, keeps-send, keeps-recv, keeps-shutdown}
-use Rattle.wire_sim.proofs.pairing.WorldAsPairings.{told, Projects, projects-turned}
+use Rattle.sockets.proofs.KeptEnds.{KeepsEnds, keeps-nothing, keeps-send, keeps-recv, keeps-shutdown}
+use Rattle.wire_sim.proofs.pairing.WorldAsPairings.{told, Bag, Projects, projects-turned}
 use Rattle.wire_sim.proofs.tables.UnseenRoles.{IsQuiet as IsQuietChange}
 use Rattle.wire_sim.proofs.tables.TableById.{Account, untold, role_at, found-role, Becomes, becomes-changed, presence_in, end_with, end_at, IsOpened, IsNoted, MayOpen, IsTable}
-use Rattle.wire_sim.proofs.told.TraceAndOneMore.{tallies, answered, IsQuiet, tallies-counted, tallies-quiet, quiet-everywhere}
+use Rattle.wire_sim.proofs.told.TraceAndOneMore.{answered, IsQuiet}
 use Rattle.wire_sim.proofs.told.AccountAndOneMore.{told-quiet, told-other, sends-told, receives-told, closes-told, ends-told}
 
 -- What happens and tells nothing of any socket's octets.
@@ -48,15 +46,14 @@ use Rattle.wire_sim.proofs.told.AccountAndOneMore.{told-quiet, told-other, sends
 abbrev pub IsSilent : Happening → Type 0
 IsSilent e = (s : Side) (i : SocketId) → IsQuiet s i e
 
-pub projects-silent : (limit : ℕ) (hs ts : Side) (a b : Addr) (own other : HostView) (frames : List Frame) (openings : List Opening) (trace : List Happening) (e : Happening) → IsSilent e
-    → Projects limit hs ts a b own other frames openings trace → Projects limit hs ts a b own other frames openings (trace ++ e ∷ [])
-projects-silent limit hs ts a b own other frames openings trace e quiet h = projects-turned limit hs ts a b own own other frames openings trace (trace ++ e ∷ []) h (record {
+pub projects-silent : (limit : ℕ) (hs ts : Side) (a b : Addr) (own other : SocketsView) (bag : Bag) (openings : List Opening) (trace : List Happening) (e : Happening) → IsSilent e
+    → Projects limit hs ts a b own other bag openings trace → Projects limit hs ts a b own other bag openings (trace ++ e ∷ [])
+projects-silent limit hs ts a b own other bag openings trace e quiet h = projects-turned limit hs ts a b own own other bag openings trace (trace ++ e ∷ []) h (record {
   addr = refl;
-  neighbour = refl;
-  table = table-told hs a b own.last_id own.entries openings (told hs trace) (told hs (trace ++ e ∷ [])) same h.own_table;
+  table = table-told hs a own.last_id own.entries openings (told hs trace) (told hs (trace ++ e ∷ [])) same h.own_table;
   other_told = λ i. told-quiet ts trace e i (quiet ts i);
   meets = λ pair epoch.
-      subst (λ v. Meets limit (pairing v (end_at ts openings other.entries (told ts trace) pair epoch) (h.out pair epoch) (h.arrived pair epoch)))
+      subst (λ v. Meets limit (pairing v (end_at ts openings other.entries (told ts trace) pair epoch) (bag.out pair epoch) (bag.arrived pair epoch)))
       (sym (end-told hs openings own.entries (told hs trace) (told hs (trace ++ e ∷ [])) pair epoch same)) (h.meets pair epoch);
 })
   where
@@ -64,53 +61,42 @@ projects-silent limit hs ts a b own other frames openings trace e quiet h = proj
     same i = told-quiet hs trace e i (quiet hs i)
 
 -- One id's entry became another, or is gone, and that is a move of its end.
-pub projects-moved : (limit : ℕ) (hs ts : Side) (a b : Addr) (own own' other : HostView) (frames : List Frame) (openings : List Opening) (trace trace' : List Happening) (id : SocketId) (r : Option Role)
-    → own'.addr ≡ own.addr → own'.neighbour ≡ own.neighbour → own'.last_id ≡ own.last_id → Becomes own.entries own'.entries id.0 r → ((role : Role) → r ≡ Some role → IsNoted hs a b openings id role × (id.0 ≤ own.last_id))
+pub projects-moved : (limit : ℕ) (hs ts : Side) (a b : Addr) (own own' other : SocketsView) (bag : Bag) (openings : List Opening) (trace trace' : List Happening) (id : SocketId) (r : Option Role)
+    → own'.addr ≡ own.addr → own'.last_id ≡ own.last_id → Becomes own.entries own'.entries id.0 r → ((role : Role) → r ≡ Some role → IsNoted hs a openings id role × (id.0 ≤ own.last_id))
     → SameBut id (told hs trace) (told hs trace') → (find (is_opening_at hs id) openings ≡ None → MayOpen own.last_id own'.entries id → told hs trace' id ≡ untold) → SameTold (told ts trace) (told ts trace')
     → EndGoes limit (end_with (presence_in (role_at own.entries id.0)) (told hs trace id)) (end_with (presence_in r) (told hs trace' id))
-    → Projects limit hs ts a b own other frames openings trace → Projects limit hs ts a b own' other frames openings trace'
-projects-moved limit hs ts a b own own' other frames openings trace trace' id r addr neighbour last becomes new same quiet theirs goes h =
-    projects-turned limit hs ts a b own own' other frames openings trace trace' h (record {
+    → Projects limit hs ts a b own other bag openings trace → Projects limit hs ts a b own' other bag openings trace'
+projects-moved limit hs ts a b own own' other bag openings trace trace' id r addr last becomes new same quiet theirs goes h =
+    projects-turned limit hs ts a b own own' other bag openings trace trace' h (record {
       addr = addr;
-      neighbour = neighbour;
-      table = subst (λ n. IsTable hs a b n own'.entries openings (told hs trace')) (sym last)
-          (table-becomes hs a b own.last_id own.entries own'.entries openings (told hs trace) (told hs trace') id r becomes new same quiet h.own_table);
+      table = subst (λ n. IsTable hs a n own'.entries openings (told hs trace')) (sym last)
+          (table-becomes hs a own.last_id own.entries own'.entries openings (told hs trace) (told hs trace') id r becomes new same quiet h.own_table);
       other_told = theirs;
-      meets = meets-moved limit hs openings id own.entries own'.entries (told hs trace) (told hs trace') (λ pair epoch. end_at ts openings other.entries (told ts trace) pair epoch) h.out h.arrived becomes.others same
+      meets = meets-moved limit hs openings id own.entries own'.entries (told hs trace) (told hs trace') (λ pair epoch. end_at ts openings other.entries (told ts trace) pair epoch) bag.out bag.arrived becomes.others same
           (subst (λ x. EndGoes limit (end_with (presence_in (role_at own.entries id.0)) (told hs trace id)) (end_with (presence_in x) (told hs trace' id))) (sym becomes.here) goes) h.meets;
     })
 
 -- a change of our host that no connection sees
-pub projects-quiet : (limit : ℕ) (hs ts : Side) (a b : Addr) (own other : HostView) (frames : List Frame) (openings : List Opening) (trace : List Happening) (test : Entry → Bool) (g : Role → Role) → IsQuietChange g
-    → Projects limit hs ts a b own other frames openings trace → Projects limit hs ts a b (record own { entries = change_first test (with_role g) own.entries }) other frames openings trace
-projects-quiet limit hs ts a b own other frames openings trace test g quiet h = by_found (find test own.entries) refl
+pub projects-quiet : (limit : ℕ) (hs ts : Side) (a b : Addr) (own other : SocketsView) (bag : Bag) (openings : List Opening) (trace : List Happening) (test : Entry → Bool) (g : Role → Role) → IsQuietChange g
+    → Projects limit hs ts a b own other bag openings trace → Projects limit hs ts a b (record own { entries = change_first test (with_role g) own.entries }) other bag openings trace
+projects-quiet limit hs ts a b own other bag openings trace test g quiet h = by_found (find test own.entries) refl
   where
-    next : HostView
+    next : SocketsView
     next = record own { entries = change_first test (with_role g) own.entries }
 
-    by_found : (o : Option Entry) → find test own.entries ≡ o → Projects limit hs ts a b next other frames openings trace
-    by_found None at = subst (λ xs. Projects limit hs ts a b (record own { entries = xs }) other frames openings trace) (sym (change-none test (with_role g) own.entries at)) h
+    by_found : (o : Option Entry) → find test own.entries ≡ o → Projects limit hs ts a b next other bag openings trace
+    by_found None at = subst (λ xs. Projects limit hs ts a b (record own { entries = xs }) other bag openings trace) (sym (change-none test (with_role g) own.entries at)) h
     by_found (Some x) at =
         let before = found-role test own.entries x h.own_table.sole at in
-        projects-moved limit hs ts a b own next other frames openings trace trace x.id (Some (g x.role)) refl refl refl (becomes-changed test g own.entries x h.own_table.sole at)
-        (λ role is. let same : g x.role ≡ role = cc in (subst (λ r. IsNoted hs a b openings x.id r) same (quiet.noted hs a b openings x.id x.role (h.own_table.noted x.id x.role before)), h.own_table.bound x.id x.role before))
+        projects-moved limit hs ts a b own next other bag openings trace trace x.id (Some (g x.role)) refl refl (becomes-changed test g own.entries x h.own_table.sole at)
+        (λ role is. let same : g x.role ≡ role = cc in (subst (λ r. IsNoted hs a openings x.id r) same (quiet.noted hs a openings x.id x.role (h.own_table.noted x.id x.role before)), h.own_table.bound x.id x.role before))
         (λ i apart. refl) (λ none may. h.own_table.silent x.id none (inr (x.role, before))) (λ i. refl)
         (end-stays limit (end_with (presence_in (role_at own.entries x.id.0)) (told hs trace x.id)) (end_with (presence_in (Some (g x.role))) (told hs trace x.id))
         (ap (λ p. end_with p (told hs trace x.id)) (quiet.seen x.role ∙ sym (ap presence_in before)))) h
 
--- What a call made of the network: nothing beside its host, a count, or an opening.
-pub data CallGoes (limit : ℕ) (hs ts : Side) (a b : Addr) (own' other : HostView) (n : NetworkView) (c : Call) (answer : Answer) (place : ℕ) (trace : List Happening) : Type 0 where
-  GoesPlain : after_call hs c answer place n own' ≡ with_host n hs own' → Projects limit hs ts a b own' other n.frames n.openings (trace ++ answered hs c answer ∷ [])
-      → tallies (trace ++ answered hs c answer ∷ []) n.openings ≡ tallies trace n.openings → CallGoes limit hs ts a b own' other n c answer place trace
-  GoesCounted : (id : SocketId) (count : ℕ) → after_call hs c answer place n own' ≡ record (with_host n hs own') { written = counts_after n.openings n.written hs id count }
-      → Projects limit hs ts a b own' other n.frames n.openings (trace ++ answered hs c answer ∷ [])
-      → counts_after n.openings (tallies trace n.openings) hs id count ≡ tallies (trace ++ answered hs c answer ∷ []) n.openings → CallGoes limit hs ts a b own' other n c answer place trace
-  GoesOpened : (o : Opening) → after_call hs c answer place n own' ≡ with_opening (with_host n hs own') (Some o) → Projects limit hs ts a b own' other n.frames (n.openings ++ o ∷ []) (trace ++ answered hs c answer ∷ [])
-      → tallies (trace ++ answered hs c answer ∷ []) (n.openings ++ o ∷ []) ≡ tallies trace n.openings ++ 0 ∷ [] → CallGoes limit hs ts a b own' other n c answer place trace
-
 -- What a socket call shows, by its answer.
 
-pub socket_outcome : (h : HostView) (answer : Answer) (new : HostView) → MeetsSocket h answer new → ((id : SocketId) × (b : Buffers) × (id.0 ≡ h.last_id + 1) × (new ≡ after_socket h b)) ⊎ (new ≡ h)
+pub socket_outcome : (h : SocketsView) (answer : Answer) (new : SocketsView) → MeetsSocket h answer new → ((id : SocketId) × (b : Buffers) × (id.0 ≡ h.last_id + 1) × (new ≡ after_socket h b)) ⊎ (new ≡ h)
 socket_outcome h (reply.Socket id) new m = inl (id, m.2.0, m.1, m.2.1)
 socket_outcome h reply.Done new m = absurd m
 socket_outcome h (reply.Accepted i p) new m = absurd m
@@ -141,7 +127,7 @@ socket_outcome h (reply.Refused refusal.EOPNOTSUPP) new m = absurd m
 socket_outcome h (reply.Refused refusal.EDESTADDRREQ) new m = absurd m
 
 -- What a receive shows: octets, or that nothing changed.
-pub record ReadsOctets (h : HostView) (id : SocketId) (len : ℕ) (answer : Answer) (new : HostView) : Type 0 where
+pub record ReadsOctets (h : SocketsView) (id : SocketId) (len : ℕ) (answer : Answer) (new : SocketsView) : Type 0 where
   pub c : View
   pub l : Option SocketId
   pub found : find (is_socket id) h.entries ≡ Some (record { id = id; role = Connected c l })
@@ -154,7 +140,7 @@ pub record ReadsOctets (h : HostView) (id : SocketId) (len : ℕ) (answer : Answ
   pub becomes : new ≡ after_recv h id len
 
 -- What a receive shows that was told the end.
-pub record ReadsEnd (h : HostView) (id : SocketId) (len : ℕ) (answer : Answer) (new : HostView) : Type 0 where
+pub record ReadsEnd (h : SocketsView) (id : SocketId) (len : ℕ) (answer : Answer) (new : SocketsView) : Type 0 where
   pub c : View
   pub l : Option SocketId
   pub found : find (is_socket id) h.entries ≡ Some (record { id = id; role = Connected c l })
@@ -163,7 +149,7 @@ pub record ReadsEnd (h : HostView) (id : SocketId) (len : ℕ) (answer : Answer)
   pub is_answer : answer ≡ reply.EndOfStream
   pub becomes : new ≡ after_recv h id len
 
-pub recv_outcome : (h : HostView) (id : SocketId) (len : ℕ) (answer : Answer) (new : HostView) → MeetsReceived h id len (recv_answer h id len) answer new
+pub recv_outcome : (h : SocketsView) (id : SocketId) (len : ℕ) (answer : Answer) (new : SocketsView) → MeetsReceived h id len (recv_answer h id len) answer new
     → ReadsOctets h id len answer new ⊎ (ReadsEnd h id len answer new ⊎ ((e : Refusal) × (answer ≡ reply.Refused e) × (new ≡ h)))
 recv_outcome h id len answer new = by_outcome (recv_answer h id len) refl answer
   where
@@ -215,52 +201,50 @@ recv_outcome h id len answer new = by_outcome (recv_answer h id len) refl answer
 
 -- Calls that change no connection.
 
-pub plain : (limit : ℕ) (hs ts : Side) (a b : Addr) (own' other : HostView) (n : NetworkView) (c : Call) (answer : Answer) (place : ℕ) (trace : List Happening) → after_call hs c answer place n own' ≡ with_host n hs own'
-    → ((i : SocketId) → IsQuiet hs i (answered hs c answer)) → Projects limit hs ts a b own' other n.frames n.openings trace → CallGoes limit hs ts a b own' other n c answer place trace
-plain limit hs ts a b own' other n c answer place trace is quiet h =
-    let silent = quiet-everywhere hs c answer quiet in
-    GoesPlain is (projects-silent limit hs ts a b own' other n.frames n.openings trace (answered hs c answer) silent h) (tallies-quiet trace n.openings (answered hs c answer) (λ s i. (silent s i).0))
-
--- nothing changed
-pub kept : (limit : ℕ) (hs ts : Side) (a b : Addr) (own own' other : HostView) (n : NetworkView) (trace : List Happening) → own' ≡ own → Projects limit hs ts a b own other n.frames n.openings trace
-    → Projects limit hs ts a b own' other n.frames n.openings trace
-kept limit hs ts a b own own' other n trace same h = subst (λ w. Projects limit hs ts a b w other n.frames n.openings trace) (sym same) h
+-- the table is one of which this is known
+pub kept : (limit : ℕ) (hs ts : Side) (a b : Addr) (own own' other : SocketsView) (bag : Bag) (openings : List Opening) (trace : List Happening) → own' ≡ own → Projects limit hs ts a b own other bag openings trace
+    → Projects limit hs ts a b own' other bag openings trace
+kept limit hs ts a b own own' other bag openings trace same h = subst (λ w. Projects limit hs ts a b w other bag openings trace) (sym same) h
 
 -- the entries are those after a change that no connection sees, or those before
-pub changed : (limit : ℕ) (hs ts : Side) (a b : Addr) (own own' other : HostView) (n : NetworkView) (trace : List Happening) (test : Entry → Bool) (g : Role → Role) → IsQuietChange g
-    → own' ≡ record own { entries = change_first test (with_role g) own.entries } → Projects limit hs ts a b own other n.frames n.openings trace → Projects limit hs ts a b own' other n.frames n.openings trace
-changed limit hs ts a b own own' other n trace test g quiet becomes h =
-    kept limit hs ts a b (record own { entries = change_first test (with_role g) own.entries }) own' other n trace becomes (projects-quiet limit hs ts a b own other n.frames n.openings trace test g quiet h)
+pub changed : (limit : ℕ) (hs ts : Side) (a b : Addr) (own own' other : SocketsView) (bag : Bag) (openings : List Opening) (trace : List Happening) (test : Entry → Bool) (g : Role → Role) → IsQuietChange g
+    → own' ≡ record own { entries = change_first test (with_role g) own.entries } → Projects limit hs ts a b own other bag openings trace → Projects limit hs ts a b own' other bag openings trace
+changed limit hs ts a b own own' other bag openings trace test g quiet becomes h =
+    kept limit hs ts a b (record own { entries = change_first test (with_role g) own.entries }) own' other bag openings trace becomes (projects-quiet limit hs ts a b own other bag openings trace test g quiet h)
 
 -- Send, receive and close.
 
 -- what a call on one connection made of it, and of what is told of its socket
-projects-socket : (limit : ℕ) (hs ts : Side) (a b : Addr) (own other : HostView) (n : NetworkView) (trace : List Happening) (c : Call) (answer : Answer) (id : SocketId) (v w : View) (l l' : Option SocketId) (g : Role → Role)
+projects-socket : (limit : ℕ) (hs ts : Side) (a b : Addr) (own other : SocketsView) (bag : Bag) (openings : List Opening) (trace : List Happening) (c : Call) (answer : Answer) (id : SocketId) (v w : View) (l l' : Option SocketId) (g : Role → Role)
     → ts ≡ other_side hs → find (is_socket id) own.entries ≡ Some (record { id = id; role = Connected v l }) → g (Connected v l) ≡ Connected w l' → KeepsEnds v w
     → SameBut id (told hs trace) (told hs (trace ++ answered hs c answer ∷ []))
     → EndGoes limit (end_with (Present v) (told hs trace id)) (end_with (Present w) (told hs (trace ++ answered hs c answer ∷ []) id))
-    → Projects limit hs ts a b own other n.frames n.openings trace
-    → Projects limit hs ts a b (record own { entries = change_first (is_socket id) (with_role g) own.entries }) other n.frames n.openings (trace ++ answered hs c answer ∷ [])
-projects-socket limit hs ts a b own other n trace c answer id v w l l' g opposite found becomes keeps same goes h =
+    → Projects limit hs ts a b own other bag openings trace
+    → Projects limit hs ts a b (record own { entries = change_first (is_socket id) (with_role g) own.entries }) other bag openings (trace ++ answered hs c answer ∷ [])
+projects-socket limit hs ts a b own other bag openings trace c answer id v w l l' g opposite found becomes keeps same goes h =
     let trace' = trace ++ answered hs c answer ∷ [] in
     let x : Entry = record { id = id; role = Connected v l } in
     let before : role_at own.entries id.0 ≡ Some (Connected v l) = found-role (is_socket id) own.entries x h.own_table.sole found in
-    let k : IsOpened hs a b n.openings id v = h.own_table.noted id (Connected v l) before in
-    projects-moved limit hs ts a b own (record own { entries = change_first (is_socket id) (with_role g) own.entries }) other n.frames n.openings trace trace' id (Some (Connected w l')) refl refl refl
+    let k : IsOpened hs a openings id v = h.own_table.noted id (Connected v l) before in
+    projects-moved limit hs ts a b own (record own { entries = change_first (is_socket id) (with_role g) own.entries }) other bag openings trace trace' id (Some (Connected w l')) refl refl
     (subst (λ r. Becomes own.entries (change_first (is_socket id) (with_role g) own.entries) id.0 (Some r)) becomes (becomes-changed (is_socket id) g own.entries x h.own_table.sole found))
-    (λ role is. let one : Connected w l' ≡ role = cc in (subst (λ r. IsNoted hs a b n.openings id r) one (opened-kept hs a b n.openings id v w keeps k), h.own_table.bound id (Connected v l) before))
+    (λ role is. let one : Connected w l' ≡ role = cc in (subst (λ r. IsNoted hs a openings id r) one (opened-kept hs a openings id v w keeps k), h.own_table.bound id (Connected v l) before))
     same (λ none may. let bad : None ≡ Some k.opening = sym none ∙ k.at in cc) (told-other hs ts trace c answer opposite)
     (subst (λ r. EndGoes limit (end_with (presence_in r) (told hs trace id)) (end_with (Present w) (told hs trace' id))) (sym before) goes) h
 
-pub sound_socket : (own : HostView) (id : SocketId) (c : View) (l : Option SocketId) → IsSoundHost own → find (is_socket id) own.entries ≡ Some (record { id = id; role = Connected c l }) → IsSoundConnection c
+pub sound_socket : (own : SocketsView) (id : SocketId) (c : View) (l : Option SocketId) → IsSoundTable own → find (is_socket id) own.entries ≡ Some (record { id = id; role = Connected c l }) → IsSoundConnection c
 sound_socket own id c l sound found = All-find (λ (e : Entry). IsSoundRole e.role) (is_socket id) own.entries (record { id = id; role = Connected c l }) sound.entries found
 
 taken_fits : (c : View) (octets : List ℕ) → connection_calls.send_count c octets ≤ length octets
 taken_fits c octets = omega arith
 
-pub call-sends : (limit : ℕ) (hs ts : Side) (a b : Addr) (own other : HostView) (n : NetworkView) (place : ℕ) (trace : List Happening) (id : SocketId) (octets : Vec ℕ) (count : ℕ) → IsSoundHost own → ts ≡ other_side hs → send_answer own id octets.items ≡ Ok count
-    → Projects limit hs ts a b own other n.frames n.openings trace → CallGoes limit hs ts a b (after_send own id octets.items) other n (call.Send id octets) (reply.Sent count) place trace
-call-sends limit hs ts a b own other n place trace id octets count sound opposite answers h =
+-- no more octets are taken than were given
+pub taken-fit : (own : SocketsView) (id : SocketId) (octets : List ℕ) (count : ℕ) → send_answer own id octets ≡ Ok count → count ≤ length octets
+taken-fit own id octets count answers = let k = sends-on own id octets count answers in subst (λ i. i ≤ length octets) (sym k.takes) (taken_fits k.c octets)
+
+pub call-sends : (limit : ℕ) (hs ts : Side) (a b : Addr) (own other : SocketsView) (bag : Bag) (openings : List Opening) (trace : List Happening) (id : SocketId) (octets : Vec ℕ) (count : ℕ) → IsSoundTable own → ts ≡ other_side hs → send_answer own id octets.items ≡ Ok count
+    → Projects limit hs ts a b own other bag openings trace → Projects limit hs ts a b (after_send own id octets.items) other bag openings (trace ++ answered hs (call.Send id octets) (reply.Sent count) ∷ [])
+call-sends limit hs ts a b own other bag openings trace id octets count sound opposite answers h =
     let k = sends-on own id octets.items count answers in
     let solid = sound_socket own id k.c k.l sound k.found in
     let t = sends-told hs trace id octets count in
@@ -268,50 +252,42 @@ call-sends limit hs ts a b own other n place trace id octets count sound opposit
     let more : Account = record one { gave = one.gave ++ take (connection_calls.send_count k.c octets.items) octets.items } in
     let same : told hs (trace ++ answered hs (call.Send id octets) (reply.Sent count) ∷ []) id ≡ more =
     t.0 ∙ ap (λ i. let x : Account = record one { gave = one.gave ++ take i octets.items } in x) k.takes in
-    GoesCounted id count refl
-    (projects-socket limit hs ts a b own other n trace (call.Send id octets) (reply.Sent count) id k.c (connection_calls.after_send k.c octets.items) k.l k.l (role_after_send octets.items) opposite k.found refl (keeps-send k.c octets.items) t.1
+    (projects-socket limit hs ts a b own other bag openings trace (call.Send id octets) (reply.Sent count) id k.c (connection_calls.after_send k.c octets.items) k.l k.l (role_after_send octets.items) opposite k.found refl (keeps-send k.c octets.items) t.1
     (subst (λ x. EndGoes limit (end_with (Present k.c) one) (end_with (Present (connection_calls.after_send k.c octets.items)) x)) (sym same)
     (λ there out arrived. moved limit (pairing (end_with (Present k.c) one) there out arrived) (pairing (end_with (Present (connection_calls.after_send k.c octets.items)) more) there out arrived) (takes (pairing (end_with (Present k.c) one) there out arrived) k.c octets.items refl solid.sound k.untold k.opened k.unclosed))) h)
-    (tallies-counted trace n.openings hs id octets count (subst (λ i. i ≤ length octets.items) (sym k.takes) (taken_fits k.c octets.items)))
 
-pub call-receives : (limit : ℕ) (hs ts : Side) (a b : Addr) (own other : HostView) (n : NetworkView) (place : ℕ) (trace : List Happening) (id : SocketId) (len : ℕ) (octets : Vec ℕ) (m : ℕ) (c : View) (l : Option SocketId) → IsSoundHost own → ts ≡ other_side hs
+pub call-receives : (limit : ℕ) (hs ts : Side) (a b : Addr) (own other : SocketsView) (bag : Bag) (openings : List Opening) (trace : List Happening) (id : SocketId) (len : ℕ) (octets : Vec ℕ) (m : ℕ) (c : View) (l : Option SocketId) → IsSoundTable own → ts ≡ other_side hs
     → find (is_socket id) own.entries ≡ Some (record { id = id; role = Connected c l }) → is_some c.pending_error ≡ false → is_opening c.state ≡ false → (m == 0) ≡ false → octets.items ≡ take (connection_calls.recv_count c m) c.receiving.readable
-    → Projects limit hs ts a b own other n.frames n.openings trace → CallGoes limit hs ts a b (after_recv own id m) other n (call.Recv id len) (reply.Octets octets) place trace
-call-receives limit hs ts a b own other n place trace id len octets m c l sound opposite found untold_yet opened some are_first h =
+    → Projects limit hs ts a b own other bag openings trace → Projects limit hs ts a b (after_recv own id m) other bag openings (trace ++ answered hs (call.Recv id len) (reply.Octets octets) ∷ [])
+call-receives limit hs ts a b own other bag openings trace id len octets m c l sound opposite found untold_yet opened some are_first h =
     let solid = sound_socket own id c l sound found in
     let t = receives-told hs trace id len octets in
     let one = told hs trace id in
     let more : Account = record one { got = one.got ++ take (connection_calls.recv_count c m) c.receiving.readable } in
     let same : told hs (trace ++ answered hs (call.Recv id len) (reply.Octets octets) ∷ []) id ≡ more =
     t.0 ∙ ap (λ i. let x : Account = record one { got = one.got ++ i } in x) are_first in
-    GoesPlain refl
-    (projects-socket limit hs ts a b own other n trace (call.Recv id len) (reply.Octets octets) id c (connection_calls.after_recv c m) l l (received_role m) opposite found (received-connected c l m some) (keeps-recv c m) t.1
+    (projects-socket limit hs ts a b own other bag openings trace (call.Recv id len) (reply.Octets octets) id c (connection_calls.after_recv c m) l l (received_role m) opposite found (received-connected c l m some) (keeps-recv c m) t.1
     (subst (λ x. EndGoes limit (end_with (Present c) one) (end_with (Present (connection_calls.after_recv c m)) x)) (sym same)
     (λ there out arrived. moved limit (pairing (end_with (Present c) one) there out arrived) (pairing (end_with (Present (connection_calls.after_recv c m)) more) there out arrived) (gives (pairing (end_with (Present c) one) there out arrived) c m refl solid.sound untold_yet (socket-kept own.entries id c l found) opened))) h)
-    (tallies-quiet trace n.openings (answered hs (call.Recv id len) (reply.Octets octets)) (λ s i. refl))
 
-pub call-ends : (limit : ℕ) (hs ts : Side) (a b : Addr) (own other : HostView) (n : NetworkView) (place : ℕ) (trace : List Happening) (id : SocketId) (len m : ℕ) (c : View) (l : Option SocketId) → ts ≡ other_side hs
+pub call-ends : (limit : ℕ) (hs ts : Side) (a b : Addr) (own other : SocketsView) (bag : Bag) (openings : List Opening) (trace : List Happening) (id : SocketId) (len m : ℕ) (c : View) (l : Option SocketId) → ts ≡ other_side hs
     → find (is_socket id) own.entries ≡ Some (record { id = id; role = Connected c l }) → (m == 0) ≡ false → connection_calls.recv_answer c m ≡ Ok received.EndOfStream
-    → Projects limit hs ts a b own other n.frames n.openings trace → CallGoes limit hs ts a b (after_recv own id m) other n (call.Recv id len) reply.EndOfStream place trace
-call-ends limit hs ts a b own other n place trace id len m c l opposite found some ended h =
+    → Projects limit hs ts a b own other bag openings trace → Projects limit hs ts a b (after_recv own id m) other bag openings (trace ++ answered hs (call.Recv id len) reply.EndOfStream ∷ [])
+call-ends limit hs ts a b own other bag openings trace id len m c l opposite found some ended h =
     let t = ends-told hs trace id len in
     let one = told hs trace id in
     let still : connection_calls.after_recv c m ≡ c = end_told c m ended in
-    GoesPlain refl
-    (projects-socket limit hs ts a b own other n trace (call.Recv id len) reply.EndOfStream id c c l l (received_role m) opposite found (received-connected c l m some ∙ ap (λ v. Connected v l) still) (keeps-nothing c) t.1
+    (projects-socket limit hs ts a b own other bag openings trace (call.Recv id len) reply.EndOfStream id c c l l (received_role m) opposite found (received-connected c l m some ∙ ap (λ v. Connected v l) still) (keeps-nothing c) t.1
     (subst (λ x. EndGoes limit (end_with (Present c) one) (end_with (Present c) x)) (sym t.0)
     (λ there out arrived. moved limit (pairing (end_with (Present c) one) there out arrived) (pairing (end_with (Present c) (record one { ended = true })) there out arrived) (ends (pairing (end_with (Present c) one) there out arrived) c m refl (socket-kept own.entries id c l found) ended))) h)
-    (tallies-quiet trace n.openings (answered hs (call.Recv id len) reply.EndOfStream) (λ s i. refl))
 
-pub call-closes : (limit : ℕ) (hs ts : Side) (a b : Addr) (own other : HostView) (n : NetworkView) (place : ℕ) (trace : List Happening) (id : SocketId) → IsSoundHost own → ts ≡ other_side hs → shutdown_refusal own id ≡ None
-    → Projects limit hs ts a b own other n.frames n.openings trace → CallGoes limit hs ts a b (after_shutdown own id) other n (call.Shutdown id) reply.Done place trace
-call-closes limit hs ts a b own other n place trace id sound opposite accepted h =
+pub call-closes : (limit : ℕ) (hs ts : Side) (a b : Addr) (own other : SocketsView) (bag : Bag) (openings : List Opening) (trace : List Happening) (id : SocketId) → IsSoundTable own → ts ≡ other_side hs → shutdown_refusal own id ≡ None
+    → Projects limit hs ts a b own other bag openings trace → Projects limit hs ts a b (after_shutdown own id) other bag openings (trace ++ answered hs (call.Shutdown id) reply.Done ∷ [])
+call-closes limit hs ts a b own other bag openings trace id sound opposite accepted h =
     let k = shuts-on own id accepted in
     let solid = sound_socket own id k.c k.l sound k.found in
     let t = closes-told hs trace id in
     let one = told hs trace id in
-    GoesPlain refl
-    (projects-socket limit hs ts a b own other n trace (call.Shutdown id) reply.Done id k.c (connection_calls.after_shutdown k.c) k.l k.l role_after_shutdown opposite k.found k.shuts (keeps-shutdown k.c) t.1
+    (projects-socket limit hs ts a b own other bag openings trace (call.Shutdown id) reply.Done id k.c (connection_calls.after_shutdown k.c) k.l k.l role_after_shutdown opposite k.found k.shuts (keeps-shutdown k.c) t.1
     (subst (λ x. EndGoes limit (end_with (Present k.c) one) (end_with (Present (connection_calls.after_shutdown k.c)) x)) (sym t.0)
     (λ there out arrived. moved limit (pairing (end_with (Present k.c) one) there out arrived) (pairing (end_with (Present (connection_calls.after_shutdown k.c)) (record one { closed = true })) there out arrived) (closes (pairing (end_with (Present k.c) one) there out arrived) k.c refl solid.sound k.opened))) h)
-    (tallies-quiet trace n.openings (answered hs (call.Shutdown id) reply.Done) (λ s i. refl))

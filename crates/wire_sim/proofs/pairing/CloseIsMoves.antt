@@ -14,49 +14,46 @@ use Rattle.wire_sim.specs.declared.event.Call.TheVariants as call
 use Rattle.wire_sim.specs.declared.event.Answer.TheVariants as reply
 use Rattle.wire_sim.specs.declared.event.Opening.{Opening}
 use Rattle.wire_sim.specs.declared.event.Happening.{Happening}
-use Rattle.host.specs.declared.entry.SocketId.{SocketId}
-use Rattle.host.specs.declared.entry.Entry.{Entry}
-use Rattle.host.specs.declared.role.Role.{Role}
-use Rattle.host.specs.declared.role.Role.TheVariants.{Idle, Listener, Connected}
-use Rattle.host.specs.declared.refusal.Refusal.TheVariants.{EBADF}
-use Rattle.host.specs.Calls.{close_refusal, after_socket_closed, after_close}
-use Rattle.host.specs.Entries.{is_socket, is_kept, waits_at, role_after_close, close_fate_of, role_after_abort, abort_fate_of, role_after_listener_close, listener_close_fate_of, entries_after_step}
-use Rattle.host.specs.HostView.{HostView}
-use Rattle.host.specs.Sound.{IsSoundHost}
+use Rattle.sockets.specs.declared.entry.SocketId.{SocketId}
+use Rattle.sockets.specs.declared.entry.Entry.{Entry}
+use Rattle.sockets.specs.declared.role.Role.{Role}
+use Rattle.sockets.specs.declared.role.Role.TheVariants.{Idle, Listener, Connected}
+use Rattle.sockets.specs.declared.refusal.Refusal.TheVariants.{EBADF}
+use Rattle.sockets.specs.Calls.{close_refusal, after_socket_closed, after_close}
+use Rattle.sockets.specs.Entries.{is_socket, is_kept, waits_at, role_after_close, close_fate_of, role_after_abort, abort_fate_of, role_after_listener_close, listener_close_fate_of, entries_after_step}
+use Rattle.sockets.specs.SocketsView.{SocketsView}
+use Rattle.sockets.specs.Sound.{IsSoundTable}
 use Rattle.stream_law.specs.ChannelViews.{SameStream}
 use Rattle.stream_law.specs.Pairing.{Pairing, Present, Departed, Meets, closes, rests, stops, leaves}
 use Rattle.stream_law.proofs.PairingEndings.{stops-left}
-use Rattle.wire_sim.specs.declared.world.bag.Frame.{Frame}
 use Rattle.wire_sim.specs.Sides.{other_side}
 use Rattle.wire_sim.specs.Tallies.{is_opening_of, is_opening_at}
-use Rattle.wire_sim.specs.WorldView.{NetworkView}
 use Rattle.wire_sim.proofs.tables.CallsOnTable.{found_socket}
 use Rattle.wire_sim.proofs.tables.EntryChanges.{SameBut, SameTold, by_test, table-becomes, end-another, opened-kept}
 use Rattle.wire_sim.proofs.pairing.EndMoves.{pairing, EndGoes, moved}
 use Rattle.wire_sim.proofs.lists.FoundAfterChange.{find-passes, find-missed}
-use Rattle.host.proofs.KeptEnds.{keeps-close, keeps-abort}
+use Rattle.sockets.proofs.KeptEnds.{keeps-close, keeps-abort}
 use Rattle.wire_sim.proofs.tables.EntryIsMade.{its_id}
 use Rattle.wire_sim.proofs.openings.OpeningIsFound.{opening-of_parts}
-use Rattle.wire_sim.proofs.pairing.WorldAsPairings.{told, Projects, projects-turned}
-use Rattle.wire_sim.proofs.pairing.CallsAreMoves.{CallGoes, GoesPlain, projects-moved, sound_socket}
+use Rattle.wire_sim.proofs.pairing.WorldAsPairings.{told, Bag, Projects, projects-turned}
+use Rattle.wire_sim.proofs.pairing.CallsAreMoves.{projects-moved, sound_socket}
 use Rattle.wire_sim.proofs.pairing.TickIsMoves.{projects-settled}
 use Rattle.wire_sim.proofs.tables.TableById.{Account, role_at, found-role, Becomes, becomes-settled, settle, presence_in, end_with, end_at, IsOpened, IsNoted, MayOpen, IsTable, same_id}
-use Rattle.wire_sim.proofs.told.TraceAndOneMore.{answered, tallies-quiet}
+use Rattle.wire_sim.proofs.told.TraceAndOneMore.{answered}
 use Rattle.wire_sim.proofs.told.AccountAndOneMore.{told-other, forsakes-told}
 
 -- A step of an entry that opened nothing is no move of any pairing.
-projects-unopened : (limit : ℕ) (hs ts : Side) (a b : Addr) (own own' other : HostView) (frames : List Frame) (openings : List Opening) (trace trace' : List Happening) (id : SocketId) → own'.addr ≡ own.addr → own'.neighbour ≡ own.neighbour → own'.last_id ≡ own.last_id
+projects-unopened : (limit : ℕ) (hs ts : Side) (a b : Addr) (own own' other : SocketsView) (bag : Bag) (openings : List Opening) (trace trace' : List Happening) (id : SocketId) → own'.addr ≡ own.addr → own'.last_id ≡ own.last_id
     → Becomes own.entries own'.entries id.0 None → id.0 ≤ own.last_id → find (is_opening_at hs id) openings ≡ None → SameBut id (told hs trace) (told hs trace') → SameTold (told ts trace) (told ts trace')
-    → Projects limit hs ts a b own other frames openings trace → Projects limit hs ts a b own' other frames openings trace'
-projects-unopened limit hs ts a b own own' other frames openings trace trace' id addr neighbour last becomes within none same theirs h =
-    projects-turned limit hs ts a b own own' other frames openings trace trace' h (record {
+    → Projects limit hs ts a b own other bag openings trace → Projects limit hs ts a b own' other bag openings trace'
+projects-unopened limit hs ts a b own own' other bag openings trace trace' id addr last becomes within none same theirs h =
+    projects-turned limit hs ts a b own own' other bag openings trace trace' h (record {
       addr = addr;
-      neighbour = neighbour;
-      table = subst (λ n. IsTable hs a b n own'.entries openings (told hs trace')) (sym last)
-          (table-becomes hs a b own.last_id own.entries own'.entries openings (told hs trace) (told hs trace') id None becomes (λ role is. let bad : None ≡ Some role = is in cc) same (λ unopened may. absurd (gone may)) h.own_table);
+      table = subst (λ n. IsTable hs a n own'.entries openings (told hs trace')) (sym last)
+          (table-becomes hs a own.last_id own.entries own'.entries openings (told hs trace) (told hs trace') id None becomes (λ role is. let bad : None ≡ Some role = is in cc) same (λ unopened may. absurd (gone may)) h.own_table);
       other_told = theirs;
       meets = λ pair epoch.
-          subst (λ e. Meets limit (pairing e (end_at ts openings other.entries (told ts trace) pair epoch) (h.out pair epoch) (h.arrived pair epoch)))
+          subst (λ e. Meets limit (pairing e (end_at ts openings other.entries (told ts trace) pair epoch) (bag.out pair epoch) (bag.arrived pair epoch)))
           (sym (end-another hs openings id pair epoch own.entries own'.entries (told hs trace) (told hs trace') becomes.others same (elsewhere pair epoch))) (h.meets pair epoch);
     })
   where
@@ -140,12 +137,12 @@ forsaking limit now id t r there out arrived = waiting (waits_at id r)
 -- Closing a socket.
 
 -- the socket that is closed
-pub record ClosesOn (h : HostView) (id : SocketId) : Type 0 where
+pub record ClosesOn (h : SocketsView) (id : SocketId) : Type 0 where
   pub role : Role
   pub found : find (is_socket id) h.entries ≡ Some (record { id = id; role = role })
   pub closes : after_socket_closed h id ≡ record h { entries = entries_after_step (close_fate_of role) (is_socket id) (role_after_close h.kept) h.entries }
 
-pub closes-on : (h : HostView) (id : SocketId) → close_refusal h id ≡ None → ClosesOn h id
+pub closes-on : (h : SocketsView) (id : SocketId) → close_refusal h id ≡ None → ClosesOn h id
 closes-on h id none = by_entry (find (is_socket id) h.entries) refl
   where
     by_entry : (o : Option Entry) → find (is_socket id) h.entries ≡ o → ClosesOn h id
@@ -153,20 +150,20 @@ closes-on h id none = by_entry (find (is_socket id) h.entries) refl
     by_entry (Some e) at = record { role = e.role; found = found_socket h.entries id e e.role at refl; closes = rw at }
 
 -- its own entry
-own-closed : (limit : ℕ) (hs ts : Side) (a b : Addr) (own other : HostView) (n : NetworkView) (trace : List Happening) (id : SocketId) (r : Role) → IsSoundHost own → ts ≡ other_side hs → find (is_socket id) own.entries ≡ Some (record { id = id; role = r })
-    → Projects limit hs ts a b own other n.frames n.openings trace
-    → Projects limit hs ts a b (record own { entries = entries_after_step (close_fate_of r) (is_socket id) (role_after_close own.kept) own.entries }) other n.frames n.openings (trace ++ answered hs (call.Close id) reply.Done ∷ [])
-own-closed limit hs ts a b own other n trace id (Connected c l) sound opposite found h =
+own-closed : (limit : ℕ) (hs ts : Side) (a b : Addr) (own other : SocketsView) (bag : Bag) (openings : List Opening) (trace : List Happening) (id : SocketId) (r : Role) → IsSoundTable own → ts ≡ other_side hs → find (is_socket id) own.entries ≡ Some (record { id = id; role = r })
+    → Projects limit hs ts a b own other bag openings trace
+    → Projects limit hs ts a b (record own { entries = entries_after_step (close_fate_of r) (is_socket id) (role_after_close own.kept) own.entries }) other bag openings (trace ++ answered hs (call.Close id) reply.Done ∷ [])
+own-closed limit hs ts a b own other bag openings trace id (Connected c l) sound opposite found h =
     let trace' = trace ++ answered hs (call.Close id) reply.Done ∷ [] in
     let t = forsakes-told hs trace id in
     let x : Entry = record { id = id; role = Connected c l } in
     let before : role_at own.entries id.0 ≡ Some (Connected c l) = found-role (is_socket id) own.entries x h.own_table.sole found in
-    let k : IsOpened hs a b n.openings id c = h.own_table.noted id (Connected c l) before in
+    let k : IsOpened hs a openings id c = h.own_table.noted id (Connected c l) before in
     let solid = sound_socket own id c l sound found in
     let one = told hs trace id in
-    projects-moved limit hs ts a b own (record own { entries = entries_after_step (connection_calls.close_fate c) (is_socket id) (role_after_close own.kept) own.entries }) other n.frames n.openings trace trace' id (settle (connection_calls.close_fate c) (role_after_close own.kept) (Connected c l)) refl refl refl
+    projects-moved limit hs ts a b own (record own { entries = entries_after_step (connection_calls.close_fate c) (is_socket id) (role_after_close own.kept) own.entries }) other bag openings trace trace' id (settle (connection_calls.close_fate c) (role_after_close own.kept) (Connected c l)) refl refl
     (becomes-settled (connection_calls.close_fate c) (is_socket id) (role_after_close own.kept) own.entries x h.own_table.sole found)
-    (λ role is. (subst (λ q. IsNoted hs a b n.openings id q) (kept (is_kept (connection_calls.close_fate c)) role is) (opened-kept hs a b n.openings id c (connection_calls.after_close c own.kept) (keeps-close c own.kept) k), h.own_table.bound id (Connected c l) before))
+    (λ role is. (subst (λ q. IsNoted hs a openings id q) (kept (is_kept (connection_calls.close_fate c)) role is) (opened-kept hs a openings id c (connection_calls.after_close c own.kept) (keeps-close c own.kept) k), h.own_table.bound id (Connected c l) before))
     t.1 (λ none may. let bad : None ≡ Some k.opening = sym none ∙ k.at in cc) (told-other hs ts trace (call.Close id) reply.Done opposite)
     (subst (λ r. EndGoes limit (end_with (presence_in r) one) (end_with (presence_in (settle (connection_calls.close_fate c) (role_after_close own.kept) (Connected c l))) (told hs trace' id))) (sym before)
     (subst (λ y. EndGoes limit (end_with (Present c) one) (end_with (presence_in (settle (connection_calls.close_fate c) (role_after_close own.kept) (Connected c l))) y)) (sym t.0) (closing limit c l own.kept one solid.sound))) h
@@ -174,38 +171,36 @@ own-closed limit hs ts a b own other n trace id (Connected c l) sound opposite f
     kept : (b : Bool) (role : Role) → cond b (Some (Connected (connection_calls.after_close c own.kept) l)) None ≡ Some role → Connected (connection_calls.after_close c own.kept) l ≡ role
     kept true role e = cc
     kept false role e = cc
-own-closed limit hs ts a b own other n trace id (Listener local backlog) sound opposite found h =
+own-closed limit hs ts a b own other bag openings trace id (Listener local backlog) sound opposite found h =
     let x : Entry = record { id = id; role = Listener local backlog } in
     let before : role_at own.entries id.0 ≡ Some (Listener local backlog) = found-role (is_socket id) own.entries x h.own_table.sole found in
-    projects-unopened limit hs ts a b own (record own { entries = entries_after_step Removed (is_socket id) (role_after_close own.kept) own.entries }) other n.frames n.openings trace (trace ++ answered hs (call.Close id) reply.Done ∷ []) id refl refl refl
+    projects-unopened limit hs ts a b own (record own { entries = entries_after_step Removed (is_socket id) (role_after_close own.kept) own.entries }) other bag openings trace (trace ++ answered hs (call.Close id) reply.Done ∷ []) id refl refl
     (becomes-settled Removed (is_socket id) (role_after_close own.kept) own.entries x h.own_table.sole found) (h.own_table.bound id (Listener local backlog) before) (h.own_table.noted id (Listener local backlog) before)
     (forsakes-told hs trace id).1 (told-other hs ts trace (call.Close id) reply.Done opposite) h
-own-closed limit hs ts a b own other n trace id (Idle buffers bound) sound opposite found h =
+own-closed limit hs ts a b own other bag openings trace id (Idle buffers bound) sound opposite found h =
     let x : Entry = record { id = id; role = Idle buffers bound } in
     let before : role_at own.entries id.0 ≡ Some (Idle buffers bound) = found-role (is_socket id) own.entries x h.own_table.sole found in
-    projects-unopened limit hs ts a b own (record own { entries = entries_after_step Removed (is_socket id) (role_after_close own.kept) own.entries }) other n.frames n.openings trace (trace ++ answered hs (call.Close id) reply.Done ∷ []) id refl refl refl
+    projects-unopened limit hs ts a b own (record own { entries = entries_after_step Removed (is_socket id) (role_after_close own.kept) own.entries }) other bag openings trace (trace ++ answered hs (call.Close id) reply.Done ∷ []) id refl refl
     (becomes-settled Removed (is_socket id) (role_after_close own.kept) own.entries x h.own_table.sole found) (h.own_table.bound id (Idle buffers bound) before) (h.own_table.noted id (Idle buffers bound) before)
     (forsakes-told hs trace id).1 (told-other hs ts trace (call.Close id) reply.Done opposite) h
 
-pub call-forsakes : (limit : ℕ) (hs ts : Side) (a b : Addr) (own other : HostView) (n : NetworkView) (place : ℕ) (trace : List Happening) (id : SocketId) → IsSoundHost own → ts ≡ other_side hs → close_refusal own id ≡ None
-    → Projects limit hs ts a b own other n.frames n.openings trace → CallGoes limit hs ts a b (after_close own id) other n (call.Close id) reply.Done place trace
-call-forsakes limit hs ts a b own other n place trace id sound opposite accepted h =
+pub call-forsakes : (limit : ℕ) (hs ts : Side) (a b : Addr) (own other : SocketsView) (bag : Bag) (openings : List Opening) (trace : List Happening) (id : SocketId) → IsSoundTable own → ts ≡ other_side hs → close_refusal own id ≡ None
+    → Projects limit hs ts a b own other bag openings trace → Projects limit hs ts a b (after_close own id) other bag openings (trace ++ answered hs (call.Close id) reply.Done ∷ [])
+call-forsakes limit hs ts a b own other bag openings trace id sound opposite accepted h =
     let k = closes-on own id accepted in
     let e = answered hs (call.Close id) reply.Done in
-    let first = own-closed limit hs ts a b own other n trace id k.role sound opposite k.found h in
-    GoesPlain refl
-    (projects-settled limit hs ts a b (after_socket_closed own id) (after_close own id) other n.frames n.openings (trace ++ e ∷ []) (listener_close_fate_of id) (role_after_listener_close own.kept id) refl refl refl refl noted (forsaking limit own.kept id)
-    (subst (λ w. Projects limit hs ts a b w other n.frames n.openings (trace ++ e ∷ [])) (sym k.closes) first))
-    (tallies-quiet trace n.openings e (λ s i. refl))
+    let first = own-closed limit hs ts a b own other bag openings trace id k.role sound opposite k.found h in
+    (projects-settled limit hs ts a b (after_socket_closed own id) (after_close own id) other bag openings (trace ++ e ∷ []) (listener_close_fate_of id) (role_after_listener_close own.kept id) refl refl refl noted (forsaking limit own.kept id)
+    (subst (λ w. Projects limit hs ts a b w other bag openings (trace ++ e ∷ [])) (sym k.closes) first))
   where
-    aborts : (i : SocketId) (r : Role) → IsNoted hs a b n.openings i r → IsNoted hs a b n.openings i (role_after_abort own.kept r)
-    aborts i (Connected c l) m = opened-kept hs a b n.openings i c (connection_calls.after_abort c own.kept) (keeps-abort c own.kept) m
+    aborts : (i : SocketId) (r : Role) → IsNoted hs a openings i r → IsNoted hs a openings i (role_after_abort own.kept r)
+    aborts i (Connected c l) m = opened-kept hs a openings i c (connection_calls.after_abort c own.kept) (keeps-abort c own.kept) m
     aborts i (Listener local backlog) m = m
     aborts i (Idle buffers bound) m = m
 
-    noted : (i : SocketId) (r : Role) → IsNoted hs a b n.openings i r → IsNoted hs a b n.openings i (role_after_listener_close own.kept id r)
+    noted : (i : SocketId) (r : Role) → IsNoted hs a openings i r → IsNoted hs a openings i (role_after_listener_close own.kept id r)
     noted i r m = by_waiting (waits_at id r)
       where
-        by_waiting : (test : Bool) → IsNoted hs a b n.openings i (if test then role_after_abort own.kept r else r)
+        by_waiting : (test : Bool) → IsNoted hs a openings i (if test then role_after_abort own.kept r else r)
         by_waiting true = aborts i r m
         by_waiting false = m

@@ -1,6 +1,6 @@
 -- A step of every entry of a table, as a tick is one, is a move of every pairing whose end it changes.
-use Rattle.std.proofs.Common.{◌≡◌, ℕ, ◌&&◌, inl, inr, Bool, true, false, cond, if◌then◌else◌, List, Option, Some, None, refl, sym, ◌∙◌, ap, subst}
-use Rattle.std.specs.List.{find}
+use Rattle.std.proofs.Common.{◌≡◌, ℕ, ◌&&◌, inl, inr, not, Bool, true, false, cond, if◌then◌else◌, List, [], ◌∷◌, Option, Some, None, refl, sym, ◌∙◌, ap, subst}
+use Rattle.std.specs.List.{find, filter}
 use Rattle.ipv4.specs.declared.addr.Addr.{Addr}
 use Rattle.ipv4.specs.declared.addr.Pair.{Pair}
 use Rattle.tcp_state.specs.declared.connection.Fate.{Fate}
@@ -10,22 +10,23 @@ use Rattle.tcp_state.specs.View.{is_at_end, after_stop, after_resend, after_tick
 use Rattle.wire_sim.specs.declared.event.Side.{Side}
 use Rattle.wire_sim.specs.declared.event.Opening.{Opening}
 use Rattle.wire_sim.specs.declared.event.Happening.{Happening}
-use Rattle.host.specs.declared.entry.SocketId.{SocketId}
-use Rattle.host.specs.declared.role.Role.{Role}
-use Rattle.host.specs.declared.role.Role.TheVariants.{Idle, Listener, Connected}
-use Rattle.host.specs.Entries.{is_kept, entries_after_steps, role_after_tick, tick_fate_of}
-use Rattle.wire_sim.specs.declared.world.bag.Frame.{Frame}
-use Rattle.host.specs.Ticks as host_ticks
-use Rattle.host.specs.HostView.{HostView, later_moment}
+use Rattle.sockets.specs.declared.entry.SocketId.{SocketId}
+use Rattle.sockets.specs.declared.entry.Entry.{Entry}
+use Rattle.sockets.specs.declared.role.Role.{Role}
+use Rattle.sockets.specs.declared.role.Role.TheVariants.{Idle, Listener, Connected}
+use Rattle.sockets.specs.Entries.{is_kept, with_role, entries_after_steps, role_after_tick, tick_fate_of}
+use Rattle.sockets.specs.Ticks as table_ticks
+use Rattle.sockets.specs.Lost.{is_given_up, after_giving_up}
+use Rattle.sockets.specs.SocketsView.{SocketsView, later_moment}
 use Rattle.stream_law.specs.Pairing.{Present, Departed, Meets, rests, stops, leaves}
 use Rattle.stream_law.proofs.PairingEndings.{stops-at_end}
 use Rattle.stream_law.proofs.PairingMoves.{same-resend}
 use Rattle.wire_sim.specs.Tallies.{is_opening_of}
 use Rattle.wire_sim.proofs.tables.EntryChanges.{opened-kept}
 use Rattle.wire_sim.proofs.pairing.EndMoves.{pairing, EndGoes, moved, end-stays}
-use Rattle.host.proofs.KeptEnds.{keeps-tick}
-use Rattle.wire_sim.proofs.pairing.WorldAsPairings.{told, Projects, projects-turned}
-use Rattle.wire_sim.proofs.tables.TableById.{Account, role_at, settle, settle_each, role_at-settled, sole-settled, presence_in, end_with, end_of, end_at, IsNoted, MayOpen, IsTable}
+use Rattle.sockets.proofs.KeptEnds.{keeps-tick}
+use Rattle.wire_sim.proofs.pairing.WorldAsPairings.{told, Bag, Projects, projects-turned}
+use Rattle.wire_sim.proofs.tables.TableById.{Account, role_at, settle, settle_each, role_at-settled, sole-settled, presence_in, end_with, end_of, end_at, IsNoted, MayOpen, IsTable, entry_with}
 
 -- what is left of an entry
 pub left-behind : (fate : Role → Fate) (g : Role → Role) (o : Option Role) (r : Role) → settle_each fate g o ≡ Some r → (q : Role) × (o ≡ Some q) × (is_kept (fate q) ≡ true) × (g q ≡ r)
@@ -37,18 +38,17 @@ left-behind fate g (Some q) r e = by_fate (is_kept (fate q)) refl e
     by_fate false is e = cc
 
 -- Each entry takes a step that is moves of its end, if it has one.
-pub projects-settled : (limit : ℕ) (hs ts : Side) (a b : Addr) (own own' other : HostView) (frames : List Frame) (openings : List Opening) (trace : List Happening) (fate : Role → Fate) (g : Role → Role) → own'.addr ≡ own.addr → own'.neighbour ≡ own.neighbour → own'.last_id ≡ own.last_id
-    → own'.entries ≡ entries_after_steps fate g own.entries → ((id : SocketId) (q : Role) → IsNoted hs a b openings id q → IsNoted hs a b openings id (g q))
+pub projects-settled : (limit : ℕ) (hs ts : Side) (a b : Addr) (own own' other : SocketsView) (bag : Bag) (openings : List Opening) (trace : List Happening) (fate : Role → Fate) (g : Role → Role) → own'.addr ≡ own.addr → own'.last_id ≡ own.last_id
+    → own'.entries ≡ entries_after_steps fate g own.entries → ((id : SocketId) (q : Role) → IsNoted hs a openings id q → IsNoted hs a openings id (g q))
     → ((t : Account) (q : Role) → EndGoes limit (end_with (presence_in (Some q)) t) (end_with (presence_in (settle (fate q) g q)) t))
-    → Projects limit hs ts a b own other frames openings trace → Projects limit hs ts a b own' other frames openings trace
-projects-settled limit hs ts a b own own' other frames openings trace fate g addr neighbour last becomes noted goes h =
-    projects-turned limit hs ts a b own own' other frames openings trace trace h (record {
+    → Projects limit hs ts a b own other bag openings trace → Projects limit hs ts a b own' other bag openings trace
+projects-settled limit hs ts a b own own' other bag openings trace fate g addr last becomes noted goes h =
+    projects-turned limit hs ts a b own own' other bag openings trace trace h (record {
       addr = addr;
-      neighbour = neighbour;
-      table = subst (λ xs. IsTable hs a b own'.last_id xs openings (told hs trace)) (sym becomes) (subst (λ n. IsTable hs a b n (entries_after_steps fate g own.entries) openings (told hs trace)) (sym last) (record {
+      table = subst (λ xs. IsTable hs a own'.last_id xs openings (told hs trace)) (sym becomes) (subst (λ n. IsTable hs a n (entries_after_steps fate g own.entries) openings (told hs trace)) (sym last) (record {
         sole = sole-settled fate g own.entries h.own_table.sole;
         bound = λ id r at. let was = before id r at in h.own_table.bound id was.0 was.1;
-        noted = λ id r at. let was = before id r at in subst (λ q. IsNoted hs a b openings id q) was.3 (noted id was.0 (h.own_table.noted id was.0 was.1));
+        noted = λ id r at. let was = before id r at in subst (λ q. IsNoted hs a openings id q) was.3 (noted id was.0 (h.own_table.noted id was.0 was.1));
         later = h.own_table.later;
         silent = λ id none may. h.own_table.silent id none (earlier id may);
       }));
@@ -68,16 +68,16 @@ projects-settled limit hs ts a b own own' other frames openings trace fate g add
     each t (Some q) = goes t q
 
     by_found : (pair : Pair) (epoch : ℕ) (o : Option Opening) → find (is_opening_of hs pair epoch) openings ≡ o
-        → Meets limit (pairing (end_at hs openings own'.entries (told hs trace) pair epoch) (end_at ts openings other.entries (told ts trace) pair epoch) (h.out pair epoch) (h.arrived pair epoch))
+        → Meets limit (pairing (end_at hs openings own'.entries (told hs trace) pair epoch) (end_at ts openings other.entries (told ts trace) pair epoch) (bag.out pair epoch) (bag.arrived pair epoch))
     by_found pair epoch None at =
-        subst (λ e. Meets limit (pairing e (end_at ts openings other.entries (told ts trace) pair epoch) (h.out pair epoch) (h.arrived pair epoch)))
+        subst (λ e. Meets limit (pairing e (end_at ts openings other.entries (told ts trace) pair epoch) (bag.out pair epoch) (bag.arrived pair epoch)))
         (ap (end_of own.entries (told hs trace)) at ∙ sym (ap (end_of own'.entries (told hs trace)) at)) (h.meets pair epoch)
     by_found pair epoch (Some o) at =
         let there = end_at ts openings other.entries (told ts trace) pair epoch in
         let now : role_at own'.entries o.id.0 ≡ settle_each fate g (role_at own.entries o.id.0) = ap (λ xs. role_at xs o.id.0) becomes ∙ role_at-settled fate g own.entries o.id.0 (h.own_table.sole o.id.0) in
-        subst (λ e. Meets limit (pairing e there (h.out pair epoch) (h.arrived pair epoch))) (sym (ap (end_of own'.entries (told hs trace)) at ∙ ap (λ r. end_with (presence_in r) (told hs trace o.id)) now))
-        (each (told hs trace o.id) (role_at own.entries o.id.0) there (h.out pair epoch) (h.arrived pair epoch)
-        (subst (λ e. Meets limit (pairing e there (h.out pair epoch) (h.arrived pair epoch))) (ap (end_of own.entries (told hs trace)) at) (h.meets pair epoch)))
+        subst (λ e. Meets limit (pairing e there (bag.out pair epoch) (bag.arrived pair epoch))) (sym (ap (end_of own'.entries (told hs trace)) at ∙ ap (λ r. end_with (presence_in r) (told hs trace o.id)) now))
+        (each (told hs trace o.id) (role_at own.entries o.id.0) there (bag.out pair epoch) (bag.arrived pair epoch)
+        (subst (λ e. Meets limit (pairing e there (bag.out pair epoch) (bag.arrived pair epoch))) (ap (end_of own.entries (told hs trace)) at) (h.meets pair epoch)))
 
 -- what a tick makes of one end
 role_goes : (limit : ℕ) (now : Moment) (t : Account) (r : Role) → EndGoes limit (end_with (presence_in (Some r)) t) (end_with (presence_in (settle (tick_fate_of now r) (role_after_tick now) r)) t)
@@ -91,13 +91,52 @@ role_goes limit now t (Connected c l) there out arrived = by_end (is_at_end c no
 role_goes limit now t (Listener b n) there out arrived = end-stays limit (end_with Departed t) (end_with Departed t) refl there out arrived
 role_goes limit now t (Idle b n) there out arrived = end-stays limit (end_with Departed t) (end_with Departed t) refl there out arrived
 
-pub projects-ticked : (limit : ℕ) (hs ts : Side) (a b : Addr) (own other : HostView) (frames : List Frame) (openings : List Opening) (trace : List Happening) (moment : Moment)
-    → Projects limit hs ts a b own other frames openings trace → Projects limit hs ts a b (host_ticks.after_tick own moment) other frames openings trace
-projects-ticked limit hs ts a b own other frames openings trace moment h =
+pub projects-ticked : (limit : ℕ) (hs ts : Side) (a b : Addr) (own other : SocketsView) (bag : Bag) (openings : List Opening) (trace : List Happening) (moment : Moment)
+    → Projects limit hs ts a b own other bag openings trace → Projects limit hs ts a b (table_ticks.after_tick own moment) other bag openings trace
+projects-ticked limit hs ts a b own other bag openings trace moment h =
     let now = later_moment own moment in
-    projects-settled limit hs ts a b own (host_ticks.after_tick own moment) other frames openings trace (tick_fate_of now) (role_after_tick now) refl refl refl refl (noted now) (role_goes limit now) h
+    projects-settled limit hs ts a b own (table_ticks.after_tick own moment) other bag openings trace (tick_fate_of now) (role_after_tick now) refl refl refl (noted now) (role_goes limit now) h
   where
-    noted : (now : Moment) (id : SocketId) (r : Role) → IsNoted hs a b openings id r → IsNoted hs a b openings id (role_after_tick now r)
-    noted now id (Connected c l) k = opened-kept hs a b openings id c (after_tick c now) (keeps-tick c now) k
+    noted : (now : Moment) (id : SocketId) (r : Role) → IsNoted hs a openings id r → IsNoted hs a openings id (role_after_tick now r)
+    noted now id (Connected c l) k = opened-kept hs a openings id c (after_tick c now) (keeps-tick c now) k
     noted now id (Listener b n) k = k
     noted now id (Idle b n) k = k
+
+-- Resets of aborts that are given up: their connections are gone.
+
+-- what passes a test of roles is what is left where each that does not is removed
+pub left-steps : (test : Role → Bool) (xs : List Entry) → filter (λ (e : Entry). not (test e.role)) xs ≡ entries_after_steps (λ r. if test r then Removed else Stays) (λ r. r) xs
+left-steps test [] = refl
+left-steps test (e ∷ xs) = step (test e.role) (left-steps test xs)
+  where
+    kept : List Entry
+    kept = filter (λ (e : Entry). not (test e.role)) xs
+
+    settled : List Entry
+    settled = entries_after_steps (λ r. if test r then Removed else Stays) (λ r. r) xs
+
+    step : (b : Bool) → kept ≡ settled → cond (not b) (e ∷ kept) kept ≡ cond (is_kept (if b then Removed else Stays)) (with_role (λ r. r) e ∷ settled) settled
+    step true more = more
+    step false more = ap (λ l. e ∷ l) more ∙ ap (λ (x : Entry). x ∷ settled) (entry_with e e.role refl)
+
+-- a connection that is gone, or none
+leaves_end : (limit : ℕ) (t : Account) (r : Role) → EndGoes limit (end_with (presence_in (Some r)) t) (end_with Departed t)
+leaves_end limit t (Connected c l) there out arrived =
+    moved limit (pairing (end_with (Present c) t) there out arrived) (pairing (end_with Departed t) there out arrived) (leaves (pairing (end_with (Present c) t) there out arrived) c t.closed refl (λ e. e))
+leaves_end limit t (Listener b n) there out arrived = end-stays limit (end_with Departed t) (end_with Departed t) refl there out arrived
+leaves_end limit t (Idle b n) there out arrived = end-stays limit (end_with Departed t) (end_with Departed t) refl there out arrived
+
+pub projects-given_up : (limit : ℕ) (hs ts : Side) (a b : Addr) (own other : SocketsView) (bag : Bag) (openings : List Opening) (trace : List Happening) (lost : Addr → Bool) (moment : Moment)
+    → Projects limit hs ts a b own other bag openings trace → Projects limit hs ts a b (after_giving_up own lost moment) other bag openings trace
+projects-given_up limit hs ts a b own other bag openings trace lost moment h =
+    projects-settled limit hs ts a b own (after_giving_up own lost moment) other bag openings trace (λ r. if test r then Removed else Stays) (λ r. r) refl refl (left-steps test own.entries) (λ id q k. k) goes h
+  where
+    test : Role → Bool
+    test = is_given_up lost (later_moment own moment)
+
+    goes : (t : Account) (q : Role) → EndGoes limit (end_with (presence_in (Some q)) t) (end_with (presence_in (settle (if test q then Removed else Stays) (λ r. r) q)) t)
+    goes t q = by_test (test q)
+      where
+        by_test : (b : Bool) → EndGoes limit (end_with (presence_in (Some q)) t) (end_with (presence_in (settle (if b then Removed else Stays) (λ r. r) q)) t)
+        by_test true = leaves_end limit t q
+        by_test false = end-stays limit (end_with (presence_in (Some q)) t) (end_with (presence_in (Some q)) t) refl

@@ -1,28 +1,37 @@
 -- A world's own fields stand for a run.
-use Rattle.std.proofs.Common.{◌≡◌, ℕ, ◌≤◌, ◌^◌, List, [], false, get_or, arith, sym, ap, subst}
+use Rattle.std.proofs.Common.{◌≡◌, ℕ, ◌≤◌, ◌^◌, ◌||◌, List, [], false, get_or, arith, sym, ◌∙◌, ap, subst}
+use Rattle.ether.specs.declared.mac.Mac.{Mac}
 use Rattle.ipv4.specs.declared.addr.Addr.{Addr}
+use Rattle.ipv4.specs.Addresses.{same_addr}
+use Rattle.frames.specs.Meaning.{same_mac}
+use Rattle.host.specs.ConfigView.{ConfigView}
 use Rattle.wire_sim.specs.declared.event.Event.{Event}
 use Rattle.wire_sim.specs.declared.event.Answer.{Answer}
 use Rattle.wire_sim.specs.declared.event.Happening.{Happening}
-use Rattle.ipv4.specs.Addresses.{same_addr}
 use Rattle.wire_sim.specs.Runs.{IsStep, IsReached, begins, goes_on}
 use Rattle.wire_sim.specs.Trace.{StreamLaw}
 use Rattle.wire_sim.specs.WorldRoom.{RoomyWorld}
-use Rattle.wire_sim.specs.WorldView.{NetworkView, WorldView, fresh_network}
+use Rattle.wire_sim.specs.WorldView.{NetworkView, WorldView, fresh_network, are_alike}
 use Rattle.wire_sim.proofs.runs.RunsAreLawful.{orderly, run_lawful}
 
 -- two hosts on which nothing happened
-pub reached-fresh : (limit : ℕ) (a b : Addr) (n : NetworkView) (t : List Happening) → same_addr a b ≡ false → limit ≤ 2 ^ 30 → n ≡ fresh_network a b limit → t ≡ [] → IsReached n.limit (record { network = n; trace = t })
+pub reached-fresh : (limit : ℕ) (a b : ConfigView) (n : NetworkView) (t : List Happening) → are_alike a b ≡ false → limit ≤ 2 ^ 30 → n ≡ fresh_network a b limit → t ≡ [] → IsReached n.limit (record { network = n; trace = t })
 reached-fresh limit a b n t apart small is_n is_t =
     subst (λ t. IsReached n.limit (record { network = n; trace = t })) (sym is_t)
     (subst (λ (m : NetworkView). IsReached m.limit (record { network = m; trace = [] })) (sym is_n) (begins a b apart small))
 
+-- two hosts whose addresses differ, and whose MACs do
+pub unalike : (a b : ConfigView) (x y : Addr) (m k : Mac) → x ≡ a.addr → y ≡ b.addr → m ≡ a.mac → k ≡ b.mac → same_addr x y ≡ false → same_mac m k ≡ false → are_alike a b ≡ false
+unalike a b x y m k is_x is_y is_m is_k addrs macs =
+    let apart : same_addr a.addr b.addr ≡ false = ap (λ z. same_addr z b.addr) (sym is_x) ∙ (ap (same_addr x) (sym is_y) ∙ addrs) in
+    ap (λ t. t || same_mac a.mac b.mac) apart ∙ (ap (λ z. same_mac z b.mac) (sym is_m) ∙ (ap (same_mac m) (sym is_k) ∙ macs))
+
 -- in the limit that they were made with
-pub reached-within : (limit : ℕ) (a b : Addr) (n : NetworkView) (t : List Happening) → n ≡ fresh_network a b limit → IsReached n.limit (record { network = n; trace = t }) → IsReached limit (record { network = n; trace = t })
+pub reached-within : (limit : ℕ) (a b : ConfigView) (n : NetworkView) (t : List Happening) → n ≡ fresh_network a b limit → IsReached n.limit (record { network = n; trace = t }) → IsReached limit (record { network = n; trace = t })
 reached-within limit a b n t is_n reached = subst (λ l. IsReached l (record { network = n; trace = t })) (ap (λ (m : NetworkView). m.limit) is_n) reached
 
 -- nothing is counted
-pub uncounted : (limit : ℕ) (a b : Addr) (n : NetworkView) (i m : ℕ) → n ≡ fresh_network a b limit → get_or n.written i 0 ≤ m
+pub uncounted : (limit : ℕ) (a b : ConfigView) (n : NetworkView) (i m : ℕ) → n ≡ fresh_network a b limit → get_or n.written i 0 ≤ m
 uncounted limit a b n i m is = let none : get_or n.written i 0 ≡ 0 = ap (λ (x : NetworkView). get_or x.written i 0) is in omega (arith, none)
 
 -- one event more

@@ -2,9 +2,7 @@
 use Rattle.std.proofs.Common.{◌≡◌, ℕ, zero, suc, ◌+◌, ◌==◌, ◌&&◌, ◌||◌, ◌⊎◌, inl, inr, not, Bool, true, false, cond, if◌then◌else◌, List, [], ◌∷◌, length, take, Option, Some, None, is_some, option_map, Result, Ok, Err, refl, sym, ◌∙◌, ap}
 use Rattle.std.specs.List.{find, list_any}
 use Rattle.std.specs.Option.{option_or}
-use Rattle.std.specs.Cmp.Lexicographic.{same_text}
 use Rattle.std.proofs.lemmas.Bool.{eqb-true}
-use Rattle.ipv4.specs.declared.addr.Addr.{Addr}
 use Rattle.ipv4.specs.declared.addr.Endpoint.{Endpoint}
 use Rattle.ipv4.specs.Addresses.{pair_of, same_addr, is_single_host}
 use Rattle.tcp_state.specs.declared.buffers.Buffers.{Buffers}
@@ -16,24 +14,25 @@ use Rattle.tcp_state.specs.Calls as connection_calls
 use Rattle.tcp_state.specs.Calls.{unless_pending, send_count, recv_count, after_recv}
 use Rattle.tcp_state.specs.Stream.{send_room}
 use Rattle.tcp_state.specs.View.{View, is_opening, is_write_closed, is_read_closed, opened_actively}
-use Rattle.host.specs.declared.entry.SocketId.{SocketId}
-use Rattle.host.specs.declared.entry.Entry.{Entry}
-use Rattle.host.specs.declared.role.Role.{Role}
-use Rattle.host.specs.declared.role.Role.TheVariants.{Idle, Listener, Connected}
-use Rattle.host.specs.declared.refusal.Refusal.{Refusal}
-use Rattle.host.specs.declared.refusal.Refusal.TheVariants.{EBADF, EINVAL, EADDRINUSE, EADDRNOTAVAIL, EISCONN, ENOTCONN, EALREADY, ENETUNREACH}
+use Rattle.sockets.specs.declared.entry.SocketId.{SocketId}
+use Rattle.sockets.specs.declared.entry.Entry.{Entry}
+use Rattle.sockets.specs.declared.role.Role.{Role}
+use Rattle.sockets.specs.declared.role.Role.TheVariants.{Idle, Listener, Connected}
+use Rattle.sockets.specs.declared.refusal.Refusal.{Refusal}
+use Rattle.sockets.specs.declared.refusal.Refusal.TheVariants.{EBADF, EINVAL, EADDRINUSE, EADDRNOTAVAIL, EISCONN, ENOTCONN, EALREADY, ENETUNREACH}
 use Rattle.wire_sim.specs.declared.event.Answer.{Answer}
 use Rattle.wire_sim.specs.declared.event.Answer.TheVariants.{Refused}
-use Rattle.host.specs.Ports.{port_after, first_port, first_port-step, first_port-zero, is_free_port}
-use Rattle.host.specs.Entries.{is_pending, has_socket, is_socket, is_bound_at, is_between, role_after_connect, role_after_recv, role_after_shutdown, with_role}
-use Rattle.host.specs.HostView.{HostView, with_socket}
-use Rattle.host.specs.Lists.{change_first}
-use Rattle.host.specs.Calls.{unless_refused, of_connection, role_send_answer, role_recv_answer, send_answer, recv_answer, is_pair_held, port_for, reach_refusal, had_connection, open_answer, connect_refusal, last_port_after, after_connect, refusal_of, role_shutdown_refusal, shutdown_refusal, pair_connected}
+use Rattle.sockets.specs.Ports.{port_after, first_port, first_port-step, first_port-zero, is_free_port}
+use Rattle.sockets.specs.Entries.{is_pending, has_socket, is_socket, is_bound_at, is_between, role_after_connect, role_after_recv, role_after_shutdown, with_role}
+use Rattle.sockets.specs.SocketsView.{SocketsView, with_socket}
+use Rattle.sockets.specs.Lists.{change_first}
+use Rattle.sockets.specs.Calls.{unless_refused, of_connection, role_send_answer, role_recv_answer, send_answer, recv_answer, is_pair_held, port_for, reach_refusal, had_connection, open_answer, connect_refusal, last_port_after, after_connect, refusal_of, role_shutdown_refusal, shutdown_refusal, pair_connected}
 use Rattle.wire_sim.specs.Steps.{Answers, readable_on}
-use Rattle.host.specs.Pairs.{socket_pair}
+use Rattle.sockets.specs.Pairs.{socket_pair}
+use Rattle.wire_sim.proofs.tables.PairOfPorts.{same_addr-other}
 use Rattle.wire_sim.proofs.lists.FoundAfterChange.{find-passes}
 use Rattle.wire_sim.proofs.tables.TableById.{entry_with}
-use Rattle.host.proofs.Connected.{after_connect-accepted}
+use Rattle.sockets.proofs.Connected.{after_connect-accepted}
 
 -- Tests.
 
@@ -45,7 +44,7 @@ both_second : (b c : Bool) → (b && c) ≡ true → c ≡ true
 both_second true c e = e
 both_second false c e = cc
 
-not_true : (b : Bool) → not b ≡ true → b ≡ false
+pub not_true : (b : Bool) → not b ≡ true → b ≡ false
 not_true true e = cc
 not_true false e = refl
 
@@ -84,7 +83,7 @@ found_socket xs id e r found is =
 -- The answer of a call.
 
 -- a value is told and the host becomes the next one, or a refusal is told and the host stays
-pub outcome : {T : Type 0} (r : Result T Refusal) (told : T → Answer) (next old : HostView) (answer : Answer) (new : HostView) → Answers r told next old answer new
+pub outcome : {T : Type 0} (r : Result T Refusal) (told : T → Answer) (next old : SocketsView) (answer : Answer) (new : SocketsView) → Answers r told next old answer new
     → ((v : T) × (r ≡ Ok v) × (answer ≡ told v) × (new ≡ next)) ⊎ ((e : Refusal) × (r ≡ Err e) × (answer ≡ Refused e) × (new ≡ old))
 outcome (Ok v) told next old answer new is = inl (v, refl, is.0, is.1)
 outcome (Err e) told next old answer new is = inr (e, refl, is.0, is.1)
@@ -97,7 +96,7 @@ not_refused (Some refusal) v e = cc
 -- Send.
 
 -- The socket is a connection that is open, and this many of the octets are taken.
-pub record SendsOn (h : HostView) (id : SocketId) (octets : List ℕ) (count : ℕ) : Type 0 where
+pub record SendsOn (h : SocketsView) (id : SocketId) (octets : List ℕ) (count : ℕ) : Type 0 where
   pub c : View
   pub l : Option SocketId
   pub found : find (is_socket id) h.entries ≡ Some (record { id = id; role = Connected c l })
@@ -107,7 +106,7 @@ pub record SendsOn (h : HostView) (id : SocketId) (octets : List ℕ) (count : �
   pub takes : count ≡ send_count c octets
 
 -- a send that is answered with a count is one on an open connection
-pub sends-on : (h : HostView) (id : SocketId) (octets : List ℕ) (count : ℕ) → send_answer h id octets ≡ Ok count → SendsOn h id octets count
+pub sends-on : (h : SocketsView) (id : SocketId) (octets : List ℕ) (count : ℕ) → send_answer h id octets ≡ Ok count → SendsOn h id octets count
 sends-on h id octets count answered = by_entry (find (is_socket id) h.entries) refl
   where
     by_tests : (c : View) (l : Option SocketId) → find (is_socket id) h.entries ≡ Some (record { id = id; role = Connected c l }) → (error : Option ConnectionRefusal) (b closed full : Bool) → c.pending_error ≡ error → is_opening c.state ≡ b → is_write_closed c.state ≡ closed
@@ -132,7 +131,7 @@ sends-on h id octets count answered = by_entry (find (is_socket id) h.entries) r
 -- Receive.
 
 -- The socket is a connection that answers so, and the buffer has room.
-pub record ReadsOn (h : HostView) (id : SocketId) (len : ℕ) (got : Received) : Type 0 where
+pub record ReadsOn (h : SocketsView) (id : SocketId) (len : ℕ) (got : Received) : Type 0 where
   pub c : View
   pub l : Option SocketId
   pub found : find (is_socket id) h.entries ≡ Some (record { id = id; role = Connected c l })
@@ -176,7 +175,7 @@ end_told c len = by_tests c.pending_error (is_opening c.state) (length c.receivi
     by_tests None false true seen told is empty e = rw (told, is, empty)
 
 -- a receive that is answered is one on a connection
-pub reads-on : (h : HostView) (id : SocketId) (len : ℕ) (got : Received) → recv_answer h id len ≡ Ok got → ReadsOn h id len got
+pub reads-on : (h : SocketsView) (id : SocketId) (len : ℕ) (got : Received) → recv_answer h id len ≡ Ok got → ReadsOn h id len got
 reads-on h id len got answered = by_entry (find (is_socket id) h.entries) refl
   where
     by_tests : (c : View) (l : Option SocketId) → find (is_socket id) h.entries ≡ Some (record { id = id; role = Connected c l }) → (none : Bool) (r : Result Received ConnectionRefusal)
@@ -206,7 +205,7 @@ pub received-connected : (c : View) (l : Option SocketId) (len : ℕ) → (len =
 received-connected c l len room = ap (λ b. Connected (cond b c (after_recv c len)) l) room
 
 -- what is readable on a connected socket is what its connection has
-pub readable_on-connected : (h : HostView) (id : SocketId) (count : ℕ) (c : View) (l : Option SocketId) → find (is_socket id) h.entries ≡ Some (record { id = id; role = Connected c l })
+pub readable_on-connected : (h : SocketsView) (id : SocketId) (count : ℕ) (c : View) (l : Option SocketId) → find (is_socket id) h.entries ≡ Some (record { id = id; role = Connected c l })
     → readable_on h id count ≡ take count c.receiving.readable
 readable_on-connected h id count c l found = rw found
 
@@ -222,19 +221,19 @@ first_port-passes test last steps (suc n) port e = step (test (port_after last s
     step true is more e = let same : port_after last steps ≡ port = cc in ap test (sym same) ∙ is
     step false is more e = more e
 
--- The socket is idle, the peer is the neighbour, and no connection goes to it from the port that is given.
-pub record ConnectsOn (h : HostView) (id : SocketId) (peer : Endpoint) : Type 0 where
+-- The socket is idle, the peer's address is not our own, and no connection goes to it from the port that is given.
+pub record ConnectsOn (h : SocketsView) (id : SocketId) (peer : Endpoint) (routed : Bool) : Type 0 where
   pub b : Buffers
   pub bound : Option Endpoint
   pub port : ℕ
   pub found : find (is_socket id) h.entries ≡ Some (record { id = id; role = Idle b bound })
-  pub reached : peer.addr ≡ h.neighbour
+  pub apart : same_addr h.addr peer.addr ≡ false
   pub free : find (is_between (record { addr = h.addr; port = port }) peer) h.entries ≡ None
-  pub foreseen : pair_connected h id peer ≡ Some (pair_of (record { addr = h.addr; port = port }) peer)
-  pub becomes : (isn : ℕ) → after_connect h isn id peer ≡ with_socket (record h { last_port = last_port_after h bound port }) id (role_after_connect (record { addr = h.addr; port = port }) peer isn)
+  pub foreseen : pair_connected h id peer routed ≡ Some (pair_of (record { addr = h.addr; port = port }) peer)
+  pub becomes : (isn : ℕ) → after_connect h isn id peer routed ≡ with_socket (record h { last_port = last_port_after h bound port }) id (role_after_connect (record { addr = h.addr; port = port }) peer isn)
 
 -- no connection goes to the peer from the port that is given
-pub port_for-free : (h : HostView) (bound : Option Endpoint) (peer : Endpoint) (port : ℕ) → port_for h bound peer ≡ Some port
+pub port_for-free : (h : SocketsView) (bound : Option Endpoint) (peer : Endpoint) (port : ℕ) → port_for h bound peer ≡ Some port
     → find (is_between (record { addr = h.addr; port = port }) peer) h.entries ≡ None
 port_for-free h None peer port given =
     let test = is_between (record { addr = h.addr; port = port }) peer in
@@ -248,15 +247,16 @@ port_for-free h (Some bound) peer port given = step (is_pair_held h bound.port p
         let same : bound.port ≡ port = cc in
         ap (λ p. find (is_between (record { addr = h.addr; port = p }) peer) h.entries) (sym same) ∙ find-not_any (is_between (record { addr = h.addr; port = bound.port }) peer) h.entries is
 
--- a peer that may be reached is the neighbour
-pub reached-neighbour : (h : HostView) (peer : Endpoint) → reach_refusal h peer ≡ None → peer.addr ≡ h.neighbour
-reached-neighbour h peer = step ((peer.port == 0) || not (is_single_host peer.addr) || same_addr peer.addr h.addr) (same_addr peer.addr h.neighbour) refl
+-- a peer that may be reached is another host
+pub reached-apart : (h : SocketsView) (peer : Endpoint) (routed : Bool) → reach_refusal h peer routed ≡ None → same_addr h.addr peer.addr ≡ false
+reached-apart h peer routed = step (peer.port == 0) (not (is_single_host peer.addr)) (same_addr peer.addr h.addr) routed refl
   where
-    step : (bad near : Bool) → same_addr peer.addr h.neighbour ≡ near
-        → cond bad (Some EADDRNOTAVAIL) (cond near None (Some ENETUNREACH)) ≡ None → peer.addr ≡ h.neighbour
-    step true near is e = cc
-    step false true is e = ap (λ xs. let a : Addr = record { 0 = xs } in a) (same_text peer.addr.0 h.neighbour.0 (sym is))
-    step false false is e = cc
+    step : (none many own near : Bool) → same_addr peer.addr h.addr ≡ own
+        → cond (none || many || own) (Some EADDRNOTAVAIL) (cond near None (Some ENETUNREACH)) ≡ None → same_addr h.addr peer.addr ≡ false
+    step true many own near is e = cc
+    step false true own near is e = cc
+    step false false true near is e = cc
+    step false false false near is e = same_addr-other peer.addr h.addr is
 
 -- a role that may open a connection is an idle socket
 pub opens_idle : (r : Role) (bound : Option Endpoint) → open_answer r ≡ Ok bound → (b : Buffers) × (r ≡ Idle b bound)
@@ -272,14 +272,14 @@ opens_idle (Connected c l) bound e = absurd (by_error c.pending_error e)
     by_error (Some x) e = cc
     by_error None e = step (is_opening c.state) e
 
--- a connect that is not refused is one of an idle socket, to the neighbour
-pub connects-on : (h : HostView) (id : SocketId) (peer : Endpoint) → connect_refusal h id peer ≡ None → ConnectsOn h id peer
-connects-on h id peer none = by_entry (find (is_socket id) h.entries) refl
+-- a connect that is not refused is one of an idle socket, to another host
+pub connects-on : (h : SocketsView) (id : SocketId) (peer : Endpoint) (routed : Bool) → connect_refusal h id peer routed ≡ None → ConnectsOn h id peer routed
+connects-on h id peer routed none = by_entry (find (is_socket id) h.entries) refl
   where
-    by_port : (e : Entry) (bound : Option Endpoint) → find (is_socket id) h.entries ≡ Some e → open_answer e.role ≡ Ok bound → reach_refusal h peer ≡ None
-        → (o : Option ℕ) → port_for h bound peer ≡ o → ConnectsOn h id peer
+    by_port : (e : Entry) (bound : Option Endpoint) → find (is_socket id) h.entries ≡ Some e → open_answer e.role ≡ Ok bound → reach_refusal h peer routed ≡ None
+        → (o : Option ℕ) → port_for h bound peer ≡ o → ConnectsOn h id peer routed
     by_port e bound at may near None given =
-        let held : connect_refusal h id peer ≡ Some EADDRINUSE = rw (at, may, near, given) in
+        let held : connect_refusal h id peer routed ≡ Some EADDRINUSE = rw (at, may, near, given) in
         cc
     by_port e bound at may near (Some port) given =
         let idle = opens_idle e.role bound may in
@@ -288,35 +288,35 @@ connects-on h id peer none = by_entry (find (is_socket id) h.entries) refl
           bound = bound;
           port = port;
           found = found_socket h.entries id e (Idle idle.0 bound) at idle.1;
-          reached = reached-neighbour h peer near;
+          apart = reached-apart h peer routed near;
           free = port_for-free h bound peer port given;
           foreseen = rw (at, may, near, given);
-          becomes = λ isn. after_connect-accepted h isn id peer e bound port at may near given;
+          becomes = λ isn. after_connect-accepted h isn id peer routed e bound port at may near given;
         }
 
-    by_reach : (e : Entry) (bound : Option Endpoint) → find (is_socket id) h.entries ≡ Some e → open_answer e.role ≡ Ok bound → (o : Option Refusal) → reach_refusal h peer ≡ o
-        → ConnectsOn h id peer
+    by_reach : (e : Entry) (bound : Option Endpoint) → find (is_socket id) h.entries ≡ Some e → open_answer e.role ≡ Ok bound → (o : Option Refusal) → reach_refusal h peer routed ≡ o
+        → ConnectsOn h id peer routed
     by_reach e bound at may (Some refusal) far =
-        let refused : connect_refusal h id peer ≡ Some refusal = rw (at, may, far) in
+        let refused : connect_refusal h id peer routed ≡ Some refusal = rw (at, may, far) in
         cc
     by_reach e bound at may None near = by_port e bound at may near (port_for h bound peer) refl
 
-    by_open : (e : Entry) → find (is_socket id) h.entries ≡ Some e → (o : Result (Option Endpoint) Refusal) → open_answer e.role ≡ o → ConnectsOn h id peer
+    by_open : (e : Entry) → find (is_socket id) h.entries ≡ Some e → (o : Result (Option Endpoint) Refusal) → open_answer e.role ≡ o → ConnectsOn h id peer routed
     by_open e at (Err refusal) may =
-        let refused : connect_refusal h id peer ≡ Some refusal = rw (at, may) in
+        let refused : connect_refusal h id peer routed ≡ Some refusal = rw (at, may) in
         cc
-    by_open e at (Ok bound) may = by_reach e bound at may (reach_refusal h peer) refl
+    by_open e at (Ok bound) may = by_reach e bound at may (reach_refusal h peer routed) refl
 
-    by_entry : (o : Option Entry) → find (is_socket id) h.entries ≡ o → ConnectsOn h id peer
+    by_entry : (o : Option Entry) → find (is_socket id) h.entries ≡ o → ConnectsOn h id peer routed
     by_entry None at =
-        let refused : connect_refusal h id peer ≡ Some EBADF = rw at in
+        let refused : connect_refusal h id peer routed ≡ Some EBADF = rw at in
         cc
     by_entry (Some e) at = by_open e at (open_answer e.role) refl
 
 -- The socket's pair afterwards.
 
 -- the pair of a connected socket is that of its connection
-pub socket_pair-connected : (h : HostView) (id : SocketId) (c : View) (l : Option SocketId) → find (is_socket id) h.entries ≡ Some (record { id = id; role = Connected c l })
+pub socket_pair-connected : (h : SocketsView) (id : SocketId) (c : View) (l : Option SocketId) → find (is_socket id) h.entries ≡ Some (record { id = id; role = Connected c l })
     → socket_pair h id ≡ Some (pair_of c.local c.peer)
 socket_pair-connected h id c l found = rw found
 
@@ -348,14 +348,14 @@ found-connecting xs id b bound local peer isn found = found-itself (is_socket id
 -- Shutdown.
 
 -- The socket is a connection past its opening that tells no error, and its side is closed.
-pub record ShutsOn (h : HostView) (id : SocketId) : Type 0 where
+pub record ShutsOn (h : SocketsView) (id : SocketId) : Type 0 where
   pub c : View
   pub l : Option SocketId
   pub found : find (is_socket id) h.entries ≡ Some (record { id = id; role = Connected c l })
   pub opened : is_opening c.state ≡ false
   pub shuts : role_after_shutdown (Connected c l) ≡ Connected (connection_calls.after_shutdown c) l
 
-pub shuts-on : (h : HostView) (id : SocketId) → shutdown_refusal h id ≡ None → ShutsOn h id
+pub shuts-on : (h : SocketsView) (id : SocketId) → shutdown_refusal h id ≡ None → ShutsOn h id
 shuts-on h id none = by_entry (find (is_socket id) h.entries) refl
   where
     by_tests : (c : View) (l : Option SocketId) → find (is_socket id) h.entries ≡ Some (record { id = id; role = Connected c l }) → (error : Option ConnectionRefusal) (opening : Bool) → c.pending_error ≡ error → is_opening c.state ≡ opening

@@ -6,15 +6,15 @@ use Rattle.ipv4.specs.declared.addr.Endpoint.{Endpoint}
 use Rattle.ipv4.specs.declared.addr.Pair.{Pair}
 use Rattle.ipv4.specs.Addresses.{pair_of}
 use Rattle.tcp_state.specs.View.{View}
-use Rattle.host.specs.declared.entry.SocketId.{SocketId}
-use Rattle.host.specs.declared.entry.Entry.{Entry}
-use Rattle.host.specs.declared.role.Role.{Role}
+use Rattle.sockets.specs.declared.entry.SocketId.{SocketId}
+use Rattle.sockets.specs.declared.entry.Entry.{Entry}
+use Rattle.sockets.specs.declared.role.Role.{Role}
 use Rattle.stream_law.specs.Pairing.{End, Emission, Meets}
 use Rattle.wire_sim.specs.declared.event.Side.{Side}
 use Rattle.wire_sim.specs.declared.event.Opening.{Opening}
 use Rattle.wire_sim.specs.Tallies.{is_opening_of, is_opening_at}
 use Rattle.wire_sim.proofs.pairing.EndMoves.{pairing, EndGoes}
-use Rattle.host.proofs.KeptEnds.{KeepsEnds}
+use Rattle.sockets.proofs.KeptEnds.{KeepsEnds}
 use Rattle.wire_sim.proofs.tables.TableById.{untold, Told, role_at, Becomes, presence_in, end_with, end_of, end_at, IsOpened, IsNoted, MayOpen, IsTable, same_id}
 
 -- a test decides
@@ -81,10 +81,9 @@ meets-moved limit side os id xs ys told told' other out arrived others same goes
 -- The table and the openings.
 
 -- a connection that keeps its ends was opened as before
-pub opened-kept : (side : Side) (own other : Addr) (os : List Opening) (id : SocketId) (c c' : View) → KeepsEnds c c' → IsOpened side own other os id c → IsOpened side own other os id c'
-opened-kept side own other os id c c' keeps k = record {
+pub opened-kept : (side : Side) (own : Addr) (os : List Opening) (id : SocketId) (c c' : View) → KeepsEnds c c' → IsOpened side own os id c → IsOpened side own os id c'
+opened-kept side own os id c c' keeps k = record {
   local = ap (λ (e : Endpoint). e.addr) keeps.local ∙ k.local;
-  peer = ap (λ (e : Endpoint). e.addr) keeps.peer ∙ k.peer;
   opening = k.opening;
   at = k.at;
   pair = k.pair ∙ (ap (λ e. pair_of e c.peer) (sym keeps.local) ∙ ap (pair_of c'.local) (sym keeps.peer));
@@ -92,16 +91,16 @@ opened-kept side own other os id c c' keeps k = record {
 }
 
 -- one id's entry became another, or is gone
-pub table-becomes : (side : Side) (own other : Addr) (last : ℕ) (xs ys : List Entry) (os : List Opening) (told told' : Told) (id : SocketId) (r : Option Role)
-    → Becomes xs ys id.0 r → ((role : Role) → r ≡ Some role → IsNoted side own other os id role × (id.0 ≤ last)) → SameBut id told told' → (find (is_opening_at side id) os ≡ None → MayOpen last ys id → told' id ≡ untold)
-    → IsTable side own other last xs os told → IsTable side own other last ys os told'
-table-becomes side own other last xs ys os told told' id r b new same quiet t = record {
+pub table-becomes : (side : Side) (own : Addr) (last : ℕ) (xs ys : List Entry) (os : List Opening) (told told' : Told) (id : SocketId) (r : Option Role)
+    → Becomes xs ys id.0 r → ((role : Role) → r ≡ Some role → IsNoted side own os id role × (id.0 ≤ last)) → SameBut id told told' → (find (is_opening_at side id) os ≡ None → MayOpen last ys id → told' id ≡ untold)
+    → IsTable side own last xs os told → IsTable side own last ys os told'
+table-becomes side own last xs ys os told told' id r b new same quiet t = record {
   sole = b.sole;
   bound = λ j role at. by_test (id.0 == j.0)
       (λ is. subst (λ (i : SocketId). i.0 ≤ last) (same_id id j is) (new role (its j role is at)).1)
       (λ apart. t.bound j role (sym (b.others j.0 apart) ∙ at));
   noted = λ j role at. by_test (id.0 == j.0)
-      (λ is. subst (λ i. IsNoted side own other os i role) (same_id id j is) (new role (its j role is at)).0)
+      (λ is. subst (λ i. IsNoted side own os i role) (same_id id j is) (new role (its j role is at)).0)
       (λ apart. t.noted j role (sym (b.others j.0 apart) ∙ at));
   later = t.later;
   silent = λ j none may. by_test (id.0 == j.0)
@@ -122,8 +121,8 @@ table-becomes side own other last xs ys os told told' id r b new same quiet t = 
 abbrev pub SameTold : Told → Told → Type 0
 SameTold told told' = (id : SocketId) → told' id ≡ told id
 
-pub table-told : (side : Side) (own other : Addr) (last : ℕ) (xs : List Entry) (os : List Opening) (told told' : Told) → SameTold told told' → IsTable side own other last xs os told → IsTable side own other last xs os told'
-table-told side own other last xs os told told' same t = record {
+pub table-told : (side : Side) (own : Addr) (last : ℕ) (xs : List Entry) (os : List Opening) (told told' : Told) → SameTold told told' → IsTable side own last xs os told → IsTable side own last xs os told'
+table-told side own last xs os told told' same t = record {
   sole = t.sole;
   bound = t.bound;
   noted = t.noted;

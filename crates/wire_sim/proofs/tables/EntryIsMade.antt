@@ -7,10 +7,10 @@ use Rattle.ipv4.specs.declared.addr.Pair.{Pair}
 use Rattle.ipv4.specs.Addresses.{pair_of}
 use Rattle.tcp_state.specs.declared.buffers.Buffers.{Buffers}
 use Rattle.tcp_state.specs.View.{View}
-use Rattle.host.specs.declared.entry.SocketId.{SocketId}
-use Rattle.host.specs.declared.entry.Entry.{Entry}
-use Rattle.host.specs.declared.role.Role.{Role}
-use Rattle.host.specs.declared.role.Role.TheVariants.{Idle, Listener, Connected}
+use Rattle.sockets.specs.declared.entry.SocketId.{SocketId}
+use Rattle.sockets.specs.declared.entry.Entry.{Entry}
+use Rattle.sockets.specs.declared.role.Role.{Role}
+use Rattle.sockets.specs.declared.role.Role.TheVariants.{Idle, Listener, Connected}
 use Rattle.stream_law.specs.Pairing.{Present, nothing_yet}
 use Rattle.wire_sim.specs.declared.event.Side.{Side}
 use Rattle.wire_sim.specs.declared.event.Opening.{Opening}
@@ -24,12 +24,11 @@ use Rattle.wire_sim.proofs.tables.PairOfPorts.{same_pair-same}
 use Rattle.wire_sim.proofs.tables.TableById.{Told, untold, has_id, role_at, Becomes, becomes-added, presence_in, end_with, end_of, end_at, IsOpened, IsNoted, MayOpen, IsTable, eqb-same, same_id}
 
 -- A connection came to stand in a table, and its opening was noted.
-pub record Makes (side : Side) (own other : Addr) (os : List Opening) (o : Opening) (xs ys : List Entry) (c : View) (l : Option SocketId) : Type 0 where
+pub record Makes (side : Side) (own : Addr) (os : List Opening) (o : Opening) (xs ys : List Entry) (c : View) (l : Option SocketId) : Type 0 where
   pub becomes : Becomes xs ys o.id.0 (Some (Connected c l))
   pub at_side : o.side ≡ side
   pub pair : o.pair ≡ pair_of c.local c.peer
   pub local : c.local.addr ≡ own
-  pub peer : c.peer.addr ≡ other
   pub next : IsNext os o
   pub rises : MayRise os o xs
 
@@ -42,9 +41,9 @@ its_epoch : (side : Side) (o : Opening) → o.side ≡ side → is_opening_of si
 its_epoch side o same =
     and_from (same_side o.side side && same_pair o.pair o.pair) (o.epoch == o.epoch) (and_from (same_side o.side side) (same_pair o.pair o.pair) (ap (same_side o.side) (sym same) ∙ same_side-same o.side) (same_pair-same o.pair)) (eqb-same o.epoch)
 
-pub table-made : (side : Side) (own other : Addr) (last last' : ℕ) (os : List Opening) (o : Opening) (xs ys : List Entry) (told : Told) (c : View) (l : Option SocketId) → Makes side own other os o xs ys c l → last ≤ last' → o.id.0 ≤ last'
-    → IsTable side own other last xs os told → IsTable side own other last' ys (os ++ o ∷ []) told
-table-made side own other last last' os o xs ys told c l m grows within t = record {
+pub table-made : (side : Side) (own : Addr) (last last' : ℕ) (os : List Opening) (o : Opening) (xs ys : List Entry) (told : Told) (c : View) (l : Option SocketId) → Makes side own os o xs ys c l → last ≤ last' → o.id.0 ≤ last'
+    → IsTable side own last xs os told → IsTable side own last' ys (os ++ o ∷ []) told
+table-made side own last last' os o xs ys told c l m grows within t = record {
   sole = m.becomes.sole;
   bound = λ j r at. by_test (o.id.0 == j.0)
       (λ is. subst (λ (i : SocketId). i.0 ≤ last') (same_id o.id j is) within)
@@ -54,7 +53,7 @@ table-made side own other last last' os o xs ys told c l m grows within t = reco
       let one = same_id o.id j is in
       let role : Some (Connected c l) ≡ Some r = sym m.becomes.here ∙ (ap (λ (i : SocketId). role_at ys i.0) one ∙ at) in
       let same : Connected c l ≡ r = cc in
-      subst (λ r. IsNoted side own other (os ++ o ∷ []) j r) same (subst (λ i. IsNoted side own other (os ++ o ∷ []) i (Connected c l)) one itself))
+      subst (λ r. IsNoted side own (os ++ o ∷ []) j r) same (subst (λ i. IsNoted side own (os ++ o ∷ []) i (Connected c l)) one itself))
       (λ apart. let before = sym (m.becomes.others j.0 apart) ∙ at in noted j r apart before (t.noted j r before));
   later = λ j above. unopened j (let bound : last < j.0 = omega (arith, above, grows) in t.later j bound) (by_test (o.id.0 == j.0) (λ is. let same = ap (λ (i : SocketId). i.0) (same_id o.id j is) in absurd (omega (arith, same, within, above))) (λ apart. apart));
   silent = λ j none may. by_test (o.id.0 == j.0)
@@ -85,18 +84,17 @@ table-made side own other last last' os o xs ys told c l m grows within t = reco
     unopened : (j : SocketId) → find (is_opening_at side j) os ≡ None → (o.id.0 == j.0) ≡ false → find (is_opening_at side j) (os ++ o ∷ []) ≡ None
     unopened j before apart = others j apart ∙ before
 
-    itself : IsOpened side own other (os ++ o ∷ []) o.id c
+    itself : IsOpened side own (os ++ o ∷ []) o.id c
     itself = record {
       local = m.local;
-      peer = m.peer;
       opening = o;
       at = at;
       pair = m.pair;
       present = λ live. sym (epoch-added os o o.pair ∙ ap (λ b. cond b o.epoch (epoch_of os o.pair)) (same_pair-same o.pair));
     }
 
-    noted : (j : SocketId) (r : Role) → (o.id.0 == j.0) ≡ false → role_at xs j.0 ≡ Some r → IsNoted side own other os j r → IsNoted side own other (os ++ o ∷ []) j r
-    noted j (Connected d k) apart before n = opened-added side own other os o xs j d k m.rises before n
+    noted : (j : SocketId) (r : Role) → (o.id.0 == j.0) ≡ false → role_at xs j.0 ≡ Some r → IsNoted side own os j r → IsNoted side own (os ++ o ∷ []) j r
+    noted j (Connected d k) apart before n = opened-added side own os o xs j d k m.rises before n
     noted j (Listener local backlog) apart before n = others j apart ∙ n
     noted j (Idle buffers bound) apart before n = others j apart ∙ n
 
@@ -105,9 +103,9 @@ pub end-unmade : (side : Side) (os : List Opening) (o : Opening) (xs : List Entr
 end-unmade side os o xs told same next = ap (end_of xs told) (subst (λ s. find (is_opening_of s o.pair o.epoch) os ≡ None) same next.by_epoch)
 
 -- .. and is that of the connection now
-pub end-made : (side : Side) (own other : Addr) (last : ℕ) (os : List Opening) (o : Opening) (xs ys : List Entry) (told : Told) (c : View) (l : Option SocketId) → Makes side own other os o xs ys c l → MayOpen last xs o.id → IsTable side own other last xs os told
+pub end-made : (side : Side) (own : Addr) (last : ℕ) (os : List Opening) (o : Opening) (xs ys : List Entry) (told : Told) (c : View) (l : Option SocketId) → Makes side own os o xs ys c l → MayOpen last xs o.id → IsTable side own last xs os told
     → end_at side (os ++ o ∷ []) ys told o.pair o.epoch ≡ end_with (Present c) untold
-end-made side own other last os o xs ys told c l m may t =
+end-made side own last os o xs ys told c l m may t =
     let none = subst (λ s. find (is_opening_of s o.pair o.epoch) os ≡ None) m.at_side m.next.by_epoch in
     let quiet = t.silent o.id (subst (λ s. find (is_opening_at s o.id) os ≡ None) m.at_side m.next.by_id) may in
     ap (end_of ys told) (find-added (is_opening_of side o.pair o.epoch) os o none (its_epoch side o m.at_side))
@@ -136,19 +134,19 @@ pub end-other : (side : Side) (os : List Opening) (o : Opening) (xs : List Entry
 end-other side os o xs told pair epoch apart = ap (end_of xs told) (find-added_none (is_opening_of side pair epoch) os o (ap (λ b. b && same_pair o.pair pair && (o.epoch == epoch)) apart))
 
 -- no entry has an id to come
-pub free-later : (side : Side) (own other : Addr) (last : ℕ) (os : List Opening) (xs : List Entry) (told : Told) (id : SocketId) → last < id.0 → IsTable side own other last xs os told → find (has_id id.0) xs ≡ None
-free-later side own other last os xs told id above t = decide (find (has_id id.0) xs) refl
+pub free-later : (side : Side) (own : Addr) (last : ℕ) (os : List Opening) (xs : List Entry) (told : Told) (id : SocketId) → last < id.0 → IsTable side own last xs os told → find (has_id id.0) xs ≡ None
+free-later side own last os xs told id above t = decide (find (has_id id.0) xs) refl
   where
     decide : (o : Option Entry) → find (has_id id.0) xs ≡ o → o ≡ None
     decide None at = refl
     decide (Some e) at = let before = t.bound id e.role (ap (option_map (λ (e : Entry). e.role)) at) in absurd (omega (arith, before, above))
 
 -- an idle socket joins the table
-pub table-socket : (side : Side) (own other : Addr) (last : ℕ) (os : List Opening) (xs : List Entry) (told : Told) (id : SocketId) (b : Buffers) → id.0 ≡ last + 1 → IsTable side own other last xs os told
-    → IsTable side own other (last + 1) (xs ++ record { id = id; role = Idle b None } ∷ []) os told
-table-socket side own other last os xs told id b next t =
-    table-becomes side own other (last + 1) xs (xs ++ x ∷ []) os told told id (Some (Idle b None)) (becomes-added xs x t.sole free)
-    (λ role is. let same : Idle b None ≡ role = cc in (subst (λ r. IsNoted side own other os id r) same unopened, omega (arith, next)))
+pub table-socket : (side : Side) (own : Addr) (last : ℕ) (os : List Opening) (xs : List Entry) (told : Told) (id : SocketId) (b : Buffers) → id.0 ≡ last + 1 → IsTable side own last xs os told
+    → IsTable side own (last + 1) (xs ++ record { id = id; role = Idle b None } ∷ []) os told
+table-socket side own last os xs told id b next t =
+    table-becomes side own (last + 1) xs (xs ++ x ∷ []) os told told id (Some (Idle b None)) (becomes-added xs x t.sole free)
+    (λ role is. let same : Idle b None ≡ role = cc in (subst (λ r. IsNoted side own os id r) same unopened, omega (arith, next)))
     (λ j apart. refl) (λ none may. t.silent id none (inl (omega (arith, next)))) (record {
       sole = t.sole;
       bound = λ j r at. let before = t.bound j r at in omega (arith, before);
@@ -168,4 +166,4 @@ table-socket side own other last os xs told id b next t =
     unopened = t.later id (omega (arith, next))
 
     free : find (has_id id.0) xs ≡ None
-    free = free-later side own other last os xs told id (omega (arith, next)) t
+    free = free-later side own last os xs told id (omega (arith, next)) t

@@ -1,4 +1,4 @@
--- The pair of two ports of the two hosts.
+-- The pair of two ends, and which entries of a table hold it.
 use Rattle.std.proofs.Common.{◌≡◌, ℕ, ◌==◌, ◌&&◌, ◌||◌, not, Bool, true, false, cond, List, Option, Some, None, option_map, refl, sym, ◌∙◌, ap}
 use Rattle.std.specs.List.{find}
 use Rattle.std.specs.Ordering.{is_le}
@@ -8,25 +8,16 @@ use Rattle.ipv4.specs.declared.addr.Addr.{Addr}
 use Rattle.ipv4.specs.declared.addr.Endpoint.{Endpoint}
 use Rattle.ipv4.specs.declared.addr.Pair.{Pair}
 use Rattle.ipv4.specs.Addresses.{endpoint_cmp, pair_of, same_addr, same_end}
-use Rattle.ipv4.proofs.Pairs.{pair_of-swapped}
-use Rattle.host.specs.declared.entry.SocketId.{SocketId}
-use Rattle.host.specs.declared.entry.Entry.{Entry}
-use Rattle.host.specs.declared.role.Role.{Role}
-use Rattle.host.specs.declared.role.Role.TheVariants.{Idle, Listener, Connected}
+use Rattle.sockets.specs.declared.entry.SocketId.{SocketId}
+use Rattle.sockets.specs.declared.entry.Entry.{Entry}
+use Rattle.sockets.specs.declared.role.Role.{Role}
+use Rattle.sockets.specs.declared.role.Role.TheVariants.{Idle, Listener, Connected}
 use Rattle.tcp_state.specs.View.{View, is_closed}
-use Rattle.host.specs.Entries.{is_live_between, is_between, joins, is_of_pair}
-use Rattle.host.specs.HostView.{HostView, holder_id}
+use Rattle.sockets.specs.Entries.{is_live_between, is_between, joins, is_of_pair}
+use Rattle.sockets.specs.SocketsView.{SocketsView, holder_id}
 use Rattle.wire_sim.specs.Tallies.{same_pair}
 use Rattle.wire_sim.proofs.lists.FoundAfterChange.{find-passes}
 use Rattle.wire_sim.proofs.tables.TableById.{AreSole, role_at, found-role, none-role, eqb-same, same_addr-same}
-
--- the pair of a port of one host and a port of the other
-abbrev pub pair_at : Addr → Addr → ℕ → ℕ → Pair
-pair_at own other p q = pair_of (record { addr = own; port = p }) (record { addr = other; port = q })
-
--- either host may be named first
-pub pair_at-swapped : (own other : Addr) (p q : ℕ) → pair_at own other p q ≡ pair_at other own q p
-pair_at-swapped own other p q = pair_of-swapped (record { addr = own; port = p }) (record { addr = other; port = q })
 
 -- Tests of addresses, endpoints and pairs.
 
@@ -60,28 +51,6 @@ same_pair-true a b e =
     let second : a.second ≡ b.second = same_end-true a.second b.second parts.1 in
     ap (λ x. let y : Pair = record { first = x; second = a.second } in y) first ∙ ap (λ x. let y : Pair = record { first = b.first; second = x } in y) second
 
--- a pair of two different hosts names its ports
-pub pair_at-injective : (own other : Addr) (p q p' q' : ℕ) → same_addr own other ≡ false → pair_at own other p q ≡ pair_at own other p' q' → (p ≡ p') × (q ≡ q')
-pair_at-injective own other p q p' q' apart = step (is_le (endpoint_cmp (here p) (there q))) (is_le (endpoint_cmp (here p') (there q')))
-  where
-    here : ℕ → Endpoint
-    here n = record { addr = own; port = n }
-
-    there : ℕ → Endpoint
-    there n = record { addr = other; port = n }
-
-    mixed : (m n : ℕ) → here m ≡ there n → (p ≡ p') × (q ≡ q')
-    mixed m n same = let bad : true ≡ false = sym (same_addr-same own other (ap (λ x. x.addr) same)) ∙ apart in cc
-
-    step : (b c : Bool)
-        → ◌≡◌ {A = Pair} (cond b (record { first = here p; second = there q }) (record { first = there q; second = here p }))
-        (cond c (record { first = here p'; second = there q' }) (record { first = there q'; second = here p' }))
-        → (p ≡ p') × (q ≡ q')
-    step true true e = (ap (λ x. x.first.port) e, ap (λ x. x.second.port) e)
-    step true false e = mixed p q' (ap (λ x. x.first) e)
-    step false true e = mixed p' q (sym (ap (λ x. x.first) e))
-    step false false e = (ap (λ x. x.second.port) e, ap (λ x. x.first.port) e)
-
 -- Who holds a pair.
 
 -- a connection that is not CLOSED is one of its pair
@@ -99,59 +68,45 @@ joins-own c l live = step (is_le (endpoint_cmp c.local c.peer))
     step true = ap (λ b. b || is_live_between c.peer c.local (Connected c l)) own
     step false = second (is_live_between c.peer c.local (Connected c l)) (is_live_between c.local c.peer (Connected c l)) own
 
--- a role with a connection from our address to the neighbour's
-abbrev pub IsOurs : Addr → Addr → Role → Type 0
-IsOurs own other (Connected c listener) = (c.local.addr ≡ own) × (c.peer.addr ≡ other)
-IsOurs own other (Listener local backlog) = Unit {0}
-IsOurs own other (Idle buffers bound) = Unit {0}
+-- a role with a connection from our address
+abbrev pub IsOurs : Addr → Role → Type 0
+IsOurs own (Connected c listener) = c.local.addr ≡ own
+IsOurs own (Listener local backlog) = Unit {0}
+IsOurs own (Idle buffers bound) = Unit {0}
 
--- a connection of ours lies not from the neighbour to us
-not_reversed : (own other : Addr) (p q : ℕ) (r : Role) → same_addr own other ≡ false → IsOurs own other r
-    → is_live_between (record { addr = other; port = q }) (record { addr = own; port = p }) r ≡ false
-not_reversed own other p q (Connected c l) apart k =
-    let local : same_addr c.local.addr other ≡ false = ap (λ a. same_addr a other) k.0 ∙ apart in
-    and_right (not (is_closed c.state)) ((same_addr c.local.addr other && (c.local.port == q)) && (same_addr c.peer.addr own && (c.peer.port == p)))
-    (ap (λ b. (b && (c.local.port == q)) && (same_addr c.peer.addr own && (c.peer.port == p))) local)
-not_reversed own other p q (Listener local backlog) apart k = refl
-not_reversed own other p q (Idle buffers bound) apart k = refl
+-- a connection of ours lies not from another address to us
+not_reversed : (local peer : Endpoint) (r : Role) → same_addr local.addr peer.addr ≡ false → IsOurs local.addr r → is_live_between peer local r ≡ false
+not_reversed local peer (Connected c l) apart ours =
+    let other : same_addr c.local.addr peer.addr ≡ false = ap (λ a. same_addr a peer.addr) ours ∙ apart in
+    and_right (not (is_closed c.state)) ((same_addr c.local.addr peer.addr && (c.local.port == peer.port)) && (same_addr c.peer.addr local.addr && (c.peer.port == local.port)))
+    (ap (λ b. (b && (c.local.port == peer.port)) && (same_addr c.peer.addr local.addr && (c.peer.port == local.port))) other)
+not_reversed local peer (Listener bound backlog) apart ours = refl
+not_reversed local peer (Idle buffers bound) apart ours = refl
 
 -- a role of ours is of the pair just where it lies between the two ends
-pub joins-between : (own other : Addr) (p q : ℕ) (r : Role) → same_addr own other ≡ false → IsOurs own other r
-    → joins (pair_at own other p q) r ≡ is_live_between (record { addr = own; port = p }) (record { addr = other; port = q }) r
-joins-between own other p q r apart ours = step (is_le (endpoint_cmp here there)) (is_live_between here there r) refl
+pub joins-between : (local peer : Endpoint) (r : Role) → same_addr local.addr peer.addr ≡ false → IsOurs local.addr r → joins (pair_of local peer) r ≡ is_live_between local peer r
+joins-between local peer r apart ours = step (is_le (endpoint_cmp local peer)) (is_live_between local peer r) refl
   where
-    here : Endpoint
-    here = record { addr = own; port = p }
+    wrong : is_live_between peer local r ≡ false
+    wrong = not_reversed local peer r apart ours
 
-    there : Endpoint
-    there = record { addr = other; port = q }
+    step : (b c : Bool) → is_live_between local peer r ≡ c → joins (cond b (record { first = local; second = peer }) (record { first = peer; second = local })) r ≡ c
+    step true true is = ap (λ x. x || is_live_between peer local r) is
+    step true false is = ap (λ x. x || is_live_between peer local r) is ∙ wrong
+    step false c is = ap (λ x. x || is_live_between local peer r) wrong ∙ is
 
-    wrong : is_live_between there here r ≡ false
-    wrong = not_reversed own other p q r apart ours
-
-    step : (b c : Bool) → is_live_between here there r ≡ c → joins (cond b (record { first = here; second = there }) (record { first = there; second = here })) r ≡ c
-    step true true is = ap (λ x. x || is_live_between there here r) is
-    step true false is = ap (λ x. x || is_live_between there here r) is ∙ wrong
-    step false c is = ap (λ x. x || is_live_between here there r) wrong ∙ is
-
--- where none lies between the two ends, none holds their pair
-pub unheld-between : (own other : Addr) (p q : ℕ) (xs : List Entry) → same_addr own other ≡ false → AreSole xs → ((i : ℕ) (r : Role) → role_at xs i ≡ Some r → IsOurs own other r)
-    → find (is_between (record { addr = own; port = p }) (record { addr = other; port = q })) xs ≡ None → find (is_of_pair (pair_at own other p q)) xs ≡ None
-unheld-between own other p q xs apart sole ours none = decide (find (is_of_pair (pair_at own other p q)) xs) refl
+-- where none lies between our end and another address's, none holds their pair
+pub unheld-between : (local peer : Endpoint) (xs : List Entry) → same_addr local.addr peer.addr ≡ false → AreSole xs → ((i : ℕ) (r : Role) → role_at xs i ≡ Some r → IsOurs local.addr r)
+    → find (is_between local peer) xs ≡ None → find (is_of_pair (pair_of local peer)) xs ≡ None
+unheld-between local peer xs apart sole ours none = decide (find (is_of_pair (pair_of local peer)) xs) refl
   where
-    here : Endpoint
-    here = record { addr = own; port = p }
-
-    there : Endpoint
-    there = record { addr = other; port = q }
-
-    decide : (o : Option Entry) → find (is_of_pair (pair_at own other p q)) xs ≡ o → o ≡ None
+    decide : (o : Option Entry) → find (is_of_pair (pair_of local peer)) xs ≡ o → o ≡ None
     decide None at = refl
     decide (Some e) at =
-        let role = found-role (is_of_pair (pair_at own other p q)) xs e sole at in
-        let between = joins-between own other p q e.role apart (ours e.id.0 e.role role) in
-        let passes = find-passes (is_of_pair (pair_at own other p q)) xs e at in
-        let bad : true ≡ false = sym passes ∙ (between ∙ none-role (is_live_between here there) xs e.id.0 e.role none role) in
+        let role = found-role (is_of_pair (pair_of local peer)) xs e sole at in
+        let between = joins-between local peer e.role apart (ours e.id.0 e.role role) in
+        let passes = find-passes (is_of_pair (pair_of local peer)) xs e at in
+        let bad : true ≡ false = sym passes ∙ (between ∙ none-role (is_live_between local peer) xs e.id.0 e.role none role) in
         cc
 
 -- where none holds a pair, each of its connections is CLOSED
@@ -165,7 +120,7 @@ unheld-closed xs pair i c l none at same = decide (is_closed c.state) refl
         cc
 
 -- a host without a holder of a pair
-pub unheld : (h : HostView) (pair : Pair) → holder_id h pair ≡ None → find (is_of_pair pair) h.entries ≡ None
+pub unheld : (h : SocketsView) (pair : Pair) → holder_id h pair ≡ None → find (is_of_pair pair) h.entries ≡ None
 unheld h pair = decide (find (is_of_pair pair) h.entries)
   where
     decide : (o : Option Entry) → option_map (λ (e : Entry). e.id) o ≡ None → o ≡ None

@@ -8,13 +8,13 @@ use Rattle.ipv4.specs.declared.addr.Addr.{Addr}
 use Rattle.ipv4.specs.declared.addr.Pair.{Pair}
 use Rattle.ipv4.specs.Addresses.{pair_of, same_addr}
 use Rattle.tcp_state.specs.View.{View, is_closed}
-use Rattle.host.specs.declared.entry.SocketId.{SocketId}
-use Rattle.host.specs.declared.entry.Entry.{Entry}
-use Rattle.host.specs.declared.role.Role.{Role}
-use Rattle.host.specs.declared.role.Role.TheVariants.{Idle, Listener, Connected}
+use Rattle.sockets.specs.declared.entry.SocketId.{SocketId}
+use Rattle.sockets.specs.declared.entry.Entry.{Entry}
+use Rattle.sockets.specs.declared.role.Role.{Role}
+use Rattle.sockets.specs.declared.role.Role.TheVariants.{Idle, Listener, Connected}
 use Rattle.tcp_state.specs.declared.connection.Fate.{Fate}
-use Rattle.host.specs.Entries.{is_kept, entries_after_step, entries_after_steps, with_role}
-use Rattle.host.specs.Lists.{change_first, remove_first}
+use Rattle.sockets.specs.Entries.{is_kept, entries_after_step, entries_after_steps, with_role}
+use Rattle.sockets.specs.Lists.{change_first, remove_first}
 use Rattle.stream_law.specs.Pairing.{Presence, Present, Departed, End, nothing_yet}
 use Rattle.wire_sim.specs.declared.event.Side.{Side}
 use Rattle.wire_sim.specs.declared.event.Opening.{Opening}
@@ -179,29 +179,28 @@ pub record IsLedger (os : List Opening) : Type 0 where
   pub by_epoch : (side : Side) (pair : Pair) (epoch : ℕ) → IsSole (is_opening_of side pair epoch) os
   pub past : (side : Side) (pair : Pair) (epoch : ℕ) → epoch_of os pair < epoch → find (is_opening_of side pair epoch) os ≡ None
 
--- a connection from our address to the neighbour's, by an opening of its pair; where it is not CLOSED, in the pair's present epoch
-pub record IsOpened (side : Side) (own other : Addr) (os : List Opening) (id : SocketId) (c : View) : Type 0 where
+-- a connection from our address, whatever its peer's is, by an opening of its pair; where it is not CLOSED, in the pair's present epoch
+pub record IsOpened (side : Side) (own : Addr) (os : List Opening) (id : SocketId) (c : View) : Type 0 where
   pub local : c.local.addr ≡ own
-  pub peer : c.peer.addr ≡ other
   pub opening : Opening
   pub at : find (is_opening_at side id) os ≡ Some opening
   pub pair : opening.pair ≡ pair_of c.local c.peer
   pub present : is_closed c.state ≡ false → opening.epoch ≡ epoch_of os opening.pair
 
 -- an entry without a connection opened none
-abbrev pub IsNoted : Side → Addr → Addr → List Opening → SocketId → Role → Type 0
-IsNoted side own other os id (Connected c listener) = IsOpened side own other os id c
-IsNoted side own other os id (Listener local backlog) = find (is_opening_at side id) os ≡ None
-IsNoted side own other os id (Idle buffers bound) = find (is_opening_at side id) os ≡ None
+abbrev pub IsNoted : Side → Addr → List Opening → SocketId → Role → Type 0
+IsNoted side own os id (Connected c listener) = IsOpened side own os id c
+IsNoted side own os id (Listener local backlog) = find (is_opening_at side id) os ≡ None
+IsNoted side own os id (Idle buffers bound) = find (is_opening_at side id) os ≡ None
 
 -- an id that is to come, or has an entry
 abbrev pub MayOpen : ℕ → List Entry → SocketId → Type 0
 MayOpen last xs id = (last < id.0) ⊎ ((r : Role) × (role_at xs id.0 ≡ Some r))
 
-pub record IsTable (side : Side) (own other : Addr) (last : ℕ) (xs : List Entry) (os : List Opening) (told : Told) : Type 0 where
+pub record IsTable (side : Side) (own : Addr) (last : ℕ) (xs : List Entry) (os : List Opening) (told : Told) : Type 0 where
   pub sole : AreSole xs
   pub bound : (id : SocketId) (r : Role) → role_at xs id.0 ≡ Some r → id.0 ≤ last
-  pub noted : (id : SocketId) (r : Role) → role_at xs id.0 ≡ Some r → IsNoted side own other os id r
+  pub noted : (id : SocketId) (r : Role) → role_at xs id.0 ≡ Some r → IsNoted side own os id r
   -- ids to come have no opening yet, and what has none, is to come or stands in the table, was told nothing
   pub later : (id : SocketId) → last < id.0 → find (is_opening_at side id) os ≡ None
   pub silent : (id : SocketId) → find (is_opening_at side id) os ≡ None → MayOpen last xs id → told id ≡ untold

@@ -2,10 +2,10 @@
 use Rattle.std.proofs.Common.{◌≡◌, ℕ, List, Some, None, refl}
 use Rattle.ipv4.specs.declared.addr.Addr.{Addr}
 use Rattle.ipv4.specs.declared.addr.Endpoint.{Endpoint}
-use Rattle.host.specs.declared.entry.SocketId.{SocketId}
-use Rattle.host.specs.declared.role.Role.{Role}
-use Rattle.host.specs.declared.role.Role.TheVariants.{Idle, Listener, Connected}
-use Rattle.host.specs.Entries.{role_after_bind, role_after_listen, role_after_accept}
+use Rattle.sockets.specs.declared.entry.SocketId.{SocketId}
+use Rattle.sockets.specs.declared.role.Role.{Role}
+use Rattle.sockets.specs.declared.role.Role.TheVariants.{Idle, Listener, Connected}
+use Rattle.sockets.specs.Entries.{role_after_bind, role_after_listen, role_after_accept}
 use Rattle.wire_sim.specs.declared.event.Side.{Side}
 use Rattle.wire_sim.specs.declared.event.Opening.{Opening}
 use Rattle.wire_sim.proofs.tables.TableById.{presence_in, IsNoted}
@@ -13,7 +13,7 @@ use Rattle.wire_sim.proofs.tables.TableById.{presence_in, IsNoted}
 -- what is seen of the connection, and what is noted, stays
 pub record IsQuiet (g : Role → Role) : Type 0 where
   pub seen : (r : Role) → presence_in (Some (g r)) ≡ presence_in (Some r)
-  pub noted : (side : Side) (own other : Addr) (os : List Opening) (id : SocketId) (r : Role) → IsNoted side own other os id r → IsNoted side own other os id (g r)
+  pub noted : (side : Side) (own : Addr) (os : List Opening) (id : SocketId) (r : Role) → IsNoted side own os id r → IsNoted side own os id (g r)
 
 pub quiet_bound_to : (local : Endpoint) → IsQuiet (role_after_bind local)
 quiet_bound_to local = record { seen = seen; noted = noted }
@@ -23,10 +23,10 @@ quiet_bound_to local = record { seen = seen; noted = noted }
     seen (Listener x y) = refl
     seen (Idle b bound) = refl
 
-    noted : (side : Side) (own other : Addr) (os : List Opening) (id : SocketId) (r : Role) → IsNoted side own other os id r → IsNoted side own other os id (role_after_bind local r)
-    noted side own other os id (Connected c w) k = k
-    noted side own other os id (Listener x y) k = k
-    noted side own other os id (Idle b bound) k = k
+    noted : (side : Side) (own : Addr) (os : List Opening) (id : SocketId) (r : Role) → IsNoted side own os id r → IsNoted side own os id (role_after_bind local r)
+    noted side own os id (Connected c w) k = k
+    noted side own os id (Listener x y) k = k
+    noted side own os id (Idle b bound) k = k
 
 pub quiet_listening : (backlog : ℕ) → IsQuiet (role_after_listen backlog)
 quiet_listening backlog = record { seen = seen; noted = noted }
@@ -37,11 +37,11 @@ quiet_listening backlog = record { seen = seen; noted = noted }
     seen (Idle b (Some x)) = refl
     seen (Idle b None) = refl
 
-    noted : (side : Side) (own other : Addr) (os : List Opening) (id : SocketId) (r : Role) → IsNoted side own other os id r → IsNoted side own other os id (role_after_listen backlog r)
-    noted side own other os id (Connected c w) k = k
-    noted side own other os id (Listener x y) k = k
-    noted side own other os id (Idle b (Some x)) k = k
-    noted side own other os id (Idle b None) k = k
+    noted : (side : Side) (own : Addr) (os : List Opening) (id : SocketId) (r : Role) → IsNoted side own os id r → IsNoted side own os id (role_after_listen backlog r)
+    noted side own os id (Connected c w) k = k
+    noted side own os id (Listener x y) k = k
+    noted side own os id (Idle b (Some x)) k = k
+    noted side own os id (Idle b None) k = k
 
 pub quiet_accepted : IsQuiet role_after_accept
 quiet_accepted = record { seen = seen; noted = noted }
@@ -51,7 +51,7 @@ quiet_accepted = record { seen = seen; noted = noted }
     seen (Listener x y) = refl
     seen (Idle b bound) = refl
 
-    noted : (side : Side) (own other : Addr) (os : List Opening) (id : SocketId) (r : Role) → IsNoted side own other os id r → IsNoted side own other os id (role_after_accept r)
-    noted side own other os id (Connected c w) k = k
-    noted side own other os id (Listener x y) k = k
-    noted side own other os id (Idle b bound) k = k
+    noted : (side : Side) (own : Addr) (os : List Opening) (id : SocketId) (r : Role) → IsNoted side own os id r → IsNoted side own os id (role_after_accept r)
+    noted side own os id (Connected c w) k = k
+    noted side own os id (Listener x y) k = k
+    noted side own os id (Idle b bound) k = k

@@ -1,6 +1,6 @@
 //! A world: two hosts and all that happened to them.
 
-ghost use Rattle.std.specs.Prelude.{◌≡◌, ◌<◌, ◌≤◌, ◌+◌, true, false, [], ◌∷◌, ◌++◌, length, take, drop, ◌^◌, ◌↔◌, vec_len, vec_capacity, None, IsOk, OnOk, OnErr, IfOk, IfErr, MatchOption};
+ghost use Rattle.std.specs.Prelude.{◌≡◌, ◌⊎◌, ◌<◌, ◌≤◌, ◌+◌, true, false, [], ◌∷◌, ◌++◌, length, take, drop, ◌^◌, ◌↔◌, vec_len, vec_capacity, None, IsOk, OnOk, OnErr, IfOk, IfErr, MatchOption};
 ghost use Rattle.wire_sim.specs.declared.event.Answer.{Answer};
 ghost use Rattle.wire_sim.specs.Steps.{event_recv_len, is_emission};
 ghost use Rattle.wire_sim.specs.WorldView.{network_view};
@@ -21,7 +21,7 @@ use std::marker::Model;
 /// By how many octets an end's writing has grown when a frame that went out before is stale.
 const LIMIT: u64 = 1 << 30;
 
-/// Two hosts, each the other's neighbour, the frames that they emitted, and all that happened.
+/// Two hosts, the frames that they emitted, and all that happened.
 #[derive(Drop)]
 pub struct World {
     alloc: Global,
@@ -54,10 +54,10 @@ impl World {
     ghost use Rattle.wire_sim.specs.WorldRoom.{HasRoom, IsPlain, KeepsRoom};
     ghost use Rattle.wire_sim.specs.WorldView.{SameAnswer, fresh_world};
 
-    /// Two hosts that know each other, no frames, and nothing happened. SameAddress where both have one address, and no other fault: a fresh
-    /// world takes no memory.
+    /// Two hosts on one link that have heard nothing of each other, no frames, and nothing happened. SameAddress where both have one address or one MAC,
+    /// and no other fault: a fresh world takes no memory.
     pub fn new(alloc: Global, a: Config, b: Config) -> Result<World, WorldFault>
-        ensures same { (result ≡ Err WorldFault.SameAddress) ↔ (a ≡ b) }
+        ensures same { (result ≡ Err WorldFault.SameAddress) ↔ ((a.addr ≡ b.addr) ⊎ (a.mac ≡ b.mac)) }
         ensures fault { IfErr result (λ fault. fault ≡ WorldFault.SameAddress) }
         ensures fresh { IfOk result (λ world. world.seen ≡ fresh_world a b (2 ^ 30)) }
         ensures reached { IfOk result (λ world. IsReached (2 ^ 30) world.seen) }
@@ -69,13 +69,13 @@ impl World {
     /// As `new`, where a frame is stale once an end has written `limit` octets or more since it went out.
     pub fn with_limit(alloc: Global, a: Config, b: Config, limit: u64) -> Result<World, WorldFault>
         requires { (1 ≤ limit) × (limit ≤ 2 ^ 30) }
-        ensures same { (result ≡ Err WorldFault.SameAddress) ↔ (a ≡ b) }
+        ensures same { (result ≡ Err WorldFault.SameAddress) ↔ ((a.addr ≡ b.addr) ⊎ (a.mac ≡ b.mac)) }
         ensures fault { IfErr result (λ fault. fault ≡ WorldFault.SameAddress) }
         ensures fresh { IfOk result (λ world. world.seen ≡ fresh_world a b limit) }
         ensures reached { IfOk result (λ world. IsReached limit world.seen) }
         ensures lawful { IfOk result (λ world. StreamLaw world.seen.trace world.seen.network.openings) }
     {
-        if a.addr() == b.addr() {
+        if a.addr() == b.addr() || a.mac() == b.mac() {
             return Err(WorldFault::SameAddress);
         }
         Ok(World {

@@ -11,12 +11,13 @@ use super::station::Station;
 use crate::event::{Answer, Call, Event, Opening, Side, Unfair};
 use crate::room::{MOST_FRAME, filled};
 use clock::Moment;
+use frames::pair_in;
 use host::{Config, SocketId};
 use ipv4::{Endpoint, Pair};
 use std::alloc::{AllocError, Global};
 use tcp_segment::Seq;
 
-/// Two hosts, each the other's neighbour, the frames that they emitted, and the openings.
+/// Two hosts, the frames that they emitted, and the openings.
 #[derive(Drop)]
 pub(super) struct Network {
     limit: u64,
@@ -29,11 +30,11 @@ pub(super) struct Network {
 impl Network {
     ghost use Rattle.wire_sim.specs.Steps.{Steps, with_opening, note_of, call_recv_len, event_recv_len, is_emission};
     ghost use Rattle.wire_sim.specs.Sides.{other_side};
-    ghost use Rattle.host.specs.HostView.{holder_id};
+    ghost use Rattle.sockets.specs.SocketsView.{holder_id};
     ghost use Rattle.wire_sim.specs.Runs.{IsNumbered, IsNumberedCall};
-    ghost use Rattle.host.specs.Pairs.{due_pair};
+    ghost use Rattle.frames.specs.Pairs.{pair_in};
     ghost use Rattle.wire_sim.specs.Openings.{epoch_connected, opened_by_connect};
-    ghost use Rattle.wire_sim.specs.WorldView.{network_view, station_of, host_of, written_at, fresh_network, octets_len};
+    ghost use Rattle.wire_sim.specs.WorldView.{network_view, station_of, host_of, table_of, written_at, fresh_network, octets_len};
     ghost use Rattle.wire_sim.specs.Fairness.{unfair_counted};
     ghost use Rattle.wire_sim.specs.WorldRoom.{network_room, KeepsNetworkRoom};
     ghost use Rattle.host.specs.Sound.{IsSoundHost};
@@ -44,8 +45,8 @@ impl Network {
     {
         Network {
             limit,
-            a: Station::new(alloc, a, b.addr()),
-            b: Station::new(alloc, b, a.addr()),
+            a: Station::new(alloc, a),
+            b: Station::new(alloc, b),
             bag: Vec::new(alloc),
             ledger: Ledger::new(alloc),
         }
@@ -70,7 +71,7 @@ impl Network {
 
     /// The epoch that a connect of a side's host opens a pair in: the next one, but where the other host holds the pair.
     fn epoch_connected(&self, side: Side, pair: Pair) -> u64
-        ensures value { result ≡ epoch_connected self.now.ledger.openings.items (host_of (network_view self.now) (other_side side)) pair }
+        ensures value { result ≡ epoch_connected self.now.ledger.openings.items (table_of (network_view self.now) (other_side side)) pair }
         ensures bound { result ≤ vec_len self.now.ledger.openings + 1 }
     {
         let epoch = self.ledger.epoch(pair);
@@ -164,7 +165,7 @@ impl Network {
         requires openings { vec_len self.old.ledger.openings < vec_capacity self.old.ledger.openings }
         requires written { vec_len self.old.ledger.written < vec_capacity self.old.ledger.written }
         ensures opened { network_view self.new ≡ with_opening (network_view self.old)
-            (opened_by_connect self.old.ledger.openings.items side id place (host_of (network_view self.old) side) (host_of (network_view self.old) (other_side side))) }
+            (opened_by_connect self.old.ledger.openings.items side id place (table_of (network_view self.old) side) (table_of (network_view self.old) (other_side side))) }
         ensures room { network_room self.new ≡ network_room self.old }
     {
         let Some(pair) = self.station(side).pair_of(id) else {
@@ -189,7 +190,6 @@ impl Network {
         ensures step { Steps (Event.Emit side) 0 result (network_view self.old) (network_view self.new) }
         ensures room { network_room self.new ≡ network_room self.old }
     {
-        let note = self.note_of(side);
         let mut out = [0; MOST_FRAME];
         let emitted = match side {
             Side::A => self.a.next_frame(&mut out),
@@ -199,6 +199,7 @@ impl Network {
             return Answer::NoFrame;
         };
         let octets = front(octets, &out, len);
+        let note = self.note_of(octets.as_slice());
         let index = self.bag.len();
         self.bag.push_reserved(Frame {
             sender: side,
@@ -208,11 +209,11 @@ impl Network {
         Answer::Frame { index, len }
     }
 
-    /// What is noted of the frame that `sender` emits now.
-    fn note_of(&self, sender: Side) -> Option<Note>
-        ensures { result ≡ option_map (note_of (network_view self.now)) (due_pair (host_of (network_view self.now) sender)) }
+    /// What is noted of a frame that goes out now, where it carries a segment.
+    fn note_of(&self, frame: &[u8]) -> Option<Note>
+        ensures { result ≡ option_map (note_of (network_view self.now)) (pair_in frame.now) }
     {
-        let pair = self.station(sender).due_pair()?;
+        let pair = pair_in(frame)?;
         let epoch = self.ledger.epoch(pair);
         Some(Note {
             pair,
@@ -255,7 +256,7 @@ impl Network {
 
     /// The entry by which a side's host holds the pair of a frame.
     fn holder(&self, side: Side, note: Option<Note>) -> Option<SocketId>
-        ensures { result ≡ option_and_then (λ note. holder_id (host_of (network_view self.now) side) note.pair) note }
+        ensures { result ≡ option_and_then (λ note. holder_id (table_of (network_view self.now) side) note.pair) note }
     {
         self.station(side).holder(note?.pair)
     }

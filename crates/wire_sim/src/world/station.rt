@@ -3,13 +3,13 @@
 ghost use Rattle.std.specs.Prelude.{◌≡◌, ◌<◌, ◌≤◌, IfSome, OnSome, IfNone, vec_len, MatchResult};
 ghost use Rattle.wire_sim.specs.WorldView.{octets_len};
 ghost use Rattle.std.specs.Result.{ForOk};
-ghost use Rattle.host.specs.Calls.{recv_answer};
+ghost use Rattle.sockets.specs.Calls.{recv_answer};
 ghost use Rattle.wire_sim.specs.Steps.{MeetsReceived};
 
 use crate::event::{Answer, Call};
 use clock::Moment;
 use host::{Config, Host, Refusal, SocketId};
-use ipv4::{Addr, Endpoint, Pair};
+use ipv4::{Endpoint, Pair};
 use std::alloc::Global;
 use tcp_segment::Seq;
 use tcp_state::Received;
@@ -22,22 +22,22 @@ pub(super) struct Station {
 }
 
 impl Station {
-    ghost use Rattle.host.specs.HostView.{holder_id};
+    ghost use Rattle.sockets.specs.SocketsView.{holder_id};
     ghost use Rattle.host.specs.Emission.{emission_len, emission_front, after_emission};
     ghost use Rattle.wire_sim.specs.WorldView.{fresh_station};
-    ghost use Rattle.wire_sim.specs.Steps.{station_after_tick, call_recv_len, MeetsCall, MeetsFrame};
-    ghost use Rattle.host.specs.Pairs.{socket_pair, due_pair};
-    ghost use Rattle.host.specs.Calls.{pair_connected};
-    ghost use Rattle.wire_sim.specs.Fairness.{pair_foreseen};
+    ghost use Rattle.wire_sim.specs.Steps.{station_after_tick, call_recv_len, HostMeetsCall, MeetsFrame};
+    ghost use Rattle.sockets.specs.Pairs.{socket_pair};
+    ghost use Rattle.host.specs.Arrival.{foreseen};
+    ghost use Rattle.wire_sim.specs.Fairness.{pair_to_connect};
     ghost use Rattle.host.specs.Sound.{IsSoundHost};
     ghost use Rattle.wire_sim.specs.Runs.{IsNumberedCall};
 
     /// A host whose clock stands at 0.
-    pub(super) fn new(alloc: Global, config: Config, neighbour: Addr) -> Station
-        ensures { result ≡ fresh_station config neighbour }
+    pub(super) fn new(alloc: Global, config: Config) -> Station
+        ensures { result ≡ fresh_station config }
     {
         Station {
-            host: Host::new(alloc, config, neighbour),
+            host: Host::new(alloc, config),
             clock: Moment(0),
         }
     }
@@ -46,7 +46,7 @@ impl Station {
     pub(super) fn call(&mut self, call: &Call, buffer: Vec<u8>) -> Answer
         requires { vec_len buffer ≡ call_recv_len call.now }
         ensures octets { octets_len result ≤ vec_len buffer }
-        ensures answer { MeetsCall call.now self.old.host result self.new.host }
+        ensures answer { HostMeetsCall call.now self.old.host result self.new.host }
         ensures numbered { IsNumberedCall call.now }
         ensures clock { self.new.clock ≡ self.old.clock }
     {
@@ -87,9 +87,9 @@ impl Station {
 
     /// Writes the frame that is due into `out`, and answers its length.
     pub(super) fn next_frame(&mut self, out: &mut [u8; 1514]) -> Option<usize>
-        ensures answer { result ≡ emission_len self.old.host }
+        ensures answer { result ≡ emission_len self.old.host self.old.clock }
         ensures bound { IfSome result (λ len. len ≤ 1514) }
-        ensures front { out.new ≡ emission_front self.old.host out.old }
+        ensures front { out.new ≡ emission_front self.old.host self.old.clock out.old }
         ensures after { OnSome result (self.new ≡ record self.old { host = after_emission self.old.host self.old.clock }) }
         ensures none { IfNone result (self.new ≡ self.old) }
     {
@@ -98,35 +98,28 @@ impl Station {
 
     /// The entry that holds a pair.
     pub(super) fn holder(&self, pair: Pair) -> Option<SocketId>
-        ensures { result ≡ holder_id self.now.host pair }
+        ensures { result ≡ holder_id self.now.host.sockets pair }
     {
         self.host.holds(pair)
     }
 
     /// The pair of the connection of the socket `id`.
     pub(super) fn pair_of(&self, id: SocketId) -> Option<Pair>
-        ensures { result ≡ socket_pair self.now.host id }
+        ensures { result ≡ socket_pair self.now.host.sockets id }
     {
         self.host.pair_of(id)
     }
 
-    /// The pair of the connection whose segment is due.
-    pub(super) fn due_pair(&self) -> Option<Pair>
-        ensures { result ≡ due_pair self.now.host }
-    {
-        self.host.due_pair()
-    }
-
     /// The pair that a connect of the socket `id` to `peer` would open.
     pub(super) fn would_connect(&self, id: SocketId, peer: Endpoint) -> Option<Pair>
-        ensures { result ≡ pair_connected self.now.host id peer }
+        ensures { result ≡ pair_to_connect self.now.host id peer }
     {
         self.host.would_connect(id, peer)
     }
 
     /// The pair that a frame would open, if memory were there.
     pub(super) fn would_open(&self, frame: &[u8]) -> Option<Pair>
-        ensures { result ≡ pair_foreseen self.now.host frame.now }
+        ensures { result ≡ foreseen self.now.host frame.now }
     {
         self.host.would_open(frame)
     }
@@ -165,7 +158,8 @@ fn answered<T, F: FnOnce(T) -> Answer>(outcome: Result<T, Refusal>, answer: F) -
 /// Reads octets of the socket `id` into `buffer`.
 fn received(host: &mut Host, id: SocketId, mut buffer: Vec<u8>) -> Answer
     ensures octets { octets_len result ≤ vec_len buffer }
-    ensures answer { MeetsReceived host.old id (vec_len buffer) (recv_answer host.old id (vec_len buffer)) result host.new }
+    ensures answer { MeetsReceived host.old.sockets id (vec_len buffer) (recv_answer host.old.sockets id (vec_len buffer)) result host.new.sockets }
+    ensures others { host.new ≡ record host.old { sockets = host.new.sockets } }
 {
     match host.recv(id, buffer.as_mut_slice()) {
         Ok(Received::Octets(len)) => {

@@ -1,5 +1,5 @@
-use Rattle.host.proofs.Deadlines.{least_found, none_found}
+use Rattle.host.proofs.Waiting.{deadline-come}
 use Rattle.host.proofs.laws.deadline_is_the_least.Goals as goal
 
 pub returns : goal.returns
-returns c = record { some = least_found; none = none_found }
+returns c = deadline-come

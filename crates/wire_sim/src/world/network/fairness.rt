@@ -11,8 +11,8 @@ use ipv4::{Endpoint, Pair};
 use tcp_segment::Seq;
 
 impl Network {
-    ghost use Rattle.host.specs.Calls.{pair_connected};
-    ghost use Rattle.wire_sim.specs.Fairness.{unfair_counted, unfair_call, late_note, second_in, second_by_frame, second_by_connect, pair_foreseen, is_stale};
+    ghost use Rattle.host.specs.Arrival.{foreseen};
+    ghost use Rattle.wire_sim.specs.Fairness.{unfair_counted, unfair_call, late_note, second_in, second_by_frame, second_by_connect, pair_to_connect, is_stale};
     ghost use Rattle.wire_sim.specs.WorldView.{network_view, host_of, written_at};
 
     /// Whether the host that an event names may take it.
@@ -38,7 +38,7 @@ impl Network {
 
     /// Whether the host of `side` may open the pair that a connect of the socket `id` to `peer` would open.
     fn may_connect(&self, side: Side, id: SocketId, peer: Endpoint) -> Result<(), Unfair>
-        ensures { result_err result ≡ second_by_connect (network_view self.now) side (pair_connected (host_of (network_view self.now) side) id peer) }
+        ensures { result_err result ≡ second_by_connect (network_view self.now) side (pair_to_connect (host_of (network_view self.now) side) id peer) }
     {
         match self.station(side).would_connect(id, peer) {
             Some(pair) => self.may_open(side, pair, self.epoch_connected(side, pair)),
@@ -48,7 +48,7 @@ impl Network {
 
     /// Whether the host of `side` may open the pair that the frame would open.
     fn may_open_by(&self, side: Side, frame: &[u8]) -> Result<(), Unfair>
-        ensures { result_err result ≡ second_by_frame (network_view self.now) side (pair_foreseen (host_of (network_view self.now) side) frame.now) }
+        ensures { result_err result ≡ second_by_frame (network_view self.now) side (foreseen (host_of (network_view self.now) side) frame.now) }
     {
         match self.station(side).would_open(frame) {
             Some(pair) => self.may_open(side, pair, self.ledger.epoch(pair)),

@@ -1,5 +1,7 @@
 -- The host at hand wrote the frame, and it was put behind the others.
-use Rattle.std.proofs.Common.{◌≡◌, length, refl, ap, rules}
+use Rattle.std.proofs.Common.{◌≡◌, ◌∙◌, length, option_map, refl, ap, rules}
+use Rattle.frames.specs.Pairs.{pair_in}
+use Rattle.wire_sim.specs.Steps.{note_of}
 use Rattle.wire_sim.specs.declared.event.Side.TheVariants.{A, B}
 use Rattle.wire_sim.specs.declared.world.bag.Frame.{Frame}
 use Rattle.wire_sim.specs.WorldView.{network_view}
@@ -21,4 +23,4 @@ returns-clause-step c =
     ]
     in
     let place : c.len-index.result ≡ length c.match-side.self.bag.items = search rules in
-    emits_frame c.args.side _ c.in-Some.len c.match-side.out (network_view c.args.self.now) (network_view c.match-side.self) frame _ wrote place refl c.front-octets.ensures c.note_of-note.ensures c.push_reserved.ensures.items
+    emits_frame c.args.side _ c.in-Some.len c.match-side.out (network_view c.args.self.now) (network_view c.match-side.self) frame _ wrote place refl c.front-octets.ensures (c.note_of-note.ensures ∙ ap (λ x. option_map (note_of (network_view c.match-side.self)) (pair_in x)) c.as_slice.ensures.value) c.push_reserved.ensures.items

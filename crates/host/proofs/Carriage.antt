@@ -1,0 +1,268 @@
+-- What goes out carries the segment that is meant, or none.
+use Rattle.std.proofs.Common.{◌≡◌, ◌≢◌, ℕ, zero, suc, ◌+◌, ◌*◌, ◌≤◌, Bool, true, false, cond, List, [], ◌∷◌, length, Option, Some, None, is_some, option_map, option_and_then, Result, Ok, refl, sym, ◌∙◌, ap, subst, arith}
+use Rattle.std.specs.List.{find, position, slice_get, AllByRecursion}
+use Rattle.ether.specs.declared.mac.Mac.{Mac}
+use Rattle.ipv4.specs.declared.addr.Addr.{Addr}
+use Rattle.clock.specs.declared.moment.Moment.{Moment}
+use Rattle.tcp_segment.specs.declared.head.Head.{Head}
+use Rattle.tcp_segment.specs.Segment.{Segment}
+use Rattle.tcp_segment.specs.Sent.{CanBeSent, sent_segment, sent_octets, sent_offset}
+use Rattle.tcp_state.specs.declared.emission.Due.{Due}
+use Rattle.tcp_state.specs.View.{View}
+use Rattle.tcp_state.specs.Due.{first_due, head_of, octets_of as text_of, segment_octets as connection_octets}
+use Rattle.tcp_state.proofs.GoesOut.{due-may}
+use Rattle.frames.specs.declared.drop.DropCause.{DropCause}
+use Rattle.frames.specs.declared.meaning.Meaning.{Meaning}
+use Rattle.frames.specs.declared.meaning.Meaning.TheVariants.{Tcp}
+use Rattle.frames.specs.declared.meaning.Received.{Received}
+use Rattle.frames.specs.Heard.{MaySend}
+use Rattle.frames.specs.Meaning.{heard}
+use Rattle.frames.specs.Pairs.{pair_in, pair_between}
+use Rattle.interface.specs.declared.reply.Reply.{Reply}
+use Rattle.interface.specs.declared.reply.Reply.TheVariants.{Arp, Reset}
+use Rattle.interface.specs.declared.reply.Waiting.{Waiting}
+use Rattle.interface.specs.declared.way.Way.{Way}
+use Rattle.interface.specs.declared.way.Way.TheVariants.{To, Ask, Waits}
+use Rattle.interface.specs.InterfaceView.{InterfaceView}
+use Rattle.interface.specs.Emission.{segment_frame_to, request_frame, reply_frame, frame_by, frame_of_one}
+use Rattle.interface.specs.Replies.{is_due, way_of}
+use Rattle.interface.specs.Sound.{IsSoundReply}
+use Rattle.interface.specs.Ways.{way}
+use Rattle.interface.proofs.Heard.{segment_heard}
+use Rattle.sockets.specs.declared.entry.SocketId.{SocketId}
+use Rattle.sockets.specs.declared.entry.Entry.{Entry}
+use Rattle.sockets.specs.declared.role.Role.{Role}
+use Rattle.sockets.specs.declared.role.Role.TheVariants.{Idle, Listener, Connected}
+use Rattle.sockets.specs.Entries.{due_peer, due_octets, sends}
+use Rattle.sockets.specs.Emission.{segment_octets}
+use Rattle.sockets.specs.Order.{IsOrdered, LiesAt}
+use Rattle.sockets.specs.Sound.{IsSoundConnection, IsSoundRole}
+use Rattle.sockets.specs.SocketsView.{SocketsView, later_moment}
+use Rattle.host.specs.Arrival.{IsDelivered, MeetsHeard, MeetsSegment, segment_arrival}
+use Rattle.host.specs.Carried.{Carried, carried, carried_by, carried_for, carried_reply, due_segment}
+use Rattle.host.specs.Emission.{Emission, Replies, Sends, Asks, Nothing, emission, emission_at, emission_by, emission_from, emission_octets, emission_to, goes_out_from, octets_of}
+use Rattle.host.specs.HostView.{HostView}
+use Rattle.host.specs.Sound.{IsSoundHost}
+use Rattle.host.proofs.DueSegments.{due-can, due-fits}
+use Rattle.host.proofs.Hearing.{heard-nothing, heard-reply, heard-request, heard-segment, pair-nothing, pair-reply, pair-request, pair-segment, way-mac}
+
+-- octets in which nobody hears a segment
+record GoesNone (octets : List ℕ) : Type 0 where
+  pub unheard : (mac : Mac) (ours : Addr) (r : Received) → heard mac ours octets ≡ Ok (Tcp r) → ⊥
+  pub pairless : pair_in octets ≡ None
+
+-- octets that are the frame of this segment
+record Goes (i : InterfaceView) (octets : List ℕ) (c : Carried) : Type 0 where
+  pub head : Head
+  pub text : List ℕ
+  pub is : octets ≡ segment_frame_to i c.mac c.to (sent_octets i.addr c.to head text)
+  pub segment : c.segment ≡ sent_segment head text
+  pub can : CanBeSent i.addr c.to head text
+  pub whole : length c.mac.0 ≡ 6
+  pub fits : 4 * sent_offset head + length text ≤ 1480
+
+abbrev Carry : InterfaceView → List ℕ → Option Carried → Type 0
+Carry i octets None = GoesNone octets
+Carry i octets (Some c) = Goes i octets c
+
+-- Elements of lists of which each is sound.
+
+found-all : {X : Type 0} (P : X → Type 0) (t : X → Bool) (xs : List X) (x : X) → AllByRecursion P xs → find t xs ≡ Some x → P x
+found-all P t [] x all e = cc
+found-all P t (y ∷ ys) x all e = by_test (t y) (found-all P t ys x all.1) e
+  where
+    by_test : (b : Bool) → (find t ys ≡ Some x → P x) → cond b (Some y) (find t ys) ≡ Some x → P x
+    by_test true further e = let same : y ≡ x = cc in subst P same all.0
+    by_test false further e = further e
+
+-- A control reply.
+
+nothing-goes : GoesNone []
+nothing-goes = record { unheard = heard-nothing; pairless = pair-nothing }
+
+request-goes : (i : InterfaceView) (hop : Addr) → length i.mac.0 ≡ 6 → GoesNone (request_frame i hop)
+request-goes i hop own = record { unheard = λ mac ours r. heard-request i hop mac ours r own; pairless = pair-request i hop own }
+
+reset-frame : (i : InterfaceView) (mac : Mac) (to : Addr) (head : Head) → reply_frame i mac (Reset to head) ≡ segment_frame_to i mac to (sent_octets i.addr to head [])
+unfolding reply_frame
+reset-frame i mac to head = refl
+
+offset_most : (b : Bool) → 4 * cond b 6 5 + 0 ≤ 1480
+offset_most true = omega arith
+offset_most false = omega arith
+
+reply-goes : (h : HostView) (moment : Moment) → IsSoundHost h → (reply : Reply) → IsSoundReply h.interface.addr reply → (w : Way) → way_of h.interface moment reply ≡ w
+    → Carry h.interface (frame_by h.interface reply w) (carried_reply reply w)
+reply-goes h moment sound (Arp packet) solid (To theirs) is = record {
+  unheard = λ mac ours r. heard-reply h.interface theirs mac ours packet r solid.sender_mac solid.target_mac;
+  pairless = pair-reply h.interface theirs packet solid.sender_mac solid.target_mac;
+}
+reply-goes h moment sound (Arp packet) solid (Ask hop) is = cc
+reply-goes h moment sound (Arp packet) solid Waits is = cc
+reply-goes h moment sound (Reset to head) solid (To theirs) is = record {
+  head = head;
+  text = [];
+  is = reset-frame h.interface theirs to head;
+  segment = refl;
+  can = solid.sendable;
+  whole = way-mac h.interface moment to theirs sound.interface is;
+  fits = offset_most head.flags.syn;
+}
+reply-goes h moment sound (Reset to head) solid (Ask hop) is = request-goes h.interface hop sound.interface.mac
+reply-goes h moment sound (Reset to head) solid Waits is = nothing-goes
+
+at-all : {X : Type 0} (P : X → Type 0) (xs : List X) (k : ℕ) (x : X) → AllByRecursion P xs → slice_get xs k ≡ Some x → P x
+at-all P [] k x all e = cc
+at-all P (y ∷ ys) zero x all e = let same : y ≡ x = cc in subst P same all.0
+at-all P (y ∷ ys) (suc k) x all e = at-all P ys k x all.1 e
+
+replies-go : (h : HostView) (moment : Moment) (place : ℕ) → IsSoundHost h → Carry h.interface (octets_of h moment (Replies place)) (carried_by h moment (Replies place))
+replies-go h moment place sound = by_place (slice_get h.interface.replies place) refl
+  where
+    by_place : (o : Option Waiting) → slice_get h.interface.replies place ≡ o → Carry h.interface (frame_of_one h.interface moment o) (carried_for h moment o)
+    by_place None at = nothing-goes
+    by_place (Some waiting) at =
+        let own = sound.interface in
+        reply-goes h moment sound waiting.reply (at-all (λ (w : Waiting). IsSoundReply h.interface.addr w.reply) h.interface.replies place waiting own.replies at) (way_of h.interface moment waiting.reply) refl
+
+-- An entry's segment.
+
+-- the entry whose segment goes out
+pub record Sending (h : HostView) (moment : Moment) (mac : Mac) (to : Addr) : Type 0 where
+  pub e : Entry
+  pub c : View
+  pub l : Option SocketId
+  pub due : Due
+  pub found : find (sends (goes_out_from h moment)) h.sockets.entries ≡ Some e
+  pub role : e.role ≡ Connected c l
+  pub first : first_due c ≡ Some due
+  pub is_to : to ≡ c.peer.addr
+  pub leads : way h.interface moment to ≡ To mac
+
+pub sending : (h : HostView) (moment : Moment) (mac : Mac) (to : Addr) → emission h moment ≡ Sends mac to → Sending h moment mac to
+sending h moment mac to = by_place (position (is_due h.interface moment) h.interface.replies)
+  where
+    test : Entry → Bool
+    test = sends (goes_out_from h moment)
+
+    by_way : (e : Entry) (c : View) (l : Option SocketId) (due : Due) → find test h.sockets.entries ≡ Some e → e.role ≡ Connected c l → first_due c ≡ Some due → (w : Way) → way h.interface moment c.peer.addr ≡ w
+        → emission_by c.peer.addr w ≡ Sends mac to → Sending h moment mac to
+    by_way e c l due found role first (To theirs) is same =
+        let macs : theirs ≡ mac = cc in
+        let tos : c.peer.addr ≡ to = cc in
+        record { e = e; c = c; l = l; due = due; found = found; role = role; first = first; is_to = sym tos; leads = ap (way h.interface moment) (sym tos) ∙ (is ∙ ap To macs) }
+    by_way e c l due found role first (Ask hop) is same = cc
+    by_way e c l due found role first Waits is same = cc
+
+    by_due : (e : Entry) (c : View) (l : Option SocketId) → find test h.sockets.entries ≡ Some e → e.role ≡ Connected c l → (o : Option Due) → first_due c ≡ o → emission_to h moment (cond (is_some o) (Some c.peer) None) ≡ Sends mac to
+        → Sending h moment mac to
+    by_due e c l found role None first same = cc
+    by_due e c l found role (Some due) first same = by_way e c l due found role first (way h.interface moment c.peer.addr) refl same
+
+    by_role : (e : Entry) → find test h.sockets.entries ≡ Some e → (r : Role) → e.role ≡ r → emission_to h moment (due_peer r) ≡ Sends mac to → Sending h moment mac to
+    by_role e found (Connected c l) role same = by_due e c l found role (first_due c) refl same
+    by_role e found (Listener local backlog) role same = cc
+    by_role e found (Idle buffers bound) role same = cc
+
+    by_entry : (o : Option Entry) → find test h.sockets.entries ≡ o → emission_from h moment o ≡ Sends mac to → Sending h moment mac to
+    by_entry None found same = cc
+    by_entry (Some e) found same = by_role e found e.role refl same
+
+    by_place : (o : Option ℕ) → emission_at h moment o ≡ Sends mac to → Sending h moment mac to
+    by_place (Some place) same = cc
+    by_place None same = by_entry (find test h.sockets.entries) refl same
+
+pub found-octets : (own : SocketsView) (goes : Entry → Bool) (e : Entry) → find (sends goes) own.entries ≡ Some e → segment_octets own goes ≡ due_octets e.role
+found-octets own goes e found = rw found
+
+pub first-octets : (c : View) (l : Option SocketId) (due : Due) → first_due c ≡ Some due → due_octets (Connected c l) ≡ connection_octets c due
+first-octets c l due first = rw first
+
+sends-go : (h : HostView) (moment : Moment) (mac : Mac) (to : Addr) → IsSoundHost h → IsOrdered h.sockets → emission h moment ≡ Sends mac to
+    → Carry h.interface (octets_of h moment (Sends mac to)) (carried_by h moment (Sends mac to))
+sends-go h moment mac to sound ordered is =
+    let k = sending h moment mac to is in
+    let c : View = k.c in
+    let goes : Entry → Bool = goes_out_from h moment in
+    let head : Head = head_of c k.due in
+    let text : List ℕ = text_of c k.due in
+    let table = sound.table in
+    let solid : IsSoundConnection c = subst IsSoundRole k.role (found-all (λ (e : Entry). IsSoundRole e.role) (sends goes) h.sockets.entries k.e table.entries k.found) in
+    let may = due-may c k.due solid.sound k.first in
+    let lies : LiesAt h.sockets.addr (Connected c k.l) = subst (LiesAt h.sockets.addr) k.role (found-all (λ (e : Entry). LiesAt h.sockets.addr e.role) (sends goes) h.sockets.entries k.e ordered.own k.found) in
+    let source : c.local.addr ≡ h.interface.addr = lies.0 ∙ sym sound.own in
+    let own : Carried = record { mac = mac; to = to; segment = sent_segment head text } in
+    let made : Segment → Carried = λ s. record { mac = mac; to = to; segment = s } in
+    let carries : carried_by h moment (Sends mac to) ≡ Some own =
+    ap (λ (o : Option Entry). option_map made (option_and_then (λ (e : Entry). due_segment e.role) o)) k.found
+    ∙ ap (λ (r : Role). option_map made (due_segment r)) k.role
+    ∙ ap (λ (d : Option Due). option_map made (option_map (λ (due : Due). sent_segment (head_of c due) (text_of c due)) d)) k.first in
+    let spelled : segment_octets h.sockets goes ≡ sent_octets h.interface.addr to head text =
+    found-octets h.sockets goes k.e k.found ∙ ap due_octets k.role ∙ first-octets c k.l k.due k.first
+    ∙ ap (λ (a : Addr). sent_octets a c.peer.addr head text) source ∙ ap (λ (a : Addr). sent_octets h.interface.addr a head text) (sym k.is_to) in
+    let can : CanBeSent h.interface.addr to head text =
+    subst (λ (a : Addr). CanBeSent h.interface.addr a head text) (sym k.is_to) (subst (λ (a : Addr). CanBeSent a c.peer.addr head text) source (due-can c k.due solid may)) in
+    let goes_so : Goes h.interface (octets_of h moment (Sends mac to)) own = record {
+      head = head;
+      text = text;
+      is = ap (segment_frame_to h.interface mac to) spelled;
+      segment = refl;
+      can = can;
+      whole = way-mac h.interface moment to mac sound.interface k.leads;
+      fits = due-fits c k.due may;
+    } in
+    subst (Carry h.interface (octets_of h moment (Sends mac to))) (sym carries) goes_so
+
+-- Whatever goes out.
+carries : (h : HostView) (moment : Moment) → IsSoundHost h → IsOrdered h.sockets → (x : Emission) → emission h moment ≡ x → Carry h.interface (octets_of h moment x) (carried_by h moment x)
+carries h moment sound ordered (Replies place) is = replies-go h moment place sound
+carries h moment sound ordered (Sends mac to) is = sends-go h moment mac to sound ordered is
+carries h moment sound ordered (Asks hop) is = let own = sound.interface in request-goes h.interface hop own.mac
+carries h moment sound ordered Nothing is = nothing-goes
+
+-- it is heard at its address
+goes-heard : (i : InterfaceView) (octets : List ℕ) (c : Carried) → length i.mac.0 ≡ 6 → MaySend c.to i.addr → Goes i octets c → heard c.mac c.to octets ≡ Ok (Tcp (record { source = i.addr; segment = c.segment }))
+goes-heard i octets c own may g =
+    ap (heard c.mac c.to) g.is ∙ segment_heard i c.mac c.to g.head g.text g.can g.whole own may g.fits
+    ∙ ap (λ (s : Segment). let r : Received = record { source = i.addr; segment = s } in let m : Result Meaning DropCause = Ok (Tcp r) in m) (sym g.segment)
+
+-- and nowhere else
+goes-hearer : (i : InterfaceView) (octets : List ℕ) (o : Option Carried) (mac : Mac) (ours : Addr) (r : Received) → length i.mac.0 ≡ 6 → Carry i octets o → heard mac ours octets ≡ Ok (Tcp r)
+    → (c : Carried) × (o ≡ Some c) × (ours ≡ c.to) × (r ≡ record { source = i.addr; segment = c.segment })
+goes-hearer i octets None mac ours r own g e = absurd (g.unheard mac ours r e)
+goes-hearer i octets (Some c) mac ours r own g e =
+    let two = heard-segment i c.mac c.to g.head g.text mac ours r g.can g.whole own g.fits (subst (λ (l : List ℕ). heard mac ours l ≡ Ok (Tcp r)) g.is e) in
+    (c, refl, two.0, two.1 ∙ ap (λ (s : Segment). let x : Received = record { source = i.addr; segment = s } in x) (sym g.segment))
+
+goes-pair : (i : InterfaceView) (octets : List ℕ) (o : Option Carried) → length i.mac.0 ≡ 6 → Carry i octets o → pair_in octets ≡ option_map (λ (c : Carried). pair_between i.addr c.to c.segment) o
+goes-pair i octets None own g = g.pairless
+goes-pair i octets (Some c) own g =
+    ap pair_in g.is ∙ pair-segment i c.mac c.to g.head g.text g.can g.whole own g.fits ∙ ap (λ (s : Segment). Some (pair_between i.addr c.to s)) (sym g.segment)
+
+pub carried-heard : (h : HostView) (now : Moment) (c : Carried) → IsSoundHost h → IsOrdered h.sockets → carried h now ≡ Some c → h.interface.addr ≢ c.to
+    → heard c.mac c.to (emission_octets h now) ≡ Ok (Tcp (record { source = h.interface.addr; segment = c.segment }))
+carried-heard h now c sound ordered is other =
+    let moment = later_moment h.sockets now in
+    let own = sound.interface in
+    let may : MaySend c.to h.interface.addr = record { single = sound.single; other = other } in
+    goes-heard h.interface (emission_octets h now) c own.mac may (subst (Carry h.interface (emission_octets h now)) is (carries h moment sound ordered (emission h moment) refl))
+
+pub carried-met : (h g : HostView) (now then : Moment) (isn : ℕ) (c : Carried) (answer : Result (Unit {0}) DropCause) (new : HostView) → IsSoundHost h → IsOrdered h.sockets
+    → carried h now ≡ Some c → h.interface.addr ≢ c.to → g.interface.mac ≡ c.mac → g.interface.addr ≡ c.to → IsDelivered g then isn (emission_octets h now) answer new
+    → let moment = later_moment g.sockets then in MeetsSegment (segment_arrival g moment isn h.interface.addr c.segment) g moment h.interface.addr answer new
+carried-met h g now then isn c answer new sound ordered is other for at delivered =
+    let heard_is = ap (λ (m : Mac). heard m g.interface.addr (emission_octets h now)) for ∙ ap (λ (a : Addr). heard c.mac a (emission_octets h now)) at ∙ carried-heard h now c sound ordered is other in
+    subst (λ (m : Result Meaning DropCause). MeetsHeard m g (later_moment g.sockets then) isn answer new) heard_is delivered
+
+pub carried-hearer : (h : HostView) (now : Moment) (mac : Mac) (ours : Addr) (received : Received) → IsSoundHost h → IsOrdered h.sockets → heard mac ours (emission_octets h now) ≡ Ok (Tcp received)
+    → (c : Carried) × (carried h now ≡ Some c) × (ours ≡ c.to) × (received ≡ record { source = h.interface.addr; segment = c.segment })
+carried-hearer h now mac ours r sound ordered e =
+    let moment = later_moment h.sockets now in
+    let own = sound.interface in
+    goes-hearer h.interface (emission_octets h now) (carried h now) mac ours r own.mac (carries h moment sound ordered (emission h moment) refl) e
+
+pub carried-pair : (h : HostView) (now : Moment) → IsSoundHost h → IsOrdered h.sockets → pair_in (emission_octets h now) ≡ option_map (λ (c : Carried). pair_between h.interface.addr c.to c.segment) (carried h now)
+carried-pair h now sound ordered =
+    let moment = later_moment h.sockets now in
+    let own = sound.interface in
+    goes-pair h.interface (emission_octets h now) (carried h now) own.mac (carries h moment sound ordered (emission h moment) refl)

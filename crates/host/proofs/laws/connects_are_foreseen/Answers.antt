@@ -1,6 +1,0 @@
-use Rattle.host.proofs.Foreseen.{connect_foreseen}
-use Rattle.host.proofs.Opened.{connect_opens}
-use Rattle.host.proofs.laws.connects_are_foreseen.Goals as goal
-
-pub returns : goal.returns
-returns c = record { foreseen = connect_foreseen; opened = connect_opens }

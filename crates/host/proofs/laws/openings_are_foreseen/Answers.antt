@@ -1,6 +1,0 @@
-use Rattle.host.proofs.Foreseen.{opening_foreseen}
-use Rattle.host.proofs.Held.{opening_holds}
-use Rattle.host.proofs.laws.openings_are_foreseen.Goals as goal
-
-pub returns : goal.returns
-returns c = record { foreseen = opening_foreseen; opened = opening_holds }

@@ -1,0 +1,22 @@
+-- How a host is set up.
+use Rattle.std.specs.Prelude.{◌≡◌, ◌%◌, List, length, slice_index}
+use Rattle.ether.specs.declared.mac.Mac.{Mac}
+use Rattle.ipv4.specs.declared.addr.Addr.{Addr}
+use Rattle.ipv4.specs.Addresses.{IsSingleHost}
+use Rattle.routes.specs.declared.route.Route.{Route}
+
+-- its MAC, its address and its routes
+pub record ConfigView : Type 0 where
+  pub mac : Mac
+  pub addr : Addr
+  pub routes : List Route
+
+-- the MAC of one interface: the low bit of the first octet of a group's is set (IEEE 802)
+abbrev pub IsOfOne : Mac → Type 0
+IsOfOne mac = slice_index mac.0 0 % 2 ≡ 0
+
+-- one host's address and one interface's MAC
+pub record IsConfig (c : ConfigView) : Type 0 where
+  pub addr : IsSingleHost c.addr
+  pub mac : IsOfOne c.mac
+  pub octets : length c.mac.0 ≡ 6

@@ -1,0 +1,81 @@
+//! Frames that a host doesn't take, each by one fault of a good one, and frames that it takes and that change nothing.
+
+use super::octets::{REQUEST, SYN};
+use super::stations::Side::B;
+use super::stations::{Station, Told, config};
+use host::DropCause;
+use std::alloc::Global;
+use std::process::Abort;
+
+/// A datagram of 115 octets for 192.168.0.199, whose header has a wrong sum. The octets behind the header are zeros.
+const WRONG_SUM: &[u8] = b"\x02\0\0\0\0\x02\x02\0\0\0\0\x01\x08\0\
+    \x45\0\0\x73\0\0\x40\0\x40\x11\xb8\x62\xc0\xa8\0\x01\xc0\xa8\0\xc7\
+    \0\0\0\0\0\0\0\0\0\0\0\0\0\0\0\0\0\0\0\0\0\0\0\0\0\0\0\0\0\0\0\0\0\0\0\0\0\0\0\0\0\0\0\0\0\0\0\0\
+    \0\0\0\0\0\0\0\0\0\0\0\0\0\0\0\0\0\0\0\0\0\0\0\0\0\0\0\0\0\0\0\0\0\0\0\0\0\0\0\0\0\0\0\0\0\0\0";
+
+/// A frame, the octets of it that are others, and why it is dropped, if it is.
+type Row = (&'static [u8], &'static [(usize, u8)], Result<(), DropCause>);
+
+/// Where an octet of the IPv4 header is another, so is its checksum.
+const ROWS: [Row; 18] = [
+    (&[0; 13], &[], Err(DropCause::Short)),
+    (&[0; 1_515], &[], Err(DropCause::Short)),
+    (SYN, &[(5, 3)], Err(DropCause::OtherMac)),
+    (
+        SYN,
+        &[(0, 255), (1, 255), (2, 255), (3, 255), (4, 255), (5, 255)],
+        Err(DropCause::OtherMac),
+    ),
+    (SYN, &[(13, 1)], Err(DropCause::OtherType)),
+    (SYN, &[(14, 0x44)], Err(DropCause::IpHeader)),
+    (SYN, &[(33, 3), (25, 0xc9)], Err(DropCause::OtherAddress)),
+    (SYN, &[(29, 2), (25, 0xc9)], Err(DropCause::OtherAddress)),
+    (
+        SYN,
+        &[(26, 224), (24, 0x50), (25, 0xc9)],
+        Err(DropCause::OtherAddress),
+    ),
+    (SYN, &[(20, 0x20), (24, 0x46)], Err(DropCause::Fragment)),
+    (SYN, &[(46, 0x40)], Err(DropCause::UpperHeader)),
+    (SYN, &[(57, 0xb5)], Err(DropCause::UpperSum)),
+    (REQUEST, &[(15, 2)], Err(DropCause::UpperHeader)),
+    (REQUEST, &[(31, 2)], Err(DropCause::OtherAddress)),
+    (REQUEST, &[(41, 3)], Ok(())),
+    (SYN, &[(23, 1), (25, 0xcf)], Ok(())),
+    (WRONG_SUM, &[], Err(DropCause::IpSum)),
+    (WRONG_SUM, &[(25, 0x61)], Err(DropCause::OtherAddress)),
+];
+
+/// The frame with these octets in the place of its own, and zeros behind it.
+fn changed(frame: &[u8], changes: &[(usize, u8)]) -> [u8; 1_515] {
+    let mut octets = [0; 1_515];
+    for (octet, new) in octets.iter_mut().zip(frame.iter()) {
+        *octet = *new;
+    }
+    for (place, new) in changes {
+        if let Some(octet) = octets.get_mut(*place) {
+            *octet = *new;
+        }
+    }
+    octets
+}
+
+/// A host that heard nothing before hears these, and has nothing to say to them.
+fn heard(rt: &impl Abort, alloc: Global, octets: &[u8], want: Result<(), DropCause>) {
+    let mut station = Station::new(alloc, config(rt, B));
+    let told = match want {
+        Ok(()) => Told::Done,
+        Err(cause) => Told::Dropped(cause),
+    };
+    assert!(rt; station.hear(7, octets) == told);
+    assert!(rt; station.emit() == Told::Nothing);
+    assert!(rt; station.host.next_deadline() == None);
+}
+
+#[test]
+fn frames_are_dropped(rt: HostRuntime) {
+    for (frame, changes, want) in ROWS {
+        let octets = changed(frame, changes);
+        heard(&rt, rt.alloc(), &octets[..frame.len().min(1_515)], want);
+    }
+}

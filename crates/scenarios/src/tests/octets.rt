@@ -1,0 +1,112 @@
+//! Frames, octet by octet: the Ethernet head, the ARP packet or the IPv4 header, the segment, and the zeros that pad it.
+
+/// A asks all of the link for B's MAC (RFC 826).
+pub(super) const REQUEST: &[u8] = b"\xff\xff\xff\xff\xff\xff\x02\0\0\0\0\x01\x08\x06\
+    \0\x01\x08\0\x06\x04\0\x01\x02\0\0\0\0\x01\x0a\0\0\x01\0\0\0\0\0\0\x0a\0\0\x02\
+    \0\0\0\0\0\0\0\0\0\0\0\0\0\0\0\0\0\0";
+
+/// B's reply to that.
+pub(super) const REPLY: &[u8] = b"\x02\0\0\0\0\x01\x02\0\0\0\0\x02\x08\x06\
+    \0\x01\x08\0\x06\x04\0\x02\x02\0\0\0\0\x02\x0a\0\0\x02\x02\0\0\0\0\x01\x0a\0\0\x01\
+    \0\0\0\0\0\0\0\0\0\0\0\0\0\0\0\0\0\0";
+
+/// B asks for A's MAC.
+pub(super) const ASKED_BACK: &[u8] = b"\xff\xff\xff\xff\xff\xff\x02\0\0\0\0\x02\x08\x06\
+    \0\x01\x08\0\x06\x04\0\x01\x02\0\0\0\0\x02\x0a\0\0\x02\0\0\0\0\0\0\x0a\0\0\x01\
+    \0\0\0\0\0\0\0\0\0\0\0\0\0\0\0\0\0\0";
+
+/// A's reply to that.
+pub(super) const REPLIED_BACK: &[u8] = b"\x02\0\0\0\0\x02\x02\0\0\0\0\x01\x08\x06\
+    \0\x01\x08\0\x06\x04\0\x02\x02\0\0\0\0\x01\x0a\0\0\x01\x02\0\0\0\0\x02\x0a\0\0\x02\
+    \0\0\0\0\0\0\0\0\0\0\0\0\0\0\0\0\0\0";
+
+/// The SYN of a connection from port 49152 of A to port 80 of B, with the last number of 32 bits (RFC 9293 section 3.1).
+pub(super) const SYN: &[u8] = b"\x02\0\0\0\0\x02\x02\0\0\0\0\x01\x08\0\
+    \x45\0\0\x2c\0\0\x40\0\x40\x06\x26\xca\x0a\0\0\x01\x0a\0\0\x02\
+    \xc0\0\0\x50\xff\xff\xff\xff\0\0\0\0\x60\x02\xff\xff\xc3\xd3\0\0\x02\x04\x05\xb4\
+    \0\0";
+
+/// The same behind four octets of IPv4 options (RFC 791 section 3.1).
+pub(super) const SYN_BEHIND_OPTIONS: &[u8] = b"\x02\0\0\0\0\x02\x02\0\0\0\0\x01\x08\0\
+    \x46\0\0\x30\0\0\x40\0\x40\x06\x23\xc5\x0a\0\0\x01\x0a\0\0\x02\x01\x01\x01\0\
+    \xc0\0\0\x50\xff\xff\xff\xff\0\0\0\0\x60\x02\xff\xff\xc3\xd3\0\0\x02\x04\x05\xb4";
+
+/// A's octets after a handshake in which B's number was 7.
+pub(super) const HELLO: &[u8] = b"\x02\0\0\0\0\x02\x02\0\0\0\0\x01\x08\0\
+    \x45\0\0\x2d\0\0\x40\0\x40\x06\x26\xc9\x0a\0\0\x01\x0a\0\0\x02\
+    \xc0\0\0\x50\0\0\0\0\0\0\0\x08\x50\x18\xff\xff\x97\x9a\0\0\x68\x65\x6c\x6c\x6f\
+    \0";
+
+/// The SYN without its option, and its header as long as before.
+pub(super) const CUT_SYN: &[u8] = b"\x02\0\0\0\0\x02\x02\0\0\0\0\x01\x08\0\
+    \x45\0\0\x28\0\0\x40\0\x40\x06\x26\xce\x0a\0\0\x01\x0a\0\0\x02\
+    \xc0\0\0\x50\xff\xff\xff\xff\0\0\0\0\x60\x02\xff\xff\xc3\xd3\0\0\
+    \0\0\0\0\0\0";
+
+/// B's reset of the SYN, where nobody waits for it.
+pub(super) const REFUSAL: &[u8] = b"\x02\0\0\0\0\x01\x02\0\0\0\0\x02\x08\0\
+    \x45\0\0\x28\0\0\x40\0\x40\x06\x26\xce\x0a\0\0\x02\x0a\0\0\x01\
+    \0\x50\xc0\0\0\0\0\0\0\0\0\0\x50\x14\0\0\xdb\x7d\0\0\
+    \0\0\0\0\0\0";
+
+/// B's reset of a SYN with the number 5.
+pub(super) const REFUSAL_OF_FIVE: &[u8] = b"\x02\0\0\0\0\x01\x02\0\0\0\0\x02\x08\0\
+    \x45\0\0\x28\0\0\x40\0\x40\x06\x26\xce\x0a\0\0\x02\x0a\0\0\x01\
+    \0\x50\xc0\0\0\0\0\0\0\0\0\x06\x50\x14\0\0\xdb\x77\0\0\
+    \0\0\0\0\0\0";
+
+/// An acknowledgement from no connection.
+pub(super) const STRAY: &[u8] = b"\x02\0\0\0\0\x02\x02\0\0\0\0\x01\x08\0\
+    \x45\0\0\x28\0\0\x40\0\x40\x06\x26\xce\x0a\0\0\x01\x0a\0\0\x02\
+    \xc0\0\0\x50\0\0\0\x09\0\x01\x11\x70\x50\x10\0\x64\xc9\xa3\0\0\
+    \0\0\0\0\0\0";
+
+/// A reset from no connection.
+pub(super) const STRAY_RESET: &[u8] = b"\x02\0\0\0\0\x02\x02\0\0\0\0\x01\x08\0\
+    \x45\0\0\x28\0\0\x40\0\x40\x06\x26\xce\x0a\0\0\x01\x0a\0\0\x02\
+    \xc0\0\0\x50\0\0\0\x09\0\x01\x11\x70\x50\x14\0\x64\xc9\x9f\0\0\
+    \0\0\0\0\0\0";
+
+/// The reset at the stray's acknowledgement.
+pub(super) const ANSWER: &[u8] = b"\x02\0\0\0\0\x01\x02\0\0\0\0\x02\x08\0\
+    \x45\0\0\x28\0\0\x40\0\x40\x06\x26\xce\x0a\0\0\x02\x0a\0\0\x01\
+    \0\x50\xc0\0\0\x01\x11\x70\0\0\0\0\x50\x04\0\0\xca\x1c\0\0\
+    \0\0\0\0\0\0";
+
+/// The reset of a connection in which B's number was 7.
+pub(super) const ABORT: &[u8] = b"\x02\0\0\0\0\x01\x02\0\0\0\0\x02\x08\0\
+    \x45\0\0\x28\0\0\x40\0\x40\x06\x26\xce\x0a\0\0\x02\x0a\0\0\x01\
+    \0\x50\xc0\0\0\0\0\x08\0\0\0\0\x50\x04\0\0\xdb\x85\0\0\
+    \0\0\0\0\0\0";
+
+/// A asks for the MAC of the gateway 10.0.0.254.
+pub(super) const GATEWAY_ASKED: &[u8] = b"\xff\xff\xff\xff\xff\xff\x02\0\0\0\0\x01\x08\x06\
+    \0\x01\x08\0\x06\x04\0\x01\x02\0\0\0\0\x01\x0a\0\0\x01\0\0\0\0\0\0\x0a\0\0\xfe\
+    \0\0\0\0\0\0\0\0\0\0\0\0\0\0\0\0\0\0";
+
+/// The gateway's reply to that.
+pub(super) const GATEWAY_REPLY: &[u8] = b"\x02\0\0\0\0\x01\x02\0\0\0\0\xfe\x08\x06\
+    \0\x01\x08\0\x06\x04\0\x02\x02\0\0\0\0\xfe\x0a\0\0\xfe\x02\0\0\0\0\x01\x0a\0\0\x01\
+    \0\0\0\0\0\0\0\0\0\0\0\0\0\0\0\0\0\0";
+
+/// A SYN with the number 5 for 192.0.2.9, on its way to the gateway.
+pub(super) const FAR_SYN: &[u8] = b"\x02\0\0\0\0\xfe\x02\0\0\0\0\x01\x08\0\
+    \x45\0\0\x2c\0\0\x40\0\x40\x06\x6e\xc2\x0a\0\0\x01\xc0\0\x02\x09\
+    \xc0\0\0\x50\0\0\0\x05\0\0\0\0\x60\x02\xff\xff\x0b\xc7\0\0\x02\x04\x05\xb4\
+    \0\0";
+
+/// A SYN for B from port 1024 of a third host, 10.0.0.3.
+pub(super) const THIRD_SYN: &[u8] = b"\x02\0\0\0\0\x02\x02\0\0\0\0\x03\x08\0\
+    \x45\0\0\x2c\0\0\x40\0\x40\x06\x26\xc8\x0a\0\0\x03\x0a\0\0\x02\
+    \x04\0\0\x50\0\0\0\x05\0\0\0\0\x60\x02\xff\xff\x7f\xcd\0\0\x02\x04\x05\xb4\
+    \0\0";
+
+/// B asks for the MAC of the third host.
+pub(super) const THIRD_ASKED: &[u8] = b"\xff\xff\xff\xff\xff\xff\x02\0\0\0\0\x02\x08\x06\
+    \0\x01\x08\0\x06\x04\0\x01\x02\0\0\0\0\x02\x0a\0\0\x02\0\0\0\0\0\0\x0a\0\0\x03\
+    \0\0\0\0\0\0\0\0\0\0\0\0\0\0\0\0\0\0";
+
+/// A asks for the MAC of the third host.
+pub(super) const THIRD_IS_ASKED_FOR: &[u8] = b"\xff\xff\xff\xff\xff\xff\x02\0\0\0\0\x01\x08\x06\
+    \0\x01\x08\0\x06\x04\0\x01\x02\0\0\0\0\x01\x0a\0\0\x01\0\0\0\0\0\0\x0a\0\0\x03\
+    \0\0\0\0\0\0\0\0\0\0\0\0\0\0\0\0\0\0";

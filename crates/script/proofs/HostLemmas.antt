@@ -1,0 +1,27 @@
+-- The two hosts of a script can be set up: 10.0.0.0/24 is a prefix.
+use Rattle.std.proofs.Common.{[], ◌∷◌, refl, rules, arith}
+use Rattle.ipv4.specs.declared.addr.Addr.{Addr}
+use Rattle.ipv4.specs.Prefixes.{IsPrefix, number}
+use Rattle.ipv4.proofs.Prefixes.{unmasked}
+use Rattle.routes.specs.declared.route.Route.{Route}
+use Rattle.routes.specs.declared.route.Hop.TheVariants.{Direct}
+use Rattle.host.specs.ConfigView.{ConfigView}
+use Rattle.wire_sim.specs.declared.event.Side.{Side}
+use Rattle.script.specs.Hosts.{address_of, mac_of, IsSetUp}
+
+abbrev link_addr : Addr
+link_addr = record { 0 = 10 ∷ 0 ∷ 0 ∷ 0 ∷ [] }
+
+pub link_is_prefix : IsPrefix (record { 0 = 10 ∷ 0 ∷ 0 ∷ 0 ∷ [] }) 24
+link_is_prefix = record { octets = refl; in_range = search rules; at_most = omega arith; no_bit_past = unmasked (number link_addr) (number link_addr) 24 refl refl }
+
+abbrev link_route : Route
+link_route = record { prefix = record { addr = link_addr; length = 24; form = link_is_prefix }; hop = Direct }
+
+-- how a side's host is set up
+pub set_up : Side → ConfigView
+set_up side = record { mac = mac_of side; addr = address_of side; routes = link_route ∷ [] }
+
+pub is_set_up : (side : Side) → IsSetUp side (set_up side)
+unfolding set_up
+is_set_up side = record { mac = refl; addr = refl; route = link_route; link = record { first = refl; length = refl; hop = refl }; routes = refl }

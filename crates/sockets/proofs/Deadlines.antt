@@ -1,0 +1,153 @@
+-- The least deadline of the entries, and that a tick before it changes none of them.
+use Rattle.std.proofs.Common.{◌≡◌, ◌⊎◌, inl, inr, ℕ, suc, ◌<◌, ◌≤◌, Bool, true, false, if◌then◌else◌, nat_le, List, [], ◌∷◌, Option, Some, None, length, refl, sym, ◌∙◌, ap, subst, arith}
+use Rattle.std.specs.List.{fold, Contains, AllByRecursion}
+use Rattle.std.proofs.lemmas.Bool.{leb-true, leb-false, lt-leb}
+use Rattle.clock.specs.declared.moment.Moment.{Moment}
+use Rattle.clock.specs.Moments.{has_come, sooner}
+use Rattle.tcp_state.specs.declared.connection.Resend.{Resend}
+use Rattle.tcp_state.specs.declared.connection.Resend.TheVariants.{Idle as Rests, At, Due}
+use Rattle.tcp_state.specs.View.{View, is_at_end, ends_at, resend_at, resend_after, after_resend, after_tick, after_stop, deadline}
+use Rattle.sockets.specs.declared.entry.Entry.{Entry}
+use Rattle.sockets.specs.declared.role.Role.{Role}
+use Rattle.sockets.specs.declared.role.Role.TheVariants.{Idle, Listener, Connected}
+use Rattle.sockets.specs.Entries.{deadline_of, role_after_tick, tick_fate_of, is_kept, with_role, entries_after_steps}
+use Rattle.sockets.specs.SocketsView.{SocketsView, later_moment}
+use Rattle.sockets.specs.Ticks.{least_deadline, IsLeastDeadline, HasNoDeadline}
+use Rattle.sockets.specs.Ticks as table
+use Rattle.sockets.proofs.Followed.{by_test}
+
+-- The sooner of two moments.
+
+record IsSooner (a b : Option Moment) (m : Moment) : Type 0 where
+  one : (a ≡ Some m) ⊎ (b ≡ Some m)
+  left : (d : Moment) → a ≡ Some d → m.0 ≤ d.0
+  right : (d : Moment) → b ≡ Some d → m.0 ≤ d.0
+
+own : (a d : Moment) → ◌≡◌ {A = Option Moment} (Some a) (Some d) → a.0 ≤ d.0
+own a d e = let same : a ≡ d = cc in subst (λ (x : Moment). a.0 ≤ x.0) same (omega arith)
+
+under : (a m d : Moment) → m.0 ≤ a.0 → ◌≡◌ {A = Option Moment} (Some a) (Some d) → m.0 ≤ d.0
+under a m d less e = let same : a ≡ d = cc in subst (λ (x : Moment). m.0 ≤ x.0) same less
+
+sooner_some : (a b : Option Moment) (m : Moment) → sooner a b ≡ Some m → IsSooner a b m
+sooner_some None b m e = record { one = inr e; left = λ d f. cc; right = λ d f. let same : ◌≡◌ {A = Option Moment} (Some m) (Some d) = sym e ∙ f in own m d same }
+sooner_some (Some a) None m e = record { one = inl e; left = λ d f. let same : ◌≡◌ {A = Option Moment} (Some m) (Some d) = sym e ∙ f in own m d same; right = λ d f. cc }
+sooner_some (Some a) (Some b) m e = by_test (nat_le a.0 b.0)
+    (λ less. let same : a ≡ m = (let f : ◌≡◌ {A = Option Moment} (Some a) (Some m) = ap (λ t. if t then Some a else Some b) (sym less) ∙ e in cc) in
+    let higher : a.0 ≤ b.0 = leb-true a.0 b.0 less in
+    let P : Moment → Type 0 = λ x. IsSooner (Some a) (Some b) x in
+    subst P same (record { one = inl refl; left = λ d f. own a d f; right = λ d f. under b a d higher f }))
+    (λ more. let same : b ≡ m = (let f : ◌≡◌ {A = Option Moment} (Some b) (Some m) = ap (λ t. if t then Some a else Some b) (sym more) ∙ e in cc) in
+    let lower : b.0 < a.0 = leb-false a.0 b.0 more in
+    let P : Moment → Type 0 = λ x. IsSooner (Some a) (Some b) x in
+    subst P same (record { one = inr refl; left = λ d f. under a b d (omega arith) f; right = λ d f. own b d f }))
+
+sooner_none : (a b : Option Moment) → sooner a b ≡ None → (a ≡ None) × (b ≡ None)
+sooner_none None b e = (refl, e)
+sooner_none (Some a) None e = cc
+sooner_none (Some a) (Some b) e = by_test (nat_le a.0 b.0)
+    (λ less. let same : ◌≡◌ {A = Option Moment} (Some a) None = ap (λ t. if t then Some a else Some b) (sym less) ∙ e in cc)
+    (λ more. let same : ◌≡◌ {A = Option Moment} (Some b) None = ap (λ t. if t then Some a else Some b) (sym more) ∙ e in cc)
+
+-- The least of a list's deadlines, from one on.
+
+abbrev least_from : Option Moment → List Entry → Option Moment
+least_from least xs = fold (λ (least : Option Moment) (e : Entry). sooner least (deadline_of e.role)) least xs
+
+abbrev HasIt : Moment → List Entry → Type 0
+HasIt m xs = (e : Entry) × Contains xs e × (deadline_of e.role ≡ Some m)
+
+abbrev AreLater : Moment → List Entry → Type 0
+AreLater m xs = AllByRecursion (λ (e : Entry). (other : Moment) → deadline_of e.role ≡ Some other → m.0 ≤ other.0) xs
+
+record IsLeast (first : Option Moment) (xs : List Entry) (m : Moment) : Type 0 where
+  one : (first ≡ Some m) ⊎ HasIt m xs
+  before : (d : Moment) → first ≡ Some d → m.0 ≤ d.0
+  others : AreLater m xs
+
+has_here : (x : Entry) (xs : List Entry) (m : Moment) → deadline_of x.role ≡ Some m → HasIt m (x ∷ xs)
+has_here x xs m at = (x, (0, omega arith, refl), at)
+
+has_there : (x : Entry) (xs : List Entry) (m : Moment) → HasIt m xs → HasIt m (x ∷ xs)
+has_there x xs m h = let k : ℕ = h.1.0 in let within : k < length xs = h.1.1 in (h.0, (suc k, omega arith, h.1.2), h.2)
+
+least : (first : Option Moment) (xs : List Entry) (m : Moment) → least_from first xs ≡ Some m → IsLeast first xs m
+least first [] m is = record { one = inl is; before = λ d e. let same : ◌≡◌ {A = Option Moment} (Some m) (Some d) = sym is ∙ e in own m d same; others = tt }
+least first (x ∷ xs) m is = joined (least (sooner first (deadline_of x.role)) xs m is)
+  where
+    one_of : (sooner first (deadline_of x.role) ≡ Some m) ⊎ HasIt m xs → (first ≡ Some m) ⊎ HasIt m (x ∷ xs)
+    one_of (inr h) = inr (has_there x xs m h)
+    one_of (inl e) = elim (sooner_some first (deadline_of x.role) m e).one [ inl f ↦ inl f | inr f ↦ inr (has_here x xs m f) ]
+
+    some_of : (o : Option Moment) → sooner first (deadline_of x.role) ≡ o → ((d : Moment) → sooner first (deadline_of x.role) ≡ Some d → m.0 ≤ d.0) → ((d : Moment) → first ≡ Some d → m.0 ≤ d.0) × ((d : Moment) → deadline_of x.role ≡ Some d → m.0 ≤ d.0)
+    some_of None e below = let none = sooner_none first (deadline_of x.role) e in (λ d f. cc (none.0), λ d f. cc (none.1))
+    some_of (Some n) e below =
+        let both = sooner_some first (deadline_of x.role) n e in
+        let less : m.0 ≤ n.0 = below n e in
+        (λ d f. let more : n.0 ≤ d.0 = both.left d f in omega arith, λ d f. let more : n.0 ≤ d.0 = both.right d f in omega arith)
+
+    joined : IsLeast (sooner first (deadline_of x.role)) xs m → IsLeast first (x ∷ xs) m
+    joined rest = let both = some_of (sooner first (deadline_of x.role)) refl rest.before in record { one = one_of rest.one; before = both.0; others = (both.1, rest.others) }
+
+none_from : (first : Option Moment) (xs : List Entry) → least_from first xs ≡ None → (first ≡ None) × AllByRecursion (λ (e : Entry). deadline_of e.role ≡ None) xs
+none_from first [] is = (is, tt)
+none_from first (x ∷ xs) is =
+    let rest = none_from (sooner first (deadline_of x.role)) xs is in
+    let both = sooner_none first (deadline_of x.role) rest.0 in
+    (both.0, (both.1, rest.1))
+
+pub least_found : (h : SocketsView) (moment : Moment) → least_deadline h ≡ Some moment → IsLeastDeadline h moment
+least_found h moment is = let l = least None h.entries moment is in record { has = one l.one; least = l.others }
+  where
+    one : (None ≡ Some moment) ⊎ HasIt moment h.entries → HasIt moment h.entries
+    one (inl e) = cc
+    one (inr has) = has
+
+pub none_found : (h : SocketsView) → least_deadline h ≡ None → HasNoDeadline h
+none_found h is = (none_from None h.entries is).1
+
+-- A moment before the deadline.
+
+unreached : (a b now : ℕ) → a ≤ b → nat_le a now ≡ false → nat_le b now ≡ false
+unreached a b now less e = let past : now < a = leb-false a now e in lt-leb b now (omega arith)
+
+both_unreached : (a b : Option Moment) (now : Moment) → has_come (sooner a b) now ≡ false → (has_come a now ≡ false) × (has_come b now ≡ false)
+both_unreached None b now e = (refl, e)
+both_unreached (Some a) None now e = (e, refl)
+both_unreached (Some a) (Some b) now e = by_test (nat_le a.0 b.0)
+    (λ less. let at : nat_le a.0 now.0 ≡ false = ap (λ t. has_come (if t then Some a else Some b) now) (sym less) ∙ e in
+    let higher : a.0 ≤ b.0 = leb-true a.0 b.0 less in (at, unreached a.0 b.0 now.0 higher at))
+    (λ more. let at : nat_le b.0 now.0 ≡ false = ap (λ t. has_come (if t then Some a else Some b) now) (sym more) ∙ e in
+    let lower : b.0 < a.0 = leb-false a.0 b.0 more in (unreached b.0 a.0 now.0 (omega arith) at, at))
+
+-- a connection of which no timer acts
+resend_waits : (r : Resend) (now : Moment) → has_come (resend_at r) now ≡ false → resend_after r now ≡ r
+resend_waits Rests now e = refl
+resend_waits Due now e = refl
+resend_waits (At moment) now e = rw e
+
+pub tick_waits_at : (v : View) (now : Moment) → has_come (deadline v) now ≡ false → after_tick v now ≡ v
+tick_waits_at v now e =
+    let both = both_unreached (resend_at v.resend) (ends_at v) now e in
+    let same : after_resend v now ≡ v = ap (λ (r : Resend). let w : View = record v { resend = r } in w) (resend_waits v.resend now both.0) in
+    ap (λ (b : Bool). if b then after_stop v else after_resend v now) both.1 ∙ same
+
+role_waits : (role : Role) (now : Moment) → has_come (deadline_of role) now ≡ false → (is_kept (tick_fate_of now role) ≡ true) × (role_after_tick now role ≡ role)
+role_waits (Idle buffers bound) now e = (refl, refl)
+role_waits (Listener l b) now e = (refl, refl)
+role_waits (Connected c l) now e =
+    let end : is_at_end c now ≡ false = (both_unreached (resend_at c.resend) (ends_at c) now e).1 in
+    (rw end, ap (λ (v : View). Connected v l) (tick_waits_at c now e))
+
+entries_wait : (first : Option Moment) (xs : List Entry) (now : Moment) → has_come (least_from first xs) now ≡ false → (has_come first now ≡ false) × (entries_after_steps (tick_fate_of now) (role_after_tick now) xs ≡ xs)
+entries_wait first [] now e = (e, refl)
+entries_wait first (x ∷ xs) now e =
+    let rest = entries_wait (sooner first (deadline_of x.role)) xs now e in
+    let both = both_unreached first (deadline_of x.role) now rest.0 in
+    let here = role_waits x.role now both.1 in
+    let same : with_role (role_after_tick now) x ≡ x = ap (λ (r : Role). let y : Entry = record x { role = r } in y) here.1 in
+    let test = here.0 in
+    (both.0, rw test (ap (λ (y : Entry). y ∷ entries_after_steps (tick_fate_of now) (role_after_tick now) xs) same ∙ ap (λ (ys : List Entry). x ∷ ys) rest.1))
+
+pub tick_waits : (h : SocketsView) (now : Moment) → has_come (least_deadline h) (later_moment h now) ≡ false → table.after_tick h now ≡ record h { kept = later_moment h now }
+tick_waits h now e = ap (λ (xs : List Entry). let w : SocketsView = record h { kept = later_moment h now; entries = xs } in w) (entries_wait None h.entries (later_moment h now) e).1

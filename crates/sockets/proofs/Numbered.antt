@@ -1,0 +1,94 @@
+-- Why the id given last never goes back.
+use Rattle.std.proofs.Common.{◌≡◌, ℕ, ◌≤◌, Bool, true, false, Option, Some, None, Result, Ok, Err, refl, arith}
+use Rattle.std.specs.List.{find}
+use Rattle.ipv4.specs.declared.addr.Addr.{Addr}
+use Rattle.ipv4.specs.declared.addr.Endpoint.{Endpoint}
+use Rattle.tcp_segment.specs.declared.head.Head.{Head}
+use Rattle.tcp_segment.specs.Segment.{Segment}
+use Rattle.clock.specs.declared.moment.Moment.{Moment}
+use Rattle.tcp_state.specs.declared.connection.Fate.{Fate}
+use Rattle.tcp_state.specs.declared.connection.Fate.TheVariants.{Stays, Removed, Rejected}
+use Rattle.sockets.specs.declared.refusal.Refusal.{Refusal}
+use Rattle.sockets.specs.declared.entry.SocketId.{SocketId}
+use Rattle.sockets.specs.declared.entry.Entry.{Entry}
+use Rattle.sockets.specs.declared.role.Role.{Role}
+use Rattle.sockets.specs.Entries.{is_between, is_listening_at, sends, fate_of}
+use Rattle.sockets.specs.SocketsView.{SocketsView, role_of}
+use Rattle.sockets.specs.Emission.{after_segment_sent}
+use Rattle.sockets.specs.Calls.{port_connected, after_connect, after_socket_closed}
+use Rattle.sockets.specs.Arrival.{local_end, peer_end, is_opening as opens, has_no_place, arrival_with_reply, arrival, arrival_alone}
+use Rattle.sockets.specs.Replies.{reset_at_ack, answer_to, answer_at_listener}
+use Rattle.sockets.specs.Causes.{Event, Makes, Binds, Listens, Accepts, Connects, Sends, Receives, Shuts, Closes, Ticks, Hears, Emits, GivesUp, after_arrival, after_event}
+
+abbrev NotBefore : SocketsView → SocketsView → Type 0
+NotBefore h w = h.last_id ≤ w.last_id
+
+as_before : (h : SocketsView) → NotBefore h h
+as_before h = omega arith
+
+connect_numbered : (h : SocketsView) (isn : ℕ) (id : SocketId) (peer : Endpoint) (routed : Bool) → NotBefore h (after_connect h isn id peer routed)
+connect_numbered h isn id peer routed = by_port (port_connected h id peer routed) refl
+  where
+    by_port : (r : Result ℕ Refusal) → port_connected h id peer routed ≡ r → NotBefore h (after_connect h isn id peer routed)
+    by_port (Err refusal) given = rw given (as_before h)
+    by_port (Ok port) given = rw given (as_before h)
+
+close_numbered : (h : SocketsView) (id : SocketId) → NotBefore h (after_socket_closed h id)
+close_numbered h id = by_role (role_of h id) refl
+  where
+    by_role : (o : Option Role) → role_of h id ≡ o → NotBefore h (after_socket_closed h id)
+    by_role None is = rw is (as_before h)
+    by_role (Some role) is = rw is (as_before h)
+
+answer_numbered : (h : SocketsView) (o : Option Head) → NotBefore h (after_arrival h (arrival_with_reply h o))
+answer_numbered h None = as_before h
+answer_numbered h (Some head) = as_before h
+
+alone_numbered : (h : SocketsView) (isn : ℕ) (source : Addr) (s : Segment) → NotBefore h (after_arrival h (arrival_alone h isn source s))
+alone_numbered h isn source s = by_listener (find (is_listening_at s.destination) h.entries) refl
+  where
+    by_place : (listener : Entry) → find (is_listening_at s.destination) h.entries ≡ Some listener → opens s.flags ≡ true → (b : Bool) → has_no_place h listener ≡ b → NotBefore h (after_arrival h (arrival_alone h isn source s))
+    by_place listener found opened true full = rw (found, opened, full) (as_before h)
+    by_place listener found opened false full = rw (found, opened, full) (omega arith)
+
+    by_flags : (listener : Entry) → find (is_listening_at s.destination) h.entries ≡ Some listener → (b : Bool) → opens s.flags ≡ b → NotBefore h (after_arrival h (arrival_alone h isn source s))
+    by_flags listener found true opened = by_place listener found opened (has_no_place h listener) refl
+    by_flags listener found false opened = rw (found, opened) (answer_numbered h (answer_at_listener s))
+
+    by_listener : (o : Option Entry) → find (is_listening_at s.destination) h.entries ≡ o → NotBefore h (after_arrival h (arrival_alone h isn source s))
+    by_listener None found = rw found (answer_numbered h (answer_to s))
+    by_listener (Some listener) found = by_flags listener found (opens s.flags) refl
+
+segment_numbered : (h : SocketsView) (now : Moment) (isn : ℕ) (source : Addr) (s : Segment) → NotBefore h (after_arrival h (arrival h now isn source s))
+segment_numbered h now isn source s = by_entry (find (is_between (local_end h s) (peer_end source s)) h.entries) refl
+  where
+    by_fate : (e : Entry) → find (is_between (local_end h s) (peer_end source s)) h.entries ≡ Some e → (r : Fate) → fate_of s e.role ≡ r → NotBefore h (after_arrival h (arrival h now isn source s))
+    by_fate e found Stays is = rw (found, is) (as_before h)
+    by_fate e found Removed is = rw (found, is) (as_before h)
+    by_fate e found Rejected is = rw (found, is) (answer_numbered h (Some (reset_at_ack s)))
+
+    by_entry : (o : Option Entry) → find (is_between (local_end h s) (peer_end source s)) h.entries ≡ o → NotBefore h (after_arrival h (arrival h now isn source s))
+    by_entry None found = rw found (alone_numbered h isn source s)
+    by_entry (Some e) found = by_fate e found (fate_of s e.role) refl
+
+emission_numbered : (h : SocketsView) (goes : Entry → Bool) (now : Moment) → NotBefore h (after_segment_sent h goes now)
+emission_numbered h goes now = by_entry (find (sends goes) h.entries) refl
+  where
+    by_entry : (o : Option Entry) → find (sends goes) h.entries ≡ o → NotBefore h (after_segment_sent h goes now)
+    by_entry None is = rw is (as_before h)
+    by_entry (Some e) is = rw is (as_before h)
+
+pub never_back : (h : SocketsView) (e : Event) → NotBefore h (after_event h e)
+never_back h (Makes buffers) = omega arith
+never_back h (Connects isn id peer routed) = connect_numbered h isn id peer routed
+never_back h (Closes id) = close_numbered h id
+never_back h (Hears now isn source s) = segment_numbered h now isn source s
+never_back h (Emits goes now) = emission_numbered h goes now
+never_back h (GivesUp lost now) = as_before h
+never_back h (Binds id local) = as_before h
+never_back h (Listens id backlog) = as_before h
+never_back h (Accepts id) = as_before h
+never_back h (Sends id octets) = as_before h
+never_back h (Receives id len) = as_before h
+never_back h (Shuts id) = as_before h
+never_back h (Ticks now) = as_before h

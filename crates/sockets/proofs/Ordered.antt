@@ -1,0 +1,378 @@
+-- Why the table stays in order.
+use Rattle.std.proofs.Common.{◌≡◌, ℕ, ◌+◌, ◌≤◌, ◌==◌, ◌&&◌, ◌||◌, not, Bool, true, false, if◌then◌else◌, List, [], ◌∷◌, ◌++◌, count_by, Option, Some, None, Result, Ok, Err, is_some, refl, sym, ◌∙◌, subst, arith}
+use Rattle.std.specs.List.{find, list_any, AllByRecursion}
+use Rattle.std.proofs.lemmas.Bool.{eqb-true, and_parts, or_parts}
+use Rattle.ipv4.specs.declared.addr.Addr.{Addr}
+use Rattle.ipv4.specs.declared.addr.Endpoint.{Endpoint}
+use Rattle.tcp_segment.specs.declared.head.Head.{Head}
+use Rattle.tcp_segment.specs.Segment.{Segment}
+use Rattle.clock.specs.declared.moment.Moment.{Moment}
+use Rattle.tcp_state.specs.declared.connection.Fate.{Fate}
+use Rattle.tcp_state.specs.declared.connection.Fate.TheVariants.{Stays, Removed, Rejected}
+use Rattle.tcp_state.specs.declared.emission.Due.{Due}
+use Rattle.tcp_state.specs.View.{is_opening, is_closed}
+use Rattle.tcp_state.specs.Arrival.{opened_passively}
+use Rattle.tcp_state.specs.Due.{first_due}
+use Rattle.tcp_state.proofs.Causes.{not_true}
+use Rattle.sockets.specs.declared.refusal.Refusal.{Refusal}
+use Rattle.sockets.specs.declared.refusal.Refusal.TheVariants.{EBADF, EINVAL, EADDRINUSE, EADDRNOTAVAIL, ENETUNREACH}
+use Rattle.sockets.specs.declared.entry.SocketId.{SocketId}
+use Rattle.sockets.specs.declared.entry.Entry.{Entry}
+use Rattle.ipv4.specs.Addresses.{is_single_host, same_addr, same_end}
+use Rattle.sockets.specs.declared.role.Role.{Role}
+use Rattle.sockets.specs.declared.role.Role.TheVariants.{Idle, Listener, Connected}
+use Rattle.sockets.specs.Entries.{is_socket, waits_at, is_between, is_live_between, is_listening_at, sends, is_offered_at, is_kept, has_port, uses_port, entries_after_step, fate_of, role_after_segment, role_after_tick, tick_fate_of, role_after_emission, emission_fate_of, role_after_abort, role_after_listener_close, listener_close_fate_of, role_after_close, close_fate_of, role_after_bind, role_after_listen, role_after_connect, role_after_accept, role_after_send, role_after_recv, role_after_shutdown, new_socket, new_waiting, with_role}
+use Rattle.sockets.specs.SocketsView.{SocketsView, new_sockets, later_moment, role_of}
+use Rattle.sockets.specs.Lost.{is_given_up, after_giving_up}
+use Rattle.sockets.specs.Emission.{after_segment_sent}
+use Rattle.sockets.specs.Calls.{open_answer, reach_refusal, port_for, last_port_after, is_pair_held, is_port_taken, bind_refusal, connect_refusal, after_connect, after_socket_closed}
+use Rattle.sockets.specs.Arrival.{local_end, peer_end, is_opening as opens, has_no_place, arrival_with_reply, arrival, arrival_alone, after_opening}
+use Rattle.sockets.specs.Replies.{reset_at_ack, answer_to, answer_at_listener}
+use Rattle.sockets.specs.Lists.{change_first}
+use Rattle.sockets.specs.Ports.{IsDynamic, is_free_port}
+use Rattle.sockets.specs.Causes.{Event, Makes, Binds, Listens, Accepts, Connects, Sends, Receives, Shuts, Closes, Ticks, Hears, Emits, GivesUp, after_arrival, after_event}
+use Rattle.sockets.specs.Order.{has_for_itself, is_alone_at, LiesAt, IsOrdered, IsAllowed}
+use Rattle.sockets.proofs.Caused.{settled_followed}
+use Rattle.sockets.proofs.Connected.{after_connect-given}
+use Rattle.sockets.proofs.Emitted.{segment_sent-found}
+use Rattle.sockets.proofs.Ends.{same_end-true}
+use Rattle.sockets.proofs.FirstPorts.{given_passes, given_dynamic}
+use Rattle.sockets.proofs.Followed.{IsNothing, by_test, first_changed, each_followed, each_filtered}
+use Rattle.sockets.proofs.KeptEnds.{keeps-nothing, keeps-send, keeps-recv, keeps-shutdown, keeps-tick, keeps-abort, keeps-close, keeps-emitted, keeps-segment}
+use Rattle.sockets.proofs.Ordering.{IsBound, Keeps, KeepsRole, keeps_role, keeps_connection, nowhere, no_port, ordered_by, ordered_still, ascends_joined, count_changed, count_joined, count_unfound, count_none}
+
+pub fresh_ordered : (addr : Addr) → IsOrdered (new_sockets addr)
+fresh_ordered addr = record { ids = omega arith; ends = λ local peer. omega arith; ports = λ port. omega arith; own = tt; last_port = record { from_first = omega arith; to_last = omega arith } }
+
+-- Changes of a role that take no end and no port.
+
+listening_keeps : (backlog : ℕ) (r : Role) → KeepsRole r (role_after_listen backlog r)
+listening_keeps backlog (Idle buffers None) = keeps_role (Idle buffers None)
+listening_keeps backlog (Idle buffers (Some local)) = λ here. record { ends = λ l p e live. cc; port = λ port e has. has; own = λ lies. tt }
+listening_keeps backlog (Listener l b) = keeps_role (Listener l b)
+listening_keeps backlog (Connected c l) = keeps_role (Connected c l)
+
+accepted_keeps : (r : Role) → KeepsRole r (role_after_accept r)
+accepted_keeps (Idle buffers bound) = keeps_role (Idle buffers bound)
+accepted_keeps (Listener l b) = keeps_role (Listener l b)
+accepted_keeps (Connected c l) = keeps_connection c c l None (keeps-nothing c)
+
+sent_keeps : (octets : List ℕ) (r : Role) → KeepsRole r (role_after_send octets r)
+sent_keeps octets (Idle buffers bound) = keeps_role (Idle buffers bound)
+sent_keeps octets (Listener l b) = keeps_role (Listener l b)
+sent_keeps octets (Connected c l) = keeps_connection c _ l l (keeps-send c octets)
+
+received_keeps : (len : ℕ) (r : Role) → KeepsRole r (role_after_recv len r)
+received_keeps len (Idle buffers bound) = keeps_role (Idle buffers bound)
+received_keeps len (Listener l b) = keeps_role (Listener l b)
+received_keeps len (Connected c l) = by_test (len == 0) (λ none. rw none (keeps_role (Connected c l))) (λ some. rw some (keeps_connection c _ l l (keeps-recv c len)))
+
+shut_keeps : (r : Role) → KeepsRole r (role_after_shutdown r)
+shut_keeps (Idle buffers bound) = keeps_role (Idle buffers bound)
+shut_keeps (Listener l b) = keeps_role (Listener l b)
+shut_keeps (Connected c l) = by_test (is_some c.pending_error || is_opening c.state) (λ refused. rw refused (keeps_role (Connected c l))) (λ shuts. rw shuts (keeps_connection c _ l l (keeps-shutdown c)))
+
+ticked_keeps : (now : Moment) (r : Role) → KeepsRole r (role_after_tick now r)
+ticked_keeps now (Idle buffers bound) = keeps_role (Idle buffers bound)
+ticked_keeps now (Listener l b) = keeps_role (Listener l b)
+ticked_keeps now (Connected c l) = keeps_connection c _ l l (keeps-tick c now)
+
+closed_keeps : (now : Moment) (r : Role) → KeepsRole r (role_after_close now r)
+closed_keeps now (Idle buffers bound) = keeps_role (Idle buffers bound)
+closed_keeps now (Listener l b) = keeps_role (Listener l b)
+closed_keeps now (Connected c l) = keeps_connection c _ l l (keeps-close c now)
+
+aborted_keeps : (now : Moment) (r : Role) → KeepsRole r (role_after_abort now r)
+aborted_keeps now (Idle buffers bound) = keeps_role (Idle buffers bound)
+aborted_keeps now (Listener l b) = keeps_role (Listener l b)
+aborted_keeps now (Connected c l) = keeps_connection c _ l l (keeps-abort c now)
+
+forsaken_keeps : (now : Moment) (id : SocketId) (r : Role) → KeepsRole r (role_after_listener_close now id r)
+forsaken_keeps now id r = by_test (waits_at id r) (λ waits. rw waits (aborted_keeps now r)) (λ other. rw other (keeps_role r))
+
+emitted_keeps : (now : Moment) (r : Role) → KeepsRole r (role_after_emission now r)
+emitted_keeps now (Idle buffers bound) = keeps_role (Idle buffers bound)
+emitted_keeps now (Listener l b) = keeps_role (Listener l b)
+emitted_keeps now (Connected c l) = by_due (first_due c) refl
+  where
+    by_due : (o : Option Due) → first_due c ≡ o → KeepsRole (Connected c l) (role_after_emission now (Connected c l))
+    by_due None is = rw is (keeps_role (Connected c l))
+    by_due (Some due) is = rw is (keeps_connection c _ l l (keeps-emitted c due now))
+
+arrived_keeps : (now : Moment) (s : Segment) (local peer : Endpoint) (r : Role) → is_live_between local peer r ≡ true → KeepsRole r (role_after_segment now s r)
+arrived_keeps now s local peer (Idle buffers bound) live = keeps_role (Idle buffers bound)
+arrived_keeps now s local peer (Listener l b) live = keeps_role (Listener l b)
+arrived_keeps now s local peer (Connected c l) live =
+    keeps_connection c _ l l (keeps-segment c s now (not_true (is_closed c.state) (and_parts (not (is_closed c.state)) (same_end c.local local && same_end c.peer peer) live).0))
+
+-- Steps of the table.
+
+stays : (h : SocketsView) (x : Entry) → Keeps nowhere no_port h.addr x (Some x)
+stays h x = (refl, keeps_role x.role h.addr)
+
+changed_ordered : (h : SocketsView) (test : Entry → Bool) (change : Role → Role) → ((x : Entry) → test x ≡ true → KeepsRole x.role (change x.role)) → IsOrdered h → IsOrdered (record h { entries = change_first test (with_role change) h.entries })
+changed_ordered h test change keeps o =
+    let w : SocketsView = record h { entries = change_first test (with_role change) h.entries } in
+    ordered_still h w refl refl refl (first_changed (Keeps nowhere no_port h.addr) IsNothing refl test (with_role change) h.entries (stays h) (λ x passes found. (refl, keeps x passes h.addr))) o
+
+settled_ordered : (h : SocketsView) (r : Fate) (test : Entry → Bool) (change : Role → Role) → ((x : Entry) → test x ≡ true → KeepsRole x.role (change x.role)) → IsOrdered h → IsOrdered (record h { entries = entries_after_step r test change h.entries })
+settled_ordered h r test change keeps o =
+    let w : SocketsView = record h { entries = entries_after_step r test change h.entries } in
+    ordered_still h w refl refl refl (settled_followed (Keeps nowhere no_port h.addr) IsNothing refl r test change h.entries (stays h) (λ kept x passes found. (refl, keeps x passes h.addr)) (λ gone x passes found. tt)) o
+
+-- Joining the table.
+
+joined_ordered : (h : SocketsView) (x : Entry) → x.id.0 ≡ h.last_id + 1 → ((local peer : Endpoint) → is_between local peer x ≡ true → count_by (is_between local peer) h.entries ≡ 0)
+    → ((port : ℕ) → is_alone_at port x ≡ false) → LiesAt h.addr x.role → IsOrdered h → IsOrdered (record h { last_id = h.last_id + 1; entries = h.entries ++ x ∷ [] })
+joined_ordered h x id free alone lies o = record {
+  ids = ascends_joined 0 h.last_id h.entries x id o.ids;
+  ends = λ local peer. rw (count_joined (is_between local peer) h.entries x) (by_test (is_between local peer x)
+      (λ between. let none : count_by (is_between local peer) h.entries ≡ 0 = free local peer between in rw between (omega arith))
+      (λ other. let before : count_by (is_between local peer) h.entries ≤ 1 = o.ends local peer in rw other (omega arith)));
+  ports = λ port. let before : count_by (is_alone_at port) h.entries ≤ 1 = o.ports port in rw (count_joined (is_alone_at port) h.entries x, alone port) (omega arith);
+  own = joined h.entries o.own;
+  last_port = o.last_port;
+}
+  where
+    joined : (xs : List Entry) → AllByRecursion (λ (e : Entry). LiesAt h.addr e.role) xs → AllByRecursion (λ (e : Entry). LiesAt h.addr e.role) (xs ++ x ∷ [])
+    joined [] all = (lies, tt)
+    joined (y ∷ ys) all = (all.0, joined ys all.1)
+
+-- Binding.
+
+bound_role : (h : SocketsView) (local : Endpoint) (r : Role) → IsBound nowhere (λ (port : ℕ). local.port == port) h.addr r (role_after_bind local r)
+bound_role h local (Idle buffers bound) = record { ends = λ l p e live. cc; port = λ port other has. let bad : true ≡ false = sym has ∙ other in cc; own = λ lies. tt }
+bound_role h local (Listener l b) = record { ends = λ l p e live. live; port = λ port other has. has; own = λ lies. lies }
+bound_role h local (Connected c l) = record { ends = λ l p e live. live; port = λ port other has. has; own = λ lies. lies }
+
+-- no port that is not taken is had by anyone
+untaken : (port : ℕ) (xs : List Entry) → list_any (has_port port) xs ≡ false → list_any (is_alone_at port) xs ≡ false
+untaken port [] none = refl
+untaken port (x ∷ xs) none = let parts = or_parts (has_port port x) (list_any (has_port port) xs) none in rw (alone x.role parts.0) (untaken port xs parts.1)
+  where
+    alone : (r : Role) → uses_port port r ≡ false → has_for_itself port r ≡ false
+    alone (Idle buffers None) other = refl
+    alone (Idle buffers (Some l)) other = other
+    alone (Listener l b) other = other
+    alone (Connected c l) other = refl
+
+last_test : (a b c : Bool) (x y z : Refusal) → (if a then Some x else if b then Some y else if c then Some z else None) ≡ None → c ≡ false
+last_test true b c x y z e = cc
+last_test false true c x y z e = cc
+last_test false false true x y z e = cc
+last_test false false false x y z e = refl
+
+-- a port that is bound was not taken
+bind_free : (h : SocketsView) (id : SocketId) (local : Endpoint) → bind_refusal h id local ≡ None → is_port_taken h local.port ≡ false
+bind_free h id local allowed = by_role (role_of h id) refl
+  where
+    by_role : (o : Option Role) → role_of h id ≡ o → is_port_taken h local.port ≡ false
+    by_role None is = let refused : bind_refusal h id local ≡ Some EBADF = rw is in cc
+    by_role (Some (Idle buffers None)) is = last_test _ _ (is_port_taken h local.port) EINVAL EADDRNOTAVAIL EADDRINUSE (rw is at allowed)
+    by_role (Some (Idle buffers (Some l))) is = let refused : bind_refusal h id local ≡ Some EINVAL = rw is in cc
+    by_role (Some (Listener l b)) is = let refused : bind_refusal h id local ≡ Some EINVAL = rw is in cc
+    by_role (Some (Connected c l)) is = let refused : bind_refusal h id local ≡ Some EINVAL = rw is in cc
+
+itself : (at_ends : Endpoint → Endpoint → Bool) (at_port : ℕ → Bool) (h : SocketsView) (x : Entry) → Keeps at_ends at_port h.addr x (Some x)
+itself at_ends at_port h x = (refl, record { ends = λ l p e live. live; port = λ port e has. has; own = λ lies. lies })
+
+bind_ordered : (h : SocketsView) (id : SocketId) (local : Endpoint) → bind_refusal h id local ≡ None → IsOrdered h → IsOrdered (after_event h (Binds id local))
+bind_ordered h id local allowed o =
+    ordered_by nowhere at_port h (after_event h (Binds id local)) refl refl (λ (d : IsDynamic h.last_port). d)
+    (first_changed (Keeps nowhere at_port h.addr) IsNothing refl (is_socket id) (with_role (role_after_bind local)) h.entries (itself nowhere at_port h) (λ x passes found. (refl, bound_role h local x.role)))
+    (λ l p e. cc)
+    (λ port is. subst (λ (n : ℕ). count_by (is_alone_at n) changed ≤ 1) (eqb-true local.port port is) one) o
+  where
+    at_port : ℕ → Bool
+    at_port port = local.port == port
+
+    changed : List Entry
+    changed = change_first (is_socket id) (with_role (role_after_bind local)) h.entries
+
+    one : count_by (is_alone_at local.port) changed ≤ 1
+    one =
+        let none : count_by (is_alone_at local.port) h.entries ≡ 0 = count_none (is_alone_at local.port) h.entries (untaken local.port h.entries (bind_free h id local allowed)) in
+        let more : count_by (is_alone_at local.port) changed ≤ count_by (is_alone_at local.port) h.entries + 1 = count_changed (is_socket id) (is_alone_at local.port) (with_role (role_after_bind local)) h.entries in
+        omega arith
+
+-- Connecting.
+
+reach_test : (a b c d : Bool) (x y : Refusal) → (if a || b || c then Some x else if d then None else Some y) ≡ None → c ≡ false
+reach_test true b c d x y e = cc
+reach_test false true c d x y e = cc
+reach_test false false true d x y e = cc
+reach_test false false false d x y e = refl
+
+-- the peer is at another address
+peer_apart : (h : SocketsView) (peer : Endpoint) (routed : Bool) → reach_refusal h peer routed ≡ None → same_addr peer.addr h.addr ≡ false
+peer_apart h peer routed reached = reach_test (peer.port == 0) (not (is_single_host peer.addr)) (same_addr peer.addr h.addr) routed EADDRNOTAVAIL ENETUNREACH reached
+
+-- a port that is given holds no connection to the peer
+port_free : (h : SocketsView) (bound : Option Endpoint) (peer : Endpoint) (port : ℕ) → port_for h bound peer ≡ Some port → is_pair_held h port peer ≡ false
+port_free h (Some b) peer port given = by_test (is_pair_held h b.port peer)
+    (λ held. let none : port_for h (Some b) peer ≡ None = rw held in cc)
+    (λ free. let some : port_for h (Some b) peer ≡ Some b.port = rw free in let same : b.port ≡ port = cc in subst (λ (n : ℕ). is_pair_held h n peer ≡ false) same free)
+port_free h None peer port given = not_true _ (and_parts _ _ (given_passes (is_free_port h.entries h.addr peer) h.last_port 0 16384 port given)).1
+
+-- the port given last stays dynamic
+counted_dynamic : (h : SocketsView) (bound : Option Endpoint) (peer : Endpoint) (port : ℕ) → IsDynamic h.last_port → port_for h bound peer ≡ Some port → IsDynamic (last_port_after h bound port)
+counted_dynamic h (Some b) peer port dynamic given = dynamic
+counted_dynamic h None peer port dynamic given = given_dynamic (is_free_port h.entries h.addr peer) h.last_port 0 16384 port given
+
+-- between the two ends alone a connection comes to lie
+connecting_role : (h : SocketsView) (local peer : Endpoint) (isn : ℕ) → local.addr ≡ h.addr → same_addr peer.addr h.addr ≡ false → (r : Role) → IsBound (λ (l p : Endpoint). same_end local l && same_end peer p) no_port h.addr r (role_after_connect local peer isn r)
+connecting_role h local peer isn own other (Idle buffers bound) = record { ends = λ l p apart live. let bad : true ≡ false = sym live ∙ apart in cc; port = λ port e has. cc; own = λ lies. (own, other) }
+connecting_role h local peer isn own other (Listener l b) = record { ends = λ l p e live. live; port = λ port e has. has; own = λ lies. lies }
+connecting_role h local peer isn own other (Connected c l) = record { ends = λ l p e live. live; port = λ port e has. has; own = λ lies. lies }
+
+opened_ordered : (h : SocketsView) (id : SocketId) (peer : Endpoint) (isn port last : ℕ) → IsDynamic last → same_addr peer.addr h.addr ≡ false → is_pair_held h port peer ≡ false → IsOrdered h
+    → IsOrdered (record h { last_port = last; entries = change_first (is_socket id) (with_role (role_after_connect (record { addr = h.addr; port = port }) peer isn)) h.entries })
+opened_ordered h id peer isn port last dynamic reached free o =
+    let w : SocketsView = record h { last_port = last; entries = changed } in
+    ordered_by at_ends no_port h w refl refl (λ (d : IsDynamic h.last_port). dynamic)
+    (first_changed (Keeps at_ends no_port h.addr) IsNothing refl (is_socket id) (with_role (role_after_connect local peer isn)) h.entries (itself at_ends no_port h) (λ x passes found. (refl, connecting_role h local peer isn refl reached x.role)))
+    at_them
+    (λ n e. cc) o
+  where
+    local : Endpoint
+    local = record { addr = h.addr; port = port }
+
+    at_ends : Endpoint → Endpoint → Bool
+    at_ends l p = same_end local l && same_end peer p
+
+    changed : List Entry
+    changed = change_first (is_socket id) (with_role (role_after_connect local peer isn)) h.entries
+
+    one : count_by (is_between local peer) changed ≤ 1
+    one =
+        let none : count_by (is_between local peer) h.entries ≡ 0 = count_none (is_between local peer) h.entries free in
+        let more : count_by (is_between local peer) changed ≤ count_by (is_between local peer) h.entries + 1 = count_changed (is_socket id) (is_between local peer) (with_role (role_after_connect local peer isn)) h.entries in
+        omega arith
+
+    at_them : (l p : Endpoint) → at_ends l p ≡ true → count_by (is_between l p) changed ≤ 1
+    at_them l p is =
+        let parts = and_parts (same_end local l) (same_end peer p) is in
+        subst (λ (x : Endpoint). count_by (is_between x p) changed ≤ 1) (same_end-true local l parts.0)
+        (subst (λ (x : Endpoint). count_by (is_between local x) changed ≤ 1) (same_end-true peer p parts.1) one)
+
+connect_ordered : (h : SocketsView) (isn : ℕ) (id : SocketId) (peer : Endpoint) (routed : Bool) → connect_refusal h id peer routed ≡ None → IsOrdered h → IsOrdered (after_connect h isn id peer routed)
+connect_ordered h isn id peer routed allowed o = by_role (role_of h id) refl
+  where
+    by_port : (role : Role) (bound : Option Endpoint) → role_of h id ≡ Some role → open_answer role ≡ Ok bound → reach_refusal h peer routed ≡ None → (o : Option ℕ) → port_for h bound peer ≡ o → IsOrdered (after_connect h isn id peer routed)
+    by_port role bound is opens_by reached None given = let refused : connect_refusal h id peer routed ≡ Some EADDRINUSE = rw (is, opens_by, reached, given) in cc
+    by_port role bound is opens_by reached (Some port) given =
+        subst IsOrdered (sym (after_connect-given h isn id peer routed role bound port is opens_by reached given))
+        (opened_ordered h id peer isn port (last_port_after h bound port) (counted_dynamic h bound peer port o.last_port given) (peer_apart h peer routed reached) (port_free h bound peer port given) o)
+
+    by_reach : (role : Role) (bound : Option Endpoint) → role_of h id ≡ Some role → open_answer role ≡ Ok bound → (r : Option Refusal) → reach_refusal h peer routed ≡ r → IsOrdered (after_connect h isn id peer routed)
+    by_reach role bound is opens_by None reached = by_port role bound is opens_by reached (port_for h bound peer) refl
+    by_reach role bound is opens_by (Some refusal) reached = let refused : connect_refusal h id peer routed ≡ Some refusal = rw (is, opens_by, reached) in cc
+
+    by_open : (role : Role) → role_of h id ≡ Some role → (r : Result (Option Endpoint) Refusal) → open_answer role ≡ r → IsOrdered (after_connect h isn id peer routed)
+    by_open role is (Err refusal) opens_by = let refused : connect_refusal h id peer routed ≡ Some refusal = rw (is, opens_by) in cc
+    by_open role is (Ok bound) opens_by = by_reach role bound is opens_by (reach_refusal h peer routed) refl
+
+    by_role : (r : Option Role) → role_of h id ≡ r → IsOrdered (after_connect h isn id peer routed)
+    by_role None is = let refused : connect_refusal h id peer routed ≡ Some EBADF = rw is in cc
+    by_role (Some role) is = by_open role is (open_answer role) refl
+
+-- Closing.
+
+socket_closed_ordered : (h : SocketsView) (id : SocketId) → IsOrdered h → IsOrdered (after_socket_closed h id)
+socket_closed_ordered h id o = by_role (role_of h id) refl
+  where
+    by_role : (r : Option Role) → role_of h id ≡ r → IsOrdered (after_socket_closed h id)
+    by_role None is = rw is o
+    by_role (Some role) is = rw is (settled_ordered h (close_fate_of role) (is_socket id) (role_after_close h.kept) (λ x passes. closed_keeps h.kept x.role) o)
+
+close_ordered : (h : SocketsView) (id : SocketId) → IsOrdered h → IsOrdered (after_event h (Closes id))
+close_ordered h id o =
+    let w : SocketsView = after_socket_closed h id in
+    ordered_still w (after_event h (Closes id)) refl refl refl
+    (each_followed (Keeps nowhere no_port w.addr) IsNothing refl (λ x. is_kept (listener_close_fate_of id x.role)) (with_role (role_after_listener_close h.kept id)) w.entries (λ x kept. (refl, forsaken_keeps h.kept id x.role w.addr)) (λ x gone. tt))
+    (socket_closed_ordered h id o)
+
+-- The clock.
+
+tick_ordered : (h : SocketsView) (now : Moment) → IsOrdered h → IsOrdered (after_event h (Ticks now))
+tick_ordered h now o =
+    ordered_still h (after_event h (Ticks now)) refl refl refl
+    (each_followed (Keeps nowhere no_port h.addr) IsNothing refl (λ x. is_kept (tick_fate_of (later_moment h now) x.role)) (with_role (role_after_tick (later_moment h now))) h.entries (λ x kept. (refl, ticked_keeps (later_moment h now) x.role h.addr)) (λ x gone. tt))
+    o
+
+-- A segment.
+
+answer_ordered : (h : SocketsView) (reply : Option Head) → IsOrdered h → IsOrdered (after_arrival h (arrival_with_reply h reply))
+answer_ordered h None o = o
+answer_ordered h (Some head) o = o
+
+opening_ordered : (h : SocketsView) (isn : ℕ) (listener : Entry) (source : Addr) (s : Segment) → find (is_between (local_end h s) (peer_end source s)) h.entries ≡ None → same_addr source h.addr ≡ false → IsOrdered h → IsOrdered (after_opening h isn listener source s)
+opening_ordered h isn listener source s none apart o =
+    joined_ordered h (new_waiting (record { 0 = h.last_id + 1 }) listener.id (opened_passively (local_end h s) (peer_end source s) isn s)) refl free (λ port. refl) (refl, apart) o
+  where
+    free : (l p : Endpoint) → (same_end (local_end h s) l && same_end (peer_end source s) p) ≡ true → count_by (is_between l p) h.entries ≡ 0
+    free l p is =
+        let parts = and_parts (same_end (local_end h s) l) (same_end (peer_end source s) p) is in
+        subst (λ (x : Endpoint). count_by (is_between x p) h.entries ≡ 0) (same_end-true (local_end h s) l parts.0)
+        (subst (λ (x : Endpoint). count_by (is_between (local_end h s) x) h.entries ≡ 0) (same_end-true (peer_end source s) p parts.1) (count_unfound (is_between (local_end h s) (peer_end source s)) h.entries none))
+
+alone_ordered : (h : SocketsView) (isn : ℕ) (source : Addr) (s : Segment) → find (is_between (local_end h s) (peer_end source s)) h.entries ≡ None → same_addr source h.addr ≡ false → IsOrdered h → IsOrdered (after_arrival h (arrival_alone h isn source s))
+alone_ordered h isn source s none apart o = by_listener (find (is_listening_at s.destination) h.entries) refl
+  where
+    by_place : (listener : Entry) → find (is_listening_at s.destination) h.entries ≡ Some listener → opens s.flags ≡ true → (b : Bool) → has_no_place h listener ≡ b → IsOrdered (after_arrival h (arrival_alone h isn source s))
+    by_place listener found opened true full = rw (found, opened, full) o
+    by_place listener found opened false full = rw (found, opened, full) (opening_ordered h isn listener source s none apart o)
+
+    by_flags : (listener : Entry) → find (is_listening_at s.destination) h.entries ≡ Some listener → (b : Bool) → opens s.flags ≡ b → IsOrdered (after_arrival h (arrival_alone h isn source s))
+    by_flags listener found true opened = by_place listener found opened (has_no_place h listener) refl
+    by_flags listener found false opened = rw (found, opened) (answer_ordered h (answer_at_listener s) o)
+
+    by_listener : (l : Option Entry) → find (is_listening_at s.destination) h.entries ≡ l → IsOrdered (after_arrival h (arrival_alone h isn source s))
+    by_listener None found = rw found (answer_ordered h (answer_to s) o)
+    by_listener (Some listener) found = by_flags listener found (opens s.flags) refl
+
+segment_ordered : (h : SocketsView) (now : Moment) (isn : ℕ) (source : Addr) (s : Segment) → same_addr source h.addr ≡ false → IsOrdered h → IsOrdered (after_arrival h (arrival h now isn source s))
+segment_ordered h now isn source s apart o = by_entry (find (is_between (local_end h s) (peer_end source s)) h.entries) refl
+  where
+    settles : (r : Fate) → IsOrdered (record h { entries = entries_after_step r (is_between (local_end h s) (peer_end source s)) (role_after_segment (later_moment h now) s) h.entries })
+    settles r = settled_ordered h r (is_between (local_end h s) (peer_end source s)) (role_after_segment (later_moment h now) s) (λ x passes. arrived_keeps (later_moment h now) s (local_end h s) (peer_end source s) x.role passes) o
+
+    by_fate : (e : Entry) → find (is_between (local_end h s) (peer_end source s)) h.entries ≡ Some e → (r : Fate) → fate_of s e.role ≡ r → IsOrdered (after_arrival h (arrival h now isn source s))
+    by_fate e found Stays is = rw (found, is) (settles Stays)
+    by_fate e found Removed is = rw (found, is) (settles Removed)
+    by_fate e found Rejected is = rw (found, is) (answer_ordered h (Some (reset_at_ack s)) o)
+
+    by_entry : (x : Option Entry) → find (is_between (local_end h s) (peer_end source s)) h.entries ≡ x → IsOrdered (after_arrival h (arrival h now isn source s))
+    by_entry None found = rw found (alone_ordered h isn source s found apart o)
+    by_entry (Some e) found = by_fate e found (fate_of s e.role) refl
+
+-- What goes out.
+
+emission_ordered : (h : SocketsView) (goes : Entry → Bool) (now : Moment) → IsOrdered h → IsOrdered (after_segment_sent h goes now)
+emission_ordered h goes now o = by_entry (find (sends goes) h.entries) refl
+  where
+    by_entry : (x : Option Entry) → find (sends goes) h.entries ≡ x → IsOrdered (after_segment_sent h goes now)
+    by_entry None found = rw found o
+    by_entry (Some e) found =
+        subst IsOrdered (sym (segment_sent-found h goes now e found)) (settled_ordered h (emission_fate_of (role_after_emission (later_moment h now) e.role)) (sends goes) (role_after_emission (later_moment h now)) (λ x passes. emitted_keeps (later_moment h now) x.role) o)
+
+given_up_ordered : (h : SocketsView) (lost : Addr → Bool) (now : Moment) → IsOrdered h → IsOrdered (after_giving_up h lost now)
+given_up_ordered h lost now o =
+    ordered_still h (after_giving_up h lost now) refl refl refl
+    (each_filtered (Keeps nowhere no_port h.addr) IsNothing refl (λ e. not (is_given_up lost (later_moment h now) e.role)) h.entries (stays h) (λ x gone. tt))
+    o
+
+pub stays_ordered : (h : SocketsView) (e : Event) → IsAllowed h e → IsOrdered h → IsOrdered (after_event h e)
+stays_ordered h (Makes buffers) allowed o = joined_ordered h (new_socket (record { 0 = h.last_id + 1 }) buffers) refl (λ l p live. cc) (λ port. refl) tt o
+stays_ordered h (Binds id local) allowed o = bind_ordered h id local allowed o
+stays_ordered h (Listens id backlog) allowed o = changed_ordered h (is_socket id) (role_after_listen backlog) (λ x passes. listening_keeps backlog x.role) o
+stays_ordered h (Accepts id) allowed o = changed_ordered h (is_offered_at id) role_after_accept (λ x passes. accepted_keeps x.role) o
+stays_ordered h (Connects isn id peer routed) allowed o = connect_ordered h isn id peer routed allowed o
+stays_ordered h (Sends id octets) allowed o = changed_ordered h (is_socket id) (role_after_send octets) (λ x passes. sent_keeps octets x.role) o
+stays_ordered h (Receives id len) allowed o = changed_ordered h (is_socket id) (role_after_recv len) (λ x passes. received_keeps len x.role) o
+stays_ordered h (Shuts id) allowed o = changed_ordered h (is_socket id) role_after_shutdown (λ x passes. shut_keeps x.role) o
+stays_ordered h (Closes id) allowed o = close_ordered h id o
+stays_ordered h (Ticks now) allowed o = tick_ordered h now o
+stays_ordered h (Hears now isn source s) allowed o = segment_ordered h now isn source s allowed o
+stays_ordered h (Emits goes now) allowed o = emission_ordered h goes now o
+stays_ordered h (GivesUp lost now) allowed o = given_up_ordered h lost now o

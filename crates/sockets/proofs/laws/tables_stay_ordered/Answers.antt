@@ -1,0 +1,6 @@
+use Rattle.sockets.proofs.Ordered.{fresh_ordered, stays_ordered}
+use Rattle.sockets.proofs.Numbered.{never_back}
+use Rattle.sockets.proofs.laws.tables_stay_ordered.Goals as goal
+
+pub returns : goal.returns
+returns c = record { fresh = fresh_ordered; kept = stays_ordered; numbered = never_back }

@@ -1,0 +1,35 @@
+-- The write at the socket's place is the change of the first entry that the id names, from the port that is given.
+use Rattle.std.proofs.Common.{◌≡◌, ◌∙◌, ℕ, List, get_or, Some, None, Ok, ap, sym}
+use Rattle.std.specs.List.{find}
+use Rattle.ipv4.specs.declared.addr.Addr.{Addr}
+use Rattle.sockets.specs.declared.entry.Entry.{Entry}
+use Rattle.sockets.specs.Entries.{is_socket, role_after_connect, with_role}
+use Rattle.sockets.specs.SocketsView.{SocketsView, with_socket}
+use Rattle.sockets.specs.Calls.{open_answer, reach_refusal, port_for, last_port_after}
+use Rattle.sockets.proofs.Connected.{after_connect-accepted, some_from_ok}
+use Rattle.sockets.proofs.Firsts.{find-position}
+use Rattle.sockets.proofs.Written.{entry_written}
+use Rattle.sockets.proofs.sockets.Sockets.connect.Goals as goal
+
+pub returns-clause-ok : goal.returns-clause-ok
+returns-clause-ok c =
+    let h : SocketsView = c.args.self.now in
+    let place = c.in_ok-place.ensures.place in
+    let entries = ap (λ (w : SocketsView). w.entries) c.self.view_is in
+    let addr = ap (λ (w : SocketsView). w.addr) c.self.view_is in
+    let x : Entry = c.index-deref-place.result in
+    let at : x ≡ get_or h.entries c.in_ok-place.place x =
+    c.index-deref-place.is ∙ ap (λ (es : List Entry). get_or es c.in_ok-place.place x) (c.deref.ensures.0 ∙ entries)
+    in
+    let found : find (is_socket c.args.id) h.entries ≡ Some x = find-position (is_socket c.args.id) h.entries c.in_ok-place.place x place at in
+    let opens : open_answer x.role ≡ Ok c.in_ok-bound.bound = ap (λ (e : Entry). open_answer e.role) c.index-deref-place.is ∙ sym c.in_ok-bound.ensures in
+    let given : port_for h c.in_ok-bound.bound c.args.peer ≡ Some c.in_ok-port.port = some_from_ok _ _ _ c.in_ok-port.ensures.value in
+    let reached : reach_refusal h c.args.peer c.args.is_routed ≡ None = sym c.in_ok-may_reach.ensures in
+    let counted : c.last_port_after-self-inside.result ≡ last_port_after h c.in_ok-bound.bound c.in_ok-port.port = c.last_port_after-self-inside.ensures.value in
+    let moved =
+    ap (λ (w : SocketsView). let r : SocketsView = record w { last_port = c.last_port_after-self-inside.result } in r) c.self.view_is
+    ∙ ap (λ (p : ℕ). let r : SocketsView = record h { last_port = p } in r) counted
+    in
+    entry_written _ _ (is_socket c.args.id) (with_role (role_after_connect (record { addr = c.self.inside.addr; port = c.in_ok-port.port }) c.args.peer c.args.isn.0)) _ _ _ _ moved place c.deref_mut.ensures.value c.index-deref_mut-place.is c.connect.ensures
+    ∙ ap (λ (a : Addr). with_socket (record h { last_port = last_port_after h c.in_ok-bound.bound c.in_ok-port.port }) c.args.id (role_after_connect (record { addr = a; port = c.in_ok-port.port }) c.args.peer c.args.isn.0)) addr
+    ∙ sym (after_connect-accepted h c.args.isn.0 c.args.id c.args.peer c.args.is_routed x c.in_ok-bound.bound c.in_ok-port.port found opens reached given)

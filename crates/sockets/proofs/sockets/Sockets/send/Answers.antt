@@ -1,0 +1,14 @@
+-- The write at the socket's place is the change of the first entry that the id names; a refused send writes what was there.
+use Rattle.std.proofs.Common.{◌∙◌, sym}
+use Rattle.sockets.specs.Entries.{is_socket, role_after_send, with_role}
+use Rattle.sockets.proofs.Written.{entry_written, entry_kept, on_ok, on_err}
+use Rattle.sockets.proofs.Refused.{entry_refused}
+use Rattle.sockets.proofs.sockets.Sockets.send.Goals as goal
+
+pub returns-clause-ok : goal.returns-clause-ok
+returns-clause-ok c =
+    on_ok _ _ (entry_written _ _ (is_socket c.args.id) (with_role (role_after_send c.args.octets.now)) _ _ _ _ c.self.view_is c.in_ok-place.ensures.place c.deref_mut.ensures.value c.index-deref_mut-place.is c.send.ensures.after)
+
+pub returns-clause-err : goal.returns-clause-err
+returns-clause-err c =
+    on_err _ _ (λ e refused. entry_kept _ _ _ _ _ _ c.self.view_is c.deref_mut.ensures.value c.index-deref_mut-place.is (c.send.ensures.after ∙ entry_refused _ c.args.octets.now e (sym c.send.ensures.answer ∙ refused)))

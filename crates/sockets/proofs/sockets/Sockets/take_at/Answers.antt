@@ -1,0 +1,51 @@
+-- The write at the place is the change, or the removal, of the segment's connection; a segment that is refused changes nothing.
+use Rattle.std.proofs.Common.{◌≡◌, ◌∙◌, List, get_or, Bool, Some, ap, sym}
+use Rattle.std.specs.List.{find}
+use Rattle.tcp_segment.specs.Segment.{Segment}
+use Rattle.tcp_state.specs.declared.connection.Fate.TheVariants.{Rejected}
+use Rattle.clock.specs.declared.moment.Moment.{Moment}
+use Rattle.sockets.specs.declared.entry.Entry.{Entry}
+use Rattle.sockets.specs.Arrival.{local_end, peer_end}
+use Rattle.sockets.specs.Replies.{reset_at_ack}
+use Rattle.sockets.specs.Entries.{is_between, fate_of, entries_after_step, role_after_segment}
+use Rattle.sockets.specs.SocketsView.{SocketsView}
+use Rattle.sockets.proofs.Arrived.{entry_settled, meets_becomes, meets_answered, refusal-answered, taken}
+use Rattle.sockets.proofs.Refused.{entry_refused_segment}
+use Rattle.sockets.proofs.Written.{entry_kept}
+use Rattle.sockets.proofs.Firsts.{find-position}
+use Rattle.sockets.proofs.sockets.Sockets.take_at.Goals as goal
+
+pub returns-in-Rejected : goal.returns-in-Rejected
+returns-in-Rejected c isn =
+    let h : SocketsView = c.args.self.now in
+    let s : Segment = c.args.segment.now in
+    let test : Entry → Bool = is_between (local_end h s) (peer_end c.args.source s) in
+    let entries = ap (λ (w : SocketsView). w.entries) c.self.view_is in
+    let x : Entry = c.index-deref_mut-place.result in
+    let at : x ≡ get_or h.entries c.args.place x =
+    c.index-deref_mut-place.is ∙ ap (λ (es : List Entry). get_or es c.args.place x) (c.deref_mut.ensures.value ∙ entries)
+    in
+    let found : find test h.entries ≡ Some x = find-position test h.entries c.args.place x c.requires at in
+    let fates : fate_of s x.role ≡ Rejected = ap (λ (e : Entry). fate_of s e.role) c.index-deref_mut-place.is ∙ sym c.segment.ensures.fate ∙ c.in-Rejected.is in
+    let same : c.segment.new.self ≡ get_or c.deref_mut.result.now c.args.place x =
+    c.segment.ensures.after ∙ entry_refused_segment _ s c.later_moment-now.result (sym c.segment.ensures.fate ∙ c.in-Rejected.is)
+    in
+    meets_answered _ h _ (reset_at_ack s) _ (refusal-answered h c.args.now isn c.args.source s x found fates) c.reset_at_ack.ensures (entry_kept _ h _ _ _ _ c.self.view_is c.deref_mut.ensures.value c.index-deref_mut-place.is same)
+
+pub returns-in_default : goal.returns-in_default
+returns-in_default c isn =
+    let h : SocketsView = c.args.self.now in
+    let s : Segment = c.args.segment.now in
+    let test : Entry → Bool = is_between (local_end h s) (peer_end c.args.source s) in
+    let entries = ap (λ (w : SocketsView). w.entries) c.self.view_is in
+    let x : Entry = c.index-deref_mut-place.result in
+    let at : x ≡ get_or h.entries c.args.place x =
+    c.index-deref_mut-place.is ∙ ap (λ (es : List Entry). get_or es c.args.place x) (c.deref_mut.ensures.value ∙ entries)
+    in
+    let found : find test h.entries ≡ Some x = find-position test h.entries c.args.place x c.requires at in
+    let fates : fate_of s x.role ≡ c.segment.result = ap (λ (e : Entry). fate_of s e.role) c.index-deref_mut-place.is ∙ sym c.segment.ensures.fate in
+    meets_becomes _ _ _ _ (taken h c.args.now isn c.args.source s x c.segment.result found fates c.in_default.not-Rejected)
+    (
+    entry_settled _ _ test (role_after_segment c.later_moment-now.result s) _ _ _ _ _ c.segment.result c.self.view_is c.requires c.deref_mut.ensures.value c.index-deref_mut-place.is c.segment.ensures.after c.settle.ensures
+    ∙ ap (λ (m : Moment). let w : SocketsView = record h { entries = entries_after_step c.segment.result test (role_after_segment m s) h.entries } in w) c.later_moment-now.ensures
+    )

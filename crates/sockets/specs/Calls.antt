@@ -1,0 +1,260 @@
+-- The call table: for each socket call its refusal, by the tests in their order, and what it makes of the table.
+use Rattle.std.specs.Prelude.{ℕ, ◌+◌, ◌^◌, Bool, ◌==◌, ◌&&◌, ◌||◌, not, if◌then◌else◌, List, [], ◌∷◌, ◌++◌, length, take, drop, Option, Some, None, find, Result, Ok, Err, is_some, option_map, option_and_then}
+use Rattle.std.specs.List.{list_any}
+use Rattle.std.specs.Option.{ok_or}
+use Rattle.std.specs.Result.{result_ok, result_err}
+use Rattle.ipv4.specs.declared.addr.Addr.{Addr}
+use Rattle.ipv4.specs.declared.addr.Endpoint.{Endpoint}
+use Rattle.ipv4.specs.declared.addr.Pair.{Pair}
+use Rattle.ipv4.specs.Addresses.{pair_of, same_addr, is_single_host}
+use Rattle.tcp_state.specs.declared.buffers.Buffers.{Buffers}
+use Rattle.tcp_state.specs.declared.state.State.{State}
+use Rattle.tcp_state.specs.declared.calls.Received.{Received}
+use Rattle.tcp_state.specs.declared.calls.Refusal as connection_refusal
+use Rattle.tcp_state.specs.declared.calls.Refusal.TheVariants as connection_variants
+use Rattle.tcp_state.specs.Calls as connection_calls
+use Rattle.tcp_state.specs.View.{is_opening}
+use Rattle.sockets.specs.declared.entry.SocketId.{SocketId}
+use Rattle.sockets.specs.declared.entry.Entry.{Entry}
+use Rattle.sockets.specs.declared.role.Role.{Role}
+use Rattle.sockets.specs.declared.role.Role.TheVariants.{Idle, Listener, Connected}
+use Rattle.sockets.specs.declared.refusal.Refusal.{Refusal}
+use Rattle.sockets.specs.declared.refusal.Refusal.TheVariants.{EBADF, EINVAL, EADDRINUSE, EADDRNOTAVAIL, EISCONN, ENOTCONN, EALREADY, EAGAIN, ENETUNREACH, EOPNOTSUPP, ECONNREFUSED, ECONNRESET, EPIPE, EDESTADDRREQ}
+use Rattle.sockets.specs.Ports.{first_port, is_free_port}
+use Rattle.sockets.specs.Entries.{is_socket, has_port, is_between, is_offered_at, offered_peer, shown_state, new_socket, role_after_bind, role_after_listen, role_after_connect, role_after_accept, role_after_send, role_after_recv, role_after_shutdown, role_after_close, close_fate_of, role_after_listener_close, listener_close_fate_of, entries_after_step, entries_after_steps, with_role}
+use Rattle.sockets.specs.SocketsView.{SocketsView, role_of, with_socket}
+use Rattle.sockets.specs.Lists.{change_first}
+
+-- what `of` says of a socket's role, and `none` where there is no such socket
+abbrev pub of_socket : {T : Type 0} → T → (Role → T) → Option Role → T
+of_socket none of None = none
+of_socket none of (Some role) = of role
+
+-- what a call answers of the socket that the id names; EBADF where it names none
+abbrev pub answer_at : {T : Type 0} → SocketsView → SocketId → (Role → Result T Refusal) → Result T Refusal
+answer_at h id answer = of_socket (Err EBADF) answer (role_of h id)
+
+-- what a call is refused for, of the socket that the id names; EBADF where it names none
+abbrev pub refusal_at : SocketsView → SocketId → (Role → Option Refusal) → Option Refusal
+refusal_at h id refusal = of_socket (Some EBADF) refusal (role_of h id)
+
+-- a refusal, or this value where there is none
+abbrev pub unless_refused : {T : Type 0} → Option Refusal → T → Result T Refusal
+unless_refused None value = Ok value
+unless_refused (Some refusal) value = Err refusal
+
+-- 0.0.0.0, which stands for every address of ours
+abbrev pub any_addr : Addr
+any_addr = record { 0 = 0 ∷ 0 ∷ 0 ∷ 0 ∷ [] }
+
+-- socket: no place in a table of 8, or the last id is given
+abbrev pub is_table_full : SocketsView → Bool
+is_table_full h = (length h.entries == 8) || (h.last_id + 1 == 2 ^ 64)
+
+-- a new idle socket at the end of the table
+abbrev pub after_socket : SocketsView → Buffers → SocketsView
+after_socket h buffers = record h {
+  last_id = h.last_id + 1;
+  entries = h.entries ++ new_socket (record { 0 = h.last_id + 1 }) buffers ∷ [];
+}
+
+-- an entry has this local port
+abbrev pub is_port_taken : SocketsView → ℕ → Bool
+is_port_taken h port = list_any (has_port port) h.entries
+
+abbrev pub bind_refusal : SocketsView → SocketId → Endpoint → Option Refusal
+bind_refusal h id local = refusal_at h id of_role
+  where
+    of_idle : Option Refusal
+    of_idle =
+        if local.port == 0 then Some EINVAL
+        else if not (same_addr local.addr h.addr) && not (same_addr local.addr any_addr) then Some EADDRNOTAVAIL
+        else if is_port_taken h local.port then Some EADDRINUSE
+        else None
+
+    of_role : Role → Option Refusal
+    of_role (Idle buffers None) = of_idle
+    of_role (Idle buffers (Some bound)) = Some EINVAL
+    of_role (Listener bound backlog) = Some EINVAL
+    of_role (Connected c listener) = Some EINVAL
+
+abbrev pub after_bind : SocketsView → SocketId → Endpoint → SocketsView
+after_bind h id local = with_socket h id (role_after_bind local)
+
+-- a backlog of 1 alone
+abbrev pub listen_refusal : SocketsView → SocketId → ℕ → Option Refusal
+listen_refusal h id backlog = refusal_at h id (λ role. if backlog == 1 then of_role role else Some EINVAL)
+  where
+    of_role : Role → Option Refusal
+    of_role (Idle buffers None) = Some EDESTADDRREQ
+    of_role (Idle buffers (Some bound)) = None
+    of_role (Listener bound b) = Some EINVAL
+    of_role (Connected c listener) = Some EINVAL
+
+abbrev pub after_listen : SocketsView → SocketId → ℕ → SocketsView
+after_listen h id backlog = with_socket h id (role_after_listen backlog)
+
+abbrev pub state_answer : SocketsView → SocketId → Result State Refusal
+state_answer h id = answer_at h id (λ role. Ok (shown_state role))
+
+-- the connection that a listener accepts next, and its peer
+abbrev pub accept_answer : SocketsView → SocketId → Result (SocketId × Endpoint) Refusal
+accept_answer h id = answer_at h id of_role
+  where
+    of_peer : SocketId → Option Endpoint → Result (SocketId × Endpoint) Refusal
+    of_peer accepted_id None = Err EAGAIN
+    of_peer accepted_id (Some peer) = Ok (accepted_id, peer)
+
+    of_entry : Option Entry → Result (SocketId × Endpoint) Refusal
+    of_entry None = Err EAGAIN
+    of_entry (Some e) = of_peer e.id (offered_peer id e.role)
+
+    of_role : Role → Result (SocketId × Endpoint) Refusal
+    of_role (Listener bound backlog) = of_entry (find (is_offered_at id) h.entries)
+    of_role (Idle buffers bound) = Err EINVAL
+    of_role (Connected c listener) = Err EINVAL
+
+-- it waits no longer
+abbrev pub after_accept : SocketsView → SocketId → SocketsView
+after_accept h id = record h { entries = change_first (is_offered_at id) (with_role role_after_accept) h.entries }
+
+-- what a connection refuses is refused by the same name
+abbrev pub refusal_of : connection_refusal.Refusal → Refusal
+refusal_of connection_variants.ENOTCONN = ENOTCONN
+refusal_of connection_variants.EAGAIN = EAGAIN
+refusal_of connection_variants.ECONNREFUSED = ECONNREFUSED
+refusal_of connection_variants.ECONNRESET = ECONNRESET
+refusal_of connection_variants.EPIPE = EPIPE
+
+abbrev pub of_connection : {T : Type 0} → Result T connection_refusal.Refusal → Result T Refusal
+of_connection (Ok value) = Ok value
+of_connection (Err refusal) = Err (refusal_of refusal)
+
+-- what a send of octets answers
+abbrev pub role_send_answer : Role → List ℕ → Result ℕ Refusal
+role_send_answer (Idle buffers bound) octets = Err ENOTCONN
+role_send_answer (Listener bound backlog) octets = Err EOPNOTSUPP
+role_send_answer (Connected c listener) octets = of_connection (connection_calls.send_answer c octets)
+
+-- what a receive into a buffer of this length answers
+abbrev pub role_recv_answer : Role → ℕ → Result Received Refusal
+role_recv_answer (Listener bound backlog) len = Err EOPNOTSUPP
+role_recv_answer (Idle buffers bound) len = if len == 0 then Err EINVAL else Err ENOTCONN
+role_recv_answer (Connected c listener) len = if len == 0 then Err EINVAL else of_connection (connection_calls.recv_answer c len)
+
+-- what a receive leaves in a buffer: the first octets that are readable stand at its front, where it answers octets
+abbrev pub read_front : Role → List ℕ → List ℕ
+read_front (Connected c listener) buffer =
+    if (length buffer == 0) || (is_some c.pending_error || is_opening c.state || (length c.receiving.readable == 0)) then buffer
+    else take (connection_calls.recv_count c (length buffer)) c.receiving.readable ++ drop (connection_calls.recv_count c (length buffer)) buffer
+read_front (Listener bound backlog) buffer = buffer
+read_front (Idle buffers bound) buffer = buffer
+
+abbrev pub recv_front : SocketsView → SocketId → List ℕ → List ℕ
+recv_front h id buffer = of_socket buffer (λ role. read_front role buffer) (role_of h id)
+
+abbrev pub send_answer : SocketsView → SocketId → List ℕ → Result ℕ Refusal
+send_answer h id octets = answer_at h id (λ role. role_send_answer role octets)
+
+abbrev pub after_send : SocketsView → SocketId → List ℕ → SocketsView
+after_send h id octets = with_socket h id (role_after_send octets)
+
+abbrev pub recv_answer : SocketsView → SocketId → ℕ → Result Received Refusal
+recv_answer h id len = answer_at h id (λ role. role_recv_answer role len)
+
+abbrev pub after_recv : SocketsView → SocketId → ℕ → SocketsView
+after_recv h id len = with_socket h id (role_after_recv len)
+
+-- what closing our side is refused for: no connection, one that is told an error, or one that is not opened yet
+abbrev pub role_shutdown_refusal : Role → Option Refusal
+role_shutdown_refusal (Idle buffers bound) = Some ENOTCONN
+role_shutdown_refusal (Listener bound backlog) = Some EOPNOTSUPP
+role_shutdown_refusal (Connected c listener) = option_map refusal_of (connection_calls.shutdown_refusal c)
+
+abbrev pub shutdown_refusal : SocketsView → SocketId → Option Refusal
+shutdown_refusal h id = refusal_at h id role_shutdown_refusal
+
+abbrev pub after_shutdown : SocketsView → SocketId → SocketsView
+after_shutdown h id = with_socket h id role_after_shutdown
+
+-- close is refused only where the id names no socket
+abbrev pub close_refusal : SocketsView → SocketId → Option Refusal
+close_refusal h id = refusal_at h id (λ role. None)
+
+-- The socket is gone. Nothing is left of one without a connection; a connection goes on without a socket, or is aborted, or is gone,
+-- as its own rules say (RFC 9293 section 3.10.4; 3.6.1 where octets are unread; own in SYN-RECEIVED and at a listener).
+abbrev pub after_socket_closed : SocketsView → SocketId → SocketsView
+after_socket_closed h id = of_socket h (λ role. record h { entries = entries_after_step (close_fate_of role) (is_socket id) (role_after_close h.kept) h.entries }) (role_of h id)
+
+-- and each connection that waits at it, where it listens, is aborted
+abbrev pub after_close : SocketsView → SocketId → SocketsView
+after_close h id =
+    let closed_socket = after_socket_closed h id in
+    record closed_socket { entries = entries_after_steps (listener_close_fate_of id) (role_after_listener_close h.kept id) closed_socket.entries }
+
+-- a connection from our port to the peer is in the table, in any state but CLOSED
+abbrev pub is_pair_held : SocketsView → ℕ → Endpoint → Bool
+is_pair_held h port peer = list_any (is_between (record { addr = h.addr; port = port }) peer) h.entries
+
+-- the local port of a new connection: that of a bound socket where the pair is not held, else the first dynamic port
+-- that is free, after the last one given
+abbrev pub port_for : SocketsView → Option Endpoint → Endpoint → Option ℕ
+port_for h (Some bound) peer = if is_pair_held h bound.port peer then None else Some bound.port
+port_for h None peer = first_port (is_free_port h.entries h.addr peer) h.last_port 0 16384
+
+-- no single host's address or our own, or port 0; then no route that leads to it
+abbrev pub reach_refusal : SocketsView → Endpoint → Bool → Option Refusal
+reach_refusal h peer routed =
+    if (peer.port == 0) || not (is_single_host peer.addr) || same_addr peer.addr h.addr then Some EADDRNOTAVAIL
+    else if routed then None
+    else Some ENETUNREACH
+
+-- why a socket that has had a connection opens none: the error that it is told, or by its state
+abbrev pub had_connection : State → Option connection_refusal.Refusal → Result (Option Endpoint) Refusal
+had_connection state (Some error) = Err (refusal_of error)
+had_connection state None = if is_opening state then Err EALREADY else Err EISCONN
+
+-- where a socket is bound that may open a connection, or why it may not
+abbrev pub open_answer : Role → Result (Option Endpoint) Refusal
+open_answer (Idle buffers bound) = Ok bound
+open_answer (Listener local backlog) = Err EOPNOTSUPP
+open_answer (Connected c listener) = had_connection c.state c.pending_error
+
+-- the port that a connect gives the socket's connection, or why it is refused: by what the socket is, by its peer, to whose address a route
+-- leads or none, by the ports
+abbrev pub port_connected : SocketsView → SocketId → Endpoint → Bool → Result ℕ Refusal
+port_connected h id peer routed = answer_at h id (λ role. of_open (open_answer role))
+  where
+    of_reach : Option Endpoint → Option Refusal → Result ℕ Refusal
+    of_reach bound (Some refusal) = Err refusal
+    of_reach bound None = ok_or (port_for h bound peer) EADDRINUSE
+
+    of_open : Result (Option Endpoint) Refusal → Result ℕ Refusal
+    of_open (Err refusal) = Err refusal
+    of_open (Ok bound) = of_reach bound (reach_refusal h peer routed)
+
+abbrev pub connect_refusal : SocketsView → SocketId → Endpoint → Bool → Option Refusal
+connect_refusal h id peer routed = result_err (port_connected h id peer routed)
+
+-- the pair that a connect would open, where it is not refused
+abbrev pub pair_connected : SocketsView → SocketId → Endpoint → Bool → Option Pair
+pair_connected h id peer routed = option_map (λ port. pair_of (record { addr = h.addr; port = port }) peer) (result_ok (port_connected h id peer routed))
+
+-- the last port given: a dynamic one counts, that of a bound socket does not
+abbrev pub last_port_after : SocketsView → Option Endpoint → ℕ → ℕ
+last_port_after h (Some bound) port = h.last_port
+last_port_after h None port = port
+
+-- where an idle socket is bound
+abbrev pub bound_of : Role → Option Endpoint
+bound_of (Idle buffers bound) = bound
+bound_of (Listener local backlog) = None
+bound_of (Connected c listener) = None
+
+-- the socket is a connection in SYN-SENT from our address and the port that it is given
+abbrev pub after_connect : SocketsView → ℕ → SocketId → Endpoint → Bool → SocketsView
+after_connect h isn id peer routed = of_port (port_connected h id peer routed)
+  where
+    of_port : Result ℕ Refusal → SocketsView
+    of_port (Err refusal) = h
+    of_port (Ok port) = with_socket (record h { last_port = last_port_after h (option_and_then bound_of (role_of h id)) port }) id (role_after_connect (record { addr = h.addr; port = port }) peer isn)

@@ -1,0 +1,135 @@
+-- Which states the entries of the table join, what ends them, and what makes them tell an error (RFC 9293 sections 3.3.2 and 3.10).
+use Rattle.std.specs.Prelude.{◌≡◌, ◌⊎◌, ℕ, ◌+◌, ◌==◌, ◌&&◌, ◌||◌, not, Bool, true, false, List, [], ◌∷◌, Option, Some, None, find}
+use Rattle.ipv4.specs.declared.addr.Addr.{Addr}
+use Rattle.ipv4.specs.declared.addr.Endpoint.{Endpoint}
+use Rattle.tcp_segment.specs.Segment.{Segment}
+use Rattle.tcp_state.specs.declared.buffers.Buffers.{Buffers}
+use Rattle.clock.specs.declared.moment.Moment.{Moment}
+use Rattle.tcp_state.specs.declared.state.State.TheVariants.{SynReceived}
+use Rattle.tcp_state.specs.View.{is_closed}
+use Rattle.tcp_state.specs.declared.calls.Refusal.{Refusal as Error}
+use Rattle.tcp_state.specs.Edges as edge
+use Rattle.sockets.specs.declared.entry.SocketId.{SocketId}
+use Rattle.sockets.specs.declared.entry.Entry.{Entry}
+use Rattle.sockets.specs.declared.role.Role.{Role}
+use Rattle.sockets.specs.Entries.{in_connection, is_socket, is_waiting_at, is_between, is_listening_at, sends, shown_state, new_socket}
+use Rattle.sockets.specs.SocketsView.{SocketsView, later_moment}
+use Rattle.sockets.specs.Ticks.{after_tick}
+use Rattle.sockets.specs.Lost.{is_given_up, after_giving_up}
+use Rattle.sockets.specs.Emission.{after_segment_sent}
+use Rattle.sockets.specs.Calls.{after_socket, after_bind, after_listen, after_accept, after_connect, after_send, after_recv, after_shutdown, after_close}
+use Rattle.sockets.specs.Arrival.{Arrival, Becomes, Opens, NoPlace, Answers, local_end, peer_end, is_opening, arrival}
+
+-- what may happen to the table: a call that is not refused, a tick, a segment from an address, a segment goes out, or resets are given up
+pub data Event : Type 0 where
+  Makes : Buffers → Event
+  Binds : SocketId → Endpoint → Event
+  Listens : SocketId → ℕ → Event
+  Accepts : SocketId → Event
+  Connects : ℕ → SocketId → Endpoint → Bool → Event
+  Sends : SocketId → List ℕ → Event
+  Receives : SocketId → ℕ → Event
+  Shuts : SocketId → Event
+  Closes : SocketId → Event
+  Ticks : Moment → Event
+  Hears : Moment → ℕ → Addr → Segment → Event
+  Emits : (Entry → Bool) → Moment → Event
+  GivesUp : (Addr → Bool) → Moment → Event
+
+abbrev pub after_arrival : SocketsView → Arrival → SocketsView
+after_arrival h (Becomes next) = next
+after_arrival h (Opens next) = next
+after_arrival h NoPlace = h
+after_arrival h (Answers head) = h
+
+-- the table after an event
+abbrev pub after_event : SocketsView → Event → SocketsView
+after_event h (Makes buffers) = after_socket h buffers
+after_event h (Binds id local) = after_bind h id local
+after_event h (Listens id backlog) = after_listen h id backlog
+after_event h (Accepts id) = after_accept h id
+after_event h (Connects isn id peer routed) = after_connect h isn id peer routed
+after_event h (Sends id octets) = after_send h id octets
+after_event h (Receives id len) = after_recv h id len
+after_event h (Shuts id) = after_shutdown h id
+after_event h (Closes id) = after_close h id
+after_event h (Ticks now) = after_tick h now
+after_event h (Hears now isn source s) = after_arrival h (arrival h now isn source s)
+after_event h (Emits goes now) = after_segment_sent h goes now
+after_event h (GivesUp lost now) = after_giving_up h lost now
+
+-- an event of the entry's connection ends it
+abbrev pub is_connection_cause : edge.Event → Role → Bool
+is_connection_cause e role = in_connection false (λ c. edge.is_cause c e) role
+
+-- it is what goes out: of the entries that have a segment due and may send it, it is the first
+abbrev pub is_next_out : SocketsView → (Entry → Bool) → Entry → Bool
+is_next_out h goes x = of_entry (find (sends goes) h.entries)
+  where
+    of_entry : Option Entry → Bool
+    of_entry None = false
+    of_entry (Some first) = first.id.0 == x.id.0
+
+-- a close of the socket ends it: nothing is left of one without a connection, and a connection ends as its own rules say
+abbrev pub is_close_cause : Moment → Role → Bool
+is_close_cause now role = in_connection true (λ c. edge.is_cause c (edge.Closes now)) role
+
+-- What ends an entry: that its socket is closed, as its role says, or the listener that it waits at; and for a connection a segment of its two
+-- ends, a tick or the going out of its segment, each as its own rules say, or that its reset is given up.
+abbrev pub is_cause_for : SocketsView → Event → Entry → Bool
+is_cause_for h (Closes id) x = (is_socket id x && is_close_cause h.kept x.role) || is_waiting_at id x
+is_cause_for h (Ticks now) x = is_connection_cause (edge.Ticks (later_moment h now)) x.role
+is_cause_for h (Hears now isn source s) x = is_between (local_end h s) (peer_end source s) x && is_connection_cause (edge.Hears s (later_moment h now)) x.role
+is_cause_for h (Emits goes now) x = is_next_out h goes x && is_connection_cause (edge.Emits (later_moment h now)) x.role
+is_cause_for h (GivesUp lost now) x = is_given_up lost (later_moment h now) x.role
+is_cause_for h _ x = false
+
+-- an entry becomes CLOSED
+abbrev pub becomes_closed : Role → Role → Bool
+becomes_closed before after = not (is_closed (shown_state before)) && is_closed (shown_state after)
+
+-- the error that an entry's connection tells its caller
+abbrev pub pending_error_in : Role → Option Error
+pending_error_in role = in_connection None (λ c. c.pending_error) role
+
+-- an event of the entry's connection makes it tell an error: a reset that acts, in a state that has it
+abbrev pub is_telling : edge.Event → Error → Role → Bool
+is_telling e error role = in_connection false (λ c. edge.may_raise c e error) role
+
+abbrev pub is_telling_to : SocketsView → Event → Error → Entry → Bool
+is_telling_to h (Hears now isn source s) error x = is_between (local_end h s) (peer_end source s) x && is_telling (edge.Hears s (later_moment h now)) error x.role
+is_telling_to h _ error x = false
+
+-- the errors that are told after an event were told before, or the event makes the connection tell them
+abbrev pub IsToldBy : SocketsView → Event → Entry → Entry → Type 0
+IsToldBy h e x y = (error : Error) → pending_error_in y.role ≡ Some error → (pending_error_in x.role ≡ Some error) ⊎ (is_telling_to h e error x ≡ true)
+
+-- An entry, and what an event leaves of it: its state stays, or goes along an edge of the table; where it is taken out, or becomes
+-- CLOSED, that has a cause; and so has an error that it tells.
+abbrev pub IsStep : SocketsView → Event → Entry → Option Entry → Type 0
+IsStep h e x None = is_cause_for h e x ≡ true
+IsStep h e x (Some y) = (y.id ≡ x.id) × edge.IsEdge (shown_state x.role) (shown_state y.role) × (becomes_closed x.role y.role ≡ true → is_cause_for h e x ≡ true) × IsToldBy h e x y
+
+-- a new connection in SYN-RECEIVED between the two ends of a segment that opens one, told no error, which waits at the listener of the
+-- segment's destination port
+pub record IsOpenedBy (h : SocketsView) (source : Addr) (s : Segment) (e : Entry) : Type 0 where
+  pub opens : is_opening s.flags ≡ true
+  pub id : e.id.0 ≡ h.last_id + 1
+  pub between : is_between (local_end h s) (peer_end source s) e ≡ true
+  pub state : shown_state e.role ≡ SynReceived
+  pub told : pending_error_in e.role ≡ None
+  pub listener : Entry
+  pub listens : find (is_listening_at s.destination) h.entries ≡ Some listener
+  pub waits : is_waiting_at listener.id e ≡ true
+
+-- What an event adds: the making of a socket adds an idle one that is not bound, a segment at most one connection, and nothing else any.
+abbrev pub IsAdded : SocketsView → Event → List Entry → Type 0
+IsAdded h (Makes buffers) added = added ≡ new_socket (record { 0 = h.last_id + 1 }) buffers ∷ []
+IsAdded h (Hears now isn source s) added = (added ≡ []) ⊎ ((e : Entry) × (added ≡ e ∷ []) × IsOpenedBy h source s e)
+IsAdded h _ added = added ≡ []
+
+-- The table before and after, entry by entry and in order: what is left of each, and behind them what was added.
+abbrev pub Follows : (Entry → Option Entry → Type 0) → (List Entry → Type 0) → List Entry → List Entry → Type 0
+Follows Step Added [] ys = Added ys
+Follows Step Added (x ∷ xs) [] = Step x None × Follows Step Added xs []
+Follows Step Added (x ∷ xs) (y ∷ ys) = (Step x (Some y) × Follows Step Added xs ys) ⊎ (Step x None × Follows Step Added xs (y ∷ ys))

@@ -1,0 +1,15 @@
+pub mod Lists
+pub mod Replies
+pub mod Entries
+pub mod SocketsView
+pub mod Ticks
+pub mod Lost
+pub mod Ports
+pub mod Calls
+pub mod Arrival
+pub mod Pairs
+pub mod Emission
+pub mod Sound
+pub mod Causes
+pub mod Order
+pub mod Names

@@ -1,0 +1,45 @@
+-- What a reader sees of the table of sockets and connections over one address.
+use Rattle.std.specs.Prelude.{ℕ, nat_lt, if◌then◌else◌, List, [], Option, option_map, find}
+use Rattle.ipv4.specs.declared.addr.Addr.{Addr}
+use Rattle.ipv4.specs.declared.addr.Pair.{Pair}
+use Rattle.clock.specs.declared.moment.Moment.{Moment}
+use Rattle.sockets.specs.declared.entry.SocketId.{SocketId}
+use Rattle.sockets.specs.declared.entry.Entry.{Entry}
+use Rattle.sockets.specs.declared.role.Role.{Role}
+use Rattle.sockets.specs.Lists.{change_first}
+use Rattle.sockets.specs.Entries.{is_socket, is_of_pair, with_role}
+
+-- its address, the kept moment, the dynamic port given last (65,535 before the first), the id given last (0 before the first),
+-- and its entries in order of id
+pub record SocketsView : Type 0 where
+  pub addr : Addr
+  pub kept : Moment
+  pub last_port : ℕ
+  pub last_id : ℕ
+  pub entries : List Entry
+
+-- what the socket that the id names is
+abbrev pub role_of : SocketsView → SocketId → Option Role
+role_of h id = option_map (λ e. e.role) (find (is_socket id) h.entries)
+
+-- that socket changed, and everything else as it was
+abbrev pub with_socket : SocketsView → SocketId → (Role → Role) → SocketsView
+with_socket h id change = record h { entries = change_first (is_socket id) (with_role change) h.entries }
+
+-- the later of a moment and the kept one
+abbrev pub later_moment : SocketsView → Moment → Moment
+later_moment h now = if nat_lt h.kept.0 now.0 then now else h.kept
+
+-- a table in which nothing happened
+abbrev pub new_sockets : Addr → SocketsView
+new_sockets addr = record {
+  addr = addr;
+  kept = record { 0 = 0 };
+  last_port = 65535;
+  last_id = 0;
+  entries = [];
+}
+
+-- the entry with a connection of the pair, in any state but CLOSED
+abbrev pub holder_id : SocketsView → Pair → Option SocketId
+holder_id h pair = option_map (λ e. e.id) (find (is_of_pair pair) h.entries)

@@ -1,0 +1,312 @@
+//! The socket calls (POSIX.1-2017), each with its refusals in the order in which they are tested.
+
+ghost use Rattle.std.specs.Prelude.{◌≡◌, ◌^◌, ◌<◌, ◌≤◌, ◌↔◌, length, IfOk, IfErr, OnOk, OnErr, IfSome, IsTrue, ◌⊎◌, ◌+◌, find, position, None};
+ghost use Rattle.tcp_state.specs.declared.buffers.Buffers.{Buffers};
+ghost use Rattle.std.specs.Result.{result_err};
+ghost use Rattle.std.specs.Option.{ok_or};
+ghost use Rattle.sockets.specs.Calls.{open_answer};
+
+use crate::entry::{Entry, Kind, SocketId};
+use crate::refusal::Refusal;
+use crate::role::Role;
+use crate::sockets::Sockets;
+use crate::{ports, table};
+use clock::Moment;
+use ipv4::{Addr, Endpoint, Pair};
+use tcp_segment::Seq;
+use tcp_state::{Buffers, Received, State};
+
+/// The address that stands for every address of ours.
+const ANY: Addr = Addr([0; 4]);
+
+/// How many connections may wait at a listener.
+const BACKLOG: usize = 1;
+
+#[tactic(auto, using(crate::proofs::Firsts::firsts))]
+impl Sockets {
+    ghost use Rattle.sockets.specs.SocketsView.{SocketsView, later_moment};
+    ghost use Rattle.sockets.specs.Entries.{is_socket};
+    ghost use Rattle.sockets.specs.Calls.{bind_refusal, after_bind, listen_refusal, after_listen, state_answer, after_socket, is_table_full, accept_answer, after_accept, send_answer, after_send, recv_answer, recv_front, after_recv, connect_refusal, after_connect, reach_refusal, port_for, last_port_after, pair_connected, shutdown_refusal, after_shutdown};
+
+    /// Makes a socket, with the room for one connection. EMFILE where the table is full or the last id is given, ENOMEM.
+    pub fn socket(&mut self, kind: Kind) -> Result<SocketId, Refusal>
+        ensures full { (result ≡ Err Refusal.EMFILE) ↔ IsTrue (is_table_full self.old) }
+        ensures other { IfErr result (λ e. (e ≡ Refusal.EMFILE) ⊎ (e ≡ Refusal.ENOMEM)) }
+        ensures ok { IfOk result (λ id. (id.0 ≡ self.old.last_id + 1) × ((buffers : Buffers) × (self.new ≡ after_socket self.old buffers))) }
+        ensures err { OnErr result (self.new ≡ self.old) }
+    {
+        let Kind::Tcp = kind;
+        if self.entries.is_full() {
+            return Err(Refusal::EMFILE);
+        }
+        let Some(id) = self.last_id.checked_add(1) else {
+            return Err(Refusal::EMFILE);
+        };
+        let Ok(buffers) = Buffers::new(self.alloc) else {
+            return Err(Refusal::ENOMEM);
+        };
+        self.last_id = id;
+        self.entries.push(Entry::socket(SocketId(id), buffers));
+        Ok(SocketId(id))
+    }
+
+    /// Binds a socket to a local endpoint, at our address or 0.0.0.0, which stands for it.
+    ///
+    /// EBADF; EINVAL where it is bound already or has had a connection, or the port is 0; EADDRNOTAVAIL at another
+    /// address; EADDRINUSE where an entry has the port.
+    pub fn bind(&mut self, id: SocketId, local: Endpoint) -> Result<(), Refusal>
+        ensures refused { result_err result ≡ bind_refusal self.old id local }
+        ensures ok { OnOk result (self.new ≡ after_bind self.old id local) }
+        ensures err { OnErr result (self.new ≡ self.old) }
+    {
+        let place = self.may_bind(id, local)?;
+        self.entries[place].bind(local);
+        Ok(())
+    }
+
+    /// The place of the socket that may be bound.
+    fn may_bind(&self, id: SocketId, local: Endpoint) -> Result<usize, Refusal>
+        ensures refused { result_err result ≡ bind_refusal self.now id local }
+        ensures place { IfOk result (λ place. position (is_socket id) self.now.entries ≡ Some place) }
+    {
+        let place = self.socket_place(id)?;
+        let Role::Idle { bound: None, .. } = &self.entries[place].role else {
+            return Err(Refusal::EINVAL);
+        };
+        if local.port == 0 {
+            return Err(Refusal::EINVAL);
+        }
+        if local.addr != self.addr && local.addr != ANY {
+            return Err(Refusal::EADDRNOTAVAIL);
+        }
+        if table::is_port_taken(&self.entries, local.port) {
+            return Err(Refusal::EADDRINUSE);
+        }
+        Ok(place)
+    }
+
+    /// Lets a bound socket take connections, of which `backlog` may wait to be accepted.
+    ///
+    /// EBADF; EINVAL where the backlog is not 1, or the socket listens already or has had a connection; EDESTADDRREQ
+    /// where it is not bound.
+    pub fn listen(&mut self, id: SocketId, backlog: usize) -> Result<(), Refusal>
+        ensures refused { result_err result ≡ listen_refusal self.old id backlog }
+        ensures ok { OnOk result (self.new ≡ after_listen self.old id backlog) }
+        ensures err { OnErr result (self.new ≡ self.old) }
+    {
+        let place = self.may_listen(id, backlog)?;
+        self.entries[place].listen(backlog);
+        Ok(())
+    }
+
+    /// The place of the socket that may listen.
+    fn may_listen(&self, id: SocketId, backlog: usize) -> Result<usize, Refusal>
+        ensures refused { result_err result ≡ listen_refusal self.now id backlog }
+        ensures place { IfOk result (λ place. position (is_socket id) self.now.entries ≡ Some place) }
+    {
+        let place = self.socket_place(id)?;
+        let role = &self.entries[place].role;
+        if backlog != BACKLOG {
+            return Err(Refusal::EINVAL);
+        }
+        match role {
+            Role::Idle { bound: Some(_), .. } => Ok(place),
+            Role::Idle { bound: None, .. } => Err(Refusal::EDESTADDRREQ),
+            _ => Err(Refusal::EINVAL),
+        }
+    }
+
+    /// Takes the connection that first passed SYN-RECEIVED of those that wait at a listener: its id from now on, and its peer.
+    ///
+    /// EBADF; EINVAL where the socket does not listen; EAGAIN where no connection waits.
+    pub fn accept(&mut self, id: SocketId) -> Result<(SocketId, Endpoint), Refusal>
+        ensures answer { result ≡ accept_answer self.old id }
+        ensures ok { OnOk result (self.new ≡ after_accept self.old id) }
+        ensures err { OnErr result (self.new ≡ self.old) }
+    {
+        let listener = self.socket_place(id)?;
+        let Role::Listener { .. } = &self.entries[listener].role else {
+            return Err(Refusal::EINVAL);
+        };
+        let place = table::next_accepted(&self.entries, id).ok_or(Refusal::EAGAIN)?;
+        let entry = &mut self.entries[place];
+        let peer = entry.role.offered_peer(id).ok_or(Refusal::EAGAIN)?;
+        entry.accept();
+        Ok((entry.id, peer))
+    }
+
+    /// Opens a connection to `peer`, whose initial sequence number here is `isn` (RFC 9293 section 3.10.1).
+    ///
+    /// EBADF; EOPNOTSUPP where the socket listens; the error that its connection is told; EALREADY while it opens a connection; EISCONN where it has had
+    /// one; EADDRNOTAVAIL for port 0, no single host or our own address; ENETUNREACH where no route leads to the peer, which `is_routed`
+    /// says; EADDRINUSE where the pair is held or no dynamic port is free.
+    pub fn connect(
+        &mut self,
+        _now: Moment,
+        isn: Seq,
+        id: SocketId,
+        peer: Endpoint,
+        is_routed: bool,
+    ) -> Result<(), Refusal>
+        ensures refused { result_err result ≡ connect_refusal self.old id peer is_routed }
+        ensures ok { OnOk result (self.new ≡ after_connect self.old isn.0 id peer is_routed) }
+        ensures numbered { isn.0 < 2 ^ 32 }
+        ensures err { OnErr result (self.new ≡ self.old) }
+    {
+        let place = self.socket_place(id)?;
+        let bound = may_open(&self.entries[place].role)?;
+        self.may_reach(peer, is_routed)?;
+        let port = self.local_port(bound, peer)?;
+        let addr = self.addr;
+        self.last_port = self.last_port_after(bound, port);
+        self.entries[place].connect(Endpoint { addr, port }, peer, isn);
+        Ok(())
+    }
+
+    /// The pair that `connect` would open; None where it would be refused.
+    pub fn would_connect(&self, id: SocketId, peer: Endpoint, is_routed: bool) -> Option<Pair>
+        ensures { result ≡ pair_connected self.now id peer is_routed }
+    {
+        let place = table::socket_of(&self.entries, id)?;
+        let bound = may_open(&self.entries[place].role).ok()?;
+        self.may_reach(peer, is_routed).ok()?;
+        let addr = self.addr;
+        let port = self.local_port(bound, peer).ok()?;
+        Some(Pair::new(Endpoint { addr, port }, peer))
+    }
+
+    /// Whether this is a peer that a connection may have, and a route leads to it, which `is_routed` says.
+    fn may_reach(&self, peer: Endpoint, is_routed: bool) -> Result<(), Refusal>
+        ensures { result_err result ≡ reach_refusal self.now peer is_routed }
+    {
+        if peer.port == 0 || !peer.addr.is_single_host() || peer.addr == self.addr {
+            return Err(Refusal::EADDRNOTAVAIL);
+        }
+        if !is_routed {
+            return Err(Refusal::ENETUNREACH);
+        }
+        Ok(())
+    }
+
+    /// The local port of a new connection to `peer`: that of a bound socket, else a dynamic one.
+    fn local_port(&self, bound: Option<Endpoint>, peer: Endpoint) -> Result<u16, Refusal>
+        ensures dynamic { bound ≡ None → IfOk result (λ port. 49152 ≤ port) }
+        ensures value { result ≡ ok_or (port_for self.now bound peer) Refusal.EADDRINUSE }
+    {
+        let addr = self.addr;
+        match bound {
+            Some(Endpoint { port, .. }) => {
+                if table::is_pair_held(&self.entries, Endpoint { addr, port }, peer) {
+                    return Err(Refusal::EADDRINUSE);
+                }
+                Ok(port)
+            }
+            None => ports::first_free(&self.entries, addr, self.last_port, peer).ok_or(
+                Refusal::EADDRINUSE,
+            ),
+        }
+    }
+
+    /// The dynamic port given last, once a connection has this port: that of a bound socket does not count.
+    fn last_port_after(&self, bound: Option<Endpoint>, port: u16) -> u16
+        requires { bound ≡ None → 49152 ≤ port }
+        ensures value { result ≡ last_port_after self.now bound port }
+        ensures dynamic { 49152 ≤ result }
+    {
+        match bound {
+            Some(_) => self.last_port,
+            None => port,
+        }
+    }
+
+    /// Gives octets to a connection (RFC 9293 section 3.10.2), and answers how many it took: the first that find room.
+    ///
+    /// EBADF; EOPNOTSUPP where the socket listens; ENOTCONN where it has no connection; the error that its connection is told; EAGAIN
+    /// while the connection is opened; EPIPE once our side is closed; EAGAIN where octets are given and there is no room.
+    pub fn send(&mut self, id: SocketId, octets: &[u8]) -> Result<usize, Refusal>
+        ensures answer { result ≡ send_answer self.old id octets.now }
+        ensures ok { OnOk result (self.new ≡ after_send self.old id octets.now) }
+        ensures err { OnErr result (self.new ≡ self.old) }
+    {
+        let place = self.socket_place(id)?;
+        self.entries[place].send(octets)
+    }
+
+    /// Reads octets of a connection into `buffer` (RFC 9293 section 3.10.3), in order, as many as there are or as fit. The end of the stream
+    /// is told where nothing is readable and the peer's FIN has come behind all its octets, and where the connection is CLOSED and told no
+    /// error.
+    ///
+    /// EBADF; EOPNOTSUPP where the socket listens; EINVAL for an empty buffer; ENOTCONN where it has no connection; the error that its
+    /// connection is told; EAGAIN while the connection is opened, or where nothing is readable before the end.
+    pub fn recv(&mut self, id: SocketId, buffer: &mut [u8]) -> Result<Received, Refusal>
+        ensures answer { result ≡ recv_answer self.old id (length buffer.old) }
+        ensures octets { buffer.new ≡ recv_front self.old id buffer.old }
+        ensures ok { OnOk result (self.new ≡ after_recv self.old id (length buffer.old)) }
+        ensures err { OnErr result (self.new ≡ self.old) }
+    {
+        let place = self.socket_place(id)?;
+        self.entries[place].recv(buffer)
+    }
+
+    /// Closes our side of a connection (RFC 9293 section 3.10.4): a FIN follows the octets that were given. Closed again, it stays so.
+    ///
+    /// EBADF; EOPNOTSUPP where the socket listens; the error that its connection is told; ENOTCONN where it has no connection or is opening
+    /// one.
+    pub fn shutdown_write(&mut self, id: SocketId) -> Result<(), Refusal>
+        ensures refused { result_err result ≡ shutdown_refusal self.old id }
+        ensures ok { OnOk result (self.new ≡ after_shutdown self.old id) }
+        ensures err { OnErr result (self.new ≡ self.old) }
+    {
+        let place = self.may_shut(id)?;
+        self.entries[place].shutdown();
+        Ok(())
+    }
+
+    /// The place of the socket whose side may be closed.
+    fn may_shut(&self, id: SocketId) -> Result<usize, Refusal>
+        ensures refused { result_err result ≡ shutdown_refusal self.now id }
+        ensures place { IfOk result (λ place. position (is_socket id) self.now.entries ≡ Some place) }
+    {
+        let place = self.socket_place(id)?;
+        match &self.entries[place].role {
+            Role::Idle { .. } => Err(Refusal::ENOTCONN),
+            Role::Listener { .. } => Err(Refusal::EOPNOTSUPP),
+            Role::Connected { connection, .. } => match connection.error() {
+                Some(error) => Err(Refusal::from(error)),
+                None if connection.state().is_opening() => Err(Refusal::ENOTCONN),
+                None => Ok(place),
+            },
+        }
+    }
+
+    /// The state of a socket (RFC 9293 section 3.3.2); CLOSED where it has had no connection. EBADF.
+    pub fn state(&self, id: SocketId) -> Result<State, Refusal>
+        ensures { result ≡ state_answer self.now id }
+    {
+        let place = self.socket_place(id)?;
+        Ok(self.entries[place].role.state())
+    }
+
+    /// The place of the socket `id`; EBADF where there is none.
+    pub(crate) fn socket_place(&self, id: SocketId) -> Result<usize, Refusal>
+        ensures absent { IfErr result (λ e. (e ≡ Refusal.EBADF) × (find (is_socket id) self.now.entries ≡ None)) }
+        ensures place { IfOk result (λ place. position (is_socket id) self.now.entries ≡ Some place) }
+    {
+        table::socket_of(&self.entries, id).ok_or(Refusal::EBADF)
+    }
+}
+
+/// The endpoint to which an idle socket is bound, which may open a connection; why any other may not.
+fn may_open(role: &Role) -> Result<Option<Endpoint>, Refusal>
+    ensures { result ≡ open_answer role.now }
+{
+    match role {
+        Role::Idle { bound, .. } => Ok(*bound),
+        Role::Listener { .. } => Err(Refusal::EOPNOTSUPP),
+        Role::Connected { connection, .. } => match (connection.error(), connection.state()) {
+            (Some(error), _) => Err(Refusal::from(error)),
+            (None, State::SynSent | State::SynReceived) => Err(Refusal::EALREADY),
+            (None, _) => Err(Refusal::EISCONN),
+        },
+    }
+}

@@ -1,0 +1,91 @@
+//! Laws over the definitions alone: functions with nothing to do, whose contracts are the laws.
+
+ghost use Rattle.std.specs.Prelude.{◌≡◌, ℕ, ◌+◌, ◌≤◌, Bool, true, false, not, [], length, Option, Some, None, is_some};
+ghost use Rattle.ipv4.specs.declared.addr.Addr.{Addr};
+ghost use Rattle.ipv4.specs.declared.addr.Endpoint.{Endpoint};
+ghost use Rattle.ipv4.specs.declared.addr.Pair.{Pair};
+ghost use Rattle.ipv4.specs.Addresses.{pair_of, same_addr};
+ghost use Rattle.tcp_segment.specs.declared.head.Head.{Head};
+ghost use Rattle.tcp_segment.specs.Segment.{Segment, FieldsFit};
+ghost use Rattle.tcp_segment.specs.Sent.{CanBeSent};
+ghost use Rattle.clock.specs.declared.moment.Moment.{Moment};
+ghost use Rattle.clock.specs.Moments.{has_come};
+ghost use Rattle.sockets.specs.declared.entry.SocketId.{SocketId};
+ghost use Rattle.sockets.specs.SocketsView.{SocketsView, holder_id, new_sockets, later_moment, role_of};
+ghost use Rattle.sockets.specs.Ticks.{after_tick, least_deadline, IsLeastDeadline, HasNoDeadline};
+ghost use Rattle.sockets.specs.Lost.{after_giving_up};
+ghost use Rattle.sockets.specs.Arrival.{Opens, Answers, local_end, peer_end, arrival, opened_by, pair_opened};
+ghost use Rattle.sockets.specs.Calls.{connect_refusal, after_connect, pair_connected};
+ghost use Rattle.sockets.specs.Pairs.{socket_pair};
+ghost use Rattle.sockets.specs.Sound.{IsSoundTable, NoneIsOver};
+ghost use Rattle.sockets.specs.Ports.{first_port, IsDynamic, IsFirstBehind};
+ghost use Rattle.sockets.specs.Order.{IsOrdered, IsAllowed};
+ghost use Rattle.sockets.specs.Causes.{Event, after_event, IsAdded, IsStep, Follows};
+
+/// What `would_open` foresees of a segment is the pair that it leads to the opening of, whatever the moment and the initial number.
+/// Where a segment that doesn't come from our own address opens one, the new connection, of the next id, holds that pair.
+pub fn openings_are_foreseen()
+    ensures foreseen { (h : SocketsView) (now : Moment) (isn : ℕ) (source : Addr) (s : Segment) → pair_opened h source s ≡ opened_by h source s (arrival h now isn source s) }
+    ensures opened { (h : SocketsView) (now : Moment) (isn : ℕ) (source : Addr) (s : Segment) (next : SocketsView) → IsOrdered h → same_addr source h.addr ≡ false
+        → arrival h now isn source s ≡ Opens next → holder_id next (pair_of (local_end h s) (peer_end source s)) ≡ Some (record { 0 = h.last_id + 1 }) }
+{}
+
+/// What answers a segment is a reset (RFC 9293 section 3.5.2), which can be sent where the segment's fields and the two addresses are of their width.
+pub fn answers_are_resets()
+    ensures reset { (h : SocketsView) (now : Moment) (isn : ℕ) (source : Addr) (s : Segment) (head : Head) → arrival h now isn source s ≡ Answers head → head.flags.rst ≡ true }
+    ensures sendable { (h : SocketsView) (now : Moment) (isn : ℕ) (source : Addr) (s : Segment) (head : Head) → length h.addr.0 ≡ 4 → length source.0 ≡ 4 → FieldsFit s
+        → arrival h now isn source s ≡ Answers head → CanBeSent h.addr source head [] }
+{}
+
+/// `would_connect` foresees a pair exactly where `connect` is not refused, and after the `connect` the socket has a connection of that pair.
+pub fn connects_are_foreseen()
+    ensures foreseen { (h : SocketsView) (id : SocketId) (peer : Endpoint) (routed : Bool) → is_some (pair_connected h id peer routed) ≡ not (is_some (connect_refusal h id peer routed)) }
+    ensures opened { (h : SocketsView) (isn : ℕ) (id : SocketId) (peer : Endpoint) (routed : Bool) (pair : Pair) → pair_connected h id peer routed ≡ Some pair
+        → socket_pair (after_connect h isn id peer routed) id ≡ Some pair }
+{}
+
+/// The state of an entry stays, or goes along an edge of the table of states. An entry becomes CLOSED, or is taken out of the table, only
+/// by a cause: its close or that of the listener that it waits at, an event of its connection that ends it, or that its reset is given up. Every other one keeps its
+/// place. An error that its connection tells was told before, or a reset tells it in a state that has it. Behind them a new entry stands only
+/// where a socket was made, or a segment opened a connection at a listener.
+pub fn ends_have_causes()
+    ensures { (h : SocketsView) (e : Event) → IsSoundTable h → Follows (IsStep h e) (IsAdded h e) h.entries (let after = after_event h e in after.entries) }
+{}
+
+/// What is over is taken out at once: no event leaves a connection in the table that its caller closed, that is CLOSED and owes no reset.
+pub fn nothing_over_stays()
+    ensures { (h : SocketsView) (e : Event) → NoneIsOver h → NoneIsOver (after_event h e) }
+{}
+
+/// No socket is given up with the resets that can't go out: each id names what it named.
+pub fn sockets_are_not_given_up()
+    ensures { (h : SocketsView) (lost : Addr → Bool) (now : Moment) (id : SocketId) → IsSoundTable h → role_of (after_giving_up h lost now) id ≡ role_of h id }
+{}
+
+/// Of the dynamic ports (RFC 6335 section 6: 49152 to 65535) the first one that passes is given, in the turn that begins behind the last one
+/// given; and none exactly where no dynamic port passes. (The port that a table gave last is always dynamic, by `tables_stay_ordered`.)
+pub fn dynamic_ports()
+    ensures given { (test : ℕ → Bool) (last port : ℕ) → IsDynamic last → first_port test last 0 16384 ≡ Some port → IsFirstBehind test last port }
+    ensures none { (test : ℕ → Bool) (last : ℕ) → IsDynamic last → first_port test last 0 16384 ≡ None → (port : ℕ) → IsDynamic port → test port ≡ false }
+{}
+
+/// The moment that `next_deadline` answers is the deadline of an entry, and none has an earlier one; it answers none exactly where no entry has
+/// one.
+pub fn deadline_is_the_least()
+    ensures some { (h : SocketsView) (moment : Moment) → least_deadline h ≡ Some moment → IsLeastDeadline h moment }
+    ensures none { (h : SocketsView) → least_deadline h ≡ None → HasNoDeadline h }
+{}
+
+/// A tick before the deadline changes nothing but the kept moment, and so does any tick where there is no deadline.
+pub fn ticks_wait()
+    ensures { (h : SocketsView) (now : Moment) → has_come (least_deadline h) (later_moment h now) ≡ false → after_tick h now ≡ record h { kept = later_moment h now } }
+{}
+
+/// The table stays in order, from the first on, whatever happens but a call that is refused and a segment from our own address: ids ascend, no two connections but CLOSED
+/// ones have the same two ends (RFC 9293 section 3.4.1), and no two sockets without a connection have the same port.
+/// The id given last never goes back, so none is given twice.
+pub fn tables_stay_ordered()
+    ensures fresh { (addr : Addr) → IsOrdered (new_sockets addr) }
+    ensures kept { (h : SocketsView) (e : Event) → IsAllowed h e → IsOrdered h → IsOrdered (after_event h e) }
+    ensures numbered { (h : SocketsView) (e : Event) → let after = after_event h e in h.last_id ≤ after.last_id }
+{}

@@ -1,0 +1,51 @@
+//! Dynamic ports (RFC 6335 section 6): 49152 to 65535, given in turn.
+
+ghost use Rattle.std.specs.Prelude.{◌≡◌, ◌+◌, ◌-◌, ◌<◌, ◌≤◌, IfSome};
+ghost use Rattle.sockets.specs.Ports.{port_after, first_port, is_free_port};
+
+use crate::entry::Entry;
+use crate::table;
+use ipv4::{Addr, Endpoint};
+
+/// The first dynamic port.
+pub(crate) const FIRST: u16 = 49_152;
+
+/// The last dynamic port, after which the first comes again.
+pub(crate) const LAST: u16 = 65_535;
+
+/// How many dynamic ports there are.
+const COUNT: u16 = LAST - FIRST + 1;
+
+/// The dynamic port that comes `steps` after the one after `last`, where the first comes after the last.
+fn port_after(last: u16, steps: u16) -> u16
+    requires from_first { FIRST ≤ last }
+    requires in_turn { steps < COUNT }
+    ensures within { FIRST ≤ result }
+    ensures value { result ≡ port_after last steps }
+{
+    FIRST + (last - FIRST + 1 + steps) % COUNT
+}
+
+/// The first dynamic port after `last` to which no socket is bound and from which no entry holds a connection to `peer`.
+#[tactic(auto, using(crate::proofs::Turns::turns))]
+pub(crate) fn first_free(entries: &[Entry], addr: Addr, last: u16, peer: Endpoint) -> Option<u16>
+    requires { FIRST ≤ last }
+    ensures within { IfSome result (λ port. FIRST ≤ port) }
+    ensures first { result ≡ first_port (is_free_port entries.now addr peer) last 0 COUNT }
+{
+    for steps in 0..COUNT {
+        let port = port_after(last, steps);
+        if is_free(entries, addr, port, peer) {
+            return Some(port);
+        }
+    }
+    None
+}
+
+/// Whether no socket is bound to our port `port`, and no entry holds a connection from it to `peer`.
+fn is_free(entries: &[Entry], addr: Addr, port: u16, peer: Endpoint) -> bool
+    ensures { result ≡ is_free_port entries.now addr peer port }
+{
+    !table::is_port_bound(entries, port)
+        && !table::is_pair_held(entries, Endpoint { addr, port }, peer)
+}

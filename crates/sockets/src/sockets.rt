@@ -1,0 +1,142 @@
+//! The table itself: what it holds, its clock, and the questions that change nothing.
+
+ghost use Rattle.std.specs.Prelude.{◌≡◌, ◌≤◌, Some, None, Bool};
+
+use crate::entry::{Entry, SocketId};
+use crate::table::ENTRIES;
+use crate::{ports, table};
+use arrayvec::ArrayVec;
+use clock::Moment;
+use ipv4::{Addr, Pair};
+use std::alloc::Global;
+use std::marker::Model;
+
+/// The table of the sockets and connections over one address.
+#[derive(Drop)]
+pub struct Sockets {
+    pub(crate) alloc: Global,
+    pub(crate) addr: Addr,
+    pub(crate) kept: Moment,
+    pub(crate) last_port: u16,
+    pub(crate) last_id: u64,
+    pub(crate) entries: ArrayVec<Entry, ENTRIES>,
+}
+
+impl Model for Sockets {
+    ghost use Rattle.std.specs.Prelude.{◌≤◌};
+    ghost use Rattle.sockets.specs.SocketsView.{SocketsView};
+
+    ghost Value = { SocketsView };
+
+    ghost view = { λ h. record {
+      addr = h.addr;
+      kept = h.kept;
+      last_port = h.last_port;
+      last_id = h.last_id;
+      entries = h.entries.items;
+    } };
+
+    ghost invariant = { λ h. 49152 ≤ h.last_port };
+}
+
+#[tactic(auto, using(crate::proofs::Firsts::firsts))]
+impl Sockets {
+    ghost use Rattle.sockets.specs.SocketsView.{later_moment, holder_id, new_sockets};
+    ghost use Rattle.sockets.specs.Ticks.{after_tick, least_deadline};
+    ghost use Rattle.sockets.specs.Lost.{after_giving_up};
+    ghost use Rattle.ipv4.specs.declared.addr.Addr.{Addr};
+    ghost use Rattle.sockets.specs.Pairs.{socket_pair};
+    ghost use Rattle.sockets.specs.Sound.{IsSoundTable};
+
+    /// A table with no sockets, whose kept moment is 0. It takes no memory.
+    pub fn new(alloc: Global, addr: Addr) -> Sockets
+        ensures { result ≡ new_sockets addr }
+    {
+        Sockets {
+            alloc,
+            addr,
+            kept: Moment(0),
+            last_port: ports::LAST,
+            last_id: 0,
+            entries: ArrayVec::new(),
+        }
+    }
+
+    /// The address over which the table is.
+    pub fn addr(&self) -> Addr
+        ensures { result ≡ self.now.addr }
+    {
+        self.addr
+    }
+
+    /// The kept moment: the latest of those of the ticks so far.
+    pub fn kept(&self) -> Moment
+        ensures { result ≡ self.now.kept }
+    {
+        self.kept
+    }
+
+    /// The entries, in order of id.
+    pub fn entries(&self) -> &[Entry]
+        ensures { result.now ≡ self.now.entries }
+    {
+        &self.entries
+    }
+
+    /// Moves the kept moment forward to `now`, and lets each timer act whose moment has come. It never goes back. A
+    /// connection that its caller closed is gone once its wait is over.
+    pub fn tick(&mut self, now: Moment)
+        ensures { self.new ≡ after_tick self.old now }
+    {
+        let now = self.later_moment(now);
+        self.kept = now;
+        table::tick(&mut self.entries, now);
+    }
+
+    /// The least moment at which a tick does something.
+    pub fn next_deadline(&self) -> Option<Moment>
+        ensures { result ≡ least_deadline self.now }
+    {
+        table::least_deadline(&self.entries)
+    }
+
+    /// The entry with a connection of this pair in any state but CLOSED.
+    pub fn holds(&self, pair: Pair) -> Option<SocketId>
+        ensures { result ≡ holder_id self.now pair }
+    {
+        let place = table::holder(&self.entries, pair)?;
+        Some(self.entries[place].id)
+    }
+
+    /// The pair of the connection of the socket `id`.
+    pub fn pair_of(&self, id: SocketId) -> Option<Pair>
+        ensures { result ≡ socket_pair self.now id }
+    {
+        let place = table::socket_of(&self.entries, id)?;
+        self.entries[place].role.pair()
+    }
+
+    /// Gives up each reset of an abort that is owed to a peer at a lost address, which `lost` says, and has waited for 3,000 ms or more at the
+    /// later of `now` and the kept moment: its connection is taken out of the table. All else stays, in order.
+    pub fn give_up<F: Fn(Addr) -> bool>(&mut self, now: Moment, lost: F)
+        requires { F.IsAlwaysCallable lost }
+        ensures { (test : Addr → Bool) → ((addr : Addr) (answer : Bool) → F.post lost addr answer → answer ≡ test addr) → self.new ≡ after_giving_up self.old test now }
+    {
+        let now = self.later_moment(now);
+        table::give_up(&mut self.entries, now, &lost);
+    }
+
+    /// What each connection keeps of itself, for the contracts above; it changes nothing.
+    pub fn sound(&self)
+        ensures { IsSoundTable self.now }
+    {
+        table::sound(&self.entries);
+    }
+
+    /// The later of `now` and the kept moment.
+    pub fn later_moment(&self, now: Moment) -> Moment
+        ensures { result ≡ later_moment self.now now }
+    {
+        if now > self.kept { now } else { self.kept }
+    }
+}

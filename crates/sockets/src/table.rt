@@ -1,0 +1,149 @@
+//! What is looked up in the table, which stands in order of id.
+
+ghost use Rattle.std.specs.Prelude.{◌≡◌, ◌<◌, Bool, not, if◌then◌else◌, length, remove, position, count_by, filter, fold, None};
+ghost use Rattle.std.specs.List.{list_any, AllByRecursion};
+ghost use Rattle.sockets.specs.Entries.{is_kept, entries_after_steps, tick_fate_of, role_after_listener_close, listener_close_fate_of, is_socket, is_between, is_of_pair, has_port, is_bound_at, is_waiting_at, is_offered_at, is_listening_at, deadline_of, role_after_tick, with_role};
+ghost use Rattle.clock.specs.Moments.{sooner};
+ghost use Rattle.ipv4.specs.declared.addr.Addr.{Addr};
+ghost use Rattle.sockets.specs.Lost.{is_given_up};
+ghost use Rattle.sockets.specs.Sound.{IsSoundRole};
+
+use crate::entry::{Entry, SocketId};
+use crate::role::is_kept;
+use arrayvec::ArrayVec;
+use clock::{Moment, sooner};
+use ipv4::{Addr, Endpoint, Pair};
+use tcp_state::Fate;
+
+/// How many entries the table holds.
+pub(crate) const ENTRIES: usize = 8;
+
+/// The place of the socket `id`.
+pub(crate) fn socket_of(entries: &[Entry], id: SocketId) -> Option<usize>
+    ensures { result ≡ position (is_socket id) entries.now }
+{
+    entries.iter().position(|entry| entry.is_socket(id))
+}
+
+/// The place of the connection from `local` to `peer`, in any state but CLOSED.
+pub(crate) fn connection_between(
+    entries: &[Entry],
+    local: Endpoint,
+    peer: Endpoint,
+) -> Option<usize>
+    ensures { result ≡ position (is_between local peer) entries.now }
+{
+    entries
+        .iter()
+        .position(|entry| entry.role.is_live_between(local, peer))
+}
+
+/// The place of the connection of `pair`, in any state but CLOSED.
+pub(crate) fn holder(entries: &[Entry], pair: Pair) -> Option<usize>
+    ensures { result ≡ position (is_of_pair pair) entries.now }
+{
+    entries.iter().position(|entry| entry.role.joins(pair))
+}
+
+/// Whether there is a connection from `local` to `peer`, in any state but CLOSED.
+pub(crate) fn is_pair_held(entries: &[Entry], local: Endpoint, peer: Endpoint) -> bool
+    ensures { result ≡ list_any (is_between local peer) entries.now }
+{
+    entries
+        .iter()
+        .any(|entry| entry.role.is_live_between(local, peer))
+}
+
+/// Whether an entry has this local port.
+pub(crate) fn is_port_taken(entries: &[Entry], port: u16) -> bool
+    ensures { result ≡ list_any (has_port port) entries.now }
+{
+    entries.iter().any(|entry| entry.role.uses_port(port))
+}
+
+/// Whether a socket has this local port.
+pub(crate) fn is_port_bound(entries: &[Entry], port: u16) -> bool
+    ensures { result ≡ list_any (is_bound_at port) entries.now }
+{
+    entries.iter().any(|entry| entry.role.has_socket() && entry.role.uses_port(port))
+}
+
+/// The place of the listener at a local port.
+pub(crate) fn listener_at(entries: &[Entry], port: u16) -> Option<usize>
+    ensures { result ≡ position (is_listening_at port) entries.now }
+{
+    entries.iter().position(|entry| entry.role.listens_at(port))
+}
+
+/// How many connections wait at a listener, in SYN-RECEIVED or past it.
+pub(crate) fn waiting_at(entries: &[Entry], listener: SocketId) -> usize
+    ensures { result ≡ count_by (is_waiting_at listener) entries.now }
+{
+    entries
+        .iter()
+        .filter(|entry| entry.role.waits_at(listener))
+        .count()
+}
+
+/// The place of the connection that `listener` accepts next.
+pub(crate) fn next_accepted(entries: &[Entry], listener: SocketId) -> Option<usize>
+    ensures { result ≡ position (is_offered_at listener) entries.now }
+{
+    entries
+        .iter()
+        .position(|entry| entry.role.offered_peer(listener).is_some())
+}
+
+/// Lets the timers of every entry act whose moment has come, and takes out those whose connection is gone then.
+pub(crate) fn tick(entries: &mut ArrayVec<Entry, ENTRIES>, now: Moment)
+    ensures { entries.new.items ≡ entries_after_steps (tick_fate_of now) (role_after_tick now) entries.old.items }
+{
+    entries.retain(|entry| entry.tick(now));
+}
+
+/// Aborts the connections that wait at the listener `id`, which is closed, and takes out those that are CLOSED already.
+pub(crate) fn forsake(entries: &mut ArrayVec<Entry, ENTRIES>, now: Moment, id: SocketId)
+    ensures { entries.new.items ≡ entries_after_steps (listener_close_fate_of id) (role_after_listener_close now id) entries.old.items }
+{
+    entries.retain(|entry| entry.forsake(now, id));
+}
+
+/// Takes out the connections whose reset is given up.
+pub(crate) fn give_up<F: Fn(Addr) -> bool>(
+    entries: &mut ArrayVec<Entry, ENTRIES>,
+    now: Moment,
+    lost: &F,
+)
+    requires { F.IsAlwaysCallable lost.now }
+    ensures { (test : Addr → Bool) → ((addr : Addr) (answer : Bool) → F.post lost.now addr answer → answer ≡ test addr) → entries.new.items ≡ filter (λ e. not (is_given_up test now e.role)) entries.old.items }
+{
+    entries.retain(|entry| !entry.role.is_given_up(now, lost));
+}
+
+/// The least deadline of the entries.
+pub(crate) fn least_deadline(entries: &[Entry]) -> Option<Moment>
+    ensures { result ≡ fold (λ least e. sooner least (deadline_of e.role)) None entries.now }
+{
+    entries
+        .iter()
+        .fold(None, |least, entry| sooner(least, entry.role.deadline()))
+}
+
+/// What each connection keeps of itself, for the contracts above; it changes nothing.
+pub(crate) fn sound(entries: &[Entry])
+    ensures { AllByRecursion (λ e. IsSoundRole e.role) entries.now }
+{
+    for entry in entries {
+        entry.role.sound();
+    }
+}
+
+/// Takes an entry out of the table where its connection is gone.
+pub(crate) fn settle(entries: &mut ArrayVec<Entry, ENTRIES>, place: usize, fate: Fate)
+    requires { place < length entries.old.items }
+    ensures { entries.new.items ≡ (if is_kept fate then entries.old.items else remove entries.old.items place) }
+{
+    if !is_kept(fate) {
+        entries.remove(place);
+    }
+}

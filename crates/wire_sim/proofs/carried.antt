@@ -1,0 +1,3 @@
+pub mod FramesCarry
+pub mod FramesGoOut
+pub mod FramesArrive
