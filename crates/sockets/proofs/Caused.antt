@@ -29,17 +29,19 @@ use Rattle.sockets.specs.declared.entry.SocketId.{SocketId}
 use Rattle.sockets.specs.declared.entry.Entry.{Entry}
 use Rattle.sockets.specs.declared.role.Role.{Role}
 use Rattle.sockets.specs.declared.role.Role.TheVariants.{Idle, Listener, Connected}
-use Rattle.sockets.specs.Entries.{is_socket, waits_at, is_between, is_live_between, is_listening_at, sends, has_due, has_socket, new_waiting, role_after_abort, abort_fate_of, is_offered_at, shown_state, is_kept, entries_after_step, fate_of, role_after_segment, role_after_tick, tick_fate_of, role_after_emission, emission_fate_of, role_after_listener_close, listener_close_fate_of, role_after_close, close_fate_of, role_after_bind, role_after_listen, role_after_connect, role_after_accept, role_after_send, role_after_recv, role_after_shutdown, with_role}
+use Rattle.sockets.specs.Entries.{is_socket, waits_at, is_between, is_live_between, is_listening_at, sends, has_due, has_socket, new_waiting, role_after_abort, abort_fate_of, is_offered_at, shown_state, is_kept, entries_after_step, fate_of, role_after_segment, role_after_unreachable, unreachable_fate_of, role_after_tick, tick_fate_of, role_after_emission, emission_fate_of, role_after_listener_close, listener_close_fate_of, role_after_close, close_fate_of, role_after_bind, role_after_listen, role_after_connect, role_after_accept, role_after_send, role_after_recv, role_after_shutdown, with_role}
 use Rattle.sockets.specs.SocketsView.{SocketsView, later_moment, role_of}
 use Rattle.sockets.specs.Lost.{is_given_up, after_giving_up}
 use Rattle.sockets.specs.Emission.{after_segment_sent}
+use Rattle.sockets.specs.Unreachable.{after_unreachable}
 use Rattle.sockets.specs.Calls.{port_connected, after_connect, after_socket_closed, after_close}
 use Rattle.sockets.specs.Arrival.{local_end, peer_end, is_opening as opens, has_no_place, arrival_with_reply, arrival, arrival_alone}
 use Rattle.sockets.specs.Replies.{reset_at_ack, answer_to, answer_at_listener}
 use Rattle.sockets.specs.Sound.{IsSoundRole, IsSoundTable}
 use Rattle.sockets.specs.Lists.{change_first}
-use Rattle.sockets.specs.Causes.{Event, Makes, Binds, Listens, Accepts, Connects, Sends, Receives, Shuts, Closes, Ticks, Hears, Emits, GivesUp, after_arrival, after_event, is_connection_cause, is_close_cause, becomes_closed, pending_error_in, is_telling, is_telling_to, is_next_out, IsOpenedBy, IsAdded, IsStep, Follows}
+use Rattle.sockets.specs.Causes.{Event, Makes, Binds, Listens, Accepts, Connects, Sends, Receives, Shuts, Closes, Ticks, Hears, Emits, GivesUp, Unreachable, after_arrival, after_event, is_connection_cause, is_close_cause, becomes_closed, pending_error_in, is_telling, is_telling_to, is_next_out, IsOpenedBy, IsAdded, IsStep, Follows}
 use Rattle.sockets.proofs.Emitted.{segment_sent-found}
+use Rattle.sockets.proofs.Told.{told-found, told-none}
 use Rattle.sockets.proofs.Ends.{eqb-same, same_end-same}
 use Rattle.sockets.proofs.Followed.{IsNothing, by_test, as_it_was, joined_by, first_changed, first_removed, each_followed, each_filtered, steps_joined}
 
@@ -544,6 +546,51 @@ given_up_followed h lost now =
     (same_step h (GivesUp lost now))
     (λ x gone. not_false (is_given_up lost (later_moment h now) x.role) gone)
 
+-- A hard error.
+
+told_step : (h : SocketsView) (local peer : Endpoint) (number : ℕ) (x : Entry) → is_between local peer x ≡ true → is_kept (unreachable_fate_of number x.role) ≡ true → IsStep h (Unreachable local peer number) x (Some (with_role (role_after_unreachable number) x))
+told_step h local peer number x passes kept = (refl, along x.role kept, λ closes. both _ _ passes (by_role x.role closes), λ error told. for_it error (tells x.role error told))
+  where
+    tells : (role : Role) (error : Error) → pending_error_in (role_after_unreachable number role) ≡ Some error → (pending_error_in role ≡ Some error) ⊎ (is_telling (edge.Unreachable number) error role ≡ true)
+    tells (Idle buffers bound) error told = inl told
+    tells (Listener l b) error told = inl told
+    tells (Connected c l) error told = errors_caused c (edge.Unreachable number) error told
+
+    for_it : (error : Error) → (pending_error_in x.role ≡ Some error) ⊎ (is_telling (edge.Unreachable number) error x.role ≡ true) → (pending_error_in x.role ≡ Some error) ⊎ (is_telling_to h (Unreachable local peer number) error x ≡ true)
+    for_it error (inl told) = inl told
+    for_it error (inr tells_now) = inr (both _ _ passes tells_now)
+
+    along : (role : Role) → is_kept (unreachable_fate_of number role) ≡ true → edge.IsEdge (shown_state role) (shown_state (role_after_unreachable number role))
+    along (Idle buffers bound) stays = inl refl
+    along (Listener l b) stays = inl refl
+    along (Connected c l) stays = kept_edge c (edge.Unreachable number) stays
+
+    by_role : (role : Role) → becomes_closed role (role_after_unreachable number role) ≡ true → is_connection_cause (edge.Unreachable number) role ≡ true
+    by_role (Idle buffers bound) closes = cc
+    by_role (Listener l b) closes = cc
+    by_role (Connected c l) closes = closes_caused c (edge.Unreachable number) closes
+
+told_gone : (h : SocketsView) (local peer : Endpoint) (number : ℕ) (x : Entry) → is_between local peer x ≡ true → is_kept (unreachable_fate_of number x.role) ≡ false → IsStep h (Unreachable local peer number) x None
+told_gone h local peer number x passes gone = both _ _ passes (by_role x.role passes gone)
+  where
+    by_role : (role : Role) → is_live_between local peer role ≡ true → is_kept (unreachable_fate_of number role) ≡ false → is_connection_cause (edge.Unreachable number) role ≡ true
+    by_role (Idle buffers bound) live gone = cc
+    by_role (Listener l b) live gone = cc
+    by_role (Connected c l) live gone = removed_caused c (edge.Unreachable number) (not_over c (not_true _ (and_left _ _ live))) (gone_removed _ gone)
+
+error_followed : (h : SocketsView) (local peer : Endpoint) (number : ℕ) → Follows (IsStep h (Unreachable local peer number)) (IsAdded h (Unreachable local peer number)) h.entries (let after = after_unreachable h local peer number in after.entries)
+error_followed h local peer number = by_entry (find (is_between local peer) h.entries) refl
+  where
+    P : SocketsView → Type 0
+    P w = Follows (IsStep h (Unreachable local peer number)) (IsAdded h (Unreachable local peer number)) h.entries w.entries
+
+    by_entry : (o : Option Entry) → find (is_between local peer) h.entries ≡ o → P (after_unreachable h local peer number)
+    by_entry None found = subst P (sym (told-none h local peer number found)) (as_it_was (IsStep h (Unreachable local peer number)) (IsAdded h (Unreachable local peer number)) refl (same_step h (Unreachable local peer number)) h.entries)
+    by_entry (Some e) found =
+        subst P (sym (told-found h local peer number e found)) (settled_followed (IsStep h (Unreachable local peer number)) (IsAdded h (Unreachable local peer number)) refl (unreachable_fate_of number e.role) (is_between local peer) (role_after_unreachable number) h.entries (same_step h (Unreachable local peer number))
+        (λ kept x passes at. told_step h local peer number x passes (ap (λ (y : Entry). is_kept (unreachable_fate_of number y.role)) (some_same _ x e at found) ∙ kept))
+        (λ gone x passes at. told_gone h local peer number x passes (ap (λ (y : Entry). is_kept (unreachable_fate_of number y.role)) (some_same _ x e at found) ∙ gone)))
+
 pub ends_followed : (h : SocketsView) (e : Event) → IsSoundTable h → Follows (IsStep h e) (IsAdded h e) h.entries (let after = after_event h e in after.entries)
 ends_followed h (Makes buffers) sound = joined_by (IsStep h (Makes buffers)) (IsAdded h (Makes buffers)) (same_step h (Makes buffers)) h.entries _ refl
 ends_followed h (Binds id local) sound = quiet_change h (Binds id local) refl (is_socket id) (role_after_bind local) (quiet_bound local) (bound_edge local) (bound_mute local) h.entries
@@ -558,3 +605,4 @@ ends_followed h (Ticks now) sound = each_followed (IsStep h (Ticks now)) (IsAdde
 ends_followed h (Hears now isn source s) sound = segment_followed h now isn source s
 ends_followed h (Emits goes now) sound = emission_followed h goes now sound
 ends_followed h (GivesUp lost now) sound = given_up_followed h lost now
+ends_followed h (Unreachable local peer number) sound = error_followed h local peer number

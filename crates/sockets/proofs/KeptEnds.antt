@@ -1,17 +1,19 @@
 -- Whatever happens to a connection, its endpoints stay, and what is CLOSED stays so.
-use Rattle.std.proofs.Common.{◌≡◌, ℕ, ◌&&◌, ◌||◌, ◌==◌, not, if◌then◌else◌, Bool, true, false, List, length, is_some, refl, ◌∙◌}
+use Rattle.std.proofs.Common.{◌≡◌, ℕ, ◌&&◌, ◌||◌, ◌==◌, not, if◌then◌else◌, Bool, true, false, List, length, Some, is_some, refl, ◌∙◌}
 use Rattle.tcp_segment.specs.Segment.{Segment}
 use Rattle.tcp_state.specs.declared.emission.Due.{Due}
 use Rattle.tcp_state.specs.declared.emission.Due.TheVariants.{Rst, Syn, Text, Fin, Ack}
 use Rattle.clock.specs.declared.moment.Moment.{Moment}
 use Rattle.tcp_state.specs.declared.state.State.{State}
 use Rattle.tcp_state.specs.declared.state.State.TheVariants.{Closed, Listen, SynSent, SynReceived, Established, FinWait1, FinWait2, CloseWait, Closing, LastAck, TimeWait}
+use Rattle.tcp_state.specs.declared.calls.Refusal.TheVariants.{ECONNREFUSED}
 use Rattle.tcp_state.specs.Numbers.{is_before}
 use Rattle.tcp_state.specs.Stream.{is_new_ack, is_in_window}
 use Rattle.tcp_state.specs.View.{View, is_opening, is_syn_sent, is_syn_received, is_closed, is_write_closed, is_at_end, after_stop, after_resend, after_tick, is_fin_next}
 use Rattle.tcp_state.specs.Calls.{after_send, after_recv, beyond_shutdown, after_shutdown, aborted, aborted_at, after_abort, is_removed_by_close, is_aborted_by_close, after_release, after_close}
 use Rattle.tcp_state.specs.Due.{after_emitted, after_ack_paid, after_numbers}
 use Rattle.tcp_state.specs.Arrival.{after_segment, after_syn_ack, is_right_syn_ack, is_acceptable_to, after_acceptable_segment, after_acknowledging_segment, after_ack, is_read_on, after_window, after_text, owing_ack, after_establishment, ends_by_syn, fin_acknowledged, after_new_ack, is_receiving, counts_fin, after_fin, after_reset, reset_error, after_rst_in_syn_sent, is_acting_reset, ends_by_reset, after_rst, is_lost, after_lost, after_heard, after_segment_at}
+use Rattle.tcp_state.specs.Unreachable.{is_unreachable, after_unreachable}
 
 -- the endpoints stay, and nothing that is CLOSED lives again
 pub record KeepsEnds (v w : View) : Type 0 where
@@ -71,6 +73,14 @@ keeps-abort v now = either (is_closed v.state)
     either : (test : Bool) → KeepsEnds v (if test then v else aborted_at v now)
     either true = keeps-nothing v
     either false = record { local = refl; peer = refl; live = λ e. let bad : true ≡ false = e in cc }
+
+-- an error tells of its SYN
+pub keeps-unreachable : (v : View) (number : ℕ) → KeepsEnds v (after_unreachable v number)
+keeps-unreachable v number = either (is_unreachable v number)
+  where
+    either : (test : Bool) → KeepsEnds v (if test then after_reset v (Some ECONNREFUSED) else v)
+    either true = record { local = refl; peer = refl; live = λ e. let bad : true ≡ false = e in cc }
+    either false = keeps-nothing v
 
 -- its caller closes it
 pub keeps-close : (v : View) (now : Moment) → KeepsEnds v (after_close v now)

@@ -6,6 +6,7 @@ pub mod Connected
 pub mod Arrived
 pub mod Foreseen
 pub mod Emitted
+pub mod Told
 pub mod Closed
 pub mod Retained
 pub mod Followed

@@ -15,10 +15,11 @@ use Rattle.sockets.specs.declared.role.Role.{Role}
 use Rattle.sockets.specs.Entries.{is_between, is_listening_at, sends, fate_of}
 use Rattle.sockets.specs.SocketsView.{SocketsView, role_of}
 use Rattle.sockets.specs.Emission.{after_segment_sent}
+use Rattle.sockets.specs.Unreachable.{after_unreachable}
 use Rattle.sockets.specs.Calls.{port_connected, after_connect, after_socket_closed}
 use Rattle.sockets.specs.Arrival.{local_end, peer_end, is_opening as opens, has_no_place, arrival_with_reply, arrival, arrival_alone}
 use Rattle.sockets.specs.Replies.{reset_at_ack, answer_to, answer_at_listener}
-use Rattle.sockets.specs.Causes.{Event, Makes, Binds, Listens, Accepts, Connects, Sends, Receives, Shuts, Closes, Ticks, Hears, Emits, GivesUp, after_arrival, after_event}
+use Rattle.sockets.specs.Causes.{Event, Makes, Binds, Listens, Accepts, Connects, Sends, Receives, Shuts, Closes, Ticks, Hears, Emits, GivesUp, Unreachable, after_arrival, after_event}
 
 abbrev NotBefore : SocketsView → SocketsView → Type 0
 NotBefore h w = h.last_id ≤ w.last_id
@@ -78,12 +79,20 @@ emission_numbered h goes now = by_entry (find (sends goes) h.entries) refl
     by_entry None is = rw is (as_before h)
     by_entry (Some e) is = rw is (as_before h)
 
+error_numbered : (h : SocketsView) (local peer : Endpoint) (number : ℕ) → NotBefore h (after_unreachable h local peer number)
+error_numbered h local peer number = by_entry (find (is_between local peer) h.entries) refl
+  where
+    by_entry : (o : Option Entry) → find (is_between local peer) h.entries ≡ o → NotBefore h (after_unreachable h local peer number)
+    by_entry None is = rw is (as_before h)
+    by_entry (Some e) is = rw is (as_before h)
+
 pub never_back : (h : SocketsView) (e : Event) → NotBefore h (after_event h e)
 never_back h (Makes buffers) = omega arith
 never_back h (Connects isn id peer routed) = connect_numbered h isn id peer routed
 never_back h (Closes id) = close_numbered h id
 never_back h (Hears now isn source s) = segment_numbered h now isn source s
 never_back h (Emits goes now) = emission_numbered h goes now
+never_back h (Unreachable local peer number) = error_numbered h local peer number
 never_back h (GivesUp lost now) = as_before h
 never_back h (Binds id local) = as_before h
 never_back h (Listens id backlog) = as_before h

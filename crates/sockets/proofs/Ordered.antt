@@ -21,24 +21,26 @@ use Rattle.sockets.specs.declared.entry.Entry.{Entry}
 use Rattle.ipv4.specs.Addresses.{is_single_host, same_addr, same_end}
 use Rattle.sockets.specs.declared.role.Role.{Role}
 use Rattle.sockets.specs.declared.role.Role.TheVariants.{Idle, Listener, Connected}
-use Rattle.sockets.specs.Entries.{is_socket, waits_at, is_between, is_live_between, is_listening_at, sends, is_offered_at, is_kept, has_port, uses_port, entries_after_step, fate_of, role_after_segment, role_after_tick, tick_fate_of, role_after_emission, emission_fate_of, role_after_abort, role_after_listener_close, listener_close_fate_of, role_after_close, close_fate_of, role_after_bind, role_after_listen, role_after_connect, role_after_accept, role_after_send, role_after_recv, role_after_shutdown, new_socket, new_waiting, with_role}
+use Rattle.sockets.specs.Entries.{is_socket, waits_at, is_between, is_live_between, is_listening_at, sends, is_offered_at, is_kept, has_port, uses_port, entries_after_step, fate_of, role_after_segment, role_after_unreachable, unreachable_fate_of, role_after_tick, tick_fate_of, role_after_emission, emission_fate_of, role_after_abort, role_after_listener_close, listener_close_fate_of, role_after_close, close_fate_of, role_after_bind, role_after_listen, role_after_connect, role_after_accept, role_after_send, role_after_recv, role_after_shutdown, new_socket, new_waiting, with_role}
 use Rattle.sockets.specs.SocketsView.{SocketsView, new_sockets, later_moment, role_of}
 use Rattle.sockets.specs.Lost.{is_given_up, after_giving_up}
 use Rattle.sockets.specs.Emission.{after_segment_sent}
+use Rattle.sockets.specs.Unreachable.{after_unreachable}
 use Rattle.sockets.specs.Calls.{open_answer, reach_refusal, port_for, last_port_after, is_pair_held, is_port_taken, bind_refusal, connect_refusal, after_connect, after_socket_closed}
 use Rattle.sockets.specs.Arrival.{local_end, peer_end, is_opening as opens, has_no_place, arrival_with_reply, arrival, arrival_alone, after_opening}
 use Rattle.sockets.specs.Replies.{reset_at_ack, answer_to, answer_at_listener}
 use Rattle.sockets.specs.Lists.{change_first}
 use Rattle.sockets.specs.Ports.{IsDynamic, is_free_port}
-use Rattle.sockets.specs.Causes.{Event, Makes, Binds, Listens, Accepts, Connects, Sends, Receives, Shuts, Closes, Ticks, Hears, Emits, GivesUp, after_arrival, after_event}
+use Rattle.sockets.specs.Causes.{Event, Makes, Binds, Listens, Accepts, Connects, Sends, Receives, Shuts, Closes, Ticks, Hears, Emits, GivesUp, Unreachable, after_arrival, after_event}
 use Rattle.sockets.specs.Order.{has_for_itself, is_alone_at, LiesAt, IsOrdered, IsAllowed}
 use Rattle.sockets.proofs.Caused.{settled_followed}
 use Rattle.sockets.proofs.Connected.{after_connect-given}
 use Rattle.sockets.proofs.Emitted.{segment_sent-found}
+use Rattle.sockets.proofs.Told.{told-found, told-none}
 use Rattle.sockets.proofs.Ends.{same_end-true}
 use Rattle.sockets.proofs.FirstPorts.{given_passes, given_dynamic}
 use Rattle.sockets.proofs.Followed.{IsNothing, by_test, first_changed, each_followed, each_filtered}
-use Rattle.sockets.proofs.KeptEnds.{keeps-nothing, keeps-send, keeps-recv, keeps-shutdown, keeps-tick, keeps-abort, keeps-close, keeps-emitted, keeps-segment}
+use Rattle.sockets.proofs.KeptEnds.{keeps-nothing, keeps-send, keeps-recv, keeps-shutdown, keeps-tick, keeps-abort, keeps-close, keeps-emitted, keeps-segment, keeps-unreachable}
 use Rattle.sockets.proofs.Ordering.{IsBound, Keeps, KeepsRole, keeps_role, keeps_connection, nowhere, no_port, ordered_by, ordered_still, ascends_joined, count_changed, count_joined, count_unfound, count_none}
 
 pub fresh_ordered : (addr : Addr) → IsOrdered (new_sockets addr)
@@ -104,6 +106,11 @@ arrived_keeps now s local peer (Idle buffers bound) live = keeps_role (Idle buff
 arrived_keeps now s local peer (Listener l b) live = keeps_role (Listener l b)
 arrived_keeps now s local peer (Connected c l) live =
     keeps_connection c _ l l (keeps-segment c s now (not_true (is_closed c.state) (and_parts (not (is_closed c.state)) (same_end c.local local && same_end c.peer peer) live).0))
+
+told_keeps : (number : ℕ) (r : Role) → KeepsRole r (role_after_unreachable number r)
+told_keeps number (Idle buffers bound) = keeps_role (Idle buffers bound)
+told_keeps number (Listener l b) = keeps_role (Listener l b)
+told_keeps number (Connected c l) = keeps_connection c _ l l (keeps-unreachable c number)
 
 -- Steps of the table.
 
@@ -362,6 +369,16 @@ given_up_ordered h lost now o =
     (each_filtered (Keeps nowhere no_port h.addr) IsNothing refl (λ e. not (is_given_up lost (later_moment h now) e.role)) h.entries (stays h) (λ x gone. tt))
     o
 
+-- A hard error.
+
+error_ordered : (h : SocketsView) (local peer : Endpoint) (number : ℕ) → IsOrdered h → IsOrdered (after_unreachable h local peer number)
+error_ordered h local peer number o = by_entry (find (is_between local peer) h.entries) refl
+  where
+    by_entry : (x : Option Entry) → find (is_between local peer) h.entries ≡ x → IsOrdered (after_unreachable h local peer number)
+    by_entry None found = subst IsOrdered (sym (told-none h local peer number found)) o
+    by_entry (Some e) found =
+        subst IsOrdered (sym (told-found h local peer number e found)) (settled_ordered h (unreachable_fate_of number e.role) (is_between local peer) (role_after_unreachable number) (λ x passes. told_keeps number x.role) o)
+
 pub stays_ordered : (h : SocketsView) (e : Event) → IsAllowed h e → IsOrdered h → IsOrdered (after_event h e)
 stays_ordered h (Makes buffers) allowed o = joined_ordered h (new_socket (record { 0 = h.last_id + 1 }) buffers) refl (λ l p live. cc) (λ port. refl) tt o
 stays_ordered h (Binds id local) allowed o = bind_ordered h id local allowed o
@@ -376,3 +393,4 @@ stays_ordered h (Ticks now) allowed o = tick_ordered h now o
 stays_ordered h (Hears now isn source s) allowed o = segment_ordered h now isn source s allowed o
 stays_ordered h (Emits goes now) allowed o = emission_ordered h goes now o
 stays_ordered h (GivesUp lost now) allowed o = given_up_ordered h lost now o
+stays_ordered h (Unreachable local peer number) allowed o = error_ordered h local peer number o

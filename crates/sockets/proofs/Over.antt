@@ -13,6 +13,7 @@ use Rattle.tcp_state.specs.declared.connection.Fate.TheVariants.{Stays, Removed,
 use Rattle.tcp_state.specs.View.{View, is_opening, is_closed, is_over, is_at_end}
 use Rattle.tcp_state.specs.Calls.{beyond_shutdown, after_send, after_recv, after_shutdown}
 use Rattle.tcp_state.specs.Arrival.{is_lost, after_segment, is_rejected, ends_opening}
+use Rattle.tcp_state.specs.Unreachable.{after_unreachable}
 use Rattle.tcp_state.proofs.Edges.{and_left}
 use Rattle.tcp_state.proofs.Causes.{not_true}
 use Rattle.sockets.specs.declared.refusal.Refusal.{Refusal}
@@ -20,18 +21,20 @@ use Rattle.sockets.specs.declared.entry.SocketId.{SocketId}
 use Rattle.sockets.specs.declared.entry.Entry.{Entry}
 use Rattle.sockets.specs.declared.role.Role.{Role}
 use Rattle.sockets.specs.declared.role.Role.TheVariants.{Idle, Listener, Connected}
-use Rattle.sockets.specs.Entries.{is_socket, waits_at, is_between, is_live_between, is_listening_at, sends, is_offered_at, is_kept, entries_after_step, fate_of, role_after_segment, role_after_tick, tick_fate_of, role_after_emission, emission_fate_of, role_after_abort, abort_fate_of, role_after_listener_close, listener_close_fate_of, role_after_close, close_fate_of, role_after_bind, role_after_listen, role_after_connect, role_after_accept, role_after_send, role_after_recv, role_after_shutdown, with_role}
+use Rattle.sockets.specs.Entries.{is_socket, waits_at, is_between, is_live_between, is_listening_at, sends, is_offered_at, is_kept, entries_after_step, fate_of, role_after_segment, role_after_unreachable, unreachable_fate_of, role_after_tick, tick_fate_of, role_after_emission, emission_fate_of, role_after_abort, abort_fate_of, role_after_listener_close, listener_close_fate_of, role_after_close, close_fate_of, role_after_bind, role_after_listen, role_after_connect, role_after_accept, role_after_send, role_after_recv, role_after_shutdown, with_role}
 use Rattle.sockets.specs.SocketsView.{SocketsView, later_moment, role_of}
 use Rattle.sockets.specs.Lost.{is_given_up}
 use Rattle.sockets.specs.Emission.{after_segment_sent}
+use Rattle.sockets.specs.Unreachable.{after_unreachable as after_table_told}
 use Rattle.sockets.specs.Calls.{port_connected, after_connect, after_socket_closed}
 use Rattle.sockets.specs.Arrival.{local_end, peer_end, is_opening as opens, has_no_place, arrival_with_reply, arrival, arrival_alone}
 use Rattle.sockets.specs.Replies.{reset_at_ack, answer_to, answer_at_listener}
 use Rattle.sockets.specs.Sound.{is_over_in, NoneIsOver}
 use Rattle.sockets.specs.Lists.{change_first, remove_first}
-use Rattle.sockets.specs.Causes.{Event, Makes, Binds, Listens, Accepts, Connects, Sends, Receives, Shuts, Closes, Ticks, Hears, Emits, GivesUp, after_arrival, after_event}
+use Rattle.sockets.specs.Causes.{Event, Makes, Binds, Listens, Accepts, Connects, Sends, Receives, Shuts, Closes, Ticks, Hears, Emits, GivesUp, Unreachable, after_arrival, after_event}
 use Rattle.sockets.proofs.Caused.{some_same, answered_same}
 use Rattle.sockets.proofs.Emitted.{segment_sent-found}
+use Rattle.sockets.proofs.Told.{told-found, told-none}
 use Rattle.sockets.proofs.Followed.{by_test}
 
 abbrev IsLeft : Entry → Type 0
@@ -180,6 +183,12 @@ emit_left now role kept = after (role_after_emission now role) kept
     after (Listener l b) stays = refl
     after (Connected c l) stays = by_test (is_over c) (λ over. let gone : is_kept (emission_fate_of (Connected c l)) ≡ false = rw over in cc) (λ left. left)
 
+told_left : (number : ℕ) (role : Role) → is_kept (unreachable_fate_of number role) ≡ true → is_over_in (role_after_unreachable number role) ≡ false
+told_left number (Idle buffers bound) kept = refl
+told_left number (Listener l b) kept = refl
+told_left number (Connected c l) kept =
+    by_test (is_over (after_unreachable c number)) (λ over. let gone : is_kept (unreachable_fate_of number (Connected c l)) ≡ false = rw over in cc) (λ left. left)
+
 -- Events.
 
 connect_left : (h : SocketsView) (isn : ℕ) (id : SocketId) (peer : Endpoint) (routed : Bool) → NoneIsOver h → NoneIsOver (after_connect h isn id peer routed)
@@ -246,6 +255,15 @@ emission_left h goes now all = by_entry (find (sends goes) h.entries) refl
         subst P (sym (segment_sent-found h goes now e found)) (all_settled_left (emission_fate_of (role_after_emission (later_moment h now) e.role)) (sends goes) (role_after_emission (later_moment h now)) h.entries
         (λ kept x passes at left. emit_left (later_moment h now) x.role (ap (λ (y : Entry). is_kept (emission_fate_of (role_after_emission (later_moment h now) y.role))) (some_same _ x e at found) ∙ kept)) all)
 
+error_left : (h : SocketsView) (local peer : Endpoint) (number : ℕ) → NoneIsOver h → NoneIsOver (after_table_told h local peer number)
+error_left h local peer number all = by_entry (find (is_between local peer) h.entries) refl
+  where
+    by_entry : (o : Option Entry) → find (is_between local peer) h.entries ≡ o → NoneIsOver (after_table_told h local peer number)
+    by_entry None found = subst NoneIsOver (sym (told-none h local peer number found)) all
+    by_entry (Some e) found =
+        subst NoneIsOver (sym (told-found h local peer number e found)) (all_settled_left (unreachable_fate_of number e.role) (is_between local peer) (role_after_unreachable number) h.entries
+        (λ kept x passes at left. told_left number x.role (ap (λ (y : Entry). is_kept (unreachable_fate_of number y.role)) (some_same _ x e at found) ∙ kept)) all)
+
 pub none_over : (h : SocketsView) (e : Event) → NoneIsOver h → NoneIsOver (after_event h e)
 none_over h (Makes buffers) all = all_joined h.entries _ all (refl, tt)
 none_over h (Binds id local) all = changed_left (is_socket id) (role_after_bind local) h.entries (bound_left local) all
@@ -262,3 +280,4 @@ none_over h (Ticks now) all = all_retained (λ x. is_kept (tick_fate_of (later_m
 none_over h (Hears now isn source s) all = segment_left h now isn source s all
 none_over h (Emits goes now) all = emission_left h goes now all
 none_over h (GivesUp lost now) all = all_filtered (λ e. not (is_given_up lost (later_moment h now) e.role)) h.entries all
+none_over h (Unreachable local peer number) all = error_left h local peer number all

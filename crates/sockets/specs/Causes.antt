@@ -17,10 +17,12 @@ use Rattle.sockets.specs.SocketsView.{SocketsView, later_moment}
 use Rattle.sockets.specs.Ticks.{after_tick}
 use Rattle.sockets.specs.Lost.{is_given_up, after_giving_up}
 use Rattle.sockets.specs.Emission.{after_segment_sent}
+use Rattle.sockets.specs.Unreachable.{after_unreachable}
 use Rattle.sockets.specs.Calls.{after_socket, after_bind, after_listen, after_accept, after_connect, after_send, after_recv, after_shutdown, after_close}
 use Rattle.sockets.specs.Arrival.{Arrival, Becomes, Opens, NoPlace, Answers, local_end, peer_end, is_opening, arrival}
 
--- what may happen to the table: a call that is not refused, a tick, a segment from an address, a segment goes out, or resets are given up
+-- what may happen to the table: a call that is not refused, a tick, a segment from an address, a segment goes out, resets are given up, or a
+-- hard error about the segment of a number from one end to another
 pub data Event : Type 0 where
   Makes : Buffers → Event
   Binds : SocketId → Endpoint → Event
@@ -35,6 +37,7 @@ pub data Event : Type 0 where
   Hears : Moment → ℕ → Addr → Segment → Event
   Emits : (Entry → Bool) → Moment → Event
   GivesUp : (Addr → Bool) → Moment → Event
+  Unreachable : Endpoint → Endpoint → ℕ → Event
 
 abbrev pub after_arrival : SocketsView → Arrival → SocketsView
 after_arrival h (Becomes next) = next
@@ -57,6 +60,7 @@ after_event h (Ticks now) = after_tick h now
 after_event h (Hears now isn source s) = after_arrival h (arrival h now isn source s)
 after_event h (Emits goes now) = after_segment_sent h goes now
 after_event h (GivesUp lost now) = after_giving_up h lost now
+after_event h (Unreachable local peer number) = after_unreachable h local peer number
 
 -- an event of the entry's connection ends it
 abbrev pub is_connection_cause : edge.Event → Role → Bool
@@ -75,13 +79,15 @@ abbrev pub is_close_cause : Moment → Role → Bool
 is_close_cause now role = in_connection true (λ c. edge.is_cause c (edge.Closes now)) role
 
 -- What ends an entry: that its socket is closed, as its role says, or the listener that it waits at; and for a connection a segment of its two
--- ends, a tick or the going out of its segment, each as its own rules say, or that its reset is given up.
+-- ends, a tick, the going out of its segment or a hard error about a segment between its two ends, each as its own rules say, or that its reset
+-- is given up.
 abbrev pub is_cause_for : SocketsView → Event → Entry → Bool
 is_cause_for h (Closes id) x = (is_socket id x && is_close_cause h.kept x.role) || is_waiting_at id x
 is_cause_for h (Ticks now) x = is_connection_cause (edge.Ticks (later_moment h now)) x.role
 is_cause_for h (Hears now isn source s) x = is_between (local_end h s) (peer_end source s) x && is_connection_cause (edge.Hears s (later_moment h now)) x.role
 is_cause_for h (Emits goes now) x = is_next_out h goes x && is_connection_cause (edge.Emits (later_moment h now)) x.role
 is_cause_for h (GivesUp lost now) x = is_given_up lost (later_moment h now) x.role
+is_cause_for h (Unreachable local peer number) x = is_between local peer x && is_connection_cause (edge.Unreachable number) x.role
 is_cause_for h _ x = false
 
 -- an entry becomes CLOSED
@@ -92,12 +98,13 @@ becomes_closed before after = not (is_closed (shown_state before)) && is_closed 
 abbrev pub pending_error_in : Role → Option Error
 pending_error_in role = in_connection None (λ c. c.pending_error) role
 
--- an event of the entry's connection makes it tell an error: a reset that acts, in a state that has it
+-- an event of the entry's connection makes it tell an error: a reset that acts or a hard error, in a state that has it
 abbrev pub is_telling : edge.Event → Error → Role → Bool
 is_telling e error role = in_connection false (λ c. edge.may_raise c e error) role
 
 abbrev pub is_telling_to : SocketsView → Event → Error → Entry → Bool
 is_telling_to h (Hears now isn source s) error x = is_between (local_end h s) (peer_end source s) x && is_telling (edge.Hears s (later_moment h now)) error x.role
+is_telling_to h (Unreachable local peer number) error x = is_between local peer x && is_telling (edge.Unreachable number) error x.role
 is_telling_to h _ error x = false
 
 -- the errors that are told after an event were told before, or the event makes the connection tell them

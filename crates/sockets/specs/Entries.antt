@@ -12,6 +12,7 @@ use Rattle.tcp_state.specs.declared.connection.Fate.{Fate}
 use Rattle.tcp_state.specs.declared.connection.Fate.TheVariants.{Stays, Removed, Rejected}
 use Rattle.tcp_state.specs.Arrival.{after_segment_at, fate}
 use Rattle.tcp_state.specs.Calls.{after_send, after_recv, after_shutdown, after_close, close_fate, after_abort, abort_fate}
+use Rattle.tcp_state.specs.Unreachable.{after_unreachable, unreachable_fate}
 use Rattle.tcp_state.specs.declared.emission.Due.{Due}
 use Rattle.tcp_state.specs.Due.{first_due, emitted_len, segment_octets}
 use Rattle.tcp_state.specs.Edges.{after_first}
@@ -213,6 +214,13 @@ role_after_segment now s role = on_connection (λ c. after_segment_at c s now) r
 
 abbrev pub fate_of : Segment → Role → Fate
 fate_of s role = in_connection Stays (λ c. fate c s) role
+
+-- an error tells that the segment of this number can't be delivered
+abbrev pub role_after_unreachable : ℕ → Role → Role
+role_after_unreachable number role = on_connection (λ c. after_unreachable c number) role
+
+abbrev pub unreachable_fate_of : ℕ → Role → Fate
+unreachable_fate_of number role = in_connection Stays (λ c. unreachable_fate c number) role
 
 -- the caller closes the socket, and nothing is left of one without a connection
 abbrev pub role_after_close : Moment → Role → Role

@@ -8,6 +8,7 @@ pub mod Ports
 pub mod Calls
 pub mod Arrival
 pub mod Pairs
+pub mod Unreachable
 pub mod Emission
 pub mod Sound
 pub mod Causes

@@ -11,7 +11,7 @@ use Rattle.sockets.specs.Entries.{is_between}
 use Rattle.sockets.specs.SocketsView.{SocketsView}
 use Rattle.sockets.specs.Ports.{IsDynamic}
 use Rattle.sockets.specs.Calls.{is_table_full, bind_refusal, listen_refusal, accept_answer, connect_refusal, send_answer, recv_answer, shutdown_refusal, close_refusal}
-use Rattle.sockets.specs.Causes.{Event, Makes, Binds, Listens, Accepts, Connects, Sends, Receives, Shuts, Closes, Ticks, Hears, Emits, GivesUp}
+use Rattle.sockets.specs.Causes.{Event, Makes, Binds, Listens, Accepts, Connects, Sends, Receives, Shuts, Closes, Ticks, Hears, Emits, GivesUp, Unreachable}
 
 -- each id is above the one before it, the first above this number, and none above the last one given
 abbrev pub AreAscending : ℕ → ℕ → List Entry → Type 0
@@ -59,3 +59,4 @@ IsAllowed h (Ticks now) = Unit {0}
 IsAllowed h (Hears now isn source s) = same_addr source h.addr ≡ false
 IsAllowed h (Emits goes now) = Unit {0}
 IsAllowed h (GivesUp lost now) = Unit {0}
+IsAllowed h (Unreachable local peer number) = Unit {0}

@@ -108,7 +108,7 @@ impl Entry {
 
 /// What happens to the role of an entry; its id stays.
 impl Entry {
-    ghost use Rattle.sockets.specs.Entries.{role_after_bind, role_after_listen, role_after_connect, role_after_accept, role_after_send, role_after_recv, role_after_shutdown, role_after_segment, fate_of, role_after_tick, tick_fate_of, role_after_emission, due_len, due_front, role_after_close, close_fate_of, role_after_listener_close, listener_close_fate_of};
+    ghost use Rattle.sockets.specs.Entries.{role_after_bind, role_after_listen, role_after_connect, role_after_accept, role_after_send, role_after_recv, role_after_shutdown, role_after_segment, fate_of, role_after_unreachable, unreachable_fate_of, role_after_tick, tick_fate_of, role_after_emission, due_len, due_front, role_after_close, close_fate_of, role_after_listener_close, listener_close_fate_of};
     ghost use Rattle.sockets.specs.Calls.{role_send_answer, role_recv_answer, read_front};
 
     /// Binds an idle socket to `local`.
@@ -185,6 +185,14 @@ impl Entry {
         ensures after { self.new ≡ with_role (role_after_segment now segment.now) self.old }
     {
         self.role.segment(now, segment)
+    }
+
+    /// Tells the connection that the segment of this number can't be delivered, and answers what becomes of the entry.
+    pub(crate) fn unreachable(&mut self, number: Seq) -> Fate
+        ensures fate { result ≡ unreachable_fate_of number.0 self.old.role }
+        ensures after { self.new ≡ with_role (role_after_unreachable number.0) self.old }
+    {
+        self.role.unreachable(number)
     }
 
     /// Lets the timers act whose moment has come, and answers whether the entry keeps its place.

@@ -46,7 +46,7 @@ pub fn connects_are_foreseen()
 
 /// The state of an entry stays, or goes along an edge of the table of states. An entry becomes CLOSED, or is taken out of the table, only
 /// by a cause: its close or that of the listener that it waits at, an event of its connection that ends it, or that its reset is given up. Every other one keeps its
-/// place. An error that its connection tells was told before, or a reset tells it in a state that has it. Behind them a new entry stands only
+/// place. An error that its connection tells was told before, or a reset or a hard error tells it in a state that has it. Behind them a new entry stands only
 /// where a socket was made, or a segment opened a connection at a listener.
 pub fn ends_have_causes()
     ensures { (h : SocketsView) (e : Event) → IsSoundTable h → Follows (IsStep h e) (IsAdded h e) h.entries (let after = after_event h e in after.entries) }

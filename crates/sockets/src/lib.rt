@@ -15,6 +15,7 @@ mod role;
 mod sockets;
 mod table;
 mod taken;
+mod unreachable;
 
 pub use entry::{Entry, Kind, SocketId};
 pub use refusal::Refusal;

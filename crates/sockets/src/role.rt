@@ -255,9 +255,9 @@ impl Role {
     }
 }
 
-/// What the calls, a segment, the clock and an emission make of a role. Each names the role that it is for, and leaves any other.
+/// What the calls, a segment, an error, the clock and an emission make of a role. Each names the role that it is for, and leaves any other.
 impl Role {
-    ghost use Rattle.sockets.specs.Entries.{role_after_bind, role_after_listen, role_after_connect, role_after_accept, role_after_send, role_after_recv, role_after_shutdown, role_after_segment, fate_of, role_after_tick, tick_fate_of, role_after_emission, emission_fate_of, due_len, due_front, role_after_close, close_fate_of, role_after_abort, abort_fate_of, role_after_listener_close, listener_close_fate_of};
+    ghost use Rattle.sockets.specs.Entries.{role_after_bind, role_after_listen, role_after_connect, role_after_accept, role_after_send, role_after_recv, role_after_shutdown, role_after_segment, fate_of, role_after_unreachable, unreachable_fate_of, role_after_tick, tick_fate_of, role_after_emission, emission_fate_of, due_len, due_front, role_after_close, close_fate_of, role_after_abort, abort_fate_of, role_after_listener_close, listener_close_fate_of};
     ghost use Rattle.sockets.specs.Calls.{role_send_answer, role_recv_answer, read_front};
 
     /// Binds an idle socket to `local`.
@@ -387,6 +387,17 @@ impl Role {
     {
         match self {
             Role::Connected { connection, .. } => connection.segment(now, segment),
+            _ => Fate::Stays,
+        }
+    }
+
+    /// Tells the connection that the segment of this number can't be delivered, and answers what becomes of the entry.
+    pub(crate) fn unreachable(&mut self, number: Seq) -> Fate
+        ensures fate { result ≡ unreachable_fate_of number.0 self.old }
+        ensures after { self.new ≡ role_after_unreachable number.0 self.old }
+    {
+        match self {
+            Role::Connected { connection, .. } => connection.unreachable(number),
             _ => Fate::Stays,
         }
     }

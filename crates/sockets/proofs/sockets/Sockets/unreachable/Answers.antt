@@ -1,0 +1,29 @@
+-- The write at the place is the change of the connection that is told, or it is taken out.
+use Rattle.std.proofs.Common.{◌≡◌, ◌∙◌, ℕ, List, get_or, Bool, Some, ap, sym}
+use Rattle.std.specs.List.{find, position}
+use Rattle.tcp_state.specs.declared.connection.Fate.{Fate}
+use Rattle.sockets.specs.declared.entry.Entry.{Entry}
+use Rattle.sockets.specs.Entries.{is_between, role_after_unreachable, unreachable_fate_of, entries_after_step}
+use Rattle.sockets.specs.SocketsView.{SocketsView}
+use Rattle.sockets.proofs.Arrived.{entry_settled}
+use Rattle.sockets.proofs.Firsts.{find-position}
+use Rattle.sockets.proofs.Told.{told-found}
+use Rattle.sockets.proofs.sockets.Sockets.unreachable.Goals as goal
+
+pub returns-in-Some : goal.returns-in-Some
+returns-in-Some c =
+    let h : SocketsView = c.args.self.now in
+    let number : ℕ = c.args.number.0 in
+    let test : Entry → Bool = is_between c.args.local c.args.peer in
+    let entries = ap (λ (w : SocketsView). w.entries) c.self.view_is in
+    let place : position test h.entries ≡ Some c.in-Some.place =
+    ap (λ (es : List Entry). position test es) (sym entries ∙ sym c.deref.ensures.0) ∙ sym c.connection_between.ensures ∙ c.in-Some.is
+    in
+    let x : Entry = c.index-deref_mut-place.result in
+    let at : x ≡ get_or h.entries c.in-Some.place x =
+    c.index-deref_mut-place.is ∙ ap (λ (es : List Entry). get_or es c.in-Some.place x) (c.deref_mut.ensures.value ∙ entries)
+    in
+    let found : find test h.entries ≡ Some x = find-position test h.entries c.in-Some.place x place at in
+    entry_settled _ _ test (role_after_unreachable number) _ _ _ _ _ c.unreachable-fate.result c.self.view_is place c.deref_mut.ensures.value c.index-deref_mut-place.is c.unreachable-fate.ensures.after c.settle.ensures
+    ∙ ap (λ (r : Fate). let w : SocketsView = record h { entries = entries_after_step r test (role_after_unreachable number) h.entries } in w) (c.unreachable-fate.ensures.fate ∙ ap (λ (e : Entry). unreachable_fate_of number e.role) (sym c.index-deref_mut-place.is))
+    ∙ sym (told-found h c.args.local c.args.peer number x found)
