@@ -22,7 +22,7 @@ pub enum Refusal {
     EALREADY,
     /// Nothing to do now; the same call may succeed later.
     EAGAIN,
-    /// The peer refused the connection.
+    /// The peer refused the connection, or an error told that its SYN can't be delivered.
     ECONNREFUSED,
     /// The peer reset the connection.
     ECONNRESET,
