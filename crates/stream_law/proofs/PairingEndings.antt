@@ -1,5 +1,5 @@
--- What ends a connection is no step of a channel, but that its caller may close its side: a reset, the clock, an abort, leaving the host's table.
-use Rattle.std.proofs.Common.{◌≡◌, ℕ, ◌&&◌, ◌||◌, not, Bool, true, false, is_some, refl, sym, ◌∙◌, ap, subst}
+-- What ends a connection is no step of a channel, but that its caller may close its side: a reset, the clock, an abort, an error of the network, leaving the host's table.
+use Rattle.std.proofs.Common.{◌≡◌, ℕ, ◌&&◌, ◌||◌, not, if◌then◌else◌, Bool, true, false, Some, is_some, refl, sym, ◌∙◌, ap, subst}
 use Rattle.tcp_segment.specs.Segment.{Segment}
 use Rattle.tcp_state.specs.declared.state.State.{State}
 use Rattle.clock.specs.declared.moment.Moment.{Moment}
@@ -7,6 +7,8 @@ use Rattle.clock.specs.Moments.{has_come}
 use Rattle.tcp_state.specs.declared.state.State.TheVariants.{Closed, Listen, FinWait2, Closing, LastAck, TimeWait}
 use Rattle.tcp_state.specs.View.{View, is_syn_sent, is_closed, is_listening, is_write_closed, is_read_closed, end_of_wait, is_at_end, after_stop}
 use Rattle.tcp_state.specs.Stream.{is_new_ack, is_in_window}
+use Rattle.tcp_state.specs.declared.calls.Refusal.TheVariants.{ECONNREFUSED}
+use Rattle.tcp_state.specs.Unreachable.{is_unreachable, after_unreachable}
 use Rattle.tcp_state.specs.Arrival.{after_segment, after_rst_in_syn_sent, after_rst, after_reset, reset_error, owing_ack, fate, is_acting_reset, ends_by_reset}
 use Rattle.stream_law.specs.Channel.{Channel, Open}
 use Rattle.stream_law.specs.ChannelSteps.{closes}
@@ -88,6 +90,18 @@ stops-left v w closed left = record {
     or_true : (b : Bool) → (b || true) ≡ true
     or_true true = refl
     or_true false = refl
+
+-- what is CLOSED and tells an error tells nothing else
+pub stops-told : (v w : View) → is_closed w.state ≡ true → is_some w.pending_error ≡ true → Stops v w
+stops-told v w closed told = record {
+  closed = closed;
+  telling = λ t. absurd_closed (is_telling w) t (ap (λ b. not (b && (is_some w.pending_error || w.released))) closed ∙ ap (λ b. not (b || w.released)) told);
+}
+
+-- so does an opening that an error about its SYN ends
+pub stops-unreachable : (v : View) (number : ℕ) → is_unreachable v number ≡ true → Stops v (after_unreachable v number)
+stops-unreachable v number hit =
+    subst (λ b. Stops v (if b then after_reset v (Some ECONNREFUSED) else v)) (sym hit) (stops-told v (after_reset v (Some ECONNREFUSED)) refl refl)
 
 -- a wait that is over saw the end, where a caller is left
 pub stops-at_end : (v : View) (now : Moment) → is_at_end v now ≡ true → Stops v (after_stop v)

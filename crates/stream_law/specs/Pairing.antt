@@ -102,7 +102,7 @@ pub data Move (limit : ℕ) : Pairing → Pairing → Type 0 where
   -- a reset arrives, whoever sent it and whatever its numbers
   resets : (p : Pairing) (v : View) (s : Segment) → p.own.connection ≡ Present v → s.flags.rst ≡ true
       → Move limit p (record p { own = record p.own { connection = remains (fate v s) (after_segment v s) } })
-  -- the connection is over, by the clock or by its caller's abort
+  -- the connection is over, by the clock, by its caller's abort or by an error that its SYN can't be delivered
   stops : (p : Pairing) (v w : View) (closed : Bool) → p.own.connection ≡ Present v → Stops v w → (p.own.closed ≡ true → closed ≡ true)
       → Move limit p (record p { own = record p.own { connection = Present w; closed = closed } })
   -- it leaves its host's table

@@ -3,6 +3,7 @@ use Rattle.std.proofs.Common.{◌≡◌, ℕ, ◌==◌, ◌||◌, ◌&&◌, ◌�
 use Rattle.tcp_segment.specs.Segment.{Segment}
 use Rattle.clock.specs.declared.moment.Moment.{Moment}
 use Rattle.tcp_state.specs.declared.connection.Fate.TheVariants.{Stays, Removed, Rejected}
+use Rattle.tcp_state.specs.declared.calls.Refusal.TheVariants.{ECONNREFUSED}
 use Rattle.tcp_state.specs.declared.emission.Due.{Due}
 use Rattle.tcp_state.specs.declared.emission.Due.TheVariants.{Rst, Syn, Text, Fin, Ack}
 use Rattle.tcp_state.specs.declared.state.State.{State}
@@ -13,7 +14,8 @@ use Rattle.tcp_state.specs.View.{View, is_opening, is_syn_sent, is_syn_received,
 use Rattle.tcp_state.specs.Calls.{after_send, after_recv, beyond_shutdown, shutdown_refusal, after_shutdown, aborted_at, after_release, is_removed_by_close, is_aborted_by_close}
 use Rattle.tcp_state.specs.Arrival.{owing_ack, after_establishment, is_receiving, beyond_fin, beyond_end, fin_acknowledged, after_new_ack, after_ack, is_read_on, is_read, after_window, after_text, counts_fin, after_fin, after_acknowledging_segment, after_acceptable_segment, ends_by_syn, ends_by_reset, ends_opening, is_acting_reset, is_acceptable_to, after_reset, reset_error, after_rst_in_syn_sent, after_rst, is_right_syn_ack, after_syn_ack, after_segment, is_lost, after_lost, after_heard, is_rejected}
 use Rattle.tcp_state.specs.Due.{first_due, after_ack_paid, after_numbers}
-use Rattle.tcp_state.specs.Edges.{Event, Hears, Ticks, Emits, Sends, Receives, Shuts, Closes, Aborts, after_first, fate_by, is_removed, is_reset_by, is_last_ack, ends_by_ack, is_cause, ends_by}
+use Rattle.tcp_state.specs.Unreachable.{is_unreachable, after_unreachable, unreachable_fate}
+use Rattle.tcp_state.specs.Edges.{Event, Hears, Ticks, Emits, Sends, Receives, Shuts, Closes, Aborts, Unreachable, after_first, fate_by, is_removed, is_reset_by, is_last_ack, ends_by_ack, is_cause, ends_by}
 use Rattle.tcp_state.proofs.Edges.{either, and_left, and_right, emitted-state}
 
 pub both : (a b : Bool) → a ≡ true → b ≡ true → (a && b) ≡ true
@@ -266,3 +268,10 @@ ends_caused v (Closes now) lives e = by (is_cause v (Closes now) ≡ true) (is_r
     let tried : Bool → Bool → Bool = λ a b. is_removed (if a then Removed else Stays) || (not (is_closed v.state) && is_closed (if a then v else (if b then aborted_at v now else after_release v now)).state) in
     absurd (shut_closes_none v.state (sym (ap (λ a. tried a (is_aborted_by_close v)) stays ∙ ap (tried false) released) ∙ e))))
 ends_caused v (Aborts now) lives e = refl
+ends_caused v (Unreachable number) lives e = by (is_unreachable v number ≡ true) (is_unreachable v number) (λ refused. refused)
+    (λ other.
+    let same : after_unreachable v number ≡ v = ap (λ b. if b then after_reset v (Some ECONNREFUSED) else v) other in
+    elim (or_else (is_removed (unreachable_fate v number)) _ e) [
+      | inl removed ↦ let over = sym (ap is_over same) ∙ removed_where_over (is_over (after_unreachable v number)) removed in let bad : true ≡ false = sym over ∙ lives in cc
+      | inr ended ↦ absurd (unclosed v.state (after_unreachable v number).state (ap (λ (w : View). w.state) same) ended)
+    ])

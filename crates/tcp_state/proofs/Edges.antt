@@ -2,6 +2,7 @@
 use Rattle.std.proofs.Common.{◌≡◌, ℕ, ◌==◌, ◌||◌, ◌&&◌, not, if◌then◌else◌, Bool, true, false, length, Option, Some, None, inl, inr, refl, sym, subst, is_some}
 use Rattle.tcp_segment.specs.Segment.{Segment}
 use Rattle.clock.specs.declared.moment.Moment.{Moment}
+use Rattle.tcp_state.specs.declared.calls.Refusal.TheVariants.{ECONNREFUSED}
 use Rattle.tcp_state.specs.declared.emission.Due.{Due}
 use Rattle.tcp_state.specs.declared.emission.Due.TheVariants.{Rst, Syn, Text, Fin, Ack}
 use Rattle.tcp_state.specs.declared.state.State.{State}
@@ -12,7 +13,8 @@ use Rattle.tcp_state.specs.View.{View, is_opening, is_syn_sent, is_syn_received,
 use Rattle.tcp_state.specs.Calls.{beyond_shutdown, shutdown_refusal, after_shutdown, aborted_at, after_release, is_removed_by_close, is_aborted_by_close}
 use Rattle.tcp_state.specs.Arrival.{owing_ack, after_establishment, is_receiving, beyond_fin, beyond_end, fin_acknowledged, after_new_ack, after_ack, is_read_on, after_window, after_text, counts_fin, after_fin, after_acknowledging_segment, after_acceptable_segment, ends_by_syn, ends_by_reset, is_acting_reset, is_acceptable_to, after_reset, reset_error, after_rst_in_syn_sent, after_rst, is_right_syn_ack, after_syn_ack, after_segment, is_lost, after_lost, after_heard}
 use Rattle.tcp_state.specs.Due.{first_due, after_ack_paid, after_numbers}
-use Rattle.tcp_state.specs.Edges.{IsEdge, Event, Hears, Ticks, Emits, Sends, Receives, Shuts, Closes, Aborts, after_first, after_event, fate_by, is_removed, left_by, state_after}
+use Rattle.tcp_state.specs.Unreachable.{is_unreachable}
+use Rattle.tcp_state.specs.Edges.{IsEdge, Event, Hears, Ticks, Emits, Sends, Receives, Shuts, Closes, Aborts, Unreachable, after_first, after_event, fate_by, is_removed, left_by, state_after}
 
 -- one of two by a test
 pub either : (A : Type 0) (P : A → Type 0) (test : Bool) (v w : A) → (test ≡ true → P v) → (test ≡ false → P w) → P (if test then v else w)
@@ -155,6 +157,7 @@ event-edge v (Closes now) =
     either View (λ w. IsEdge v.state w.state) (is_removed_by_close v) v _ (λ removed. inl refl)
     (λ stays. either View (λ w. IsEdge v.state w.state) (is_aborted_by_close v) (aborted_at v now) (after_release v now) (λ lost. closes v.state) (λ released. shuts v.state))
 event-edge v (Aborts now) = either View (λ w. IsEdge v.state w.state) (is_closed v.state) v (aborted_at v now) (λ closed. inl refl) (λ lives. closes v.state)
+event-edge v (Unreachable number) = either View (λ w. IsEdge v.state w.state) (is_unreachable v number) (after_reset v (Some ECONNREFUSED)) v (λ refused. closes v.state) (λ other. inl refl)
 
 pub edges_hold : (v : View) (e : Event) → IsEdge v.state (state_after v e)
 edges_hold v e = either State (λ t. IsEdge v.state t) (is_removed (fate_by v e)) (left_by v) (after_event v e).state (λ removed. left-edge v) (λ stays. event-edge v e)

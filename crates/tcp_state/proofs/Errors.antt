@@ -1,4 +1,4 @@
--- Why an error is told only by a reset, and stays told.
+-- Why an error is told only by a reset, or by an error about our SYN, and stays told.
 use Rattle.std.proofs.Common.{◌≡◌, ℕ, ◌==◌, ◌||◌, ◌&&◌, ◌⊎◌, not, Bool, true, false, List, length, Option, Some, None, inl, inr, refl, sym, ◌∙◌, ap, is_some}
 use Rattle.tcp_segment.specs.Segment.{Segment}
 use Rattle.clock.specs.declared.moment.Moment.{Moment}
@@ -9,13 +9,14 @@ use Rattle.tcp_state.specs.declared.emission.Due.TheVariants.{Rst, Syn, Text, Fi
 use Rattle.tcp_state.specs.declared.state.State.{State}
 use Rattle.tcp_state.specs.declared.state.State.TheVariants.{SynSent, SynReceived, Established, FinWait1, FinWait2, CloseWait}
 use Rattle.tcp_state.specs.Numbers.{is_before}
-use Rattle.tcp_state.specs.Stream.{is_new_ack, is_in_window}
+use Rattle.tcp_state.specs.Stream.{outstanding, is_new_ack, is_in_window}
 use Rattle.tcp_state.specs.View.{View, IsSound, is_opening, is_syn_sent, is_syn_received, is_closed, is_write_closed, is_at_end, after_stop, after_resend, is_fin_next}
 use Rattle.tcp_state.specs.Calls.{shutdown_refusal, after_shutdown, aborted_at, after_release, is_removed_by_close, is_aborted_by_close}
 use Rattle.tcp_state.specs.Arrival.{owing_ack, after_establishment, is_receiving, fin_acknowledged, after_new_ack, after_ack, is_read_on, after_window, after_text, counts_fin, after_fin, after_acknowledging_segment, after_acceptable_segment, ends_by_syn, ends_by_reset, is_acting_reset, is_acceptable_to, after_reset, reset_error, after_rst_in_syn_sent, after_rst, is_right_syn_ack, after_syn_ack, after_segment, is_lost, after_lost, after_heard}
 use Rattle.tcp_state.specs.Due.{first_due, after_ack_paid, after_numbers}
-use Rattle.tcp_state.specs.Edges.{Event, Hears, Ticks, Emits, Sends, Receives, Shuts, Closes, Aborts, after_first, after_event, is_reset_by, is_error_of, may_raise}
-use Rattle.tcp_state.proofs.Edges.{either}
+use Rattle.tcp_state.specs.Unreachable.{is_unreachable}
+use Rattle.tcp_state.specs.Edges.{Event, Hears, Ticks, Emits, Sends, Receives, Shuts, Closes, Aborts, Unreachable, after_first, after_event, is_reset_by, is_error_of, may_raise}
+use Rattle.tcp_state.proofs.Edges.{either, and_left}
 use Rattle.tcp_state.proofs.Causes.{both, of_false, then_chosen, else_chosen}
 
 -- What is no reset tells nothing.
@@ -117,6 +118,29 @@ told_by_close v now =
 told_by_abort : (v : View) (now : Moment) → (after_event v (Aborts now)).pending_error ≡ v.pending_error
 told_by_abort v now = either View (λ w. w.pending_error ≡ v.pending_error) (is_closed v.state) v (aborted_at v now) (λ closed. refl) (λ lives. refl)
 
+-- an error about our SYN refuses a connection in SYN-SENT, and nothing else
+record IsRefusal (v : View) (number : ℕ) (told : Option Refusal) : Type 0 where
+  pub hit : is_unreachable v number ≡ true
+  pub waits : is_syn_sent v.state ≡ true
+  pub error : told ≡ Some ECONNREFUSED
+
+waiting_where : (v : View) (number : ℕ) → is_unreachable v number ≡ true → is_syn_sent v.state ≡ true
+waiting_where v number hit = and_left (is_syn_sent v.state) (not (outstanding v.sending == 0)) (and_left (is_syn_sent v.state && not (outstanding v.sending == 0)) (v.sending.una == number) hit)
+
+told_by_unreachable : (v : View) (number : ℕ) → ((after_event v (Unreachable number)).pending_error ≡ v.pending_error) ⊎ IsRefusal v number (after_event v (Unreachable number)).pending_error
+told_by_unreachable v number =
+    either View (λ w. (w.pending_error ≡ v.pending_error) ⊎ IsRefusal v number w.pending_error) (is_unreachable v number) (after_reset v (Some ECONNREFUSED)) v
+    (λ hit. inr (record { hit = hit; waits = waiting_where v number hit; error = refl })) (λ other. inl refl)
+
+opening_refused : (t : State) (error : Refusal) → is_syn_sent t ≡ true → ◌≡◌ {A = Option Refusal} (Some ECONNREFUSED) (Some error) → is_error_of t error ≡ true
+opening_refused SynSent ECONNREFUSED e f = refl
+opening_refused SynSent _ e f = cc
+opening_refused _ error e f = cc
+
+waits_open : (t : State) → is_syn_sent t ≡ true → is_closed t ≡ false
+waits_open SynSent e = refl
+waits_open _ e = cc
+
 -- each error has its states
 error_of : (t : State) (error : Refusal) → reset_error t ≡ Some error → is_error_of t error ≡ true
 error_of SynSent ECONNREFUSED e = refl
@@ -139,6 +163,10 @@ errors_caused v (Receives len) error e = inl (sym (told_by_recv v len) ∙ e)
 errors_caused v Shuts error e = inl (sym (told_by_shutdown v) ∙ e)
 errors_caused v (Closes now) error e = inl (sym (told_by_close v now) ∙ e)
 errors_caused v (Aborts now) error e = inl (sym (told_by_abort v now) ∙ e)
+errors_caused v (Unreachable number) error e = elim (told_by_unreachable v number) [
+  | inl same ↦ inl (sym same ∙ e)
+  | inr told ↦ inr (both (is_unreachable v number) (is_error_of v.state error) told.hit (opening_refused v.state error told.waits (sym told.error ∙ e)))
+]
 
 closed_where_told : (told closed : Bool) → (told && not closed) ≡ false → told ≡ true → closed ≡ true
 closed_where_told true true e f = refl
@@ -157,3 +185,7 @@ errors_kept v (Receives len) sound some = told_by_recv v len
 errors_kept v Shuts sound some = told_by_shutdown v
 errors_kept v (Closes now) sound some = told_by_close v now
 errors_kept v (Aborts now) sound some = told_by_abort v now
+errors_kept v (Unreachable number) sound some = elim (told_by_unreachable v number) [
+  | inl same ↦ same
+  | inr told ↦ let bad : true ≡ false = sym (closed_where_told (is_some v.pending_error) (is_closed v.state) sound.error some) ∙ waits_open v.state told.waits in cc
+]

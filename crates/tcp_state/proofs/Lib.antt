@@ -13,3 +13,4 @@ pub mod Onward
 pub mod Waiting
 pub mod Gains
 pub mod ResetAges
+pub mod Unreachable

@@ -13,9 +13,11 @@ use Rattle.tcp_state.specs.Stream.{outstanding, is_new_ack, receive_window, octe
 use Rattle.tcp_state.specs.Windows.{updates_window, after_window_update, sendable, after_advertisement}
 use Rattle.tcp_state.specs.View.{View, IsSound, is_opening, is_syn_sent, is_syn_received, is_closed, is_write_closed, is_at_end, after_stop, after_resend, is_due, is_fin_next}
 use Rattle.tcp_state.specs.Calls.{shutdown_refusal, after_shutdown, aborted_at, after_release, is_removed_by_close, is_aborted_by_close}
+use Rattle.tcp_state.specs.declared.calls.Refusal.TheVariants.{ECONNREFUSED}
 use Rattle.tcp_state.specs.Arrival.{owing_ack, after_establishment, is_receiving, fin_acknowledged, after_new_ack, after_ack, is_read_on, after_window, after_text, counts_fin, after_fin, after_acknowledging_segment, after_acceptable_segment, ends_by_syn, ends_by_reset, is_acting_reset, is_acceptable_to, after_reset, reset_error, after_rst_in_syn_sent, after_rst, is_right_syn_ack, after_syn_ack, after_segment, is_lost, after_lost, after_heard}
 use Rattle.tcp_state.specs.Due.{first_due, again, ack_due, after_ack_paid, after_numbers}
-use Rattle.tcp_state.specs.Edges.{Event, Hears, Ticks, Emits, Sends, Receives, Shuts, Closes, Aborts, after_first, after_event}
+use Rattle.tcp_state.specs.Unreachable.{is_unreachable}
+use Rattle.tcp_state.specs.Edges.{Event, Hears, Ticks, Emits, Sends, Receives, Shuts, Closes, Aborts, Unreachable, after_first, after_event}
 use Rattle.tcp_state.specs.Positions.{GoesOn, NeverBack, HasNumber}
 use Rattle.tcp_state.proofs.Edges.{either, and_right}
 use Rattle.tcp_state.proofs.Released.{unheard}
@@ -293,3 +295,6 @@ never_back v (Closes now) sound fits =
     (λ aborts. ended v (aborted_at v now) sound refl refl refl) (λ leaves. still v (after_release v now) refl refl refl))
 never_back v (Aborts now) sound fits =
     either View (λ w. NeverBack v w) (is_closed v.state) v (aborted_at v now) (λ closed. still v v refl refl refl) (λ aborts. ended v (aborted_at v now) sound refl refl refl)
+never_back v (Unreachable number) sound fits =
+    either View (λ w. NeverBack v w) (is_unreachable v number) (after_reset v (Some ECONNREFUSED)) v
+    (λ refused. ended v (after_reset v (Some ECONNREFUSED)) sound refl refl refl) (λ other. still v v refl refl refl)

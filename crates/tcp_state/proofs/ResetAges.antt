@@ -9,10 +9,12 @@ use Rattle.tcp_state.specs.declared.state.State.TheVariants.{Closed, Established
 use Rattle.tcp_state.specs.Numbers.{is_before}
 use Rattle.tcp_state.specs.Stream.{is_new_ack, is_in_window}
 use Rattle.tcp_state.specs.View.{View, IsSound, is_opening, is_syn_sent, is_syn_received, is_closed, is_time_wait, is_write_closed, is_fin_next, is_at_end, after_stop, after_resend, reset_since}
+use Rattle.tcp_state.specs.declared.calls.Refusal.TheVariants.{ECONNREFUSED}
 use Rattle.tcp_state.specs.Arrival.{owing_ack, after_reset, reset_error, after_rst_in_syn_sent, after_rst, is_acting_reset, ends_by_reset, ends_by_syn, is_right_syn_ack, after_syn_ack, is_acceptable_to, after_acceptable_segment, after_acknowledging_segment, after_establishment, fin_acknowledged, after_new_ack, after_ack, after_window, is_read_on, is_receiving, after_text, counts_fin, after_fin, after_segment, is_read, brings_more, is_lost, after_lost, begins_wait, starts_clock, repeats_fin, timed}
 use Rattle.tcp_state.specs.Calls.{aborted_at, after_release, is_removed_by_close, is_aborted_by_close, shutdown_refusal, after_shutdown}
 use Rattle.tcp_state.specs.Due.{first_due, after_ack_paid, after_numbers}
-use Rattle.tcp_state.specs.Edges.{Event, Hears, Ticks, Emits, Sends, Receives, Shuts, Closes, Aborts, after_first, after_event, moment_of}
+use Rattle.tcp_state.specs.Unreachable.{is_unreachable}
+use Rattle.tcp_state.specs.Edges.{Event, Hears, Ticks, Emits, Sends, Receives, Shuts, Closes, Aborts, Unreachable, after_first, after_event, moment_of}
 use Rattle.tcp_state.proofs.Edges.{either, and_left, and_right}
 use Rattle.tcp_state.proofs.Causes.{by, or_left, or_right, of_false}
 use Rattle.tcp_state.proofs.Unchanged.{clash, starts_none}
@@ -137,6 +139,7 @@ ages v (Closes now) sound = either View (λ w. Ages v (Closes now) w) (is_remove
     (λ stays. let none = live v sound (closed_among v stays) in
     either View (λ w. Ages v (Closes now) w) (is_aborted_by_close v) (aborted_at v now) (after_release v now) (λ lost. inr (inr (none, refl))) (λ released. inr (inl (none_owed (after_release v now) none))))
 ages v (Aborts now) sound = either View (λ w. Ages v (Aborts now) w) (is_closed v.state) v (aborted_at v now) (λ closed. inl refl) (λ lives. inr (inr (live v sound lives, refl)))
+ages v (Unreachable number) sound = either View (λ w. Ages v (Unreachable number) w) (is_unreachable v number) (after_reset v (Some ECONNREFUSED)) v (λ refused. inl refl) (λ other. inl refl)
 
 pub resets_begin : (v : View) (e : Event) (since : Moment) → IsSound v → reset_since v ≡ None → reset_since (after_event v e) ≡ Some since → moment_of e ≡ Some since
 resets_begin v e since sound none some = elim (ages v e sound) [

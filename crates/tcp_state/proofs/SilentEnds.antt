@@ -1,8 +1,9 @@
 -- Why a connection that becomes CLOSED in silence had seen the peer's end.
-use Rattle.std.proofs.Common.{◌≡◌, ◌==◌, ◌||◌, ◌&&◌, if◌then◌else◌, Bool, true, false, length, None, refl, sym, ◌∙◌, ap, is_some}
+use Rattle.std.proofs.Common.{◌≡◌, ◌==◌, ◌||◌, ◌&&◌, if◌then◌else◌, Bool, true, false, length, Some, None, refl, sym, ◌∙◌, ap, is_some}
 use Rattle.tcp_segment.specs.Segment.{Segment}
 use Rattle.clock.specs.declared.moment.Moment.{Moment}
 use Rattle.clock.specs.Moments.{has_come}
+use Rattle.tcp_state.specs.declared.calls.Refusal.TheVariants.{ECONNREFUSED}
 use Rattle.tcp_state.specs.declared.state.State.{State}
 use Rattle.tcp_state.specs.declared.state.State.TheVariants.{Closed, SynSent, SynReceived, Established, FinWait1, FinWait2, CloseWait, Closing, LastAck, TimeWait, Listen}
 use Rattle.tcp_state.specs.Stream.{is_new_ack, is_in_window}
@@ -10,7 +11,8 @@ use Rattle.tcp_state.specs.View.{View, IsSound, is_syn_sent, is_opening, is_clos
 use Rattle.tcp_state.specs.Calls.{after_send, after_recv, beyond_shutdown, shutdown_refusal, after_shutdown, aborted_at, after_release, is_removed_by_close, is_aborted_by_close}
 use Rattle.tcp_state.specs.Arrival.{owing_ack, ends_by_syn, ends_by_reset, is_acting_reset, is_acceptable_to, after_reset, reset_error, after_rst_in_syn_sent, after_rst, is_right_syn_ack, after_syn_ack, after_acknowledging_segment, after_acceptable_segment, after_segment, is_lost, after_lost}
 use Rattle.tcp_state.specs.Due.{first_due}
-use Rattle.tcp_state.specs.Edges.{Event, Hears, Ticks, Emits, Sends, Receives, Shuts, Closes, Aborts, after_first, after_event, is_last_ack}
+use Rattle.tcp_state.specs.Unreachable.{is_unreachable}
+use Rattle.tcp_state.specs.Edges.{Event, Hears, Ticks, Emits, Sends, Receives, Shuts, Closes, Aborts, Unreachable, after_first, after_event, is_last_ack}
 use Rattle.tcp_state.proofs.Edges.{either, and_left, emitted-state}
 use Rattle.tcp_state.proofs.Causes.{by, closed_by_acceptable}
 
@@ -100,6 +102,8 @@ seen_by_event v (Closes now) sound lives k =
     (λ lost l. let bad : true ≡ false = l.kept in cc) (λ leaves l. let bad : true ≡ false = l.kept in cc)) k
 seen_by_event v (Aborts now) sound lives k =
     either View (λ w. IsSilentEnd w → is_read_closed v.state ≡ true) (is_closed v.state) v (aborted_at v now) (λ closed. still v v refl lives) (λ aborts l. let bad : true ≡ false = l.kept in cc) k
+seen_by_event v (Unreachable number) sound lives k =
+    either View (λ w. IsSilentEnd w → is_read_closed v.state ≡ true) (is_unreachable v number) (after_reset v (Some ECONNREFUSED)) v (λ refused l. let told = l.quiet in cc) (λ other. still v v refl lives) k
 
 pub silent_ends_seen : (v : View) (e : Event) → IsSound v → is_closed v.state ≡ false → is_closed (after_event v e).state ≡ true → (after_event v e).pending_error ≡ None → (after_event v e).released ≡ false
     → is_read_closed v.state ≡ true

@@ -129,7 +129,7 @@ idle_is_not_due Idle e = refl
 idle_is_not_due _ e = cc
 
 -- nothing is due where no test that makes something due holds
-none_due : (owes opening again none some fin ack : Bool) (text : ℕ) (more : Due) → opening ≡ false → again ≡ false → none ≡ true → some ≡ false → fin ≡ false → ack ≡ false
+pub none_due : (owes opening again none some fin ack : Bool) (text : ℕ) (more : Due) → opening ≡ false → again ≡ false → none ≡ true → some ≡ false → fin ≡ false → ack ≡ false
     → (if owes then Some Rst else if opening then (if none || again then Some Syn else if ack then Some Ack else None) else if again then Some more
     else if not none then (if ack then Some Ack else None) else if some then Some (Text text) else if fin then Some Fin else if ack then Some Ack else None)
     ≡ (if owes then Some Rst else None)

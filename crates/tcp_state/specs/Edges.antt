@@ -14,6 +14,7 @@ use Rattle.tcp_state.specs.View.{View, is_syn_sent, is_syn_received, is_closed, 
 use Rattle.tcp_state.specs.Calls.{after_send, after_recv, shutdown_refusal, after_shutdown, after_abort, abort_fate, is_removed_by_close, is_aborted_by_close, after_close, close_fate}
 use Rattle.tcp_state.specs.Arrival.{is_acting_reset, ends_by_reset, ends_by_syn, is_lost, is_read, after_segment_at, fate}
 use Rattle.tcp_state.specs.Due.{first_due, after_emitted}
+use Rattle.tcp_state.specs.Unreachable.{is_unreachable, after_unreachable, unreachable_fate}
 
 -- the edges of the diagram of states (figure 5) but those of a listener that sends and of a close in SYN-RECEIVED, which is aborted here;
 -- with them those of a reset and an abort, and those that one segment takes at once
@@ -49,7 +50,8 @@ may_join _ _ = false
 abbrev pub IsEdge : State → State → Type 0
 IsEdge before after = (before ≡ after) ⊎ (may_join before after ≡ true)
 
--- what may happen to a connection: a segment comes, the clock moves, what is due first goes out, or its caller calls
+-- what may happen to a connection: a segment comes, the clock moves, what is due first goes out, its caller calls, or an error tells that the segment of a
+-- number can't be delivered
 pub data Event : Type 0 where
   Hears : Segment → Moment → Event
   Ticks : Moment → Event
@@ -59,6 +61,7 @@ pub data Event : Type 0 where
   Shuts : Event
   Closes : Moment → Event
   Aborts : Moment → Event
+  Unreachable : ℕ → Event
 
 -- when it happens, where it has a moment
 abbrev pub moment_of : Event → Option Moment
@@ -84,6 +87,7 @@ after_event v (Receives len) = after_recv v len
 after_event v Shuts = if is_some (shutdown_refusal v) then v else after_shutdown v
 after_event v (Closes now) = after_close v now
 after_event v (Aborts now) = after_abort v now
+after_event v (Unreachable number) = after_unreachable v number
 
 -- what becomes of its place; it is taken out after an emission where it is over
 abbrev pub fate_by : View → Event → Fate
@@ -95,6 +99,7 @@ fate_by v (Receives len) = Stays
 fate_by v Shuts = Stays
 fate_by v (Closes now) = close_fate v
 fate_by v (Aborts now) = abort_fate v
+fate_by v (Unreachable number) = unreachable_fate v number
 
 abbrev pub is_removed : Fate → Bool
 is_removed Removed = true
@@ -122,8 +127,8 @@ abbrev pub ends_by_ack : View → Segment → Bool
 ends_by_ack v s = is_last_ack v.state && is_read v s && is_new_ack v.sending s.acknowledgement && is_fin_next v
 
 -- What ends a connection: a `close` that takes it out or aborts it, and an abort; a reset that acts, a SYN before it is established,
--- octets after its caller closed it, or the acknowledgement of our FIN in LAST-ACK; the clock at the end of its wait; and the going out of
--- the reset of an abort.
+-- octets after its caller closed it, or the acknowledgement of our FIN in LAST-ACK; the clock at the end of its wait; the going out of
+-- the reset of an abort; and an error that tells that its SYN can't be delivered.
 abbrev pub is_cause : View → Event → Bool
 is_cause v (Closes now) = is_removed_by_close v || is_aborted_by_close v
 is_cause v (Aborts now) = true
@@ -133,12 +138,13 @@ is_cause v (Emits now) = v.owes_reset
 is_cause v (Sends octets) = false
 is_cause v (Receives len) = false
 is_cause v Shuts = false
+is_cause v (Unreachable number) = is_unreachable v number
 
 -- it is taken out, or becomes CLOSED
 abbrev pub ends_by : View → Event → Bool
 ends_by v e = is_removed (fate_by v e) || (not (is_closed v.state) && is_closed (after_event v e).state)
 
--- the error that a reset raises in a state
+-- the error that a reset raises in a state, or in SYN-SENT an error about the SYN
 abbrev pub is_error_of : State → Refusal → Bool
 is_error_of SynSent ECONNREFUSED = true
 is_error_of SynReceived ECONNREFUSED = true
@@ -148,7 +154,7 @@ is_error_of FinWait2 ECONNRESET = true
 is_error_of CloseWait ECONNRESET = true
 is_error_of _ _ = false
 
--- an event raises this error: a reset that acts and leaves the connection its place, in a state that has it
+-- an event raises this error: a reset that acts and leaves the connection its place, or an error about its SYN, in a state that has it
 abbrev pub may_raise : View → Event → Refusal → Bool
 may_raise v (Hears s now) error = is_reset_by v s && not (ends_by_reset v s) && is_error_of v.state error
 may_raise v (Ticks now) error = false
@@ -158,3 +164,4 @@ may_raise v (Receives len) error = false
 may_raise v Shuts error = false
 may_raise v (Closes now) error = false
 may_raise v (Aborts now) error = false
+may_raise v (Unreachable number) error = is_unreachable v number && is_error_of v.state error

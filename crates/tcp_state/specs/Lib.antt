@@ -7,6 +7,7 @@ pub mod Names
 pub mod Calls
 pub mod Arrival
 pub mod Due
+pub mod Unreachable
 pub mod Edges
 pub mod Positions
 pub mod Inside

@@ -178,9 +178,7 @@ impl Connection {
     fn reset(&mut self)
         ensures { self.new ≡ after_reset self.old (reset_error self.old.state) }
     {
-        let error = self.state.reset_error();
-        self.stop();
-        self.pending_error = error;
+        self.end_with(self.state.reset_error());
     }
 
     /// Takes an acceptable segment with ACK and without SYN.

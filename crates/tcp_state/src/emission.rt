@@ -84,21 +84,9 @@ impl Connection {
         ensures after { MatchOption (first_due self.old) (self.new ≡ self.old) (λ due. self.new ≡ after_emitted self.old due now) }
     {
         let due = self.due()?;
-        Some(self.emit_due(due, now, out))
-    }
-
-    /// Writes the segment for `due`, which is what `due` answers, to the front of `out`, and answers its length in octets.
-    pub fn emit_due(&mut self, due: Due, now: Moment, out: &mut [u8]) -> usize
-        requires first { first_due self.old ≡ Some due }
-        requires room { MOST_SEGMENT ≤ length out.old }
-        ensures len { result ≡ emitted_len self.old due }
-        ensures bound { result ≤ MOST_SEGMENT }
-        ensures frame { out.new ≡ segment_octets self.old due ++ drop (emitted_len self.old due) out.old }
-        ensures after { self.new ≡ after_emitted self.old due now }
-    {
         let len = self.write(due, out);
         self.note_emitted(due, now);
-        len
+        Some(len)
     }
 
     /// Writes the segment for what is due to the front of `out`.

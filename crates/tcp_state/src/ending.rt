@@ -1,12 +1,16 @@
-//! How a connection ends: by the clock, by an abort, and after its caller closed it (RFC 9293 sections 3.6, 3.10.4, 3.10.5 and 3.10.8).
+//! How a connection ends: by the clock, by an error, by an abort, and after its caller closed it (RFC 9293 sections 3.6, 3.9.2.2, 3.10.4, 3.10.5 and 3.10.8).
 
 ghost use Rattle.std.specs.Prelude.{◌≡◌, ◌&&◌, ◌||◌, ◌==◌, false, length, if◌then◌else◌};
 ghost use Rattle.tcp_state.specs.View.{is_opening, ends_at, is_at_end, after_stop, after_resend, after_tick, tick_fate, deadline};
+ghost use Rattle.tcp_state.specs.Arrival.{after_reset};
+ghost use Rattle.tcp_state.specs.Unreachable.{is_unreachable, after_unreachable, unreachable_fate};
 ghost use Rattle.tcp_state.specs.Calls.{aborted, aborted_at, after_abort, abort_fate, after_release, after_close, close_fate};
 
+use crate::calls::Refusal;
 use crate::connection::{Connection, Fate, Resend};
 use crate::state::State;
 use clock::{Moment, sooner};
+use tcp_segment::Seq;
 
 /// How long TIME-WAIT lasts, in milliseconds: twice the time that a segment may live (RFC 9293 section 3.4.2).
 const TIME_WAIT: u64 = 240_000;
@@ -86,6 +90,41 @@ impl Connection {
         self.sender.abandon();
         self.owes_ack = false;
         self.resend = Resend::Idle;
+    }
+
+    /// An error ends the connection: it is CLOSED, and every call reports `error` from now on.
+    pub(crate) fn end_with(&mut self, error: Option<Refusal>)
+        ensures { self.new ≡ after_reset self.old error }
+    {
+        self.stop();
+        self.pending_error = error;
+    }
+
+    /// Takes an error of the network: the segment whose number is `number` can't be delivered, now or later (RFC 1122 section 4.2.3.9).
+    ///
+    /// In SYN-SENT it ends the connection whose SYN that is, and which has gone out: every call reports ECONNREFUSED from now on. In any
+    /// other state, and of any other segment, it changes nothing. `Removed` where the connection is over.
+    pub fn unreachable(&mut self, number: Seq) -> Fate
+        ensures fate { result ≡ unreachable_fate self.old number.0 }
+        ensures after { self.new ≡ after_unreachable self.old number.0 }
+    {
+        if self.is_unreachable(number) {
+            self.end_with(Some(Refusal::ECONNREFUSED));
+        }
+        if self.is_over() {
+            Fate::Removed
+        } else {
+            Fate::Stays
+        }
+    }
+
+    /// Whether the connection is in SYN-SENT, its SYN has gone out, and has this number.
+    fn is_unreachable(&self, number: Seq) -> bool
+        ensures { result ≡ is_unreachable self.now number.0 }
+    {
+        self.state == State::SynSent
+            && self.sender.outstanding() != 0
+            && self.sender.una() == number
     }
 
     /// Ends the connection by a reset (RFC 9293 section 3.10.5): it is CLOSED, no caller has it any more, and the reset is due, and

@@ -1,11 +1,12 @@
 //! Laws over the definitions alone: functions with nothing to do, whose contracts are the laws.
 
-ghost use Rattle.std.specs.Prelude.{◌≡◌, ℕ, ◌+◌, ◌-◌, ◌<◌, ◌≤◌, ◌==◌, nat_lt, ◌^◌, ◌⊎◌, ◌↔◌, ◌||◌, List, [], ◌++◌, slice_get, length, true, false, if◌then◌else◌, Some, None, is_some};
+ghost use Rattle.std.specs.Prelude.{◌≡◌, ℕ, ◌+◌, ◌-◌, ◌<◌, ◌≤◌, ◌==◌, ◌≢◌, nat_lt, ◌^◌, ◌⊎◌, ◌↔◌, ◌||◌, List, [], ◌++◌, slice_get, length, true, false, if◌then◌else◌, Some, None, is_some};
 ghost use Rattle.tcp_segment.specs.Segment.{Segment, span_of};
 ghost use Rattle.tcp_state.specs.declared.calls.Refusal.{Refusal};
 ghost use Rattle.clock.specs.declared.moment.Moment.{Moment};
 ghost use Rattle.clock.specs.Moments.{has_come};
 ghost use Rattle.tcp_state.specs.declared.connection.Fate.{Fate};
+ghost use Rattle.tcp_state.specs.declared.state.State.{State};
 ghost use Rattle.tcp_state.specs.declared.emission.Due.{Due};
 ghost use Rattle.tcp_state.specs.View.{View, IsSound, is_closed, is_syn_sent, is_over, is_due, is_read_closed, deadline, after_tick, reset_since};
 ghost use Rattle.tcp_segment.specs.Wire.{wire, IsBefore};
@@ -16,7 +17,8 @@ ghost use Rattle.tcp_state.specs.Windows.{updates_window};
 ghost use Rattle.tcp_state.specs.Positions.{ReceivesAt, IsNear, MeetsWindow, AreNear, NeverBack, HasNumber, HasToSend, takes_numbers};
 ghost use Rattle.tcp_state.specs.Arrival.{fate, is_acceptable_to, is_receiving, is_read, after_ack, after_segment_at};
 ghost use Rattle.tcp_state.specs.Due.{first_due};
-ghost use Rattle.tcp_state.specs.Edges.{Event, after_event, moment_of, state_after, IsEdge, ends_by, is_cause, may_raise};
+ghost use Rattle.tcp_state.specs.Unreachable.{IsRefused};
+ghost use Rattle.tcp_state.specs.Edges.{Event, after_event, fate_by, moment_of, state_after, IsEdge, ends_by, is_cause, may_raise};
 
 /// One event joins only states that the table of edges joins, or leaves the state.
 pub fn events_follow_edges()
@@ -28,7 +30,7 @@ pub fn ends_have_causes()
     ensures { (v : View) (e : Event) → is_over v ≡ false → ends_by v e ≡ true → is_cause v e ≡ true }
 {}
 
-/// An error that is pending was pending before, or a reset raises it in a state that has it.
+/// An error that is pending was pending before, or a reset raises it, or an error about its SYN, in a state that has it.
 pub fn errors_have_causes()
     ensures { (v : View) (e : Event) (error : Refusal) → (after_event v e).pending_error ≡ Some error → (v.pending_error ≡ Some error) ⊎ (may_raise v e error ≡ true) }
 {}
@@ -141,4 +143,14 @@ pub fn numbers_never_go_back()
 /// whatever the window while our SYN is not acknowledged.
 pub fn what_waits_goes_out()
     ensures { (v : View) → IsSound v → HasToSend v → (takes_numbers (first_due v) || is_some (deadline v)) ≡ true }
+{}
+
+/// An error that tells that a segment can't be delivered ends the connection in SYN-SENT whose SYN is that segment and has gone out, and no other (RFC 1122 section
+/// 4.2.3.9): one past SYN-SENT stays as it is, and so does one whose SYN has not gone out, or has another number.
+pub fn hard_errors_end_openings_alone()
+    ensures others { (v : View) (number : ℕ) → v.state ≢ State.SynSent → after_event v (Event.Unreachable number) ≡ v }
+    ensures unsent { (v : View) (number : ℕ) → IsSound v → v.sending.nxt ≡ v.sending.una → after_event v (Event.Unreachable number) ≡ v }
+    ensures numbered { (v : View) (number : ℕ) → v.sending.una ≢ number → after_event v (Event.Unreachable number) ≡ v }
+    ensures ends { (v : View) → IsSound v → v.state ≡ State.SynSent → v.sending.nxt ≢ v.sending.una
+        → IsRefused (after_event v (Event.Unreachable v.sending.una)) × (fate_by v (Event.Unreachable v.sending.una) ≡ Fate.Stays) }
 {}
