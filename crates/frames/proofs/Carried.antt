@@ -1,5 +1,5 @@
 -- What goes out is heard as what was meant.
-use Rattle.std.proofs.Common.{◌≡◌, ◌⊎◌, inl, inr, ℕ, ◌+◌, ◌*◌, ◌≤◌, List, ◌++◌, length, false, true, Ok, arith, refl, ap}
+use Rattle.std.proofs.Common.{◌≡◌, ◌⊎◌, inl, inr, ℕ, ◌+◌, ◌*◌, ◌^◌, ◌<◌, ◌≤◌, List, ◌++◌, length, false, true, Ok, arith, refl, ap}
 use Rattle.ether.specs.declared.mac.Mac.{Mac}
 use Rattle.ether.specs.declared.head.Head.{Head as EtherHead}
 use Rattle.ether.specs.Frame.{padding, sent as frame_sent}
@@ -12,24 +12,26 @@ use Rattle.arp.proofs.OnePacket.{length-spelling}
 use Rattle.ipv4.specs.declared.addr.Addr.{Addr}
 use Rattle.ipv4.specs.Datagram.{Datagram, IsDatagram, spelling as datagram_octets}
 use Rattle.ipv4.proofs.Answering.{sent_len, sent_spelled as datagram_spelled}
+use Rattle.icmp.specs.Message.{Message, Spells as SpellsMessage, spelling as message_octets}
 use Rattle.tcp_segment.specs.declared.head.Head.{Head}
 use Rattle.tcp_segment.specs.Sent.{CanBeSent, sent_segment, sent_octets, sent_offset}
 use Rattle.tcp_segment.proofs.Checksum.{sent_octets_len, sent_spelled as segment_spelled}
 use Rattle.frames.specs.declared.emission.FrameHead.{FrameHead}
-use Rattle.frames.specs.declared.meaning.Meaning.TheVariants.{Arp, Tcp}
+use Rattle.frames.specs.declared.meaning.Meaning.TheVariants.{Arp, Tcp, Icmp}
 use Rattle.frames.specs.Heard.{Brings, BringsDatagram, MaySend}
 use Rattle.frames.specs.Meaning.{arp_type, broadcast, heard, ipv4_type}
-use Rattle.frames.specs.Sent.{datagram_of_segment, ipv4_head, packet_destination, packet_frame, segment_frame}
-use Rattle.frames.proofs.Meanings.{heard_packet, heard_segment}
+use Rattle.frames.specs.Sent.{datagram_frame, datagram_of, ipv4_head, message_frame, packet_destination, packet_frame, segment_frame}
+use Rattle.frames.proofs.Meanings.{heard_message, heard_packet, heard_segment}
 
 -- the fields of the datagram that goes out
-pub fields : (h : FrameHead) (segment : List ℕ) → length h.from.0 ≡ 4 → length h.to.0 ≡ 4 → length segment ≤ 1480 → IsDatagram (datagram_of_segment h segment)
-fields h segment from to most = record {
+pub fields : (h : FrameHead) (protocol : ℕ) (payload : List ℕ) → protocol < 2 ^ 8 → length h.from.0 ≡ 4 → length h.to.0 ≡ 4 → length payload ≤ 1480
+    → IsDatagram (datagram_of h protocol payload)
+fields h protocol payload octet from to most = record {
   service = omega arith;
   identification = omega arith;
   offset = omega arith;
   ttl = omega arith;
-  protocol = omega arith;
+  protocol = octet;
   checksum = omega arith;
   source = from;
   destination = to;
@@ -39,32 +41,48 @@ fields h segment from to most = record {
   place = record { units = λ more. let no : false ≡ true = more in cc; reach = omega (arith, most) };
 }
 
+-- the frame brings the datagram to the host that it is for
+brings : (h : FrameHead) (protocol : ℕ) (payload : List ℕ) → protocol < 2 ^ 8 → length h.from.0 ≡ 4 → length h.to.0 ≡ 4
+    → length h.destination.0 ≡ 6 → length h.source.0 ≡ 6 → MaySend h.to h.from → length payload ≤ 1480
+    → BringsDatagram h.destination h.to (datagram_frame h protocol payload) (datagram_of h protocol payload)
+brings h protocol payload octet from to destination source may most =
+    let d : Datagram = datagram_of h protocol payload in
+    let are : IsDatagram d = fields h protocol payload octet from to most in
+    let frame_head : EtherHead = record { destination = h.destination; source = h.source; kind = ipv4_type } in
+    let len : length (datagram_octets d) ≡ 20 + length payload = sent_len (ipv4_head h protocol) payload are in
+    let whole : Brings h.destination (datagram_frame h protocol payload) ipv4_type (datagram_octets d ++ padding (datagram_octets d)) = record {
+      frame = frame_sent frame_head (datagram_octets d);
+      spelled = frame_spelled frame_head (datagram_octets d) destination source (omega arith);
+      most = omega (arith, length-sent frame_head (datagram_octets d) destination source, len, most);
+      ours = inl refl;
+      type = refl;
+      carried = refl;
+    } in
+    record {
+      payload = datagram_octets d ++ padding (datagram_octets d);
+      brought = whole;
+      spelled = datagram_spelled (ipv4_head h protocol) payload (padding (datagram_octets d)) are;
+      destination = refl;
+      source = may;
+    }
+
 pub segments_heard : (h : FrameHead) (head : Head) (octets : List ℕ) → CanBeSent h.from h.to head octets → length h.destination.0 ≡ 6 → length h.source.0 ≡ 6
     → MaySend h.to h.from → 4 * sent_offset head + length octets ≤ 1480
     → heard h.destination h.to (segment_frame h (sent_octets h.from h.to head octets)) ≡ Ok (Tcp (record { source = h.from; segment = sent_segment head octets }))
 segments_heard h head octets can destination source may most =
     let segment : List ℕ = sent_octets h.from h.to head octets in
     let segment_most : length segment ≤ 1480 = omega (arith, sent_octets_len h.from h.to head octets, most) in
-    let d : Datagram = datagram_of_segment h segment in
-    let are : IsDatagram d = fields h segment can.src_octets can.dst_octets segment_most in
-    let frame_head : EtherHead = record { destination = h.destination; source = h.source; kind = ipv4_type } in
-    let len : length (datagram_octets d) ≡ 20 + length segment = sent_len (ipv4_head h) segment are in
-    let whole : Brings h.destination (segment_frame h segment) ipv4_type (datagram_octets d ++ padding (datagram_octets d)) = record {
-      frame = frame_sent frame_head (datagram_octets d);
-      spelled = frame_spelled frame_head (datagram_octets d) destination source (omega arith);
-      most = omega (arith, length-sent frame_head (datagram_octets d) destination source, len, segment_most);
-      ours = inl refl;
-      type = refl;
-      carried = refl;
-    } in
-    let brings : BringsDatagram h.destination h.to (segment_frame h segment) d = record {
-      payload = datagram_octets d ++ padding (datagram_octets d);
-      brought = whole;
-      spelled = datagram_spelled (ipv4_head h) segment (padding (datagram_octets d)) are;
-      destination = refl;
-      source = may;
-    } in
-    heard_segment h.destination h.to (segment_frame h segment) d (sent_segment head octets) (brings, (refl, refl), refl) (segment_spelled h.from h.to head octets can)
+    heard_segment h.destination h.to (segment_frame h segment) (datagram_of h 6 segment) (sent_segment head octets)
+    (brings h 6 segment (omega arith) can.src_octets can.dst_octets destination source may segment_most, (refl, refl), refl)
+    (segment_spelled h.from h.to head octets can)
+
+pub messages_heard : (h : FrameHead) (m : Message) → SpellsMessage m (message_octets m) → length h.from.0 ≡ 4 → length h.to.0 ≡ 4
+    → length h.destination.0 ≡ 6 → length h.source.0 ≡ 6 → MaySend h.to h.from → length m.payload ≤ 1472
+    → heard h.destination h.to (message_frame h (message_octets m)) ≡ Ok (Icmp (record { source = h.from; message = m }))
+messages_heard h m spells from to destination source may most =
+    heard_message h.destination h.to (message_frame h (message_octets m)) (datagram_of h 1 (message_octets m)) m
+    (brings h 1 (message_octets m) (omega arith) from to destination source may (omega (arith, most)), (refl, refl), refl)
+    spells
 
 -- where a packet goes
 pub destination_len : (o : Operation) (target : Mac) → length target.0 ≡ 6 → length (packet_destination o target).0 ≡ 6

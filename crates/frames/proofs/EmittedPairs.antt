@@ -1,30 +1,34 @@
 -- The pair of what goes out.
-use Rattle.std.proofs.Common.{◌≡◌, ℕ, ◌+◌, ◌*◌, ◌≤◌, List, length, Some, None, arith, refl, ap}
+use Rattle.std.proofs.Common.{◌≡◌, ℕ, ◌+◌, ◌*◌, ◌^◌, ◌<◌, ◌≤◌, List, length, Some, None, Ok, arith, refl, ◌∙◌, ap}
 use Rattle.ether.specs.declared.head.Head.{Head as EtherHead}
-use Rattle.ether.specs.Frame.{padding, sent as frame_sent}
+use Rattle.ether.specs.Frame.{Frame, padding, sent as frame_sent}
+use Rattle.ether.specs.Reading.{frame_in}
 use Rattle.ether.proofs.Answering.{sent_spelled as frame_spelled}
 use Rattle.ether.proofs.Reading.{read_ok as frame_found}
 use Rattle.arp.specs.declared.packet.ArpPacket.{ArpPacket}
 use Rattle.arp.specs.Packet.{spelling as packet_octets}
 use Rattle.ipv4.specs.Datagram.{Datagram, IsDatagram, spelling as datagram_octets}
+use Rattle.ipv4.specs.Reading.{datagram_in}
 use Rattle.ipv4.proofs.Answering.{sent_spelled as datagram_spelled}
+use Rattle.ipv4.proofs.Reading.{read_ok as datagram_found}
 use Rattle.tcp_segment.specs.declared.head.Head.{Head}
 use Rattle.tcp_segment.specs.Sent.{CanBeSent, sent_segment, sent_octets, sent_offset}
 use Rattle.tcp_segment.proofs.Checksum.{sent_octets_len, sent_spelled as segment_spelled}
 use Rattle.frames.specs.declared.emission.FrameHead.{FrameHead}
 use Rattle.frames.specs.Meaning.{arp_type, ipv4_type}
-use Rattle.frames.specs.Pairs.{frame_pair, pair_between, pair_in}
-use Rattle.frames.specs.Sent.{datagram_of_segment, ipv4_head, packet_destination, packet_frame, segment_frame}
+use Rattle.frames.specs.Pairs.{datagram_pair, frame_pair, pair_between, pair_in}
+use Rattle.frames.specs.Sent.{datagram_frame, datagram_of, ipv4_head, message_frame, packet_destination, packet_frame, segment_frame}
 use Rattle.frames.proofs.Carried.{destination_len, fields}
 use Rattle.frames.proofs.CarriedPairs.{carried_read}
+use Rattle.frames.proofs.PairReading.{as_frame, of_ipv4}
 
 pub segment_pairs : (h : FrameHead) (head : Head) (octets : List ℕ) → CanBeSent h.from h.to head octets → length h.destination.0 ≡ 6 → length h.source.0 ≡ 6
     → 4 * sent_offset head + length octets ≤ 1480
     → pair_in (segment_frame h (sent_octets h.from h.to head octets)) ≡ Some (pair_between h.from h.to (sent_segment head octets))
 segment_pairs h head octets can destination source most =
     let segment : List ℕ = sent_octets h.from h.to head octets in
-    let d : Datagram = datagram_of_segment h segment in
-    let are : IsDatagram d = fields h segment can.src_octets can.dst_octets (omega (arith, sent_octets_len h.from h.to head octets, most)) in
+    let d : Datagram = datagram_of h 6 segment in
+    let are : IsDatagram d = fields h 6 segment (omega arith) can.src_octets can.dst_octets (omega (arith, sent_octets_len h.from h.to head octets, most)) in
     let frame_head : EtherHead = record { destination = h.destination; source = h.source; kind = ipv4_type } in
     carried_read (segment_frame h segment) (pair_between h.from h.to (sent_segment head octets)) (record {
       frame = frame_sent frame_head (datagram_octets d);
@@ -32,12 +36,39 @@ segment_pairs h head octets can destination source most =
       segment = sent_segment head octets;
       framed = frame_spelled frame_head (datagram_octets d) destination source (omega arith);
       type = refl;
-      carried = datagram_spelled (ipv4_head h) segment (padding (datagram_octets d)) are;
+      carried = datagram_spelled (ipv4_head h 6) segment (padding (datagram_octets d)) are;
       whole = (refl, refl);
       protocol = refl;
       spelled = segment_spelled h.from h.to head octets can;
       ends = refl;
     })
+
+-- the frame that goes out, and the datagram in it, as they are read
+pub record Reads (h : FrameHead) (protocol : ℕ) (payload : List ℕ) : Type 0 where
+  pub frame : Frame
+  pub framed : frame_in (datagram_frame h protocol payload) ≡ Some frame
+  pub type : frame.kind ≡ ipv4_type
+  pub found : datagram_in frame.payload ≡ Ok (datagram_of h protocol payload)
+
+pub reads : (h : FrameHead) (protocol : ℕ) (payload : List ℕ) → protocol < 2 ^ 8 → length h.from.0 ≡ 4 → length h.to.0 ≡ 4
+    → length h.destination.0 ≡ 6 → length h.source.0 ≡ 6 → length payload ≤ 1480 → Reads h protocol payload
+reads h protocol payload octet from to destination source most =
+    let d : Datagram = datagram_of h protocol payload in
+    let frame_head : EtherHead = record { destination = h.destination; source = h.source; kind = ipv4_type } in
+    let frame : Frame = frame_sent frame_head (datagram_octets d) in
+    record {
+      frame = frame;
+      framed = frame_found (datagram_frame h protocol payload) frame (frame_spelled frame_head (datagram_octets d) destination source (omega arith));
+      type = refl;
+      found = datagram_found frame.payload d (datagram_spelled (ipv4_head h protocol) payload (padding (datagram_octets d)) (fields h protocol payload octet from to most));
+    }
+
+-- a control message has no pair
+pub message_pairs : (h : FrameHead) (octets : List ℕ) → length h.from.0 ≡ 4 → length h.to.0 ≡ 4 → length h.destination.0 ≡ 6 → length h.source.0 ≡ 6
+    → length octets ≤ 1480 → pair_in (message_frame h octets) ≡ None
+message_pairs h octets from to destination source most =
+    let r = reads h 1 octets (omega arith) from to destination source most in
+    as_frame (message_frame h octets) (Some r.frame) r.framed ∙ of_ipv4 r.frame r.type ∙ ap datagram_pair r.found
 
 pub packet_pairs : (p : ArpPacket) → length p.sender_mac.0 ≡ 6 → length p.target_mac.0 ≡ 6 → pair_in (packet_frame p) ≡ None
 unfolding pair_in

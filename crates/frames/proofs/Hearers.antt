@@ -1,129 +1,177 @@
--- Who hears a segment: of octets, and of what goes out.
-use Rattle.std.proofs.Common.{◌≡◌, ◌≢◌, ℕ, ◌+◌, ◌*◌, ◌≤◌, ◌==◌, ◌&&◌, not, Bool, true, false, nat_lt, cond, List, ◌++◌, length, Option, Some, None, Result, Ok, Err, arith, refl, sym, ◌∙◌, ap}
+-- Who hears a segment, a control message or another datagram: of octets, and of what goes out.
+use Rattle.std.proofs.Common.{◌≡◌, ◌≢◌, ℕ, ◌+◌, ◌*◌, ◌^◌, ◌<◌, ◌≤◌, true, List, length, Option, Some, Result, Ok, arith, sym, ◌∙◌, ap, subst}
 use Rattle.ether.specs.declared.mac.Mac.{Mac}
 use Rattle.ether.specs.declared.head.Head.{Head as EtherHead}
-use Rattle.ether.specs.Frame.{Frame, padding, sent as frame_sent}
-use Rattle.ether.specs.Reading.{frame_in}
-use Rattle.ether.proofs.Answering.{sent_spelled as frame_spelled, length-sent}
+use Rattle.ether.specs.Frame.{Frame, sent as frame_sent}
+use Rattle.ether.proofs.Answering.{sent_spelled as frame_spelled}
 use Rattle.ether.proofs.Reading.{read_ok as frame_found}
 use Rattle.arp.specs.declared.packet.ArpPacket.{ArpPacket}
-use Rattle.arp.specs.Reading.{packet_in}
+use Rattle.arp.specs.Packet.{spelling as packet_octets}
 use Rattle.ipv4.specs.declared.addr.Addr.{Addr}
-use Rattle.ipv4.specs.Addresses.{same_addr}
 use Rattle.ipv4.specs.declared.fault.Ipv4Fault.{Ipv4Fault}
-use Rattle.ipv4.specs.declared.fault.Ipv4Fault.TheVariants as datagram
-use Rattle.ipv4.specs.Datagram.{Datagram, IsDatagram, spelling as datagram_octets}
+use Rattle.ipv4.specs.Datagram.{Datagram, header_octets}
 use Rattle.ipv4.specs.Reading.{datagram_in}
-use Rattle.ipv4.proofs.Answering.{sent_len, sent_spelled as datagram_spelled}
-use Rattle.ipv4.proofs.Reading.{read_ok as datagram_found}
+use Rattle.icmp.specs.declared.fault.IcmpFault.{IcmpFault}
+use Rattle.icmp.specs.Message.{Message, Spells, spelling}
+use Rattle.icmp.specs.Reading.{message_or_fault}
+use Rattle.icmp.proofs.Answering.{read_ok as message_found}
 use Rattle.tcp_segment.specs.declared.fault.SegmentFault.{SegmentFault}
-use Rattle.tcp_segment.specs.declared.fault.SegmentFault.TheVariants as segment
 use Rattle.tcp_segment.specs.declared.head.Head.{Head}
 use Rattle.tcp_segment.specs.Segment.{Segment}
 use Rattle.tcp_segment.specs.Reading.{segment_or_fault}
 use Rattle.tcp_segment.specs.Sent.{CanBeSent, sent_segment, sent_octets, sent_offset}
 use Rattle.tcp_segment.proofs.Answering.{fault_ok}
 use Rattle.tcp_segment.proofs.Checksum.{sent_octets_len, sent_spelled as segment_spelled}
-use Rattle.frames.specs.declared.drop.DropCause.TheVariants.{Short, OtherMac, OtherType, OtherAddress, Fragment}
 use Rattle.frames.specs.declared.emission.FrameHead.{FrameHead}
-use Rattle.frames.specs.declared.meaning.Meaning.TheVariants.{Tcp, Other}
+use Rattle.frames.specs.declared.meaning.Control.{Control}
+use Rattle.frames.specs.declared.meaning.Meaning.TheVariants.{Icmp, Other, Tcp}
 use Rattle.frames.specs.declared.meaning.Received.{Received}
-use Rattle.frames.specs.Meaning.{arp_type, datagram_heard, frame_heard, heard, ipv4_type, is_for, is_fragment, may_send, packet_heard, segment_heard, upper_heard}
-use Rattle.frames.specs.Sent.{datagram_of_segment, ipv4_head, packet_frame, segment_frame}
-use Rattle.frames.proofs.Carried.{fields}
-use Rattle.frames.proofs.Deciding.{addr-Decides}
-use Rattle.frames.proofs.EmittedPairs.{packet_pairs}
-use Rattle.frames.proofs.Layers.{as_frame}
-use Rattle.frames.proofs.PairLemmas.{heard_pairs, of_packet}
+use Rattle.frames.specs.Heard.{IsWhole, MaySend}
+use Rattle.frames.specs.Meaning.{arp_type, heard, may_send}
+use Rattle.frames.specs.Sent.{datagram_frame, datagram_of, message_frame, packet_destination, packet_frame, segment_frame}
+use Rattle.frames.proofs.Carried.{destination_len}
+use Rattle.frames.proofs.Deciding.{send-Decides, whole}
+use Rattle.frames.proofs.EmittedPairs.{message_pairs, packet_pairs, reads}
+use Rattle.frames.proofs.Fitting.{fits, header_fits, message_fits}
+use Rattle.frames.proofs.Origins.{Brought, from_datagram}
+use Rattle.frames.proofs.PairLemmas.{heard_pairs}
 
--- A segment that is heard comes from another host.
-
-of_segment : (ours source : Addr) (r : Received) (read : Result Segment SegmentFault) → may_send ours source ≡ true → segment_heard source read ≡ Ok (Tcp r)
-    → may_send ours r.source ≡ true
-of_segment ours source r (Ok s) may e =
-    let own : Received = record { source = source; segment = s } in
-    let same : own ≡ r = cc in
-    ap (λ (t : Received). may_send ours t.source) (sym same) ∙ may
-of_segment ours source r (Err segment.UpperHeader) may e = cc
-of_segment ours source r (Err segment.UpperSum) may e = cc
-
-of_upper : (ours : Addr) (d : Datagram) (r : Received) → may_send ours d.source ≡ true → upper_heard d ≡ Ok (Tcp r) → may_send ours r.source ≡ true
-of_upper ours d r may heard_is = by_tests (is_fragment d && not (d.protocol == 17)) (d.protocol == 6) heard_is
-  where
-    by_tests : (part tcp : Bool) → cond part (Err Fragment) (cond tcp (segment_heard d.source (segment_or_fault d.source d.destination d.payload)) (Ok (Other d))) ≡ Ok (Tcp r)
-        → may_send ours r.source ≡ true
-    by_tests true tcp e = cc
-    by_tests false true e = of_segment ours d.source r (segment_or_fault d.source d.destination d.payload) may e
-    by_tests false false e = cc
-
-of_datagram : (ours : Addr) (r : Received) (read : Result Datagram Ipv4Fault) → datagram_heard ours read ≡ Ok (Tcp r) → may_send ours r.source ≡ true
-of_datagram ours r (Err datagram.IpHeader) e = cc
-of_datagram ours r (Err datagram.IpSum) e = cc
-of_datagram ours r (Ok d) heard_is = by_ends (same_addr d.destination ours) (may_send ours d.source) refl heard_is
-  where
-    by_ends : (destination source : Bool) → may_send ours d.source ≡ source → cond (destination && source) (upper_heard d) (Err OtherAddress) ≡ Ok (Tcp r)
-        → may_send ours r.source ≡ true
-    by_ends true true may e = of_upper ours d r may e
-    by_ends true false may e = cc
-    by_ends false source may e = cc
-
-of_frame : (mac : Mac) (ours : Addr) (r : Received) (read : Option Frame) → frame_heard mac ours read ≡ Ok (Tcp r) → may_send ours r.source ≡ true
-of_frame mac ours r None e = cc
-of_frame mac ours r (Some f) heard_is = by_tests (is_for mac f) (f.kind == arp_type) (f.kind == ipv4_type) heard_is
-  where
-    by_tests : (for arp ipv4 : Bool)
-        → cond for (cond arp (packet_heard ours (packet_in f.payload)) (cond ipv4 (datagram_heard ours (datagram_in f.payload)) (Err OtherType))) (Err OtherMac) ≡ Ok (Tcp r)
-        → may_send ours r.source ≡ true
-    by_tests false arp ipv4 e = cc
-    by_tests true true ipv4 e = absurd (of_packet ours r (packet_in f.payload) e)
-    by_tests true false true e = of_datagram ours r (datagram_in f.payload) e
-    by_tests true false false e = cc
+-- What is heard comes from another host.
 
 pub from_others : (mac : Mac) (ours : Addr) (octets : List ℕ) (received : Received) → heard mac ours octets ≡ Ok (Tcp received) → may_send ours received.source ≡ true
-unfolding heard
-from_others mac ours octets r heard_is = by_length (nat_lt 1514 (length octets)) heard_is
-  where
-    by_length : (many : Bool) → cond many (Err Short) (frame_heard mac ours (frame_in octets)) ≡ Ok (Tcp r) → may_send ours r.source ≡ true
-    by_length true e = cc
-    by_length false e = of_frame mac ours r (frame_in octets) e
+from_others mac ours octets r answer =
+    let from = from_datagram mac ours octets (Tcp r) answer (λ p no. cc) in
+    ap (may_send ours) from.2.2 ∙ from.1.may
 
--- Whoever hears the segment of a frame that goes out is the host that it is for.
+pub messages_from_others : (mac : Mac) (ours : Addr) (octets : List ℕ) (c : Control) → heard mac ours octets ≡ Ok (Icmp c) → may_send ours c.source ≡ true
+messages_from_others mac ours octets c answer =
+    let from = from_datagram mac ours octets (Icmp c) answer (λ p no. cc) in
+    ap (may_send ours) from.2.2 ∙ from.1.may
+
+pub others_from_others : (mac : Mac) (ours : Addr) (octets : List ℕ) (d : Datagram) → heard mac ours octets ≡ Ok (Other d)
+    → (may_send ours d.source ≡ true) × (d.destination ≡ ours)
+others_from_others mac ours octets d answer =
+    let from = from_datagram mac ours octets (Other d) answer (λ p no. cc) in
+    let same : d ≡ from.0 = from.2.3 in
+    (ap (λ (e : Datagram). may_send ours e.source) same ∙ from.1.may, ap (λ (e : Datagram). e.destination) same ∙ from.1.destination)
+
+-- it fits into a frame
+
+pub messages_fit : (mac : Mac) (ours : Addr) (octets : List ℕ) (c : Control) → heard mac ours octets ≡ Ok (Icmp c) → length c.message.payload ≤ 1472
+messages_fit mac ours octets c answer =
+    let from = from_datagram mac ours octets (Icmp c) answer (λ p no. cc) in
+    let own = fits ours octets from.0 from.1 in
+    omega (arith, message_fits from.0.payload c.message from.2.3, own.payload)
+
+pub headers_fit : (mac : Mac) (ours : Addr) (octets : List ℕ) (d : Datagram) → heard mac ours octets ≡ Ok (Other d) → length (header_octets d) ≤ 60
+headers_fit mac ours octets d answer =
+    let from = from_datagram mac ours octets (Other d) answer (λ p no. cc) in
+    subst (λ (e : Datagram). length (header_octets e) ≤ 60) (sym from.2.3) (header_fits from.0 1500 (fits ours octets from.0 from.1))
+
+-- and another datagram is whole
+pub others_are_whole : (mac : Mac) (ours : Addr) (octets : List ℕ) (d : Datagram) → heard mac ours octets ≡ Ok (Other d)
+    → MaySend ours d.source × IsWhole d × (d.protocol ≢ 6) × (d.protocol ≢ 1)
+others_are_whole mac ours octets d answer =
+    let from = from_datagram mac ours octets (Other d) answer (λ p no. cc) in
+    let own = fits ours octets from.0 from.1 in
+    let facts : MaySend ours from.0.source × IsWhole from.0 × (from.0.protocol ≢ 6) × (from.0.protocol ≢ 1) =
+    ((send-Decides ours from.0.source own.source).0 from.1.may, whole from.0 from.2.0, from.2.1, from.2.2) in
+    subst (λ (e : Datagram). MaySend ours e.source × IsWhole e × (e.protocol ≢ 6) × (e.protocol ≢ 1)) (sym from.2.3) facts
+
+-- Whoever hears the segment or the message of a frame that goes out is the host that it is for.
+
+same_ok : {A E : Type 0} (x y : A) → ◌≡◌ {A = Result A E} (Ok x) (Ok y) → x ≡ y
+same_ok x y e = cc
+
+same_some : {A : Type 0} (x y : A) → ◌≡◌ {A = Option A} (Some x) (Some y) → x ≡ y
+same_some x y e = cc
+
+same_received : (r : Received) (source : Addr) (s : Segment) → r.source ≡ source → r.segment ≡ s → r ≡ record { source = source; segment = s }
+same_received r source s is_source is_segment =
+    let with_source : Addr → Received = λ a. record { source = a; segment = r.segment } in
+    let with_segment : Segment → Received = λ t. record { source = source; segment = t } in
+    ap with_source is_source ∙ ap with_segment is_segment
+
+same_control : (c : Control) (source : Addr) (m : Message) → c.source ≡ source → c.message ≡ m → c ≡ record { source = source; message = m }
+same_control c source m is_source is_message =
+    let with_source : Addr → Control = λ a. record { source = a; message = c.message } in
+    let with_message : Message → Control = λ n. record { source = source; message = n } in
+    ap with_source is_source ∙ ap with_message is_message
+
+-- the datagram that is read of it
+only_datagram : (h : FrameHead) (protocol : ℕ) (payload : List ℕ) (ours : Addr) (d : Datagram) → protocol < 2 ^ 8 → length h.from.0 ≡ 4 → length h.to.0 ≡ 4
+    → length h.destination.0 ≡ 6 → length h.source.0 ≡ 6 → length payload ≤ 1480 → Brought ours (datagram_frame h protocol payload) d → datagram_of h protocol payload ≡ d
+only_datagram h protocol payload ours d octet from to destination source most brought =
+    let r = reads h protocol payload octet from to destination source most in
+    let frames : ◌≡◌ {A = Option Frame} (Some r.frame) (Some brought.frame) = sym r.framed ∙ brought.framed in
+    let frame : r.frame ≡ brought.frame = same_some r.frame brought.frame frames in
+    let datagrams : ◌≡◌ {A = Result Datagram Ipv4Fault} (Ok (datagram_of h protocol payload)) (Ok d) =
+    sym r.found ∙ ap (λ (f : Frame). datagram_in f.payload) frame ∙ brought.found in
+    same_ok {E = Ipv4Fault} (datagram_of h protocol payload) d datagrams
 
 pub as_sent : (h : FrameHead) (head : Head) (octets : List ℕ) (mac : Mac) (ours : Addr) (received : Received) → CanBeSent h.from h.to head octets
     → length h.destination.0 ≡ 6 → length h.source.0 ≡ 6 → 4 * sent_offset head + length octets ≤ 1480
     → heard mac ours (segment_frame h (sent_octets h.from h.to head octets)) ≡ Ok (Tcp received)
     → (ours ≡ h.to) × (received ≡ record { source = h.from; segment = sent_segment head octets })
-as_sent h head octets mac ours r can destination source most heard_is =
+as_sent h head octets mac ours r can destination source most answer =
     let segment : List ℕ = sent_octets h.from h.to head octets in
     let segment_most : length segment ≤ 1480 = omega (arith, sent_octets_len h.from h.to head octets, most) in
-    let d : Datagram = datagram_of_segment h segment in
-    let are : IsDatagram d = fields h segment can.src_octets can.dst_octets segment_most in
-    let frame_head : EtherHead = record { destination = h.destination; source = h.source; kind = ipv4_type } in
-    let frame : Frame = frame_sent frame_head (datagram_octets d) in
-    let len : length (datagram_octets d) ≡ 20 + length segment = sent_len (ipv4_head h) segment are in
-    let within : length (segment_frame h segment) ≤ 1514 = omega (arith, length-sent frame_head (datagram_octets d) destination source, len, segment_most) in
-    let found : frame_in (segment_frame h segment) ≡ Some frame = frame_found (segment_frame h segment) frame (frame_spelled frame_head (datagram_octets d) destination source (omega arith)) in
-    let read : datagram_in frame.payload ≡ Ok d = datagram_found frame.payload d (datagram_spelled (ipv4_head h) segment (padding (datagram_octets d)) are) in
-    let parsed : segment_or_fault h.from h.to segment ≡ Ok (sent_segment head octets) = fault_ok h.from h.to segment (sent_segment head octets) (segment_spelled h.from h.to head octets can) in
-    let is : heard mac ours (segment_frame h segment) ≡ cond (is_for mac frame) (cond (same_addr h.to ours && may_send ours h.from) (Ok (Tcp own)) (Err OtherAddress)) (Err OtherMac) =
-    as_frame mac ours (segment_frame h segment) (Some frame) within found
-    ∙ ap (λ answer. cond (is_for mac frame) (datagram_heard ours answer) (Err OtherMac)) read
-    ∙ ap (λ answer. cond (is_for mac frame) (cond (same_addr h.to ours && may_send ours h.from) (segment_heard h.from answer) (Err OtherAddress)) (Err OtherMac)) parsed in
-    by_tests (is_for mac frame) (same_addr h.to ours) (may_send ours h.from) refl (sym is ∙ heard_is)
-  where
-    own : Received
-    own = record { source = h.from; segment = sent_segment head octets }
+    let from = from_datagram mac ours (segment_frame h segment) (Tcp r) answer (λ p no. cc) in
+    let same : datagram_of h 6 segment ≡ from.0 =
+    only_datagram h 6 segment ours from.0 (omega arith) can.src_octets can.dst_octets destination source segment_most from.1 in
+    let parsed : ◌≡◌ {A = Result Segment SegmentFault} (Ok (sent_segment head octets)) (Ok r.segment) =
+    sym (fault_ok h.from h.to segment (sent_segment head octets) (segment_spelled h.from h.to head octets can))
+    ∙ ap (λ (d : Datagram). segment_or_fault d.source d.destination d.payload) same ∙ from.2.3 in
+    let source_is : r.source ≡ h.from = from.2.2 ∙ ap (λ (d : Datagram). d.source) (sym same) in (
+      sym from.1.destination ∙ ap (λ (d : Datagram). d.destination) (sym same),
+      same_received r h.from (sent_segment head octets) source_is (sym (same_ok {E = SegmentFault} (sent_segment head octets) r.segment parsed)),
+    )
 
-    by_tests : (for to may : Bool) → same_addr h.to ours ≡ to → cond for (cond (to && may) (Ok (Tcp own)) (Err OtherAddress)) (Err OtherMac) ≡ Ok (Tcp r)
-        → (ours ≡ h.to) × (r ≡ own)
-    by_tests true true true to e = (sym ((addr-Decides h.to ours).0 to), cc)
-    by_tests true true false to e = cc
-    by_tests true false may to e = cc
-    by_tests false b may to e = cc
+pub messages_as_sent : (h : FrameHead) (m : Message) (mac : Mac) (ours : Addr) (c : Control) → Spells m (spelling m) → length h.from.0 ≡ 4 → length h.to.0 ≡ 4
+    → length h.destination.0 ≡ 6 → length h.source.0 ≡ 6 → length m.payload ≤ 1472
+    → heard mac ours (message_frame h (spelling m)) ≡ Ok (Icmp c) → (ours ≡ h.to) × (c ≡ record { source = h.from; message = m })
+messages_as_sent h m mac ours c spells from_len to_len destination source most answer =
+    let from = from_datagram mac ours (message_frame h (spelling m)) (Icmp c) answer (λ p no. cc) in
+    let same : datagram_of h 1 (spelling m) ≡ from.0 =
+    only_datagram h 1 (spelling m) ours from.0 (omega arith) from_len to_len destination source (omega (arith, most)) from.1 in
+    let parsed : ◌≡◌ {A = Result Message IcmpFault} (Ok m) (Ok c.message) =
+    sym (message_found (spelling m) m spells) ∙ ap (λ (d : Datagram). message_or_fault d.payload) same ∙ from.2.3 in
+    let source_is : c.source ≡ h.from = from.2.2 ∙ ap (λ (d : Datagram). d.source) (sym same) in (
+      sym from.1.destination ∙ ap (λ (d : Datagram). d.destination) (sym same),
+      same_control c h.from m source_is (sym (same_ok {E = IcmpFault} m c.message parsed)),
+    )
 
--- a packet carries no pair, and what is heard as a segment does
+-- a packet and a message carry no pair, and what is heard as a segment does
 pub no_packet : (p : ArpPacket) (mac : Mac) (ours : Addr) (received : Received) → length p.sender_mac.0 ≡ 6 → length p.target_mac.0 ≡ 6 → heard mac ours (packet_frame p) ≢ Ok (Tcp received)
 no_packet p mac ours received sender target is =
     let some = heard_pairs mac ours (packet_frame p) received is in
     let none = packet_pairs p sender target in
     cc
+
+pub no_segment_in_message : (h : FrameHead) (octets : List ℕ) (mac : Mac) (ours : Addr) (received : Received) → length h.from.0 ≡ 4 → length h.to.0 ≡ 4
+    → length h.destination.0 ≡ 6 → length h.source.0 ≡ 6 → length octets ≤ 1480 → heard mac ours (message_frame h octets) ≢ Ok (Tcp received)
+no_segment_in_message h octets mac ours received from to destination source most is =
+    let some = heard_pairs mac ours (message_frame h octets) received is in
+    let none = message_pairs h octets from to destination source most in
+    cc
+
+-- a segment's datagram is of another protocol, and a packet's frame of another type
+pub no_message_in_segment : (h : FrameHead) (octets : List ℕ) (mac : Mac) (ours : Addr) (c : Control) → length h.from.0 ≡ 4 → length h.to.0 ≡ 4
+    → length h.destination.0 ≡ 6 → length h.source.0 ≡ 6 → length octets ≤ 1480 → heard mac ours (segment_frame h octets) ≢ Ok (Icmp c)
+no_message_in_segment h octets mac ours c from_len to_len destination source most answer =
+    let from = from_datagram mac ours (segment_frame h octets) (Icmp c) answer (λ p no. cc) in
+    let same : datagram_of h 6 octets ≡ from.0 = only_datagram h 6 octets ours from.0 (omega arith) from_len to_len destination source most from.1 in
+    let protocol : 6 ≡ 1 = ap (λ (d : Datagram). d.protocol) same ∙ from.2.1 in
+    omega (arith, protocol)
+
+pub no_message_in_packet : (p : ArpPacket) (mac : Mac) (ours : Addr) (c : Control) → length p.sender_mac.0 ≡ 6 → length p.target_mac.0 ≡ 6
+    → heard mac ours (packet_frame p) ≢ Ok (Icmp c)
+no_message_in_packet p mac ours c sender target answer =
+    let from = from_datagram mac ours (packet_frame p) (Icmp c) answer (λ q no. cc) in
+    let head : EtherHead = record { destination = packet_destination p.operation p.target_mac; source = p.sender_mac; kind = arp_type } in
+    let spells = frame_spelled head (packet_octets p) (destination_len p.operation p.target_mac target) sender (omega arith) in
+    let frames : ◌≡◌ {A = Option Frame} (Some (frame_sent head (packet_octets p))) (Some from.1.frame) =
+    sym (frame_found (packet_frame p) (frame_sent head (packet_octets p)) spells) ∙ from.1.framed in
+    let frame : frame_sent head (packet_octets p) ≡ from.1.frame = same_some (frame_sent head (packet_octets p)) from.1.frame frames in
+    let type : 0x0806 ≡ 0x0800 = ap (λ (f : Frame). f.kind) frame ∙ from.1.type in
+    omega (arith, type)

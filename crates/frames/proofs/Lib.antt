@@ -3,6 +3,8 @@ pub mod Emitted
 pub mod Deciding
 pub mod Meanings
 pub mod Spelled
+pub mod Origins
+pub mod Fitting
 pub mod PairLemmas
 pub mod Carried
 pub mod CarriedPairs

@@ -1,6 +1,6 @@
 -- What octets are to a host is what they spell.
-use Rattle.std.proofs.Common.{◌≡◌, ◌⊎◌, ℕ, ◌<◌, ◌==◌, ◌&&◌, not, Bool, true, false, cond, List, ◌++◌, length, All, Option, Some, None, Result, Ok, Err, arith, refl, sym, ◌∙◌, ap, subst, ⊎_elim}
-use Rattle.std.proofs.lemmas.Bool.{eqb-true, eq-eqb}
+use Rattle.std.proofs.Common.{◌≡◌, ◌≢◌, ◌⊎◌, ℕ, ◌<◌, ◌==◌, ◌&&◌, false, cond, List, ◌++◌, length, All, Option, Some, None, Result, Ok, Err, arith, refl, sym, ◌∙◌, ap, subst, ⊎_elim}
+use Rattle.std.proofs.lemmas.Bool.{eq-eqb}
 use Rattle.std.proofs.lemmas.List.{drop_at, take_at}
 use Rattle.std.proofs.lemmas.List.Elements.{All-drop, All-take}
 use Rattle.ether.specs.declared.mac.Mac.{Mac}
@@ -23,12 +23,17 @@ use Rattle.tcp_segment.specs.declared.fault.SegmentFault.TheVariants as segment
 use Rattle.tcp_segment.specs.Segment.{Segment, Spells as SpellsSegment, IsParsed as IsSegment}
 use Rattle.tcp_segment.specs.Reading.{segment_or_fault}
 use Rattle.tcp_segment.proofs.Answering.{fault_ok, fault_err}
+use Rattle.icmp.specs.declared.fault.IcmpFault.{IcmpFault}
+use Rattle.icmp.specs.declared.fault.IcmpFault.TheVariants as message
+use Rattle.icmp.specs.Message.{Message, IsParsed as IsMessage, Spells as SpellsMessage}
+use Rattle.icmp.specs.Reading.{message_or_fault}
+use Rattle.icmp.proofs.Answering.{read_ok as message_found, read_err as message_malformed}
 use Rattle.frames.specs.declared.drop.DropCause.{DropCause}
 use Rattle.frames.specs.declared.drop.DropCause.TheVariants.{Short, OtherMac, OtherType, IpHeader, IpSum, OtherAddress, UpperHeader, UpperSum, NoRoom, Fragment}
 use Rattle.frames.specs.declared.meaning.Meaning.{Meaning}
-use Rattle.frames.specs.declared.meaning.Meaning.TheVariants.{Arp, Tcp, Other}
-use Rattle.frames.specs.Heard.{Brings, BringsDatagram, BringsTcp, IsHeard, MaySend}
-use Rattle.frames.specs.Meaning.{arp_type, datagram_heard, heard, ipv4_type, is_for, is_fragment, may_send, packet_heard, payload_heard, segment_heard, upper_heard}
+use Rattle.frames.specs.declared.meaning.Meaning.TheVariants.{Arp, Tcp, Icmp, Other, UdpFragment}
+use Rattle.frames.specs.Heard.{Brings, BringsDatagram, BringsIcmp, BringsTcp, IsHeard, IsWhole, MaySend}
+use Rattle.frames.specs.Meaning.{arp_type, datagram_heard, fragment_heard, heard, ipv4_type, is_for, may_send, message_heard, packet_heard, payload_heard, segment_heard, upper_heard, whole_heard}
 use Rattle.ipv4.specs.Addresses.{same_addr}
 use Rattle.frames.proofs.Layers.{as_frame, for_another, for_us, from_none, from_other, too_many}
 use Rattle.frames.proofs.Deciding.{ends-Decides, for-Decides, fragmented, number-Decides, refuted, send-Decides, unfragmented}
@@ -87,18 +92,39 @@ for_host mac ours octets d brings =
     brought_datagram mac ours octets brings.payload (Ok d) brings.brought (datagram_found brings.payload d brings.spelled)
     ∙ ap (λ b. cond b (upper_heard d) (Err OtherAddress)) may
 
+-- of a whole datagram for us, and of a fragment
+for_whole : (mac : Mac) (ours : Addr) (octets : List ℕ) (d : Datagram) → BringsDatagram mac ours octets d → IsWhole d → heard mac ours octets ≡ whole_heard d
+for_whole mac ours octets d brings is = for_host mac ours octets d brings ∙ ap (λ b. cond b (fragment_heard d) (whole_heard d)) (unfragmented d is)
+
+for_part : (mac : Mac) (ours : Addr) (octets : List ℕ) (d : Datagram) → BringsDatagram mac ours octets d → (IsWhole d → ⊥) → heard mac ours octets ≡ fragment_heard d
+for_part mac ours octets d brings none = for_host mac ours octets d brings ∙ ap (λ b. cond b (fragment_heard d) (whole_heard d)) (fragmented d none)
+
 -- of a segment for us
 for_socket : (mac : Mac) (ours : Addr) (octets : List ℕ) (d : Datagram) (read : Result Segment SegmentFault) → BringsTcp mac ours octets d
     → segment_or_fault d.source d.destination d.payload ≡ read → heard mac ours octets ≡ segment_heard d.source read
 for_socket mac ours octets d read brings found =
-    let tcp = eq-eqb d.protocol 6 brings.2 in
     let one : Result Meaning DropCause = segment_heard d.source (segment_or_fault d.source d.destination d.payload) in
-    for_host mac ours octets d brings.0
-    ∙ ap (λ b. cond (b && not (d.protocol == 17)) (Err Fragment) (cond (d.protocol == 6) one (Ok (Other d)))) (unfragmented d brings.1)
-    ∙ ap (λ b. cond b one (Ok (Other d))) tcp
-    ∙ ap (segment_heard d.source) found
+    let others : Result Meaning DropCause = cond (d.protocol == 1) (message_heard d.source (message_or_fault d.payload)) (Ok (Other d)) in
+    for_whole mac ours octets d brings.0 brings.1 ∙ ap (λ b. cond b one others) (eq-eqb d.protocol 6 brings.2) ∙ ap (segment_heard d.source) found
 
--- what octets spell is heard: a packet, a segment, another datagram
+-- of a whole datagram for us of another protocol
+no_socket : (mac : Mac) (ours : Addr) (octets : List ℕ) (d : Datagram) → BringsDatagram mac ours octets d → IsWhole d → d.protocol ≢ 6
+    → heard mac ours octets ≡ cond (d.protocol == 1) (message_heard d.source (message_or_fault d.payload)) (Ok (Other d))
+no_socket mac ours octets d brings is other =
+    let segments : Result Meaning DropCause = segment_heard d.source (segment_or_fault d.source d.destination d.payload) in
+    let others : Result Meaning DropCause = cond (d.protocol == 1) (message_heard d.source (message_or_fault d.payload)) (Ok (Other d)) in
+    for_whole mac ours octets d brings is ∙ ap (λ b. cond b segments others) (refuted (d.protocol == 6) (number-Decides d.protocol 6) other)
+
+-- of a control message for us
+for_control : (mac : Mac) (ours : Addr) (octets : List ℕ) (d : Datagram) (read : Result Message IcmpFault) → BringsIcmp mac ours octets d
+    → message_or_fault d.payload ≡ read → heard mac ours octets ≡ message_heard d.source read
+for_control mac ours octets d read brings found =
+    let one : Result Meaning DropCause = message_heard d.source (message_or_fault d.payload) in
+    no_socket mac ours octets d brings.0 brings.1 (λ e. omega (arith, brings.2, e))
+    ∙ ap (λ b. cond b one (Ok (Other d))) (eq-eqb d.protocol 1 brings.2)
+    ∙ ap (message_heard d.source) found
+
+-- what octets spell is heard: a packet, a segment, a control message, another datagram
 pub heard_packet : (mac : Mac) (ours : Addr) (octets : List ℕ) (p : ArpPacket) → IsHeard mac ours octets (Ok (Arp p)) → heard mac ours octets ≡ Ok (Arp p)
 heard_packet mac ours octets p is =
     brought_packet mac ours octets is.0 (Some p) is.1 (packet_found is.0 p is.2) ∙ from_other ours p ((send-Decides ours p.sender_addr is.2.widths.sender_addr).1 is.3)
@@ -107,17 +133,17 @@ pub heard_segment : (mac : Mac) (ours : Addr) (octets : List ℕ) (d : Datagram)
     → heard mac ours octets ≡ Ok (Tcp (record { source = d.source; segment = s }))
 heard_segment mac ours octets d s brings spells = for_socket mac ours octets d (Ok s) brings (fault_ok d.source d.destination d.payload s spells)
 
+pub heard_message : (mac : Mac) (ours : Addr) (octets : List ℕ) (d : Datagram) (m : Message) → BringsIcmp mac ours octets d → SpellsMessage m d.payload
+    → heard mac ours octets ≡ Ok (Icmp (record { source = d.source; message = m }))
+heard_message mac ours octets d m brings spells = for_control mac ours octets d (Ok m) brings (message_found d.payload m spells)
+
 heard_other : (mac : Mac) (ours : Addr) (octets : List ℕ) (d : Datagram) → IsHeard mac ours octets (Ok (Other d)) → heard mac ours octets ≡ Ok (Other d)
-heard_other mac ours octets d is = for_host mac ours octets d is.0 ∙ by_tests (is_fragment d) (d.protocol == 17) (d.protocol == 6) refl refl refl
-  where
-    by_tests : (part user tcp : Bool) → is_fragment d ≡ part → (d.protocol == 17) ≡ user → (d.protocol == 6) ≡ tcp
-        → cond (part && not user) (Err Fragment) (cond tcp (segment_heard d.source (segment_or_fault d.source d.destination d.payload)) (Ok (Other d))) ≡ Ok (Other d)
-    by_tests part user true is_part is_user is_tcp = absurd (is.1 (eqb-true d.protocol 6 is_tcp))
-    by_tests false user false is_part is_user is_tcp = refl
-    by_tests true true false is_part is_user is_tcp = refl
-    by_tests true false false is_part is_user is_tcp =
-        let no : false ≡ true = sym (unfragmented d (is.2 (λ e. let other : true ≡ false = sym (eq-eqb d.protocol 17 e) ∙ is_user in cc))) ∙ is_part in
-        cc
+heard_other mac ours octets d is =
+    no_socket mac ours octets d is.0 is.1 is.2
+    ∙ ap (λ b. cond b (message_heard d.source (message_or_fault d.payload)) (Ok (Other d))) (refuted (d.protocol == 1) (number-Decides d.protocol 1) is.3)
+
+heard_part : (mac : Mac) (ours : Addr) (octets : List ℕ) (d : Datagram) → IsHeard mac ours octets (Ok (UdpFragment d)) → heard mac ours octets ≡ Ok (UdpFragment d)
+heard_part mac ours octets d is = for_part mac ours octets d is.0 is.1 ∙ ap (λ b. cond b (Ok (UdpFragment d)) (Err Fragment)) (eq-eqb d.protocol 17 is.2)
 
 -- .. and each cause to drop it
 heard_short : (mac : Mac) (ours : Addr) (octets : List ℕ) → AreOctets octets → (length octets < 14) ⊎ (1514 < length octets) → heard mac ours octets ≡ Err Short
@@ -139,12 +165,7 @@ heard_other_type mac ours octets is =
 heard_fragment : (mac : Mac) (ours : Addr) (octets : List ℕ) → IsHeard mac ours octets (Err Fragment) → heard mac ours octets ≡ Err Fragment
 heard_fragment mac ours octets is =
     let d : Datagram = is.0 in
-    let part : is_fragment d ≡ true = fragmented d is.2 in
-    let other : (d.protocol == 17) ≡ false = refuted (d.protocol == 17) (number-Decides d.protocol 17) is.3 in
-    let rest : Result Meaning DropCause = cond (d.protocol == 6) (segment_heard d.source (segment_or_fault d.source d.destination d.payload)) (Ok (Other d)) in
-    for_host mac ours octets d is.1
-    ∙ ap (λ b. cond (b && not (d.protocol == 17)) (Err Fragment) rest) part
-    ∙ ap (λ b. cond (not b) (Err Fragment) rest) other
+    for_part mac ours octets d is.1 is.2 ∙ ap (λ b. cond b (Ok (UdpFragment d)) (Err Fragment)) (refuted (d.protocol == 17) (number-Decides d.protocol 17) is.3)
 
 heard_address : (mac : Mac) (ours : Addr) (octets : List ℕ) → IsHeard mac ours octets (Err OtherAddress) → heard mac ours octets ≡ Err OtherAddress
 heard_address mac ours octets = ⊎_elim of_packet of_datagram
@@ -162,7 +183,7 @@ heard_address mac ours octets = ⊎_elim of_packet of_datagram
         brought_datagram mac ours octets is.0 (Ok d) is.2 (datagram_found is.0 d is.3) ∙ ap (λ b. cond b (upper_heard d) (Err OtherAddress)) no
 
 heard_malformed : (mac : Mac) (ours : Addr) (octets : List ℕ) → AreOctets octets → IsHeard mac ours octets (Err UpperHeader) → heard mac ours octets ≡ Err UpperHeader
-heard_malformed mac ours octets each = ⊎_elim of_packet of_segment
+heard_malformed mac ours octets each = ⊎_elim of_packet (⊎_elim of_segment of_message)
   where
     of_packet : ((payload : List ℕ) × Brings mac octets arp_type payload × IsPacket payload (Err packet.UpperHeader)) → heard mac ours octets ≡ Err UpperHeader
     of_packet is = brought_packet mac ours octets is.0 None is.1 (packet_malformed is.0 (brought_octets mac octets arp_type is.0 is.1 each) is.2)
@@ -172,12 +193,33 @@ heard_malformed mac ours octets each = ⊎_elim of_packet of_segment
         let d : Datagram = is.0 in
         for_socket mac ours octets d (Err segment.UpperHeader) is.1 (fault_err d.source d.destination d.payload segment.UpperHeader (each_octet d.payload (upper_octets mac ours octets d is.1.0 each)) is.2)
 
+    of_message : ((d : Datagram) × BringsIcmp mac ours octets d × IsMessage d.payload (Err message.UpperHeader)) → heard mac ours octets ≡ Err UpperHeader
+    of_message is =
+        let d : Datagram = is.0 in
+        for_control mac ours octets d (Err message.UpperHeader) is.1 (message_malformed d.payload message.UpperHeader (upper_octets mac ours octets d is.1.0 each) is.2)
+
+heard_damaged : (mac : Mac) (ours : Addr) (octets : List ℕ) → AreOctets octets → IsHeard mac ours octets (Err UpperSum) → heard mac ours octets ≡ Err UpperSum
+heard_damaged mac ours octets each = ⊎_elim of_segment of_message
+  where
+    of_segment : ((d : Datagram) × BringsTcp mac ours octets d × IsSegment d.source d.destination d.payload (Err segment.UpperSum)) → heard mac ours octets ≡ Err UpperSum
+    of_segment is =
+        let d : Datagram = is.0 in
+        for_socket mac ours octets d (Err segment.UpperSum) is.1 (fault_err d.source d.destination d.payload segment.UpperSum (each_octet d.payload (upper_octets mac ours octets d is.1.0 each)) is.2)
+
+    of_message : ((d : Datagram) × BringsIcmp mac ours octets d × IsMessage d.payload (Err message.UpperSum)) → heard mac ours octets ≡ Err UpperSum
+    of_message is =
+        let d : Datagram = is.0 in
+        for_control mac ours octets d (Err message.UpperSum) is.1 (message_malformed d.payload message.UpperSum (upper_octets mac ours octets d is.1.0 each) is.2)
+
 -- what octets spell is what they are to a host
 pub spelled_heard : (mac : Mac) (ours : Addr) (octets : List ℕ) (answer : Result Meaning DropCause) → AreOctets octets → IsHeard mac ours octets answer → heard mac ours octets ≡ answer
 spelled_heard mac ours octets (Ok (Arp p)) each is = heard_packet mac ours octets p is
 spelled_heard mac ours octets (Ok (Tcp t)) each is =
     heard_segment mac ours octets is.0 t.segment is.1 is.2 ∙ ap (λ (a : Addr). Ok (Tcp (record { source = a; segment = t.segment }))) (sym is.3)
+spelled_heard mac ours octets (Ok (Icmp c)) each is =
+    heard_message mac ours octets is.0 c.message is.1 is.2 ∙ ap (λ (a : Addr). Ok (Icmp (record { source = a; message = c.message }))) (sym is.3)
 spelled_heard mac ours octets (Ok (Other d)) each is = heard_other mac ours octets d is
+spelled_heard mac ours octets (Ok (UdpFragment d)) each is = heard_part mac ours octets d is
 spelled_heard mac ours octets (Err Short) each is = heard_short mac ours octets each is
 spelled_heard mac ours octets (Err OtherMac) each is =
     as_frame mac ours octets (Some is.0) is.2 (frame_found octets is.0 is.1) ∙ for_another mac ours is.0 (refuted (is_for mac is.0) (for-Decides mac is.0) is.3)
@@ -188,8 +230,6 @@ spelled_heard mac ours octets (Err IpSum) each is =
     brought_datagram mac ours octets is.0 (Err datagram.IpSum) is.1 (datagram_fault is.0 datagram.IpSum (brought_octets mac octets ipv4_type is.0 is.1 each) is.2)
 spelled_heard mac ours octets (Err OtherAddress) each is = heard_address mac ours octets is
 spelled_heard mac ours octets (Err UpperHeader) each is = heard_malformed mac ours octets each is
-spelled_heard mac ours octets (Err UpperSum) each is =
-    let d : Datagram = is.0 in
-    for_socket mac ours octets d (Err segment.UpperSum) is.1 (fault_err d.source d.destination d.payload segment.UpperSum (each_octet d.payload (upper_octets mac ours octets d is.1.0 each)) is.2)
+spelled_heard mac ours octets (Err UpperSum) each is = heard_damaged mac ours octets each is
 spelled_heard mac ours octets (Err NoRoom) each is = absurd is
 spelled_heard mac ours octets (Err Fragment) each is = heard_fragment mac ours octets is

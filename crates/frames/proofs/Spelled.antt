@@ -1,5 +1,5 @@
 -- What is heard is what octets spell.
-use Rattle.std.proofs.Common.{◌≡◌, ◌≢◌, inl, inr, ◌↔◌, ℕ, ◌<◌, ◌≤◌, ◌==◌, ◌&&◌, not, Bool, true, false, cond, List, length, Option, Some, None, Result, Ok, Err, arith, refl, sym, ◌∙◌, subst, ⊎_elim}
+use Rattle.std.proofs.Common.{◌≡◌, inl, inr, ◌↔◌, ℕ, ◌<◌, ◌≤◌, ◌==◌, ◌&&◌, Bool, true, false, cond, List, length, Option, Some, None, Result, Ok, Err, refl, sym, ◌∙◌, subst, ⊎_elim}
 use Rattle.std.proofs.lemmas.Bool.{cases_lt, eqb-true}
 use Rattle.ether.specs.declared.mac.Mac.{Mac}
 use Rattle.ether.specs.Frame.{Frame, Spells as SpellsFrame}
@@ -21,12 +21,17 @@ use Rattle.tcp_segment.specs.declared.fault.SegmentFault.TheVariants as segment
 use Rattle.tcp_segment.specs.Segment.{Segment, IsParsed as IsSegment}
 use Rattle.tcp_segment.specs.Reading.{segment_or_fault}
 use Rattle.tcp_segment.proofs.Answering.{fault_parsed}
+use Rattle.icmp.specs.declared.fault.IcmpFault.{IcmpFault}
+use Rattle.icmp.specs.declared.fault.IcmpFault.TheVariants as message
+use Rattle.icmp.specs.Message.{Message, IsParsed as IsMessage}
+use Rattle.icmp.specs.Reading.{message_or_fault}
+use Rattle.icmp.proofs.Answering.{read_parsed as message_parsed}
 use Rattle.frames.specs.declared.drop.DropCause.{DropCause}
 use Rattle.frames.specs.declared.drop.DropCause.TheVariants.{OtherMac, OtherType, OtherAddress, Fragment}
 use Rattle.frames.specs.declared.meaning.Meaning.{Meaning}
-use Rattle.frames.specs.declared.meaning.Meaning.TheVariants.{Arp, Other}
-use Rattle.frames.specs.Heard.{Brings, BringsDatagram, BringsTcp, IsHeard}
-use Rattle.frames.specs.Meaning.{arp_type, datagram_heard, frame_heard, heard, ipv4_type, is_for, is_fragment, may_send, packet_heard, payload_heard, segment_heard, upper_heard}
+use Rattle.frames.specs.declared.meaning.Meaning.TheVariants.{Arp, Other, UdpFragment}
+use Rattle.frames.specs.Heard.{Brings, BringsDatagram, BringsIcmp, BringsTcp, IsHeard, IsWhole}
+use Rattle.frames.specs.Meaning.{arp_type, datagram_heard, fragment_heard, frame_heard, heard, ipv4_type, is_for, is_fragment, may_send, message_heard, packet_heard, payload_heard, segment_heard, upper_heard, whole_heard}
 use Rattle.ipv4.specs.Addresses.{same_addr}
 use Rattle.frames.proofs.Layers.{as_frame, too_many}
 use Rattle.frames.proofs.Meanings.{AreOctets, brought_octets, source_len, spelled_heard, upper_octets}
@@ -36,26 +41,48 @@ use Rattle.frames.proofs.Deciding.{ends-Decides, for-Decides, never, number-Deci
 of_segment : (mac : Mac) (ours : Addr) (octets : List ℕ) (d : Datagram) (read : Result Segment SegmentFault) → BringsTcp mac ours octets d
     → IsSegment d.source d.destination d.payload read → IsHeard mac ours octets (segment_heard d.source read)
 of_segment mac ours octets d (Ok s) brings is = (d, brings, is, refl)
-of_segment mac ours octets d (Err segment.UpperHeader) brings is = inr (d, brings, is)
-of_segment mac ours octets d (Err segment.UpperSum) brings is = (d, brings, is)
+of_segment mac ours octets d (Err segment.UpperHeader) brings is = inr (inl (d, brings, is))
+of_segment mac ours octets d (Err segment.UpperSum) brings is = inl (d, brings, is)
+
+-- a control message
+of_message : (mac : Mac) (ours : Addr) (octets : List ℕ) (d : Datagram) (read : Result Message IcmpFault) → BringsIcmp mac ours octets d
+    → IsMessage d.payload read → IsHeard mac ours octets (message_heard d.source read)
+of_message mac ours octets d (Ok m) brings is = (d, brings, is, refl)
+of_message mac ours octets d (Err message.UpperHeader) brings is = inr (inr (d, brings, is))
+of_message mac ours octets d (Err message.UpperSum) brings is = inr (d, brings, is)
+
+-- a fragment for us
+of_fragment : (mac : Mac) (ours : Addr) (octets : List ℕ) (d : Datagram) → BringsDatagram mac ours octets d → (IsWhole d → ⊥) → IsHeard mac ours octets (fragment_heard d)
+of_fragment mac ours octets d brings part = by_user (d.protocol == 17) refl
+  where
+    by_user : (user : Bool) → (d.protocol == 17) ≡ user → IsHeard mac ours octets (cond user (Ok (UdpFragment d)) (Err Fragment))
+    by_user true is = (brings, part, eqb-true d.protocol 17 is)
+    by_user false is = (d, brings, part, never (d.protocol == 17) (number-Decides d.protocol 17) is)
+
+-- a whole datagram for us
+of_whole : (mac : Mac) (ours : Addr) (octets : List ℕ) (d : Datagram) → AreOctets octets → BringsDatagram mac ours octets d → IsWhole d → IsHeard mac ours octets (whole_heard d)
+of_whole mac ours octets d each brings is_whole = by_protocol (d.protocol == 6) (d.protocol == 1) refl refl
+  where
+    own : AreOctets d.payload
+    own = upper_octets mac ours octets d brings each
+
+    by_protocol : (tcp icmp : Bool) → (d.protocol == 6) ≡ tcp → (d.protocol == 1) ≡ icmp
+        → IsHeard mac ours octets (cond tcp (segment_heard d.source (segment_or_fault d.source d.destination d.payload)) (cond icmp (message_heard d.source (message_or_fault d.payload)) (Ok (Other d))))
+    by_protocol true icmp is_tcp is_icmp =
+        of_segment mac ours octets d (segment_or_fault d.source d.destination d.payload) (brings, is_whole, eqb-true d.protocol 6 is_tcp)
+        (fault_parsed d.source d.destination d.payload (each_octet d.payload own))
+    by_protocol false true is_tcp is_icmp =
+        of_message mac ours octets d (message_or_fault d.payload) (brings, is_whole, eqb-true d.protocol 1 is_icmp) (message_parsed d.payload own)
+    by_protocol false false is_tcp is_icmp =
+        (brings, is_whole, never (d.protocol == 6) (number-Decides d.protocol 6) is_tcp, never (d.protocol == 1) (number-Decides d.protocol 1) is_icmp)
 
 -- a datagram for us
 of_upper : (mac : Mac) (ours : Addr) (octets : List ℕ) (d : Datagram) → AreOctets octets → BringsDatagram mac ours octets d → IsHeard mac ours octets (upper_heard d)
-of_upper mac ours octets d each brings = by_tests (is_fragment d) (d.protocol == 17) (d.protocol == 6) refl refl refl
+of_upper mac ours octets d each brings = by_part (is_fragment d) refl
   where
-    not_tcp : (d.protocol == 6) ≡ false → d.protocol ≢ 6
-    not_tcp is = never (d.protocol == 6) (number-Decides d.protocol 6) is
-
-    by_tests : (part user tcp : Bool) → is_fragment d ≡ part → (d.protocol == 17) ≡ user → (d.protocol == 6) ≡ tcp
-        → IsHeard mac ours octets (cond (part && not user) (Err Fragment) (cond tcp (segment_heard d.source (segment_or_fault d.source d.destination d.payload)) (Ok (Other d))))
-    by_tests true false tcp is_part is_user is_tcp =
-        (d, brings, λ is. let no : false ≡ true = sym (unfragmented d is) ∙ is_part in cc, never (d.protocol == 17) (number-Decides d.protocol 17) is_user)
-    by_tests true true true is_part is_user is_tcp = absurd (omega (arith, eqb-true d.protocol 17 is_user, eqb-true d.protocol 6 is_tcp))
-    by_tests true true false is_part is_user is_tcp = (brings, not_tcp is_tcp, λ other. absurd (other (eqb-true d.protocol 17 is_user)))
-    by_tests false user true is_part is_user is_tcp =
-        of_segment mac ours octets d (segment_or_fault d.source d.destination d.payload) (brings, whole d is_part, eqb-true d.protocol 6 is_tcp)
-        (fault_parsed d.source d.destination d.payload (each_octet d.payload (upper_octets mac ours octets d brings each)))
-    by_tests false user false is_part is_user is_tcp = (brings, not_tcp is_tcp, λ other. whole d is_part)
+    by_part : (part : Bool) → is_fragment d ≡ part → IsHeard mac ours octets (cond part (fragment_heard d) (whole_heard d))
+    by_part true is = of_fragment mac ours octets d brings (λ all. let no : false ≡ true = sym (unfragmented d all) ∙ is in cc)
+    by_part false is = of_whole mac ours octets d each brings (whole d is)
 
 -- a datagram
 of_datagram : (mac : Mac) (ours : Addr) (octets payload : List ℕ) (read : Result Datagram Ipv4Fault) → AreOctets octets → Brings mac octets ipv4_type payload

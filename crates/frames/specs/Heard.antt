@@ -13,10 +13,12 @@ use Rattle.ipv4.specs.Addresses.{IsSingleHost}
 use Rattle.ipv4.specs.Datagram.{Datagram, Spells as SpellsDatagram, IsParsed as IsDatagram}
 use Rattle.tcp_segment.specs.declared.fault.SegmentFault.TheVariants as segment
 use Rattle.tcp_segment.specs.Segment.{Spells as SpellsSegment, IsParsed as IsSegment}
+use Rattle.icmp.specs.declared.fault.IcmpFault.TheVariants as message
+use Rattle.icmp.specs.Message.{Spells as SpellsMessage, IsParsed as IsMessage}
 use Rattle.frames.specs.declared.drop.DropCause.{DropCause}
 use Rattle.frames.specs.declared.drop.DropCause.TheVariants.{Short, OtherMac, OtherType, IpHeader, IpSum, OtherAddress, UpperHeader, UpperSum, NoRoom, Fragment}
 use Rattle.frames.specs.declared.meaning.Meaning.{Meaning}
-use Rattle.frames.specs.declared.meaning.Meaning.TheVariants.{Arp, Tcp, Other}
+use Rattle.frames.specs.declared.meaning.Meaning.TheVariants.{Arp, Tcp, Icmp, Other, UdpFragment}
 use Rattle.frames.specs.Meaning.{ipv4_type, arp_type, broadcast}
 
 -- the frame is for this interface
@@ -53,11 +55,17 @@ IsWhole d = (d.more_fragments ≡ false) × (d.offset ≡ 0)
 abbrev pub BringsTcp : Mac → Addr → List ℕ → Datagram → Type 0
 BringsTcp mac ours octets d = BringsDatagram mac ours octets d × IsWhole d × (d.protocol ≡ 6)
 
+-- .. one that carries ICMP
+abbrev pub BringsIcmp : Mac → Addr → List ℕ → Datagram → Type 0
+BringsIcmp mac ours octets d = BringsDatagram mac ours octets d × IsWhole d × (d.protocol ≡ 1)
+
 -- what octets are to a host
 abbrev pub IsHeard : Mac → Addr → List ℕ → Result Meaning DropCause → Type 0
 IsHeard mac ours octets (Ok (Arp p)) = (payload : List ℕ) × Brings mac octets arp_type payload × SpellsPacket p payload × MaySend ours p.sender_addr
 IsHeard mac ours octets (Ok (Tcp t)) = (d : Datagram) × BringsTcp mac ours octets d × SpellsSegment d.source d.destination t.segment d.payload × (t.source ≡ d.source)
-IsHeard mac ours octets (Ok (Other d)) = BringsDatagram mac ours octets d × (d.protocol ≢ 6) × (d.protocol ≢ 17 → IsWhole d)
+IsHeard mac ours octets (Ok (Icmp c)) = (d : Datagram) × BringsIcmp mac ours octets d × SpellsMessage c.message d.payload × (c.source ≡ d.source)
+IsHeard mac ours octets (Ok (Other d)) = BringsDatagram mac ours octets d × IsWhole d × (d.protocol ≢ 6) × (d.protocol ≢ 1)
+IsHeard mac ours octets (Ok (UdpFragment d)) = BringsDatagram mac ours octets d × (IsWhole d → ⊥) × (d.protocol ≡ 17)
 IsHeard mac ours octets (Err Short) = (length octets < 14) ⊎ (SPACE < length octets)
 IsHeard mac ours octets (Err OtherMac) = (f : Frame) × SpellsFrame f octets × (length octets ≤ SPACE) × (IsFor mac f → ⊥)
 IsHeard mac ours octets (Err OtherType) = (kind : ℕ) × (payload : List ℕ) × Brings mac octets kind payload × (kind ≢ ipv4_type) × (kind ≢ arp_type)
@@ -69,6 +77,9 @@ IsHeard mac ours octets (Err OtherAddress) =
 IsHeard mac ours octets (Err UpperHeader) =
     ((payload : List ℕ) × Brings mac octets arp_type payload × IsPacket payload (Err packet.UpperHeader))
     ⊎ ((d : Datagram) × BringsTcp mac ours octets d × IsSegment d.source d.destination d.payload (Err segment.UpperHeader))
-IsHeard mac ours octets (Err UpperSum) = (d : Datagram) × BringsTcp mac ours octets d × IsSegment d.source d.destination d.payload (Err segment.UpperSum)
+    ⊎ ((d : Datagram) × BringsIcmp mac ours octets d × IsMessage d.payload (Err message.UpperHeader))
+IsHeard mac ours octets (Err UpperSum) =
+    ((d : Datagram) × BringsTcp mac ours octets d × IsSegment d.source d.destination d.payload (Err segment.UpperSum))
+    ⊎ ((d : Datagram) × BringsIcmp mac ours octets d × IsMessage d.payload (Err message.UpperSum))
 IsHeard mac ours octets (Err NoRoom) = ⊥
 IsHeard mac ours octets (Err Fragment) = (d : Datagram) × BringsDatagram mac ours octets d × (IsWhole d → ⊥) × (d.protocol ≢ 17)

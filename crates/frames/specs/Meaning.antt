@@ -1,6 +1,6 @@
 -- What octets are to a host with this MAC and this address, or the first cause to drop them. They are tested layer by layer,
 -- from the lowest up: the frame (RFC 894), the ARP packet (RFC 826) or the datagram (RFC 791), its addresses (RFC 1122
--- section 3.2.1.3), and the segment (RFC 9293 section 3.1).
+-- section 3.2.1.3), and the segment (RFC 9293 section 3.1) or the control message (RFC 792).
 use Rattle.std.specs.Prelude.{ℕ, ◌==◌, nat_eq, nat_lt, Bool, not, ◌&&◌, ◌||◌, if◌then◌else◌, List, length, replicate, Option, Some, None, Result, Ok, Err}
 use Rattle.std.specs.Cmp.Lexicographic.{pointwise}
 use Rattle.ether.specs.declared.head.TheConstants.{SPACE}
@@ -19,10 +19,14 @@ use Rattle.tcp_segment.specs.declared.fault.SegmentFault.{SegmentFault}
 use Rattle.tcp_segment.specs.declared.fault.SegmentFault.TheVariants as segment
 use Rattle.tcp_segment.specs.Segment.{Segment}
 use Rattle.tcp_segment.specs.Reading.{segment_or_fault}
+use Rattle.icmp.specs.declared.fault.IcmpFault.{IcmpFault}
+use Rattle.icmp.specs.declared.fault.IcmpFault.TheVariants as message
+use Rattle.icmp.specs.Message.{Message}
+use Rattle.icmp.specs.Reading.{message_or_fault}
 use Rattle.frames.specs.declared.drop.DropCause.{DropCause}
 use Rattle.frames.specs.declared.drop.DropCause.TheVariants.{Short, OtherMac, OtherType, IpHeader, IpSum, OtherAddress, UpperHeader, UpperSum, Fragment}
 use Rattle.frames.specs.declared.meaning.Meaning.{Meaning}
-use Rattle.frames.specs.declared.meaning.Meaning.TheVariants.{Arp, Tcp, Other}
+use Rattle.frames.specs.declared.meaning.Meaning.TheVariants.{Arp, Tcp, Icmp, Other, UdpFragment}
 
 -- the types of frames that carry IPv4 (RFC 894) and ARP (RFC 826)
 abbrev pub ipv4_type : ℕ
@@ -61,12 +65,26 @@ segment_heard source (Err segment.UpperHeader) = Err UpperHeader
 segment_heard source (Err segment.UpperSum) = Err UpperSum
 segment_heard source (Ok s) = Ok (Tcp (record { source = source; segment = s }))
 
--- a datagram for us: TCP (6) is read, a whole one of another protocol and a fragment of UDP (17) are left as they are
-abbrev pub upper_heard : Datagram → Result Meaning DropCause
-upper_heard d =
-    if is_fragment d && not (d.protocol == 17) then Err Fragment
-    else if d.protocol == 6 then segment_heard d.source (segment_or_fault d.source d.destination d.payload)
+-- a control message from this address
+abbrev pub message_heard : Addr → Result Message IcmpFault → Result Meaning DropCause
+message_heard source (Err message.UpperHeader) = Err UpperHeader
+message_heard source (Err message.UpperSum) = Err UpperSum
+message_heard source (Ok m) = Ok (Icmp (record { source = source; message = m }))
+
+-- a fragment for us: one of UDP (17) is left as it is
+abbrev pub fragment_heard : Datagram → Result Meaning DropCause
+fragment_heard d = if d.protocol == 17 then Ok (UdpFragment d) else Err Fragment
+
+-- a whole datagram for us: TCP (6) and ICMP (1) are read, one of another protocol is left as it is
+abbrev pub whole_heard : Datagram → Result Meaning DropCause
+whole_heard d =
+    if d.protocol == 6 then segment_heard d.source (segment_or_fault d.source d.destination d.payload)
+    else if d.protocol == 1 then message_heard d.source (message_or_fault d.payload)
     else Ok (Other d)
+
+-- a datagram for us
+abbrev pub upper_heard : Datagram → Result Meaning DropCause
+upper_heard d = if is_fragment d then fragment_heard d else whole_heard d
 
 -- a datagram
 abbrev pub datagram_heard : Addr → Result Datagram Ipv4Fault → Result Meaning DropCause

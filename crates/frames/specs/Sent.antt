@@ -1,4 +1,5 @@
--- The frames that go out (RFC 894): a segment in a datagram that is no fragment (RFC 791 section 3.1), and an ARP packet (RFC 826).
+-- The frames that go out (RFC 894): a segment or a control message in a datagram that is no fragment (RFC 791 section 3.1), and an
+-- ARP packet (RFC 826).
 use Rattle.std.specs.Prelude.{ℕ, List, false, true}
 use Rattle.ether.specs.declared.mac.Mac.{Mac}
 use Rattle.ether.specs.declared.head.Head.{Head as EtherHead}
@@ -13,27 +14,36 @@ use Rattle.ipv4.specs.Sent.{sent as datagram_sent}
 use Rattle.frames.specs.declared.emission.FrameHead.{FrameHead}
 use Rattle.frames.specs.Meaning.{ipv4_type, arp_type, broadcast}
 
--- the header of a datagram that carries TCP (6): it isn't to be cut into fragments, so its identification is 0 (RFC 6864 section 4.1)
-abbrev pub ipv4_head : FrameHead → Ipv4Head
-ipv4_head h = record {
+-- the header of a datagram that carries this protocol: it isn't to be cut into fragments, so its identification is 0 (RFC 6864
+-- section 4.1)
+abbrev pub ipv4_head : FrameHead → ℕ → Ipv4Head
+ipv4_head h protocol = record {
   source = h.from;
   destination = h.to;
-  protocol = record { 0 = 6 };
+  protocol = record { 0 = protocol };
   identification = 0;
   dont_fragment = true;
   more_fragments = false;
   offset = 0;
 }
 
--- the datagram of these octets of a segment
-abbrev pub datagram_of_segment : FrameHead → List ℕ → Datagram
-datagram_of_segment h segment = datagram_sent (ipv4_head h) segment
+-- the datagram with these octets
+abbrev pub datagram_of : FrameHead → ℕ → List ℕ → Datagram
+datagram_of h protocol payload = datagram_sent (ipv4_head h protocol) payload
 
 -- the octets of the frame, with the padding of a short one
-abbrev pub segment_frame : FrameHead → List ℕ → List ℕ
-segment_frame h segment =
+abbrev pub datagram_frame : FrameHead → ℕ → List ℕ → List ℕ
+datagram_frame h protocol payload =
     let head : EtherHead = record { destination = h.destination; source = h.source; kind = ipv4_type } in
-    frame_octets (frame_sent head (datagram_octets (datagram_of_segment h segment)))
+    frame_octets (frame_sent head (datagram_octets (datagram_of h protocol payload)))
+
+-- the frame of a segment: TCP is protocol 6
+abbrev pub segment_frame : FrameHead → List ℕ → List ℕ
+segment_frame h segment = datagram_frame h 6 segment
+
+-- the frame of a control message: ICMP is protocol 1
+abbrev pub message_frame : FrameHead → List ℕ → List ℕ
+message_frame h message = datagram_frame h 1 message
 
 -- a request is for all of the link, a reply for its target
 abbrev pub packet_destination : Operation → Mac → Mac

@@ -1,7 +1,7 @@
 //! The frames that go out.
 
 ghost use Rattle.std.specs.Prelude.{◌≡◌, ◌+◌, ◌≤◌, ◌++◌, drop, max, slice_range};
-ghost use Rattle.frames.specs.Sent.{ipv4_head, segment_frame, packet_frame, packet_destination};
+ghost use Rattle.frames.specs.Sent.{ipv4_head, datagram_frame, segment_frame, message_frame, packet_frame, packet_destination};
 
 use crate::reading::{ARP, IPV4};
 use arp::{ArpPacket, Operation};
@@ -11,14 +11,14 @@ use ipv4::{Addr, Protocol};
 /// The length of the head of a frame, in octets (RFC 894).
 const HEAD: usize = 14;
 
-/// What stands before a segment in a frame, but for what the stack determines.
+/// What stands before a segment or a control message in a frame, but for what the stack determines.
 #[derive(Clone, Copy, PartialEq, Eq, Debug)]
 pub struct FrameHead {
     /// The interface that the frame is for.
     pub destination: Mac,
     /// The interface that it comes from.
     pub source: Mac,
-    /// The address that the segment comes from.
+    /// The address that the datagram comes from.
     pub from: Addr,
     /// The address that it is for.
     pub to: Addr,
@@ -33,7 +33,27 @@ impl FrameHead {
         ensures len { result ≡ max (34 + segment_len) 60 }
         ensures octets { out.new ≡ segment_frame self.now (slice_range out.old 34 (34 + segment_len)) ++ drop result out.old }
     {
-        let datagram_len = self.ipv4_head().emit(segment_len, &mut out[HEAD..]);
+        self.emit(Protocol::TCP, segment_len, out)
+    }
+
+    /// Writes the heads of frame and datagram before a control message of so many octets, at most 1,480, which stands at `out[34..]`
+    /// already, pads a short frame with zeros, and answers its length, 60 octets at least (RFC 894, RFC 791 section 3.1, RFC 792).
+    /// What stands behind it in `out` stays.
+    pub fn emit_icmp(&self, message_len: usize, out: &mut [u8; SPACE]) -> usize
+        requires { message_len ≤ 1480 }
+        ensures len { result ≡ max (34 + message_len) 60 }
+        ensures octets { out.new ≡ message_frame self.now (slice_range out.old 34 (34 + message_len)) ++ drop result out.old }
+    {
+        self.emit(Protocol::ICMP, message_len, out)
+    }
+
+    /// Writes the heads of frame and datagram before a payload of this protocol.
+    fn emit(&self, protocol: Protocol, payload_len: usize, out: &mut [u8; SPACE]) -> usize
+        requires { payload_len ≤ 1480 }
+        ensures len { result ≡ max (34 + payload_len) 60 }
+        ensures octets { out.new ≡ datagram_frame self.now protocol.0 (slice_range out.old 34 (34 + payload_len)) ++ drop result out.old }
+    {
+        let datagram_len = self.ipv4_head(protocol).emit(payload_len, &mut out[HEAD..]);
         ether::Head {
             destination: self.destination,
             source: self.source,
@@ -42,14 +62,14 @@ impl FrameHead {
         .emit(datagram_len, out)
     }
 
-    /// The header of the datagram that carries the segment.
-    fn ipv4_head(&self) -> ipv4::Head
-        ensures { result ≡ ipv4_head self.now }
+    /// The header of the datagram that carries this protocol.
+    fn ipv4_head(&self, protocol: Protocol) -> ipv4::Head
+        ensures { result ≡ ipv4_head self.now protocol.0 }
     {
         ipv4::Head {
             source: self.from,
             destination: self.to,
-            protocol: Protocol::TCP,
+            protocol,
             identification: 0,
             dont_fragment: true,
             more_fragments: false,

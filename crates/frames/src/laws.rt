@@ -7,19 +7,22 @@ ghost use Rattle.arp.specs.declared.packet.Operation.TheVariants.{Request, Reply
 ghost use Rattle.arp.specs.Packet.{HasWidths};
 ghost use Rattle.ipv4.specs.declared.addr.Addr.{Addr};
 ghost use Rattle.ipv4.specs.declared.addr.Pair.{Pair};
+ghost use Rattle.ipv4.specs.Datagram.{Datagram, header_octets};
+ghost use Rattle.icmp.specs.Message.{Message, Spells, spelling};
 ghost use Rattle.tcp_segment.specs.declared.head.Head.{Head};
 ghost use Rattle.tcp_segment.specs.Sent.{CanBeSent, sent_segment, sent_octets, sent_offset};
 ghost use Rattle.frames.specs.declared.drop.DropCause.{DropCause};
 ghost use Rattle.frames.specs.declared.emission.FrameHead.{FrameHead};
+ghost use Rattle.frames.specs.declared.meaning.Control.{Control};
 ghost use Rattle.frames.specs.declared.meaning.Meaning.{Meaning};
 ghost use Rattle.frames.specs.declared.meaning.Received.{Received};
-ghost use Rattle.frames.specs.declared.meaning.Meaning.TheVariants.{Arp, Tcp};
-ghost use Rattle.frames.specs.Heard.{IsHeard, MaySend};
+ghost use Rattle.frames.specs.declared.meaning.Meaning.TheVariants.{Arp, Tcp, Icmp, Other};
+ghost use Rattle.frames.specs.Heard.{IsHeard, IsWhole, MaySend};
 ghost use Rattle.frames.specs.Meaning.{heard, may_send};
 ghost use Rattle.frames.specs.Pairs.{CarryPair, pair_in, pair_between};
-ghost use Rattle.frames.specs.Sent.{segment_frame, packet_frame};
+ghost use Rattle.frames.specs.Sent.{segment_frame, message_frame, packet_frame};
 
-/// What octets are to a host is what they spell, layer by layer (RFC 894, RFC 826, RFC 791 section 3.1, RFC 9293 section 3.1): the
+/// What octets are to a host is what they spell, layer by layer (RFC 894, RFC 826, RFC 791 section 3.1, RFC 9293 section 3.1, RFC 792): the
 /// answer is determined for all octets, and is no other than the one whose records they spell.
 pub fn one_meaning()
     ensures spelled { (mac : Mac) (ours : Addr) (octets : List ℕ) (answer : Result Meaning DropCause) → All (λ octet. octet < 256) octets
@@ -49,6 +52,15 @@ pub fn emitted_segments_are_heard()
         → heard h.destination h.to (segment_frame h (sent_octets h.from h.to head octets)) ≡ Ok (Tcp (record { source = h.from; segment = sent_segment head octets })) }
 {}
 
+/// A frame that `FrameHead::emit_icmp` writes is heard, where it is for, as the very control message that is meant, from the address
+/// that sends it, padded or not. That address is one that may send, and the message fits into a frame: its data are at most 1,472
+/// octets (RFC 792).
+pub fn emitted_messages_are_heard()
+    ensures { (h : FrameHead) (m : Message) → Spells m (spelling m) → length h.from.0 ≡ 4 → length h.to.0 ≡ 4
+        → length h.destination.0 ≡ 6 → length h.source.0 ≡ 6 → MaySend h.to h.from → length m.payload ≤ 1472
+        → heard h.destination h.to (message_frame h (spelling m)) ≡ Ok (Icmp (record { source = h.from; message = m })) }
+{}
+
 /// A frame that `emit_arp` writes is heard as its packet, where its sender may send: a request by every interface, a reply by
 /// that of its target (RFC 826).
 pub fn emitted_packets_are_heard()
@@ -58,14 +70,34 @@ pub fn emitted_packets_are_heard()
         → heard packet.target_mac ours (packet_frame packet) ≡ Ok (Arp packet) }
 {}
 
-/// A segment that is heard is for the host that hears it, and comes from another, from an address that a host may have (RFC 1122 section
-/// 3.2.1.3).
+/// A segment, a control message or a datagram of another protocol that is heard is for the host that hears it, and comes from another,
+/// from an address that a host may have (RFC 1122 section 3.2.1.3).
 pub fn heard_from_others()
-    ensures { (mac : Mac) (ours : Addr) (octets : List ℕ) (received : Received) → heard mac ours octets ≡ Ok (Tcp received) → may_send ours received.source ≡ true }
+    ensures segment { (mac : Mac) (ours : Addr) (octets : List ℕ) (received : Received) → heard mac ours octets ≡ Ok (Tcp received) → may_send ours received.source ≡ true }
+    ensures message { (mac : Mac) (ours : Addr) (octets : List ℕ) (c : Control) → heard mac ours octets ≡ Ok (Icmp c) → may_send ours c.source ≡ true }
+    ensures other { (mac : Mac) (ours : Addr) (octets : List ℕ) (d : Datagram) → heard mac ours octets ≡ Ok (Other d)
+        → (may_send ours d.source ≡ true) × (d.destination ≡ ours) }
 {}
 
-/// Whoever hears a segment in a frame that goes out is the host at the address that it is for, and hears the very segment that is meant, from
-/// the address that sends it; and nobody hears a segment in the frame of an ARP packet.
+/// A datagram of another protocol that is heard is a whole one from an address that another host may have, and carries neither TCP nor
+/// ICMP (RFC 791 section 3.1, RFC 1122 section 3.2.1.3).
+pub fn heard_others_are_whole()
+    ensures { (mac : Mac) (ours : Addr) (octets : List ℕ) (d : Datagram) → heard mac ours octets ≡ Ok (Other d)
+        → MaySend ours d.source × IsWhole d × (d.protocol ≢ 6) × (d.protocol ≢ 1) }
+{}
+
+/// A control message that is heard has at most 1,472 octets of data, and the header of a datagram of another protocol at most 60: each
+/// fits into the frame that it came in (RFC 894, RFC 791 section 3.1).
+pub fn heard_messages_fit()
+    ensures message { (mac : Mac) (ours : Addr) (octets : List ℕ) (c : Control) → heard mac ours octets ≡ Ok (Icmp c)
+        → length c.message.payload ≤ 1472 }
+    ensures other { (mac : Mac) (ours : Addr) (octets : List ℕ) (d : Datagram) → heard mac ours octets ≡ Ok (Other d)
+        → length (header_octets d) ≤ 60 }
+{}
+
+/// Whoever hears a segment or a control message in a frame that goes out is the host at the address that it is for, and hears the very one
+/// that is meant, from the address that sends it. Nobody hears a segment in the frame of a control message or of an ARP packet, nor a
+/// control message in the frame of a segment or of an ARP packet.
 pub fn heard_as_sent()
     ensures segment { (h : FrameHead) (head : Head) (octets : List ℕ) (mac : Mac) (ours : Addr) (received : Received) → CanBeSent h.from h.to head octets
         → length h.destination.0 ≡ 6 → length h.source.0 ≡ 6 → 4 * sent_offset head + length octets ≤ 1480
@@ -73,13 +105,24 @@ pub fn heard_as_sent()
         → (ours ≡ h.to) × (received ≡ record { source = h.from; segment = sent_segment head octets }) }
     ensures packet { (packet : ArpPacket) (mac : Mac) (ours : Addr) (received : Received) → length packet.sender_mac.0 ≡ 6 → length packet.target_mac.0 ≡ 6
         → heard mac ours (packet_frame packet) ≢ Ok (Tcp received) }
+    ensures message { (h : FrameHead) (m : Message) (mac : Mac) (ours : Addr) (c : Control) → Spells m (spelling m) → length h.from.0 ≡ 4 → length h.to.0 ≡ 4
+        → length h.destination.0 ≡ 6 → length h.source.0 ≡ 6 → length m.payload ≤ 1472
+        → heard mac ours (message_frame h (spelling m)) ≡ Ok (Icmp c) → (ours ≡ h.to) × (c ≡ record { source = h.from; message = m }) }
+    ensures segment_in_message { (h : FrameHead) (octets : List ℕ) (mac : Mac) (ours : Addr) (received : Received) → length h.from.0 ≡ 4 → length h.to.0 ≡ 4
+        → length h.destination.0 ≡ 6 → length h.source.0 ≡ 6 → length octets ≤ 1480 → heard mac ours (message_frame h octets) ≢ Ok (Tcp received) }
+    ensures message_in_segment { (h : FrameHead) (octets : List ℕ) (mac : Mac) (ours : Addr) (c : Control) → length h.from.0 ≡ 4 → length h.to.0 ≡ 4
+        → length h.destination.0 ≡ 6 → length h.source.0 ≡ 6 → length octets ≤ 1480 → heard mac ours (segment_frame h octets) ≢ Ok (Icmp c) }
+    ensures message_in_packet { (packet : ArpPacket) (mac : Mac) (ours : Addr) (c : Control) → length packet.sender_mac.0 ≡ 6 → length packet.target_mac.0 ≡ 6
+        → heard mac ours (packet_frame packet) ≢ Ok (Icmp c) }
 {}
 
 /// What goes out carries the pair of its two ends, whoever it is for, where it is a segment, and no pair where it is an ARP packet
-/// (RFC 9293 section 4).
+/// or a control message (RFC 9293 section 4).
 pub fn emitted_pairs()
     ensures segment { (h : FrameHead) (head : Head) (octets : List ℕ) → CanBeSent h.from h.to head octets
         → length h.destination.0 ≡ 6 → length h.source.0 ≡ 6 → 4 * sent_offset head + length octets ≤ 1480
         → pair_in (segment_frame h (sent_octets h.from h.to head octets)) ≡ Some (pair_between h.from h.to (sent_segment head octets)) }
     ensures packet { (packet : ArpPacket) → length packet.sender_mac.0 ≡ 6 → length packet.target_mac.0 ≡ 6 → pair_in (packet_frame packet) ≡ None }
+    ensures message { (h : FrameHead) (octets : List ℕ) → length h.from.0 ≡ 4 → length h.to.0 ≡ 4
+        → length h.destination.0 ≡ 6 → length h.source.0 ≡ 6 → length octets ≤ 1480 → pair_in (message_frame h octets) ≡ None }
 {}

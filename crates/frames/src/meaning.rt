@@ -1,6 +1,7 @@
 //! What octets are to a host.
 
 use arp::ArpPacket;
+use icmp::IcmpView;
 use ipv4::{Addr, Ipv4View};
 use tcp_segment::TcpView;
 
@@ -11,8 +12,12 @@ pub enum Meaning<'a> {
     Arp(ArpPacket),
     /// A TCP segment for us (RFC 9293 section 3.1).
     Tcp(Received<'a>),
-    /// Another datagram for us: a whole one of another protocol, or a fragment of a user datagram (RFC 791 section 3.1).
+    /// A control message for us (RFC 792).
+    Icmp(Control<'a>),
+    /// A whole datagram for us of a protocol that nothing here takes: neither TCP nor ICMP (RFC 791 section 3.1).
     Other(Ipv4View<'a>),
+    /// A fragment of a user datagram for us (RFC 791 section 3.1).
+    UdpFragment(Ipv4View<'a>),
 }
 
 /// A segment, and the address that it comes from.
@@ -22,4 +27,13 @@ pub struct Received<'a> {
     pub source: Addr,
     /// The segment.
     pub segment: TcpView<'a>,
+}
+
+/// A control message, and the address that it comes from.
+#[derive(Drop)]
+pub struct Control<'a> {
+    /// The address that it comes from.
+    pub source: Addr,
+    /// The message.
+    pub message: IcmpView<'a>,
 }

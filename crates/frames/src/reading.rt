@@ -6,12 +6,14 @@ ghost use Rattle.ether.specs.Reading.{frame_in};
 ghost use Rattle.arp.specs.Reading.{packet_in};
 ghost use Rattle.ipv4.specs.Reading.{datagram_in};
 ghost use Rattle.tcp_segment.specs.Reading.{segment_or_fault};
-ghost use Rattle.frames.specs.Meaning.{heard, frame_heard, payload_heard, packet_heard, datagram_heard, upper_heard, segment_heard, is_for, is_fragment, may_send};
+ghost use Rattle.icmp.specs.Reading.{message_or_fault};
+ghost use Rattle.frames.specs.Meaning.{heard, frame_heard, payload_heard, packet_heard, datagram_heard, upper_heard, fragment_heard, whole_heard, segment_heard, message_heard, is_for, is_fragment, may_send};
 
 use crate::drop::DropCause;
-use crate::meaning::{Meaning, Received};
+use crate::meaning::{Control, Meaning, Received};
 use arp::ArpPacket;
 use ether::{EtherView, Mac, SPACE};
+use icmp::{IcmpFault, IcmpView};
 use ipv4::{Addr, Ipv4Fault, Ipv4View, Protocol};
 use tcp_segment::{SegmentFault, TcpView};
 
@@ -23,7 +25,7 @@ pub(crate) const ARP: u16 = 0x0806;
 
 /// What these octets are to a host with this MAC and this address, or the first cause to drop them, from the lowest layer up:
 /// the frame (RFC 894), the ARP packet (RFC 826) or the datagram (RFC 791), its addresses (RFC 1122 section 3.2.1.3), and the
-/// segment (RFC 9293 section 3.1). It is never `NoRoom`.
+/// segment (RFC 9293 section 3.1) or the control message (RFC 792). It is never `NoRoom`.
 pub fn read(mac: Mac, addr: Addr, octets: &[u8]) -> Result<Meaning<'_>, DropCause>
     ensures { result ≡ heard mac addr octets.now }
 {
@@ -93,17 +95,36 @@ fn read_parsed<'a>(addr: Addr, datagram: Ipv4View<'a>) -> Result<Meaning<'a>, Dr
 fn read_upper<'a>(datagram: Ipv4View<'a>) -> Result<Meaning<'a>, DropCause>
     ensures { result ≡ upper_heard datagram.entry }
 {
-    if is_fragment(&datagram) && datagram.protocol() != Protocol::UDP {
-        return Err(DropCause::Fragment);
+    if is_fragment(&datagram) {
+        read_fragment(datagram)
+    } else {
+        read_whole(datagram)
     }
-    if datagram.protocol() == Protocol::TCP {
-        read_segment(
+}
+
+/// What a fragment for us is.
+fn read_fragment<'a>(datagram: Ipv4View<'a>) -> Result<Meaning<'a>, DropCause>
+    ensures { result ≡ fragment_heard datagram.entry }
+{
+    if datagram.protocol() == Protocol::UDP {
+        Ok(Meaning::UdpFragment(datagram))
+    } else {
+        Err(DropCause::Fragment)
+    }
+}
+
+/// What a whole datagram for us carries.
+fn read_whole<'a>(datagram: Ipv4View<'a>) -> Result<Meaning<'a>, DropCause>
+    ensures { result ≡ whole_heard datagram.entry }
+{
+    match datagram.protocol() {
+        Protocol::TCP => read_segment(
             datagram.source(),
             datagram.destination(),
             datagram.payload(),
-        )
-    } else {
-        Ok(Meaning::Other(datagram))
+        ),
+        Protocol::ICMP => read_message(datagram.source(), datagram.payload()),
+        _ => Ok(Meaning::Other(datagram)),
     }
 }
 
@@ -115,6 +136,17 @@ fn read_segment(source: Addr, destination: Addr, octets: &[u8]) -> Result<Meanin
         Ok(segment) => Ok(Meaning::Tcp(Received { source, segment })),
         Err(SegmentFault::UpperHeader) => Err(DropCause::UpperHeader),
         Err(SegmentFault::UpperSum) => Err(DropCause::UpperSum),
+    }
+}
+
+/// What a control message from this address is.
+fn read_message(source: Addr, octets: &[u8]) -> Result<Meaning<'_>, DropCause>
+    ensures { result ≡ message_heard source (message_or_fault octets.now) }
+{
+    match IcmpView::parse(octets) {
+        Ok(message) => Ok(Meaning::Icmp(Control { source, message })),
+        Err(IcmpFault::UpperHeader) => Err(DropCause::UpperHeader),
+        Err(IcmpFault::UpperSum) => Err(DropCause::UpperSum),
     }
 }
 

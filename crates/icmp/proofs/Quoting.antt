@@ -1,15 +1,16 @@
 -- What an error quotes is read as it was written.
-use Rattle.std.proofs.Common.{◌≡◌, ℕ, zero, suc, ◌+◌, ◌-◌, ◌*◌, ◌/◌, ◌%◌, ◌^◌, ◌<◌, ◌≤◌, ◌||◌, Bool, true, false, nat_eq, nat_lt, List, [], ◌∷◌, ◌++◌, length, slice_index, drop, take, Option, Some, None, cond, refl, sym, ◌∙◌, ap, subst, append_assoc, length-append, arith}
+use Rattle.std.proofs.Common.{◌≡◌, ◌↔◌, ℕ, zero, suc, ◌+◌, ◌-◌, ◌*◌, ◌/◌, ◌%◌, ◌^◌, ◌<◌, ◌≤◌, ◌||◌, Bool, true, false, nat_eq, nat_lt, List, [], ◌∷◌, ◌++◌, length, slice_index, drop, take, Option, Some, None, cond, refl, sym, ◌∙◌, ap, subst, append_assoc, length-append, arith}
 use Rattle.std.proofs.lemmas.Bool.Decides.{nat_tests}
 use Rattle.std.proofs.lemmas.List.{append-nil, length-take, length-drop, take-append-drop, drop-drop, drop_at}
 use Rattle.std.specs.Int.{byte_at}
+use Rattle.std.specs.Option.{option_map}
 use Rattle.byteorder.specs.Endian.{big_bytes, big_number}
 use Rattle.ipv4.specs.declared.addr.Addr.{Addr}
 use Rattle.ipv4.specs.Datagram.{Datagram, IsDatagram, header_octets, total_len, fragment_field}
 use Rattle.ipv4.specs.Reading.{told_header}
 use Rattle.icmp.specs.declared.quote.Quote.{Quote}
 use Rattle.icmp.specs.Quotes.{Quotes, quoted, quote_of}
-use Rattle.icmp.specs.Reading.{header_in}
+use Rattle.icmp.specs.Reading.{header_in, quote_at, quote_in}
 use Rattle.icmp.proofs.Form.{AreOctets}
 
 -- a quote by its parts
@@ -223,6 +224,23 @@ one_quote first second xs q r =
     let some : ◌≡◌ {A = Option ℕ} (Some a.header) (Some b.header) = sym a.is ∙ b.is in
     let header : a.header ≡ b.header = cc in
     sym a.whole ∙ ap (λ (n : ℕ). read_at xs n) header ∙ b.whole
+
+-- the quote that octets begin with is the one that is read of them
+pub quote_is_read : (quote : Quote) (xs : List ℕ) → AreOctets xs → (Quotes quote xs ↔ (quote_in xs ≡ Some quote))
+quote_is_read quote xs b = (forth, λ is. back (header_in xs) refl is)
+  where
+    forth : Quotes quote xs → quote_in xs ≡ Some quote
+    forth q =
+        let read = quote_read quote xs q in
+        let whole : quote_at xs read.header ≡ quote = read.whole in
+        ap (option_map (quote_at xs)) read.is ∙ ap Some whole
+
+    back : (header : Option ℕ) → header_in xs ≡ header → option_map (quote_at xs) header ≡ Some quote → Quotes quote xs
+    back None found is = cc
+    back (Some header) found is =
+        let some : ◌≡◌ {A = Option Quote} (Some (quote_at xs header)) (Some quote) = is in
+        let same : quote_at xs header ≡ quote = cc in
+        subst (λ (q : Quote). Quotes q xs) same (is_read xs header b found)
 
 -- the header of a datagram and the first eight octets of its payload begin with what is quoted of it
 pub cause_quoted : (d : Datagram) → IsDatagram d → AreOctets d.payload → 8 ≤ length d.payload → Quotes (quote_of d) (header_octets d ++ take 8 d.payload)

@@ -22,10 +22,13 @@ with_fields head checksum payload = record {
 abbrev pub sent : Head → List ℕ → Message
 sent head payload = with_fields head (checksum_of (spelling (with_fields head 0 payload))) payload
 
--- the reply to an echo request: type 0 and code 0, and the request's identifier, number and data
+-- an echo reply with this identifier, this number and these data: type 0 and code 0
+abbrev pub echo_reply : ℕ → ℕ → List ℕ → Message
+echo_reply identifier number payload = sent (record { kind = 0; code = 0; identifier = identifier; number = number }) payload
+
+-- the reply to an echo request: that with the request's identifier, number and data
 abbrev pub reply_to : Message → Message
-reply_to request =
-    sent (record { kind = 0; code = 0; identifier = request.identifier; number = request.number }) request.payload
+reply_to request = echo_reply request.identifier request.number request.payload
 
 -- a reply to this request, which has exactly its identifier, number and data
 pub record RepliesTo (reply request : Message) : Type 0 where

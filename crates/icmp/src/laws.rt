@@ -1,6 +1,6 @@
 //! Laws of the definitions that the contracts of this crate cite: each is the contract of a function that does nothing.
 
-ghost use Rattle.std.specs.Prelude.{◌≡◌, ◌↔◌, ℕ, ◌<◌, ◌≤◌, List, length, All, Bool, Result, Ok, Err};
+ghost use Rattle.std.specs.Prelude.{◌≡◌, ◌↔◌, ℕ, ◌<◌, ◌≤◌, ◌^◌, List, length, All, Bool, Some, Result, Ok, Err};
 ghost use Rattle.ipv4.specs.Datagram.{Datagram, IsDatagram, header_octets};
 ghost use Rattle.icmp.specs.declared.error.Reason.{Reason};
 ghost use Rattle.icmp.specs.declared.error.TheConstants.{QUOTED_LEN};
@@ -12,11 +12,15 @@ ghost use Rattle.icmp.specs.declared.quote.Quote.{Quote};
 ghost use Rattle.icmp.specs.MayAnswer.{MayAnswer};
 ghost use Rattle.icmp.specs.Message.{Message, IsMessage, IsParsed, Spells, spelling};
 ghost use Rattle.icmp.specs.Quotes.{Quotes, quote_of};
-ghost use Rattle.icmp.specs.Sent.{reply_to, RepliesTo, error_for};
+ghost use Rattle.icmp.specs.Reading.{message_or_fault, quote_in};
+ghost use Rattle.icmp.specs.Sent.{echo_reply, reply_to, RepliesTo, error_for};
 
-/// For all octets there is one answer that `IcmpView::parse` may give, and it is `UpperHeader` exactly for fewer than 8.
+/// For all octets there is one answer that `IcmpView::parse` may give: the one that is read of them from left to right. It is
+/// `UpperHeader` exactly for fewer than 8.
 pub fn one_answer()
     ensures one { (octets : List ℕ) (first second : Result Message IcmpFault) → IsParsed octets first → IsParsed octets second → first ≡ second }
+    ensures read { (octets : List ℕ) (answer : Result Message IcmpFault) → All (λ octet. octet < 256) octets
+        → (IsParsed octets answer ↔ (message_or_fault octets ≡ answer)) }
     ensures short { (octets : List ℕ) → All (λ octet. octet < 256) octets → (IsParsed octets (Err UpperHeader) ↔ (length octets < 8)) }
 {}
 
@@ -28,6 +32,14 @@ pub fn reply_parses()
         → IsParsed (spelling (reply_to request)) answer → answer ≡ Ok (reply_to request) }
 {}
 
+/// What `emit_echo_reply` writes parses to the reply that is meant.
+pub fn echo_reply_parses()
+    ensures spelled { (identifier number : ℕ) (octets : List ℕ) → identifier < 2 ^ 16 → number < 2 ^ 16
+        → Spells (echo_reply identifier number octets) (spelling (echo_reply identifier number octets)) }
+    ensures parsed { (identifier number : ℕ) (octets : List ℕ) (answer : Result Message IcmpFault) → identifier < 2 ^ 16 → number < 2 ^ 16
+        → IsParsed (spelling (echo_reply identifier number octets)) answer → answer ≡ Ok (echo_reply identifier number octets) }
+{}
+
 /// What `emit_error` writes parses to the error that is meant.
 pub fn error_parses()
     ensures spelled { (reason : Reason) (header payload : List ℕ)
@@ -36,10 +48,11 @@ pub fn error_parses()
         → IsParsed (spelling (error_for reason header payload)) answer → answer ≡ Ok (error_for reason header payload) }
 {}
 
-/// Octets begin with one quote at most, and those of an error about a datagram with 8 octets of payload or more begin with that
+/// Octets begin with one quote at most, the one that is read of them from left to right, and those of an error about a datagram with 8 octets of payload or more begin with that
 /// datagram's: so its sender finds what it was about.
 pub fn cause_is_quoted()
     ensures one { (first second : Quote) (octets : List ℕ) → Quotes first octets → Quotes second octets → first ≡ second }
+    ensures read { (quote : Quote) (octets : List ℕ) → All (λ octet. octet < 256) octets → (Quotes quote octets ↔ (quote_in octets ≡ Some quote)) }
     ensures cause { (reason : Reason) (d : Datagram) → IsDatagram d → All (λ octet. octet < 256) d.payload → 8 ≤ length d.payload
         → Quotes (quote_of d) (error_for reason (header_octets d) d.payload).payload }
 {}

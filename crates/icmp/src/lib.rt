@@ -8,6 +8,7 @@ mod head;
 mod kind;
 pub mod laws;
 mod quote;
+mod reply;
 mod view;
 
 pub use answer::may_answer;
@@ -16,4 +17,5 @@ pub use fault::IcmpFault;
 pub use head::HEADER_LEN;
 pub use kind::Kind;
 pub use quote::Quote;
+pub use reply::emit_echo_reply;
 pub use view::IcmpView;

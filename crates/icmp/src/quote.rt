@@ -3,7 +3,7 @@
 ghost use Rattle.std.specs.Prelude.{◌≡◌, ◌+◌, ◌≤◌, length, take, drop, IfSome, IfNone};
 ghost use Rattle.icmp.specs.declared.quote.Quote.{Quote};
 ghost use Rattle.icmp.specs.Quotes.{Quotes};
-ghost use Rattle.icmp.specs.Reading.{header_in};
+ghost use Rattle.icmp.specs.Reading.{header_in, quote_in};
 
 use byteorder::{BigEndian, ByteOrder};
 use ipv4::{Addr, Endpoint, HEADER_LEN, Protocol};
@@ -34,6 +34,7 @@ const BEHIND: usize = 8;
 impl Quote {
     /// The quote that these octets begin with, where they begin with one.
     pub(crate) fn read(octets: &[u8]) -> Option<Quote>
+        ensures value { result ≡ quote_in octets.now }
         ensures some { IfSome result (λ quote. Quotes quote octets.now) }
         ensures none { IfNone result ((quote : Quote) → Quotes quote octets.now → ⊥) }
     {

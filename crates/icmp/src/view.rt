@@ -6,13 +6,15 @@ ghost use Rattle.icmp.specs.declared.quote.Quote.{Quote};
 ghost use Rattle.icmp.specs.Errors.{kind_of, code_of};
 ghost use Rattle.icmp.specs.Message.{IsMessage, IsParsed, IsEchoRequest, spelling};
 ghost use Rattle.icmp.specs.Quotes.{Quotes};
+ghost use Rattle.icmp.specs.Reading.{quote_in};
 ghost use Rattle.icmp.specs.Sent.{reply_to};
 
 use crate::error::Reason;
 use crate::fault::IcmpFault;
-use crate::head::{HEADER_LEN, Head};
+use crate::head::HEADER_LEN;
 use crate::kind::Kind;
 use crate::quote::Quote;
+use crate::reply::emit_echo_reply;
 use byteorder::{BigEndian, ByteOrder};
 use std::marker::Model;
 
@@ -111,6 +113,7 @@ impl<'a> IcmpView<'a> {
     /// What its data quotes of a datagram, where they begin with a whole header of IPv4 and 8 octets behind it. The header's
     /// checksum is not looked at.
     pub fn quote(&self) -> Option<Quote>
+        ensures value { result ≡ quote_in self.now.payload }
         ensures some { IfSome result (λ quote. Quotes quote self.now.payload) }
         ensures none { IfNone result ((quote : Quote) → Quotes quote self.now.payload → ⊥) }
     {
@@ -126,12 +129,6 @@ impl<'a> IcmpView<'a> {
     {
         let payload = self.payload();
         out[HEADER_LEN..HEADER_LEN + payload.len()].copy_from_slice(payload);
-        let head = Head {
-            kind: Kind::ECHO_REPLY.0,
-            code: 0,
-            identifier: self.identifier(),
-            number: self.number(),
-        };
-        head.emit(payload.len(), out)
+        emit_echo_reply(self.identifier(), self.number(), payload.len(), out)
     }
 }

@@ -1,4 +1,4 @@
-use Rattle.std.proofs.Common.{sym, ◌∙◌, ap, arith}
+use Rattle.std.proofs.Common.{sym, ap, arith}
 use Rattle.tcp_segment.proofs.Answering.{read_ok, read_err}
 use Rattle.frames.specs.Pairs.{segment_pair}
 use Rattle.frames.proofs.pairs.segment_pair.Goals as goal

@@ -9,13 +9,13 @@ use Rattle.frames.specs.Meaning.{ipv4_type}
 use Rattle.frames.specs.Sent.{ipv4_head}
 use Rattle.frames.proofs.Emitted.{framed_payload, kept_behind, segment_at, segment_len}
 use borrow.Rule.Slice.PartMut.{mid_of, put_mid}
-use Rattle.frames.proofs.emission.FrameHead.emit_tcp.Goals as goal
+use Rattle.frames.proofs.emission.FrameHead.emit.Goals as goal
 
 pub returns-clause-octets : goal.returns-clause-octets
 returns-clause-octets c =
-    let n : ℕ = c.args.segment_len in
+    let n : ℕ = c.args.payload_len in
     let out : List ℕ = c.args.out.now in
-    let head : Ipv4Head = ipv4_head c.args.self.now in
+    let head : Ipv4Head = ipv4_head c.args.self.now c.args.protocol.0 in
     let total : ℕ = c.emit-datagram_len.result in
     let is_total : total ≡ 20 + n = c.emit-datagram_len.ensures.len in
     let segment : List ℕ = slice_range out 34 (34 + n) in
