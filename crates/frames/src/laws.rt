@@ -70,8 +70,8 @@ pub fn emitted_packets_are_heard()
         → heard packet.target_mac ours (packet_frame packet) ≡ Ok (Arp packet) }
 {}
 
-/// A segment, a control message or a datagram of another protocol that is heard is for the host that hears it, and comes from another,
-/// from an address that a host may have (RFC 1122 section 3.2.1.3).
+/// What is heard as a segment, a control message or a datagram of another protocol comes from another host, from an address that a host
+/// may have (RFC 1122 section 3.2.1.3); such a datagram is for the host that hears it.
 pub fn heard_from_others()
     ensures segment { (mac : Mac) (ours : Addr) (octets : List ℕ) (received : Received) → heard mac ours octets ≡ Ok (Tcp received) → may_send ours received.source ≡ true }
     ensures message { (mac : Mac) (ours : Addr) (octets : List ℕ) (c : Control) → heard mac ours octets ≡ Ok (Icmp c) → may_send ours c.source ≡ true }

@@ -3,7 +3,8 @@
 use arp::ArpPacket;
 use ether::{Mac, SPACE};
 use frames::{DropCause, FrameHead, Meaning, emit_arp, read};
-use ipv4::Addr;
+use icmp::Kind;
+use ipv4::{Addr, Protocol};
 use std::test::Fail;
 
 const MAC: Mac = Mac([2, 0, 0, 0, 0, 2]);
@@ -22,19 +23,28 @@ const SYN: [u8; 60] =
 const REQUEST: [u8; 60] =
     *b"\xff\xff\xff\xff\xff\xff\x02\0\0\0\0\x01\x08\x06\0\x01\x08\0\x06\x04\0\x01\x02\0\0\0\0\x01\x0a\0\0\x01\0\0\0\0\0\0\x0a\0\0\x02\0\0\0\0\0\0\0\0\0\0\0\0\0\0\0\0\0\0";
 
-/// What a frame is, by the parts that tell it apart: the packet's sender, the segment's source, or the protocol.
+/// An echo request of 10.0.0.1 for 10.0.0.2 with the data `abc`, padded (RFC 792).
+const ECHO: [u8; 60] =
+    *b"\x02\0\0\0\0\x02\x02\0\0\0\0\x01\x08\0\x45\0\0\x1f\0\0\x40\0\x40\x01\x26\xdc\x0a\0\0\x01\x0a\0\0\x02\x08\0\x33\x9b\0\x01\0\x01\x61\x62\x63\0\0\0\0\0\0\0\0\0\0\0\0\0\0\0";
+
+/// What a frame is, by the parts that tell it apart: the packet's sender, the segment's source, the message's source and type, or the
+/// protocol.
 #[derive(Clone, Copy, PartialEq, Eq)]
 enum Said {
     Arp(Addr),
     Tcp(Addr, u16),
-    Other(u8),
+    Icmp(Addr, Kind),
+    Other(Protocol),
+    UdpFragment(Protocol),
 }
 
 fn heard_as(octets: &[u8]) -> Result<Said, DropCause> {
     match read(MAC, OURS, octets)? {
         Meaning::Arp(packet) => Ok(Said::Arp(packet.sender_addr)),
         Meaning::Tcp(received) => Ok(Said::Tcp(received.source, received.segment.source())),
-        Meaning::Other(datagram) => Ok(Said::Other(datagram.protocol().0)),
+        Meaning::Icmp(control) => Ok(Said::Icmp(control.source, control.message.kind())),
+        Meaning::Other(datagram) => Ok(Said::Other(datagram.protocol())),
+        Meaning::UdpFragment(datagram) => Ok(Said::UdpFragment(datagram.protocol())),
     }
 }
 
@@ -67,11 +77,36 @@ const OF_THE_SYN: [Row; 18] = [
     (&[(21, 1), (25, 0xc9)], Err(DropCause::Fragment)),
     (&[(46, 0x40)], Err(DropCause::UpperHeader)),
     (&[(51, 0xd4)], Err(DropCause::UpperSum)),
-    (&[(23, 1), (25, 0xcf)], Ok(Said::Other(1))),
-    (&[(23, 17), (25, 0xbf)], Ok(Said::Other(17))),
+    (&[(23, 1), (25, 0xcf)], Err(DropCause::UpperSum)),
+    (&[(23, 17), (25, 0xbf)], Ok(Said::Other(Protocol::UDP))),
     (
         &[(20, 0x60), (23, 17), (24, 0x06), (25, 0xbf)],
-        Ok(Said::Other(17)),
+        Ok(Said::UdpFragment(Protocol::UDP)),
+    ),
+];
+
+const OF_THE_ECHO: [Row; 7] = [
+    (&[], Ok(Said::Icmp(OTHER, Kind::ECHO))),
+    (
+        &[(34, 0), (36, 0x3b)],
+        Ok(Said::Icmp(OTHER, Kind::ECHO_REPLY)),
+    ),
+    (&[(44, 0x64)], Err(DropCause::UpperSum)),
+    // seven octets are no message
+    (&[(17, 0x1b), (25, 0xe0)], Err(DropCause::UpperHeader)),
+    (&[(21, 1), (25, 0xdb)], Err(DropCause::Fragment)),
+    (&[(23, 47), (25, 0xae)], Ok(Said::Other(Protocol(47)))),
+    // for all of the link
+    (
+        &[
+            (30, 255),
+            (31, 255),
+            (32, 255),
+            (33, 255),
+            (24, 0x30),
+            (25, 0xde),
+        ],
+        Err(DropCause::OtherAddress),
     ),
 ];
 
@@ -105,6 +140,9 @@ fn frames_are_heard(rt: HostRuntime) {
     for (changes, want) in OF_THE_SYN {
         assert!(rt; heard_as(&changed(SYN, changes)) == want);
     }
+    for (changes, want) in OF_THE_ECHO {
+        assert!(rt; heard_as(&changed(ECHO, changes)) == want);
+    }
     for (changes, want) in OF_THE_REQUEST {
         assert!(rt; heard_as(&changed(REQUEST, changes)) == want);
     }
@@ -125,6 +163,9 @@ fn frames_go_out(rt: HostRuntime) {
     out[34..58].copy_from_slice(&SYN[34..58]);
     assert!(rt; head.emit_tcp(24, &mut out) == 60);
     assert!(rt; out.starts_with(&SYN));
+    out[34..45].copy_from_slice(&ECHO[34..45]);
+    assert!(rt; head.emit_icmp(11, &mut out) == 60);
+    assert!(rt; out.starts_with(&ECHO));
     assert!(rt; emit_arp(&ArpPacket::request(OTHER_MAC, OTHER, OURS), &mut out) == 60);
     assert!(rt; out.starts_with(&REQUEST));
     assert!(rt; head.emit_tcp(1_480, &mut out) == SPACE);

@@ -1,11 +1,14 @@
 //! Control messages (RFC 792, RFC 1122 section 3.2.2).
 
 use super::{A, B};
-use icmp::{IcmpFault, IcmpView, Kind, Quote, Reason, emit_error, may_answer};
+use icmp::{IcmpFault, IcmpView, Kind, Quote, Reason, emit_echo_reply, emit_error, may_answer};
 use ipv4::{Endpoint, Ipv4View, Protocol};
 
 /// An echo request with the data `abc`.
 const REQUEST: [u8; 11] = *b"\x08\x00\x33\x9b\x00\x01\x00\x01abc";
+
+/// Its reply, with octets of 7 behind it.
+const REPLY: [u8; 13] = *b"\x00\x00\x3b\x9b\x00\x01\x00\x01abc\x07\x07";
 
 #[test]
 fn an_echo_request_is_answered(rt: HostRuntime) {
@@ -32,7 +35,14 @@ fn an_echo_request_is_answered(rt: HostRuntime) {
     );
     let mut out = [7; 13];
     let len = request.emit_reply(&mut out);
-    assert!(rt; (len, out) == (11, *b"\x00\x00\x3b\x9b\x00\x01\x00\x01abc\x07\x07"));
+    assert!(rt; (len, out) == (11, REPLY));
+}
+
+#[test]
+fn an_echo_reply_is_written_from_its_parts(rt: HostRuntime) {
+    let mut out = *b"\x07\x07\x07\x07\x07\x07\x07\x07abc\x07\x07";
+    let len = emit_echo_reply(1, 1, 3, &mut out);
+    assert!(rt; (len, out) == (11, REPLY));
 }
 
 const FAULTS: [(&[u8], Option<IcmpFault>); 11] = [
