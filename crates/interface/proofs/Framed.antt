@@ -1,4 +1,4 @@
--- A segment that was written behind the place of a frame's two heads.
+-- A segment or a message that was written behind the place of a frame's two heads.
 use Rattle.std.proofs.Common.{◌≡◌, ℕ, ◌+◌, ◌-◌, ◌≤◌, List, [], ◌++◌, length, take, drop, slice_range, arith, sym, ◌∙◌, ap, append_assoc, length-append, length-drop}
 use Rattle.std.proofs.lemmas.List.{append-nil, drop_all, drop_at, drop-drop, length-take, take_all, take_at}
 use borrow.Rule.Slice.PartMut.{mid_of, put_mid}
@@ -17,8 +17,8 @@ behind out whole n len within =
 front_len : (out : List ℕ) → length out ≡ 1514 → length (take 34 out) ≡ 34
 front_len out len = length-take 34 out ∙ omega (arith, len)
 
--- the segment that is framed
-pub framed_segment : (out new whole : List ℕ) (n : ℕ) → length out ≡ 1514 → new ≡ whole ++ drop n (mid_of 34 1480 out) → length whole ≡ n → n ≤ 1480
+-- what is framed
+framed_segment : (out new whole : List ℕ) (n : ℕ) → length out ≡ 1514 → new ≡ whole ++ drop n (mid_of 34 1480 out) → length whole ≡ n → n ≤ 1480
     → slice_range (put_mid 34 1480 out new) 34 (34 + n) ≡ whole
 framed_segment out new whole n len is whole_len within =
     let count : length whole ≡ 34 + n - 34 = omega (arith, whole_len) in
@@ -28,7 +28,7 @@ framed_segment out new whole n len is whole_len within =
     ∙ take_at whole (drop (34 + n) out) (34 + n - 34) count
 
 -- what stands behind the frame is as it was
-pub kept_behind : (out new whole : List ℕ) (n m : ℕ) → length out ≡ 1514 → new ≡ whole ++ drop n (mid_of 34 1480 out) → length whole ≡ n → n ≤ 1480 → 34 + n ≤ m
+kept_behind : (out new whole : List ℕ) (n m : ℕ) → length out ≡ 1514 → new ≡ whole ++ drop n (mid_of 34 1480 out) → length whole ≡ n → n ≤ 1480 → 34 + n ≤ m
     → drop m (put_mid 34 1480 out new) ≡ drop m out
 kept_behind out new whole n m len is whole_len within past =
     let more : ℕ = m - (34 + n) in
@@ -43,3 +43,12 @@ kept_behind out new whole n m len is whole_len within past =
     ∙ ap (drop more) (drop_at front (drop (34 + n) out) (34 + n) front_is)
     ∙ drop-drop more (34 + n) out
     ∙ ap (λ (k : ℕ). drop k out) sum
+
+-- the whole frame, and what stands behind it
+pub framed : (frame : List ℕ → List ℕ) (out new whole after : List ℕ) (n m : ℕ) → length out ≡ 1514 → new ≡ whole ++ drop n (mid_of 34 1480 out) → length whole ≡ n → n ≤ 1480
+    → 34 + n ≤ m → after ≡ frame (slice_range (put_mid 34 1480 out new) 34 (34 + n)) ++ drop m (put_mid 34 1480 out new)
+    → after ≡ frame whole ++ drop m out
+framed frame out new whole after n m len is whole_len within past written =
+    written
+    ∙ ap (λ (l : List ℕ). frame l ++ drop m (put_mid 34 1480 out new)) (framed_segment out new whole n len is whole_len within)
+    ∙ ap (λ (l : List ℕ). frame whole ++ l) (kept_behind out new whole n m len is whole_len within past)

@@ -1,5 +1,5 @@
 -- The MAC of a next hop that is known has the width of one.
-use Rattle.std.proofs.Common.{◌≡◌, ℕ, Bool, true, false, List, [], ◌∷◌, length, find, cond, ◌&&◌, Option, Some, None, option_map}
+use Rattle.std.proofs.Common.{◌≡◌, Bool, true, false, List, [], ◌∷◌, length, find, cond, ◌&&◌, Option, Some, None, option_map}
 use Rattle.std.specs.List.{AllByRecursion}
 use Rattle.ether.specs.declared.mac.Mac.{Mac}
 use Rattle.ipv4.specs.declared.addr.Addr.{Addr}
@@ -9,7 +9,7 @@ use Rattle.interface.specs.InterfaceView.{InterfaceView}
 use Rattle.interface.specs.Routing.{next_hop}
 use Rattle.interface.specs.Sound.{IsSound}
 use Rattle.interface.specs.Ways.{hop_mac, mac_of}
-use Rattle.arp.specs.Cache.{HasWholeMacs, is_live_pair, is_pair_of, look}
+use Rattle.arp.specs.Cache.{is_live_pair, is_pair_of}
 
 abbrev HasWholeMac : Neighbour → Type 0
 HasWholeMac pair = length pair.mac.0 ≡ 6

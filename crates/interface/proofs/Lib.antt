@@ -1,5 +1,6 @@
 pub mod BestRoute
 pub mod Framed
+pub mod Rooms
 pub mod Waits
 pub mod Heard
 pub mod Deadlines

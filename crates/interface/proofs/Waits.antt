@@ -8,7 +8,6 @@ use Rattle.std.proofs.lemmas.List.Folds.{find_at}
 use Rattle.std.proofs.lemmas.Option.{slice_get-get_or, slice_get_past, get_or_from_slice_get}
 use Rattle.ether.specs.declared.mac.Mac.{Mac}
 use Rattle.ipv4.specs.declared.addr.Addr.{Addr}
-use Rattle.tcp_segment.specs.declared.head.Head.{Head}
 use Rattle.clock.specs.declared.moment.Moment.{Moment}
 use Rattle.arp.specs.declared.entry.Asked.{Asked}
 use Rattle.arp.specs.declared.packet.ArpPacket.{ArpPacket}
@@ -16,7 +15,7 @@ use Rattle.arp.specs.Cache.{Cache, is_live, look, may_ask, after_age, after_ask}
 use Rattle.arp.specs.Events.{Event, moment_of, after_event}
 use Rattle.arp.proofs.Kept.{aging_hides_nothing, noted_while_live}
 use Rattle.interface.specs.declared.reply.Reply.{Reply}
-use Rattle.interface.specs.declared.reply.Reply.TheVariants.{Arp, Reset}
+use Rattle.interface.specs.declared.reply.Reply.TheVariants.{Arp, Reset, Echo, Error}
 use Rattle.interface.specs.declared.reply.Waiting.{Waiting}
 use Rattle.interface.specs.declared.way.Way.{Way}
 use Rattle.interface.specs.declared.way.Way.TheVariants.{To, Ask, Waits}
@@ -24,8 +23,8 @@ use Rattle.interface.specs.InterfaceView.{InterfaceView}
 use Rattle.interface.specs.Routing.{next_hop}
 use Rattle.interface.specs.Ways.{mac_of, knows_hop, way_by_mac, way_over, way}
 use Rattle.interface.specs.Replies.{way_of, goes_out, is_due}
-use Rattle.interface.specs.Emission.{request_frame, frame_by, left_by, len_by, way_of_one, way_at, frame_of_one, frame_at, after_emission}
-use Rattle.interface.specs.Timing.{end_of, is_over, lacks_hop, stays, after_tick}
+use Rattle.interface.specs.Emission.{request_frame, frame_by, left_by, reply_len, len_by, way_of_one, way_at, frame_of_one, frame_at, len_of_one, len_at, after_emission}
+use Rattle.interface.specs.Timing.{sought, is_unknown, end_of, is_over, lacks_hop, stays, after_tick}
 
 -- A hop is known after ageing where it was known before.
 
@@ -83,21 +82,23 @@ pub packet_kept : (h : InterfaceView) (now since : Moment) (packet : ArpPacket) 
     Contains h.replies w → Contains (after_tick h now).replies w
 packet_kept h now since packet here = kept (stays h now) h.replies (record { since = since; reply = Arp packet }) refl here
 
-pub known_kept : (h : InterfaceView) (now since : Moment) (to : Addr) (head : Head) → let w : Waiting = record { since = since; reply = Reset to head } in
-    Contains h.replies w → knows_hop h now to ≡ true → Contains (after_tick h now).replies w
-known_kept h now since to head here known =
-    let w : Waiting = record { since = since; reply = Reset to head } in
-    kept (stays h now) h.replies w (ap (λ b. not (not b && is_over now w)) known) here
+-- whether a reply for this address stays
+stays_by : (h : InterfaceView) (now : Moment) (w : Waiting) (to : Addr) (known : Bool) → sought w.reply ≡ Some to → knows_hop h now to ≡ known
+    → stays h now w ≡ not (not known && is_over now w)
+stays_by h now w to known seeks is =
+    ap (λ o. not (is_unknown h.routes h.cache now o && is_over now w)) seeks ∙ ap (λ b. not (not b && is_over now w)) is
 
-pub over_dropped : (h : InterfaceView) (now since : Moment) (to : Addr) (head : Head) → let w : Waiting = record { since = since; reply = Reset to head } in
-    knows_hop h now to ≡ false → (end_of w).0 ≤ now.0 → ¬ Contains (after_tick h now).replies w
-over_dropped h now since to head unknown past =
-    let w : Waiting = record { since = since; reply = Reset to head } in
+pub known_kept : (h : InterfaceView) (now : Moment) (w : Waiting) (to : Addr) → sought w.reply ≡ Some to → Contains h.replies w → knows_hop h now to ≡ true
+    → Contains (after_tick h now).replies w
+known_kept h now w to seeks here known = kept (stays h now) h.replies w (stays_by h now w to true seeks known) here
+
+pub over_dropped : (h : InterfaceView) (now : Moment) (w : Waiting) (to : Addr) → sought w.reply ≡ Some to → knows_hop h now to ≡ false → (end_of w).0 ≤ now.0
+    → ¬ Contains (after_tick h now).replies w
+over_dropped h now w to seeks unknown past =
     let end : Moment = end_of w in
     let order : end.0 ≤ now.0 = past in
     let over : nat_le end.0 now.0 ≡ true = grind (arith, nat_tests, order) in
-    let goes : stays h now w ≡ false = ap (λ b. not (not b && is_over now w)) unknown ∙ ap not over in
-    dropped (stays h now) h.replies w goes
+    dropped (stays h now) h.replies w (stays_by h now w to false seeks unknown ∙ ap not over)
 
 -- What waits leaves in order.
 
@@ -142,22 +143,28 @@ first_waits h now place k at before = one_waits h now k not_due
         let first = position-Some (is_due h now) h.replies place w at in
         ap (is_due h now) (sym (get_or_from_slice_get h.replies k w w e)) ∙ first.2 k before
 
-sixty : (way : Way) → goes_out way ≡ true → len_by way ≡ 60
-sixty (To mac) e = refl
-sixty (Ask hop) e = refl
-sixty Waits e = absurd cc
+least_len : (reply : Reply) → 60 ≤ reply_len reply
+least_len (Arp packet) = omega arith
+least_len (Reset to head) = omega arith
+least_len (Echo to identifier number octets) = omega arith
+least_len (Error to reason quoted) = omega arith
+
+least_by : (reply : Reply) (way : Way) → goes_out way ≡ true → 60 ≤ len_by reply way
+least_by reply (To mac) e = least_len reply
+least_by reply (Ask hop) e = omega arith
+least_by reply Waits e = absurd cc
 
 goes_at : (h : InterfaceView) (now : Moment) (ws : List Waiting) (place : ℕ) → position (is_due h now) ws ≡ Some place
-    → (place < length ws) × (len_by (way_of_one h now (slice_get ws place)) ≡ 60)
+    → (place < length ws) × (60 ≤ len_of_one h now (slice_get ws place))
 goes_at h now [] place at = absurd cc
 goes_at h now (first ∷ ws) place at =
     let found = position-Some (is_due h now) (first ∷ ws) place first at in
     let w : Waiting = get_or (first ∷ ws) place first in
     let here : slice_get (first ∷ ws) place ≡ Some w = slice_get-get_or (first ∷ ws) place first found.0 in
-    (found.0, ap (λ (o : Option Waiting). len_by (way_of_one h now o)) here ∙ sixty (way_of h now w.reply) found.1)
+    (found.0, subst (λ (n : ℕ). 60 ≤ n) (sym (ap (len_of_one h now) here)) (least_by w.reply (way_of h now w.reply) found.1))
 
 pub first_goes : (h : InterfaceView) (now : Moment) (place : ℕ) → position (is_due h now) h.replies ≡ Some place
-    → (place < length h.replies) × (len_by (way_at h now place) ≡ 60)
+    → (place < length h.replies) × (60 ≤ len_at h now place)
 first_goes h now place at = goes_at h now h.replies place at
 
 pub none_waits : (h : InterfaceView) (now : Moment) (k : ℕ) → position (is_due h now) h.replies ≡ None → way_at h now k ≡ Waits
@@ -206,6 +213,8 @@ asks h now to hop e = asks_over now h.cache (next_hop h.routes to) hop e
 pub reply_asks : (h : InterfaceView) (now : Moment) (reply : Reply) (hop : Addr) → way_of h now reply ≡ Ask hop → may_ask now hop h.cache.asked ≡ true
 reply_asks h now (Arp packet) hop e = absurd cc
 reply_asks h now (Reset to head) hop e = asks h now to hop e
+reply_asks h now (Echo to identifier number octets) hop e = asks h now to hop e
+reply_asks h now (Error to reason quoted) hop e = asks h now to hop e
 
 pub asked_once : (h : InterfaceView) (now later : Moment) (to hop : Addr) (between : List Event)
     → may_ask now hop h.cache.asked ≡ true → is_live 1000 later now ≡ true → All (λ event. (moment_of event).0 ≤ later.0) between
@@ -222,6 +231,7 @@ asked_once h now later to hop between may live order e =
 pub record GoesBy (h : InterfaceView) (now : Moment) (place : ℕ) (reply : Reply) (way : Way) : Type 0 where
   pub way_is : way_at h now place ≡ way
   pub frame_is : frame_at h now place ≡ frame_by h reply way
+  pub len_is : len_at h now place ≡ len_by reply way
   pub left_is : after_emission h now place ≡ left_by h now place way
 
 pub at_place : (h : InterfaceView) (now : Moment) (place : ℕ) (w : Waiting) (way : Way) → place < length h.replies → w ≡ get_or h.replies place w → way_of h now w.reply ≡ way
@@ -232,5 +242,6 @@ at_place h now place w way within at by =
     record {
       way_is = is;
       frame_is = ap (λ (o : Option Waiting). frame_of_one h now o) here ∙ ap (λ (v : Way). frame_by h w.reply v) by;
+      len_is = ap (λ (o : Option Waiting). len_of_one h now o) here ∙ ap (λ (v : Way). len_by w.reply v) by;
       left_is = ap (λ (v : Way). left_by h now place v) is;
     }

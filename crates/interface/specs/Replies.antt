@@ -1,14 +1,15 @@
--- The control replies that wait: ARP replies (RFC 826), and resets that answer segments (RFC 9293 section 3.5.2). That 16 wait at
--- most is this stack's own.
-use Rattle.std.specs.Prelude.{Bool, true, false, not, ◌&&◌, ◌==◌, if◌then◌else◌, [], ◌∷◌, ◌++◌, length, Result, Ok, Err}
+-- The control replies that wait: ARP replies (RFC 826), resets that answer segments (RFC 9293 section 3.5.2), echo replies and
+-- errors (RFC 792). That 16 wait at most is this stack's own.
+use Rattle.std.specs.Prelude.{ℕ, List, Bool, true, false, not, ◌&&◌, ◌==◌, if◌then◌else◌, [], ◌∷◌, ◌++◌, length, Result, Ok, Err}
 use Rattle.ipv4.specs.declared.addr.Addr.{Addr}
 use Rattle.clock.specs.declared.moment.Moment.{Moment}
 use Rattle.arp.specs.declared.packet.ArpPacket.{ArpPacket}
 use Rattle.arp.specs.Cache.{after_hear, is_request_for}
 use Rattle.arp.specs.Packet.{reply_to}
+use Rattle.icmp.specs.declared.error.Reason.{Reason}
 use Rattle.tcp_segment.specs.declared.head.Head.{Head}
 use Rattle.interface.specs.declared.reply.Reply.{Reply}
-use Rattle.interface.specs.declared.reply.Reply.TheVariants.{Arp, Reset}
+use Rattle.interface.specs.declared.reply.Reply.TheVariants.{Arp, Reset, Echo, Error}
 use Rattle.interface.specs.declared.reply.Waiting.{Waiting}
 use Rattle.interface.specs.declared.reply.QueueFault.{QueueFault}
 use Rattle.interface.specs.declared.reply.QueueFault.TheVariants.{NoRoom}
@@ -48,13 +49,23 @@ heard_answer h packet = owed_answer (is_request_for h.addr packet) h
 abbrev pub after_answer : InterfaceView → Moment → Addr → Head → InterfaceView
 after_answer h now to head = owed (is_routed h to) now (Reset to head) h
 
+-- so is the reply to an echo request, with the request's identifier, number and data (RFC 1122 section 3.2.2.6)
+abbrev pub after_echo : InterfaceView → Moment → Addr → ℕ → ℕ → List ℕ → InterfaceView
+after_echo h now to identifier number octets = owed (is_routed h to) now (Echo to identifier number octets) h
+
+-- and an error about a datagram, of which it quotes these octets (RFC 792)
+abbrev pub after_report : InterfaceView → Moment → Addr → Reason → List ℕ → InterfaceView
+after_report h now to reason quoted = owed (is_routed h to) now (Error to reason quoted) h
+
 abbrev pub answer_result : InterfaceView → Addr → Result (Unit {0}) QueueFault
 answer_result h to = owed_answer (is_routed h to) h
 
--- an ARP reply names the MAC that it is for, and a reset goes the way to its address
+-- an ARP reply names the MAC that it is for, and all others go the way to their address
 abbrev pub way_of : InterfaceView → Moment → Reply → Way
 way_of h now (Arp packet) = To packet.target_mac
 way_of h now (Reset to head) = way h now to
+way_of h now (Echo to identifier number octets) = way h now to
+way_of h now (Error to reason quoted) = way h now to
 
 -- a frame goes out for it
 abbrev pub goes_out : Way → Bool

@@ -1,4 +1,4 @@
--- What time does to what waits. That a reset waits 3,000 milliseconds for its hop, and no longer, is this stack's own; that old pairs
+-- What time does to what waits. That a reply waits 3,000 milliseconds for its hop, and no longer, is this stack's own; that old pairs
 -- are flushed is RFC 1122 section 2.3.2.1.
 use Rattle.std.specs.Prelude.{Bool, false, not, ◌&&◌, ◌||◌, nat_le, if◌then◌else◌, List, filter, fold, Option, Some, None, is_some}
 use Rattle.ipv4.specs.declared.addr.Addr.{Addr}
@@ -8,7 +8,7 @@ use Rattle.arp.specs.Cache.{Cache, look, may_ask, after_age}
 use Rattle.arp.specs.Waits.{next_ask}
 use Rattle.routes.specs.declared.route.Route.{Route}
 use Rattle.interface.specs.declared.reply.Reply.{Reply}
-use Rattle.interface.specs.declared.reply.Reply.TheVariants.{Arp, Reset}
+use Rattle.interface.specs.declared.reply.Reply.TheVariants.{Arp, Reset, Echo, Error}
 use Rattle.interface.specs.declared.reply.Waiting.{Waiting}
 use Rattle.interface.specs.InterfaceView.{InterfaceView}
 use Rattle.interface.specs.Routing.{next_hop}
@@ -18,6 +18,8 @@ use Rattle.interface.specs.Ways.{mac_of, knows_hop}
 abbrev pub sought : Reply → Option Addr
 sought (Arp packet) = None
 sought (Reset to head) = Some to
+sought (Echo to identifier number octets) = Some to
+sought (Error to reason quoted) = Some to
 
 -- it needs a hop, and the MAC of that isn't known
 abbrev pub is_unknown : List Route → Cache → Moment → Option Addr → Bool
@@ -54,7 +56,7 @@ asked_until_over cache now (Some hop) = if is_some (look now hop cache) || may_a
 abbrev pub asked_until : InterfaceView → Moment → Addr → Option Moment
 asked_until h now to = asked_until_over h.cache now (next_hop h.routes to)
 
--- while its hop isn't known, a reset is looked at again at its end, and when a request for the hop may go out again
+-- while its hop isn't known, a reply is looked at again at its end, and when a request for the hop may go out again
 abbrev pub deadline_for : InterfaceView → Moment → Moment → Option Addr → Option Moment
 deadline_for h now end None = None
 deadline_for h now end (Some to) = if knows_hop h now to then None else sooner (Some end) (asked_until h now to)

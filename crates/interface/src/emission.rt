@@ -1,22 +1,27 @@
 //! The frames that go out.
 
-ghost use Rattle.std.specs.Prelude.{◌≡◌, ◌+◌, ◌<◌, ◌≤◌, ◌++◌, length, drop, max, slice_range, IsTrue};
+ghost use Rattle.std.specs.Prelude.{◌≡◌, ◌+◌, ◌<◌, ◌≤◌, [], ◌++◌, length, drop, max, slice_range, IsTrue};
+ghost use Rattle.icmp.specs.Message.{spelling};
+ghost use Rattle.icmp.specs.Sent.{echo_reply, error_for};
+ghost use Rattle.interface.specs.Replies.{goes_out};
 ghost use Rattle.arp.specs.Cache.{may_ask};
 
 use crate::Interface;
 use crate::reply::Reply;
+use crate::room::{Quoted, Room};
 use crate::way::Way;
 use arp::ArpPacket;
 use clock::Moment;
 use ether::{Mac, SPACE};
 use frames::{FrameHead, emit_arp};
+use icmp::{HEADER_LEN, Reason, emit_echo_reply, emit_error};
 use ipv4::Addr;
 
 /// The length of the heads of a frame and a datagram, in octets (RFC 894, RFC 791 section 3.1).
 const HEADS: usize = 34;
 
 impl Interface {
-    ghost use Rattle.interface.specs.Emission.{asked, segment_frame_to, request_frame, reply_frame, way_at, len_by, frame_at, after_emission};
+    ghost use Rattle.interface.specs.Emission.{asked, head_to, segment_frame_to, message_frame_to, request_frame, reply_frame, reply_len, way_at, len_at, frame_at, after_emission};
 
     /// Writes the frame of a segment for an address, which stands at `out[34..]` already and has so many octets, at most 1,480, round
     /// it, for the interface with this MAC (RFC 894, RFC 791 section 3.1). Answers the frame's length, 60 octets at least. What stands
@@ -33,13 +38,29 @@ impl Interface {
         ensures len { result ≡ max (34 + segment_len) 60 }
         ensures octets { out.new ≡ segment_frame_to self.now mac to (slice_range out.old 34 (34 + segment_len)) ++ drop result out.old }
     {
+        self.head_to(mac, to).emit_tcp(segment_len, out)
+    }
+
+    /// Writes the frame of a control message for an address in the same way: it stands at `out[34..]` already and has so many octets.
+    #[tactic(auto, unfolding(crate::specs::Emission::message_frame_to))]
+    fn emit_message(&self, mac: Mac, to: Addr, message_len: usize, out: &mut [u8; SPACE]) -> usize
+        requires { message_len ≤ 1480 }
+        ensures len { result ≡ max (34 + message_len) 60 }
+        ensures octets { out.new ≡ message_frame_to self.now mac to (slice_range out.old 34 (34 + message_len)) ++ drop result out.old }
+    {
+        self.head_to(mac, to).emit_icmp(message_len, out)
+    }
+
+    /// What stands before a segment or a message for an address, in a frame for the interface with this MAC.
+    fn head_to(&self, mac: Mac, to: Addr) -> FrameHead
+        ensures { result ≡ head_to self.now mac to }
+    {
         FrameHead {
             destination: mac,
             source: self.mac,
             from: self.addr,
             to,
         }
-        .emit_tcp(segment_len, out)
     }
 
     /// Writes the frame of a request for the MAC of a neighbour, and notes that it goes out now (RFC 826). The caller knows that one
@@ -56,19 +77,21 @@ impl Interface {
     }
 
     /// Writes the frame that goes out now for the reply at a place, as `first_reply` names it: the reply, which waits no longer then, or the
-    /// request for its hop, which is noted, and the reply stays as it is (RFC 1122 section 2.3.2.2). Answers the frame's length, 60 octets; 0
-    /// where the reply waits on, and then nothing has changed. What stands behind the frame in `out` stays.
+    /// request for its hop, which is noted, and the reply stays as it is (RFC 1122 section 2.3.2.2). Answers the frame's length, 60 octets at
+    /// least and 1,514 at most; 0 where the reply waits on, and then nothing has changed. What stands behind the frame in `out` stays.
     #[tactic(auto, using(crate::proofs::Waits::at_place, crate::proofs::Waits::reply_asks))]
     pub fn emit_reply(&mut self, now: Moment, place: usize, out: &mut [u8; SPACE]) -> usize
         requires { place < length self.old.replies }
-        ensures len { result ≡ len_by (way_at self.old now place) }
+        ensures len { result ≡ len_at self.old now place }
+        ensures least { IsTrue (goes_out (way_at self.old now place)) → 60 ≤ result }
+        ensures most { result ≤ 1514 }
         ensures after { self.new ≡ after_emission self.old now place }
         ensures octets { out.new ≡ frame_at self.old now place ++ drop result out.old }
     {
-        let waiting = self.replies[place];
-        match self.way_of(now, &waiting.reply) {
+        let reply = &self.replies.as_slice()[place].reply;
+        match self.way_of(now, reply) {
             Way::To(mac) => {
-                let len = self.emit_to(mac, &waiting.reply, out);
+                let len = self.emit_to(mac, reply, out);
                 self.replies.remove(place);
                 len
             }
@@ -77,19 +100,56 @@ impl Interface {
         }
     }
 
-    /// Writes the frame of a reply for the interface with this MAC, and answers its length, 60 octets. What stands behind it in
-    /// `out` stays.
+    /// Writes the frame of a reply for the interface with this MAC, and answers its length, 60 octets at least and 1,514 at most. What
+    /// stands behind it in `out` stays.
     #[tactic(auto, unfolding(crate::specs::Emission::reply_frame))]
     fn emit_to(&self, mac: Mac, reply: &Reply, out: &mut [u8; SPACE]) -> usize
-        ensures len { result ≡ 60 }
-        ensures octets { out.new ≡ reply_frame self.now mac reply.now ++ drop 60 out.old }
+        ensures len { result ≡ reply_len reply.now }
+        ensures least { 60 ≤ result }
+        ensures most { result ≤ 1514 }
+        ensures octets { out.new ≡ reply_frame self.now mac reply.now ++ drop result out.old }
     {
-        match *reply {
-            Reply::Arp(packet) => emit_arp(&packet, out),
+        match reply {
+            Reply::Arp(packet) => emit_arp(packet, out),
             Reply::Reset { to, head } => {
-                let segment_len = head.head().emit(self.addr, to, 0, &mut out[HEADS..]);
-                self.emit_segment(mac, to, segment_len, out)
+                let segment_len = head.head().emit(self.addr, *to, 0, &mut out[HEADS..]);
+                self.emit_segment(mac, *to, segment_len, out)
+            }
+            Reply::Echo {
+                to,
+                identifier,
+                number,
+                data,
+            } => {
+                let message_len = write_echo(*identifier, *number, data, &mut out[HEADS..]);
+                self.emit_message(mac, *to, message_len, out)
+            }
+            Reply::Error { to, reason, quoted } => {
+                let message_len = write_error(*reason, quoted, &mut out[HEADS..]);
+                self.emit_message(mac, *to, message_len, out)
             }
         }
     }
+}
+
+/// Writes an echo reply with this identifier, number and data, and answers its length, in octets. What stands behind it in `out` stays.
+fn write_echo(identifier: u16, number: u16, room: &Room, out: &mut [u8]) -> usize
+    requires { length out.old ≡ 1480 }
+    ensures len { result ≡ 8 + length room.now }
+    ensures most { length room.now ≤ 1472 }
+    ensures octets { out.new ≡ spelling (echo_reply identifier number room.now) ++ drop result out.old }
+{
+    let octets = room.as_slice();
+    out[HEADER_LEN..HEADER_LEN + octets.len()].copy_from_slice(octets);
+    emit_echo_reply(identifier, number, octets.len(), out)
+}
+
+/// Writes an error for this reason that quotes these octets, and answers its length, in octets. What stands behind it in `out` stays.
+fn write_error(reason: Reason, quoted: &Quoted, out: &mut [u8]) -> usize
+    requires { length out.old ≡ 1480 }
+    ensures len { result ≡ 8 + length quoted.now }
+    ensures most { length quoted.now ≤ 68 }
+    ensures octets { out.new ≡ spelling (error_for reason quoted.now []) ++ drop result out.old }
+{
+    emit_error(reason, quoted.as_slice(), &[], out)
 }

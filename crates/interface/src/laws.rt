@@ -3,6 +3,8 @@
 ghost use Rattle.std.specs.Prelude.{◌≡◌, ◌≢◌, ℕ, ◌+◌, ◌*◌, ◌<◌, ◌≤◌, ◌++◌, [], ◌∷◌, List, length, position, fold, All, Contains, IsTrue, IfSome, false, Option, Some, None, Ok};
 ghost use Rattle.ether.specs.declared.mac.Mac.{Mac};
 ghost use Rattle.ipv4.specs.declared.addr.Addr.{Addr};
+ghost use Rattle.icmp.specs.declared.error.Reason.{Reason};
+ghost use Rattle.icmp.specs.Sent.{echo_reply, error_for};
 ghost use Rattle.tcp_segment.specs.declared.head.Head.{Head};
 ghost use Rattle.tcp_segment.specs.Sent.{CanBeSent, sent_segment, sent_octets, sent_offset};
 ghost use Rattle.clock.specs.declared.moment.Moment.{Moment};
@@ -19,15 +21,15 @@ ghost use Rattle.routes.specs.Routes.{IsTable, Picks};
 ghost use Rattle.frames.specs.declared.meaning.Meaning.TheVariants as meaning;
 ghost use Rattle.frames.specs.Heard.{MaySend};
 ghost use Rattle.frames.specs.Meaning.{heard};
-ghost use Rattle.interface.specs.declared.reply.Reply.TheVariants.{Arp, Reset};
+ghost use Rattle.interface.specs.declared.reply.Reply.TheVariants.{Arp, Reset, Echo, Error};
 ghost use Rattle.interface.specs.declared.reply.Waiting.{Waiting};
 ghost use Rattle.interface.specs.declared.way.Way.TheVariants.{To, Ask, Waits};
 ghost use Rattle.interface.specs.InterfaceView.{InterfaceView};
-ghost use Rattle.interface.specs.Sound.{IsSound};
+ghost use Rattle.interface.specs.Sound.{IsSound, IsSoundEcho, IsSoundError};
 ghost use Rattle.interface.specs.Routing.{pick, next_hop};
 ghost use Rattle.interface.specs.Ways.{hop_mac, knows_hop, way};
 ghost use Rattle.interface.specs.Replies.{is_due};
-ghost use Rattle.interface.specs.Emission.{asked, way_at, len_by, frame_at, after_emission, segment_frame_to, request_frame, reply_frame};
+ghost use Rattle.interface.specs.Emission.{asked, way_at, len_at, frame_at, after_emission, segment_frame_to, request_frame, reply_frame};
 ghost use Rattle.interface.specs.Timing.{end_of, after_tick, deadline_of, least_deadline};
 
 /// The hop that a table of routes picks for an address is the one that `Routes::pick` answers (RFC 4632 section 5.1).
@@ -45,7 +47,7 @@ pub fn aging_hides_no_hop()
     ensures { (h : InterfaceView) (now : Moment) (to : Addr) → knows_hop (record h { cache = after_age now h.cache }) now to ≡ knows_hop h now to }
 {}
 
-/// No tick drops a reply whose 3,000 ms aren't over, wherever it goes, nor an ARP reply at any time, nor a reset whose hop is known then.
+/// No tick drops a reply whose 3,000 ms aren't over, wherever it goes, nor an ARP reply at any time, nor another whose hop is known then.
 pub fn nothing_is_lost_early()
     ensures early { (h : InterfaceView) (now : Moment) (w : Waiting) → Contains h.replies w → now.0 < (end_of w).0
         → Contains (after_tick h now).replies w }
@@ -53,21 +55,33 @@ pub fn nothing_is_lost_early()
         Contains h.replies w → Contains (after_tick h now).replies w }
     ensures known { (h : InterfaceView) (now : Moment) (since : Moment) (to : Addr) (head : Head) → let w : Waiting = record { since = since; reply = Reset to head } in
         Contains h.replies w → IsTrue (knows_hop h now to) → Contains (after_tick h now).replies w }
+    ensures known_echo { (h : InterfaceView) (now : Moment) (since : Moment) (to : Addr) (identifier number : ℕ) (octets : List ℕ)
+        → let w : Waiting = record { since = since; reply = Echo to identifier number octets } in
+        Contains h.replies w → IsTrue (knows_hop h now to) → Contains (after_tick h now).replies w }
+    ensures known_error { (h : InterfaceView) (now : Moment) (since : Moment) (to : Addr) (reason : Reason) (quoted : List ℕ)
+        → let w : Waiting = record { since = since; reply = Error to reason quoted } in
+        Contains h.replies w → IsTrue (knows_hop h now to) → Contains (after_tick h now).replies w }
 {}
 
-/// A reset whose hop isn't known at a tick 3,000 ms after it was queued, or later, is gone then.
+/// A reset, an echo reply or an error whose hop isn't known at a tick 3,000 ms after it was queued, or later, is gone then.
 pub fn nothing_waits_for_ever()
-    ensures { (h : InterfaceView) (now : Moment) (since : Moment) (to : Addr) (head : Head) → let w : Waiting = record { since = since; reply = Reset to head } in
+    ensures reset { (h : InterfaceView) (now : Moment) (since : Moment) (to : Addr) (head : Head) → let w : Waiting = record { since = since; reply = Reset to head } in
+        knows_hop h now to ≡ false → (end_of w).0 ≤ now.0 → ¬ Contains (after_tick h now).replies w }
+    ensures echo { (h : InterfaceView) (now : Moment) (since : Moment) (to : Addr) (identifier number : ℕ) (octets : List ℕ)
+        → let w : Waiting = record { since = since; reply = Echo to identifier number octets } in
+        knows_hop h now to ≡ false → (end_of w).0 ≤ now.0 → ¬ Contains (after_tick h now).replies w }
+    ensures error { (h : InterfaceView) (now : Moment) (since : Moment) (to : Addr) (reason : Reason) (quoted : List ℕ)
+        → let w : Waiting = record { since = since; reply = Error to reason quoted } in
         knows_hop h now to ≡ false → (end_of w).0 ≤ now.0 → ¬ Contains (after_tick h now).replies w }
 {}
 
-/// What goes out is for the first reply for which anything can: each before it waits, and for it a frame of 60 octets goes out. Where it goes out itself, what waited before it
-/// and behind it stays, in order.
+/// What goes out is for the first reply for which anything can: each before it waits, and for it a frame of 60 octets or more goes out.
+/// Where it goes out itself, what waited before it and behind it stays, in order.
 pub fn replies_leave_in_order()
     ensures first { (h : InterfaceView) (now : Moment) (place k : ℕ) → position (is_due h now) h.replies ≡ Some place → k < place
         → way_at h now k ≡ Waits }
     ensures goes { (h : InterfaceView) (now : Moment) (place : ℕ) → position (is_due h now) h.replies ≡ Some place
-        → (place < length h.replies) × (len_by (way_at h now place) ≡ 60) }
+        → (place < length h.replies) × (60 ≤ len_at h now place) }
     ensures none { (h : InterfaceView) (now : Moment) (k : ℕ) → position (is_due h now) h.replies ≡ None → way_at h now k ≡ Waits }
     ensures left { (h : InterfaceView) (now : Moment) (before after : List Waiting) (w : Waiting) (mac : Mac) → h.replies ≡ before ++ w ∷ after
         → way_at h now (length before) ≡ To mac → (after_emission h now (length before)).replies ≡ before ++ after }
@@ -99,14 +113,22 @@ pub fn deadlines_are_the_least()
     ensures asked { (hop : Addr) (asked : List Asked) → length asked ≤ 64 → IsNextAsk hop asked (next_ask hop asked) }
 {}
 
-/// A frame that goes out is heard, where it is for, as the very packet or segment that is meant (RFC 826, RFC 9293 section 3.1), where its
-/// sender may send.
+/// A frame that goes out is heard, where it is for, as the very packet, segment or message that is meant (RFC 826, RFC 9293 section 3.1,
+/// RFC 792), where its sender may send.
 pub fn emitted_frames_are_heard()
     ensures packet { (h : InterfaceView) (mac : Mac) (ours : Addr) (packet : ArpPacket) → HasWidths packet → packet.operation ≡ operation.Reply
         → MaySend ours packet.sender_addr → heard packet.target_mac ours (reply_frame h mac (Arp packet)) ≡ Ok (meaning.Arp packet) }
     ensures reset { (h : InterfaceView) (mac : Mac) (to : Addr) (head : Head) → CanBeSent h.addr to head []
         → length mac.0 ≡ 6 → length h.mac.0 ≡ 6 → MaySend to h.addr
         → heard mac to (reply_frame h mac (Reset to head)) ≡ Ok (meaning.Tcp (record { source = h.addr; segment = sent_segment head [] })) }
+    ensures echo { (h : InterfaceView) (mac : Mac) (to : Addr) (identifier number : ℕ) (octets : List ℕ) → IsSoundEcho to identifier number octets
+        → length mac.0 ≡ 6 → length h.mac.0 ≡ 6 → length h.addr.0 ≡ 4 → MaySend to h.addr
+        → heard mac to (reply_frame h mac (Echo to identifier number octets))
+        ≡ Ok (meaning.Icmp (record { source = h.addr; message = echo_reply identifier number octets })) }
+    ensures error { (h : InterfaceView) (mac : Mac) (to : Addr) (reason : Reason) (quoted : List ℕ) → IsSoundError to quoted
+        → length mac.0 ≡ 6 → length h.mac.0 ≡ 6 → length h.addr.0 ≡ 4 → MaySend to h.addr
+        → heard mac to (reply_frame h mac (Error to reason quoted))
+        ≡ Ok (meaning.Icmp (record { source = h.addr; message = error_for reason quoted [] })) }
     ensures request { (h : InterfaceView) (hop : Addr) (mac : Mac) (ours : Addr) → HasWidths (request_of h.mac h.addr hop) → MaySend ours h.addr
         → heard mac ours (request_frame h hop) ≡ Ok (meaning.Arp (request_of h.mac h.addr hop)) }
     ensures segment { (h : InterfaceView) (mac : Mac) (to : Addr) (head : Head) (octets : List ℕ) → CanBeSent h.addr to head octets

@@ -2,41 +2,42 @@
 //! until a frame can carry them (RFC 826, RFC 1122 sections 2.3.2 and 3.3.1). It knows no socket and no connection.
 #![tactic(auto)]
 
-ghost use Rattle.std.specs.Prelude.{◌≡◌, true, position};
+ghost use Rattle.std.specs.Prelude.{◌≡◌, ◌≤◌, ◌++◌, true, length, take, position, IfOk};
 
 mod emission;
 mod hop;
 pub mod laws;
+mod queue;
 mod reply;
+mod room;
 mod sound;
 mod timing;
 mod way;
 
 use arp::{ArpCache, ArpPacket};
-use arrayvec::ArrayVec;
 use clock::Moment;
 use ether::Mac;
 use hop::{hop_mac, next_hop, way_over};
+use icmp::Reason;
 use ipv4::Addr;
+use queue::Queue;
 pub use reply::QueueFault;
 use reply::{Reply, ResetHead, Waiting};
 use routes::Routes;
+use std::alloc::{AllocError, Global};
 use std::marker::Model;
 use tcp_segment::Head;
 pub use way::Way;
 
-/// How many control replies wait at most.
-const REPLIES: usize = 16;
-
 /// What a host has of its link: its MAC, its address and its routes, what it heard of its neighbours and asked for, and the
-/// control replies that wait. No call takes memory.
+/// control replies that wait. Only the making takes memory.
 #[derive(Drop)]
 pub struct Interface {
     mac: Mac,
     addr: Addr,
     routes: Routes,
     cache: ArpCache,
-    replies: ArrayVec<Waiting, REPLIES>,
+    replies: Queue,
 }
 
 impl Model for Interface {
@@ -49,26 +50,26 @@ impl Model for Interface {
       addr = i.addr;
       routes = i.routes;
       cache = i.cache;
-      replies = i.replies.items;
+      replies = i.replies;
     } };
 }
 
 impl Interface {
     ghost use Rattle.interface.specs.InterfaceView.{fresh};
     ghost use Rattle.interface.specs.Ways.{is_routed, knows_hop, way};
-    ghost use Rattle.interface.specs.Replies.{owed, owed_answer, after_heard, heard_answer, after_answer, answer_result, way_of, is_due};
+    ghost use Rattle.interface.specs.Replies.{after_heard, heard_answer, after_answer, after_echo, after_report, answer_result, way_of, is_due};
 
-    /// An interface with this MAC, address and routes, that heard nothing.
-    pub fn new(mac: Mac, addr: Addr, routes: Routes) -> Interface
-        ensures { result ≡ fresh mac addr routes }
+    /// An interface with this MAC, address and routes, that heard nothing. Fails only where memory is refused.
+    pub fn new(alloc: Global, mac: Mac, addr: Addr, routes: Routes) -> Result<Interface, AllocError>
+        ensures { IfOk result (λ interface. interface ≡ fresh mac addr routes) }
     {
-        Interface {
+        Ok(Interface {
             mac,
             addr,
             routes,
             cache: ArpCache::new(),
-            replies: ArrayVec::new(),
-        }
+            replies: Queue::new(alloc)?,
+        })
     }
 
     /// Its MAC.
@@ -115,7 +116,10 @@ impl Interface {
         ensures answer { result ≡ heard_answer self.old packet.now }
     {
         let is_owed = self.cache.hear(now, packet, self.addr);
-        self.owe(is_owed, now, Reply::Arp(packet.reply(self.mac)))
+        if is_owed {
+            self.replies.push(now, Reply::Arp(packet.reply(self.mac)))?;
+        }
+        Ok(())
     }
 
     /// Queues a reset to an address, a segment with this header, which has RST, and no octets (RFC 9293 section 3.5.2). Where no route
@@ -125,15 +129,53 @@ impl Interface {
         ensures after { self.new ≡ after_answer self.old now to head }
         ensures answer { result ≡ answer_result self.old to }
     {
-        let is_owed = self.is_routed(to);
-        self.owe(
-            is_owed,
-            now,
-            Reply::Reset {
-                to,
-                head: ResetHead::new(head),
-            },
-        )
+        if self.is_routed(to) {
+            let head = ResetHead::new(head);
+            self.replies.push(now, Reply::Reset { to, head })?;
+        }
+        Ok(())
+    }
+
+    /// Queues an echo reply to an address, with the identifier, number and data of a request, at most 1,472 octets of them (RFC 792, RFC
+    /// 1122 section 3.2.2.6). Where no route leads there nothing is queued. NoRoom where 16 replies wait already. A refusal changes
+    /// nothing.
+    pub fn answer_echo(
+        &mut self,
+        now: Moment,
+        to: Addr,
+        identifier: u16,
+        number: u16,
+        octets: &[u8],
+    ) -> Result<(), QueueFault>
+        requires { length octets.now ≤ 1472 }
+        ensures after { self.new ≡ after_echo self.old now to identifier number octets.now }
+        ensures answer { result ≡ answer_result self.old to }
+    {
+        if self.is_routed(to) {
+            self.replies.push_echo(now, to, identifier, number, octets)?;
+        }
+        Ok(())
+    }
+
+    /// Queues an error to an address, which tells why the datagram with this header, at most 60 octets, and this payload came to nothing:
+    /// it quotes the header and the first 8 octets of the payload, fewer where there are fewer (RFC 792, RFC 1122 section 3.2.2). Where no
+    /// route leads there nothing is queued. NoRoom where 16 replies wait already. A refusal changes nothing.
+    pub fn report(
+        &mut self,
+        now: Moment,
+        to: Addr,
+        reason: Reason,
+        header: &[u8],
+        payload: &[u8],
+    ) -> Result<(), QueueFault>
+        requires { length header.now ≤ 60 }
+        ensures after { self.new ≡ after_report self.old now to reason (header.now ++ take 8 payload.now) }
+        ensures answer { result ≡ answer_result self.old to }
+    {
+        if self.is_routed(to) {
+            self.replies.push_error(now, to, reason, header, payload)?;
+        }
+        Ok(())
     }
 
     /// The place of the first reply that waits and for which a frame can go out now, the reply or a request for its hop; none where every
@@ -142,6 +184,7 @@ impl Interface {
         ensures { result ≡ position (is_due self.now now) self.now.replies }
     {
         self.replies
+            .as_slice()
             .iter()
             .position(|waiting| self.is_due(now, waiting))
     }
@@ -159,22 +202,9 @@ impl Interface {
     {
         match *reply {
             Reply::Arp(packet) => Way::To(packet.target_mac),
-            Reply::Reset { to, .. } => self.way(now, to),
+            Reply::Reset { to, .. } | Reply::Echo { to, .. } | Reply::Error { to, .. } => {
+                self.way(now, to)
+            }
         }
-    }
-
-    /// Queues a reply where it is owed and there is room.
-    fn owe(&mut self, is_owed: bool, now: Moment, reply: Reply) -> Result<(), QueueFault>
-        ensures after { self.new ≡ owed is_owed now reply self.old }
-        ensures answer { result ≡ owed_answer is_owed self.old }
-    {
-        if !is_owed {
-            return Ok(());
-        }
-        if self.replies.is_full() {
-            return Err(QueueFault::NoRoom);
-        }
-        self.replies.push(Waiting { since: now, reply });
-        Ok(())
     }
 }

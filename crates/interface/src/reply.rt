@@ -1,17 +1,20 @@
 //! The control replies that wait to go out.
 
-ghost use Rattle.std.specs.Prelude.{◌≡◌, true};
+ghost use Rattle.std.specs.Prelude.{◌≡◌, true, is_some};
+ghost use Rattle.interface.specs.Queue.{has_room};
 ghost use Rattle.interface.specs.Timing.{sought, end_of, is_over};
 
+use crate::room::{Quoted, Room};
 use arp::ArpPacket;
 use clock::Moment;
 use ether::Mac;
+use icmp::Reason;
 use ipv4::Addr;
 use std::marker::Model;
 use tcp_segment::Head;
 use thiserror::Error;
 
-/// How long a reset waits for a hop that isn't known, in milliseconds. It is this stack's own.
+/// How long a reply waits for a hop that isn't known, in milliseconds. It is this stack's own.
 const PATIENCE: u64 = 3_000;
 
 /// Why a control reply isn't queued.
@@ -60,12 +63,28 @@ impl ResetHead {
 }
 
 /// What the stack answers by itself.
-#[derive(Clone, Copy, PartialEq, Eq, Debug)]
+#[derive(Drop)]
 pub(crate) enum Reply {
     /// An ARP reply (RFC 826).
     Arp(ArpPacket),
     /// A reset to an address, with this header (RFC 9293 section 3.5.2).
-    Reset { to: Addr, head: ResetHead },
+    Reset {
+        to: Addr,
+        head: ResetHead,
+    },
+    /// An echo reply to an address, with the identifier, number and data of a request (RFC 792).
+    Echo {
+        to: Addr,
+        identifier: u16,
+        number: u16,
+        data: Room,
+    },
+    /// An error to an address: why a datagram came to nothing, and what is quoted of it (RFC 792).
+    Error {
+        to: Addr,
+        reason: Reason,
+        quoted: Quoted,
+    },
 }
 
 impl Reply {
@@ -75,13 +94,24 @@ impl Reply {
     {
         match *self {
             Reply::Arp(_) => None,
-            Reply::Reset { to, .. } => Some(to),
+            Reply::Reset { to, .. } | Reply::Echo { to, .. } | Reply::Error { to, .. } => Some(to),
+        }
+    }
+
+    /// The room that it holds; none where it is of a fixed size.
+    pub(crate) fn into_room(self) -> Option<Room>
+        ensures { is_some result ≡ has_room self }
+    {
+        match self {
+            Reply::Arp(_) | Reply::Reset { .. } => None,
+            Reply::Echo { data, .. } => Some(data),
+            Reply::Error { quoted, .. } => Some(quoted.into_room()),
         }
     }
 }
 
 /// A reply, and the moment since when it waits.
-#[derive(Clone, Copy, PartialEq, Eq, Debug)]
+#[derive(Drop)]
 pub(crate) struct Waiting {
     pub(crate) since: Moment,
     pub(crate) reply: Reply,

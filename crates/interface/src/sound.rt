@@ -1,12 +1,13 @@
 //! What an interface keeps of itself.
 
-ghost use Rattle.std.specs.Prelude.{◌≡◌, length};
+ghost use Rattle.std.specs.Prelude.{◌≡◌, ◌<◌, ◌≤◌, length, All};
 ghost use Rattle.std.specs.List.{AllByRecursion};
 ghost use Rattle.arp.specs.Packet.{HasWidths};
-ghost use Rattle.interface.specs.Sound.{IsSoundReply, IsSoundReset};
+ghost use Rattle.interface.specs.Sound.{IsSoundReply, IsSoundReset, IsSoundEcho, IsSoundError};
 
 use crate::Interface;
 use crate::reply::{Reply, ResetHead, Waiting};
+use crate::room::{Quoted, Room};
 use arp::ArpPacket;
 use ether::Mac;
 use ipv4::Addr;
@@ -21,7 +22,7 @@ impl Interface {
         is_whole_mac(self.mac);
         is_whole(self.addr);
         self.cache.sound();
-        sound_replies(&self.replies, self.addr);
+        sound_replies(self.replies.as_slice(), self.addr);
     }
 }
 
@@ -38,9 +39,16 @@ fn sound_replies(replies: &[Waiting], own: Addr)
 fn sound_reply(reply: &Reply, own: Addr)
     ensures { IsSoundReply own reply.now }
 {
-    match *reply {
-        Reply::Arp(packet) => has_widths(packet),
-        Reply::Reset { to, head } => sound_reset(own, to, head),
+    match reply {
+        Reply::Arp(packet) => has_widths(*packet),
+        Reply::Reset { to, head } => sound_reset(own, *to, *head),
+        Reply::Echo {
+            to,
+            identifier,
+            number,
+            data,
+        } => sound_echo(*to, *identifier, *number, data),
+        Reply::Error { to, quoted, .. } => sound_error(*to, quoted),
     }
 }
 
@@ -61,6 +69,30 @@ fn sound_reset(own: Addr, to: Addr, reset: ResetHead)
     is_whole(own);
     is_whole(to);
     let _ = reset.head().len();
+}
+
+/// An echo reply can be sent.
+fn sound_echo(to: Addr, identifier: u16, number: u16, room: &Room)
+    ensures { IsSoundEcho to identifier number room.now }
+{
+    is_whole(to);
+    let _ = (identifier, number);
+    are_octets(room.as_slice());
+}
+
+/// An error can be sent.
+fn sound_error(to: Addr, quoted: &Quoted)
+    ensures { IsSoundError to quoted.now }
+{
+    is_whole(to);
+    are_octets(quoted.as_slice());
+}
+
+/// Octets are numbers below 256.
+fn are_octets(octets: &[u8])
+    ensures { All (λ octet. octet < 256) octets.now }
+{
+    let _ = octets;
 }
 
 /// An address has four octets.

@@ -1,10 +1,12 @@
 //! What time does to what waits.
 
-ghost use Rattle.std.specs.Prelude.{◌≡◌, not, ◌&&◌};
+ghost use Rattle.std.specs.Prelude.{◌≡◌, not, ◌&&◌, filter};
+ghost use Rattle.interface.specs.declared.reply.Waiting.{Waiting as WaitingReply};
 ghost use Rattle.interface.specs.Timing.{is_unknown, is_over, sought, asked_until_over};
 
 use crate::Interface;
 use crate::hop::{hop_mac, next_hop};
+use crate::queue::Queue;
 use crate::reply::Waiting;
 use arp::ArpCache;
 use clock::{Moment, sooner};
@@ -14,23 +16,21 @@ use routes::Routes;
 impl Interface {
     ghost use Rattle.interface.specs.Timing.{after_tick, asked_until, deadline_of, least_deadline};
 
-    /// Forgets the neighbours that were not heard in the last 20 minutes (RFC 1122 section 2.3.2.1), and drops each reset that has waited
+    /// Forgets the neighbours that were not heard in the last 20 minutes (RFC 1122 section 2.3.2.1), and drops each reply that has waited
     /// 3,000 ms or more for its next hop and whose next hop isn't known now. All else stays, in order.
     pub fn tick(&mut self, now: Moment)
         ensures { self.new ≡ after_tick self.old now }
     {
-        let (routes, cache) = (&self.routes, &self.cache);
-        self.replies
-            .retain(|waiting| stays(routes, cache, now, waiting));
+        drop_over(&self.routes, &self.cache, now, &mut self.replies);
         self.cache.age(now);
     }
 
-    /// The least moment at which a tick may drop a reset, or a request that one waits for may go out. A reset counts while its next hop
+    /// The least moment at which a tick may drop a reply, or a request that one waits for may go out. A reply counts while its next hop
     /// isn't known at `now`: with the end of its 3,000 ms, and, where no request may go out now, with the moment from which one may.
     pub fn deadline(&self, now: Moment) -> Option<Moment>
         ensures { result ≡ least_deadline self.now now }
     {
-        self.replies.iter().fold(None, |least, waiting| {
+        self.replies.as_slice().iter().fold(None, |least, waiting| {
             sooner(least, self.deadline_of(now, waiting))
         })
     }
@@ -64,6 +64,17 @@ fn asked_until_over(cache: &ArpCache, now: Moment, hop: Option<Addr>) -> Option<
         Some(hop) if cache.look(now, hop).is_some() || cache.may_ask(now, hop) => None,
         Some(hop) => cache.next_ask(hop),
         None => None,
+    }
+}
+
+/// Drops the replies whose time is over and whose next hop isn't known. The others stay, in order.
+fn drop_over(routes: &Routes, cache: &ArpCache, now: Moment, replies: &mut Queue)
+    ensures { replies.new ≡ filter (λ (w : WaitingReply). not (is_unknown routes.now cache.now now (sought w.reply) && is_over now w)) replies.old }
+{
+    for place in (0..replies.len()).rev() {
+        if !stays(routes, cache, now, &replies.as_slice()[place]) {
+            replies.remove(place);
+        }
     }
 }
 

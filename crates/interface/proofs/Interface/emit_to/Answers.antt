@@ -1,15 +1,17 @@
--- A reset stands behind the place of the two heads before they are written.
-use Rattle.std.proofs.Common.{◌≡◌, ◌+◌, ◌-◌, ◌*◌, ◌++◌, ◌≤◌, ℕ, Bool, true, false, cond, List, [], length, take, drop, slice_range, arith, sym, ◌∙◌, ap}
+-- A segment or a message stands behind the place of the two heads before they are written.
+use Rattle.std.proofs.Common.{◌≡◌, ◌+◌, ◌-◌, ◌*◌, ◌++◌, ◌≤◌, ℕ, Bool, true, false, cond, List, [], length, take, drop, slice_range, arith, sym, ◌∙◌, ap, length-append}
 use Rattle.ether.specs.declared.mac.Mac.{Mac}
 use Rattle.ipv4.specs.declared.addr.Addr.{Addr}
+use Rattle.icmp.specs.Message.{Message, spelling}
+use Rattle.icmp.specs.Sent.{echo_reply, error_for}
 use Rattle.tcp_segment.specs.declared.head.Head.{Head}
 use Rattle.tcp_segment.specs.Sent.{sent_offset, sent_octets}
 use Rattle.tcp_segment.proofs.Checksum.{sent_octets_len}
 use Rattle.interface.specs.declared.reply.Reply.{Reply}
 use Rattle.interface.specs.InterfaceView.{InterfaceView}
-use Rattle.interface.specs.Emission.{segment_frame_to, reply_frame}
-use Rattle.interface.proofs.Framed.{framed_segment, kept_behind}
-use borrow.Rule.Slice.PartMut.{mid_of, put_mid}
+use Rattle.interface.specs.Emission.{segment_frame_to, message_frame_to, reply_frame}
+use Rattle.interface.proofs.Framed.{framed}
+use borrow.Rule.Slice.PartMut.{mid_of}
 use Rattle.interface.proofs.Interface.emit_to.Goals as goal
 
 offset_most : (b : Bool) → 4 * cond b 6 5 ≤ 24
@@ -20,6 +22,7 @@ pub returns-in-Reset-clause-octets : goal.returns-in-Reset-clause-octets
 unfolding reply_frame
 returns-in-Reset-clause-octets c =
     let n : ℕ = c.emit-segment_len.result in
+    let m : ℕ = c.emit_segment.result in
     let out : List ℕ = c.args.out.now in
     let own : Addr = c.self.inside.addr in
     let h : InterfaceView = c.args.self.now in
@@ -35,14 +38,45 @@ returns-in-Reset-clause-octets c =
     let new : c.emit-segment_len.new.out ≡ whole ++ drop n (mid_of 34 1480 out) =
     c.emit-segment_len.ensures.octets ∙ ap (λ (l : List ℕ). sent_octets own to head l ++ drop n (mid_of 34 1480 out)) empty in
     let len : length whole ≡ n = sent_octets_len own to head [] ∙ sym is_n in
-    let before : List ℕ = put_mid 34 1480 out c.emit-segment_len.new.out in
-    let segment : slice_range before 34 (34 + n) ≡ whole = framed_segment out c.emit-segment_len.new.out whole n c.told-out new len (omega (arith, is_n, most)) in
-    let sixty : c.emit_segment.result ≡ 60 = omega (arith, c.emit_segment.ensures.len, is_n, most) in
-    let kept : drop 60 before ≡ drop 60 out = kept_behind out c.emit-segment_len.new.out whole n 60 c.told-out new len (omega (arith, is_n, most)) (omega (arith, is_n, most)) in
-    c.emit_segment.ensures.octets
-    ∙ ap (λ (l : List ℕ). segment_frame_to h mac to l ++ drop c.emit_segment.result before) segment
-    ∙ ap (λ (k : ℕ). segment_frame_to h mac to whole ++ drop k before) sixty
-    ∙ ap (λ (l : List ℕ). segment_frame_to h mac to whole ++ l) kept
-    ∙ ap (λ (g : InterfaceView). segment_frame_to h mac to (sent_octets g.addr to head []) ++ drop 60 out) c.self.view_is
-    ∙ ap (λ (x : Head). segment_frame_to h mac to (sent_octets h.addr to x []) ++ drop 60 out) c.head.ensures.value
-    ∙ ap (λ (r : Reply). reply_frame h mac r ++ drop 60 out) (sym c.in-Reset.is)
+    framed (segment_frame_to h mac to) out c.emit-segment_len.new.out whole c.emit_segment.new.out n m c.told-out new len (omega (arith, is_n, most))
+    (omega (arith, c.emit_segment.ensures.len)) c.emit_segment.ensures.octets
+    ∙ ap (λ (g : InterfaceView). segment_frame_to h mac to (sent_octets g.addr to head []) ++ drop m out) c.self.view_is
+    ∙ ap (λ (x : Head). segment_frame_to h mac to (sent_octets h.addr to x []) ++ drop m out) c.head.ensures.value
+    ∙ ap (λ (r : Reply). reply_frame h mac r ++ drop m out) (sym c.in-Reset.is)
+
+-- a message stands behind eight octets of its head
+message_len : (m : Message) → length (spelling m) ≡ 8 + length m.payload
+message_len m = omega arith
+
+pub returns-in-Echo-clause-octets : goal.returns-in-Echo-clause-octets
+unfolding reply_frame
+returns-in-Echo-clause-octets c =
+    let n : ℕ = c.write_echo-message_len.result in
+    let m : ℕ = c.emit_message.result in
+    let out : List ℕ = c.args.out.now in
+    let h : InterfaceView = c.args.self.now in
+    let to : Addr = c.in-Echo.to in
+    let reply : Message = echo_reply c.in-Echo.identifier c.in-Echo.number c.in-Echo.«data» in
+    let is_n : n ≡ 8 + length reply.payload = c.write_echo-message_len.ensures.len in
+    let most : n ≤ 1480 = omega (arith, is_n, c.write_echo-message_len.ensures.most) in
+    let len : length (spelling reply) ≡ n = message_len reply ∙ sym is_n in
+    framed (message_frame_to h c.args.mac to) out c.write_echo-message_len.new.out (spelling reply) c.emit_message.new.out n m c.told-out c.write_echo-message_len.ensures.octets len most
+    (omega (arith, c.emit_message.ensures.len)) c.emit_message.ensures.octets
+    ∙ ap (λ (r : Reply). reply_frame h c.args.mac r ++ drop m out) (sym c.in-Echo.is)
+
+pub returns-in-Error-clause-octets : goal.returns-in-Error-clause-octets
+unfolding reply_frame
+returns-in-Error-clause-octets c =
+    let n : ℕ = c.write_error-message_len.result in
+    let m : ℕ = c.emit_message-in-Error.result in
+    let out : List ℕ = c.args.out.now in
+    let h : InterfaceView = c.args.self.now in
+    let to : Addr = c.in-Error.to in
+    let quoted : List ℕ = c.in-Error.quoted in
+    let error : Message = error_for c.in-Error.reason quoted [] in
+    let is_n : n ≡ 8 + length quoted = c.write_error-message_len.ensures.len in
+    let most : n ≤ 1480 = omega (arith, is_n, c.write_error-message_len.ensures.most) in
+    let len : length (spelling error) ≡ n = omega (arith, message_len error, length-append quoted [], is_n) in
+    framed (message_frame_to h c.args.mac to) out c.write_error-message_len.new.out (spelling error) c.emit_message-in-Error.new.out n m c.told-out c.write_error-message_len.ensures.octets len most
+    (omega (arith, c.emit_message-in-Error.ensures.len)) c.emit_message-in-Error.ensures.octets
+    ∙ ap (λ (r : Reply). reply_frame h c.args.mac r ++ drop m out) (sym c.in-Error.is)

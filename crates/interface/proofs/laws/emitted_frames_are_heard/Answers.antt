@@ -1,3 +1,5 @@
+use Rattle.interface.proofs.Heard.{echo_heard}
+use Rattle.interface.proofs.Heard.{error_heard}
 use Rattle.interface.proofs.Heard.{packet_heard}
 use Rattle.interface.proofs.Heard.{request_heard}
 use Rattle.interface.proofs.Heard.{reset_heard}
@@ -9,6 +11,12 @@ returns-clause-packet c = packet_heard
 
 pub returns-clause-reset : goal.returns-clause-reset
 returns-clause-reset c = reset_heard
+
+pub returns-clause-echo : goal.returns-clause-echo
+returns-clause-echo c = echo_heard
+
+pub returns-clause-error : goal.returns-clause-error
+returns-clause-error c = error_heard
 
 pub returns-clause-request : goal.returns-clause-request
 returns-clause-request c = request_heard
