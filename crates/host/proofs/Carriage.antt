@@ -11,6 +11,8 @@ use Rattle.tcp_state.specs.declared.emission.Due.{Due}
 use Rattle.tcp_state.specs.View.{View}
 use Rattle.tcp_state.specs.Due.{first_due, head_of, octets_of as text_of, segment_octets as connection_octets}
 use Rattle.tcp_state.proofs.GoesOut.{due-may}
+use Rattle.icmp.specs.Message.{Message, spelling}
+use Rattle.icmp.specs.Sent.{echo_reply, error_for}
 use Rattle.frames.specs.declared.drop.DropCause.{DropCause}
 use Rattle.frames.specs.declared.meaning.Meaning.{Meaning}
 use Rattle.frames.specs.declared.meaning.Meaning.TheVariants.{Tcp}
@@ -19,12 +21,12 @@ use Rattle.frames.specs.Heard.{MaySend}
 use Rattle.frames.specs.Meaning.{heard}
 use Rattle.frames.specs.Pairs.{pair_in, pair_between}
 use Rattle.interface.specs.declared.reply.Reply.{Reply}
-use Rattle.interface.specs.declared.reply.Reply.TheVariants.{Arp, Reset}
+use Rattle.interface.specs.declared.reply.Reply.TheVariants.{Arp, Reset, Echo, Error}
 use Rattle.interface.specs.declared.reply.Waiting.{Waiting}
 use Rattle.interface.specs.declared.way.Way.{Way}
 use Rattle.interface.specs.declared.way.Way.TheVariants.{To, Ask, Waits}
 use Rattle.interface.specs.InterfaceView.{InterfaceView}
-use Rattle.interface.specs.Emission.{segment_frame_to, request_frame, reply_frame, frame_by, frame_of_one}
+use Rattle.interface.specs.Emission.{segment_frame_to, message_frame_to, request_frame, reply_frame, frame_by, frame_of_one}
 use Rattle.interface.specs.Replies.{is_due, way_of}
 use Rattle.interface.specs.Sound.{IsSoundReply}
 use Rattle.interface.specs.Ways.{way}
@@ -44,7 +46,7 @@ use Rattle.host.specs.Emission.{Emission, Replies, Sends, Asks, Nothing, emissio
 use Rattle.host.specs.HostView.{HostView}
 use Rattle.host.specs.Sound.{IsSoundHost}
 use Rattle.host.proofs.DueSegments.{due-can, due-fits}
-use Rattle.host.proofs.Hearing.{heard-nothing, heard-reply, heard-request, heard-segment, pair-nothing, pair-reply, pair-request, pair-segment, way-mac}
+use Rattle.host.proofs.Hearing.{CanGo, echo-can, echo-frame, error-can, error-frame, heard-nothing, heard-reply, heard-request, heard-segment, pair-message, pair-nothing, pair-reply, pair-request, pair-segment, segment-message, way-mac}
 
 -- octets in which nobody hears a segment
 record GoesNone (octets : List ℕ) : Type 0 where
@@ -52,7 +54,7 @@ record GoesNone (octets : List ℕ) : Type 0 where
   pub pairless : pair_in octets ≡ None
 
 -- octets that are the frame of this segment
-record Goes (i : InterfaceView) (octets : List ℕ) (c : Carried) : Type 0 where
+pub record Goes (i : InterfaceView) (octets : List ℕ) (c : Carried) : Type 0 where
   pub head : Head
   pub text : List ℕ
   pub is : octets ≡ segment_frame_to i c.mac c.to (sent_octets i.addr c.to head text)
@@ -83,6 +85,11 @@ nothing-goes = record { unheard = heard-nothing; pairless = pair-nothing }
 request-goes : (i : InterfaceView) (hop : Addr) → length i.mac.0 ≡ 6 → GoesNone (request_frame i hop)
 request-goes i hop own = record { unheard = λ mac ours r. heard-request i hop mac ours r own; pairless = pair-request i hop own }
 
+message-goes : (i : InterfaceView) (theirs : Mac) (to : Addr) (m : Message) (octets : List ℕ) → CanGo i theirs to m → octets ≡ message_frame_to i theirs to (spelling m) → GoesNone octets
+message-goes i theirs to m octets can is =
+    let goes : GoesNone (message_frame_to i theirs to (spelling m)) = record { unheard = λ mac ours r. segment-message i theirs to m mac ours r can; pairless = pair-message i theirs to m can } in
+    subst GoesNone (sym is) goes
+
 reset-frame : (i : InterfaceView) (mac : Mac) (to : Addr) (head : Head) → reply_frame i mac (Reset to head) ≡ segment_frame_to i mac to (sent_octets i.addr to head [])
 unfolding reply_frame
 reset-frame i mac to head = refl
@@ -110,8 +117,20 @@ reply-goes h moment sound (Reset to head) solid (To theirs) is = record {
 }
 reply-goes h moment sound (Reset to head) solid (Ask hop) is = request-goes h.interface hop sound.interface.mac
 reply-goes h moment sound (Reset to head) solid Waits is = nothing-goes
+reply-goes h moment sound (Echo to identifier number octets) solid (To theirs) is =
+    let whole : length theirs.0 ≡ 6 = way-mac h.interface moment to theirs sound.interface is in
+    message-goes h.interface theirs to (echo_reply identifier number octets) (reply_frame h.interface theirs (Echo to identifier number octets))
+    (echo-can h.interface theirs to identifier number octets sound.interface solid whole) (echo-frame h.interface theirs to identifier number octets)
+reply-goes h moment sound (Echo to identifier number octets) solid (Ask hop) is = request-goes h.interface hop sound.interface.mac
+reply-goes h moment sound (Echo to identifier number octets) solid Waits is = nothing-goes
+reply-goes h moment sound (Error to reason quoted) solid (To theirs) is =
+    let whole : length theirs.0 ≡ 6 = way-mac h.interface moment to theirs sound.interface is in
+    message-goes h.interface theirs to (error_for reason quoted []) (reply_frame h.interface theirs (Error to reason quoted))
+    (error-can h.interface theirs to reason quoted sound.interface solid whole) (error-frame h.interface theirs to reason quoted)
+reply-goes h moment sound (Error to reason quoted) solid (Ask hop) is = request-goes h.interface hop sound.interface.mac
+reply-goes h moment sound (Error to reason quoted) solid Waits is = nothing-goes
 
-at-all : {X : Type 0} (P : X → Type 0) (xs : List X) (k : ℕ) (x : X) → AllByRecursion P xs → slice_get xs k ≡ Some x → P x
+pub at-all : {X : Type 0} (P : X → Type 0) (xs : List X) (k : ℕ) (x : X) → AllByRecursion P xs → slice_get xs k ≡ Some x → P x
 at-all P [] k x all e = cc
 at-all P (y ∷ ys) zero x all e = let same : y ≡ x = cc in subst P same all.0
 at-all P (y ∷ ys) (suc k) x all e = at-all P ys k x all.1 e
@@ -178,9 +197,14 @@ found-octets own goes e found = rw found
 pub first-octets : (c : View) (l : Option SocketId) (due : Due) → first_due c ≡ Some due → due_octets (Connected c l) ≡ connection_octets c due
 first-octets c l due first = rw first
 
-sends-go : (h : HostView) (moment : Moment) (mac : Mac) (to : Addr) → IsSoundHost h → IsOrdered h.sockets → emission h moment ≡ Sends mac to
-    → Carry h.interface (octets_of h moment (Sends mac to)) (carried_by h moment (Sends mac to))
-sends-go h moment mac to sound ordered is =
+-- it is carried in that frame
+pub record IsSending (h : HostView) (moment : Moment) (mac : Mac) (to : Addr) : Type 0 where
+  pub own : Carried
+  pub carried_so : carried_by h moment (Sends mac to) ≡ Some own
+  pub goes : Goes h.interface (octets_of h moment (Sends mac to)) own
+
+pub is-sending : (h : HostView) (moment : Moment) (mac : Mac) (to : Addr) → IsSoundHost h → IsOrdered h.sockets → emission h moment ≡ Sends mac to → IsSending h moment mac to
+is-sending h moment mac to sound ordered is =
     let k = sending h moment mac to is in
     let c : View = k.c in
     let goes : Entry → Bool = goes_out_from h moment in
@@ -211,7 +235,13 @@ sends-go h moment mac to sound ordered is =
       whole = way-mac h.interface moment to mac sound.interface k.leads;
       fits = due-fits c k.due may;
     } in
-    subst (Carry h.interface (octets_of h moment (Sends mac to))) (sym carries) goes_so
+    record { own = own; carried_so = carries; goes = goes_so }
+
+sends-go : (h : HostView) (moment : Moment) (mac : Mac) (to : Addr) → IsSoundHost h → IsOrdered h.sockets → emission h moment ≡ Sends mac to
+    → Carry h.interface (octets_of h moment (Sends mac to)) (carried_by h moment (Sends mac to))
+sends-go h moment mac to sound ordered is =
+    let k = is-sending h moment mac to sound ordered is in
+    subst (Carry h.interface (octets_of h moment (Sends mac to))) (sym k.carried_so) k.goes
 
 -- Whatever goes out.
 carries : (h : HostView) (moment : Moment) → IsSoundHost h → IsOrdered h.sockets → (x : Emission) → emission h moment ≡ x → Carry h.interface (octets_of h moment x) (carried_by h moment x)

@@ -1,17 +1,19 @@
 -- A frame that is dropped for another cause than lack of room changes nothing.
-use Rattle.std.proofs.Common.{◌≡◌, ◌≢◌, ℕ, Bool, true, false, cond, List, Result, Ok, Err, refl, sym, ◌∙◌, ap}
+use Rattle.std.proofs.Common.{◌≡◌, ◌≢◌, ℕ, List, Result, Ok, Err}
 use Rattle.ipv4.specs.declared.addr.Addr.{Addr}
 use Rattle.clock.specs.declared.moment.Moment.{Moment}
 use Rattle.frames.specs.declared.drop.DropCause.{DropCause}
 use Rattle.frames.specs.declared.drop.DropCause.TheVariants.{NoRoom}
+use Rattle.frames.specs.declared.meaning.Control.{Control}
 use Rattle.frames.specs.declared.meaning.Meaning.{Meaning}
-use Rattle.frames.specs.declared.meaning.Meaning.TheVariants.{Arp, Tcp, Other}
+use Rattle.frames.specs.declared.meaning.Meaning.TheVariants.{Arp, Tcp, Icmp, Other, UdpFragment}
 use Rattle.interface.specs.declared.reply.QueueFault.{QueueFault}
 use Rattle.interface.specs.Replies.{heard_answer, answer_result}
 use Rattle.sockets.specs.Arrival.{Arrival, Becomes, Opens, NoPlace, Answers}
 use Rattle.sockets.specs.SocketsView.{later_moment}
-use Rattle.host.specs.Arrival.{IsDelivered, MeetsHeard, MeetsSegment, heard_by, queue_answer, segment_arrival}
+use Rattle.host.specs.Arrival.{IsDelivered, MeetsHeard, MeetsMessage, MeetsSegment, heard_by, queue_answer, segment_arrival}
 use Rattle.host.specs.HostView.{HostView}
+use Rattle.host.specs.Messages.{Told, Asks, Refuses, Nothing, told_by}
 
 -- what the queue refuses has no room
 of_queue : (cause : DropCause) (told : Result (Unit {0}) QueueFault) → Err cause ≡ queue_answer told → cause ≡ NoRoom
@@ -24,10 +26,17 @@ of_segment (Opens next) h moment source cause new is other = is.1
 of_segment NoPlace h moment source cause new is other = is.1
 of_segment (Answers head) h moment source cause new is other = absurd (other (of_queue cause (answer_result h.interface source) is.0))
 
+of_message : (told : Told) (h : HostView) (moment : Moment) (c : Control) (cause : DropCause) (new : HostView) → MeetsMessage told h moment c (Err cause) new → cause ≢ NoRoom → new ≡ h
+of_message Asks h moment c cause new is other = absurd (other (of_queue cause (answer_result h.interface c.source) is.0))
+of_message (Refuses quote) h moment c cause new is other = let no = is.0 in cc
+of_message Nothing h moment c cause new is other = is.1
+
 of_meaning : (m : Result Meaning DropCause) (h : HostView) (moment : Moment) (isn : ℕ) (cause : DropCause) (new : HostView) → MeetsHeard m h moment isn (Err cause) new → cause ≢ NoRoom → new ≡ h
 of_meaning (Ok (Arp packet)) h moment isn cause new is other = absurd (other (of_queue cause (heard_answer h.interface packet) is.0))
 of_meaning (Ok (Tcp r)) h moment isn cause new is other = of_segment (segment_arrival h moment isn r.source r.segment) h moment r.source cause new is other
-of_meaning (Ok (Other d)) h moment isn cause new is other = is.1
+of_meaning (Ok (Icmp c)) h moment isn cause new is other = of_message (told_by c.message) h moment c cause new is other
+of_meaning (Ok (Other d)) h moment isn cause new is other = absurd (other (of_queue cause (answer_result h.interface d.source) is.0))
+of_meaning (Ok (UdpFragment d)) h moment isn cause new is other = is.1
 of_meaning (Err first) h moment isn cause new is other = is.1
 
 pub unchanged : (h : HostView) (now : Moment) (isn : ℕ) (octets : List ℕ) (cause : DropCause) (new : HostView) → IsDelivered h now isn octets (Err cause) new → cause ≢ NoRoom → new ≡ h

@@ -1,11 +1,10 @@
 -- What goes out is for the first place for which a frame can.
-use Rattle.std.proofs.Common.{◌≡◌, ℕ, ◌<◌, ◌&&◌, Bool, true, false, cond, List, [], ◌∷◌, ◌++◌, map, filter, length, Option, Some, None, is_some, option_map, option_and_then, refl, sym, ◌∙◌, ap, subst}
-use Rattle.std.specs.List.{find, position, position_or_len, slice_get}
+use Rattle.std.proofs.Common.{◌≡◌, ℕ, ◌&&◌, Bool, true, false, cond, List, [], ◌∷◌, map, filter, Option, Some, None, is_some, option_map, option_and_then, refl, sym, ◌∙◌, ap, subst}
+use Rattle.std.specs.List.{find, position, slice_get}
 use Rattle.std.specs.Option.{option_or}
 use Rattle.std.proofs.lemmas.Bool.{and_parts}
 use Rattle.std.proofs.lemmas.List.Folds.{find_at, find-append}
 use Rattle.std.proofs.lemmas.Option.{cond_some}
-use Rattle.ipv4.specs.declared.addr.Addr.{Addr}
 use Rattle.ipv4.specs.declared.addr.Endpoint.{Endpoint}
 use Rattle.clock.specs.declared.moment.Moment.{Moment}
 use Rattle.tcp_state.specs.declared.emission.Due.{Due}
@@ -23,7 +22,7 @@ use Rattle.sockets.specs.Emission.{segment_len}
 use Rattle.sockets.specs.SocketsView.{later_moment}
 use Rattle.sockets.proofs.Firsts.{find-position_none, found_by_place}
 use Rattle.host.specs.HostView.{HostView}
-use Rattle.host.specs.Emission.{Emission, Replies, Sends, Asks, Nothing, emission, emission_at, emission_by, emission_from, emission_len, emission_to, framed_len, goes_out_from, len_of, way_to}
+use Rattle.host.specs.Emission.{Replies, Nothing, emission, emission_at, emission_by, emission_from, emission_len, emission_to, framed_len, goes_out_from, len_of, way_to}
 use Rattle.host.specs.Places.{Place, ReplyOf, SegmentOf, can_go_out, places}
 
 -- The first of lists that were made of others.

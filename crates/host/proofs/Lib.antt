@@ -7,3 +7,6 @@ pub mod Dropped
 pub mod FirstPlace
 pub mod Waiting
 pub mod HeldBack
+pub mod Causes
+pub mod Messages
+pub mod Reporting

@@ -1,24 +1,20 @@
 -- The deadline, and that a tick before it changes nothing where no neighbour is forgotten.
-use Rattle.std.proofs.Common.{◌≡◌, ℕ, ◌<◌, ◌≤◌, ◌&&◌, ◌||◌, not, nat_lt, nat_le, Bool, true, false, cond, List, [], ◌∷◌, filter, fold, length, Option, Some, None, is_some, option_map, refl, sym, ◌∙◌, ap, subst, arith}
+use Rattle.std.proofs.Common.{◌≡◌, ◌≤◌, ◌&&◌, ◌||◌, not, nat_lt, Bool, true, false, cond, List, [], ◌∷◌, filter, fold, length, Option, Some, None, is_some, option_map, refl, sym, ◌∙◌, ap, arith}
 use Rattle.std.specs.List.{find, list_any, AllByRecursion}
 use Rattle.std.proofs.lemmas.Bool.Decides.{nat_tests}
-use Rattle.ether.specs.declared.mac.Mac.{Mac}
 use Rattle.ipv4.specs.declared.addr.Addr.{Addr}
-use Rattle.ipv4.specs.declared.addr.Endpoint.{Endpoint}
 use Rattle.clock.specs.declared.moment.Moment.{Moment}
 use Rattle.clock.specs.Moments.{after, has_come, sooner}
 use Rattle.clock.proofs.Comings.{sooner-has_come}
 use Rattle.arp.specs.declared.entry.Neighbour.{Neighbour}
-use Rattle.arp.specs.Cache.{Cache, after_age, is_live_pair, is_pair_of, look}
+use Rattle.arp.specs.Cache.{Cache, after_age, is_live_pair, is_pair_of}
 use Rattle.arp.proofs.History.{length-filter-le}
-use Rattle.tcp_state.specs.View.{View}
 use Rattle.interface.specs.declared.reply.Waiting.{Waiting}
 use Rattle.interface.specs.InterfaceView.{InterfaceView}
 use Rattle.interface.specs.Routing.{next_hop}
 use Rattle.interface.specs.Ways.{knows_hop, mac_of}
 use Rattle.interface.specs.Timing.{asked_until, deadline_for, deadline_of, end_of, is_over, is_unknown, sought, stays, after_tick as interface_after_tick, least_deadline as reply_deadline}
 use Rattle.sockets.specs.declared.entry.Entry.{Entry}
-use Rattle.sockets.specs.declared.entry.SocketId.{SocketId}
 use Rattle.sockets.specs.declared.role.Role.{Role}
 use Rattle.sockets.specs.declared.role.Role.TheVariants.{Idle, Listener, Connected}
 use Rattle.sockets.specs.declared.role.TheConstants.{RESET_WAIT}

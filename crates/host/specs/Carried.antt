@@ -1,5 +1,5 @@
 -- The segment that what goes out carries (RFC 9293 section 3.1). `laws::layers_compose` says that it is the one which is heard.
-use Rattle.std.specs.Prelude.{ℕ, [], find, slice_get, Option, Some, None, option_map, option_and_then}
+use Rattle.std.specs.Prelude.{[], find, slice_get, Option, Some, None, option_map, option_and_then}
 use Rattle.ether.specs.declared.mac.Mac.{Mac}
 use Rattle.ipv4.specs.declared.addr.Addr.{Addr}
 use Rattle.clock.specs.declared.moment.Moment.{Moment}
@@ -7,7 +7,7 @@ use Rattle.tcp_segment.specs.Segment.{Segment}
 use Rattle.tcp_segment.specs.Sent.{sent_segment}
 use Rattle.tcp_state.specs.Due.{first_due, head_of, octets_of}
 use Rattle.interface.specs.declared.reply.Reply.{Reply}
-use Rattle.interface.specs.declared.reply.Reply.TheVariants.{Arp, Reset}
+use Rattle.interface.specs.declared.reply.Reply.TheVariants.{Arp, Reset, Echo, Error}
 use Rattle.interface.specs.declared.reply.Waiting.{Waiting}
 use Rattle.interface.specs.declared.way.Way.{Way}
 use Rattle.interface.specs.declared.way.Way.TheVariants.{To, Ask, Waits}
@@ -24,12 +24,14 @@ pub record Carried : Type 0 where
   pub to : Addr
   pub segment : Segment
 
--- a reset that goes out itself; an ARP packet carries none
+-- a reset that goes out itself; an ARP packet and a control message carry none
 abbrev pub carried_reply : Reply → Way → Option Carried
 carried_reply (Reset to head) (To mac) = Some (record { mac = mac; to = to; segment = sent_segment head [] })
 carried_reply (Reset to head) (Ask hop) = None
 carried_reply (Reset to head) Waits = None
 carried_reply (Arp packet) way = None
+carried_reply (Echo to identifier number octets) way = None
+carried_reply (Error to reason quoted) way = None
 
 abbrev pub carried_for : HostView → Moment → Option Waiting → Option Carried
 carried_for h moment None = None

@@ -9,7 +9,7 @@ use Rattle.interface.specs.declared.way.Way.{Way}
 use Rattle.interface.specs.declared.way.Way.TheVariants.{To, Ask, Waits}
 use Rattle.interface.specs.Ways.{way}
 use Rattle.interface.specs.Replies.{is_due, goes_out}
-use Rattle.interface.specs.Emission.{segment_frame_to, request_frame, asked, way_at, len_by, frame_at, after_emission as after_reply}
+use Rattle.interface.specs.Emission.{segment_frame_to, request_frame, asked, len_at, frame_at, after_emission as after_reply}
 use Rattle.sockets.specs.declared.entry.Entry.{Entry}
 use Rattle.sockets.specs.Entries.{due_peer, sends}
 use Rattle.sockets.specs.SocketsView.{later_moment}
@@ -67,7 +67,7 @@ framed_len segment = max (34 + segment) 60
 
 -- the length of what goes out, its octets, and what is left of the host
 abbrev pub len_of : HostView → Moment → Emission → Option ℕ
-len_of h moment (Replies place) = Some (len_by (way_at h.interface moment place))
+len_of h moment (Replies place) = Some (len_at h.interface moment place)
 len_of h moment (Sends mac to) = option_map framed_len (segment_len h.sockets (goes_out_from h moment))
 len_of h moment (Asks hop) = Some 60
 len_of h moment Nothing = None

@@ -1,8 +1,10 @@
 pub mod ConfigView
 pub mod HostView
+pub mod Messages
 pub mod Arrival
 pub mod Emission
 pub mod Ticks
 pub mod Sound
 pub mod Places
 pub mod Carried
+pub mod Runs

@@ -1,31 +1,35 @@
 //! The frames that come in.
 
-ghost use Rattle.std.specs.Prelude.{◌≡◌, ◌&&◌, not, is_some, Ok};
+ghost use Rattle.std.specs.Prelude.{◌≡◌, ◌≤◌, ◌&&◌, not, length, is_some, Ok};
 ghost use Rattle.frames.specs.declared.meaning.Meaning.TheVariants.{Tcp};
 ghost use Rattle.interface.specs.Ways.{is_routed};
 ghost use Rattle.sockets.specs.Arrival.{pair_opened};
 ghost use Rattle.host.specs.Arrival.{queue_answer};
+ghost use Rattle.host.specs.Messages.{is_hard, refused_quote, told_by};
 
 use crate::host::Host;
 use clock::Moment;
-use frames::{DropCause, Meaning, Received, read};
+use frames::{Control, DropCause, Meaning, Received, read};
+use icmp::{IcmpView, Quote, Reason};
 use interface::QueueFault;
-use ipv4::Pair;
+use ipv4::{Ipv4View, Pair, Protocol};
 use sockets::Taken;
 use tcp_segment::Seq;
 
 impl Host {
-    ghost use Rattle.host.specs.Arrival.{IsDelivered, MeetsHeard, foreseen, foreseen_of};
+    ghost use Rattle.host.specs.Arrival.{IsDelivered, MeetsDatagram, MeetsHeard, MeetsMessage, foreseen, foreseen_of};
 
     /// Takes a frame, at the later of `now` and the kept moment. `isn` is used only where it opens a connection.
     ///
     /// The first cause to drop it from the lowest layer up, and then nothing has changed: Short under 14 octets or over 1,514; OtherMac
     /// where it isn't for us, and a broadcast is for us with ARP alone; OtherType with neither IPv4 nor ARP; IpHeader, IpSum where the header
     /// of the datagram isn't well; OtherAddress where the datagram is for another host, or it or the ARP packet comes from our own
-    /// address or from no single host; Fragment for one of any protocol but UDP; UpperHeader, UpperSum where the ARP packet or
-    /// the segment isn't well. NoRoom where it would open a connection and there is no place in the backlog or the table, no id, no memory or no
-    /// route to its source, where it is to be answered by a reset and 16 control replies wait, and where it asks for our
-    /// MAC and 16 wait: what that ARP packet says is learnt all the same.
+    /// address or from no single host; Fragment for one of any protocol but UDP; UpperHeader, UpperSum where the ARP packet, the
+    /// segment or the message isn't well. NoRoom where it would open a connection and there is no place in the backlog or the table, no id, no memory
+    /// or no route to its source, where it is to be answered by a reset, an echo or an error and 16 control replies wait, and where it asks for
+    /// our MAC and 16 wait: what that ARP packet says is learnt all the same.
+    ///
+    /// What answers a datagram isn't sent where no route leads to its source, and the frame is taken then.
     pub fn deliver(&mut self, now: Moment, isn: Seq, frame: &[u8]) -> Result<(), DropCause>
         ensures { IsDelivered self.old now isn.0 frame.now result self.new }
     {
@@ -33,7 +37,9 @@ impl Host {
         match read(self.interface.mac(), self.interface.addr(), frame)? {
             Meaning::Arp(packet) => room(self.interface.hear(now, &packet)),
             Meaning::Tcp(received) => self.take(now, isn, &received),
-            Meaning::Other(_) => Ok(()),
+            Meaning::Icmp(control) => self.hear(now, &control),
+            Meaning::Other(datagram) => self.report(now, &datagram),
+            Meaning::UdpFragment(_) => Ok(()),
         }
     }
 
@@ -50,6 +56,42 @@ impl Host {
             Taken::NoPlace => Err(DropCause::NoRoom),
             Taken::Answer(head) => room(self.interface.answer(now, source, head)),
         }
+    }
+
+    /// Takes a control message for us, at this moment: an echo request is answered (RFC 1122 section 3.2.2.6), and a hard error that quotes a
+    /// segment of ours is told to the connection of its two ends (section 4.2.3.9). All others change nothing.
+    fn hear(&mut self, now: Moment, control: &Control<'_>) -> Result<(), DropCause>
+        requires { length control.now.message.payload ≤ 1472 }
+        ensures { MeetsMessage (told_by control.now.message) self.old now control.now result self.new }
+    {
+        let message = &control.message;
+        if message.is_echo_request() {
+            let (identifier, number) = (message.identifier(), message.number());
+            return room(
+                self.interface
+                    .answer_echo(now, control.source, identifier, number, message.payload()),
+            );
+        }
+        if let Some(quote) = refused_quote(message) {
+            self.sockets
+                .unreachable(quote.source, quote.destination, Seq(quote.number));
+        }
+        Ok(())
+    }
+
+    /// Answers a datagram whose protocol nothing here takes by the error that says so, at this moment (RFC 1122 section 3.2.2.1).
+    fn report(&mut self, now: Moment, datagram: &Ipv4View<'_>) -> Result<(), DropCause>
+        ensures { MeetsDatagram self.old now datagram.now result self.new }
+    {
+        room(
+            self.interface.report(
+                now,
+                datagram.source(),
+                Reason::ProtocolUnreachable,
+                datagram.header(),
+                datagram.payload(),
+            ),
+        )
     }
 
     /// The pair that delivering this frame would open if memory were there (RFC 9293 section 3.10.7.2); None where it would open none.
@@ -83,6 +125,29 @@ impl Host {
                 .would_open(received.source, &received.segment)
                 .is_some()
     }
+}
+
+/// What a hard error quotes of a segment; none where the message is another one, or quotes something else.
+fn refused_quote(message: &IcmpView<'_>) -> Option<Quote>
+    ensures { result ≡ refused_quote message.now }
+{
+    if is_hard(message) {
+        message
+            .quote()
+            .filter(|quote| quote.protocol == Protocol::TCP)
+    } else {
+        None
+    }
+}
+
+/// Whether a message is an error that won't pass by itself (RFC 1122 section 4.2.3.9).
+fn is_hard(message: &IcmpView<'_>) -> bool
+    ensures { result ≡ is_hard message.now }
+{
+    matches!(
+        message.reason(),
+        Some(Reason::ProtocolUnreachable | Reason::PortUnreachable | Reason::FragmentationNeeded)
+    )
 }
 
 /// A full queue of replies by its name as a cause.

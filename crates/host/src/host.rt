@@ -1,16 +1,16 @@
 //! The host itself: its two sides, and the questions that change nothing.
 
-ghost use Rattle.std.specs.Prelude.{◌≡◌};
+ghost use Rattle.std.specs.Prelude.{◌≡◌, IfOk, IfErr};
 
 use crate::config::Config;
 use interface::Interface;
 use ipv4::Pair;
-use sockets::{SocketId, Sockets};
+use sockets::{Refusal, SocketId, Sockets};
 use std::alloc::Global;
 use std::marker::Model;
 
-/// A host with one interface and one address. Its frame side is the interface, and its sockets are a table over the same address. Sockets, and the
-/// connections that frames open, take memory; nothing else does.
+/// A host with one interface and one address. Its frame side is the interface, and its sockets are a table over the same address. The making of
+/// a host takes memory, for the control replies that will wait, and so do sockets and the connections that frames open; nothing else does.
 #[derive(Drop)]
 pub struct Host {
     pub(crate) interface: Interface,
@@ -35,14 +35,18 @@ impl Host {
     ghost use Rattle.sockets.specs.SocketsView.{holder_id};
     ghost use Rattle.sockets.specs.Pairs.{socket_pair};
 
-    /// A host with no sockets, that has heard nothing, and whose kept moment is 0. It takes no memory.
-    pub fn new(alloc: Global, config: Config) -> Host
-        ensures { result ≡ new_host config }
+    /// A host with no sockets, that has heard nothing, and whose kept moment is 0. ENOMEM.
+    pub fn new(alloc: Global, config: Config) -> Result<Host, Refusal>
+        ensures host { IfOk result (λ host. host ≡ new_host config) }
+        ensures refusal { IfErr result (λ refusal. refusal ≡ Refusal.ENOMEM) }
     {
         let (mac, addr, routes) = config.into_parts();
-        Host {
-            interface: Interface::new(mac, addr, routes),
-            sockets: Sockets::new(alloc, addr),
+        match Interface::new(alloc, mac, addr, routes) {
+            Ok(interface) => Ok(Host {
+                interface,
+                sockets: Sockets::new(alloc, addr),
+            }),
+            Err(_) => Err(Refusal::ENOMEM),
         }
     }
 

@@ -1,30 +1,44 @@
 //! Laws of the definitions that the contracts of this crate cite: each is the contract of a function that does nothing.
 
-ghost use Rattle.std.specs.Prelude.{◌≡◌, ◌≢◌, ℕ, ◌||◌, false, List, find, slice_get, Option, Some, None, option_map, Result, Ok, Err};
+ghost use Rattle.std.specs.Prelude.{◌≡◌, ◌≢◌, ℕ, ◌||◌, false, IsTrue, List, [], ◌∷◌, ◌++◌, find, slice_get, Option, Some, None, option_map, Result, Ok, Err};
 ghost use Rattle.std.specs.List.{list_any};
 ghost use Rattle.ether.specs.declared.mac.Mac.{Mac};
+ghost use Rattle.ether.specs.Frame.{Frame};
+ghost use Rattle.ether.specs.Reading.{frame_in};
 ghost use Rattle.ipv4.specs.declared.addr.Addr.{Addr};
+ghost use Rattle.ipv4.specs.Addresses.{IsSingleHost};
+ghost use Rattle.ipv4.specs.Datagram.{Datagram, header_octets};
 ghost use Rattle.clock.specs.declared.moment.Moment.{Moment};
 ghost use Rattle.clock.specs.Moments.{has_come};
 ghost use Rattle.arp.specs.Cache.{after_age};
+ghost use Rattle.icmp.specs.declared.error.Reason.TheVariants.{ProtocolUnreachable};
+ghost use Rattle.icmp.specs.MayAnswer.{MayAnswer};
+ghost use Rattle.icmp.specs.Message.{Message, IsEchoRequest};
+ghost use Rattle.icmp.specs.Sent.{RepliesTo, error_for};
 ghost use Rattle.frames.specs.declared.drop.DropCause.{DropCause};
 ghost use Rattle.frames.specs.declared.drop.DropCause.TheVariants.{NoRoom};
+ghost use Rattle.frames.specs.declared.meaning.Control.{Control};
 ghost use Rattle.frames.specs.declared.meaning.Received.{Received};
-ghost use Rattle.frames.specs.declared.meaning.Meaning.TheVariants.{Tcp};
-ghost use Rattle.frames.specs.Meaning.{heard};
+ghost use Rattle.frames.specs.declared.meaning.Meaning.TheVariants.{Tcp, Icmp, Other};
+ghost use Rattle.frames.specs.Meaning.{heard, broadcast};
 ghost use Rattle.frames.specs.Pairs.{pair_in, pair_between};
+ghost use Rattle.interface.specs.declared.reply.Reply.TheVariants.{Echo};
 ghost use Rattle.interface.specs.declared.reply.Waiting.{Waiting};
+ghost use Rattle.interface.specs.Ways.{is_routed};
 ghost use Rattle.interface.specs.Timing.{least_deadline as reply_deadline};
 ghost use Rattle.sockets.specs.declared.entry.Entry.{Entry};
 ghost use Rattle.sockets.specs.Entries.{due_peer, sends};
 ghost use Rattle.sockets.specs.Order.{IsOrdered};
 ghost use Rattle.sockets.specs.SocketsView.{later_moment};
 ghost use Rattle.sockets.specs.Ticks.{least_deadline as timer_deadline};
+ghost use Rattle.host.specs.ConfigView.{ConfigView, IsOfOne};
 ghost use Rattle.host.specs.HostView.{HostView, with_interface, with_sockets};
-ghost use Rattle.host.specs.Arrival.{IsDelivered, MeetsSegment, segment_arrival};
+ghost use Rattle.host.specs.Arrival.{IsDelivered, MeetsSegment, heard_by, segment_arrival};
 ghost use Rattle.host.specs.Carried.{Carried, carried};
 ghost use Rattle.host.specs.Emission.{Replies, Sends, Nothing, emission, emission_to, emission_len, after_emission, emission_octets, goes_out_from};
+ghost use Rattle.host.specs.Messages.{errors_of};
 ghost use Rattle.host.specs.Places.{ReplyOf, SegmentOf, places, can_go_out};
+ghost use Rattle.host.specs.Runs.{Event, Runs, WasHeard};
 ghost use Rattle.host.specs.Sound.{IsSoundHost};
 ghost use Rattle.host.specs.Ticks.{after_tick, least_deadline, hop_deadline};
 
@@ -85,4 +99,37 @@ pub fn deadline_is_the_least()
 pub fn ticks_wait()
     ensures { (h : HostView) (now : Moment) → let moment = later_moment h.sockets now in has_come (least_deadline h) moment ≡ false → after_age moment h.interface.cache ≡ h.interface.cache
         → after_tick h now ≡ with_sockets h (record h.sockets { kept = moment }) }
+{}
+
+/// What is answered by an error may be (RFC 1122 section 3.2.2). A datagram that nothing takes carries no control message, is for one host, is no
+/// fragment and comes from one host; and no frame for all of the link brings one. Nothing else that is heard adds an error to the control
+/// replies: no segment does, and no message, which may be an error itself.
+pub fn answered_datagrams_may_be()
+    ensures may { (mac : Mac) (ours : Addr) (octets : List ℕ) (d : Datagram) → IsSingleHost ours → heard mac ours octets ≡ Ok (Other d) → MayAnswer d false }
+    ensures link { (mac : Mac) (ours : Addr) (octets : List ℕ) (d : Datagram) (f : Frame) → IsOfOne mac → heard mac ours octets ≡ Ok (Other d)
+        → frame_in octets ≡ Some f → f.destination ≢ broadcast }
+    ensures others { (h : HostView) (now : Moment) (isn : ℕ) (octets : List ℕ) (answer : Result (Unit {0}) DropCause) (new : HostView)
+        → ((d : Datagram) → heard_by h octets ≢ Ok (Other d)) → IsDelivered h now isn octets answer new → errors_of new ≡ errors_of h }
+{}
+
+/// An echo reply has its request, over every list of events of a host (RFC 792). Whoever hears one in what the host gives out is at an address
+/// from which an echo request was delivered to the host, with the very identifier, number and data of the reply. And a request that is taken, to
+/// whose source a route leads, has its reply behind all others that wait.
+pub fn echo_replies_have_requests()
+    ensures request { (c : ConfigView) (events : List Event) (h : HostView) (now : Moment) (mac : Mac) (ours : Addr) (reply : Control)
+        → Runs c events h → IsSoundHost h → IsOrdered h.sockets → heard mac ours (emission_octets h now) ≡ Ok (Icmp reply) → reply.message.kind ≡ 0
+        → (request : Message) × WasHeard c events (Icmp (record { source = ours; message = request })) × IsEchoRequest request × RepliesTo reply.message request }
+    ensures reply { (h : HostView) (now : Moment) (isn : ℕ) (octets : List ℕ) (c : Control) (new : HostView) → heard_by h octets ≡ Ok (Icmp c)
+        → IsEchoRequest c.message → IsTrue (is_routed h.interface c.source) → IsDelivered h now isn octets (Ok tt) new
+        → let reply = Echo c.source c.message.identifier c.message.number c.message.payload in
+        new.interface.replies ≡ h.interface.replies ++ record { since = later_moment h.sockets now; reply = reply } ∷ [] }
+{}
+
+/// An error has its cause, over every list of events of a host (RFC 792). Whoever hears another control message than an echo reply in what the
+/// host gives out is at an address from which a datagram was delivered to the host that nothing there takes, and the message is the error
+/// about that datagram.
+pub fn errors_have_causes()
+    ensures { (c : ConfigView) (events : List Event) (h : HostView) (now : Moment) (mac : Mac) (ours : Addr) (error : Control)
+        → Runs c events h → IsSoundHost h → IsOrdered h.sockets → heard mac ours (emission_octets h now) ≡ Ok (Icmp error) → error.message.kind ≢ 0
+        → (d : Datagram) × WasHeard c events (Other d) × (d.source ≡ ours) × (error.message ≡ error_for ProtocolUnreachable (header_octets d) d.payload) }
 {}

@@ -1,10 +1,10 @@
 -- A segment is behind the place of the two heads before they are written.
-use Rattle.std.proofs.Common.{◌≡◌, ◌+◌, ◌++◌, ◌≤◌, ℕ, Bool, List, Some, length, drop, slice_range, arith, sym, subst, ◌∙◌, ap}
+use Rattle.std.proofs.Common.{◌≡◌, ◌+◌, ◌++◌, ◌≤◌, ℕ, Bool, List, Some, length, drop, arith, sym, subst, ◌∙◌, ap}
 use Rattle.std.specs.List.{position}
 use Rattle.ether.specs.declared.mac.Mac.{Mac}
 use Rattle.ipv4.specs.declared.addr.Addr.{Addr}
 use Rattle.interface.specs.Emission.{segment_frame_to}
-use Rattle.interface.proofs.Framed.{framed_segment, kept_behind}
+use Rattle.interface.proofs.Framed.{framed}
 use Rattle.sockets.specs.declared.entry.Entry.{Entry}
 use Rattle.sockets.specs.SocketsView.{SocketsView}
 use Rattle.sockets.specs.Emission.{segment_octets, segment_len}
@@ -12,7 +12,7 @@ use Rattle.sockets.specs.Entries.{sends, IsDueAt}
 use Rattle.host.specs.HostView.{HostView}
 use Rattle.host.specs.Emission.{goes_out_from}
 use Rattle.host.proofs.Emitting.{due_at, segment_front_is, segment_len_is}
-use borrow.Rule.Slice.PartMut.{mid_of, put_mid}
+use borrow.Rule.Slice.PartMut.{mid_of}
 use Rattle.host.proofs.host.Host.emit_segment.Goals as goal
 
 pub emit_at-segment_len-requires-clause-due : goal.emit_at-segment_len-requires-clause-due
@@ -37,12 +37,7 @@ returns-clause-frame c =
     let new : c.emit_at-segment_len.new.out ≡ whole ++ drop n (mid_of 34 1480 out) =
     c.emit_at-segment_len.ensures.frame goes first ∙ segment_front_is table goes (mid_of 34 1480 out) n is_n in
     let len : length whole ≡ n = segment_len_is table goes n is_n in
-    let before : List ℕ = put_mid 34 1480 out c.emit_at-segment_len.new.out in
-    let segment : slice_range before 34 (34 + n) ≡ whole = framed_segment out c.emit_at-segment_len.new.out whole n c.told-out new len most in
     let m : ℕ = c.emit_segment.result in
     let past : 34 + n ≤ m = omega (arith, c.emit_segment.ensures.len) in
-    let kept : drop m before ≡ drop m out = kept_behind out c.emit_at-segment_len.new.out whole n m c.told-out new len most past in
-    c.emit_segment.ensures.octets
-    ∙ ap (λ (l : List ℕ). segment_frame_to h.interface mac to l ++ drop m before) segment
-    ∙ ap (λ (l : List ℕ). segment_frame_to h.interface mac to whole ++ l) kept
+    framed (segment_frame_to h.interface mac to) out c.emit_at-segment_len.new.out whole c.emit_segment.new.out n m c.told-out new len most past c.emit_segment.ensures.octets
     ∙ ap (λ (g : HostView). segment_frame_to g.interface mac to (segment_octets g.sockets (goes_out_from g c.args.now)) ++ drop m out) c.self.view_is
