@@ -1,5 +1,5 @@
--- The one's complement sum of the Internet protocols (RFC 791 section 3.1, RFC 1071 section 1).
-use Rattle.std.specs.Prelude.{ℕ, ◌+◌, ◌-◌, ◌*◌, ◌%◌, ◌==◌, if◌then◌else◌, List, [], ◌∷◌, ◌++◌}
+-- The one's complement sum of the Internet protocols (RFC 791 section 3.1, RFC 1071 sections 1 and 2).
+use Rattle.std.specs.Prelude.{Bool, ℕ, ◌+◌, ◌-◌, ◌*◌, ◌/◌, ◌%◌, ◌==◌, if◌then◌else◌, List, [], ◌∷◌, ◌++◌}
 use Rattle.inet_sum.specs.declared.Pseudo.{Pseudo}
 use Rattle.byteorder.specs.Endian.{big_bytes}
 
@@ -16,6 +16,11 @@ ones_complement total = if total == 0 then 0 else 1 + (total - 1) % 65535
 -- the one's complement sum of octets
 abbrev pub sum_of : List ℕ → ℕ
 sum_of octets = ones_complement (word_sum octets)
+
+-- What octets with this sum add behind others: behind an odd number of octets each stands in the other half of its word,
+-- which exchanges the two octets of the sum (RFC 1071 section 2, byte order independence).
+abbrev pub sum_behind : Bool → ℕ → ℕ
+sum_behind odd sum = if odd then 256 * (sum % 256) + sum / 256 else sum
 
 -- the checksum that is sent: the one's complement of the sum
 abbrev pub checksum_of : List ℕ → ℕ

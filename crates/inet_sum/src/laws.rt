@@ -1,9 +1,9 @@
 //! Laws of the definitions that the contracts of this crate cite: each is the contract of a function
 //! that does nothing.
 
-ghost use Rattle.std.specs.Prelude.{◌≡◌, ℕ, ◌+◌, ◌-◌, ◌*◌, ◌<◌, ◌^◌, nat_lt, if◌then◌else◌, List, ◌∷◌, ◌++◌, length};
+ghost use Rattle.std.specs.Prelude.{◌≡◌, ℕ, ◌+◌, ◌-◌, ◌*◌, ◌%◌, ◌<◌, ◌^◌, ◌==◌, nat_lt, if◌then◌else◌, List, ◌∷◌, ◌++◌, length};
 ghost use Rattle.byteorder.specs.Endian.{big_bytes};
-ghost use Rattle.inet_sum.specs.Sum.{ones_complement, sum_of, checksum_of};
+ghost use Rattle.inet_sum.specs.Sum.{ones_complement, sum_of, sum_behind, checksum_of};
 
 /// Octets into which their checksum is put, behind an even number of them and in the place of two zeros, have the sum
 /// 0xFFFF: so a receiver checks them (RFC 1071 section 1).
@@ -17,4 +17,10 @@ pub fn checksums_check()
 pub fn carries_come_back()
     ensures { (a b : ℕ) → a < 2 ^ 16 → b < 2 ^ 16
         → ones_complement (a + b) ≡ (if nat_lt (a + b) 65536 then a + b else a + b - 65535) }
+{}
+
+/// The sum of two lists of octets, one behind the other, is had from their sums: they are added in one's complement, that of the
+/// second with its two octets exchanged where the first has an odd number of octets (RFC 1071 section 2).
+pub fn sums_join()
+    ensures { (a b : List ℕ) → sum_of (a ++ b) ≡ ones_complement (sum_of a + sum_behind (length a % 2 == 1) (sum_of b)) }
 {}

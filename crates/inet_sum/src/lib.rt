@@ -1,8 +1,8 @@
 //! The Internet checksum: the one's complement sum of 16-bit words (RFC 791 section 3.1, RFC 1071).
 #![tactic(auto)]
 
-ghost use Rattle.std.specs.Prelude.{◌≡◌, ◌≤◌, ◌+◌, ◌*◌, ◌++◌, length};
-ghost use Rattle.inet_sum.specs.Sum.{word_sum, ones_complement, sum_of, checksum_of, pseudo_octets};
+ghost use Rattle.std.specs.Prelude.{◌≡◌, ◌≤◌, ℕ, ◌+◌, ◌*◌, ◌%◌, ◌==◌, List, ◌++◌, length};
+ghost use Rattle.inet_sum.specs.Sum.{word_sum, ones_complement, sum_of, sum_behind, checksum_of, pseudo_octets};
 
 use byteorder::{BigEndian, ByteOrder};
 
@@ -36,6 +36,14 @@ pub fn checksum(octets: &[u8]) -> u16
     ensures { result ≡ checksum_of octets.now }
 {
     u16::MAX - sum(octets)
+}
+
+/// The one's complement sum of two lists of octets, one behind the other, from the sum of each and whether the first has an
+/// odd number of octets (RFC 1071 section 2, parallel summation).
+pub fn join(left: u16, right: u16, left_odd: bool) -> u16
+    ensures { (a b : List ℕ) → left ≡ sum_of a → right ≡ sum_of b → left_odd ≡ (length a % 2 == 1) → result ≡ sum_of (a ++ b) }
+{
+    folded(u64::from(left) + u64::from(shifted_by(left_odd, right)))
 }
 
 impl Pseudo {
@@ -81,6 +89,13 @@ fn words_of(part: &[u8]) -> u32
         [last, ..] => total + u32::from(BigEndian::read_u16(&[*last, 0])),
         [] => total,
     }
+}
+
+/// What octets with this sum add behind an odd or an even number of others.
+fn shifted_by(odd: bool, sum: u16) -> u16
+    ensures { result ≡ sum_behind odd sum }
+{
+    if odd { sum.swap_bytes() } else { sum }
 }
 
 /// A total as a one's complement number of 16 bits.
