@@ -1,16 +1,17 @@
 -- A part of two lists of which one follows the other.
 use Rattle.std.proofs.Common.{◌≡◌, ℕ, zero, suc, ◌+◌, ◌-◌, min, List, [], ◌∷◌, ◌++◌, length, take, drop, slice_range, sym, ◌∙◌, ap, arith}
 use Rattle.std.proofs.lemmas.List.{length-take, length-drop, take_all, drop_all, take_at, take_min, append-nil}
+use Rattle.inet_sum.specs.Sum.{sum_of}
 use borrow.Rule.Slice.PartMut.{post_of}
 
-drop_of_two : (n : ℕ) (xs ys : List ℕ) → drop n (xs ++ ys) ≡ drop n xs ++ drop (n - length xs) ys
+pub drop_of_two : (n : ℕ) (xs ys : List ℕ) → drop n (xs ++ ys) ≡ drop n xs ++ drop (n - length xs) ys
 drop_of_two zero xs ys = let none : 0 ≡ 0 - length xs = omega arith in ap (λ (m : ℕ). xs ++ drop m ys) none
 drop_of_two (suc n) [] ys = let all : suc n ≡ suc n - 0 = omega arith in ap (λ (m : ℕ). drop m ys) all
 drop_of_two (suc n) (x ∷ xs) ys =
     let less : n - length xs ≡ suc n - suc (length xs) = omega arith in
     drop_of_two n xs ys ∙ ap (λ (m : ℕ). drop n xs ++ drop m ys) less
 
-take_of_two : (n : ℕ) (xs ys : List ℕ) → take n (xs ++ ys) ≡ take n xs ++ take (n - length xs) ys
+pub take_of_two : (n : ℕ) (xs ys : List ℕ) → take n (xs ++ ys) ≡ take n xs ++ take (n - length xs) ys
 take_of_two zero xs ys = let none : 0 ≡ 0 - length xs = omega arith in ap (λ (m : ℕ). take m ys) none
 take_of_two (suc n) [] ys = let all : suc n ≡ suc n - 0 = omega arith in ap (λ (m : ℕ). take m ys) all
 take_of_two (suc n) (x ∷ xs) ys =
@@ -62,3 +63,12 @@ copied front back out first last at skipped k is_skipped is_k is_first is_last =
     let len : length first ≡ k = ap length from_front ∙ omega (arith, k_is, length-take n rest) in
     written first last out k len ∙ ap (λ (xs : List ℕ). xs ++ last) from_front ∙ ap (λ (xs : List ℕ). take n rest ++ xs) from_back
     ∙ sym (part_of_two front back at n)
+
+-- the sum of a beginning of two lists
+pub summed_of_two : (front back : List ℕ) (len from_front result : ℕ) → from_front ≡ min len (length front)
+    → result ≡ sum_of (take from_front front ++ take (len - from_front) back) → result ≡ sum_of (take len (front ++ back))
+summed_of_two front back len from_front result is_front is =
+    let first : take from_front front ≡ take len front = ap (λ (n : ℕ). take n front) is_front ∙ take_min len front in
+    let behind : len - from_front ≡ len - length front = omega (arith, is_front) in
+    is ∙ ap (λ (xs : List ℕ). sum_of (xs ++ take (len - from_front) back)) first ∙ ap (λ (n : ℕ). sum_of (take len front ++ take n back)) behind
+    ∙ ap sum_of (sym (take_of_two len front back))

@@ -29,10 +29,10 @@ place_is len fits k h = record { units = λ more. let full = full_is len k h mor
 no_more : (len number : ℕ) → number + 1 ≡ count_of len → len ≤ 1480 * (number + 1)
 no_more len number e = omega (arith, e)
 
-one_more : (len number rest : ℕ) → number + 2 + rest ≡ count_of len → 1480 * (number + 1) < len
+pub one_more : (len number rest : ℕ) → number + 2 + rest ≡ count_of len → 1480 * (number + 1) < len
 one_more len number rest e = omega (arith, e)
 
-count_from : (len number rest : ℕ) → length (fragments_from len number rest) ≡ rest
+pub count_from : (len number rest : ℕ) → length (fragments_from len number rest) ≡ rest
 count_from len number zero = refl
 count_from len number (suc rest) = ap (λ (n : ℕ). suc n) (count_from len (number + 1) rest)
 
@@ -60,7 +60,7 @@ pub filled_of : (len : ℕ) → 0 < len → All (λ f. 0 < f.len) (fragments_of 
 filled_of len some = all_from (λ f. 0 < f.len) len 0 (count_of len) (λ k h. omega (arith, h, some))
 
 -- the part of a fragment is 1,480 octets from its place on, or fewer where the payload ends
-part_is : (payload : List ℕ) (number : ℕ) → part_of payload (fragment (length payload) number) ≡ take 1480 (drop (1480 * number) payload)
+pub part_is : (payload : List ℕ) (number : ℕ) → part_of payload (fragment (length payload) number) ≡ take 1480 (drop (1480 * number) payload)
 part_is payload number =
     let rest : List ℕ = drop (1480 * number) payload in
     let count : 8 * (185 * number) + min 1480 (length payload - 1480 * number) - 8 * (185 * number) ≡ min 1480 (length rest) =

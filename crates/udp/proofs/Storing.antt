@@ -8,7 +8,7 @@ use Rattle.std.proofs.lemmas.List.Sums.{sum_by-cons, sum_by-append}
 use Rattle.circular_buffer.specs.Buffer.{Buffer, buffer, keep_last}
 use Rattle.ipv4.specs.declared.addr.Endpoint.{Endpoint}
 use Rattle.udp.specs.declared.waiting.Entry.{Entry}
-use Rattle.udp.specs.Waiting.{Waiting, counted, IsWithin, HasRoom, first_entry, first_octets}
+use Rattle.udp.specs.Waiting.{Waiting, counted, IsWithin, HasRoom, entry_of, first_entry, first_octets}
 use Rattle.udp.specs.Stored.{items_of, IsStored}
 
 -- what the entries count as the lengths of their octets
@@ -80,6 +80,30 @@ first_octets_stored (entry ∷ entries) octets at n lens within =
     let taken : length (take entry.len octets) ≡ min entry.len (length octets) = length-take entry.len octets in
     let below : at + n ≤ entry.len = omega (arith, within, taken) in
     (omega (arith, within, taken), inside octets at n entry.len below)
+
+-- so they are the first of all, as many as they are
+pub first_octets_are : (entries : List Entry) (octets : List ℕ) → lens_of entries ≡ length octets
+    → (length (first_octets (items_of entries octets)) ≤ length octets)
+    × (first_octets (items_of entries octets) ≡ take (length (first_octets (items_of entries octets))) octets)
+first_octets_are entries octets lens =
+    let first : List ℕ = first_octets (items_of entries octets) in
+    let stored = first_octets_stored entries octets 0 (length first) lens (omega arith) in
+    let count : 0 + length first - 0 ≡ length first = omega arith in (
+      omega (arith, stored.0),
+      sym (take_all (length first) first (omega arith)) ∙ ap (λ (n : ℕ). take n first) (sym count) ∙ stored.1 ∙ ap (λ (n : ℕ). take n octets) count,
+    )
+
+-- what is known of the first datagram tells how many octets it has
+pub first_len : (items : List Waiting) (entry : Entry) → first_entry items ≡ Some entry → entry.len ≡ length (first_octets items)
+first_len [] entry is = cc
+first_len (item ∷ items) entry is =
+    let same : entry_of item ≡ entry = cc in
+    ap (λ (e : Entry). e.len) (sym same)
+
+-- where nothing waits there is no octet
+pub none_first : (items : List Waiting) → first_entry items ≡ None → first_octets items ≡ []
+none_first [] is = refl
+none_first (item ∷ items) is = cc
 
 -- what waits keeps the limits
 pub within_stored : (entries : Buffer Entry) (octets : Buffer ℕ) → IsStored entries octets

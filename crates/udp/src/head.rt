@@ -1,10 +1,11 @@
 //! What this stack puts into a header.
 
 ghost use Rattle.std.specs.Prelude.{◌≡◌, ℕ, List, ◌+◌, ◌-◌, ◌<◌, ◌≤◌, ◌^◌, ◌++◌, length, drop, slice_range};
+ghost use Rattle.inet_sum.specs.Sum.{sum_of};
 ghost use Rattle.udp.specs.Datagram.{header_octets, spelling};
 ghost use Rattle.udp.specs.Sent.{CanBeSent, sent, sent_with, told_checksum};
 
-use crate::sum::sum_between;
+use crate::sum::sum_in_parts;
 use ipv4::Addr;
 
 /// The length of a header, in octets (RFC 768).
@@ -31,11 +32,33 @@ impl Head {
         ensures sendable { CanBeSent src dst self.now (slice_range out.old 8 result) }
     {
         let len = HEADER_LEN + payload_len;
-        out[..HEADER_LEN].copy_from_slice(&self.header(len as u16, 0));
-        let sum = sum_between(src, dst, &out[..len]);
-        let header = self.header(len as u16, told(u16::MAX - sum));
-        out[..HEADER_LEN].copy_from_slice(&header);
+        let payload_sum = inet_sum::sum(&out[HEADER_LEN..len]);
+        self.emit_summed(src, dst, payload_len, payload_sum, out);
         len
+    }
+
+    /// Writes the header before a payload that isn't here into the first 8 octets of `out`, from the payload's length, in octets,
+    /// and its one's complement sum. So a datagram goes out in fragments straight from where it waits. There is always a checksum,
+    /// as in `emit`. What stands behind the header in `out` stays.
+    pub fn emit_summed(
+        &self,
+        src: Addr,
+        dst: Addr,
+        payload_len: usize,
+        payload_sum: u16,
+        out: &mut [u8],
+    )
+        requires room { 8 ≤ length out.old }
+        requires len { 8 + payload_len < 2 ^ 16 }
+        ensures octets { (payload : List ℕ) → length payload ≡ payload_len → payload_sum ≡ sum_of payload
+            → out.new ≡ header_octets (sent src dst self.now payload) ++ drop 8 out.old }
+        ensures sendable { (payload : List ℕ) → length payload ≡ payload_len → CanBeSent src dst self.now payload }
+    {
+        let len = (HEADER_LEN + payload_len) as u16;
+        let unsummed = self.header(len, 0);
+        let sum = sum_in_parts(src, dst, &unsummed, payload_len, payload_sum);
+        let header = self.header(len, told(u16::MAX - sum));
+        out[..HEADER_LEN].copy_from_slice(&header);
     }
 
     /// The header of a user datagram of this length, in octets, with this checksum.

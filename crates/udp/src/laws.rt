@@ -1,17 +1,18 @@
 //! Laws of the definitions that the contracts of this crate cite: each is the contract of a function that does nothing.
 
-ghost use Rattle.std.specs.Prelude.{◌≡◌, ◌≢◌, ℕ, ◌+◌, ◌-◌, ◌*◌, ◌<◌, ◌≤◌, ◌↔◌, true, false, IsTrue, List, [], ◌∷◌, ◌++◌, All, length, map, replicate, take, Result, Ok};
-ghost use Rattle.std.specs.List.{flat_map};
+ghost use Rattle.std.specs.Prelude.{◌≡◌, ◌≢◌, ℕ, ◌+◌, ◌-◌, ◌*◌, ◌<◌, ◌≤◌, ◌↔◌, true, false, IsTrue, List, [], ◌∷◌, ◌++◌, All, length, map, replicate, take, drop, sum_by, Some, Result, Ok};
+ghost use Rattle.std.specs.List.{flat_map, slice_get};
 ghost use Rattle.inet_sum.specs.Sum.{sum_of};
 ghost use Rattle.ipv4.specs.Datagram.{HasPlace};
 ghost use Rattle.ipv4.specs.declared.addr.Addr.{Addr};
+ghost use Rattle.udp.specs.declared.cutting.Fragment.{Fragment};
 ghost use Rattle.udp.specs.declared.cutting.TheConstants.{MOST_IN_FRAGMENT};
 ghost use Rattle.udp.specs.declared.fault.UdpFault.{UdpFault};
 ghost use Rattle.udp.specs.declared.head.TheConstants.{HEADER_LEN};
 ghost use Rattle.udp.specs.declared.head.Head.{Head};
 ghost use Rattle.udp.specs.declared.waiting.TheConstants.{CAPACITY, COUNTED_BESIDE, MOST_WAITING};
-ghost use Rattle.udp.specs.Datagram.{UserDatagram, IsParsed, Spells, datagram_len, spelling, summed};
-ghost use Rattle.udp.specs.Fragments.{fragments_of, part_of};
+ghost use Rattle.udp.specs.Datagram.{UserDatagram, IsParsed, Spells, datagram_len, header_octets, spelling, summed};
+ghost use Rattle.udp.specs.Fragments.{fragment, count_of, fragments_of, part_of};
 ghost use Rattle.udp.specs.Sent.{CanBeSent, sent};
 
 /// For all octets there is one answer that `UdpView::parse` may give (RFC 768).
@@ -50,6 +51,20 @@ pub fn fragments_cover()
     ensures last { (len : ℕ) → map (λ f. f.more_fragments) (fragments_of len) ≡ replicate (length (fragments_of len) - 1) true ++ false ∷ [] }
     ensures filled { (len : ℕ) → 0 < len → All (λ f. 0 < f.len) (fragments_of len) }
     ensures places { (len : ℕ) → len ≤ 65515 → All (λ f. HasPlace f.more_fragments f.offset f.len) (fragments_of len) }
+{}
+
+/// What the fragments of a user datagram carry, told by their numbers, from 0 on: the first its header of 8 octets and the first
+/// 1,472 of its payload, each later one the 1,480 octets of the payload, or the rest, from 8 before its own place on. Each begins
+/// where those before it end (RFC 791 section 3.2).
+pub fn fragments_carry()
+    ensures numbered { (len number : ℕ) → number < count_of len → slice_get (fragments_of len) number ≡ Some (fragment len number) }
+    ensures begin { (len : ℕ) (before after : List Fragment) (f : Fragment) → fragments_of len ≡ before ++ f ∷ after
+        → 8 * f.offset ≡ sum_by (λ g. g.len) before }
+    ensures first { (d : UserDatagram) → part_of (spelling d) (fragment (datagram_len d) 0) ≡ header_octets d ++ take 1472 d.payload }
+    ensures later { (d : UserDatagram) (number : ℕ) → 0 < number
+        → part_of (spelling d) (fragment (datagram_len d) number) ≡ take 1480 (drop (1480 * number - 8) d.payload) }
+    ensures within { (d : UserDatagram) (number : ℕ) → 0 < number → number < count_of (datagram_len d)
+        → 1480 * number - 8 + (fragment (datagram_len d) number).len ≤ length d.payload }
 {}
 
 /// What the public constants are: a header has 8 octets (RFC 768); a fragment in a frame of 1,500 octets (RFC 894) has room

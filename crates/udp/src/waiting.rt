@@ -1,9 +1,11 @@
 //! Datagrams that wait, for their reader or for their turn to go out.
 
-ghost use Rattle.std.specs.Prelude.{◌≡◌, ℕ, ◌+◌, ◌≤◌, ◌↔◌, [], ◌∷◌, ◌++◌, length, drop, IsOk, IfOk, OnOk, OnErr, IfSome, IfNone, slice_range};
+ghost use Rattle.std.specs.Prelude.{◌≡◌, ℕ, ◌+◌, ◌≤◌, ◌↔◌, [], ◌∷◌, ◌++◌, length, take, drop, IsOk, IfOk, OnOk, OnErr, IfSome, IfNone, slice_range};
+ghost use Rattle.inet_sum.specs.Sum.{sum_of};
 ghost use Rattle.udp.specs.Waiting.{IsWithin, HasRoom, first_entry, first_octets};
 
 use circular_buffer::HeapCircularBuffer;
+use inet_sum::join;
 use ipv4::Endpoint;
 use std::alloc::Global;
 use std::marker::Model;
@@ -113,6 +115,18 @@ impl Queue {
         copy_of_two(front, back, at, out);
     }
 
+    /// The one's complement sum of the octets of the first datagram, read where they lie (RFC 1071). 0, the sum of no octets,
+    /// where nothing waits.
+    pub fn sum(&self) -> u16
+        ensures { result ≡ sum_of (first_octets self.now.items) }
+    {
+        let Some(first) = self.first() else {
+            return 0;
+        };
+        let (front, back) = self.octets.as_slices();
+        sum_of_two(front, back, first.len)
+    }
+
     /// Takes the first datagram out, and answers what was known of it beside its octets. None where nothing waits, and then
     /// nothing has changed. The octets of the others stay where they are.
     pub fn pop(&mut self) -> Option<Entry>
@@ -149,4 +163,18 @@ fn copy_of_two(front: &[u8], back: &[u8], at: usize, out: &mut [u8])
     let from_back = out.len() - from_front;
     out[..from_front].copy_from_slice(&beginning[..from_front]);
     out[from_front..].copy_from_slice(&back[behind..behind + from_back]);
+}
+
+/// The one's complement sum of the first `len` octets of two parts of which one follows the other.
+fn sum_of_two(front: &[u8], back: &[u8], len: usize) -> u16
+    requires { len ≤ length front.now + length back.now }
+    ensures { result ≡ sum_of (take len (front.now ++ back.now)) }
+{
+    let from_front = len.min(front.len());
+    let from_back = len - from_front;
+    join(
+        inet_sum::sum(&front[..from_front]),
+        inet_sum::sum(&back[..from_back]),
+        from_front % 2 == 1,
+    )
 }

@@ -1,12 +1,17 @@
-use Rattle.std.proofs.Common.{◌≡◌, ◌+◌, ℕ, List, length, ◌∙◌, arith, slice_range}
-use Rattle.udp.proofs.Sending.{payload-length, emitted}
+use Rattle.std.proofs.Common.{◌+◌, ℕ, List, ◌∙◌, slice_range}
+use Rattle.inet_sum.specs.Sum.{checksum_of}
+use Rattle.udp.specs.Datagram.{spelling, summed}
+use Rattle.udp.specs.Sent.{sent_with, told_checksum}
+use Rattle.udp.proofs.Sending.{payload-length, before}
 use Rattle.udp.proofs.head.Head.emit.Goals as goal
 
 pub returns-clause-octets : goal.returns-clause-octets
 returns-clause-octets c =
     let payload : List ℕ = slice_range c.args.out.now 8 (8 + c.args.payload_len) in
-    let whole : 8 + length payload ≡ 8 + c.args.payload_len = omega (arith, payload-length c.args.out.now c.args.payload_len c.requires.room) in
-    let is_first = c.copy_from_slice.ensures.after ∙ c.header.ensures payload whole in
-    let is_last = c.copy_from_slice-2.ensures.after ∙ c.header-header.ensures payload whole in
-    emitted c.args.src c.args.dst c.args.self.now c.sum_between-sum.result c.told.result c.args.payload_len c.args.out.now c.copy_from_slice.new.self
-    c.copy_from_slice-2.new.self c.requires.room is_first c.sum_between-sum.ensures.sum c.told.ensures is_last
+    let checksum : ℕ = told_checksum (checksum_of (summed c.args.src c.args.dst (spelling (sent_with c.args.self.now payload 0)))) in
+    c.emit_summed.ensures.octets payload (payload-length c.args.out.now c.args.payload_len c.requires.room) c.sum-payload_sum.ensures
+    ∙ before c.args.self.now c.args.out.now c.args.payload_len checksum
+
+pub returns-clause-sendable : goal.returns-clause-sendable
+returns-clause-sendable c =
+    c.emit_summed.ensures.sendable (slice_range c.args.out.now 8 (8 + c.args.payload_len)) (payload-length c.args.out.now c.args.payload_len c.requires.room)
