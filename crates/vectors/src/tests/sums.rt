@@ -1,6 +1,6 @@
 //! The Internet checksum (RFC 1071).
 
-use inet_sum::{Pseudo, checksum, sum};
+use inet_sum::{Pseudo, checksum, join, sum};
 
 /// Octets and their sum; the first are those of RFC 1071 section 3.
 const SUMS: [(&[u8], u16); 3] = [
@@ -13,6 +13,13 @@ const SUMS: [(&[u8], u16); 3] = [
 const WITH_PSEUDO: [([u8; 10], u16); 2] = [
     (*b"\x13\x88\x13\x89\x00\x0a\x5c\x5dhi", 0xffff),
     (*b"\x13\x88\x13\x89\x00\x0a\x00\x00hi", 0xa3a2),
+];
+
+/// The sums of two lists of octets, whether the first is odd, and the sum of both: the first is that of RFC 1071 section 3 where
+/// the octets are broken into two groups.
+const JOINED: [(u16, u16, bool, u16); 2] = [
+    (0xf201, 0xf0eb, true, 0xddf2),
+    (0x0100, 0x0200, true, 0x0102),
 ];
 
 #[test]
@@ -28,5 +35,12 @@ fn sums(rt: HostRuntime) {
     };
     for (octets, want) in WITH_PSEUDO {
         assert!(rt; pseudo.sum_with(&octets) == want);
+    }
+}
+
+#[test]
+fn sums_are_joined(rt: HostRuntime) {
+    for (left, right, left_odd, want) in JOINED {
+        assert!(rt; join(left, right, left_odd) == want);
     }
 }

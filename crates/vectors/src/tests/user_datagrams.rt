@@ -1,6 +1,7 @@
 //! User datagrams (RFC 768), the fragments that they go out in (RFC 791 section 3.2), and the queues in which they wait.
 
 use super::{A, B};
+use inet_sum::sum;
 use ipv4::Endpoint;
 use std::test::Fail;
 use udp::{CAPACITY, Head, Queue, QueueFault, UdpFault, UdpView, fragments};
@@ -75,6 +76,9 @@ fn datagrams_are_written(rt: HostRuntime) {
         out[8..10].copy_from_slice(&payload);
         let len = head.emit(A, B, 2, &mut out);
         assert!(rt; (len, out) == (10, want));
+        let mut header = [7; 9];
+        head.emit_summed(A, B, 2, sum(&payload), &mut header);
+        assert!(rt; header[..8] == want[..8] && header[8] == 7);
     }
 }
 
@@ -111,7 +115,8 @@ fn answers(queue: &mut Queue, event: Event) -> bool {
     }
 }
 
-/// The port and the octets of the first datagram of a queue, where it came from `A` and has three, which are copied in two parts.
+/// The port and the octets of the first datagram of a queue, where it came from `A` and has three, which are copied in two parts
+/// and have the queue's sum.
 fn first_of(queue: &Queue) -> Option<(u16, [u8; 3])> {
     let entry = queue.first()?;
     if entry.endpoint.addr != A || entry.len != 3 {
@@ -120,6 +125,9 @@ fn first_of(queue: &Queue) -> Option<(u16, [u8; 3])> {
     let mut octets = [0; 3];
     queue.copy_at(2, &mut octets[2..]);
     queue.copy_at(0, &mut octets[..2]);
+    if queue.sum() != sum(&octets) {
+        return None;
+    }
     Some((entry.endpoint.port, octets))
 }
 
