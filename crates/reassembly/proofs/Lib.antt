@@ -9,4 +9,5 @@ pub mod Together
 pub mod Contradictions
 pub mod OneMore
 pub mod Quotes
+pub mod Found
 pub mod Soonest

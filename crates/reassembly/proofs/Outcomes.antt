@@ -7,7 +7,7 @@ use Rattle.clock.specs.declared.moment.Moment.{Moment}
 use Rattle.reassembly.specs.Fragments.{begin_of, end_of, is_last}
 use Rattle.reassembly.specs.Octets.{reaching, put, laid, is_covered, filled, whole_of}
 use Rattle.reassembly.specs.Inside.{EndsWithin}
-use Rattle.reassembly.specs.Reassembly.{Reassembly, conflicts, end_after, with_fragment, outcome, continued}
+use Rattle.reassembly.specs.Reassembly.{Reassembly, conflicts, end_after, with_fragment, outcome, continued, quoted}
 use Rattle.reassembly.specs.Reassembly.Outcome.{Waits, Completes, GivesUp}
 
 pub outcome_given_up : (d : Datagram) (r : Reassembly) → conflicts d r.end (length r.octets) ≡ true → outcome d r ≡ GivesUp
@@ -15,7 +15,7 @@ unfolding outcome
 outcome_given_up d r h = rw h refl
 
 pub outcome_completes : (d : Datagram) (r : Reassembly) (payload : List ℕ) → conflicts d r.end (length r.octets) ≡ false
-    → whole_of (with_fragment r d).end (with_fragment r d).octets ≡ Some payload → outcome d r ≡ Completes payload
+    → whole_of (with_fragment r d).end (with_fragment r d).octets ≡ Some payload → outcome d r ≡ Completes payload (quoted (with_fragment r d).quote)
 unfolding outcome
 outcome_completes d r payload h w = rw (h, w) refl
 

@@ -59,28 +59,32 @@ with_fragment r d = record r { octets = laid (begin_of d) d.payload r.octets; en
 pub data Outcome : Type 0 where
   -- it waits for further fragments
   Waits : Reassembly → Outcome
-  -- its payload is whole, and it ends
-  Completes : List ℕ → Outcome
+  -- its payload is whole, and it ends; beside the payload what an error message quotes of it
+  Completes : List ℕ → List ℕ → Outcome
   -- it is given up
   GivesUp : Outcome
+
+-- what an error message quotes of a whole datagram: a fragment zero is among its fragments, as they cover the beginning
+abbrev pub quoted : Option (List ℕ) → List ℕ
+quoted quote = unwrap_or quote []
 
 unfoldable pub outcome : Datagram → Reassembly → Outcome
 outcome d r =
     if conflicts d r.end (length r.octets) then GivesUp
-    else let next = with_fragment r d in option_map_or (λ payload. Completes payload) (whole_of next.end next.octets) (Waits next)
+    else let next = with_fragment r d in option_map_or (λ payload. Completes payload (quoted next.quote)) (whole_of next.end next.octets) (Waits next)
 
 -- what stands in its place afterwards
 abbrev pub left : Outcome → Option Reassembly
 left (Waits r) = Some r
-left (Completes payload) = None
+left (Completes payload quote) = None
 left GivesUp = None
 
 -- what is answered
 abbrev pub Answers : Outcome → Taken → Type 0
 Answers (Waits r) taken = taken ≡ Waiting
-Answers (Completes payload) (Whole octets) = octets.now ≡ payload
-Answers (Completes payload) Waiting = ⊥
-Answers (Completes payload) (Dropped loss) = ⊥
+Answers (Completes payload quote) (Whole whole) = (whole.octets.now ≡ payload) × (whole.quote.now ≡ quote)
+Answers (Completes payload quote) Waiting = ⊥
+Answers (Completes payload quote) (Dropped loss) = ⊥
 Answers GivesUp taken = taken ≡ Dropped GivenUp
 
 -- a reassembly that goes on, or else one that begins now

@@ -1,6 +1,6 @@
 //! Laws of the definitions that the contracts of this crate cite: each is the contract of a function that does nothing.
 
-ghost use Rattle.std.specs.Prelude.{◌≡◌, ◌≢◌, ◌<◌, ◌≤◌, ◌↔◌, ◌++◌, ◌∷◌, [], ℕ, List, All, length, true, false, Option, Some, None, IfSome, option_map, slice_index_or};
+ghost use Rattle.std.specs.Prelude.{◌≡◌, ◌≢◌, ◌<◌, ◌≤◌, ◌↔◌, ◌++◌, ◌∷◌, [], ℕ, List, All, length, true, false, Option, Some, None, IfSome, IsTrue, is_some, option_map, slice_index_or};
 ghost use Rattle.std.specs.List.{Any};
 ghost use Rattle.ipv4.specs.Datagram.{Datagram};
 ghost use Rattle.clock.specs.declared.moment.Moment.{Moment};
@@ -46,18 +46,19 @@ pub fn given_up()
 {}
 
 /// What becomes of a datagram with one fragment more, while no two of those before contradict each other: it is given up where this
-/// one contradicts one of them; else its payload is whole where all of them have one; else it waits, with this one among its
-/// fragments (RFC 791 section 3.2).
+/// one contradicts one of them; else its payload is whole where all of them have one, and the last fragment zero of them is quoted;
+/// else it waits, with this one among its fragments (RFC 791 section 3.2, RFC 792).
 pub fn one_more_fragment()
     ensures given_up { (now : Moment) (first : Datagram) (fragments : List Datagram) (d : Datagram)
         → is_contradictory fragments ≡ false
         → is_contradictory (fragments ++ d ∷ []) ≡ true
         → outcome d (after_fragments (begun now first) fragments) ≡ GivesUp }
-    ensures whole { (now : Moment) (first : Datagram) (fragments : List Datagram) (d : Datagram) (payload : List ℕ)
+    ensures whole { (now : Moment) (first : Datagram) (fragments : List Datagram) (d : Datagram) (payload : List ℕ) (quote : List ℕ)
         → is_contradictory fragments ≡ false
         → is_contradictory (fragments ++ d ∷ []) ≡ false
         → IsPayload (fragments ++ d ∷ []) payload
-        → outcome d (after_fragments (begun now first) fragments) ≡ Completes payload }
+        → latest_quote (fragments ++ d ∷ []) ≡ Some quote
+        → outcome d (after_fragments (begun now first) fragments) ≡ Completes payload quote }
     ensures waits { (now : Moment) (first : Datagram) (fragments : List Datagram) (d : Datagram)
         → is_contradictory fragments ≡ false
         → is_contradictory (fragments ++ d ∷ []) ≡ false
@@ -70,6 +71,12 @@ pub fn one_more_fragment()
 pub fn quoted_fragment()
     ensures { (now : Moment) (first : Datagram) (fragments : List Datagram)
         → (after_fragments (begun now first) fragments).quote ≡ latest_quote fragments }
+{}
+
+/// A fragment zero is among the fragments that make a payload, as they cover its beginning: so there always is something to quote
+/// of a whole datagram (RFC 792, RFC 1122 section 3.2.2).
+pub fn wholes_are_quoted()
+    ensures { (fragments : List Datagram) (payload : List ℕ) → IsPayload fragments payload → IsTrue (is_some (latest_quote fragments)) }
 {}
 
 /// Whatever fragments come, the time of a datagram runs from the arrival of the first one, whose source, destination, protocol and

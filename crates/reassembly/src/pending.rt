@@ -1,19 +1,18 @@
 //! What is known of a datagram that is being put together.
 
-ghost use Rattle.std.specs.Prelude.{◌≡◌, []};
+ghost use Rattle.std.specs.Prelude.{◌≡◌, [], None};
 ghost use Rattle.reassembly.specs.Inside.{seen};
-ghost use Rattle.reassembly.specs.Reassembly.{begun, deadline_after, is_over_after, end_after, quote_after};
+ghost use Rattle.reassembly.specs.Reassembly.{begun, deadline_after, is_over_after, end_after};
 
 use crate::fragment;
 use crate::key::Key;
-use crate::quote::Quote;
 use clock::Moment;
 use ipv4::Ipv4View;
 
 /// How long the fragments of a datagram are waited for, in milliseconds (RFC 1122 section 3.3.2).
 const PATIENCE: u64 = 60_000;
 
-/// What is known of a datagram that is being put together, beside its octets.
+/// What is known of a datagram that is being put together, beside what was gathered of it.
 #[derive(Drop)]
 pub(crate) struct Pending {
     pub(crate) key: Key,
@@ -21,20 +20,17 @@ pub(crate) struct Pending {
     pub(crate) since: Moment,
     /// Where its payload ends, once a last fragment came.
     pub(crate) end: Option<usize>,
-    /// That of the fragment zero that came last.
-    pub(crate) quote: Option<Quote>,
 }
 
 impl Pending {
     /// A datagram that begins now with a fragment, before that is noted.
     pub(crate) fn new(now: Moment, fragment: &Ipv4View) -> Pending
-        ensures { seen [] result ≡ begun now fragment.now }
+        ensures { seen (record { octets = []; quote = None }) result ≡ begun now fragment.now }
     {
         Pending {
             key: Key::of(fragment),
             since: now,
             end: None,
-            quote: None,
         }
     }
 
@@ -52,15 +48,12 @@ impl Pending {
         self.deadline() <= now
     }
 
-    /// Notes what a fragment tells: the end, where it is the first to tell it, and what is quoted of a fragment zero.
-    pub(crate) fn note(&mut self, fragment: &Ipv4View)
-        ensures { self.new ≡ record self.old { end = end_after fragment.now self.old.end; quote = quote_after fragment.now self.old.quote } }
+    /// Notes the end that a fragment tells, where it is the first to tell it.
+    pub(crate) fn note_end(&mut self, fragment: &Ipv4View)
+        ensures { self.new ≡ record self.old { end = end_after fragment.now self.old.end } }
     {
         if self.end.is_none() && !fragment.more_fragments() {
             self.end = Some(fragment::end(fragment));
-        }
-        if fragment.offset() == 0 {
-            self.quote = Some(Quote::of(fragment));
         }
     }
 }

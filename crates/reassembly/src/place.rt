@@ -13,6 +13,7 @@ ghost use Rattle.reassembly.specs.Reassembly.{Answers, begun, continued, deadlin
 use crate::buffer::DataBuffer;
 use crate::expired::Expired;
 use crate::fragment;
+use crate::gathered::Gathered;
 use crate::key::Key;
 use crate::pending::Pending;
 use crate::taken::{Loss, Taken};
@@ -21,11 +22,11 @@ use ipv4::Ipv4View;
 use std::alloc::{AllocError, Global};
 use std::marker::Model;
 
-/// A place for one datagram at a time. Where it is free, its buffer has what is left from before.
+/// A place for one datagram at a time. Where it is free, what was gathered is left from before.
 #[derive(Drop)]
 pub(crate) struct Place {
     pending: Option<Pending>,
-    octets: DataBuffer,
+    gathered: Gathered,
 }
 
 impl Model for Place {
@@ -35,9 +36,9 @@ impl Model for Place {
 
     ghost Value = { Option Reassembly };
 
-    ghost view = { λ p. place_seen p.pending p.octets };
+    ghost view = { λ p. place_seen p.pending p.gathered };
 
-    ghost invariant = { λ p. EndsWithin (place_seen p.pending p.octets) };
+    ghost invariant = { λ p. EndsWithin (place_seen p.pending p.gathered) };
 }
 
 impl Place {
@@ -47,7 +48,7 @@ impl Place {
     {
         Ok(Place {
             pending: None,
-            octets: DataBuffer::new(alloc)?,
+            gathered: Gathered::new(alloc)?,
         })
     }
 
@@ -83,15 +84,14 @@ impl Place {
         ensures answer { Answers (outcome fragment.now (continued now fragment.now self.old)) result }
         ensures* place { sem 𝓛 (Rests the_row self.entry (λ place. place ≡ left (outcome fragment.now (continued now fragment.now self.old)))) }
     {
-        let mut pending = resume(self.pending.take(), &mut self.octets, now, fragment);
-        if fragment::conflicts(fragment, pending.end, self.octets.reach()) {
+        let mut pending = resume(self.pending.take(), &mut self.gathered, now, fragment);
+        if fragment::conflicts(fragment, pending.end, self.gathered.octets.reach()) {
             return Taken::Dropped(Loss::GivenUp);
         }
-        self.octets
-            .lay(fragment::begin(fragment), fragment.payload());
-        pending.note(fragment);
-        if is_whole(pending.end, &self.octets) {
-            return Taken::Whole(self.octets.octets());
+        self.gathered.add(fragment);
+        pending.note_end(fragment);
+        if is_whole(pending.end, &self.gathered.octets) {
+            return Taken::Whole(self.gathered.whole());
         }
         self.pending = Some(pending);
         Taken::Waiting
@@ -108,23 +108,25 @@ impl Place {
             return None;
         }
         let key = pending.key;
-        pending.quote.map(|quote| Expired { key, quote })
+        self.gathered
+            .take_quote()
+            .map(|quote| Expired { key, quote })
     }
 }
 
-/// What is known of a datagram that goes on, or else of one that begins now, with no octets.
+/// What is known of a datagram that goes on, or else of one that begins now, of which nothing was gathered.
 fn resume(
     pending: Option<Pending>,
-    octets: &mut DataBuffer,
+    gathered: &mut Gathered,
     now: Moment,
     fragment: &Ipv4View,
 ) -> Pending
-    ensures { seen octets.new result ≡ continued now fragment.now (place_seen pending octets.old) }
+    ensures { seen gathered.new result ≡ continued now fragment.now (place_seen pending gathered.old) }
 {
     match pending {
         Some(pending) => pending,
         None => {
-            octets.clear();
+            gathered.clear();
             Pending::new(now, fragment)
         }
     }

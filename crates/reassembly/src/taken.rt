@@ -7,10 +7,20 @@ use thiserror::Error;
 pub enum Taken<'a> {
     /// Its datagram waits for others.
     Waiting,
-    /// With it the datagram is whole: the octets of its payload, lent from the pool. Its place is free again.
-    Whole(&'a [u8]),
+    /// With it the datagram is whole. Its place is free again.
+    Whole(Whole<'a>),
     /// It is not kept.
     Dropped(Loss),
+}
+
+/// A datagram that was put together, lent from the pool.
+#[derive(Drop)]
+pub struct Whole<'a> {
+    /// The octets of its payload.
+    pub octets: &'a [u8],
+    /// What an error message about it quotes: the header and the first eight octets of data of the fragment zero that came
+    /// last (RFC 792, RFC 1122 section 3.2.2).
+    pub quote: &'a [u8],
 }
 
 /// Why a fragment is not kept.

@@ -107,7 +107,7 @@ fn comes_to(pool: &mut Pool, now: u64, octets: &[u8], want: Came) -> bool {
     };
     match pool.take(Moment(now), &view) {
         Taken::Waiting => matches!(want, Came::Waiting),
-        Taken::Whole(octets) => matches!(want, Came::Whole(want) if octets == want),
+        Taken::Whole(whole) => matches!(want, Came::Whole(want) if whole.octets == want),
         Taken::Dropped(loss) => matches!(want, Came::Dropped(want) if loss == want),
     }
 }

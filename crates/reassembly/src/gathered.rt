@@ -1,0 +1,78 @@
+//! What was gathered of a datagram that is being put together.
+
+ghost use Rattle.std.specs.Prelude.{◌≡◌, None, [], IfOk, IsTrue};
+ghost use Rattle.reassembly.specs.Fragments.{begin_of};
+ghost use Rattle.reassembly.specs.Octets.{laid, is_covered, filled};
+ghost use Rattle.reassembly.specs.Reassembly.{quote_after, quoted};
+
+use crate::buffer::DataBuffer;
+use crate::fragment;
+use crate::quote::Quote;
+use crate::taken::Whole;
+use ipv4::Ipv4View;
+use std::alloc::{AllocError, Global};
+
+/// What was gathered of a datagram that is being put together.
+#[derive(Drop)]
+pub(crate) struct Gathered {
+    /// The octets of its payload, as far as fragments came.
+    pub(crate) octets: DataBuffer,
+    /// That of the fragment zero that came last.
+    quote: Option<Quote>,
+}
+
+impl Gathered {
+    /// Nothing.
+    pub(crate) fn new(alloc: Global) -> Result<Gathered, AllocError>
+        ensures { IfOk result (λ gathered. gathered ≡ record { octets = []; quote = None }) }
+    {
+        Ok(Gathered {
+            octets: DataBuffer::new(alloc)?,
+            quote: None,
+        })
+    }
+
+    /// Forgets what there was.
+    pub(crate) fn clear(&mut self)
+        ensures { self.new ≡ record { octets = []; quote = None } }
+    {
+        self.octets.clear();
+        self.quote = None;
+    }
+
+    /// Lays a fragment's octets over those that stand there. Of a fragment zero it keeps what is quoted, in place of that of one
+    /// that came before.
+    pub(crate) fn add(&mut self, fragment: &Ipv4View)
+        ensures octets { self.new.octets ≡ laid (begin_of fragment.now) fragment.now.payload self.old.octets }
+        ensures quote { self.new.quote ≡ quote_after fragment.now self.old.quote }
+    {
+        self.octets
+            .lay(fragment::begin(fragment), fragment.payload());
+        if fragment.offset() == 0 {
+            self.quote = Some(Quote::of(fragment));
+        }
+    }
+
+    /// Lends what makes a whole datagram.
+    pub(crate) fn whole(&self) -> Whole<'_>
+        requires { IsTrue (is_covered self.now.octets) }
+        ensures octets { result.octets.now ≡ filled self.now.octets }
+        ensures quote { result.quote.now ≡ quoted self.now.quote }
+    {
+        let quote: &[u8] = match &self.quote {
+            Some(quote) => quote.octets(),
+            None => &[],
+        };
+        Whole {
+            octets: self.octets.octets(),
+            quote,
+        }
+    }
+
+    /// Takes out what is quoted.
+    pub(crate) fn take_quote(&mut self) -> Option<Quote>
+        ensures { result ≡ self.old.quote }
+    {
+        self.quote.take()
+    }
+}
