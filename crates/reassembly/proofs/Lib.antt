@@ -10,4 +10,5 @@ pub mod Contradictions
 pub mod OneMore
 pub mod Quotes
 pub mod Found
+pub mod PartsAgree
 pub mod Soonest

@@ -7,6 +7,7 @@ ghost use Rattle.clock.specs.declared.moment.Moment.{Moment};
 ghost use Rattle.reassembly.specs.declared.pool.TheConstants.{PLACES};
 ghost use Rattle.reassembly.specs.Fragments.{key_of, latest, latest_quote, told_end, is_contradictory, IsPayload};
 ghost use Rattle.reassembly.specs.Octets.{whole_of};
+ghost use Rattle.reassembly.specs.Parts.{ArePartsOf, CoverAll};
 ghost use Rattle.reassembly.specs.Places.{after_age, expired, next_deadline};
 ghost use Rattle.reassembly.specs.Reassembly.{Reassembly, begun, after_fragments, conflicts, deadline_of, outcome};
 ghost use Rattle.reassembly.specs.Reassembly.Outcome.{Waits, Completes, GivesUp};
@@ -77,6 +78,34 @@ pub fn quoted_fragment()
 /// of a whole datagram (RFC 792, RFC 1122 section 3.2.2).
 pub fn wholes_are_quoted()
     ensures { (fragments : List Datagram) (payload : List ℕ) → IsPayload fragments payload → IsTrue (is_some (latest_quote fragments)) }
+{}
+
+/// Parts of one payload, in any order, some of them repeated or missing, never contradict each other, and make no other payload than
+/// that one; where none is missing they make it (RFC 791 section 3.2).
+pub fn parts_of_one_payload()
+    ensures agree { (payload : List ℕ) (fragments : List Datagram) → ArePartsOf payload fragments → is_contradictory fragments ≡ false }
+    ensures made { (payload made : List ℕ) (fragments : List Datagram) → ArePartsOf payload fragments → IsPayload fragments made → made ≡ payload }
+    ensures enough { (payload : List ℕ) (fragments : List Datagram)
+        → ArePartsOf payload fragments
+        → CoverAll payload fragments
+        → IsPayload fragments payload }
+{}
+
+/// So a datagram whose fragments are parts of one payload is put together right or not at all: with one more of them it waits, or
+/// that payload is whole; and it is whole where no part is missing (RFC 791 section 3.2).
+pub fn right_or_not_at_all()
+    ensures kept { (now : Moment) (first : Datagram) (fragments : List Datagram) (d : Datagram) (payload : List ℕ)
+        → ArePartsOf payload (fragments ++ d ∷ [])
+        → outcome d (after_fragments (begun now first) fragments) ≢ GivesUp }
+    ensures right { (now : Moment) (first : Datagram) (fragments : List Datagram) (d : Datagram) (payload made quote : List ℕ)
+        → ArePartsOf payload (fragments ++ d ∷ [])
+        → outcome d (after_fragments (begun now first) fragments) ≡ Completes made quote
+        → made ≡ payload }
+    ensures whole { (now : Moment) (first : Datagram) (fragments : List Datagram) (d : Datagram) (payload quote : List ℕ)
+        → ArePartsOf payload (fragments ++ d ∷ [])
+        → CoverAll payload (fragments ++ d ∷ [])
+        → latest_quote (fragments ++ d ∷ []) ≡ Some quote
+        → outcome d (after_fragments (begun now first) fragments) ≡ Completes payload quote }
 {}
 
 /// Whatever fragments come, the time of a datagram runs from the arrival of the first one, whose source, destination, protocol and
