@@ -11,4 +11,5 @@ pub mod OneMore
 pub mod Quotes
 pub mod Found
 pub mod PartsAgree
+pub mod OverEvents
 pub mod Soonest

@@ -6,3 +6,4 @@ pub mod Reassembly
 pub mod Inside
 pub mod Keys
 pub mod Places
+pub mod Events

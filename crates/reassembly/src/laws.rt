@@ -5,10 +5,13 @@ ghost use Rattle.std.specs.List.{Any};
 ghost use Rattle.ipv4.specs.Datagram.{Datagram};
 ghost use Rattle.clock.specs.declared.moment.Moment.{Moment};
 ghost use Rattle.reassembly.specs.declared.pool.TheConstants.{PLACES};
+ghost use Rattle.reassembly.specs.declared.taken.Taken.{Taken};
+ghost use Rattle.reassembly.specs.Events.{Event, after_events, gathered, IsRight};
 ghost use Rattle.reassembly.specs.Fragments.{key_of, latest, latest_quote, told_end, is_contradictory, IsPayload};
+ghost use Rattle.reassembly.specs.Keys.{same_key};
 ghost use Rattle.reassembly.specs.Octets.{whole_of};
 ghost use Rattle.reassembly.specs.Parts.{ArePartsOf, CoverAll};
-ghost use Rattle.reassembly.specs.Places.{after_age, expired, next_deadline};
+ghost use Rattle.reassembly.specs.Places.{AnswersTake, after_age, expired, next_deadline};
 ghost use Rattle.reassembly.specs.Reassembly.{Reassembly, begun, after_fragments, conflicts, deadline_of, outcome};
 ghost use Rattle.reassembly.specs.Reassembly.Outcome.{Waits, Completes, GivesUp};
 
@@ -131,6 +134,23 @@ pub fn next_is_least()
         → (after_age now places ≡ places) × (expired now places ≡ []) }
     ensures reached { (places : List (Option Reassembly)) (now : Moment)
         → IfSome (next_deadline places) (λ next. next.0 ≤ now.0 → after_age now places ≢ places) }
+{}
+
+/// Whatever fragments are taken and whatever moments are told, from a new pool on, no two places have one key.
+pub fn one_place_a_key()
+    ensures { (events : List Event) (i j : ℕ) (a b : Reassembly)
+        → slice_index_or (after_events events) i None ≡ Some a
+        → slice_index_or (after_events events) j None ≡ Some b
+        → same_key a.key b.key ≡ true
+        → i ≡ j }
+{}
+
+/// Whatever was taken and told, from a new pool on, a fragment is answered by those that were taken with its key since this had no
+/// place last: as whole by their payload, with the quote of the last fragment zero of them (RFC 791 section 3.2, RFC 792).
+pub fn answers_over_events()
+    ensures { (events : List Event) (now : Moment) (d : Datagram) (taken : Taken)
+        → AnswersTake now d (after_events events) taken
+        → IsRight (gathered (key_of d) events ++ d ∷ []) taken }
 {}
 
 /// What the public constant is: a pool has four places, which is this stack's own number.

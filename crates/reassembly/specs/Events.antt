@@ -1,0 +1,55 @@
+-- Whatever befalls a pool: fragments are taken and the time is told, in any order.
+use Rattle.std.specs.Prelude.{◌≡◌, ℕ, Bool, true, if◌then◌else◌, List, [], ◌∷◌, ◌++◌, fold, replicate, Option, Some, None}
+use Rattle.std.specs.List.{list_any}
+use Rattle.clock.specs.declared.moment.Moment.{Moment}
+use Rattle.ipv4.specs.Datagram.{Datagram}
+use Rattle.reassembly.specs.declared.key.Key.{Key}
+use Rattle.reassembly.specs.declared.taken.Loss.TheVariants.{NoPlace, GivenUp}
+use Rattle.reassembly.specs.declared.taken.Taken.{Taken}
+use Rattle.reassembly.specs.declared.taken.Taken.TheVariants.{Waiting, Whole, Dropped}
+use Rattle.reassembly.specs.Fragments.{key_of, latest_quote, is_contradictory, IsPayload}
+use Rattle.reassembly.specs.Keys.{same_key}
+use Rattle.reassembly.specs.Places.{is_of, after_take, after_age}
+use Rattle.reassembly.specs.Reassembly.{Reassembly}
+
+pub data Event : Type 0 where
+  -- a fragment is taken at this moment
+  Takes : Moment → Datagram → Event
+  -- this moment is told
+  Ages : Moment → Event
+
+abbrev pub after_event : List (Option Reassembly) → Event → List (Option Reassembly)
+after_event places (Takes now d) = after_take now d places
+after_event places (Ages now) = after_age now places
+
+-- the places after these events, all four of which were free before
+abbrev pub after_events : List Event → List (Option Reassembly)
+after_events events = fold after_event (replicate 4 None) events
+
+-- a datagram with this key has a place
+abbrev pub has_place : Key → List (Option Reassembly) → Bool
+has_place key places = list_any (is_of key) places
+
+-- the fragment that is taken, where it has this key
+abbrev pub taken_for : Key → Event → List Datagram
+taken_for key (Takes now d) = if same_key (key_of d) key then d ∷ [] else []
+taken_for key (Ages now) = []
+
+-- the fragments with a key that were taken since it had no place last: those before an event, and the one that is taken by it
+abbrev pub gathered_after : Key → List (Option Reassembly) → List Datagram → Event → List Datagram
+gathered_after key places fragments event = if has_place key (after_event places event) then fragments ++ taken_for key event else []
+
+abbrev pub gathered_from : Key → List (Option Reassembly) → List Datagram → List Event → List Datagram
+gathered_from key places fragments [] = fragments
+gathered_from key places fragments (event ∷ events) = gathered_from key (after_event places event) (gathered_after key places fragments event) events
+
+abbrev pub gathered : Key → List Event → List Datagram
+gathered key events = gathered_from key (replicate 4 None) [] events
+
+-- The answer is right for these fragments of one datagram: it is their payload with the quote of the last fragment zero of them, or
+-- they make none yet, or they contradict each other. A fragment that finds no place is of none.
+abbrev pub IsRight : List Datagram → Taken → Type 0
+IsRight fragments (Whole whole) = IsPayload fragments whole.octets.now × (latest_quote fragments ≡ Some whole.quote.now)
+IsRight fragments Waiting = (payload : List ℕ) → IsPayload fragments payload → ⊥
+IsRight fragments (Dropped GivenUp) = is_contradictory fragments ≡ true
+IsRight fragments (Dropped NoPlace) = Unit {0}
