@@ -1,5 +1,5 @@
 -- What every list of events leaves in a pool.
-use Rattle.std.proofs.Common.{◌≡◌, ◌⊎◌, ℕ, zero, suc, ◌<◌, ◌≤◌, ◌&&◌, Bool, true, false, nat_eq, nat_lt, cond, List, [], ◌∷◌, ◌++◌, length, replicate, fold, set, get_or, Option, Some, None, IfSome, is_none, is_some, inl, inr, refl, sym, ◌∙◌, ap, subst, append-nil, arith}
+use Rattle.std.proofs.Common.{◌≡◌, ◌≢◌, ◌⊎◌, ℕ, zero, suc, ◌<◌, ◌≤◌, ◌&&◌, Bool, true, false, nat_eq, nat_lt, cond, List, [], ◌∷◌, ◌++◌, length, replicate, fold, set, get_or, Option, Some, None, IfSome, is_none, is_some, inl, inr, refl, sym, ◌∙◌, ap, subst, append-nil, arith}
 use Rattle.std.specs.List.{Any, list_any, position, position_or_len}
 use Rattle.std.specs.Option.{option_or}
 use Rattle.std.proofs.lemmas.Bool.{cases_lt}
@@ -16,11 +16,12 @@ use Rattle.reassembly.specs.declared.key.Key.{Key}
 use Rattle.reassembly.specs.declared.taken.Loss.TheVariants.{NoPlace, GivenUp}
 use Rattle.reassembly.specs.declared.taken.Taken.{Taken}
 use Rattle.reassembly.specs.declared.taken.Taken.TheVariants.{Waiting, Whole, Dropped}
-use Rattle.reassembly.specs.Events.{Event, after_event, after_events, has_place, taken_for, gathered_after, gathered_from, gathered, IsRight}
+use Rattle.reassembly.specs.Events.{Event, after_event, after_events, has_place, taken_for, gathered_after, gathered_from, gathered, IsRight, IsRightFor}
 use Rattle.reassembly.specs.Events.Event.{Takes, Ages}
 use Rattle.reassembly.specs.Fragments.{key_of, latest_quote, is_contradictory, IsPayload}
 use Rattle.reassembly.specs.Keys.{same_key}
 use Rattle.reassembly.specs.Octets.{whole_of}
+use Rattle.reassembly.specs.Parts.{ArePartsOf, CoverAll}
 use Rattle.reassembly.specs.Places.{is_of, is_over, place_for, after_take_at, after_take, after_age, AnswersAt, AnswersTake}
 use Rattle.reassembly.specs.Reassembly.{Reassembly, begun, after_fragments, with_fragment, conflicts, continued, outcome, left, Answers, quoted}
 use Rattle.reassembly.specs.Reassembly.Outcome.{Completes}
@@ -28,6 +29,7 @@ use Rattle.reassembly.proofs.Contradictions.{given_up}
 use Rattle.reassembly.proofs.OneMore.{after_one_more}
 use Rattle.reassembly.proofs.Outcomes.{outcome_given_up, outcome_completes, outcome_waits}
 use Rattle.reassembly.proofs.Found.{wholes_are_quoted}
+use Rattle.reassembly.proofs.PartsAgree.{agree, made, enough}
 use Rattle.reassembly.proofs.Quotes.{quoted as latest_is_quoted}
 use Rattle.reassembly.proofs.Together.{whole_is_payload, payload_is_whole}
 
@@ -407,3 +409,20 @@ answered events now d taken h = step (goes now d (after_events events) (λ key. 
     step (inr n) =
         let none : taken ≡ Dropped NoPlace = subst (λ o. AnswersAt now d (after_events events) o taken) n.found h in
         subst (IsRight (gathered (key_of d) events ++ d ∷ [])) (sym none) tt
+
+-- where they are parts of one payload
+pub right_for : (events : List Event) (now : Moment) (d : Datagram) (taken : Taken) (payload : List ℕ) → AnswersTake now d (after_events events) taken
+    → ArePartsOf payload (gathered (key_of d) events ++ d ∷ []) → IsRightFor payload taken
+right_for events now d taken payload h parts = step taken (answered events now d taken h)
+  where
+    step : (t : Taken) → IsRight (gathered (key_of d) events ++ d ∷ []) t → IsRightFor payload t
+    step (Whole whole) k = made payload whole.octets.now (gathered (key_of d) events ++ d ∷ []) parts k.0
+    step Waiting k = tt
+    step (Dropped GivenUp) k = let both : true ≡ false = sym k ∙ agree payload (gathered (key_of d) events ++ d ∷ []) parts in cc
+    step (Dropped NoPlace) k = tt
+
+pub whole_for : (events : List Event) (now : Moment) (d : Datagram) (taken : Taken) (payload : List ℕ) → AnswersTake now d (after_events events) taken
+    → ArePartsOf payload (gathered (key_of d) events ++ d ∷ []) → CoverAll payload (gathered (key_of d) events ++ d ∷ []) → taken ≢ Waiting
+whole_for events now d taken payload h parts all waits =
+    subst (IsRight (gathered (key_of d) events ++ d ∷ [])) waits (answered events now d taken h) payload
+    (enough payload (gathered (key_of d) events ++ d ∷ []) parts all)

@@ -53,3 +53,10 @@ IsRight fragments (Whole whole) = IsPayload fragments whole.octets.now × (lates
 IsRight fragments Waiting = (payload : List ℕ) → IsPayload fragments payload → ⊥
 IsRight fragments (Dropped GivenUp) = is_contradictory fragments ≡ true
 IsRight fragments (Dropped NoPlace) = Unit {0}
+
+-- The answer is right for parts of one payload: it is that payload or none, and they are not given up.
+abbrev pub IsRightFor : List ℕ → Taken → Type 0
+IsRightFor payload (Whole whole) = whole.octets.now ≡ payload
+IsRightFor payload Waiting = Unit {0}
+IsRightFor payload (Dropped GivenUp) = ⊥
+IsRightFor payload (Dropped NoPlace) = Unit {0}

@@ -6,7 +6,8 @@ ghost use Rattle.ipv4.specs.Datagram.{Datagram};
 ghost use Rattle.clock.specs.declared.moment.Moment.{Moment};
 ghost use Rattle.reassembly.specs.declared.pool.TheConstants.{PLACES};
 ghost use Rattle.reassembly.specs.declared.taken.Taken.{Taken};
-ghost use Rattle.reassembly.specs.Events.{Event, after_events, gathered, IsRight};
+ghost use Rattle.reassembly.specs.declared.taken.Taken.TheVariants.{Waiting};
+ghost use Rattle.reassembly.specs.Events.{Event, after_events, gathered, IsRight, IsRightFor};
 ghost use Rattle.reassembly.specs.Fragments.{key_of, latest, latest_quote, told_end, is_contradictory, IsPayload};
 ghost use Rattle.reassembly.specs.Keys.{same_key};
 ghost use Rattle.reassembly.specs.Octets.{whole_of};
@@ -151,6 +152,20 @@ pub fn answers_over_events()
     ensures { (events : List Event) (now : Moment) (d : Datagram) (taken : Taken)
         → AnswersTake now d (after_events events) taken
         → IsRight (gathered (key_of d) events ++ d ∷ []) taken }
+{}
+
+/// So where all of these are parts of one payload, in any order, some of them repeated or missing, it is put together right or not at
+/// all, whatever else is taken and told; and it no longer waits where no part is missing (RFC 791 section 3.2).
+pub fn parts_over_events()
+    ensures right { (events : List Event) (now : Moment) (d : Datagram) (taken : Taken) (payload : List ℕ)
+        → AnswersTake now d (after_events events) taken
+        → ArePartsOf payload (gathered (key_of d) events ++ d ∷ [])
+        → IsRightFor payload taken }
+    ensures whole { (events : List Event) (now : Moment) (d : Datagram) (taken : Taken) (payload : List ℕ)
+        → AnswersTake now d (after_events events) taken
+        → ArePartsOf payload (gathered (key_of d) events ++ d ∷ [])
+        → CoverAll payload (gathered (key_of d) events ++ d ∷ [])
+        → taken ≢ Waiting }
 {}
 
 /// What the public constant is: a pool has four places, which is this stack's own number.
