@@ -1,0 +1,3 @@
+pub mod SocketView
+pub mod Emission
+pub mod Stored

@@ -1,0 +1,170 @@
+//! The socket itself.
+
+ghost use Rattle.std.specs.Prelude.{◌≡◌, ℕ, ◌+◌, ◌<◌, ◌≤◌, ◌↔◌, ◌++◌, length, drop, IsOk, IfOk, OnOk, OnErr, IsTrue, if◌then◌else◌, Some};
+
+use crate::part::{self, Part};
+use crate::tag::Tag;
+use circular_buffer::HeapCircularBuffer;
+use clock::Moment;
+use ipv4::Endpoint;
+use std::alloc::{AllocError, Global};
+use std::marker::Model;
+use udp::{CAPACITY, HEADER_LEN, Head, MOST_IN_FRAGMENT, MOST_WAITING, Queue, QueueFault};
+
+/// The octets of data of a datagram at most: the payload of IPv4 has room for no more behind a header of 8 octets, where the header of
+/// IPv4 has 20 (RFC 768, RFC 791 section 3.1).
+pub const MOST_OCTETS: usize = 65_507;
+
+/// One UDP socket: what came and was not read, and what is to go out. Each of the two queues has room for 64 datagrams, and for 65,535
+/// octets, where each datagram counts 8 beside its data. Only the making takes memory.
+#[derive(Drop)]
+pub struct UdpSocket {
+    inbox: Queue,
+    datagrams: Queue,
+    tags: HeapCircularBuffer<Tag>,
+    parts: u16,
+}
+
+impl Model for UdpSocket {
+    ghost use Rattle.udp_socket.specs.SocketView.{SocketView};
+    ghost use Rattle.udp_socket.specs.Stored.{outgoing_of, IsStored};
+
+    ghost Value = { SocketView };
+
+    ghost view = { λ s. record { inbox = s.inbox.items; outbox = outgoing_of s.tags.items s.datagrams.items; parts = s.parts } };
+
+    ghost invariant = { λ s. IsStored s.inbox s.datagrams s.tags s.parts };
+}
+
+impl UdpSocket {
+    ghost use Rattle.ipv4.specs.Datagram.{HasPlace};
+    ghost use Rattle.udp_socket.specs.SocketView.{HasRoomIn, HasRoomOut, new_socket, with_received, with_sent, read_answer, read_buffer, after_read};
+    ghost use Rattle.udp_socket.specs.Emission.{due_peer, due_part, due_octets, has_more, after_part};
+
+    /// A socket in whose queues nothing waits. It takes its whole memory here, and refuses where there is none.
+    pub fn new(alloc: Global) -> Result<UdpSocket, AllocError>
+        ensures { IfOk result (λ socket. socket ≡ new_socket) }
+    {
+        let inbox = Queue::with_capacity(alloc, CAPACITY).map_err(|_| AllocError)?;
+        let datagrams = Queue::with_capacity(alloc, CAPACITY).map_err(|_| AllocError)?;
+        let tags = HeapCircularBuffer::with_capacity(alloc, MOST_WAITING)?;
+        Ok(UdpSocket {
+            inbox,
+            datagrams,
+            tags,
+            parts: 0,
+        })
+    }
+
+    /// Takes a datagram to be sent behind the others, with the identification of its fragments. NoRoom where it has none, and then
+    /// nothing has changed. It takes no memory.
+    pub fn send(
+        &mut self,
+        now: Moment,
+        peer: Endpoint,
+        identification: u16,
+        octets: &[u8],
+    ) -> Result<(), QueueFault>
+        requires { length octets.now ≤ MOST_OCTETS }
+        ensures room { IsOk result ↔ HasRoomOut self.old (length octets.now) }
+        ensures ok { OnOk result (self.new ≡ with_sent self.old now peer identification octets.now) }
+        ensures err { OnErr result (self.new ≡ self.old) }
+    {
+        self.datagrams.push(peer, octets)?;
+        self.tags.push_back(Tag {
+            peer,
+            identification,
+            since: now,
+        });
+        Ok(())
+    }
+
+    /// Takes a datagram that came from this endpoint behind the others, and answers whether it did: not where it has no room, and then
+    /// nothing has changed. It takes no memory.
+    pub fn receive(&mut self, from: Endpoint, octets: &[u8]) -> bool
+        ensures room { IsTrue result ↔ HasRoomIn self.old (length octets.now) }
+        ensures after { self.new ≡ (if result then with_received self.old from octets.now else self.old) }
+    {
+        self.inbox.push(from, octets).is_ok()
+    }
+
+    /// Takes out the first datagram that came. Its octets go into the buffer as far as this has room, what it has behind them stays, and
+    /// the rest of a longer one is lost. Answers how many octets were written, and the endpoint that the datagram is from. None where nothing waits.
+    pub fn recv(&mut self, buffer: &mut [u8]) -> Option<(usize, Endpoint)>
+        ensures answer { result ≡ read_answer self.old.inbox (length buffer.old) }
+        ensures buffer { buffer.new ≡ read_buffer self.old.inbox buffer.old }
+        ensures after { self.new ≡ after_read self.old }
+    {
+        let first = self.inbox.first()?;
+        let len = first.len.min(buffer.len());
+        self.inbox.copy_at(0, &mut buffer[..len]);
+        self.inbox.pop();
+        Some((len, first.endpoint))
+    }
+
+    /// The endpoint that the first outgoing datagram is for. None where none is to go out.
+    pub fn due_peer(&self) -> Option<Endpoint>
+        ensures { result ≡ due_peer self.now.outbox }
+    {
+        let tag = self.tags.front().copied()?;
+        Some(tag.peer)
+    }
+
+    /// Writes the fragment that is due, as a payload of IPv4 from this endpoint, from `out[0]` on, and answers what its header has to
+    /// tell. It is the next one of the first outgoing datagram, which is gone after its last. What stands behind it in `out` stays.
+    /// The checksum is that of the whole datagram (RFC 768, RFC 791 section 3.2).
+    pub fn emit(&mut self, source: Endpoint, out: &mut [u8]) -> Part
+        requires due { 0 < length self.old.outbox }
+        requires room { MOST_IN_FRAGMENT ≤ length out.old }
+        ensures part { Some result ≡ due_part self.old }
+        ensures octets { out.new ≡ due_octets source self.old ++ drop result.fragment.len out.old }
+        ensures after { self.new ≡ after_part self.old }
+        ensures place { HasPlace result.fragment.more_fragments result.fragment.offset result.fragment.len }
+    {
+        let Some(tag) = self.tags.front().copied() else {
+            unreachable!();
+        };
+        let Some(first) = self.datagrams.first() else {
+            unreachable!();
+        };
+        let fragment = part::fragment((HEADER_LEN + first.len) as u16, self.parts);
+        let payload = &mut out[..usize::from(fragment.len)];
+        if self.parts == 0 {
+            let head = Head {
+                source: source.port,
+                destination: tag.peer.port,
+            };
+            part::fill_first(
+                &self.datagrams,
+                head,
+                source.addr,
+                tag.peer.addr,
+                first.len,
+                payload,
+            );
+        } else {
+            let at = usize::from(MOST_IN_FRAGMENT * self.parts) - HEADER_LEN;
+            self.datagrams.copy_at(at, payload);
+        }
+        self.advance(fragment.more_fragments);
+        Part {
+            identification: tag.identification,
+            fragment,
+        }
+    }
+
+    /// One more fragment of the first outgoing datagram has gone out, or the datagram is gone.
+    fn advance(&mut self, more_fragments: bool)
+        requires due { 0 < length self.old.outbox }
+        requires more { has_more self.old ≡ more_fragments }
+        ensures { self.new ≡ after_part self.old }
+    {
+        if more_fragments {
+            self.parts += 1;
+        } else {
+            self.datagrams.pop();
+            self.tags.pop_front();
+            self.parts = 0;
+        }
+    }
+}
