@@ -8,3 +8,4 @@ pub mod TickIsMoves
 pub mod CloseIsMoves
 pub mod ConnectIsMove
 pub mod CallsOfNetwork
+pub mod ErrorIsMove

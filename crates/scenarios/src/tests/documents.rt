@@ -23,7 +23,7 @@ fn client(alloc: Global, now: Moment, isn: Seq) -> Option<(Host, SocketId)> {
     let link = Prefix::new(Addr([10, 0, 0, 0]), 24).ok()?;
     routes.add(link, Hop::Direct).ok()?;
     let config = Config::new(Mac([2, 0, 0, 0, 0, 1]), Addr([10, 0, 0, 1]), routes).ok()?;
-    let mut host = Host::new(alloc, config);
+    let mut host = Host::new(alloc, config).ok()?;
     let id = host.socket(Kind::Tcp).ok()?;
     let peer = Endpoint {
         addr: Addr([10, 0, 0, 2]),
@@ -75,7 +75,7 @@ fn meet(alloc: Global, listener: &mut Station) -> Option<(State, (SocketId, Endp
 
 #[test]
 fn the_documents_connect_two_hosts(rt: HostRuntime) {
-    let mut listener = Station::new(rt.alloc(), config(&rt, Side::B));
+    let mut listener = Station::new(&rt, rt.alloc(), config(&rt, Side::B));
     listener.socket();
     assert_eq!(rt; listener.host.bind(ONE, SERVER), Ok(()));
     assert_eq!(rt; listener.host.listen(ONE, 1), Ok(()));

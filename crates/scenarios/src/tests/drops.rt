@@ -1,6 +1,6 @@
 //! Frames that a host doesn't take, each by one fault of a good one, and frames that it takes and that change nothing.
 
-use super::octets::{REQUEST, SYN};
+use super::octets::{ECHO, REQUEST, SYN};
 use super::stations::Side::B;
 use super::stations::{Station, Told, config};
 use host::DropCause;
@@ -16,8 +16,8 @@ const WRONG_SUM: &[u8] = b"\x02\0\0\0\0\x02\x02\0\0\0\0\x01\x08\0\
 /// A frame, the octets of it that are others, and why it is dropped, if it is.
 type Row = (&'static [u8], &'static [(usize, u8)], Result<(), DropCause>);
 
-/// Where an octet of the IPv4 header is another, so is its checksum.
-const ROWS: [Row; 18] = [
+/// Where an octet of the IPv4 header is another, so is its checksum, and that of a message where its type or code is.
+const ROWS: [Row; 27] = [
     (&[0; 13], &[], Err(DropCause::Short)),
     (&[0; 1_515], &[], Err(DropCause::Short)),
     (SYN, &[(5, 3)], Err(DropCause::OtherMac)),
@@ -41,13 +41,37 @@ const ROWS: [Row; 18] = [
     (REQUEST, &[(15, 2)], Err(DropCause::UpperHeader)),
     (REQUEST, &[(31, 2)], Err(DropCause::OtherAddress)),
     (REQUEST, &[(41, 3)], Ok(())),
-    (SYN, &[(23, 1), (25, 0xcf)], Ok(())),
+    (SYN, &[(23, 1), (25, 0xcf)], Err(DropCause::UpperSum)),
+    (ECHO, &[(37, 0x9a)], Err(DropCause::UpperSum)),
+    (ECHO, &[(17, 0x1b), (25, 0xac)], Err(DropCause::UpperHeader)),
+    (ECHO, &[(21, 1), (25, 0xa7)], Err(DropCause::Fragment)),
+    (ECHO, &[(21, 1), (23, 17), (25, 0x97)], Ok(())),
+    (
+        ECHO,
+        &[
+            (30, 255),
+            (31, 255),
+            (32, 255),
+            (33, 255),
+            (24, 0x5e),
+            (25, 0xaa),
+        ],
+        Err(DropCause::OtherAddress),
+    ),
+    (
+        ECHO,
+        &[(30, 224), (24, 0x7e), (25, 0xa7)],
+        Err(DropCause::OtherAddress),
+    ),
+    (ECHO, &[(34, 0), (36, 0x3b)], Ok(())),
+    (ECHO, &[(34, 13), (36, 0x2e)], Ok(())),
+    (ECHO, &[(35, 1), (37, 0x9a)], Ok(())),
     (WRONG_SUM, &[], Err(DropCause::IpSum)),
     (WRONG_SUM, &[(25, 0x61)], Err(DropCause::OtherAddress)),
 ];
 
 /// The frame with these octets in the place of its own, and zeros behind it.
-fn changed(frame: &[u8], changes: &[(usize, u8)]) -> [u8; 1_515] {
+pub(super) fn changed(frame: &[u8], changes: &[(usize, u8)]) -> [u8; 1_515] {
     let mut octets = [0; 1_515];
     for (octet, new) in octets.iter_mut().zip(frame.iter()) {
         *octet = *new;
@@ -62,7 +86,7 @@ fn changed(frame: &[u8], changes: &[(usize, u8)]) -> [u8; 1_515] {
 
 /// A host that heard nothing before hears these, and has nothing to say to them.
 fn heard(rt: &impl Abort, alloc: Global, octets: &[u8], want: Result<(), DropCause>) {
-    let mut station = Station::new(alloc, config(rt, B));
+    let mut station = Station::new(rt, alloc, config(rt, B));
     let told = match want {
         Ok(()) => Told::Done,
         Err(cause) => Told::Dropped(cause),

@@ -110,3 +110,73 @@ pub(super) const THIRD_ASKED: &[u8] = b"\xff\xff\xff\xff\xff\xff\x02\0\0\0\0\x02
 pub(super) const THIRD_IS_ASKED_FOR: &[u8] = b"\xff\xff\xff\xff\xff\xff\x02\0\0\0\0\x01\x08\x06\
     \0\x01\x08\0\x06\x04\0\x01\x02\0\0\0\0\x01\x0a\0\0\x01\0\0\0\0\0\0\x0a\0\0\x03\
     \0\0\0\0\0\0\0\0\0\0\0\0\0\0\0\0\0\0";
+
+/// A asks for B's echo of three octets (RFC 792).
+pub(super) const ECHO: &[u8] = b"\x02\0\0\0\0\x02\x02\0\0\0\0\x01\x08\0\
+    \x45\0\0\x1f\x12\x34\0\0\x40\x01\x54\xa8\x0a\0\0\x01\x0a\0\0\x02\
+    \x08\0\x33\x9b\0\x01\0\x01\x61\x62\x63\
+    \0\0\0\0\0\0\0\0\0\0\0\0\0\0\0";
+
+/// B's reply to that.
+pub(super) const ECHOED: &[u8] = b"\x02\0\0\0\0\x01\x02\0\0\0\0\x02\x08\0\
+    \x45\0\0\x1f\0\0\x40\0\x40\x01\x26\xdc\x0a\0\0\x02\x0a\0\0\x01\
+    \0\0\x3b\x9b\0\x01\0\x01\x61\x62\x63\
+    \0\0\0\0\0\0\0\0\0\0\0\0\0\0\0";
+
+/// The gateway hands on that 192.0.2.9 asks for A's echo.
+pub(super) const FAR_ECHO: &[u8] = b"\x02\0\0\0\0\x01\x02\0\0\0\0\xfe\x08\0\
+    \x45\0\0\x1f\0\0\x40\0\x40\x01\x6e\xd4\xc0\0\x02\x09\x0a\0\0\x01\
+    \x08\0\x33\x9b\0\x01\0\x01\x61\x62\x63\
+    \0\0\0\0\0\0\0\0\0\0\0\0\0\0\0";
+
+/// A's reply to that, on its way to the gateway.
+pub(super) const FAR_ECHOED: &[u8] = b"\x02\0\0\0\0\xfe\x02\0\0\0\0\x01\x08\0\
+    \x45\0\0\x1f\0\0\x40\0\x40\x01\x6e\xd4\x0a\0\0\x01\xc0\0\x02\x09\
+    \0\0\x3b\x9b\0\x01\0\x01\x61\x62\x63\
+    \0\0\0\0\0\0\0\0\0\0\0\0\0\0\0";
+
+/// The gateway hands on that 192.0.2.9 asks for B's echo.
+pub(super) const FAR_ECHO_OF_B: &[u8] = b"\x02\0\0\0\0\x02\x02\0\0\0\0\xfe\x08\0\
+    \x45\0\0\x1f\0\0\x40\0\x40\x01\x6e\xd3\xc0\0\x02\x09\x0a\0\0\x02\
+    \x08\0\x33\x9b\0\x01\0\x01\x61\x62\x63\
+    \0\0\0\0\0\0\0\0\0\0\0\0\0\0\0";
+
+/// A datagram of protocol 47 from A.
+pub(super) const OTHER_PROTOCOL: &[u8] = b"\x02\0\0\0\0\x02\x02\0\0\0\0\x01\x08\0\
+    \x45\0\0\x20\0\x07\0\0\x40\x2f\x66\xa6\x0a\0\0\x01\x0a\0\0\x02\
+    \x01\x02\x03\x04\x05\x06\x07\x08\x09\x0a\x0b\x0c\
+    \0\0\0\0\0\0\0\0\0\0\0\0\0\0";
+
+/// The same from 192.0.2.9.
+pub(super) const FAR_PROTOCOL: &[u8] = b"\x02\0\0\0\0\x02\x02\0\0\0\0\xfe\x08\0\
+    \x45\0\0\x20\0\x07\0\0\x40\x2f\xae\x9d\xc0\0\x02\x09\x0a\0\0\x02\
+    \x01\x02\x03\x04\x05\x06\x07\x08\x09\x0a\x0b\x0c\
+    \0\0\0\0\0\0\0\0\0\0\0\0\0\0";
+
+/// B tells A that nothing there takes that protocol: the error quotes A's header and 8 octets behind it (RFC 792).
+pub(super) const NOT_TAKEN: &[u8] = b"\x02\0\0\0\0\x01\x02\0\0\0\0\x02\x08\0\
+    \x45\0\0\x38\0\0\x40\0\x40\x01\x26\xc3\x0a\0\0\x02\x0a\0\0\x01\
+    \x03\x02\xec\xe9\0\0\0\0\x45\0\0\x20\0\x07\0\0\x40\x2f\x66\xa6\x0a\0\0\x01\x0a\0\0\x02\
+    \x01\x02\x03\x04\x05\x06\x07\x08";
+
+/// B tells A that nothing there takes what is for port 80, and quotes A's SYN.
+pub(super) const UNREACHABLE: &[u8] = b"\x02\0\0\0\0\x01\x02\0\0\0\0\x02\x08\0\
+    \x45\0\0\x38\0\0\x40\0\x40\x01\x26\xc3\x0a\0\0\x02\x0a\0\0\x01\
+    \x03\x03\x3c\xac\0\0\0\0\x45\0\0\x2c\0\0\x40\0\x40\x06\x26\xca\x0a\0\0\x01\x0a\0\0\x02\
+    \xc0\0\0\x50\xff\xff\xff\xff";
+
+/// The same, with one octet less of the SYN.
+pub(super) const CUT_QUOTE: &[u8] = b"\x02\0\0\0\0\x01\x02\0\0\0\0\x02\x08\0\
+    \x45\0\0\x37\0\0\x40\0\x40\x01\x26\xc4\x0a\0\0\x02\x0a\0\0\x01\
+    \x03\x03\x3d\xab\0\0\0\0\x45\0\0\x2c\0\0\x40\0\x40\x06\x26\xca\x0a\0\0\x01\x0a\0\0\x02\
+    \xc0\0\0\x50\xff\xff\xff";
+
+/// B asks for the MAC of 10.1.2.3.
+pub(super) const NEIGHBOUR_ASKED: &[u8] = b"\xff\xff\xff\xff\xff\xff\x02\0\0\0\0\x02\x08\x06\
+    \0\x01\x08\0\x06\x04\0\x01\x02\0\0\0\0\x02\x0a\0\0\x02\0\0\0\0\0\0\x0a\x01\x02\x03\
+    \0\0\0\0\0\0\0\0\0\0\0\0\0\0\0\0\0\0";
+
+/// B asks for the MAC of 10.0.0.9.
+pub(super) const NEAR_GATEWAY_ASKED: &[u8] = b"\xff\xff\xff\xff\xff\xff\x02\0\0\0\0\x02\x08\x06\
+    \0\x01\x08\0\x06\x04\0\x01\x02\0\0\0\0\x02\x0a\0\0\x02\0\0\0\0\0\0\x0a\0\0\x09\
+    \0\0\0\0\0\0\0\0\0\0\0\0\0\0\0\0\0\0";

@@ -22,6 +22,9 @@ const MAC_OF_B: Mac = Mac([2, 0, 0, 0, 0, 2]);
 /// What leads off the link.
 const GATEWAY: Addr = Addr([10, 0, 0, 254]);
 
+/// What leads to much of 10.0.0.0/8.
+const NEAR_GATEWAY: Addr = Addr([10, 0, 0, 9]);
+
 /// The first port that A's sockets are given.
 pub(super) const CLIENT: Endpoint = Endpoint {
     addr: A,
@@ -148,6 +151,10 @@ pub(super) enum Start {
     Listening,
     /// A knows a gateway for all that isn't on its link.
     Routed,
+    /// B knows two gateways, and one direct way beside them.
+    Gateways,
+    /// B knows the nearer of these gateways alone.
+    NearGateway,
 }
 
 /// A name, where the scenario begins, and its steps from there on, part after part.
@@ -163,9 +170,9 @@ pub(super) struct Station {
 
 impl Station {
     /// A host with no sockets.
-    pub(super) fn new(alloc: Global, config: Config) -> Station {
+    pub(super) fn new(rt: &impl Abort, alloc: Global, config: Config) -> Station {
         Station {
-            host: Host::new(alloc, config),
+            host: Host::new(alloc, config).expect(rt, "memory for a host"),
             frame: [0; 1514],
             len: 0,
         }
@@ -196,7 +203,7 @@ impl Station {
     }
 
     /// Reads octets.
-    fn recv(&mut self, id: SocketId) -> Told {
+    pub(super) fn recv(&mut self, id: SocketId) -> Told {
         match self.host.recv(id, &mut [0; 4]) {
             Ok(received) => Told::Received(received),
             Err(refusal) => Told::Refused(refusal),
@@ -204,7 +211,7 @@ impl Station {
     }
 
     /// The state of a socket.
-    fn state(&self, id: SocketId) -> Told {
+    pub(super) fn state(&self, id: SocketId) -> Told {
         match self.host.state(id) {
             Ok(state) => Told::State(state),
             Err(refusal) => Told::Refused(refusal),
@@ -280,6 +287,34 @@ fn routed(rt: &impl Abort) -> Config {
     Config::new(MAC_OF_A, A, routes).expect(rt, "a host's MAC and address")
 }
 
+/// How B is set up where one gateway leads to 10.0.0.0/8, but for 10.1.0.0/16, which is on the link.
+fn near_gateway(rt: &impl Abort) -> Routes {
+    let mut routes = Routes::new();
+    let near = Prefix::new(Addr([10, 0, 0, 0]), 8).expect(rt, "a prefix");
+    let direct = Prefix::new(Addr([10, 1, 0, 0]), 16).expect(rt, "a prefix");
+    routes
+        .add(near, Hop::Gateway(NEAR_GATEWAY))
+        .expect(rt, "no other route");
+    routes
+        .add(direct, Hop::Direct)
+        .expect(rt, "one other route");
+    routes
+}
+
+/// The same, where another gateway leads to all else.
+fn gateways(rt: &impl Abort) -> Routes {
+    let mut routes = near_gateway(rt);
+    routes
+        .add(Prefix::default(), Hop::Gateway(A))
+        .expect(rt, "two other routes");
+    routes
+}
+
+/// How B is set up with these routes.
+fn routed_by(rt: &impl Abort, routes: Routes) -> Config {
+    Config::new(MAC_OF_B, B, routes).expect(rt, "a host's MAC and address")
+}
+
 /// What a call without a value tells.
 fn done(outcome: Result<(), Refusal>) -> Told {
     match outcome {
@@ -302,9 +337,14 @@ impl Hosts {
             Start::Routed => routed(rt),
             _ => config(rt, Side::A),
         };
+        let b = match start {
+            Start::Gateways => routed_by(rt, gateways(rt)),
+            Start::NearGateway => routed_by(rt, near_gateway(rt)),
+            _ => config(rt, Side::B),
+        };
         Hosts {
-            a: Station::new(alloc, a),
-            b: Station::new(alloc, config(rt, Side::B)),
+            a: Station::new(rt, alloc, a),
+            b: Station::new(rt, alloc, b),
         }
     }
 
@@ -313,7 +353,7 @@ impl Hosts {
         let steps = match start {
             Start::Neighbours => NEIGHBOURS,
             Start::Listening => LISTENING,
-            Start::Fresh | Start::Routed => &[],
+            Start::Fresh | Start::Routed | Start::Gateways | Start::NearGateway => &[],
         };
         self.play(rt, "the setting up", 0, steps);
     }

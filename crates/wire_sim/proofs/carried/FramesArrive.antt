@@ -1,5 +1,5 @@
--- A frame that arrives at a host is a move of the one pairing to which its segment belongs, or changes no table.
-use Rattle.std.proofs.Common.{◌≡◌, ℕ, ◌+◌, ◌<◌, ◌^◌, ◌==◌, not, inl, inr, arith, Bool, true, false, cond, if◌then◌else◌, List, length, Option, Some, None, Result, Ok, Err, refl, sym, ◌∙◌, ap, subst}
+-- A frame that arrives at a host is a move of the one pairing to which its segment belongs, or of which it tells an error, or changes no table.
+use Rattle.std.proofs.Common.{◌≡◌, ℕ, ◌+◌, ◌<◌, ◌^◌, ◌==◌, not, inl, inr, arith, Bool, true, false, cond, if◌then◌else◌, List, length, Option, Some, None, option_map, Result, Ok, Err, refl, sym, ◌∙◌, ap, subst}
 use Rattle.std.specs.List.{find}
 use Rattle.std.proofs.lemmas.Bool.{and_parts, eqb-true}
 use Rattle.clock.specs.declared.moment.Moment.{Moment}
@@ -11,16 +11,21 @@ use Rattle.ipv4.proofs.Pairs.{pair_of-swapped}
 use Rattle.tcp_segment.specs.Segment.{Segment}
 use Rattle.frames.specs.declared.drop.DropCause.{DropCause}
 use Rattle.frames.specs.declared.meaning.Meaning.{Meaning}
-use Rattle.frames.specs.declared.meaning.Meaning.TheVariants.{Arp, Tcp, Other}
+use Rattle.frames.specs.declared.meaning.Meaning.TheVariants.{Arp, Tcp, Icmp, Other, UdpFragment}
+use Rattle.frames.specs.declared.meaning.Control.{Control}
 use Rattle.frames.specs.declared.meaning.Received.{Received}
 use Rattle.frames.specs.Meaning.{heard, may_send}
 use Rattle.frames.proofs.Hearers.{from_others}
 use Rattle.interface.specs.Ways.{is_routed}
+use Rattle.sockets.specs.declared.entry.SocketId.{SocketId}
+use Rattle.sockets.specs.declared.entry.Entry.{Entry}
 use Rattle.sockets.specs.declared.taken.Taken.TheVariants as taken
 use Rattle.sockets.specs.Arrival.{Arrival, Becomes, Opens as OpensTable, NoPlace, Answers, local_end, peer_end, arrival, pair_opened, Meets as MeetsTable}
 use Rattle.sockets.specs.SocketsView.{SocketsView, later_moment, holder_id}
-use Rattle.host.specs.Arrival.{MeetsSegment, arrival_by_route, segment_arrival, MeetsHeard, IsDelivered, heard_by, foreseen_of, foreseen}
+use Rattle.sockets.specs.Unreachable.{after_unreachable}
+use Rattle.host.specs.Arrival.{MeetsSegment, arrival_by_route, segment_arrival, MeetsMessage, MeetsHeard, IsDelivered, heard_by, foreseen_of, foreseen}
 use Rattle.host.specs.HostView.{HostView}
+use Rattle.host.specs.Messages.{Told, Asks, Refuses, Nothing, told_by}
 use Rattle.host.specs.Sound.{IsSoundHost}
 use Rattle.stream_law.specs.Channel.{IsAmong}
 use Rattle.stream_law.specs.Pairing.{IsTimely}
@@ -34,17 +39,19 @@ use Rattle.wire_sim.specs.declared.event.Unfair.TheVariants.{OtherEpoch, Stale}
 use Rattle.wire_sim.specs.declared.world.bag.Frame.{Frame}
 use Rattle.wire_sim.specs.declared.world.bag.Note.{Note}
 use Rattle.wire_sim.specs.Fairness.{is_stale, late_note, second_by_frame}
-use Rattle.wire_sim.specs.Openings.{epoch_of, opened_by_frame}
+use Rattle.wire_sim.specs.Openings.{epoch_of, held_anew, opened_by_frame}
 use Rattle.wire_sim.specs.Steps.{MeetsFrame}
 use Rattle.wire_sim.specs.Tallies.{is_opening_of}
 use Rattle.wire_sim.specs.WorldView.{NetworkView, written_at}
 use Rattle.wire_sim.proofs.tables.CallsOnTable.{not_true}
-use Rattle.wire_sim.proofs.tables.PairOfPorts.{same_addr-other}
+use Rattle.wire_sim.proofs.openings.HeldIsOpened.{unheld-told}
+use Rattle.wire_sim.proofs.tables.PairOfPorts.{same_addr-other, unheld}
 use Rattle.wire_sim.proofs.tables.SegmentArrived.{Arrived, Ignored, segment-arrived}
 use Rattle.wire_sim.proofs.tables.TableById.{end_at}
 use Rattle.wire_sim.proofs.pairing.ArrivalIsMove.{Opens, OpensNone, held-still, MayCome, projects-arrived}
 use Rattle.wire_sim.proofs.pairing.EmissionIsMove.{written-end}
 use Rattle.wire_sim.proofs.pairing.EndMoves.{pairing}
+use Rattle.wire_sim.proofs.pairing.ErrorIsMove.{projects-told}
 use Rattle.wire_sim.proofs.pairing.OpeningIsMove.{not-second}
 use Rattle.wire_sim.proofs.pairing.WorldAsPairings.{told, Sent, Bag, Projects}
 use Rattle.wire_sim.proofs.told.TraceAndOneMore.{timely}
@@ -136,6 +143,19 @@ pub noted-none : (openings : List Opening) (side : Side) (place : ℕ) (o : Opti
 noted-none openings side place None old new same = refl
 noted-none openings side place (Some note) old new same = held-still openings side place note.pair (holder_id old note.pair) (holder_id new note.pair) (ap (λ w. holder_id w note.pair) same)
 
+-- nor where it comes to hold no pair
+noted-unheld : (openings : List Opening) (side : Side) (place : ℕ) (o : Option Note) (old new : SocketsView) → ((pair : Pair) → holder_id old pair ≡ None → holder_id new pair ≡ None) → noted_opening openings side place o old new ≡ None
+noted-unheld openings side place None old new keeps = refl
+noted-unheld openings side place (Some note) old new keeps = by_holder (holder_id old note.pair) refl
+  where
+    by_holder : (before : Option SocketId) → holder_id old note.pair ≡ before → held_anew openings side place note.pair before (holder_id new note.pair) ≡ None
+    by_holder None free = ap (held_anew openings side place note.pair None) (keeps note.pair free)
+    by_holder (Some held) free = refl
+
+-- an error that is told makes the table hold none
+unheld-refused : (own : SocketsView) (local peer : Endpoint) (number : ℕ) (pair : Pair) → holder_id own pair ≡ None → holder_id (after_unreachable own local peer number) pair ≡ None
+unheld-refused own local peer number pair free = ap (option_map (λ (e : Entry). e.id)) (unheld-told own local peer number pair (unheld own pair free))
+
 -- a segment comes from another address
 from-another : (own : Addr) (source : Addr) → may_send own source ≡ true → same_addr own source ≡ false
 from-another own source may = same_addr-other source own (not_true (same_addr source own) (and_parts (is_single_host source) (not (same_addr source own)) may).1)
@@ -146,11 +166,12 @@ named-pair from to out own a o r at k =
     let s = r.segment in
     k.pair ∙ (pair_of-swapped (record { addr = r.source; port = s.source }) (record { addr = a; port = s.destination }) ∙ ap (λ x. pair_of (record { addr = x; port = s.destination }) (peer_end r.source s)) (sym at))
 
--- What a frame that was delivered is to the host's table: nothing, or a segment that arrives.
+-- What a frame that was delivered is to the host's table: nothing, a segment that arrives, or an error that tells of one that went out.
 pub data IsToTable (h h' : HostView) (moment : Moment) (isn : ℕ) (o : Option Note) : Type 0 where
   Aside : h'.sockets ≡ h.sockets → IsToTable h h' moment isn o
   Brings : (r : Received) (note : Note) → o ≡ Some note → note.pair ≡ pair_of (local_end h.sockets r.segment) (peer_end r.source r.segment)
       → Arrived h.sockets moment isn (local_end h.sockets r.segment) (peer_end r.source r.segment) r.segment (segment_foreseen h r.source r.segment) h'.sockets → IsToTable h h' moment isn o
+  Tells : (local peer : Endpoint) (number : ℕ) → h'.sockets ≡ after_unreachable h.sockets local peer number → IsToTable h h' moment isn o
 
 heard-to_table : (from to : Side) (out : Sent) (a : Addr) (h h' : HostView) (clock : Moment) (isn : ℕ) (f : Frame) (answer : Result (Unit {0}) DropCause) → h.interface.addr ≡ h.sockets.addr → h.sockets.addr ≡ a → Carries a from to out f
     → IsDelivered h clock isn f.octets.items answer h' → IsToTable h h' (later_moment h.sockets clock) isn f.note
@@ -159,12 +180,19 @@ heard-to_table from to out a h h' clock isn f answer own at carries = by_meaning
     moment : Moment
     moment = later_moment h.sockets clock
 
+    by_told : (t : Told) (c : Control) → MeetsMessage t h moment c answer h' → IsToTable h h' moment isn f.note
+    by_told Asks c meets = Aside (ap (λ (w : HostView). w.sockets) meets.1)
+    by_told (Refuses quote) c meets = Tells quote.source quote.destination quote.number (ap (λ (w : HostView). w.sockets) meets.1)
+    by_told Nothing c meets = Aside (ap (λ (w : HostView). w.sockets) meets.1)
+
     by_meaning : (m : Result Meaning DropCause) → heard_by h f.octets.items ≡ m → MeetsHeard m h moment isn answer h' → IsToTable h h' moment isn f.note
     by_meaning (Ok (Arp packet)) is meets = Aside (ap (λ (w : HostView). w.sockets) meets.1)
     by_meaning (Ok (Tcp r)) is meets =
         let k = carries h.interface.mac r (subst (λ x. heard h.interface.mac x f.octets.items ≡ Ok (Tcp r)) (own ∙ at) is) in
         Brings r k.note k.noted (named-pair from to out h.sockets a f.note r at k) (segment-taken h moment isn r.source r.segment answer h' meets)
+    by_meaning (Ok (Icmp c)) is meets = by_told (told_by c.message) c meets
     by_meaning (Ok (Other d)) is meets = Aside (ap (λ (w : HostView). w.sockets) meets.1)
+    by_meaning (Ok (UdpFragment d)) is meets = Aside (ap (λ (w : HostView). w.sockets) meets.1)
     by_meaning (Err cause) is meets = Aside (ap (λ (w : HostView). w.sockets) meets.1)
 
 pub frame-to_table : (from to : Side) (out : Sent) (a : Addr) (h h' : HostView) (clock : Moment) (isn : ℕ) (f : Frame) (answer : Answer) → h.interface.addr ≡ h.sockets.addr → h.sockets.addr ≡ a → Carries a from to out f
@@ -209,11 +237,26 @@ frame-heard limit hs ts a b h h' other n bag trace clock isn place f answer is_l
     still : h'.sockets ≡ h.sockets → Opens limit hs ts a b h'.sockets other bag n.openings (noted_opening n.openings hs place f.note h.sockets h'.sockets) trace
     still same = OpensNone (noted-none n.openings hs place f.note h.sockets h'.sockets same) (subst (λ w. Projects limit hs ts a b w other bag n.openings trace) (sym same) p)
 
+    -- an error that is told opens nothing
+    tells : (local peer : Endpoint) (number : ℕ) → h'.sockets ≡ after_unreachable h.sockets local peer number
+        → Opens limit hs ts a b h'.sockets other bag n.openings (noted_opening n.openings hs place f.note h.sockets h'.sockets) trace
+    tells local peer number becomes =
+        let next = after_unreachable h.sockets local peer number in
+        subst (λ w. Opens limit hs ts a b w other bag n.openings (noted_opening n.openings hs place f.note h.sockets w) trace) (sym becomes)
+        (OpensNone (noted-unheld n.openings hs place f.note h.sockets next (unheld-refused h.sockets local peer number)) (projects-told limit hs ts a b h.sockets other bag n.openings trace local peer number p))
+
+    by_told : (t : Told) (c : Control) → MeetsMessage t h moment c answer h' → Opens limit hs ts a b h'.sockets other bag n.openings (noted_opening n.openings hs place f.note h.sockets h'.sockets) trace
+    by_told Asks c meets = still (ap (λ (w : HostView). w.sockets) meets.1)
+    by_told (Refuses quote) c meets = tells quote.source quote.destination quote.number (ap (λ (w : HostView). w.sockets) meets.1)
+    by_told Nothing c meets = still (ap (λ (w : HostView). w.sockets) meets.1)
+
     by_meaning : (m : Result Meaning DropCause) → heard_by h f.octets.items ≡ m → MeetsHeard m h moment isn answer h'
         → Opens limit hs ts a b h'.sockets other bag n.openings (noted_opening n.openings hs place f.note h.sockets h'.sockets) trace
     by_meaning (Ok (Arp packet)) is meets = still (ap (λ (w : HostView). w.sockets) meets.1)
     by_meaning (Ok (Tcp r)) is meets = segment-arrives limit hs ts a b h h' other n bag trace moment isn place f r answer is_limit tallied sound small_isn p carries late fair is meets
+    by_meaning (Ok (Icmp c)) is meets = by_told (told_by c.message) c meets
     by_meaning (Ok (Other d)) is meets = still (ap (λ (w : HostView). w.sockets) meets.1)
+    by_meaning (Ok (UdpFragment d)) is meets = still (ap (λ (w : HostView). w.sockets) meets.1)
     by_meaning (Err cause) is meets = still (ap (λ (w : HostView). w.sockets) meets.1)
 
 -- and whatever the host answers

@@ -17,7 +17,7 @@ use Rattle.frames.specs.Meaning.{heard}
 use Rattle.frames.specs.Pairs.{pair_in, pair_between}
 use Rattle.frames.proofs.PairLemmas.{heard_pairs}
 use Rattle.interface.specs.declared.reply.Reply.{Reply}
-use Rattle.interface.specs.declared.reply.Reply.TheVariants.{Arp, Reset}
+use Rattle.interface.specs.declared.reply.Reply.TheVariants.{Arp, Reset, Echo, Error}
 use Rattle.interface.specs.declared.reply.Waiting.{Waiting}
 use Rattle.interface.specs.declared.way.Way.{Way}
 use Rattle.interface.specs.declared.way.Way.TheVariants.{To, Ask, Waits}
@@ -35,7 +35,7 @@ use Rattle.host.specs.HostView.{HostView}
 use Rattle.host.specs.Emission as host_emission
 use Rattle.host.specs.Emission.{Emission, Replies, Sends, Asks, Nothing, goes_out_from, emission, emission_to, emission_by, table_emission, len_of, left_by, emission_len, emission_octets, after_emission}
 use Rattle.host.specs.Sound.{IsSoundHost}
-use Rattle.host.proofs.Hearing.{heard-nothing, heard-request, heard-reply, heard-segment, heard-reset, way-mac}
+use Rattle.host.proofs.Hearing.{heard-nothing, heard-request, heard-reply, heard-segment, heard-reset, segment-message, echo-can, echo-frame, error-can, error-frame, way-mac}
 use Rattle.host.proofs.DueSegments.{due-can, due-fits}
 use Rattle.host.proofs.Carriage.{sending, found-octets, first-octets}
 use Rattle.wire_sim.specs.declared.event.Side.{Side}
@@ -124,6 +124,12 @@ carries-reply n dst hs ts out f i moment place sound octets note = by_place (sli
     by_way (Reset to head) solid (To theirs) is octets =
         carries-reset n dst hs ts out f (reply_frame i theirs (Reset to head)) i.addr to head octets note solid.reset
         (λ mac r e. heard-reset i theirs to head mac dst r solid.sendable (way-mac i moment to theirs sound is) sound.mac e)
+    by_way (Echo to identifier number asked) solid (To theirs) is octets =
+        let can = echo-can i theirs to identifier number asked sound solid (way-mac i moment to theirs sound is) in
+        carries-none dst hs ts out f _ (octets ∙ echo-frame i theirs to identifier number asked) (λ mac r e. segment-message i theirs to _ mac dst r can e)
+    by_way (Error to reason quoted) solid (To theirs) is octets =
+        let can = error-can i theirs to reason quoted sound solid (way-mac i moment to theirs sound is) in
+        carries-none dst hs ts out f _ (octets ∙ error-frame i theirs to reason quoted) (λ mac r e. segment-message i theirs to _ mac dst r can e)
 
     by_place : (o : Option Waiting) → slice_get i.replies place ≡ o → f.octets.items ≡ frame_of_one i moment o → Carries dst hs ts out f
     by_place None at octets = carries-none dst hs ts out f [] octets (λ mac r e. heard-nothing mac dst r e)

@@ -15,15 +15,18 @@ use Rattle.tcp_state.specs.View.{opened_actively, View, is_closed, is_opening, a
 use Rattle.tcp_state.specs.Calls.{after_send, after_recv, after_shutdown, after_abort, after_close}
 use Rattle.tcp_state.specs.Due.{first_due, after_emitted}
 use Rattle.tcp_state.specs.Arrival.{after_segment_at}
+use Rattle.tcp_state.specs.Unreachable.{after_unreachable}
 use Rattle.sockets.specs.declared.entry.SocketId.{SocketId}
 use Rattle.sockets.specs.declared.entry.Entry.{Entry}
 use Rattle.sockets.specs.declared.role.Role.{Role}
 use Rattle.sockets.specs.declared.role.Role.TheVariants.{Idle, Listener, Connected}
-use Rattle.sockets.specs.Entries.{is_live_between, role_after_connect, is_between, joins, is_of_pair, is_kept, entries_after_step, entries_after_steps, with_role, role_after_bind, role_after_listen, role_after_accept, role_after_tick, role_after_segment, role_after_send, role_after_shutdown, role_after_recv, role_after_emission, role_after_close, role_after_abort, role_after_listener_close, waits_at}
+use Rattle.sockets.specs.Entries.{is_live_between, role_after_connect, is_between, joins, is_of_pair, is_kept, entries_after_step, entries_after_steps, with_role, role_after_bind, role_after_listen, role_after_accept, role_after_tick, role_after_segment, role_after_unreachable, unreachable_fate_of, role_after_send, role_after_shutdown, role_after_recv, role_after_emission, role_after_close, role_after_abort, role_after_listener_close, waits_at}
 use Rattle.sockets.specs.Lists.{change_first, remove_first}
+use Rattle.sockets.specs.SocketsView.{SocketsView}
+use Rattle.sockets.specs.Unreachable as table_errors
 use Rattle.wire_sim.proofs.lists.FoundAfterChange.{none-removed}
 use Rattle.wire_sim.proofs.tables.PairOfPorts.{same_end-true}
-use Rattle.sockets.proofs.KeptEnds.{KeepsEnds, keeps-nothing, keeps-send, keeps-recv, keeps-shutdown, keeps-tick, keeps-abort, keeps-close, keeps-emitted, keeps-segment}
+use Rattle.sockets.proofs.KeptEnds.{KeepsEnds, keeps-nothing, keeps-send, keeps-recv, keeps-shutdown, keeps-tick, keeps-abort, keeps-close, keeps-emitted, keeps-segment, keeps-unreachable}
 
 -- Lists.
 
@@ -119,6 +122,12 @@ unheld_aborted now pair (Idle b bound) out = refl
 unheld_aborted now pair (Listener x y) out = refl
 unheld_aborted now pair (Connected c l) out = unjoined pair c (after_abort c now) l l (keeps-abort c now) out
 
+-- an error is told to it
+unheld_refused : (number : ℕ) → KeepsUnheld (role_after_unreachable number)
+unheld_refused number pair (Idle b bound) out = refl
+unheld_refused number pair (Listener x y) out = refl
+unheld_refused number pair (Connected c l) out = unjoined pair c (after_unreachable c number) l l (keeps-unreachable c number) out
+
 pub unheld_forsaken : (now : Moment) (id : SocketId) → KeepsUnheld (role_after_listener_close now id)
 unheld_forsaken now id pair r out = either (waits_at id r)
   where
@@ -202,6 +211,16 @@ unheld-heard fate local peer now s pair xs none = by_fate (is_kept fate)
     by_fate : (b : Bool) → find (is_of_pair pair) (if b then change_first (is_between local peer) (with_role (role_after_segment now s)) xs else remove_first (is_between local peer) xs) ≡ None
     by_fate true = none-changed (is_between local peer) (is_of_pair pair) (with_role (role_after_segment now s)) xs (λ e is out. unheld-arrived now s pair local peer e is out) none
     by_fate false = none-removed (is_between local peer) (is_of_pair pair) xs none
+
+-- the one that an error is told to
+pub unheld-told : (own : SocketsView) (local peer : Endpoint) (number : ℕ) (pair : Pair) → find (is_of_pair pair) own.entries ≡ None → find (is_of_pair pair) (let w = table_errors.after_unreachable own local peer number in w.entries) ≡ None
+unheld-told own local peer number pair none = by_entry (find (is_between local peer) own.entries) refl
+  where
+    by_entry : (o : Option Entry) → find (is_between local peer) own.entries ≡ o → find (is_of_pair pair) (let w = table_errors.after_unreachable own local peer number in w.entries) ≡ None
+    by_entry None is = let same : table_errors.after_unreachable own local peer number ≡ own = rw is in ap (λ (w : SocketsView). find (is_of_pair pair) w.entries) same ∙ none
+    by_entry (Some e) is =
+        let same : table_errors.after_unreachable own local peer number ≡ record own { entries = entries_after_step (unreachable_fate_of number e.role) (is_between local peer) (role_after_unreachable number) own.entries } = rw is in
+        ap (λ (w : SocketsView). find (is_of_pair pair) w.entries) same ∙ unheld-settled (unreachable_fate_of number e.role) (is_between local peer) (role_after_unreachable number) pair own.entries (unheld_refused number) none
 
 -- each entry takes a step
 pub unheld-all : (fate : Role → Fate) (g : Role → Role) (pair : Pair) (xs : List Entry) → KeepsUnheld g → find (is_of_pair pair) xs ≡ None → find (is_of_pair pair) (entries_after_steps fate g xs) ≡ None

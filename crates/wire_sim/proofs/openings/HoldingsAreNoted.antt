@@ -22,6 +22,7 @@ use Rattle.sockets.specs.Ticks as table_ticks
 use Rattle.sockets.specs.Lost.{is_given_up, after_giving_up}
 use Rattle.sockets.specs.Emission.{after_segment_sent}
 use Rattle.interface.specs.Ways.{is_routed}
+use Rattle.sockets.specs.Unreachable.{after_unreachable}
 use Rattle.host.specs.HostView.{HostView}
 use Rattle.host.specs.Ticks as host_ticks
 use Rattle.host.specs.Emission.{Emission, Replies, Sends, Asks, Nothing, goes_out_from, emission, left_by, after_emission}
@@ -50,10 +51,10 @@ use Rattle.wire_sim.proofs.openings.OctetsAreCovered.{as_list}
 use Rattle.wire_sim.proofs.tables.SegmentArrived.{Arrived, Ignored, Heard, Began}
 use Rattle.wire_sim.proofs.fairness.CountedAsTraced.{same_unfair}
 use Rattle.wire_sim.proofs.lists.FoundAfterChange.{All-at, find-added_none}
-use Rattle.wire_sim.proofs.openings.HeldIsOpened.{joined, unheld-changed, unheld-settled, unheld-heard, unheld-all, unheld_bound_to, unheld_listening, unheld_accepted, unheld_ticked, unheld_sent, unheld_received, unheld_write_shut, unheld_closed, unheld_forsaken, unheld_emitted_at}
+use Rattle.wire_sim.proofs.openings.HeldIsOpened.{joined, unheld-changed, unheld-settled, unheld-heard, unheld-told, unheld-all, unheld_bound_to, unheld_listening, unheld_accepted, unheld_ticked, unheld_sent, unheld_received, unheld_write_shut, unheld_closed, unheld_forsaken, unheld_emitted_at}
 use Rattle.wire_sim.proofs.tables.PairOfPorts.{unheld}
 use Rattle.wire_sim.proofs.carried.FramesCarry.{Carried}
-use Rattle.wire_sim.proofs.carried.FramesArrive.{segment_foreseen, IsToTable, Aside, Brings, frame-to_table}
+use Rattle.wire_sim.proofs.carried.FramesArrive.{segment_foreseen, IsToTable, Aside, Brings, Tells, frame-to_table}
 use Rattle.wire_sim.proofs.pairing.TickIsMoves.{left-steps}
 use Rattle.wire_sim.proofs.pairing.CallsAreMoves.{ReadsOctets, ReadsEnd, socket_outcome, recv_outcome}
 use Rattle.wire_sim.proofs.pairing.CloseIsMoves.{closes-on}
@@ -281,6 +282,8 @@ frame-noted limit hs ts old new index isn answer sound w fair step x y id free h
     of_table : (f : Frame) → IsToTable (host_of old.network hs) host' moment isn.0 f.note → new.network ≡ after_delivery hs (length old.trace) f.note old.network host' → Noted (event.Deliver hs index isn) old new hs pair id
     of_table f (Aside same) becomes = absurd (holds-none own own' pair id (keeps-same own own' same) free held)
     of_table f (Brings r note noted names arrived) becomes = of_arrival f note (local_end own r.segment) (peer_end r.source r.segment) r.segment (segment_foreseen (host_of old.network hs) r.source r.segment) noted names arrived becomes
+    of_table f (Tells local peer number same) becomes =
+        absurd (holds-none own own' pair id (keeps-next own (after_unreachable own local peer number) own' same (λ p none. unheld-told own local peer number p none)) free held)
 
     of_sender : (f : Frame) → Carried hs ts w.a w.b w.bag f → same_side f.sender hs ≡ false → MeetsFrame (host_of old.network hs) (clock_of old.network hs) isn.0 f.octets.items answer host'
         → new.network ≡ after_delivery hs (length old.trace) f.note old.network host' → Noted (event.Deliver hs index isn) old new hs pair id

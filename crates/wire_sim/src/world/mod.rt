@@ -54,11 +54,10 @@ impl World {
     ghost use Rattle.wire_sim.specs.WorldRoom.{HasRoom, IsPlain, KeepsRoom};
     ghost use Rattle.wire_sim.specs.WorldView.{SameAnswer, fresh_world};
 
-    /// Two hosts on one link that have heard nothing of each other, no frames, and nothing happened. SameAddress where both have one address or one MAC,
-    /// and no other fault: a fresh world takes no memory.
+    /// Two hosts on one link that have heard nothing of each other, no frames, and nothing happened. SameAddress where both have one address or one MAC;
+    /// otherwise NoMemory where there is no memory for a host.
     pub fn new(alloc: Global, a: Config, b: Config) -> Result<World, WorldFault>
         ensures same { (result ≡ Err WorldFault.SameAddress) ↔ ((a.addr ≡ b.addr) ⊎ (a.mac ≡ b.mac)) }
-        ensures fault { IfErr result (λ fault. fault ≡ WorldFault.SameAddress) }
         ensures fresh { IfOk result (λ world. world.seen ≡ fresh_world a b (2 ^ 30)) }
         ensures reached { IfOk result (λ world. IsReached (2 ^ 30) world.seen) }
         ensures lawful { IfOk result (λ world. StreamLaw world.seen.trace world.seen.network.openings) }
@@ -70,7 +69,6 @@ impl World {
     pub fn with_limit(alloc: Global, a: Config, b: Config, limit: u64) -> Result<World, WorldFault>
         requires { (1 ≤ limit) × (limit ≤ 2 ^ 30) }
         ensures same { (result ≡ Err WorldFault.SameAddress) ↔ ((a.addr ≡ b.addr) ⊎ (a.mac ≡ b.mac)) }
-        ensures fault { IfErr result (λ fault. fault ≡ WorldFault.SameAddress) }
         ensures fresh { IfOk result (λ world. world.seen ≡ fresh_world a b limit) }
         ensures reached { IfOk result (λ world. IsReached limit world.seen) }
         ensures lawful { IfOk result (λ world. StreamLaw world.seen.trace world.seen.network.openings) }
@@ -78,9 +76,12 @@ impl World {
         if a.addr() == b.addr() || a.mac() == b.mac() {
             return Err(WorldFault::SameAddress);
         }
+        let Ok(network) = Network::new(alloc, a, b, limit) else {
+            return Err(WorldFault::NoMemory);
+        };
         Ok(World {
             alloc,
-            network: Network::new(alloc, a, b, limit),
+            network,
             trace: Vec::new(alloc),
         })
     }

@@ -12,7 +12,7 @@ use crate::event::{Answer, Call, Event, Opening, Side, Unfair};
 use crate::room::{MOST_FRAME, filled};
 use clock::Moment;
 use frames::pair_in;
-use host::{Config, SocketId};
+use host::{Config, Refusal, SocketId};
 use ipv4::{Endpoint, Pair};
 use std::alloc::{AllocError, Global};
 use tcp_segment::Seq;
@@ -39,17 +39,17 @@ impl Network {
     ghost use Rattle.wire_sim.specs.WorldRoom.{network_room, KeepsNetworkRoom};
     ghost use Rattle.host.specs.Sound.{IsSoundHost};
 
-    /// Two hosts with no frames between them.
-    pub(super) fn new(alloc: Global, a: Config, b: Config, limit: u64) -> Network
-        ensures { network_view result ≡ fresh_network a b limit }
+    /// Two hosts with no frames between them; a refusal where there is no memory for a host.
+    pub(super) fn new(alloc: Global, a: Config, b: Config, limit: u64) -> Result<Network, Refusal>
+        ensures { IfOk result (λ network. network_view network ≡ fresh_network a b limit) }
     {
-        Network {
+        Ok(Network {
             limit,
-            a: Station::new(alloc, a),
-            b: Station::new(alloc, b),
+            a: Station::new(alloc, a)?,
+            b: Station::new(alloc, b)?,
             bag: Vec::new(alloc),
             ledger: Ledger::new(alloc),
-        }
+        })
     }
 
     /// The openings, in order.

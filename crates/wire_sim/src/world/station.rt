@@ -1,6 +1,6 @@
 //! A host with its clock.
 
-ghost use Rattle.std.specs.Prelude.{◌≡◌, ◌<◌, ◌≤◌, IfSome, OnSome, IfNone, vec_len, MatchResult};
+ghost use Rattle.std.specs.Prelude.{◌≡◌, ◌<◌, ◌≤◌, IfOk, IfSome, OnSome, IfNone, vec_len, MatchResult};
 ghost use Rattle.wire_sim.specs.WorldView.{octets_len};
 ghost use Rattle.std.specs.Result.{ForOk};
 ghost use Rattle.sockets.specs.Calls.{recv_answer};
@@ -32,14 +32,14 @@ impl Station {
     ghost use Rattle.host.specs.Sound.{IsSoundHost};
     ghost use Rattle.wire_sim.specs.Runs.{IsNumberedCall};
 
-    /// A host whose clock stands at 0.
-    pub(super) fn new(alloc: Global, config: Config) -> Station
-        ensures { result ≡ fresh_station config }
+    /// A host whose clock stands at 0; a refusal where there is no memory for the host.
+    pub(super) fn new(alloc: Global, config: Config) -> Result<Station, Refusal>
+        ensures { IfOk result (λ station. station ≡ fresh_station config) }
     {
-        Station {
-            host: Host::new(alloc, config),
+        Ok(Station {
+            host: Host::new(alloc, config)?,
             clock: Moment(0),
-        }
+        })
     }
 
     /// Makes a socket call, which reads octets into `buffer`.
