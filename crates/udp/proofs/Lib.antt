@@ -5,3 +5,6 @@ pub mod Covering
 pub mod Carrying
 pub mod Copying
 pub mod Storing
+pub mod Plain
+pub mod Turning
+pub mod Requeued

@@ -1,8 +1,12 @@
--- The user datagram that octets spell, as the plain reading of them from left to right (RFC 768). The contract of
--- `UdpView::parse` does not rest on this page: it says what is read by the spelling alone.
-use Rattle.std.specs.Prelude.{◌≡◌, ℕ, ◌<◌, ◌≤◌, ◌^◌, nat_lt, ◌||◌, if◌then◌else◌, List, length, drop, Option, Some, None}
+-- The user datagram that octets spell, as the plain reading of them from left to right (RFC 768). The clause `parsed` of
+-- `UdpView::parse` does not rest on this page: it says what is read by the spelling alone. What octets are to a host rests on it.
+use Rattle.std.specs.Prelude.{◌≡◌, ℕ, ◌<◌, ◌≤◌, ◌^◌, nat_lt, ◌||◌, ◌==◌, if◌then◌else◌, List, length, take, drop, Option, Some, None, Result, Ok, Err}
 use Rattle.byteorder.specs.Endian.{big_number}
-use Rattle.udp.specs.Datagram.{UserDatagram, IsDatagram, spelling}
+use Rattle.inet_sum.specs.Sum.{sum_of}
+use Rattle.ipv4.specs.declared.addr.Addr.{Addr}
+use Rattle.udp.specs.declared.fault.UdpFault.{UdpFault}
+use Rattle.udp.specs.declared.fault.UdpFault.TheVariants.{UpperHeader, UpperSum}
+use Rattle.udp.specs.Datagram.{UserDatagram, IsDatagram, spelling, summed}
 
 -- the number of sixteen bits at a place
 abbrev pub word_at : List ℕ → ℕ → ℕ
@@ -30,3 +34,17 @@ len_in octets =
     if nat_lt (length octets) 8 then None
     else if nat_lt (word_at octets 4) 8 || nat_lt (length octets) (word_at octets 4) then None
     else Some (word_at octets 4)
+
+-- the user datagram of these octets, without padding, where it has no checksum or a right one
+abbrev pub summed_datagram : Addr → Addr → List ℕ → Result UserDatagram UdpFault
+summed_datagram src dst octets =
+    if word_at octets 6 == 0 || sum_of (summed src dst octets) == 65535 then Ok (datagram_of octets) else Err UpperSum
+
+-- what is read where they tell this length
+abbrev pub read_at : Addr → Addr → List ℕ → Option ℕ → Result UserDatagram UdpFault
+read_at src dst octets None = Err UpperHeader
+read_at src dst octets (Some len) = summed_datagram src dst (take len octets)
+
+-- the user datagram that octets from src for dst spell, or the first fault: one of the length comes before the checksum
+abbrev pub datagram_or_fault : Addr → Addr → List ℕ → Result UserDatagram UdpFault
+datagram_or_fault src dst octets = read_at src dst octets (len_in octets)

@@ -23,6 +23,33 @@ pub struct Fragment {
     pub more_fragments: bool,
 }
 
+impl Fragment {
+    ghost use Rattle.std.specs.Prelude.{◌<◌};
+    ghost use Rattle.udp.specs.Fragments.{count_of, fragment};
+
+    /// The fragment with this number, counted from 0, of a payload of IPv4 of so many octets (RFC 791 section 3.2).
+    pub fn at(len: u16, number: u16) -> Fragment
+        requires { number < count_of len }
+        ensures { result ≡ fragment len number }
+    {
+        let rest = len - MOST_IN_FRAGMENT * number;
+        Fragment {
+            offset: UNITS_IN_FRAGMENT * number,
+            len: rest.min(MOST_IN_FRAGMENT),
+            more_fragments: rest > MOST_IN_FRAGMENT,
+        }
+    }
+}
+
+/// What a header of IPv4 has to tell of a payload that goes out in one datagram, be it a fragment or the whole.
+#[derive(Clone, Copy, Debug, PartialEq, Eq)]
+pub struct Part {
+    /// The identification, which all fragments of one payload have (RFC 791 section 3.2).
+    pub identification: u16,
+    /// Its length, its place in the payload, and whether more fragments follow.
+    pub fragment: Fragment,
+}
+
 /// The fragments of a payload that are left to go out, in order.
 #[derive(Drop)]
 pub struct FragmentIter {
@@ -66,12 +93,7 @@ impl Iterator for FragmentIter {
         if self.left == 0 {
             return None;
         }
-        let rest = self.len - MOST_IN_FRAGMENT * self.number;
-        let fragment = Fragment {
-            offset: UNITS_IN_FRAGMENT * self.number,
-            len: rest.min(MOST_IN_FRAGMENT),
-            more_fragments: rest > MOST_IN_FRAGMENT,
-        };
+        let fragment = Fragment::at(self.len, self.number);
         self.number += 1;
         self.left -= 1;
         Some(fragment)

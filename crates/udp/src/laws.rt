@@ -1,6 +1,6 @@
 //! Laws of the definitions that the contracts of this crate cite: each is the contract of a function that does nothing.
 
-ghost use Rattle.std.specs.Prelude.{◌≡◌, ◌≢◌, ℕ, ◌+◌, ◌-◌, ◌*◌, ◌<◌, ◌≤◌, ◌↔◌, true, false, IsTrue, List, [], ◌∷◌, ◌++◌, All, length, map, replicate, take, drop, sum_by, Some, Result, Ok};
+ghost use Rattle.std.specs.Prelude.{◌≡◌, ◌≢◌, ℕ, ◌+◌, ◌-◌, ◌*◌, ◌<◌, ◌≤◌, ◌↔◌, true, false, IsTrue, List, [], ◌∷◌, ◌++◌, All, length, map, replicate, take, drop, sum_by, Some, Result, Ok, Err};
 ghost use Rattle.std.specs.List.{flat_map, slice_get};
 ghost use Rattle.inet_sum.specs.Sum.{sum_of};
 ghost use Rattle.ipv4.specs.Datagram.{HasPlace};
@@ -13,12 +13,22 @@ ghost use Rattle.udp.specs.declared.head.Head.{Head};
 ghost use Rattle.udp.specs.declared.waiting.TheConstants.{CAPACITY, COUNTED_BESIDE, MOST_WAITING};
 ghost use Rattle.udp.specs.Datagram.{UserDatagram, IsParsed, Spells, datagram_len, header_octets, spelling, summed};
 ghost use Rattle.udp.specs.Fragments.{fragment, count_of, fragments_of, part_of};
+ghost use Rattle.udp.specs.Reading.{datagram_or_fault};
 ghost use Rattle.udp.specs.Sent.{CanBeSent, sent};
 
 /// For all octets there is one answer that `UdpView::parse` may give (RFC 768).
 pub fn one_answer()
     ensures { (src dst : Addr) (octets : List ℕ) (first second : Result UserDatagram UdpFault)
         → IsParsed src dst octets first → IsParsed src dst octets second → first ≡ second }
+{}
+
+/// The plain reading of octets from left to right answers what `UdpView::parse` does: the user datagram that they spell, or the same
+/// fault (RFC 768).
+pub fn read_plainly()
+    ensures ok { (src dst : Addr) (octets : List ℕ) (d : UserDatagram) → Spells src dst d octets → datagram_or_fault src dst octets ≡ Ok d }
+    ensures err { (src dst : Addr) (octets : List ℕ) (fault : UdpFault) → All (λ octet. octet < 256) octets
+        → IsParsed src dst octets (Err fault) → datagram_or_fault src dst octets ≡ Err fault }
+    ensures parsed { (src dst : Addr) (octets : List ℕ) → All (λ octet. octet < 256) octets → IsParsed src dst octets (datagram_or_fault src dst octets) }
 {}
 
 /// A user datagram has one spelling, up to the padding behind it (RFC 768).

@@ -10,7 +10,7 @@ mod sum;
 mod view;
 mod waiting;
 
-pub use cutting::{Fragment, FragmentIter, MOST_IN_FRAGMENT, fragments};
+pub use cutting::{Fragment, FragmentIter, MOST_IN_FRAGMENT, Part, fragments};
 pub use fault::UdpFault;
 pub use head::{HEADER_LEN, Head};
 pub use view::UdpView;

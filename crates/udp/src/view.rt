@@ -2,7 +2,7 @@
 
 ghost use Rattle.std.specs.Prelude.{◌≡◌, ◌<◌, ◌≤◌, ◌^◌, ◌↔◌, IsTrue, IfSome, IfNone, length};
 ghost use Rattle.udp.specs.Datagram.{UserDatagram, HasForm, IsParsed, SumIsRight, datagram_len};
-ghost use Rattle.udp.specs.Reading.{len_in};
+ghost use Rattle.udp.specs.Reading.{len_in, datagram_or_fault};
 
 use crate::fault::UdpFault;
 use crate::head::HEADER_LEN;
@@ -33,7 +33,8 @@ impl<'a> UdpView<'a> {
     /// Refuses octets that spell none with the first fault: one of the form first, whatever the checksum is. A checksum of 0
     /// is none, and is not tested (RFC 768).
     pub fn parse(src: Addr, dst: Addr, octets: &'a [u8]) -> Result<UdpView<'a>, UdpFault>
-        ensures { IsParsed src dst octets.now result }
+        ensures parsed { IsParsed src dst octets.now result }
+        ensures read { result ≡ datagram_or_fault src dst octets.now }
     {
         let Some(view) = UdpView::form(octets) else {
             return Err(UdpFault::UpperHeader);

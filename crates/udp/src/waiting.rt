@@ -138,6 +138,17 @@ impl Queue {
         Some(entry)
     }
 
+    /// Puts the first datagram behind the others, in place; nothing changes where nothing waits. It takes no memory.
+    pub fn requeue(&mut self)
+        ensures { self.new ≡ record self.old { items = drop 1 self.old.items ++ take 1 self.old.items } }
+    {
+        let Some(entry) = self.entries.pop_front() else {
+            return;
+        };
+        move_behind(&mut self.octets, entry.len);
+        self.entries.push_back(entry);
+    }
+
     /// How many octets a further datagram may have. None where none has room, not even an empty one.
     pub fn room(&self) -> Option<usize>
         ensures some { IfSome result (λ most. (len : ℕ) → HasRoom self.now len ↔ (len ≤ most)) }
@@ -148,6 +159,19 @@ impl Queue {
         }
         let counted = COUNTED_BESIDE * self.entries.len() + self.octets.len();
         (self.octets.capacity() - counted).checked_sub(COUNTED_BESIDE)
+    }
+}
+
+/// Moves the first `count` octets behind the others, which they have been among.
+fn move_behind(octets: &mut HeapCircularBuffer<u8>, count: usize)
+    requires count { count ≤ length octets.old.items }
+    requires within { length octets.old.items ≤ octets.old.capacity }
+    ensures { octets.new ≡ record octets.old { items = drop count octets.old.items ++ take count octets.old.items } }
+{
+    for _ in 0..count {
+        if let Some(octet) = octets.pop_front() {
+            octets.push_back(octet);
+        }
     }
 }
 
