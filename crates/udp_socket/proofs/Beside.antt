@@ -1,17 +1,14 @@
 -- How the outgoing datagrams are stored.
-use Rattle.std.proofs.Common.{◌≡◌, ℕ, ◌+◌, ◌-◌, ◌*◌, ◌<◌, ◌≤◌, true, nat_lt, List, [], ◌∷◌, ◌++◌, length, map, drop, Option, Some, None, Result, Ok, Err, IsOk, IsErr, refl, sym, ◌∙◌, ap, subst, length-append, arith}
+use Rattle.std.proofs.Common.{◌≡◌, ℕ, ◌+◌, ◌-◌, ◌*◌, ◌<◌, ◌≤◌, true, nat_lt, List, [], ◌∷◌, ◌++◌, length, map, drop, Some, None, Result, Ok, Err, IsOk, IsErr, refl, sym, ◌∙◌, ap, length-append, arith}
 use Rattle.std.specs.List.{slice_get}
 use Rattle.std.proofs.lemmas.Bool.Decides.{nat_tests}
 use Rattle.circular_buffer.specs.Buffer.{Buffer, buffer, keep_last}
 use Rattle.ipv4.specs.declared.addr.Endpoint.{Endpoint}
-use Rattle.udp.specs.declared.waiting.Entry.{Entry}
 use Rattle.udp.specs.Waiting.{Waiting, Line, HasRoom, first_entry, first_octets}
-use Rattle.udp.specs.Fragments.{fragment}
 use Rattle.udp_socket.specs.declared.tag.Tag.{Tag}
-use Rattle.udp_socket.specs.declared.part.Part.{Part}
 use Rattle.udp_socket.specs.SocketView.{Outgoing, SocketView, line_of, waiting_of}
 use Rattle.udp_socket.specs.Stored.{outgoing, outgoing_of, AreBeside, ArePartsOf, IsStored}
-use Rattle.udp_socket.specs.Emission.{due_peer, due_part, has_more}
+use Rattle.udp_socket.specs.Emission.{due_peer, has_more}
 
 pub not_ok : {A B : Type 0} (r : Result A B) → IsErr r → IsOk r → ⊥
 not_ok (Ok x) err ok = cc
@@ -64,12 +61,13 @@ tags_after tags after line tag len places beside room is =
     is ∙ ap (λ (n : ℕ). buffer (drop n (tags.items ++ tag ∷ [])) tags.capacity) all
 
 pub stored_push : (inbox line : Line) (tags : Buffer Tag) (parts : ℕ) (tag : Tag) (item : Waiting) → IsStored inbox line tags parts → item.endpoint ≡ tag.peer
-    → length item.octets ≤ 65507
+    → length item.octets ≤ 65507 → length line.items < 64
     → IsStored inbox (record line { items = line.items ++ item ∷ [] }) (buffer (tags.items ++ tag ∷ []) tags.capacity) parts
-stored_push inbox line tags parts tag item stored same most = record {
+stored_push inbox line tags parts tag item stored same most room = record {
   inbox = stored.inbox;
   outbox = stored.outbox;
   places = stored.places;
+  few = omega (arith, length-append tags.items (tag ∷ []), beside_len tags.items line.items stored.beside, room);
   beside = beside_push tags.items line.items tag item stored.beside same most;
   parts = parts_push line.items item parts stored.parts;
 }

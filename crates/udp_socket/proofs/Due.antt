@@ -1,5 +1,5 @@
 -- The fragment that is due.
-use Rattle.std.proofs.Common.{◌≡◌, ℕ, ◌+◌, ◌-◌, ◌*◌, ◌<◌, ◌≤◌, ◌%◌, min, IsTrue, zero, suc, List, [], ◌∷◌, ◌++◌, length, take, drop, slice_range, Some, refl, sym, ◌∙◌, ap, subst, arith}
+use Rattle.std.proofs.Common.{◌≡◌, ℕ, ◌+◌, ◌-◌, ◌*◌, ◌<◌, ◌≤◌, ◌%◌, min, zero, suc, List, [], ◌∷◌, ◌++◌, length, take, drop, slice_range, Some, refl, sym, ◌∙◌, ap, subst, arith}
 use Rattle.std.specs.List.{slice_get}
 use Rattle.std.proofs.lemmas.Bool.Decides.{nat_tests}
 use Rattle.ipv4.specs.declared.addr.Endpoint.{Endpoint}
@@ -13,7 +13,7 @@ use Rattle.std.proofs.lemmas.List.{length-take}
 use Rattle.udp.proofs.Storing.{first_len}
 use Rattle.udp.proofs.Carrying.{first_range, later_range}
 use Rattle.udp_socket.specs.declared.tag.Tag.{Tag}
-use Rattle.udp_socket.specs.declared.part.Part.{Part}
+use Rattle.udp.specs.declared.cutting.Part.{Part}
 use Rattle.udp_socket.specs.SocketView.{Outgoing, SocketView}
 use Rattle.udp_socket.specs.Stored.{outgoing, outgoing_of, AreBeside, ArePartsOf}
 use Rattle.udp_socket.specs.Emission.{datagram_of, due_part, due_octets, has_more}

@@ -1,12 +1,12 @@
 -- What goes out of a socket: the datagrams in order, and each of them fragment by fragment (RFC 791 section 3.2).
-use Rattle.std.specs.Prelude.{ℕ, Bool, false, ◌+◌, List, [], ◌∷◌, ◌++◌, length, drop, if◌then◌else◌, Option, Some, None}
+use Rattle.std.specs.Prelude.{ℕ, Bool, false, ◌+◌, List, [], ◌∷◌, length, if◌then◌else◌, Option, Some, None}
 use Rattle.ipv4.specs.declared.addr.Endpoint.{Endpoint}
 use Rattle.udp.specs.declared.head.Head.{Head}
 use Rattle.udp.specs.declared.cutting.Fragment.{Fragment}
 use Rattle.udp.specs.Datagram.{UserDatagram, spelling}
 use Rattle.udp.specs.Sent.{sent}
 use Rattle.udp.specs.Fragments.{fragment, part_of}
-use Rattle.udp_socket.specs.declared.part.Part.{Part}
+use Rattle.udp.specs.declared.cutting.Part.{Part}
 use Rattle.udp_socket.specs.SocketView.{Outgoing, SocketView}
 
 -- the endpoint that the first outgoing datagram is for

@@ -1,3 +1,5 @@
 pub mod SocketView
 pub mod Emission
+pub mod Waits
+pub mod Events
 pub mod Stored

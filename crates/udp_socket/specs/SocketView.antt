@@ -1,9 +1,9 @@
 -- One UDP socket: what came and was not read, and what is to go out (RFC 768). The limits of the two queues are this stack's own.
-use Rattle.std.specs.Prelude.{ℕ, min, List, [], ◌∷◌, ◌++◌, length, map, take, drop, Option, Some, None}
+use Rattle.std.specs.Prelude.{ℕ, ◌+◌, min, nat_lt, nat_le, ◌&&◌, Bool, List, [], ◌∷◌, ◌++◌, length, map, take, drop, Option, Some, None}
 use Rattle.clock.specs.declared.moment.Moment.{Moment}
 use Rattle.ipv4.specs.declared.addr.Endpoint.{Endpoint}
-use Rattle.udp.specs.declared.waiting.TheConstants.{CAPACITY}
-use Rattle.udp.specs.Waiting.{Waiting, Line, HasRoom}
+use Rattle.udp.specs.declared.waiting.TheConstants.{CAPACITY, COUNTED_BESIDE, MOST_WAITING}
+use Rattle.udp.specs.Waiting.{Waiting, Line, load}
 
 -- a datagram that is to go out: the endpoint that it is for, the identification of its fragments, since when it waits, and its octets
 pub record Outgoing : Type 0 where
@@ -31,13 +31,17 @@ line_of items = record { items = items; capacity = CAPACITY }
 abbrev pub waiting_of : Outgoing → Waiting
 waiting_of o = record { endpoint = o.peer; octets = o.octets }
 
--- a further datagram of so many octets has room to be received
-abbrev pub HasRoomIn : SocketView → ℕ → Type 0
-HasRoomIn s len = HasRoom (line_of s.inbox) len
+-- whether a further datagram of so many octets has room beside these
+abbrev pub has_room : List Waiting → ℕ → Bool
+has_room items len = nat_lt (length items) MOST_WAITING && nat_le (load (line_of items) + (COUNTED_BESIDE + len)) CAPACITY
+
+-- whether one has room to be received
+abbrev pub has_room_in : SocketView → ℕ → Bool
+has_room_in s len = has_room s.inbox len
 
 -- and one to be sent
-abbrev pub HasRoomOut : SocketView → ℕ → Type 0
-HasRoomOut s len = HasRoom (line_of (map waiting_of s.outbox)) len
+abbrev pub has_room_out : SocketView → ℕ → Bool
+has_room_out s len = has_room (map waiting_of s.outbox) len
 
 -- with a datagram received behind the others
 abbrev pub with_received : SocketView → Endpoint → List ℕ → SocketView

@@ -1,6 +1,6 @@
 -- How the outgoing datagrams of a socket are stored: what is known of each beside its octets, and a queue of the datagrams. The contracts
 -- of `UdpSocket` do not rest on this page.
-use Rattle.std.specs.Prelude.{◌≡◌, ℕ, ◌+◌, ◌<◌, ◌≤◌, ⊤, List, [], ◌∷◌, length}
+use Rattle.std.specs.Prelude.{◌≡◌, ℕ, ◌+◌, ◌<◌, ◌≤◌, ⊤, Bool, if◌then◌else◌, List, [], ◌∷◌, length, take}
 use Rattle.circular_buffer.specs.Buffer.{Buffer}
 use Rattle.udp.specs.Waiting.{Waiting, Line}
 use Rattle.udp.specs.Fragments.{count_of}
@@ -32,5 +32,14 @@ pub record IsStored (received sent : Line) (tags : Buffer Tag) (count : ℕ) : T
   pub inbox : received.capacity ≡ 65535
   pub outbox : sent.capacity ≡ 65535
   pub places : tags.capacity ≡ 64
+  pub few : length tags.items ≤ 64
   pub beside : AreBeside tags.items sent.items
   pub parts : ArePartsOf sent.items count
+
+-- the first of a list, if it is wanted
+abbrev pub first_if : Bool → List Outgoing → List Outgoing
+first_if wanted xs = if wanted then take 1 xs else []
+
+-- a datagram of this tag, whatever its octets
+abbrev pub bare : Tag → Outgoing
+bare tag = outgoing tag (record { endpoint = tag.peer; octets = [] })

@@ -7,5 +7,5 @@ mod part;
 mod socket;
 mod tag;
 
-pub use part::Part;
 pub use socket::{MOST_OCTETS, UdpSocket};
+pub use tag::DATAGRAM_WAIT;

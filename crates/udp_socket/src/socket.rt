@@ -1,15 +1,17 @@
 //! The socket itself.
 
-ghost use Rattle.std.specs.Prelude.{◌≡◌, ℕ, ◌+◌, ◌<◌, ◌≤◌, ◌↔◌, ◌++◌, length, drop, IsOk, IfOk, OnOk, OnErr, IsTrue, if◌then◌else◌, Some};
+ghost use Rattle.std.specs.Prelude.{◌≡◌, ℕ, ◌+◌, ◌<◌, ◌≤◌, ◌++◌, length, take, drop, filter, not, Bool, is_ok, IfOk, OnOk, OnErr, if◌then◌else◌, Some};
+ghost use Rattle.std.specs.List.{list_any};
+ghost use Rattle.ipv4.specs.declared.addr.Addr.{Addr};
 
-use crate::part::{self, Part};
+use crate::part::fill_first;
 use crate::tag::Tag;
 use circular_buffer::HeapCircularBuffer;
-use clock::Moment;
-use ipv4::Endpoint;
+use clock::{Moment, sooner};
+use ipv4::{Addr, Endpoint};
 use std::alloc::{AllocError, Global};
 use std::marker::Model;
-use udp::{CAPACITY, HEADER_LEN, Head, MOST_IN_FRAGMENT, MOST_WAITING, Queue, QueueFault};
+use udp::{CAPACITY, Fragment, HEADER_LEN, Head, MOST_IN_FRAGMENT, MOST_WAITING, Part, Queue, QueueFault};
 
 /// The octets of data of a datagram at most: the payload of IPv4 has room for no more behind a header of 8 octets, where the header of
 /// IPv4 has 20 (RFC 768, RFC 791 section 3.1).
@@ -38,8 +40,10 @@ impl Model for UdpSocket {
 
 impl UdpSocket {
     ghost use Rattle.ipv4.specs.Datagram.{HasPlace};
-    ghost use Rattle.udp_socket.specs.SocketView.{HasRoomIn, HasRoomOut, new_socket, with_received, with_sent, read_answer, read_buffer, after_read};
+    ghost use Rattle.udp_socket.specs.SocketView.{has_room_in, has_room_out, new_socket, with_received, with_sent, read_answer, read_buffer, after_read};
     ghost use Rattle.udp_socket.specs.Emission.{due_peer, due_part, due_octets, has_more, after_part};
+    ghost use Rattle.udp_socket.specs.Stored.{first_if};
+    ghost use Rattle.udp_socket.specs.Waits.{is_given_up, after_giving_up, deadline};
 
     /// A socket in whose queues nothing waits. It takes its whole memory here, and refuses where there is none.
     pub fn new(alloc: Global) -> Result<UdpSocket, AllocError>
@@ -66,7 +70,7 @@ impl UdpSocket {
         octets: &[u8],
     ) -> Result<(), QueueFault>
         requires { length octets.now ≤ MOST_OCTETS }
-        ensures room { IsOk result ↔ HasRoomOut self.old (length octets.now) }
+        ensures room { is_ok result ≡ has_room_out self.old (length octets.now) }
         ensures ok { OnOk result (self.new ≡ with_sent self.old now peer identification octets.now) }
         ensures err { OnErr result (self.new ≡ self.old) }
     {
@@ -82,7 +86,7 @@ impl UdpSocket {
     /// Takes a datagram that came from this endpoint behind the others, and answers whether it did: not where it has no room, and then
     /// nothing has changed. It takes no memory.
     pub fn receive(&mut self, from: Endpoint, octets: &[u8]) -> bool
-        ensures room { IsTrue result ↔ HasRoomIn self.old (length octets.now) }
+        ensures room { result ≡ has_room_in self.old (length octets.now) }
         ensures after { self.new ≡ (if result then with_received self.old from octets.now else self.old) }
     {
         self.inbox.push(from, octets).is_ok()
@@ -127,14 +131,14 @@ impl UdpSocket {
         let Some(first) = self.datagrams.first() else {
             unreachable!();
         };
-        let fragment = part::fragment((HEADER_LEN + first.len) as u16, self.parts);
+        let fragment = Fragment::at((HEADER_LEN + first.len) as u16, self.parts);
         let payload = &mut out[..usize::from(fragment.len)];
         if self.parts == 0 {
             let head = Head {
                 source: source.port,
                 destination: tag.peer.port,
             };
-            part::fill_first(
+            fill_first(
                 &self.datagrams,
                 head,
                 source.addr,
@@ -166,5 +170,64 @@ impl UdpSocket {
             self.tags.pop_front();
             self.parts = 0;
         }
+    }
+
+    /// Gives up each outgoing datagram for a lost address, which `lost` says, that has waited for 3,000 ms or more at `now`: it goes out no
+    /// more, nor does what is left of it where some of its fragments have gone out. The others stay, in order. It takes no memory.
+    pub fn give_up<F: Fn(Addr) -> bool>(&mut self, now: Moment, lost: &F)
+        requires { F.IsAlwaysCallable lost.now }
+        ensures { (test : Addr → Bool) → ((addr : Addr) (answer : Bool) → F.post lost.now addr answer → answer ≡ test addr) → self.new ≡ after_giving_up self.old test now }
+    {
+        if !self.gives_up(now, lost) {
+            return;
+        }
+        let waiting = self.tags.len();
+        let parts = self.parts;
+        let first_stays = self.pass_first(now, lost);
+        for _ in 1..waiting {
+            self.pass_first(now, lost);
+        }
+        if first_stays {
+            self.parts = parts;
+        }
+    }
+
+    /// The least moment from which an outgoing datagram for a lost address, which `lost` says, is given up. None where there is none.
+    pub fn deadline<F: Fn(Addr) -> bool>(&self, lost: &F) -> Option<Moment>
+        requires { F.IsAlwaysCallable lost.now }
+        ensures { (test : Addr → Bool) → ((addr : Addr) (answer : Bool) → F.post lost.now addr answer → answer ≡ test addr) → result ≡ deadline test self.now }
+    {
+        self.tags
+            .iter()
+            .fold(None, |least, tag| sooner(least, tag.deadline(lost)))
+    }
+
+    /// Whether some outgoing datagram is given up.
+    fn gives_up<F: Fn(Addr) -> bool>(&self, now: Moment, lost: &F) -> bool
+        requires { F.IsAlwaysCallable lost.now }
+        ensures { (test : Addr → Bool) → ((addr : Addr) (answer : Bool) → F.post lost.now addr answer → answer ≡ test addr) → result ≡ list_any (is_given_up test now) self.now.outbox }
+    {
+        self.tags.iter().any(|tag| tag.is_given_up(now, lost))
+    }
+
+    /// Puts the first outgoing datagram behind the others, or takes it out where it is given up, and answers whether it stays. None of its
+    /// fragments counts as gone out then.
+    fn pass_first<F: Fn(Addr) -> bool>(&mut self, now: Moment, lost: &F) -> bool
+        requires { F.IsAlwaysCallable lost.now }
+        ensures after { self.new ≡ record self.old { outbox = drop 1 self.old.outbox ++ first_if result self.old.outbox; parts = 0 } }
+        ensures stays { (test : Addr → Bool) → ((addr : Addr) (answer : Bool) → F.post lost.now addr answer → answer ≡ test addr)
+            → first_if result self.old.outbox ≡ filter (λ o. not (is_given_up test now o)) (take 1 self.old.outbox) }
+    {
+        self.parts = 0;
+        let Some(tag) = self.tags.pop_front() else {
+            return false;
+        };
+        if tag.is_given_up(now, lost) {
+            self.datagrams.pop();
+            return false;
+        }
+        self.datagrams.requeue();
+        self.tags.push_back(tag);
+        true
     }
 }

@@ -11,6 +11,7 @@ invariant_of-self c = record {
   inbox = c.self.invariant.inbox;
   outbox = c.self.invariant.outbox;
   places = c.self.invariant.places;
+  few = c.self.invariant.few;
   beside = c.self.invariant.beside;
   parts = further c.self.inside.inbox.items c.self.inside.tags.items c.self.inside.datagrams.items c.self.inside.parts c.args.self.now c.self.invariant.beside c.self.view_is
       (c.requires.more ∙ c.if-more_fragments.true);

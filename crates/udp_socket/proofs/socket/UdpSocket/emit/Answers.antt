@@ -1,4 +1,4 @@
-use Rattle.std.proofs.Common.{◌≡◌, ℕ, ◌+◌, List, ◌++◌, length, drop, sym, ◌∙◌, ap}
+use Rattle.std.proofs.Common.{ℕ, List, ◌++◌, drop, sym, ◌∙◌, ap}
 use Rattle.udp_socket.specs.Stored.{outgoing_of}
 use Rattle.udp_socket.proofs.Beside.{no_tag, no_first}
 use Rattle.udp_socket.proofs.Due.{shows, as_fragment, more_told, part_told, octets_told, first_placed, first_of, written_first, written_later}
@@ -22,8 +22,8 @@ advance-requires-clause-more c =
     let parts = c.self.inside.parts in
     let tag = c.in-Some.tag in
     let seen = shows c.self.inside.inbox.items tags items parts c.args.self.now tag c.self.invariant.beside (sym c.front.ensures ∙ sym c.copied.ensures ∙ c.in-Some.is) c.self.view_is in
-    more_told c.self.inside.inbox.items (outgoing_of (drop 1 tags) (drop 1 items)) items parts c.args.self.now tag c.fragment-fragment.result seen
-    (as_fragment items c.in-Some-first.first parts c.fragment-fragment.result (sym c.in-Some-first.ensures.first) c.fragment-fragment.ensures)
+    more_told c.self.inside.inbox.items (outgoing_of (drop 1 tags) (drop 1 items)) items parts c.args.self.now tag c.at-fragment.result seen
+    (as_fragment items c.in-Some-first.first parts c.at-fragment.result (sym c.in-Some-first.ensures.first) c.at-fragment.ensures)
 
 pub returns-clause-part : goal.returns-clause-part
 returns-clause-part c =
@@ -32,8 +32,8 @@ returns-clause-part c =
     let parts = c.self.inside.parts in
     let tag = c.in-Some.tag in
     let seen = shows c.self.inside.inbox.items tags items parts c.args.self.now tag c.self.invariant.beside (sym c.front.ensures ∙ sym c.copied.ensures ∙ c.in-Some.is) c.self.view_is in
-    part_told c.self.inside.inbox.items (outgoing_of (drop 1 tags) (drop 1 items)) items parts c.args.self.now tag c.fragment-fragment.result seen
-    (as_fragment items c.in-Some-first.first parts c.fragment-fragment.result (sym c.in-Some-first.ensures.first) c.fragment-fragment.ensures)
+    part_told c.self.inside.inbox.items (outgoing_of (drop 1 tags) (drop 1 items)) items parts c.args.self.now tag c.at-fragment.result seen
+    (as_fragment items c.in-Some-first.first parts c.at-fragment.result (sym c.in-Some-first.ensures.first) c.at-fragment.ensures)
 
 pub returns-clause-octets : goal.returns-clause-octets
 returns-clause-octets c =
@@ -41,10 +41,10 @@ returns-clause-octets c =
     let items = c.self.inside.datagrams.items in
     let parts = c.self.inside.parts in
     let tag = c.in-Some.tag in
-    let f = c.fragment-fragment.result in
+    let f = c.at-fragment.result in
     let old : List ℕ = c.args.out.now in
     let seen = shows c.self.inside.inbox.items tags items parts c.args.self.now tag c.self.invariant.beside (sym c.front.ensures ∙ sym c.copied.ensures ∙ c.in-Some.is) c.self.view_is in
-    let told = as_fragment items c.in-Some-first.first parts f (sym c.in-Some-first.ensures.first) c.fragment-fragment.ensures in
+    let told = as_fragment items c.in-Some-first.first parts f (sym c.in-Some-first.ensures.first) c.at-fragment.ensures in
     let due = octets_told c.self.inside.inbox.items (outgoing_of (drop 1 tags) (drop 1 items)) items parts c.args.self.now tag c.args.source seen in
     elim c.if-self-eq0.branch [
       | then-self-eq0 w ↦
@@ -61,6 +61,6 @@ pub returns-clause-place : goal.returns-clause-place
 returns-clause-place c =
     let items = c.self.inside.datagrams.items in
     let parts = c.self.inside.parts in
-    first_placed c.self.inside.tags.items items c.in-Some.tag parts c.fragment-fragment.result c.self.invariant.beside
+    first_placed c.self.inside.tags.items items c.in-Some.tag parts c.at-fragment.result c.self.invariant.beside
     (sym c.front.ensures ∙ sym c.copied.ensures ∙ c.in-Some.is) c.self.invariant.parts
-    (as_fragment items c.in-Some-first.first parts c.fragment-fragment.result (sym c.in-Some-first.ensures.first) c.fragment-fragment.ensures)
+    (as_fragment items c.in-Some-first.first parts c.at-fragment.result (sym c.in-Some-first.ensures.first) c.at-fragment.ensures)
