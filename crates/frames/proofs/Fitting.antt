@@ -47,13 +47,14 @@ passed true x y fault e = cc
 passed false x y fault e = cc
 
 -- the lengths that are told
-told : (octets : List ℕ) (header total : ℕ) → lengths_in octets ≡ Some (header, total) → (20 ≤ header) × (header ≤ 60) × (header ≤ length octets)
+told : (octets : List ℕ) (header total : ℕ) → lengths_in octets ≡ Some (header, total)
+    → (20 ≤ header) × (header ≤ 60) × (header ≤ length octets) × (told_header octets ≡ header)
 told octets header total is =
     let room = guarded (nat_lt (length octets) 20) _ (header, total) is in
     let fit = guarded (nat_lt (told_header octets) 20 || nat_lt (word_at octets 2) (told_header octets) || nat_lt (length octets) (word_at octets 2)) _ (header, total) room.1 in
     let both : ◌≡◌ {A = ℕ × ℕ} (told_header octets, word_at octets 2) (header, total) = granted (slice_index octets 0 / 16 == 4) (told_header octets, word_at octets 2) (header, total) fit.1 in
     let same : told_header octets ≡ header = ap (λ (pair : ℕ × ℕ). pair.0) both in
-    (grind (arith, nat_tests, fit.0, same), omega (arith, same), grind (arith, nat_tests, fit.0, same))
+    (grind (arith, nat_tests, fit.0, same), omega (arith, same), grind (arith, nat_tests, fit.0, same), same)
 
 -- a datagram that is read
 checked_is : (b : Bool) (own d : Datagram) → checked (cond b (Some own) None) ≡ Ok d → own ≡ d
@@ -70,6 +71,18 @@ read octets d found = by_lengths (lengths_in octets) refl found
         let lens = told octets header total is in
         let same : own ≡ d = checked_is (has_place own.more_fragments own.offset (length own.payload)) own d e in
         subst (λ (d : Datagram). Fits d (length octets)) same (parts octets header total lens.0 lens.1 lens.2)
+
+-- its protocol stands behind eight octets and another
+pub protocol_told : (octets : List ℕ) (d : Datagram) → datagram_in octets ≡ Ok d → d.protocol ≡ slice_index (take (told_header octets) octets) 9
+protocol_told octets d found = by_lengths (lengths_in octets) refl found
+  where
+    by_lengths : (lengths : Option (ℕ × ℕ)) → lengths_in octets ≡ lengths → checked (datagram_with octets lengths) ≡ Ok d
+        → d.protocol ≡ slice_index (take (told_header octets) octets) 9
+    by_lengths None is e = cc
+    by_lengths (Some (header, total)) is e =
+        let own : Datagram = datagram_of (take header octets) (take (total - header) (drop header octets)) in
+        let same : own ≡ d = checked_is (has_place own.more_fragments own.offset (length own.payload)) own d e in
+        ap (λ (e : Datagram). e.protocol) (sym same) ∙ ap (λ (n : ℕ). slice_index (take n octets) 9) (sym (told octets header total is).3)
 
 -- and of a frame
 pub fits : (ours : Addr) (octets : List ℕ) (d : Datagram) → Brought ours octets d → Fits d 1500

@@ -5,9 +5,11 @@ pub mod Meanings
 pub mod Spelled
 pub mod Origins
 pub mod Fitting
+pub mod Protocols
 pub mod PairLemmas
 pub mod Carried
 pub mod CarriedPairs
 pub mod EmittedPairs
 pub mod Hearers
+pub mod UserHearers
 pub mod PairReading

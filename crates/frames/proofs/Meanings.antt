@@ -28,12 +28,18 @@ use Rattle.icmp.specs.declared.fault.IcmpFault.TheVariants as message
 use Rattle.icmp.specs.Message.{Message, IsParsed as IsMessage, Spells as SpellsMessage}
 use Rattle.icmp.specs.Reading.{message_or_fault}
 use Rattle.icmp.proofs.Answering.{read_ok as message_found, read_err as message_malformed}
+use Rattle.udp.specs.declared.fault.UdpFault.{UdpFault}
+use Rattle.udp.specs.declared.fault.UdpFault.TheVariants as user
+use Rattle.udp.specs.Datagram.{UserDatagram, IsParsed as IsUser}
+use Rattle.udp.specs.Reading.{datagram_or_fault}
+use Rattle.udp.proofs.Plain.{fault_ok as user_found, fault_err as user_malformed}
 use Rattle.frames.specs.declared.drop.DropCause.{DropCause}
 use Rattle.frames.specs.declared.drop.DropCause.TheVariants.{Short, OtherMac, OtherType, IpHeader, IpSum, OtherAddress, UpperHeader, UpperSum, NoRoom, Fragment}
 use Rattle.frames.specs.declared.meaning.Meaning.{Meaning}
-use Rattle.frames.specs.declared.meaning.Meaning.TheVariants.{Arp, Tcp, Icmp, Other, UdpFragment}
-use Rattle.frames.specs.Heard.{Brings, BringsDatagram, BringsIcmp, BringsTcp, IsHeard, IsWhole, MaySend}
-use Rattle.frames.specs.Meaning.{arp_type, datagram_heard, fragment_heard, heard, ipv4_type, is_for, may_send, message_heard, packet_heard, payload_heard, segment_heard, upper_heard, whole_heard}
+use Rattle.frames.specs.declared.meaning.UserReceived.{UserReceived}
+use Rattle.frames.specs.declared.meaning.Meaning.TheVariants.{Arp, Tcp, Icmp, Udp, Other, UdpFragment}
+use Rattle.frames.specs.Heard.{Brings, BringsDatagram, BringsIcmp, BringsTcp, BringsUdp, IsHeard, IsWhole, MaySend}
+use Rattle.frames.specs.Meaning.{arp_type, datagram_heard, fragment_heard, heard, ipv4_type, is_for, may_send, message_heard, packet_heard, payload_heard, segment_heard, upper_heard, user_heard, whole_heard}
 use Rattle.ipv4.specs.Addresses.{same_addr}
 use Rattle.frames.proofs.Layers.{as_frame, for_another, for_us, from_none, from_other, too_many}
 use Rattle.frames.proofs.Deciding.{ends-Decides, for-Decides, fragmented, number-Decides, refuted, send-Decides, unfragmented}
@@ -99,21 +105,26 @@ for_whole mac ours octets d brings is = for_host mac ours octets d brings ∙ ap
 for_part : (mac : Mac) (ours : Addr) (octets : List ℕ) (d : Datagram) → BringsDatagram mac ours octets d → (IsWhole d → ⊥) → heard mac ours octets ≡ fragment_heard d
 for_part mac ours octets d brings none = for_host mac ours octets d brings ∙ ap (λ b. cond b (fragment_heard d) (whole_heard d)) (fragmented d none)
 
+-- what is heard of a whole datagram for us that doesn't carry TCP, and of one that carries neither TCP nor ICMP
+abbrev beside_icmp : Datagram → Result Meaning DropCause
+beside_icmp d = cond (d.protocol == 17) (user_heard d (datagram_or_fault d.source d.destination d.payload)) (Ok (Other d))
+
+abbrev beside_tcp : Datagram → Result Meaning DropCause
+beside_tcp d = cond (d.protocol == 1) (message_heard d.source (message_or_fault d.payload)) (beside_icmp d)
+
 -- of a segment for us
 for_socket : (mac : Mac) (ours : Addr) (octets : List ℕ) (d : Datagram) (read : Result Segment SegmentFault) → BringsTcp mac ours octets d
     → segment_or_fault d.source d.destination d.payload ≡ read → heard mac ours octets ≡ segment_heard d.source read
 for_socket mac ours octets d read brings found =
     let one : Result Meaning DropCause = segment_heard d.source (segment_or_fault d.source d.destination d.payload) in
-    let others : Result Meaning DropCause = cond (d.protocol == 1) (message_heard d.source (message_or_fault d.payload)) (Ok (Other d)) in
-    for_whole mac ours octets d brings.0 brings.1 ∙ ap (λ b. cond b one others) (eq-eqb d.protocol 6 brings.2) ∙ ap (segment_heard d.source) found
+    for_whole mac ours octets d brings.0 brings.1 ∙ ap (λ b. cond b one (beside_tcp d)) (eq-eqb d.protocol 6 brings.2) ∙ ap (segment_heard d.source) found
 
 -- of a whole datagram for us of another protocol
 no_socket : (mac : Mac) (ours : Addr) (octets : List ℕ) (d : Datagram) → BringsDatagram mac ours octets d → IsWhole d → d.protocol ≢ 6
-    → heard mac ours octets ≡ cond (d.protocol == 1) (message_heard d.source (message_or_fault d.payload)) (Ok (Other d))
+    → heard mac ours octets ≡ beside_tcp d
 no_socket mac ours octets d brings is other =
     let segments : Result Meaning DropCause = segment_heard d.source (segment_or_fault d.source d.destination d.payload) in
-    let others : Result Meaning DropCause = cond (d.protocol == 1) (message_heard d.source (message_or_fault d.payload)) (Ok (Other d)) in
-    for_whole mac ours octets d brings is ∙ ap (λ b. cond b segments others) (refuted (d.protocol == 6) (number-Decides d.protocol 6) other)
+    for_whole mac ours octets d brings is ∙ ap (λ b. cond b segments (beside_tcp d)) (refuted (d.protocol == 6) (number-Decides d.protocol 6) other)
 
 -- of a control message for us
 for_control : (mac : Mac) (ours : Addr) (octets : List ℕ) (d : Datagram) (read : Result Message IcmpFault) → BringsIcmp mac ours octets d
@@ -121,8 +132,24 @@ for_control : (mac : Mac) (ours : Addr) (octets : List ℕ) (d : Datagram) (read
 for_control mac ours octets d read brings found =
     let one : Result Meaning DropCause = message_heard d.source (message_or_fault d.payload) in
     no_socket mac ours octets d brings.0 brings.1 (λ e. omega (arith, brings.2, e))
-    ∙ ap (λ b. cond b one (Ok (Other d))) (eq-eqb d.protocol 1 brings.2)
+    ∙ ap (λ b. cond b one (beside_icmp d)) (eq-eqb d.protocol 1 brings.2)
     ∙ ap (message_heard d.source) found
+
+-- of a whole datagram for us that carries neither TCP nor ICMP
+no_control : (mac : Mac) (ours : Addr) (octets : List ℕ) (d : Datagram) → BringsDatagram mac ours octets d → IsWhole d → d.protocol ≢ 6 → d.protocol ≢ 1
+    → heard mac ours octets ≡ beside_icmp d
+no_control mac ours octets d brings is no_tcp no_icmp =
+    no_socket mac ours octets d brings is no_tcp
+    ∙ ap (λ b. cond b (message_heard d.source (message_or_fault d.payload)) (beside_icmp d)) (refuted (d.protocol == 1) (number-Decides d.protocol 1) no_icmp)
+
+-- of a user datagram for us
+for_user : (mac : Mac) (ours : Addr) (octets : List ℕ) (d : Datagram) (read : Result UserDatagram UdpFault) → BringsUdp mac ours octets d
+    → datagram_or_fault d.source d.destination d.payload ≡ read → heard mac ours octets ≡ user_heard d read
+for_user mac ours octets d read brings found =
+    let one : Result Meaning DropCause = user_heard d (datagram_or_fault d.source d.destination d.payload) in
+    no_control mac ours octets d brings.0 brings.1 (λ e. omega (arith, brings.2, e)) (λ e. omega (arith, brings.2, e))
+    ∙ ap (λ b. cond b one (Ok (Other d))) (eq-eqb d.protocol 17 brings.2)
+    ∙ ap (user_heard d) found
 
 -- what octets spell is heard: a packet, a segment, a control message, another datagram
 pub heard_packet : (mac : Mac) (ours : Addr) (octets : List ℕ) (p : ArpPacket) → IsHeard mac ours octets (Ok (Arp p)) → heard mac ours octets ≡ Ok (Arp p)
@@ -139,10 +166,16 @@ heard_message mac ours octets d m brings spells = for_control mac ours octets d 
 
 heard_other : (mac : Mac) (ours : Addr) (octets : List ℕ) (d : Datagram) → IsHeard mac ours octets (Ok (Other d)) → heard mac ours octets ≡ Ok (Other d)
 heard_other mac ours octets d is =
-    no_socket mac ours octets d is.0 is.1 is.2
-    ∙ ap (λ b. cond b (message_heard d.source (message_or_fault d.payload)) (Ok (Other d))) (refuted (d.protocol == 1) (number-Decides d.protocol 1) is.3)
+    let one : Result Meaning DropCause = user_heard d (datagram_or_fault d.source d.destination d.payload) in
+    no_control mac ours octets d is.0 is.1 is.2 is.3
+    ∙ ap (λ b. cond b one (Ok (Other d))) (refuted (d.protocol == 17) (number-Decides d.protocol 17) is.4)
 
-heard_part : (mac : Mac) (ours : Addr) (octets : List ℕ) (d : Datagram) → IsHeard mac ours octets (Ok (UdpFragment d)) → heard mac ours octets ≡ Ok (UdpFragment d)
+pub heard_user : (mac : Mac) (ours : Addr) (octets : List ℕ) (r : UserReceived) → IsHeard mac ours octets (Ok (Udp r)) → heard mac ours octets ≡ Ok (Udp r)
+heard_user mac ours octets r is =
+    let d : Datagram = r.carrier in
+    for_user mac ours octets d (Ok r.datagram) is.0 (user_found d.source d.destination d.payload r.datagram is.1)
+
+pub heard_part : (mac : Mac) (ours : Addr) (octets : List ℕ) (d : Datagram) → IsHeard mac ours octets (Ok (UdpFragment d)) → heard mac ours octets ≡ Ok (UdpFragment d)
 heard_part mac ours octets d is = for_part mac ours octets d is.0 is.1 ∙ ap (λ b. cond b (Ok (UdpFragment d)) (Err Fragment)) (eq-eqb d.protocol 17 is.2)
 
 -- .. and each cause to drop it
@@ -183,7 +216,7 @@ heard_address mac ours octets = ⊎_elim of_packet of_datagram
         brought_datagram mac ours octets is.0 (Ok d) is.2 (datagram_found is.0 d is.3) ∙ ap (λ b. cond b (upper_heard d) (Err OtherAddress)) no
 
 heard_malformed : (mac : Mac) (ours : Addr) (octets : List ℕ) → AreOctets octets → IsHeard mac ours octets (Err UpperHeader) → heard mac ours octets ≡ Err UpperHeader
-heard_malformed mac ours octets each = ⊎_elim of_packet (⊎_elim of_segment of_message)
+heard_malformed mac ours octets each = ⊎_elim of_packet (⊎_elim of_segment (⊎_elim of_message of_user))
   where
     of_packet : ((payload : List ℕ) × Brings mac octets arp_type payload × IsPacket payload (Err packet.UpperHeader)) → heard mac ours octets ≡ Err UpperHeader
     of_packet is = brought_packet mac ours octets is.0 None is.1 (packet_malformed is.0 (brought_octets mac octets arp_type is.0 is.1 each) is.2)
@@ -198,8 +231,13 @@ heard_malformed mac ours octets each = ⊎_elim of_packet (⊎_elim of_segment o
         let d : Datagram = is.0 in
         for_control mac ours octets d (Err message.UpperHeader) is.1 (message_malformed d.payload message.UpperHeader (upper_octets mac ours octets d is.1.0 each) is.2)
 
+    of_user : ((d : Datagram) × BringsUdp mac ours octets d × IsUser d.source d.destination d.payload (Err user.UpperHeader)) → heard mac ours octets ≡ Err UpperHeader
+    of_user is =
+        let d : Datagram = is.0 in
+        for_user mac ours octets d (Err user.UpperHeader) is.1 (user_malformed d.source d.destination d.payload user.UpperHeader (each_octet d.payload (upper_octets mac ours octets d is.1.0 each)) is.2)
+
 heard_damaged : (mac : Mac) (ours : Addr) (octets : List ℕ) → AreOctets octets → IsHeard mac ours octets (Err UpperSum) → heard mac ours octets ≡ Err UpperSum
-heard_damaged mac ours octets each = ⊎_elim of_segment of_message
+heard_damaged mac ours octets each = ⊎_elim of_segment (⊎_elim of_message of_user)
   where
     of_segment : ((d : Datagram) × BringsTcp mac ours octets d × IsSegment d.source d.destination d.payload (Err segment.UpperSum)) → heard mac ours octets ≡ Err UpperSum
     of_segment is =
@@ -211,6 +249,11 @@ heard_damaged mac ours octets each = ⊎_elim of_segment of_message
         let d : Datagram = is.0 in
         for_control mac ours octets d (Err message.UpperSum) is.1 (message_malformed d.payload message.UpperSum (upper_octets mac ours octets d is.1.0 each) is.2)
 
+    of_user : ((d : Datagram) × BringsUdp mac ours octets d × IsUser d.source d.destination d.payload (Err user.UpperSum)) → heard mac ours octets ≡ Err UpperSum
+    of_user is =
+        let d : Datagram = is.0 in
+        for_user mac ours octets d (Err user.UpperSum) is.1 (user_malformed d.source d.destination d.payload user.UpperSum (each_octet d.payload (upper_octets mac ours octets d is.1.0 each)) is.2)
+
 -- what octets spell is what they are to a host
 pub spelled_heard : (mac : Mac) (ours : Addr) (octets : List ℕ) (answer : Result Meaning DropCause) → AreOctets octets → IsHeard mac ours octets answer → heard mac ours octets ≡ answer
 spelled_heard mac ours octets (Ok (Arp p)) each is = heard_packet mac ours octets p is
@@ -218,6 +261,7 @@ spelled_heard mac ours octets (Ok (Tcp t)) each is =
     heard_segment mac ours octets is.0 t.segment is.1 is.2 ∙ ap (λ (a : Addr). Ok (Tcp (record { source = a; segment = t.segment }))) (sym is.3)
 spelled_heard mac ours octets (Ok (Icmp c)) each is =
     heard_message mac ours octets is.0 c.message is.1 is.2 ∙ ap (λ (a : Addr). Ok (Icmp (record { source = a; message = c.message }))) (sym is.3)
+spelled_heard mac ours octets (Ok (Udp r)) each is = heard_user mac ours octets r is
 spelled_heard mac ours octets (Ok (Other d)) each is = heard_other mac ours octets d is
 spelled_heard mac ours octets (Ok (UdpFragment d)) each is = heard_part mac ours octets d is
 spelled_heard mac ours octets (Err Short) each is = heard_short mac ours octets each is

@@ -21,11 +21,15 @@ use Rattle.icmp.specs.declared.fault.IcmpFault.{IcmpFault}
 use Rattle.icmp.specs.declared.fault.IcmpFault.TheVariants as message
 use Rattle.icmp.specs.Message.{Message}
 use Rattle.icmp.specs.Reading.{message_or_fault}
+use Rattle.udp.specs.declared.fault.UdpFault.{UdpFault}
+use Rattle.udp.specs.declared.fault.UdpFault.TheVariants as user
+use Rattle.udp.specs.Datagram.{UserDatagram}
+use Rattle.udp.specs.Reading.{datagram_or_fault}
 use Rattle.frames.specs.declared.drop.DropCause.{DropCause}
 use Rattle.frames.specs.declared.drop.DropCause.TheVariants.{Short, OtherMac, OtherType, OtherAddress, Fragment}
 use Rattle.frames.specs.declared.meaning.Meaning.{Meaning}
-use Rattle.frames.specs.declared.meaning.Meaning.TheVariants.{Arp, Tcp, Icmp, Other, UdpFragment}
-use Rattle.frames.specs.Meaning.{arp_type, datagram_heard, fragment_heard, frame_heard, heard, ipv4_type, is_for, is_fragment, may_send, message_heard, packet_heard, segment_heard, upper_heard, whole_heard}
+use Rattle.frames.specs.declared.meaning.Meaning.TheVariants.{Arp, Tcp, Icmp, Udp, Other, UdpFragment}
+use Rattle.frames.specs.Meaning.{arp_type, datagram_heard, fragment_heard, frame_heard, heard, ipv4_type, is_for, is_fragment, may_send, message_heard, packet_heard, segment_heard, upper_heard, user_heard, whole_heard}
 use Rattle.frames.proofs.Deciding.{addr-Decides, never, number-Decides}
 
 -- octets bring a datagram for this address, from one that may send
@@ -43,7 +47,8 @@ abbrev pub IsOf : Datagram → Meaning → Type 0
 IsOf d (Arp p) = ⊥
 IsOf d (Tcp r) = (is_fragment d ≡ false) × (d.protocol ≡ 6) × (r.source ≡ d.source) × (segment_or_fault d.source d.destination d.payload ≡ Ok r.segment)
 IsOf d (Icmp c) = (is_fragment d ≡ false) × (d.protocol ≡ 1) × (c.source ≡ d.source) × (message_or_fault d.payload ≡ Ok c.message)
-IsOf d (Other e) = (is_fragment d ≡ false) × (d.protocol ≢ 6) × (d.protocol ≢ 1) × (e ≡ d)
+IsOf d (Udp r) = (is_fragment d ≡ false) × (d.protocol ≡ 17) × (r.carrier ≡ d) × (datagram_or_fault d.source d.destination d.payload ≡ Ok r.datagram)
+IsOf d (Other e) = (is_fragment d ≡ false) × (d.protocol ≢ 6) × (d.protocol ≢ 1) × (d.protocol ≢ 17) × (e ≡ d)
 IsOf d (UdpFragment e) = (is_fragment d ≡ true) × (d.protocol ≡ 17) × (e ≡ d)
 
 -- what is heard, and what it comes from
@@ -66,16 +71,31 @@ of_message d m (Ok c) whole icmp found e = heard_is (IsOf d) (Icmp (record { sou
 of_message d m (Err message.UpperHeader) whole icmp found e = cc
 of_message d m (Err message.UpperSum) whole icmp found e = cc
 
+of_user : (d : Datagram) (m : Meaning) (read : Result UserDatagram UdpFault) → is_fragment d ≡ false → d.protocol ≡ 17
+    → datagram_or_fault d.source d.destination d.payload ≡ read → user_heard d read ≡ Ok m → IsOf d m
+of_user d m (Ok u) whole udp found e = heard_is (IsOf d) (Udp (record { carrier = d; datagram = u })) m (whole, udp, refl, found) e
+of_user d m (Err user.UpperHeader) whole udp found e = cc
+of_user d m (Err user.UpperSum) whole udp found e = cc
+
 of_whole : (d : Datagram) (m : Meaning) → is_fragment d ≡ false → whole_heard d ≡ Ok m → IsOf d m
-of_whole d m whole answer = by_protocol (d.protocol == 6) (d.protocol == 1) refl refl answer
+of_whole d m whole answer = by_protocol (d.protocol == 6) (d.protocol == 1) (d.protocol == 17) refl refl refl answer
   where
-    by_protocol : (tcp icmp : Bool) → (d.protocol == 6) ≡ tcp → (d.protocol == 1) ≡ icmp
-        → cond tcp (segment_heard d.source (segment_or_fault d.source d.destination d.payload)) (cond icmp (message_heard d.source (message_or_fault d.payload)) (Ok (Other d))) ≡ Ok m
+    by_protocol : (tcp icmp udp : Bool) → (d.protocol == 6) ≡ tcp → (d.protocol == 1) ≡ icmp → (d.protocol == 17) ≡ udp
+        → cond tcp (segment_heard d.source (segment_or_fault d.source d.destination d.payload))
+        (cond icmp (message_heard d.source (message_or_fault d.payload)) (cond udp (user_heard d (datagram_or_fault d.source d.destination d.payload)) (Ok (Other d)))) ≡ Ok m
         → IsOf d m
-    by_protocol true icmp is_tcp is_icmp e = of_segment d m (segment_or_fault d.source d.destination d.payload) whole (eqb-true d.protocol 6 is_tcp) refl e
-    by_protocol false true is_tcp is_icmp e = of_message d m (message_or_fault d.payload) whole (eqb-true d.protocol 1 is_icmp) refl e
-    by_protocol false false is_tcp is_icmp e =
-        heard_is (IsOf d) (Other d) m (whole, never (d.protocol == 6) (number-Decides d.protocol 6) is_tcp, never (d.protocol == 1) (number-Decides d.protocol 1) is_icmp, refl) e
+    by_protocol true icmp udp is_tcp is_icmp is_udp e = of_segment d m (segment_or_fault d.source d.destination d.payload) whole (eqb-true d.protocol 6 is_tcp) refl e
+    by_protocol false true udp is_tcp is_icmp is_udp e = of_message d m (message_or_fault d.payload) whole (eqb-true d.protocol 1 is_icmp) refl e
+    by_protocol false false true is_tcp is_icmp is_udp e = of_user d m (datagram_or_fault d.source d.destination d.payload) whole (eqb-true d.protocol 17 is_udp) refl e
+    by_protocol false false false is_tcp is_icmp is_udp e =
+        let others : IsOf d (Other d) = (
+          whole,
+          never (d.protocol == 6) (number-Decides d.protocol 6) is_tcp,
+          never (d.protocol == 1) (number-Decides d.protocol 1) is_icmp,
+          never (d.protocol == 17) (number-Decides d.protocol 17) is_udp,
+          refl,
+        ) in
+        heard_is (IsOf d) (Other d) m others e
 
 of_fragment : (d : Datagram) (m : Meaning) → is_fragment d ≡ true → fragment_heard d ≡ Ok m → IsOf d m
 of_fragment d m part answer = by_user (d.protocol == 17) refl answer

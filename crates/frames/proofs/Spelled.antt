@@ -26,12 +26,17 @@ use Rattle.icmp.specs.declared.fault.IcmpFault.TheVariants as message
 use Rattle.icmp.specs.Message.{Message, IsParsed as IsMessage}
 use Rattle.icmp.specs.Reading.{message_or_fault}
 use Rattle.icmp.proofs.Answering.{read_parsed as message_parsed}
+use Rattle.udp.specs.declared.fault.UdpFault.{UdpFault}
+use Rattle.udp.specs.declared.fault.UdpFault.TheVariants as user
+use Rattle.udp.specs.Datagram.{UserDatagram, IsParsed as IsUser}
+use Rattle.udp.specs.Reading.{datagram_or_fault}
+use Rattle.udp.proofs.Plain.{fault_parsed as user_parsed}
 use Rattle.frames.specs.declared.drop.DropCause.{DropCause}
 use Rattle.frames.specs.declared.drop.DropCause.TheVariants.{OtherMac, OtherType, OtherAddress, Fragment}
 use Rattle.frames.specs.declared.meaning.Meaning.{Meaning}
 use Rattle.frames.specs.declared.meaning.Meaning.TheVariants.{Arp, Other, UdpFragment}
-use Rattle.frames.specs.Heard.{Brings, BringsDatagram, BringsIcmp, BringsTcp, IsHeard, IsWhole}
-use Rattle.frames.specs.Meaning.{arp_type, datagram_heard, fragment_heard, frame_heard, heard, ipv4_type, is_for, is_fragment, may_send, message_heard, packet_heard, payload_heard, segment_heard, upper_heard, whole_heard}
+use Rattle.frames.specs.Heard.{Brings, BringsDatagram, BringsIcmp, BringsTcp, BringsUdp, IsHeard, IsWhole}
+use Rattle.frames.specs.Meaning.{arp_type, datagram_heard, fragment_heard, frame_heard, heard, ipv4_type, is_for, is_fragment, may_send, message_heard, packet_heard, payload_heard, segment_heard, upper_heard, user_heard, whole_heard}
 use Rattle.ipv4.specs.Addresses.{same_addr}
 use Rattle.frames.proofs.Layers.{as_frame, too_many}
 use Rattle.frames.proofs.Meanings.{AreOctets, brought_octets, source_len, spelled_heard, upper_octets}
@@ -48,8 +53,15 @@ of_segment mac ours octets d (Err segment.UpperSum) brings is = inl (d, brings, 
 of_message : (mac : Mac) (ours : Addr) (octets : List ℕ) (d : Datagram) (read : Result Message IcmpFault) → BringsIcmp mac ours octets d
     → IsMessage d.payload read → IsHeard mac ours octets (message_heard d.source read)
 of_message mac ours octets d (Ok m) brings is = (d, brings, is, refl)
-of_message mac ours octets d (Err message.UpperHeader) brings is = inr (inr (d, brings, is))
-of_message mac ours octets d (Err message.UpperSum) brings is = inr (d, brings, is)
+of_message mac ours octets d (Err message.UpperHeader) brings is = inr (inr (inl (d, brings, is)))
+of_message mac ours octets d (Err message.UpperSum) brings is = inr (inl (d, brings, is))
+
+-- a user datagram
+of_user : (mac : Mac) (ours : Addr) (octets : List ℕ) (d : Datagram) (read : Result UserDatagram UdpFault) → BringsUdp mac ours octets d
+    → IsUser d.source d.destination d.payload read → IsHeard mac ours octets (user_heard d read)
+of_user mac ours octets d (Ok u) brings is = (brings, is)
+of_user mac ours octets d (Err user.UpperHeader) brings is = inr (inr (inr (d, brings, is)))
+of_user mac ours octets d (Err user.UpperSum) brings is = inr (inr (d, brings, is))
 
 -- a fragment for us
 of_fragment : (mac : Mac) (ours : Addr) (octets : List ℕ) (d : Datagram) → BringsDatagram mac ours octets d → (IsWhole d → ⊥) → IsHeard mac ours octets (fragment_heard d)
@@ -61,20 +73,31 @@ of_fragment mac ours octets d brings part = by_user (d.protocol == 17) refl
 
 -- a whole datagram for us
 of_whole : (mac : Mac) (ours : Addr) (octets : List ℕ) (d : Datagram) → AreOctets octets → BringsDatagram mac ours octets d → IsWhole d → IsHeard mac ours octets (whole_heard d)
-of_whole mac ours octets d each brings is_whole = by_protocol (d.protocol == 6) (d.protocol == 1) refl refl
+of_whole mac ours octets d each brings is_whole = by_protocol (d.protocol == 6) (d.protocol == 1) (d.protocol == 17) refl refl refl
   where
     own : AreOctets d.payload
     own = upper_octets mac ours octets d brings each
 
-    by_protocol : (tcp icmp : Bool) → (d.protocol == 6) ≡ tcp → (d.protocol == 1) ≡ icmp
-        → IsHeard mac ours octets (cond tcp (segment_heard d.source (segment_or_fault d.source d.destination d.payload)) (cond icmp (message_heard d.source (message_or_fault d.payload)) (Ok (Other d))))
-    by_protocol true icmp is_tcp is_icmp =
+    by_protocol : (tcp icmp udp : Bool) → (d.protocol == 6) ≡ tcp → (d.protocol == 1) ≡ icmp → (d.protocol == 17) ≡ udp
+        → IsHeard mac ours octets (
+        cond tcp (segment_heard d.source (segment_or_fault d.source d.destination d.payload))
+        (cond icmp (message_heard d.source (message_or_fault d.payload)) (cond udp (user_heard d (datagram_or_fault d.source d.destination d.payload)) (Ok (Other d))))
+        )
+    by_protocol true icmp udp is_tcp is_icmp is_udp =
         of_segment mac ours octets d (segment_or_fault d.source d.destination d.payload) (brings, is_whole, eqb-true d.protocol 6 is_tcp)
         (fault_parsed d.source d.destination d.payload (each_octet d.payload own))
-    by_protocol false true is_tcp is_icmp =
+    by_protocol false true udp is_tcp is_icmp is_udp =
         of_message mac ours octets d (message_or_fault d.payload) (brings, is_whole, eqb-true d.protocol 1 is_icmp) (message_parsed d.payload own)
-    by_protocol false false is_tcp is_icmp =
-        (brings, is_whole, never (d.protocol == 6) (number-Decides d.protocol 6) is_tcp, never (d.protocol == 1) (number-Decides d.protocol 1) is_icmp)
+    by_protocol false false true is_tcp is_icmp is_udp =
+        of_user mac ours octets d (datagram_or_fault d.source d.destination d.payload) (brings, is_whole, eqb-true d.protocol 17 is_udp)
+        (user_parsed d.source d.destination d.payload (each_octet d.payload own))
+    by_protocol false false false is_tcp is_icmp is_udp = (
+      brings,
+      is_whole,
+      never (d.protocol == 6) (number-Decides d.protocol 6) is_tcp,
+      never (d.protocol == 1) (number-Decides d.protocol 1) is_icmp,
+      never (d.protocol == 17) (number-Decides d.protocol 17) is_udp,
+    )
 
 -- a datagram for us
 of_upper : (mac : Mac) (ours : Addr) (octets : List ℕ) (d : Datagram) → AreOctets octets → BringsDatagram mac ours octets d → IsHeard mac ours octets (upper_heard d)

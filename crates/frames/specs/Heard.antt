@@ -15,10 +15,12 @@ use Rattle.tcp_segment.specs.declared.fault.SegmentFault.TheVariants as segment
 use Rattle.tcp_segment.specs.Segment.{Spells as SpellsSegment, IsParsed as IsSegment}
 use Rattle.icmp.specs.declared.fault.IcmpFault.TheVariants as message
 use Rattle.icmp.specs.Message.{Spells as SpellsMessage, IsParsed as IsMessage}
+use Rattle.udp.specs.declared.fault.UdpFault.TheVariants as user
+use Rattle.udp.specs.Datagram.{Spells as SpellsUser, IsParsed as IsUser}
 use Rattle.frames.specs.declared.drop.DropCause.{DropCause}
 use Rattle.frames.specs.declared.drop.DropCause.TheVariants.{Short, OtherMac, OtherType, IpHeader, IpSum, OtherAddress, UpperHeader, UpperSum, NoRoom, Fragment}
 use Rattle.frames.specs.declared.meaning.Meaning.{Meaning}
-use Rattle.frames.specs.declared.meaning.Meaning.TheVariants.{Arp, Tcp, Icmp, Other, UdpFragment}
+use Rattle.frames.specs.declared.meaning.Meaning.TheVariants.{Arp, Tcp, Icmp, Udp, Other, UdpFragment}
 use Rattle.frames.specs.Meaning.{ipv4_type, arp_type, broadcast}
 
 -- the frame is for this interface
@@ -59,12 +61,17 @@ BringsTcp mac ours octets d = BringsDatagram mac ours octets d × IsWhole d × (
 abbrev pub BringsIcmp : Mac → Addr → List ℕ → Datagram → Type 0
 BringsIcmp mac ours octets d = BringsDatagram mac ours octets d × IsWhole d × (d.protocol ≡ 1)
 
+-- .. one that carries UDP
+abbrev pub BringsUdp : Mac → Addr → List ℕ → Datagram → Type 0
+BringsUdp mac ours octets d = BringsDatagram mac ours octets d × IsWhole d × (d.protocol ≡ 17)
+
 -- what octets are to a host
 abbrev pub IsHeard : Mac → Addr → List ℕ → Result Meaning DropCause → Type 0
 IsHeard mac ours octets (Ok (Arp p)) = (payload : List ℕ) × Brings mac octets arp_type payload × SpellsPacket p payload × MaySend ours p.sender_addr
 IsHeard mac ours octets (Ok (Tcp t)) = (d : Datagram) × BringsTcp mac ours octets d × SpellsSegment d.source d.destination t.segment d.payload × (t.source ≡ d.source)
 IsHeard mac ours octets (Ok (Icmp c)) = (d : Datagram) × BringsIcmp mac ours octets d × SpellsMessage c.message d.payload × (c.source ≡ d.source)
-IsHeard mac ours octets (Ok (Other d)) = BringsDatagram mac ours octets d × IsWhole d × (d.protocol ≢ 6) × (d.protocol ≢ 1)
+IsHeard mac ours octets (Ok (Udp r)) = BringsUdp mac ours octets r.carrier × SpellsUser r.carrier.source r.carrier.destination r.datagram r.carrier.payload
+IsHeard mac ours octets (Ok (Other d)) = BringsDatagram mac ours octets d × IsWhole d × (d.protocol ≢ 6) × (d.protocol ≢ 1) × (d.protocol ≢ 17)
 IsHeard mac ours octets (Ok (UdpFragment d)) = BringsDatagram mac ours octets d × (IsWhole d → ⊥) × (d.protocol ≡ 17)
 IsHeard mac ours octets (Err Short) = (length octets < 14) ⊎ (SPACE < length octets)
 IsHeard mac ours octets (Err OtherMac) = (f : Frame) × SpellsFrame f octets × (length octets ≤ SPACE) × (IsFor mac f → ⊥)
@@ -78,8 +85,10 @@ IsHeard mac ours octets (Err UpperHeader) =
     ((payload : List ℕ) × Brings mac octets arp_type payload × IsPacket payload (Err packet.UpperHeader))
     ⊎ ((d : Datagram) × BringsTcp mac ours octets d × IsSegment d.source d.destination d.payload (Err segment.UpperHeader))
     ⊎ ((d : Datagram) × BringsIcmp mac ours octets d × IsMessage d.payload (Err message.UpperHeader))
+    ⊎ ((d : Datagram) × BringsUdp mac ours octets d × IsUser d.source d.destination d.payload (Err user.UpperHeader))
 IsHeard mac ours octets (Err UpperSum) =
     ((d : Datagram) × BringsTcp mac ours octets d × IsSegment d.source d.destination d.payload (Err segment.UpperSum))
     ⊎ ((d : Datagram) × BringsIcmp mac ours octets d × IsMessage d.payload (Err message.UpperSum))
+    ⊎ ((d : Datagram) × BringsUdp mac ours octets d × IsUser d.source d.destination d.payload (Err user.UpperSum))
 IsHeard mac ours octets (Err NoRoom) = ⊥
 IsHeard mac ours octets (Err Fragment) = (d : Datagram) × BringsDatagram mac ours octets d × (IsWhole d → ⊥) × (d.protocol ≢ 17)

@@ -1,6 +1,6 @@
 -- What octets are to a host with this MAC and this address, or the first cause to drop them. They are tested layer by layer,
 -- from the lowest up: the frame (RFC 894), the ARP packet (RFC 826) or the datagram (RFC 791), its addresses (RFC 1122
--- section 3.2.1.3), and the segment (RFC 9293 section 3.1) or the control message (RFC 792).
+-- section 3.2.1.3), and the segment (RFC 9293 section 3.1), the control message (RFC 792) or the user datagram (RFC 768).
 use Rattle.std.specs.Prelude.{ℕ, ◌==◌, nat_eq, nat_lt, Bool, not, ◌&&◌, ◌||◌, if◌then◌else◌, List, length, replicate, Option, Some, None, Result, Ok, Err}
 use Rattle.std.specs.Cmp.Lexicographic.{pointwise}
 use Rattle.ether.specs.declared.head.TheConstants.{SPACE}
@@ -23,10 +23,14 @@ use Rattle.icmp.specs.declared.fault.IcmpFault.{IcmpFault}
 use Rattle.icmp.specs.declared.fault.IcmpFault.TheVariants as message
 use Rattle.icmp.specs.Message.{Message}
 use Rattle.icmp.specs.Reading.{message_or_fault}
+use Rattle.udp.specs.declared.fault.UdpFault.{UdpFault}
+use Rattle.udp.specs.declared.fault.UdpFault.TheVariants as user
+use Rattle.udp.specs.Datagram.{UserDatagram}
+use Rattle.udp.specs.Reading.{datagram_or_fault}
 use Rattle.frames.specs.declared.drop.DropCause.{DropCause}
 use Rattle.frames.specs.declared.drop.DropCause.TheVariants.{Short, OtherMac, OtherType, IpHeader, IpSum, OtherAddress, UpperHeader, UpperSum, Fragment}
 use Rattle.frames.specs.declared.meaning.Meaning.{Meaning}
-use Rattle.frames.specs.declared.meaning.Meaning.TheVariants.{Arp, Tcp, Icmp, Other, UdpFragment}
+use Rattle.frames.specs.declared.meaning.Meaning.TheVariants.{Arp, Tcp, Icmp, Udp, Other, UdpFragment}
 
 -- the types of frames that carry IPv4 (RFC 894) and ARP (RFC 826)
 abbrev pub ipv4_type : ℕ
@@ -71,15 +75,22 @@ message_heard source (Err message.UpperHeader) = Err UpperHeader
 message_heard source (Err message.UpperSum) = Err UpperSum
 message_heard source (Ok m) = Ok (Icmp (record { source = source; message = m }))
 
+-- a user datagram in this datagram of IPv4
+abbrev pub user_heard : Datagram → Result UserDatagram UdpFault → Result Meaning DropCause
+user_heard d (Err user.UpperHeader) = Err UpperHeader
+user_heard d (Err user.UpperSum) = Err UpperSum
+user_heard d (Ok u) = Ok (Udp (record { carrier = d; datagram = u }))
+
 -- a fragment for us: one of UDP (17) is left as it is
 abbrev pub fragment_heard : Datagram → Result Meaning DropCause
 fragment_heard d = if d.protocol == 17 then Ok (UdpFragment d) else Err Fragment
 
--- a whole datagram for us: TCP (6) and ICMP (1) are read, one of another protocol is left as it is
+-- a whole datagram for us: TCP (6), ICMP (1) and UDP (17) are read, one of another protocol is left as it is
 abbrev pub whole_heard : Datagram → Result Meaning DropCause
 whole_heard d =
     if d.protocol == 6 then segment_heard d.source (segment_or_fault d.source d.destination d.payload)
     else if d.protocol == 1 then message_heard d.source (message_or_fault d.payload)
+    else if d.protocol == 17 then user_heard d (datagram_or_fault d.source d.destination d.payload)
     else Ok (Other d)
 
 -- a datagram for us

@@ -1,17 +1,19 @@
 //! The frames that go out.
 
 ghost use Rattle.std.specs.Prelude.{◌≡◌, ◌+◌, ◌≤◌, ◌++◌, drop, max, slice_range};
-ghost use Rattle.frames.specs.Sent.{ipv4_head, datagram_frame, segment_frame, message_frame, packet_frame, packet_destination};
+ghost use Rattle.ipv4.specs.Datagram.{HasPlace};
+ghost use Rattle.frames.specs.Sent.{framed, ipv4_head, part_head, part_frame, segment_frame, message_frame, packet_frame, packet_destination};
 
 use crate::reading::{ARP, IPV4};
 use arp::{ArpPacket, Operation};
 use ether::{Mac, SPACE};
 use ipv4::{Addr, Protocol};
+use udp::Part;
 
 /// The length of the head of a frame, in octets (RFC 894).
 const HEAD: usize = 14;
 
-/// What stands before a segment or a control message in a frame, but for what the stack determines.
+/// What stands before a segment, a control message or a part of a user datagram in a frame, but for what the stack determines.
 #[derive(Clone, Copy, PartialEq, Eq, Debug)]
 pub struct FrameHead {
     /// The interface that the frame is for.
@@ -33,7 +35,7 @@ impl FrameHead {
         ensures len { result ≡ max (34 + segment_len) 60 }
         ensures octets { out.new ≡ segment_frame self.now (slice_range out.old 34 (34 + segment_len)) ++ drop result out.old }
     {
-        self.emit(Protocol::TCP, segment_len, out)
+        self.emit(self.ipv4_head(Protocol::TCP), segment_len, out)
     }
 
     /// Writes the heads of frame and datagram before a control message of so many octets, at most 1,480, which stands at `out[34..]`
@@ -44,16 +46,29 @@ impl FrameHead {
         ensures len { result ≡ max (34 + message_len) 60 }
         ensures octets { out.new ≡ message_frame self.now (slice_range out.old 34 (34 + message_len)) ++ drop result out.old }
     {
-        self.emit(Protocol::ICMP, message_len, out)
+        self.emit(self.ipv4_head(Protocol::ICMP), message_len, out)
     }
 
-    /// Writes the heads of frame and datagram before a payload of this protocol.
-    fn emit(&self, protocol: Protocol, payload_len: usize, out: &mut [u8; SPACE]) -> usize
-        requires { payload_len ≤ 1480 }
-        ensures len { result ≡ max (34 + payload_len) 60 }
-        ensures octets { out.new ≡ datagram_frame self.now protocol.0 (slice_range out.old 34 (34 + payload_len)) ++ drop result out.old }
+    /// Writes the heads of frame and datagram before a part of a user datagram, at most 1,480 octets, which stands at `out[34..]`
+    /// already, pads a short frame with zeros, and answers its length, 60 octets at least (RFC 894, RFC 791 section 3.2, RFC 768).
+    /// What stands behind it in `out` stays.
+    pub fn emit_udp(&self, part: Part, out: &mut [u8; SPACE]) -> usize
+        requires most { part.fragment.len ≤ 1480 }
+        requires place { HasPlace part.fragment.more_fragments part.fragment.offset part.fragment.len }
+        ensures len { result ≡ max (34 + part.fragment.len) 60 }
+        ensures octets { out.new ≡ part_frame self.now part (slice_range out.old 34 (34 + part.fragment.len)) ++ drop result out.old }
     {
-        let datagram_len = self.ipv4_head(protocol).emit(payload_len, &mut out[HEAD..]);
+        self.emit(self.part_head(part), usize::from(part.fragment.len), out)
+    }
+
+    /// Writes the head of the frame and this header of a datagram before a payload.
+    fn emit(&self, head: ipv4::Head, payload_len: usize, out: &mut [u8; SPACE]) -> usize
+        requires most { payload_len ≤ 1480 }
+        requires place { HasPlace head.more_fragments head.offset payload_len }
+        ensures len { result ≡ max (34 + payload_len) 60 }
+        ensures octets { out.new ≡ framed self.now head (slice_range out.old 34 (34 + payload_len)) ++ drop result out.old }
+    {
+        let datagram_len = head.emit(payload_len, &mut out[HEAD..]);
         ether::Head {
             destination: self.destination,
             source: self.source,
@@ -74,6 +89,21 @@ impl FrameHead {
             dont_fragment: true,
             more_fragments: false,
             offset: 0,
+        }
+    }
+
+    /// The header of the datagram that carries this part of a user datagram.
+    fn part_head(&self, part: Part) -> ipv4::Head
+        ensures { result ≡ part_head self.now part }
+    {
+        ipv4::Head {
+            source: self.from,
+            destination: self.to,
+            protocol: Protocol::UDP,
+            identification: part.identification,
+            dont_fragment: false,
+            more_fragments: part.fragment.more_fragments,
+            offset: part.fragment.offset,
         }
     }
 }

@@ -1,6 +1,6 @@
 //! Laws of the definitions that the contracts of this crate cite: each is the contract of a function that does nothing.
 
-ghost use Rattle.std.specs.Prelude.{◌≡◌, ◌≢◌, ◌↔◌, true, ℕ, ◌+◌, ◌*◌, ◌<◌, ◌≤◌, List, length, All, Some, None, Result, Ok};
+ghost use Rattle.std.specs.Prelude.{◌≡◌, ◌≢◌, ◌↔◌, true, false, ℕ, ◌+◌, ◌*◌, ◌<◌, ◌≤◌, List, length, All, Some, None, Result, Ok};
 ghost use Rattle.ether.specs.declared.mac.Mac.{Mac};
 ghost use Rattle.arp.specs.declared.packet.ArpPacket.{ArpPacket};
 ghost use Rattle.arp.specs.declared.packet.Operation.TheVariants.{Request, Reply};
@@ -9,6 +9,9 @@ ghost use Rattle.ipv4.specs.declared.addr.Addr.{Addr};
 ghost use Rattle.ipv4.specs.declared.addr.Pair.{Pair};
 ghost use Rattle.ipv4.specs.Datagram.{Datagram, header_octets};
 ghost use Rattle.icmp.specs.Message.{Message, Spells, spelling};
+ghost use Rattle.udp.specs.declared.cutting.Part.{Part};
+ghost use Rattle.udp.specs.Datagram.{UserDatagram, Spells as SpellsUser};
+ghost use Rattle.udp.specs.Reading.{datagram_or_fault};
 ghost use Rattle.tcp_segment.specs.declared.head.Head.{Head};
 ghost use Rattle.tcp_segment.specs.Sent.{CanBeSent, sent_segment, sent_octets, sent_offset};
 ghost use Rattle.frames.specs.declared.drop.DropCause.{DropCause};
@@ -16,14 +19,15 @@ ghost use Rattle.frames.specs.declared.emission.FrameHead.{FrameHead};
 ghost use Rattle.frames.specs.declared.meaning.Control.{Control};
 ghost use Rattle.frames.specs.declared.meaning.Meaning.{Meaning};
 ghost use Rattle.frames.specs.declared.meaning.Received.{Received};
-ghost use Rattle.frames.specs.declared.meaning.Meaning.TheVariants.{Arp, Tcp, Icmp, Other};
+ghost use Rattle.frames.specs.declared.meaning.UserReceived.{UserReceived};
+ghost use Rattle.frames.specs.declared.meaning.Meaning.TheVariants.{Arp, Tcp, Icmp, Udp, Other, UdpFragment};
 ghost use Rattle.frames.specs.Heard.{IsHeard, IsWhole, MaySend};
 ghost use Rattle.frames.specs.Meaning.{heard, may_send};
 ghost use Rattle.frames.specs.Pairs.{CarryPair, pair_in, pair_between};
-ghost use Rattle.frames.specs.Sent.{segment_frame, message_frame, packet_frame};
+ghost use Rattle.frames.specs.Sent.{IsPart, segment_frame, message_frame, packet_frame, part_datagram, part_frame};
 
-/// What octets are to a host is what they spell, layer by layer (RFC 894, RFC 826, RFC 791 section 3.1, RFC 9293 section 3.1, RFC 792): the
-/// answer is determined for all octets, and is no other than the one whose records they spell.
+/// What octets are to a host is what they spell, layer by layer (RFC 894, RFC 826, RFC 791 section 3.1, RFC 9293 section 3.1, RFC 792,
+/// RFC 768): the answer is determined for all octets, and is no other than the one whose records they spell.
 pub fn one_meaning()
     ensures spelled { (mac : Mac) (ours : Addr) (octets : List ℕ) (answer : Result Meaning DropCause) → All (λ octet. octet < 256) octets
         → (IsHeard mac ours octets answer ↔ (heard mac ours octets ≡ answer)) }
@@ -61,6 +65,23 @@ pub fn emitted_messages_are_heard()
         → heard h.destination h.to (message_frame h (spelling m)) ≡ Ok (Icmp (record { source = h.from; message = m })) }
 {}
 
+/// A frame that `FrameHead::emit_udp` writes is heard where it is for, padded or not: a part that is the whole as the very user datagram
+/// that its octets spell, any other as a fragment. Either stands in a datagram of IPv4 between the two addresses with the part's own
+/// identification, place and octets, which may be cut further (RFC 791 section 3.2, RFC 768).
+pub fn emitted_parts_are_heard()
+    ensures whole { (h : FrameHead) (part : Part) (octets : List ℕ) (d : UserDatagram) → IsPart part octets → length h.from.0 ≡ 4 → length h.to.0 ≡ 4
+        → length h.destination.0 ≡ 6 → length h.source.0 ≡ 6 → MaySend h.to h.from
+        → part.fragment.more_fragments ≡ false → part.fragment.offset ≡ 0 → SpellsUser h.from h.to d octets
+        → heard h.destination h.to (part_frame h part octets) ≡ Ok (Udp (record { carrier = part_datagram h part octets; datagram = d })) }
+    ensures fragment { (h : FrameHead) (part : Part) (octets : List ℕ) → IsPart part octets → length h.from.0 ≡ 4 → length h.to.0 ≡ 4
+        → length h.destination.0 ≡ 6 → length h.source.0 ≡ 6 → MaySend h.to h.from
+        → (part.fragment.more_fragments ≡ false → part.fragment.offset ≡ 0 → ⊥)
+        → heard h.destination h.to (part_frame h part octets) ≡ Ok (UdpFragment (part_datagram h part octets)) }
+    ensures told { (h : FrameHead) (part : Part) (octets : List ℕ) → let d = part_datagram h part octets in
+        (d.source ≡ h.from) × (d.destination ≡ h.to) × (d.protocol ≡ 17) × (d.identification ≡ part.identification) × (d.dont_fragment ≡ false)
+        × (d.more_fragments ≡ part.fragment.more_fragments) × (d.offset ≡ part.fragment.offset) × (d.payload ≡ octets) }
+{}
+
 /// A frame that `emit_arp` writes is heard as its packet, where its sender may send: a request by every interface, a reply by
 /// that of its target (RFC 826).
 pub fn emitted_packets_are_heard()
@@ -70,34 +91,53 @@ pub fn emitted_packets_are_heard()
         → heard packet.target_mac ours (packet_frame packet) ≡ Ok (Arp packet) }
 {}
 
-/// What is heard as a segment, a control message or a datagram of another protocol comes from another host, from an address that a host
-/// may have (RFC 1122 section 3.2.1.3); such a datagram is for the host that hears it.
+/// What is heard as a segment, a control message, a user datagram, a fragment or a datagram of another protocol comes from another host,
+/// from an address that a host may have (RFC 1122 section 3.2.1.3); such a datagram of IPv4 is for the host that hears it.
 pub fn heard_from_others()
     ensures segment { (mac : Mac) (ours : Addr) (octets : List ℕ) (received : Received) → heard mac ours octets ≡ Ok (Tcp received) → may_send ours received.source ≡ true }
     ensures message { (mac : Mac) (ours : Addr) (octets : List ℕ) (c : Control) → heard mac ours octets ≡ Ok (Icmp c) → may_send ours c.source ≡ true }
+    ensures user { (mac : Mac) (ours : Addr) (octets : List ℕ) (r : UserReceived) → heard mac ours octets ≡ Ok (Udp r)
+        → (may_send ours r.carrier.source ≡ true) × (r.carrier.destination ≡ ours) }
+    ensures fragment { (mac : Mac) (ours : Addr) (octets : List ℕ) (d : Datagram) → heard mac ours octets ≡ Ok (UdpFragment d)
+        → (may_send ours d.source ≡ true) × (d.destination ≡ ours) }
     ensures other { (mac : Mac) (ours : Addr) (octets : List ℕ) (d : Datagram) → heard mac ours octets ≡ Ok (Other d)
         → (may_send ours d.source ≡ true) × (d.destination ≡ ours) }
 {}
 
 /// A datagram of another protocol that is heard is a whole one from an address that another host may have, and carries neither TCP nor
-/// ICMP (RFC 791 section 3.1, RFC 1122 section 3.2.1.3).
+/// ICMP nor UDP (RFC 791 section 3.1, RFC 1122 section 3.2.1.3).
 pub fn heard_others_are_whole()
     ensures { (mac : Mac) (ours : Addr) (octets : List ℕ) (d : Datagram) → heard mac ours octets ≡ Ok (Other d)
-        → MaySend ours d.source × IsWhole d × (d.protocol ≢ 6) × (d.protocol ≢ 1) }
+        → MaySend ours d.source × IsWhole d × (d.protocol ≢ 6) × (d.protocol ≢ 1) × (d.protocol ≢ 17) }
 {}
 
-/// A control message that is heard has at most 1,472 octets of data, and the header of a datagram of another protocol at most 60: each
-/// fits into the frame that it came in (RFC 894, RFC 791 section 3.1).
+/// A user datagram that is heard came in a whole datagram of UDP from an address that another host may have, and its payload is read as
+/// this one. A fragment that is heard is one of UDP from such an address (RFC 768, RFC 791 section 3.2, RFC 1122 section 3.2.1.3).
+pub fn heard_users_are_carried()
+    ensures whole { (mac : Mac) (ours : Addr) (octets : List ℕ) (r : UserReceived) → heard mac ours octets ≡ Ok (Udp r)
+        → MaySend ours r.carrier.source × IsWhole r.carrier × (r.carrier.protocol ≡ 17)
+        × (datagram_or_fault r.carrier.source r.carrier.destination r.carrier.payload ≡ Ok r.datagram) }
+    ensures fragment { (mac : Mac) (ours : Addr) (octets : List ℕ) (d : Datagram) → heard mac ours octets ≡ Ok (UdpFragment d)
+        → MaySend ours d.source × (IsWhole d → ⊥) × (d.protocol ≡ 17) }
+{}
+
+/// A control message that is heard has at most 1,472 octets of data. The header of a user datagram, of a fragment or of a datagram of
+/// another protocol has at most 60, and the payload of either of the first two at most 1,480: each fits into the frame that it came in (RFC 894,
+/// RFC 791 section 3.1).
 pub fn heard_messages_fit()
     ensures message { (mac : Mac) (ours : Addr) (octets : List ℕ) (c : Control) → heard mac ours octets ≡ Ok (Icmp c)
         → length c.message.payload ≤ 1472 }
+    ensures user { (mac : Mac) (ours : Addr) (octets : List ℕ) (r : UserReceived) → heard mac ours octets ≡ Ok (Udp r)
+        → (length (header_octets r.carrier) ≤ 60) × (length r.carrier.payload ≤ 1480) }
+    ensures fragment { (mac : Mac) (ours : Addr) (octets : List ℕ) (d : Datagram) → heard mac ours octets ≡ Ok (UdpFragment d)
+        → (length (header_octets d) ≤ 60) × (length d.payload ≤ 1480) }
     ensures other { (mac : Mac) (ours : Addr) (octets : List ℕ) (d : Datagram) → heard mac ours octets ≡ Ok (Other d)
         → length (header_octets d) ≤ 60 }
 {}
 
-/// Whoever hears a segment or a control message in a frame that goes out is the host at the address that it is for, and hears the very one
-/// that is meant, from the address that sends it. Nobody hears a segment in the frame of a control message or of an ARP packet, nor a
-/// control message in the frame of a segment or of an ARP packet.
+/// Whoever hears a segment, a control message, a user datagram or a fragment in a frame that goes out is the host at the address that it is
+/// for, and hears the very one that is meant, from the address that sends it. Nobody hears anything of the four in the frame of another kind:
+/// a segment in that of a control message, of a part of a user datagram or of an ARP packet, and so on.
 pub fn heard_as_sent()
     ensures segment { (h : FrameHead) (head : Head) (octets : List ℕ) (mac : Mac) (ours : Addr) (received : Received) → CanBeSent h.from h.to head octets
         → length h.destination.0 ≡ 6 → length h.source.0 ≡ 6 → 4 * sent_offset head + length octets ≤ 1480
@@ -108,16 +148,34 @@ pub fn heard_as_sent()
     ensures message { (h : FrameHead) (m : Message) (mac : Mac) (ours : Addr) (c : Control) → Spells m (spelling m) → length h.from.0 ≡ 4 → length h.to.0 ≡ 4
         → length h.destination.0 ≡ 6 → length h.source.0 ≡ 6 → length m.payload ≤ 1472
         → heard mac ours (message_frame h (spelling m)) ≡ Ok (Icmp c) → (ours ≡ h.to) × (c ≡ record { source = h.from; message = m }) }
+    ensures user { (h : FrameHead) (part : Part) (octets : List ℕ) (mac : Mac) (ours : Addr) (r : UserReceived) → IsPart part octets → length h.from.0 ≡ 4
+        → length h.to.0 ≡ 4 → length h.destination.0 ≡ 6 → length h.source.0 ≡ 6 → heard mac ours (part_frame h part octets) ≡ Ok (Udp r)
+        → (ours ≡ h.to) × (r.carrier ≡ part_datagram h part octets) × (datagram_or_fault h.from h.to octets ≡ Ok r.datagram) }
+    ensures fragment { (h : FrameHead) (part : Part) (octets : List ℕ) (mac : Mac) (ours : Addr) (d : Datagram) → IsPart part octets → length h.from.0 ≡ 4
+        → length h.to.0 ≡ 4 → length h.destination.0 ≡ 6 → length h.source.0 ≡ 6 → heard mac ours (part_frame h part octets) ≡ Ok (UdpFragment d)
+        → (ours ≡ h.to) × (d ≡ part_datagram h part octets) }
     ensures segment_in_message { (h : FrameHead) (octets : List ℕ) (mac : Mac) (ours : Addr) (received : Received) → length h.from.0 ≡ 4 → length h.to.0 ≡ 4
         → length h.destination.0 ≡ 6 → length h.source.0 ≡ 6 → length octets ≤ 1480 → heard mac ours (message_frame h octets) ≢ Ok (Tcp received) }
+    ensures segment_in_part { (h : FrameHead) (part : Part) (octets : List ℕ) (mac : Mac) (ours : Addr) (received : Received) → length h.destination.0 ≡ 6
+        → length h.source.0 ≡ 6 → heard mac ours (part_frame h part octets) ≢ Ok (Tcp received) }
     ensures message_in_segment { (h : FrameHead) (octets : List ℕ) (mac : Mac) (ours : Addr) (c : Control) → length h.from.0 ≡ 4 → length h.to.0 ≡ 4
         → length h.destination.0 ≡ 6 → length h.source.0 ≡ 6 → length octets ≤ 1480 → heard mac ours (segment_frame h octets) ≢ Ok (Icmp c) }
+    ensures message_in_part { (h : FrameHead) (part : Part) (octets : List ℕ) (mac : Mac) (ours : Addr) (c : Control) → length h.destination.0 ≡ 6
+        → length h.source.0 ≡ 6 → heard mac ours (part_frame h part octets) ≢ Ok (Icmp c) }
     ensures message_in_packet { (packet : ArpPacket) (mac : Mac) (ours : Addr) (c : Control) → length packet.sender_mac.0 ≡ 6 → length packet.target_mac.0 ≡ 6
         → heard mac ours (packet_frame packet) ≢ Ok (Icmp c) }
+    ensures user_in_segment { (h : FrameHead) (octets : List ℕ) (mac : Mac) (ours : Addr) (r : UserReceived) (d : Datagram) → length h.destination.0 ≡ 6
+        → length h.source.0 ≡ 6
+        → (heard mac ours (segment_frame h octets) ≢ Ok (Udp r)) × (heard mac ours (segment_frame h octets) ≢ Ok (UdpFragment d)) }
+    ensures user_in_message { (h : FrameHead) (octets : List ℕ) (mac : Mac) (ours : Addr) (r : UserReceived) (d : Datagram) → length h.destination.0 ≡ 6
+        → length h.source.0 ≡ 6
+        → (heard mac ours (message_frame h octets) ≢ Ok (Udp r)) × (heard mac ours (message_frame h octets) ≢ Ok (UdpFragment d)) }
+    ensures user_in_packet { (packet : ArpPacket) (mac : Mac) (ours : Addr) (r : UserReceived) (d : Datagram) → length packet.sender_mac.0 ≡ 6
+        → length packet.target_mac.0 ≡ 6 → (heard mac ours (packet_frame packet) ≢ Ok (Udp r)) × (heard mac ours (packet_frame packet) ≢ Ok (UdpFragment d)) }
 {}
 
-/// What goes out carries the pair of its two ends, whoever it is for, where it is a segment, and no pair where it is an ARP packet
-/// or a control message (RFC 9293 section 4).
+/// What goes out carries the pair of its two ends, whoever it is for, where it is a segment, and no pair where it is an ARP packet,
+/// a control message or a part of a user datagram (RFC 9293 section 4).
 pub fn emitted_pairs()
     ensures segment { (h : FrameHead) (head : Head) (octets : List ℕ) → CanBeSent h.from h.to head octets
         → length h.destination.0 ≡ 6 → length h.source.0 ≡ 6 → 4 * sent_offset head + length octets ≤ 1480
@@ -125,4 +183,5 @@ pub fn emitted_pairs()
     ensures packet { (packet : ArpPacket) → length packet.sender_mac.0 ≡ 6 → length packet.target_mac.0 ≡ 6 → pair_in (packet_frame packet) ≡ None }
     ensures message { (h : FrameHead) (octets : List ℕ) → length h.from.0 ≡ 4 → length h.to.0 ≡ 4
         → length h.destination.0 ≡ 6 → length h.source.0 ≡ 6 → length octets ≤ 1480 → pair_in (message_frame h octets) ≡ None }
+    ensures part { (h : FrameHead) (part : Part) (octets : List ℕ) → length h.destination.0 ≡ 6 → length h.source.0 ≡ 6 → pair_in (part_frame h part octets) ≡ None }
 {}

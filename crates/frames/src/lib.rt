@@ -1,5 +1,6 @@
-//! What octets are to a host with a MAC and an address (an ARP packet, a TCP segment, a control message, another datagram, or the cause to drop
-//! them), and the frames that carry what it sends. It knows the formats alone (RFC 894, RFC 826, RFC 791, RFC 792, RFC 9293), and no host.
+//! What octets are to a host with a MAC and an address (an ARP packet, a TCP segment, a control message, a user datagram or a fragment of one, another
+//! datagram, or the cause to drop them), and the frames that carry what it sends. It knows the formats alone (RFC 894, RFC 826, RFC 791, RFC 792,
+//! RFC 768, RFC 9293), and no host.
 #![tactic(auto)]
 
 mod drop;
@@ -11,6 +12,6 @@ mod reading;
 
 pub use drop::DropCause;
 pub use emission::{FrameHead, emit_arp};
-pub use meaning::{Control, Meaning, Received};
+pub use meaning::{Control, Meaning, Received, UserReceived};
 pub use pairs::pair_in;
 pub use reading::read;

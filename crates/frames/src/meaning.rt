@@ -4,6 +4,7 @@ use arp::ArpPacket;
 use icmp::IcmpView;
 use ipv4::{Addr, Ipv4View};
 use tcp_segment::TcpView;
+use udp::UdpView;
 
 /// What octets are to a host, its octets lent from the frame.
 #[derive(Drop)]
@@ -14,7 +15,9 @@ pub enum Meaning<'a> {
     Tcp(Received<'a>),
     /// A control message for us (RFC 792).
     Icmp(Control<'a>),
-    /// A whole datagram for us of a protocol that nothing here takes: neither TCP nor ICMP (RFC 791 section 3.1).
+    /// A whole user datagram for us (RFC 768).
+    Udp(UserReceived<'a>),
+    /// A whole datagram for us of a protocol that nothing here takes: not TCP, ICMP or UDP (RFC 791 section 3.1).
     Other(Ipv4View<'a>),
     /// A fragment of a user datagram for us (RFC 791 section 3.1).
     UdpFragment(Ipv4View<'a>),
@@ -36,4 +39,13 @@ pub struct Control<'a> {
     pub source: Addr,
     /// The message.
     pub message: IcmpView<'a>,
+}
+
+/// A user datagram, and the datagram of IPv4 that carries it.
+#[derive(Drop)]
+pub struct UserReceived<'a> {
+    /// The datagram of IPv4, whole.
+    pub carrier: Ipv4View<'a>,
+    /// The user datagram in its payload.
+    pub datagram: UdpView<'a>,
 }

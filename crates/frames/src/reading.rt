@@ -7,15 +7,17 @@ ghost use Rattle.arp.specs.Reading.{packet_in};
 ghost use Rattle.ipv4.specs.Reading.{datagram_in};
 ghost use Rattle.tcp_segment.specs.Reading.{segment_or_fault};
 ghost use Rattle.icmp.specs.Reading.{message_or_fault};
-ghost use Rattle.frames.specs.Meaning.{heard, frame_heard, payload_heard, packet_heard, datagram_heard, upper_heard, fragment_heard, whole_heard, segment_heard, message_heard, is_for, is_fragment, may_send};
+ghost use Rattle.udp.specs.Reading.{datagram_or_fault};
+ghost use Rattle.frames.specs.Meaning.{heard, frame_heard, payload_heard, packet_heard, datagram_heard, upper_heard, fragment_heard, whole_heard, segment_heard, message_heard, user_heard, is_for, is_fragment, may_send};
 
 use crate::drop::DropCause;
-use crate::meaning::{Control, Meaning, Received};
+use crate::meaning::{Control, Meaning, Received, UserReceived};
 use arp::ArpPacket;
 use ether::{EtherView, Mac, SPACE};
 use icmp::{IcmpFault, IcmpView};
 use ipv4::{Addr, Ipv4Fault, Ipv4View, Protocol};
 use tcp_segment::{SegmentFault, TcpView};
+use udp::{UdpFault, UdpView};
 
 /// The type of a frame that carries IPv4 (RFC 894).
 pub(crate) const IPV4: u16 = 0x0800;
@@ -25,7 +27,7 @@ pub(crate) const ARP: u16 = 0x0806;
 
 /// What these octets are to a host with this MAC and this address, or the first cause to drop them, from the lowest layer up:
 /// the frame (RFC 894), the ARP packet (RFC 826) or the datagram (RFC 791), its addresses (RFC 1122 section 3.2.1.3), and the
-/// segment (RFC 9293 section 3.1) or the control message (RFC 792). It is never `NoRoom`.
+/// segment (RFC 9293 section 3.1), the control message (RFC 792) or the user datagram (RFC 768). It is never `NoRoom`.
 pub fn read(mac: Mac, addr: Addr, octets: &[u8]) -> Result<Meaning<'_>, DropCause>
     ensures { result ≡ heard mac addr octets.now }
 {
@@ -124,6 +126,7 @@ fn read_whole<'a>(datagram: Ipv4View<'a>) -> Result<Meaning<'a>, DropCause>
             datagram.payload(),
         ),
         Protocol::ICMP => read_message(datagram.source(), datagram.payload()),
+        Protocol::UDP => read_user(datagram),
         _ => Ok(Meaning::Other(datagram)),
     }
 }
@@ -147,6 +150,17 @@ fn read_message(source: Addr, octets: &[u8]) -> Result<Meaning<'_>, DropCause>
         Ok(message) => Ok(Meaning::Icmp(Control { source, message })),
         Err(IcmpFault::UpperHeader) => Err(DropCause::UpperHeader),
         Err(IcmpFault::UpperSum) => Err(DropCause::UpperSum),
+    }
+}
+
+/// What the payload of a whole datagram of UDP is.
+fn read_user<'a>(carrier: Ipv4View<'a>) -> Result<Meaning<'a>, DropCause>
+    ensures { result ≡ user_heard carrier.entry (datagram_or_fault carrier.entry.source carrier.entry.destination carrier.entry.payload) }
+{
+    match UdpView::parse(carrier.source(), carrier.destination(), carrier.payload()) {
+        Ok(datagram) => Ok(Meaning::Udp(UserReceived { carrier, datagram })),
+        Err(UdpFault::UpperHeader) => Err(DropCause::UpperHeader),
+        Err(UdpFault::UpperSum) => Err(DropCause::UpperSum),
     }
 }
 
