@@ -9,8 +9,9 @@ use Rattle.arp.specs.Packet.{request_of}
 use Rattle.icmp.specs.Message.{spelling}
 use Rattle.icmp.specs.Sent.{echo_reply, error_for}
 use Rattle.tcp_segment.specs.Sent.{sent_octets}
+use Rattle.udp.specs.declared.cutting.Part.{Part}
 use Rattle.frames.specs.declared.emission.FrameHead.{FrameHead}
-use Rattle.frames.specs.Sent.{segment_frame, message_frame, packet_frame}
+use Rattle.frames.specs.Sent.{segment_frame, message_frame, part_frame, packet_frame}
 use Rattle.interface.specs.declared.reply.Reply.{Reply}
 use Rattle.interface.specs.declared.reply.Reply.TheVariants.{Arp, Reset, Echo, Error}
 use Rattle.interface.specs.declared.reply.Waiting.{Waiting}
@@ -19,7 +20,7 @@ use Rattle.interface.specs.declared.way.Way.TheVariants.{To, Ask, Waits}
 use Rattle.interface.specs.InterfaceView.{InterfaceView}
 use Rattle.interface.specs.Replies.{way_of}
 
--- what stands before a segment or a message for this address in a frame for this interface
+-- what stands before a segment, a message or a part of a user datagram for this address in a frame for this interface
 abbrev pub head_to : InterfaceView → Mac → Addr → FrameHead
 head_to h mac to = record { destination = mac; source = h.mac; from = h.addr; to = to }
 
@@ -30,6 +31,10 @@ segment_frame_to h mac to segment = segment_frame (head_to h mac to) segment
 -- the frame of a control message
 unfoldable pub message_frame_to : InterfaceView → Mac → Addr → List ℕ → List ℕ
 message_frame_to h mac to message = message_frame (head_to h mac to) message
+
+-- the frame of a part of a user datagram
+unfoldable pub part_frame_to : InterfaceView → Mac → Addr → Part → List ℕ → List ℕ
+part_frame_to h mac to part octets = part_frame (head_to h mac to) part octets
 
 -- the frame of a request for the MAC of a neighbour (RFC 826)
 unfoldable pub request_frame : InterfaceView → Addr → List ℕ

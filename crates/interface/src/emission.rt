@@ -1,6 +1,7 @@
 //! The frames that go out.
 
 ghost use Rattle.std.specs.Prelude.{◌≡◌, ◌+◌, ◌<◌, ◌≤◌, [], ◌++◌, length, drop, max, slice_range, IsTrue};
+ghost use Rattle.ipv4.specs.Datagram.{HasPlace};
 ghost use Rattle.icmp.specs.Message.{spelling};
 ghost use Rattle.icmp.specs.Sent.{echo_reply, error_for};
 ghost use Rattle.interface.specs.Replies.{goes_out};
@@ -16,12 +17,13 @@ use ether::{Mac, SPACE};
 use frames::{FrameHead, emit_arp};
 use icmp::{HEADER_LEN, Reason, emit_echo_reply, emit_error};
 use ipv4::Addr;
+use udp::Part;
 
 /// The length of the heads of a frame and a datagram, in octets (RFC 894, RFC 791 section 3.1).
 const HEADS: usize = 34;
 
 impl Interface {
-    ghost use Rattle.interface.specs.Emission.{asked, head_to, segment_frame_to, message_frame_to, request_frame, reply_frame, reply_len, way_at, len_at, frame_at, after_emission};
+    ghost use Rattle.interface.specs.Emission.{asked, head_to, segment_frame_to, message_frame_to, part_frame_to, request_frame, reply_frame, reply_len, way_at, len_at, frame_at, after_emission};
 
     /// Writes the frame of a segment for an address, which stands at `out[34..]` already and has so many octets, at most 1,480, round
     /// it, for the interface with this MAC (RFC 894, RFC 791 section 3.1). Answers the frame's length, 60 octets at least. What stands
@@ -41,6 +43,18 @@ impl Interface {
         self.head_to(mac, to).emit_tcp(segment_len, out)
     }
 
+    /// Writes the frame of a part of a user datagram for an address in the same way: its octets, at most 1,480, stand at `out[34..]` already
+    /// (RFC 768, RFC 791 section 3.2).
+    #[tactic(auto, unfolding(crate::specs::Emission::part_frame_to))]
+    pub fn emit_part(&self, mac: Mac, to: Addr, part: Part, out: &mut [u8; SPACE]) -> usize
+        requires most { part.fragment.len ≤ 1480 }
+        requires place { HasPlace part.fragment.more_fragments part.fragment.offset part.fragment.len }
+        ensures len { result ≡ max (34 + part.fragment.len) 60 }
+        ensures octets { out.new ≡ part_frame_to self.now mac to part (slice_range out.old 34 (34 + part.fragment.len)) ++ drop result out.old }
+    {
+        self.head_to(mac, to).emit_udp(part, out)
+    }
+
     /// Writes the frame of a control message for an address in the same way: it stands at `out[34..]` already and has so many octets.
     #[tactic(auto, unfolding(crate::specs::Emission::message_frame_to))]
     fn emit_message(&self, mac: Mac, to: Addr, message_len: usize, out: &mut [u8; SPACE]) -> usize
@@ -51,7 +65,7 @@ impl Interface {
         self.head_to(mac, to).emit_icmp(message_len, out)
     }
 
-    /// What stands before a segment or a message for an address, in a frame for the interface with this MAC.
+    /// What stands before a segment, a message or a part of a user datagram for an address, in a frame for the interface with this MAC.
     fn head_to(&self, mac: Mac, to: Addr) -> FrameHead
         ensures { result ≡ head_to self.now mac to }
     {

@@ -7,6 +7,8 @@ ghost use Rattle.icmp.specs.declared.error.Reason.{Reason};
 ghost use Rattle.icmp.specs.Sent.{echo_reply, error_for};
 ghost use Rattle.tcp_segment.specs.declared.head.Head.{Head};
 ghost use Rattle.tcp_segment.specs.Sent.{CanBeSent, sent_segment, sent_octets, sent_offset};
+ghost use Rattle.udp.specs.declared.cutting.Part.{Part};
+ghost use Rattle.udp.specs.Datagram.{UserDatagram, Spells};
 ghost use Rattle.clock.specs.declared.moment.Moment.{Moment};
 ghost use Rattle.arp.specs.declared.packet.ArpPacket.{ArpPacket};
 ghost use Rattle.arp.specs.declared.packet.Operation.TheVariants as operation;
@@ -21,6 +23,7 @@ ghost use Rattle.routes.specs.Routes.{IsTable, Picks};
 ghost use Rattle.frames.specs.declared.meaning.Meaning.TheVariants as meaning;
 ghost use Rattle.frames.specs.Heard.{MaySend};
 ghost use Rattle.frames.specs.Meaning.{heard};
+ghost use Rattle.frames.specs.Sent.{IsPart, part_datagram};
 ghost use Rattle.interface.specs.declared.reply.Reply.TheVariants.{Arp, Reset, Echo, Error};
 ghost use Rattle.interface.specs.declared.reply.Waiting.{Waiting};
 ghost use Rattle.interface.specs.declared.way.Way.TheVariants.{To, Ask, Waits};
@@ -29,7 +32,7 @@ ghost use Rattle.interface.specs.Sound.{IsSound, IsSoundEcho, IsSoundError};
 ghost use Rattle.interface.specs.Routing.{pick, next_hop};
 ghost use Rattle.interface.specs.Ways.{hop_mac, knows_hop, way};
 ghost use Rattle.interface.specs.Replies.{is_due};
-ghost use Rattle.interface.specs.Emission.{asked, way_at, len_at, frame_at, after_emission, segment_frame_to, request_frame, reply_frame};
+ghost use Rattle.interface.specs.Emission.{asked, head_to, way_at, len_at, frame_at, after_emission, segment_frame_to, part_frame_to, request_frame, reply_frame};
 ghost use Rattle.interface.specs.Timing.{end_of, after_tick, deadline_of, least_deadline};
 
 /// The hop that a table of routes picks for an address is the one that `Routes::pick` answers (RFC 4632 section 5.1).
@@ -113,8 +116,8 @@ pub fn deadlines_are_the_least()
     ensures asked { (hop : Addr) (asked : List Asked) → length asked ≤ 64 → IsNextAsk hop asked (next_ask hop asked) }
 {}
 
-/// A frame that goes out is heard, where it is for, as the very packet, segment or message that is meant (RFC 826, RFC 9293 section 3.1,
-/// RFC 792), where its sender may send.
+/// A frame that goes out is heard, where it is for, as the very packet, segment, message, user datagram or fragment of one that is meant (RFC
+/// 826, RFC 9293 section 3.1, RFC 792, RFC 768, RFC 791 section 3.2), where its sender may send.
 pub fn emitted_frames_are_heard()
     ensures packet { (h : InterfaceView) (mac : Mac) (ours : Addr) (packet : ArpPacket) → HasWidths packet → packet.operation ≡ operation.Reply
         → MaySend ours packet.sender_addr → heard packet.target_mac ours (reply_frame h mac (Arp packet)) ≡ Ok (meaning.Arp packet) }
@@ -134,4 +137,13 @@ pub fn emitted_frames_are_heard()
     ensures segment { (h : InterfaceView) (mac : Mac) (to : Addr) (head : Head) (octets : List ℕ) → CanBeSent h.addr to head octets
         → length mac.0 ≡ 6 → length h.mac.0 ≡ 6 → MaySend to h.addr → 4 * sent_offset head + length octets ≤ 1480
         → heard mac to (segment_frame_to h mac to (sent_octets h.addr to head octets)) ≡ Ok (meaning.Tcp (record { source = h.addr; segment = sent_segment head octets })) }
+    ensures user { (h : InterfaceView) (mac : Mac) (to : Addr) (part : Part) (octets : List ℕ) (d : UserDatagram) → IsPart part octets
+        → length mac.0 ≡ 6 → length h.mac.0 ≡ 6 → length h.addr.0 ≡ 4 → length to.0 ≡ 4 → MaySend to h.addr
+        → part.fragment.more_fragments ≡ false → part.fragment.offset ≡ 0 → Spells h.addr to d octets
+        → heard mac to (part_frame_to h mac to part octets)
+        ≡ Ok (meaning.Udp (record { carrier = part_datagram (head_to h mac to) part octets; datagram = d })) }
+    ensures fragment { (h : InterfaceView) (mac : Mac) (to : Addr) (part : Part) (octets : List ℕ) → IsPart part octets
+        → length mac.0 ≡ 6 → length h.mac.0 ≡ 6 → length h.addr.0 ≡ 4 → length to.0 ≡ 4 → MaySend to h.addr
+        → (part.fragment.more_fragments ≡ false → part.fragment.offset ≡ 0 → ⊥)
+        → heard mac to (part_frame_to h mac to part octets) ≡ Ok (meaning.UdpFragment (part_datagram (head_to h mac to) part octets)) }
 {}

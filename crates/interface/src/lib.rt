@@ -178,6 +178,25 @@ impl Interface {
         Ok(())
     }
 
+    /// Queues an error to an address, of a quote that was made before, of which it takes the first 68 octets, all that an error quotes of
+    /// a datagram at most (RFC 792). Where no route leads there nothing is queued. NoRoom where 16 replies wait already. A refusal changes
+    /// nothing.
+    pub fn report_quote(
+        &mut self,
+        now: Moment,
+        to: Addr,
+        reason: Reason,
+        quote: &[u8],
+    ) -> Result<(), QueueFault>
+        ensures after { self.new ≡ after_report self.old now to reason (take 68 quote.now) }
+        ensures answer { result ≡ answer_result self.old to }
+    {
+        if self.is_routed(to) {
+            self.replies.push_quote(now, to, reason, quote)?;
+        }
+        Ok(())
+    }
+
     /// The place of the first reply that waits and for which a frame can go out now, the reply or a request for its hop; none where every
     /// reply waits on.
     pub fn first_reply(&self, now: Moment) -> Option<usize>

@@ -129,6 +129,28 @@ impl Queue {
         Ok(())
     }
 
+    /// Takes an error to an address, of a quote that was made before, of which it takes the first 68 octets. NoRoom where 16 replies wait
+    /// already, and then nothing has changed. It takes no memory.
+    #[tactic(auto, using(crate::proofs::Rooms::some_spare))]
+    pub(crate) fn push_quote(
+        &mut self,
+        now: Moment,
+        to: Addr,
+        reason: Reason,
+        quote: &[u8],
+    ) -> Result<(), QueueFault>
+        ensures after { self.new ≡ joined now (Error to reason (take 68 quote.now)) self.old }
+        ensures answer { result ≡ join_answer self.old }
+    {
+        self.check_place()?;
+        let quoted = Quoted::of(self.spare.take_last(), quote);
+        self.replies.push(Waiting {
+            since: now,
+            reply: Reply::Error { to, reason, quoted },
+        });
+        Ok(())
+    }
+
     /// Refuses where 16 replies wait already.
     fn check_place(&self) -> Result<(), QueueFault>
         ensures answer { result ≡ join_answer self.now }

@@ -99,6 +99,16 @@ impl Quoted {
         }
     }
 
+    /// A quote that was made before, in a room: its first 68 octets, fewer where there are fewer. It takes no memory.
+    pub(crate) fn of(room: Room, quote: &[u8]) -> Quoted
+        ensures { result ≡ take 68 quote.now }
+    {
+        let first = &quote[..QUOTE.min(quote.len())];
+        Quoted {
+            room: room.filled(first),
+        }
+    }
+
     /// The octets that are quoted.
     pub(crate) fn as_slice(&self) -> &[u8]
         ensures octets { result.now ≡ self.now }
@@ -108,7 +118,9 @@ impl Quoted {
     }
 
     /// The room that they stand in.
-    pub(crate) fn into_room(self) -> Room {
+    pub(crate) fn into_room(self) -> Room
+        ensures { result ≡ self }
+    {
         self.room
     }
 }
