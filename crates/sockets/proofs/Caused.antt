@@ -5,6 +5,8 @@ use Rattle.std.proofs.lemmas.Bool.{and_from}
 use Rattle.std.specs.List.{find, AllByRecursion}
 use Rattle.ipv4.specs.declared.addr.Addr.{Addr}
 use Rattle.ipv4.specs.declared.addr.Endpoint.{Endpoint}
+use Rattle.udp.specs.Datagram.{UserDatagram}
+use Rattle.udp_socket.specs.SocketView.{SocketView as Queues, with_sent, with_received, after_read}
 use Rattle.tcp_segment.specs.declared.head.Head.{Head}
 use Rattle.tcp_segment.specs.Segment.{Segment}
 use Rattle.clock.specs.declared.moment.Moment.{Moment}
@@ -25,25 +27,31 @@ use Rattle.tcp_state.proofs.Causes.{both, or_left, or_right, not_true, ends_caus
 use Rattle.tcp_state.proofs.Errors.{errors_caused}
 use Rattle.tcp_state.proofs.Unchanged.{closed_owes}
 use Rattle.sockets.specs.declared.refusal.Refusal.{Refusal}
+use Rattle.sockets.specs.declared.state.SocketState.{SocketState}
+use Rattle.sockets.specs.declared.state.SocketState.TheVariants.{Datagram, Stream}
+use Rattle.sockets.specs.declared.datagrams.Reception.{Reception}
+use Rattle.sockets.specs.declared.datagrams.Reception.TheVariants.{Queued, NoRoom, NoSocket}
 use Rattle.sockets.specs.declared.entry.SocketId.{SocketId}
 use Rattle.sockets.specs.declared.entry.Entry.{Entry}
 use Rattle.sockets.specs.declared.role.Role.{Role}
-use Rattle.sockets.specs.declared.role.Role.TheVariants.{Idle, Listener, Connected}
-use Rattle.sockets.specs.Entries.{is_socket, waits_at, is_between, is_live_between, is_listening_at, sends, has_due, has_socket, new_waiting, role_after_abort, abort_fate_of, is_offered_at, shown_state, is_kept, entries_after_step, fate_of, role_after_segment, role_after_unreachable, unreachable_fate_of, role_after_tick, tick_fate_of, role_after_emission, emission_fate_of, role_after_listener_close, listener_close_fate_of, role_after_close, close_fate_of, role_after_bind, role_after_listen, role_after_connect, role_after_accept, role_after_send, role_after_recv, role_after_shutdown, with_role}
+use Rattle.sockets.specs.declared.role.Role.TheVariants.{Idle, Listener, Connected, Datagrams}
+use Rattle.sockets.specs.Entries.{is_socket, waits_at, is_between, is_live_between, is_listening_at, sends, has_due, has_socket, new_waiting, role_after_abort, abort_fate_of, is_offered_at, shown_state, is_kept, entries_after_step, fate_of, role_after_segment, role_after_unreachable, unreachable_fate_of, role_after_tick, tick_fate_of, role_after_emission, emission_fate_of, role_after_listener_close, listener_close_fate_of, role_after_close, close_fate_of, role_after_bind, role_after_listen, role_after_connect, role_after_accept, role_after_send, role_after_recv, role_after_shutdown, on_datagrams, is_datagrams_at, with_role}
 use Rattle.sockets.specs.SocketsView.{SocketsView, later_moment, role_of}
-use Rattle.sockets.specs.Lost.{is_given_up, after_giving_up}
+use Rattle.sockets.specs.Lost.{is_given_up, role_after_giving_up, give_up_fate_of, after_giving_up}
 use Rattle.sockets.specs.Emission.{after_segment_sent}
 use Rattle.sockets.specs.Unreachable.{after_unreachable}
 use Rattle.sockets.specs.Calls.{port_connected, after_connect, after_socket_closed, after_close}
+use Rattle.sockets.specs.Datagrams.{end_sent_from, after_sendto, reception, after_reception}
 use Rattle.sockets.specs.Arrival.{local_end, peer_end, is_opening as opens, has_no_place, arrival_with_reply, arrival, arrival_alone}
 use Rattle.sockets.specs.Replies.{reset_at_ack, answer_to, answer_at_listener}
 use Rattle.sockets.specs.Sound.{IsSoundRole, IsSoundTable}
 use Rattle.sockets.specs.Lists.{change_first}
-use Rattle.sockets.specs.Causes.{Event, Makes, Binds, Listens, Accepts, Connects, Sends, Receives, Shuts, Closes, Ticks, Hears, Emits, GivesUp, Unreachable, after_arrival, after_event, is_connection_cause, is_close_cause, becomes_closed, pending_error_in, is_telling, is_telling_to, is_next_out, IsOpenedBy, IsAdded, IsStep, Follows}
-use Rattle.sockets.proofs.Emitted.{segment_sent-found}
+use Rattle.sockets.specs.Causes.{Event, Makes, MakesDatagrams, Binds, Listens, Accepts, Connects, Sends, Receives, Shuts, Closes, Ticks, Hears, Emits, GivesUp, Unreachable, SendsTo, ReceivesFrom, HearsDatagram, after_arrival, after_event, is_connection_cause, is_close_cause, is_closed_state, becomes_closed, IsEdge, pending_error_in, is_telling, is_telling_to, is_next_out, IsOpenedBy, IsAdded, IsStep, Follows}
+use Rattle.sockets.proofs.Emitting.{segment_sent-found}
+use Rattle.sockets.proofs.Queues.{sendto-refused, sendto-given, queued-change, no_room-same, no_socket-same}
 use Rattle.sockets.proofs.Told.{told-found, told-none}
 use Rattle.sockets.proofs.Ends.{eqb-same, same_end-same}
-use Rattle.sockets.proofs.Followed.{IsNothing, by_test, as_it_was, joined_by, first_changed, first_removed, each_followed, each_filtered, steps_joined}
+use Rattle.sockets.proofs.Followed.{IsNothing, by_test, as_it_was, joined_by, first_changed, first_removed, each_followed, steps_joined}
 
 -- One connection.
 
@@ -97,8 +105,12 @@ all_found P test (y ∷ ys) x all found =
 
 -- Steps that end nothing.
 
+same_edge : (state : SocketState) → IsEdge state state
+same_edge Datagram = tt
+same_edge (Stream state) = inl refl
+
 same_step : (h : SocketsView) (e : Event) (x : Entry) → IsStep h e x (Some x)
-same_step h e x = (refl, inl refl, λ closes. let none = never (is_closed (shown_state x.role)) in cc, λ error told. inl told)
+same_step h e x = (refl, same_edge (shown_state x.role), λ closes. let none = never (is_closed_state (shown_state x.role)) in cc, λ error told. inl told)
 
 -- no error is told that was not
 abbrev IsMute : (Role → Role) → Type 0
@@ -108,39 +120,45 @@ told_before : {P : Type 0} → P ⊎ (false ≡ true) → P
 told_before (inl p) = p
 told_before (inr q) = cc
 
-quiet_change : (h : SocketsView) (e : Event) → IsAdded h e [] → (test : Entry → Bool) (change : Role → Role) → ((role : Role) → becomes_closed role (change role) ≡ false) → ((role : Role) → edge.IsEdge (shown_state role) (shown_state (change role))) → IsMute change → (entries : List Entry) → Follows (IsStep h e) (IsAdded h e) entries (change_first test (with_role change) entries)
+quiet_change : (h : SocketsView) (e : Event) → IsAdded h e [] → (test : Entry → Bool) (change : Role → Role) → ((role : Role) → becomes_closed role (change role) ≡ false) → ((role : Role) → IsEdge (shown_state role) (shown_state (change role))) → IsMute change → (entries : List Entry) → Follows (IsStep h e) (IsAdded h e) entries (change_first test (with_role change) entries)
 quiet_change h e none test change quiet along mute entries =
     first_changed (IsStep h e) (IsAdded h e) none test (with_role change) entries (same_step h e) (λ x passes found. (refl, along x.role, λ closes. let none = quiet x.role in cc, λ error told. inl (mute x.role error told)))
 
 quiet_bound : (local : Endpoint) (role : Role) → becomes_closed role (role_after_bind local role) ≡ false
 quiet_bound local (Idle buffers bound) = refl
 quiet_bound local (Listener l b) = refl
+quiet_bound local (Datagrams ours queues) = refl
 quiet_bound local (Connected c l) = never (is_closed c.state)
 
 quiet_listening : (backlog : ℕ) (role : Role) → becomes_closed role (role_after_listen backlog role) ≡ false
 quiet_listening backlog (Idle buffers None) = refl
 quiet_listening backlog (Idle buffers (Some local)) = refl
 quiet_listening backlog (Listener l b) = refl
+quiet_listening backlog (Datagrams ours queues) = refl
 quiet_listening backlog (Connected c l) = never (is_closed c.state)
 
 quiet_connecting : (local peer : Endpoint) (isn : ℕ) (role : Role) → becomes_closed role (role_after_connect local peer isn role) ≡ false
 quiet_connecting local peer isn (Idle buffers bound) = refl
 quiet_connecting local peer isn (Listener l b) = refl
+quiet_connecting local peer isn (Datagrams ours queues) = refl
 quiet_connecting local peer isn (Connected c l) = never (is_closed c.state)
 
 quiet_accepted : (role : Role) → becomes_closed role (role_after_accept role) ≡ false
 quiet_accepted (Idle buffers bound) = refl
 quiet_accepted (Listener l b) = refl
+quiet_accepted (Datagrams ours queues) = refl
 quiet_accepted (Connected c l) = never (is_closed c.state)
 
 quiet_sent : (octets : List ℕ) (role : Role) → becomes_closed role (role_after_send octets role) ≡ false
 quiet_sent octets (Idle buffers bound) = refl
 quiet_sent octets (Listener l b) = refl
+quiet_sent octets (Datagrams ours queues) = refl
 quiet_sent octets (Connected c l) = false_from _ (closes_caused c (edge.Sends octets))
 
 quiet_received : (len : ℕ) (role : Role) → becomes_closed role (role_after_recv len role) ≡ false
 quiet_received len (Idle buffers bound) = refl
 quiet_received len (Listener l b) = refl
+quiet_received len (Datagrams ours queues) = refl
 quiet_received len (Connected c l) =
     by_test (len == 0) (λ none. rw none (never (is_closed c.state))) (λ some. rw some (false_from _ (closes_caused c (edge.Receives len))))
 
@@ -150,40 +168,47 @@ shut_closes_none state = grind (arith, common_steps)
 quiet_shut : (role : Role) → becomes_closed role (role_after_shutdown role) ≡ false
 quiet_shut (Idle buffers bound) = refl
 quiet_shut (Listener l b) = refl
+quiet_shut (Datagrams ours queues) = refl
 quiet_shut (Connected c l) =
     by_test (is_some c.pending_error || is_opening c.state) (λ refused. rw refused (never (is_closed c.state))) (λ shuts. rw shuts (shut_closes_none c.state))
 
 -- .. along their edges
 
-bound_edge : (local : Endpoint) (role : Role) → edge.IsEdge (shown_state role) (shown_state (role_after_bind local role))
+bound_edge : (local : Endpoint) (role : Role) → IsEdge (shown_state role) (shown_state (role_after_bind local role))
 bound_edge local (Idle buffers bound) = inl refl
 bound_edge local (Listener l b) = inl refl
+bound_edge local (Datagrams ours queues) = tt
 bound_edge local (Connected c l) = inl refl
 
-listening_edge : (backlog : ℕ) (role : Role) → edge.IsEdge (shown_state role) (shown_state (role_after_listen backlog role))
+listening_edge : (backlog : ℕ) (role : Role) → IsEdge (shown_state role) (shown_state (role_after_listen backlog role))
 listening_edge backlog (Idle buffers None) = inl refl
 listening_edge backlog (Idle buffers (Some local)) = inr refl
 listening_edge backlog (Listener l b) = inl refl
+listening_edge backlog (Datagrams ours queues) = tt
 listening_edge backlog (Connected c l) = inl refl
 
-connecting_edge : (local peer : Endpoint) (isn : ℕ) (role : Role) → edge.IsEdge (shown_state role) (shown_state (role_after_connect local peer isn role))
+connecting_edge : (local peer : Endpoint) (isn : ℕ) (role : Role) → IsEdge (shown_state role) (shown_state (role_after_connect local peer isn role))
 connecting_edge local peer isn (Idle buffers bound) = inr refl
 connecting_edge local peer isn (Listener l b) = inl refl
+connecting_edge local peer isn (Datagrams ours queues) = tt
 connecting_edge local peer isn (Connected c l) = inl refl
 
-accepted_edge : (role : Role) → edge.IsEdge (shown_state role) (shown_state (role_after_accept role))
+accepted_edge : (role : Role) → IsEdge (shown_state role) (shown_state (role_after_accept role))
 accepted_edge (Idle buffers bound) = inl refl
 accepted_edge (Listener l b) = inl refl
+accepted_edge (Datagrams ours queues) = tt
 accepted_edge (Connected c l) = inl refl
 
-sent_edge : (octets : List ℕ) (role : Role) → edge.IsEdge (shown_state role) (shown_state (role_after_send octets role))
+sent_edge : (octets : List ℕ) (role : Role) → IsEdge (shown_state role) (shown_state (role_after_send octets role))
 sent_edge octets (Idle buffers bound) = inl refl
 sent_edge octets (Listener l b) = inl refl
+sent_edge octets (Datagrams ours queues) = tt
 sent_edge octets (Connected c l) = kept_edge c (edge.Sends octets) refl
 
-received_edge : (len : ℕ) (role : Role) → edge.IsEdge (shown_state role) (shown_state (role_after_recv len role))
+received_edge : (len : ℕ) (role : Role) → IsEdge (shown_state role) (shown_state (role_after_recv len role))
 received_edge len (Idle buffers bound) = inl refl
 received_edge len (Listener l b) = inl refl
+received_edge len (Datagrams ours queues) = tt
 received_edge len (Connected c l) = by_test (len == 0) (λ none. rw none (inl refl)) (λ some. rw some (kept_edge c (edge.Receives len) refl))
 
 shut_edge : (state : State) → edge.IsEdge state (beyond_shutdown state)
@@ -191,9 +216,10 @@ shut_edge Established = inr refl
 shut_edge CloseWait = inr refl
 shut_edge _ = inl refl
 
-shut_role_edge : (role : Role) → edge.IsEdge (shown_state role) (shown_state (role_after_shutdown role))
+shut_role_edge : (role : Role) → IsEdge (shown_state role) (shown_state (role_after_shutdown role))
 shut_role_edge (Idle buffers bound) = inl refl
 shut_role_edge (Listener l b) = inl refl
+shut_role_edge (Datagrams ours queues) = tt
 shut_role_edge (Connected c l) = by_test (is_some c.pending_error || is_opening c.state) (λ refused. rw refused (inl refl)) (λ shuts. rw shuts (shut_edge c.state))
 
 -- .. and in silence
@@ -201,32 +227,38 @@ shut_role_edge (Connected c l) = by_test (is_some c.pending_error || is_opening 
 bound_mute : (local : Endpoint) → IsMute (role_after_bind local)
 bound_mute local (Idle buffers bound) error told = told
 bound_mute local (Listener l b) error told = told
+bound_mute local (Datagrams ours queues) error told = told
 bound_mute local (Connected c l) error told = told
 
 listening_mute : (backlog : ℕ) → IsMute (role_after_listen backlog)
 listening_mute backlog (Idle buffers None) error told = told
 listening_mute backlog (Idle buffers (Some local)) error told = told
 listening_mute backlog (Listener l b) error told = told
+listening_mute backlog (Datagrams ours queues) error told = told
 listening_mute backlog (Connected c l) error told = told
 
 connecting_mute : (local peer : Endpoint) (isn : ℕ) → IsMute (role_after_connect local peer isn)
 connecting_mute local peer isn (Idle buffers bound) error told = told
 connecting_mute local peer isn (Listener l b) error told = told
+connecting_mute local peer isn (Datagrams ours queues) error told = told
 connecting_mute local peer isn (Connected c l) error told = told
 
 accepted_mute : IsMute role_after_accept
 accepted_mute (Idle buffers bound) error told = told
 accepted_mute (Listener l b) error told = told
+accepted_mute (Datagrams ours queues) error told = told
 accepted_mute (Connected c l) error told = told
 
 sent_mute : (octets : List ℕ) → IsMute (role_after_send octets)
 sent_mute octets (Idle buffers bound) error told = told
 sent_mute octets (Listener l b) error told = told
+sent_mute octets (Datagrams ours queues) error told = told
 sent_mute octets (Connected c l) error told = told_before (errors_caused c (edge.Sends octets) error told)
 
 received_mute : (len : ℕ) → IsMute (role_after_recv len)
 received_mute len (Idle buffers bound) error told = told
 received_mute len (Listener l b) error told = told
+received_mute len (Datagrams ours queues) error told = told
 received_mute len (Connected c l) error told =
     let of_test : Bool → Option Error = λ b. (let w : View = if b then c else after_recv c len in w.pending_error) in
     by_test (len == 0)
@@ -236,9 +268,60 @@ received_mute len (Connected c l) error told =
 shut_mute : IsMute role_after_shutdown
 shut_mute (Idle buffers bound) error told = told
 shut_mute (Listener l b) error told = told
+shut_mute (Datagrams ours queues) error told = told
 shut_mute (Connected c l) error told =
     let of_test : Bool → Option Error = λ b. (let w : View = if b then c else after_shutdown c in w.pending_error) in
     by_test (is_some c.pending_error || is_opening c.state) (λ refused. ap of_test (sym refused) ∙ told) (λ shuts. ap of_test (sym shuts) ∙ told)
+
+-- What is done to a UDP socket alone ends nothing, joins no other state and tells no error.
+
+quiet_queued : (bind : Option Endpoint → Option Endpoint) (change : Queues → Queues) (role : Role) → becomes_closed role (on_datagrams bind change role) ≡ false
+quiet_queued bind change (Datagrams ours queues) = refl
+quiet_queued bind change (Idle buffers bound) = refl
+quiet_queued bind change (Listener l b) = refl
+quiet_queued bind change (Connected c l) = never (is_closed c.state)
+
+queued_edge : (bind : Option Endpoint → Option Endpoint) (change : Queues → Queues) (role : Role) → IsEdge (shown_state role) (shown_state (on_datagrams bind change role))
+queued_edge bind change (Datagrams ours queues) = tt
+queued_edge bind change (Idle buffers bound) = inl refl
+queued_edge bind change (Listener l b) = inl refl
+queued_edge bind change (Connected c l) = inl refl
+
+queued_mute : (bind : Option Endpoint → Option Endpoint) (change : Queues → Queues) → IsMute (on_datagrams bind change)
+queued_mute bind change (Datagrams ours queues) error told = told
+queued_mute bind change (Idle buffers bound) error told = told
+queued_mute bind change (Listener l b) error told = told
+queued_mute bind change (Connected c l) error told = told
+
+queued_change : (h : SocketsView) (e : Event) → IsAdded h e [] → (test : Entry → Bool) (bind : Option Endpoint → Option Endpoint) (change : Queues → Queues) → Follows (IsStep h e) (IsAdded h e) h.entries (change_first test (with_role (on_datagrams bind change)) h.entries)
+queued_change h e none test bind change = quiet_change h e none test (on_datagrams bind change) (quiet_queued bind change) (queued_edge bind change) (queued_mute bind change) h.entries
+
+sendto_followed : (h : SocketsView) (id : SocketId) (peer : Endpoint) (octets : List ℕ) (routed : Bool) → Follows (IsStep h (SendsTo id peer octets routed)) (IsAdded h (SendsTo id peer octets routed)) h.entries (let after = after_sendto h id peer octets routed in after.entries)
+sendto_followed h id peer octets routed = by_end (end_sent_from h id peer octets routed) refl
+  where
+    e : Event
+    e = SendsTo id peer octets routed
+
+    P : SocketsView → Type 0
+    P w = Follows (IsStep h e) (IsAdded h e) h.entries w.entries
+
+    by_end : (r : Result Endpoint Refusal) → end_sent_from h id peer octets routed ≡ r → P (after_sendto h id peer octets routed)
+    by_end (Err refusal) given = subst P (sym (sendto-refused h id peer octets routed refusal given)) (as_it_was (IsStep h e) (IsAdded h e) refl (same_step h e) h.entries)
+    by_end (Ok local) given = subst P (sym (sendto-given h id peer octets routed local given)) (queued_change h e refl (is_socket id) (λ bound. Some local) (λ queues. with_sent queues h.kept peer h.identification octets))
+
+datagram_followed : (h : SocketsView) (source : Addr) (d : UserDatagram) → Follows (IsStep h (HearsDatagram source d)) (IsAdded h (HearsDatagram source d)) h.entries (let after = after_reception h source d in after.entries)
+datagram_followed h source d = by_reception (reception h d) refl
+  where
+    e : Event
+    e = HearsDatagram source d
+
+    P : SocketsView → Type 0
+    P w = Follows (IsStep h e) (IsAdded h e) h.entries w.entries
+
+    by_reception : (r : Reception) → reception h d ≡ r → P (after_reception h source d)
+    by_reception Queued given = subst P (sym (queued-change h source d given)) (queued_change h e refl (is_datagrams_at d.destination) (λ bound. bound) (λ queues. with_received queues (record { addr = source; port = d.source }) d.payload))
+    by_reception NoRoom given = subst P (sym (no_room-same h source d given)) (as_it_was (IsStep h e) (IsAdded h e) refl (same_step h e) h.entries)
+    by_reception NoSocket given = subst P (sym (no_socket-same h source d given)) (as_it_was (IsStep h e) (IsAdded h e) refl (same_step h e) h.entries)
 
 connect_followed : (h : SocketsView) (isn : ℕ) (id : SocketId) (peer : Endpoint) (routed : Bool) → Follows (IsStep h (Connects isn id peer routed)) (IsAdded h (Connects isn id peer routed)) h.entries (let after = after_connect h isn id peer routed in after.entries)
 connect_followed h isn id peer routed = by_port (port_connected h id peer routed) refl
@@ -262,12 +345,13 @@ settled_followed Step Added none r test change entries same changed gone =
 
 abbrev IsClosing : SocketsView → SocketId → Entry → Option Entry → Type 0
 IsClosing h id x None = (is_socket id x && is_close_cause h.kept x.role) ≡ true
-IsClosing h id x (Some y) = (y ≡ x) ⊎ ((y.id ≡ x.id) × (is_socket id x ≡ true) × edge.IsEdge (shown_state x.role) (shown_state y.role) × (waits_at id y.role ≡ false) × ((error : Error) → pending_error_in y.role ≡ Some error → pending_error_in x.role ≡ Some error) × (becomes_closed x.role y.role ≡ true → is_close_cause h.kept x.role ≡ true))
+IsClosing h id x (Some y) = (y ≡ x) ⊎ ((y.id ≡ x.id) × (is_socket id x ≡ true) × IsEdge (shown_state x.role) (shown_state y.role) × (waits_at id y.role ≡ false) × ((error : Error) → pending_error_in y.role ≡ Some error → pending_error_in x.role ≡ Some error) × (becomes_closed x.role y.role ≡ true → is_close_cause h.kept x.role ≡ true))
 
 -- a socket whose connection goes on waits at no listener
-socket_goes_on : (id : SocketId) (now : Moment) (role : Role) → has_socket role ≡ true → is_kept (close_fate_of role) ≡ true → edge.IsEdge (shown_state role) (shown_state (role_after_close now role)) × (waits_at id (role_after_close now role) ≡ false) × ((error : Error) → pending_error_in (role_after_close now role) ≡ Some error → pending_error_in role ≡ Some error) × (becomes_closed role (role_after_close now role) ≡ true → is_close_cause now role ≡ true)
+socket_goes_on : (id : SocketId) (now : Moment) (role : Role) → has_socket role ≡ true → is_kept (close_fate_of role) ≡ true → IsEdge (shown_state role) (shown_state (role_after_close now role)) × (waits_at id (role_after_close now role) ≡ false) × ((error : Error) → pending_error_in (role_after_close now role) ≡ Some error → pending_error_in role ≡ Some error) × (becomes_closed role (role_after_close now role) ≡ true → is_close_cause now role ≡ true)
 socket_goes_on id now (Idle buffers bound) socket kept = cc
 socket_goes_on id now (Listener l b) socket kept = cc
+socket_goes_on id now (Datagrams ours queues) socket kept = cc
 socket_goes_on id now (Connected c (Some l)) socket kept = cc
 socket_goes_on id now (Connected c None) socket kept = (kept_edge c (edge.Closes now) kept, refl, λ error told. told_before (errors_caused c (edge.Closes now) error told), λ closes. closes_caused c (edge.Closes now) closes)
 
@@ -280,6 +364,7 @@ held_not_over c held =
 socket_gone : (now : Moment) (role : Role) → has_socket role ≡ true → is_kept (close_fate_of role) ≡ false → is_close_cause now role ≡ true
 socket_gone now (Idle buffers bound) socket gone = refl
 socket_gone now (Listener l b) socket gone = refl
+socket_gone now (Datagrams ours queues) socket gone = refl
 socket_gone now (Connected c (Some l)) socket gone = cc
 socket_gone now (Connected c None) socket gone = removed_caused c (edge.Closes now) (held_not_over c socket) (gone_removed _ gone)
 
@@ -303,20 +388,22 @@ abbrev IsForsaking : Moment → SocketId → Entry → Option Entry → Type 0
 IsForsaking now id y None = is_kept (listener_close_fate_of id y.role) ≡ false
 IsForsaking now id y (Some z) = (z ≡ with_role (role_after_listener_close now id) y) × (is_kept (listener_close_fate_of id y.role) ≡ true)
 
-abort_edge : (now : Moment) (role : Role) → is_kept (abort_fate_of role) ≡ true → edge.IsEdge (shown_state role) (shown_state (role_after_abort now role))
+abort_edge : (now : Moment) (role : Role) → is_kept (abort_fate_of role) ≡ true → IsEdge (shown_state role) (shown_state (role_after_abort now role))
 abort_edge now (Idle buffers bound) kept = inl refl
 abort_edge now (Listener l b) kept = inl refl
+abort_edge now (Datagrams ours queues) kept = tt
 abort_edge now (Connected c l) kept = kept_edge c (edge.Aborts now) kept
 
-forsaken_edge : (now : Moment) (id : SocketId) (role : Role) → is_kept (listener_close_fate_of id role) ≡ true → edge.IsEdge (shown_state role) (shown_state (role_after_listener_close now id role))
+forsaken_edge : (now : Moment) (id : SocketId) (role : Role) → is_kept (listener_close_fate_of id role) ≡ true → IsEdge (shown_state role) (shown_state (role_after_listener_close now id role))
 forsaken_edge now id role kept =
     by_test (waits_at id role)
     (λ waits. rw waits (abort_edge now role (ap (λ (b : Bool). is_kept (if b then abort_fate_of role else Stays)) (sym waits) ∙ kept)))
-    (λ other. rw other (inl refl))
+    (λ other. rw other (same_edge (shown_state role)))
 
 aborted_mute : (now : Moment) → IsMute (role_after_abort now)
 aborted_mute now (Idle buffers bound) error told = told
 aborted_mute now (Listener l b) error told = told
+aborted_mute now (Datagrams ours queues) error told = told
 aborted_mute now (Connected c l) error told = told_before (errors_caused c (edge.Aborts now) error told)
 
 forsaken_mute : (now : Moment) (id : SocketId) → IsMute (role_after_listener_close now id)
@@ -331,7 +418,7 @@ forsaken_step h id x kept = (
   λ closes. by_test (waits_at id x.role)
       (λ waits. or_right (is_socket id x && is_close_cause h.kept x.role) _ waits)
       (λ other. let same : role_after_listener_close h.kept id x.role ≡ x.role = rw other in
-      let none : becomes_closed x.role (role_after_listener_close h.kept id x.role) ≡ false = ap (λ (r : Role). becomes_closed x.role r) same ∙ never (is_closed (shown_state x.role)) in cc),
+      let none : becomes_closed x.role (role_after_listener_close h.kept id x.role) ≡ false = ap (λ (r : Role). becomes_closed x.role r) same ∙ never (is_closed_state (shown_state x.role)) in cc),
   λ error told. inl (forsaken_mute h.kept id x.role error told),
 )
 
@@ -342,10 +429,10 @@ forsaken_gone h id x gone =
     (λ other. let kept : is_kept (listener_close_fate_of id x.role) ≡ true = rw other in cc)
 
 -- what waits at no listener is left alone
-socket_left : (h : SocketsView) (id : SocketId) (x y : Entry) → y.id ≡ x.id → is_socket id x ≡ true → edge.IsEdge (shown_state x.role) (shown_state y.role) → waits_at id y.role ≡ false → ((error : Error) → pending_error_in y.role ≡ Some error → pending_error_in x.role ≡ Some error) → (becomes_closed x.role y.role ≡ true → is_close_cause h.kept x.role ≡ true) → IsStep h (Closes id) x (Some (with_role (role_after_listener_close h.kept id) y))
+socket_left : (h : SocketsView) (id : SocketId) (x y : Entry) → y.id ≡ x.id → is_socket id x ≡ true → IsEdge (shown_state x.role) (shown_state y.role) → waits_at id y.role ≡ false → ((error : Error) → pending_error_in y.role ≡ Some error → pending_error_in x.role ≡ Some error) → (becomes_closed x.role y.role ≡ true → is_close_cause h.kept x.role ≡ true) → IsStep h (Closes id) x (Some (with_role (role_after_listener_close h.kept id) y))
 socket_left h id x y ids socket along other mute caused =
     let same : role_after_listener_close h.kept id y.role ≡ y.role = rw other in
-    let P : Role → Type 0 = λ r. edge.IsEdge (shown_state x.role) (shown_state r) in
+    let P : Role → Type 0 = λ r. IsEdge (shown_state x.role) (shown_state r) in
     (ids, subst P (sym same) along, λ closes. or_left _ _ (both _ _ socket (caused (ap (λ (r : Role). becomes_closed x.role r) (sym same) ∙ closes))), λ error told. inl (mute error (ap (λ (r : Role). pending_error_in r) (sym same) ∙ told)))
 
 close_followed : (h : SocketsView) (id : SocketId) → Follows (IsStep h (Closes id)) (IsAdded h (Closes id)) h.entries (let after = after_close h id in after.entries)
@@ -374,16 +461,19 @@ tick_step h now x kept = (refl, along x.role kept, by_role x.role, λ error told
     mute : IsMute (role_after_tick (later_moment h now))
     mute (Idle buffers bound) error told = told
     mute (Listener l b) error told = told
+    mute (Datagrams ours queues) error told = told
     mute (Connected c l) error told = told_before (errors_caused c (edge.Ticks (later_moment h now)) error told)
 
-    along : (role : Role) → is_kept (tick_fate_of (later_moment h now) role) ≡ true → edge.IsEdge (shown_state role) (shown_state (role_after_tick (later_moment h now) role))
+    along : (role : Role) → is_kept (tick_fate_of (later_moment h now) role) ≡ true → IsEdge (shown_state role) (shown_state (role_after_tick (later_moment h now) role))
     along (Idle buffers bound) stays = inl refl
     along (Listener l b) stays = inl refl
+    along (Datagrams ours queues) stays = tt
     along (Connected c l) stays = kept_edge c (edge.Ticks (later_moment h now)) stays
 
     by_role : (role : Role) → becomes_closed role (role_after_tick (later_moment h now) role) ≡ true → is_connection_cause (edge.Ticks (later_moment h now)) role ≡ true
     by_role (Idle buffers bound) closes = cc
     by_role (Listener l b) closes = cc
+    by_role (Datagrams ours queues) closes = cc
     by_role (Connected c l) closes = closes_caused c (edge.Ticks (later_moment h now)) closes
 
 tick_gone : (h : SocketsView) (now : Moment) (x : Entry) → is_kept (tick_fate_of (later_moment h now) x.role) ≡ false → IsStep h (Ticks now) x None
@@ -392,6 +482,7 @@ tick_gone h now x = by_role x.role
     by_role : (role : Role) → is_kept (tick_fate_of (later_moment h now) role) ≡ false → is_connection_cause (edge.Ticks (later_moment h now)) role ≡ true
     by_role (Idle buffers bound) gone = cc
     by_role (Listener l b) gone = cc
+    by_role (Datagrams ours queues) gone = cc
     by_role (Connected c l) gone = grind (arith, common_steps)
 
 -- A segment.
@@ -406,20 +497,23 @@ heard_step h now isn source s x passes kept = (refl, along x.role kept, λ close
     tells : (role : Role) (error : Error) → pending_error_in (role_after_segment (later_moment h now) s role) ≡ Some error → (pending_error_in role ≡ Some error) ⊎ (is_telling (edge.Hears s (later_moment h now)) error role ≡ true)
     tells (Idle buffers bound) error told = inl told
     tells (Listener l b) error told = inl told
+    tells (Datagrams ours queues) error told = inl told
     tells (Connected c l) error told = errors_caused c (edge.Hears s (later_moment h now)) error told
 
     for_it : (error : Error) → (pending_error_in x.role ≡ Some error) ⊎ (is_telling (edge.Hears s (later_moment h now)) error x.role ≡ true) → (pending_error_in x.role ≡ Some error) ⊎ (is_telling_to h (Hears now isn source s) error x ≡ true)
     for_it error (inl told) = inl told
     for_it error (inr tells_now) = inr (both _ _ passes tells_now)
 
-    along : (role : Role) → is_kept (fate_of s role) ≡ true → edge.IsEdge (shown_state role) (shown_state (role_after_segment (later_moment h now) s role))
+    along : (role : Role) → is_kept (fate_of s role) ≡ true → IsEdge (shown_state role) (shown_state (role_after_segment (later_moment h now) s role))
     along (Idle buffers bound) stays = inl refl
     along (Listener l b) stays = inl refl
+    along (Datagrams ours queues) stays = tt
     along (Connected c l) stays = kept_edge c (edge.Hears s (later_moment h now)) stays
 
     by_role : (role : Role) → becomes_closed role (role_after_segment (later_moment h now) s role) ≡ true → is_connection_cause (edge.Hears s (later_moment h now)) role ≡ true
     by_role (Idle buffers bound) closes = cc
     by_role (Listener l b) closes = cc
+    by_role (Datagrams ours queues) closes = cc
     by_role (Connected c l) closes = closes_caused c (edge.Hears s (later_moment h now)) closes
 
 heard_gone : (h : SocketsView) (now : Moment) (isn : ℕ) (source : Addr) (s : Segment) (x : Entry) → is_between (local_end h s) (peer_end source s) x ≡ true → fate_of s x.role ≡ Removed → IsStep h (Hears now isn source s) x None
@@ -428,6 +522,7 @@ heard_gone h now isn source s x passes removed = both _ _ passes (by_role x.role
     by_role : (role : Role) → is_live_between (local_end h s) (peer_end source s) role ≡ true → fate_of s role ≡ Removed → is_connection_cause (edge.Hears s (later_moment h now)) role ≡ true
     by_role (Idle buffers bound) live gone = cc
     by_role (Listener l b) live gone = cc
+    by_role (Datagrams ours queues) live gone = cc
     by_role (Connected c l) live gone = removed_caused c (edge.Hears s (later_moment h now)) (not_over c (not_true _ (and_left _ _ live))) gone
 
 settled_by_segment : (h : SocketsView) (now : Moment) (isn : ℕ) (source : Addr) (s : Segment) (e : Entry) (r : Fate) → find (is_between (local_end h s) (peer_end source s)) h.entries ≡ Some e → fate_of s e.role ≡ r
@@ -502,16 +597,19 @@ sent_step h goes now x next = (refl, along x.role, λ closes. both _ _ next (by_
     mute : IsMute (role_after_emission (later_moment h now))
     mute (Idle buffers bound) error told = told
     mute (Listener l b) error told = told
+    mute (Datagrams ours queues) error told = told
     mute (Connected c l) error told = told_before (errors_caused c (edge.Emits (later_moment h now)) error told)
 
-    along : (role : Role) → edge.IsEdge (shown_state role) (shown_state (role_after_emission (later_moment h now) role))
+    along : (role : Role) → IsEdge (shown_state role) (shown_state (role_after_emission (later_moment h now) role))
     along (Idle buffers bound) = inl refl
     along (Listener l b) = inl refl
+    along (Datagrams ours queues) = tt
     along (Connected c l) = inl (sym (emitted-state c (first_due c) (later_moment h now)))
 
     by_role : (role : Role) → becomes_closed role (role_after_emission (later_moment h now) role) ≡ true → is_connection_cause (edge.Emits (later_moment h now)) role ≡ true
     by_role (Idle buffers bound) closes = cc
     by_role (Listener l b) closes = cc
+    by_role (Datagrams ours queues) closes = cc
     by_role (Connected c l) closes = closes_caused c (edge.Emits (later_moment h now)) closes
 
 sent_gone : (h : SocketsView) (goes : Entry → Bool) (now : Moment) (x : Entry) → is_next_out h goes x ≡ true → IsSoundRole x.role → has_due x.role ≡ true → is_kept (emission_fate_of (role_after_emission (later_moment h now) x.role)) ≡ false → IsStep h (Emits goes now) x None
@@ -520,6 +618,7 @@ sent_gone h goes now x next sound due gone = both _ _ next (by_role x.role sound
     by_role : (role : Role) → IsSoundRole role → has_due role ≡ true → is_kept (emission_fate_of (role_after_emission (later_moment h now) role)) ≡ false → is_connection_cause (edge.Emits (later_moment h now)) role ≡ true
     by_role (Idle buffers bound) sound due gone = cc
     by_role (Listener l b) sound due gone = cc
+    by_role (Datagrams ours queues) sound due gone = cc
     by_role (Connected c l) sound due gone =
         removed_caused c (edge.Emits (later_moment h now)) (due_not_over c sound.sound due) (gone_removed _ gone)
 
@@ -538,13 +637,38 @@ emission_followed h goes now sound = by_entry (find (sends goes) h.entries) refl
         (λ kept x passes at. sent_step h goes now x (next_out h goes x at))
         (λ gone x passes at. sent_gone h goes now x (next_out h goes x at) (all_found (λ (y : Entry). IsSoundRole y.role) (sends goes) h.entries x sound.entries at) (and_left _ _ passes) (ap (λ (y : Entry). is_kept (emission_fate_of (role_after_emission (later_moment h now) y.role))) (some_same _ x e at found) ∙ gone)))
 
--- A reset is given up.
+-- Resets and datagrams are given up.
+
+given_up_gone : (b : Bool) → is_kept (if b then Removed else Stays) ≡ false → b ≡ true
+given_up_gone true gone = refl
+given_up_gone false gone = cc
+
+given_up_step : (h : SocketsView) (lost : Addr → Bool) (now : Moment) (x : Entry) → IsStep h (GivesUp lost now) x (Some (with_role (role_after_giving_up lost (later_moment h now)) x))
+given_up_step h lost now x = (refl, along x.role, λ closes. let none = quiet x.role in cc, λ error told. inl (mute x.role error told))
+  where
+    quiet : (role : Role) → becomes_closed role (role_after_giving_up lost (later_moment h now) role) ≡ false
+    quiet (Datagrams ours queues) = refl
+    quiet (Idle buffers bound) = refl
+    quiet (Listener l b) = refl
+    quiet (Connected c l) = never (is_closed c.state)
+
+    along : (role : Role) → IsEdge (shown_state role) (shown_state (role_after_giving_up lost (later_moment h now) role))
+    along (Datagrams ours queues) = tt
+    along (Idle buffers bound) = inl refl
+    along (Listener l b) = inl refl
+    along (Connected c l) = inl refl
+
+    mute : IsMute (role_after_giving_up lost (later_moment h now))
+    mute (Datagrams ours queues) error told = told
+    mute (Idle buffers bound) error told = told
+    mute (Listener l b) error told = told
+    mute (Connected c l) error told = told
 
 given_up_followed : (h : SocketsView) (lost : Addr → Bool) (now : Moment) → Follows (IsStep h (GivesUp lost now)) (IsAdded h (GivesUp lost now)) h.entries (let after = after_giving_up h lost now in after.entries)
 given_up_followed h lost now =
-    each_filtered (IsStep h (GivesUp lost now)) (IsAdded h (GivesUp lost now)) refl (λ e. not (is_given_up lost (later_moment h now) e.role)) h.entries
-    (same_step h (GivesUp lost now))
-    (λ x gone. not_false (is_given_up lost (later_moment h now) x.role) gone)
+    each_followed (IsStep h (GivesUp lost now)) (IsAdded h (GivesUp lost now)) refl (λ x. is_kept (give_up_fate_of lost (later_moment h now) x.role)) (with_role (role_after_giving_up lost (later_moment h now))) h.entries
+    (λ x kept. given_up_step h lost now x)
+    (λ x gone. given_up_gone (is_given_up lost (later_moment h now) x.role) gone)
 
 -- A hard error.
 
@@ -554,20 +678,23 @@ told_step h local peer number x passes kept = (refl, along x.role kept, λ close
     tells : (role : Role) (error : Error) → pending_error_in (role_after_unreachable number role) ≡ Some error → (pending_error_in role ≡ Some error) ⊎ (is_telling (edge.Unreachable number) error role ≡ true)
     tells (Idle buffers bound) error told = inl told
     tells (Listener l b) error told = inl told
+    tells (Datagrams ours queues) error told = inl told
     tells (Connected c l) error told = errors_caused c (edge.Unreachable number) error told
 
     for_it : (error : Error) → (pending_error_in x.role ≡ Some error) ⊎ (is_telling (edge.Unreachable number) error x.role ≡ true) → (pending_error_in x.role ≡ Some error) ⊎ (is_telling_to h (Unreachable local peer number) error x ≡ true)
     for_it error (inl told) = inl told
     for_it error (inr tells_now) = inr (both _ _ passes tells_now)
 
-    along : (role : Role) → is_kept (unreachable_fate_of number role) ≡ true → edge.IsEdge (shown_state role) (shown_state (role_after_unreachable number role))
+    along : (role : Role) → is_kept (unreachable_fate_of number role) ≡ true → IsEdge (shown_state role) (shown_state (role_after_unreachable number role))
     along (Idle buffers bound) stays = inl refl
     along (Listener l b) stays = inl refl
+    along (Datagrams ours queues) stays = tt
     along (Connected c l) stays = kept_edge c (edge.Unreachable number) stays
 
     by_role : (role : Role) → becomes_closed role (role_after_unreachable number role) ≡ true → is_connection_cause (edge.Unreachable number) role ≡ true
     by_role (Idle buffers bound) closes = cc
     by_role (Listener l b) closes = cc
+    by_role (Datagrams ours queues) closes = cc
     by_role (Connected c l) closes = closes_caused c (edge.Unreachable number) closes
 
 told_gone : (h : SocketsView) (local peer : Endpoint) (number : ℕ) (x : Entry) → is_between local peer x ≡ true → is_kept (unreachable_fate_of number x.role) ≡ false → IsStep h (Unreachable local peer number) x None
@@ -576,6 +703,7 @@ told_gone h local peer number x passes gone = both _ _ passes (by_role x.role pa
     by_role : (role : Role) → is_live_between local peer role ≡ true → is_kept (unreachable_fate_of number role) ≡ false → is_connection_cause (edge.Unreachable number) role ≡ true
     by_role (Idle buffers bound) live gone = cc
     by_role (Listener l b) live gone = cc
+    by_role (Datagrams ours queues) live gone = cc
     by_role (Connected c l) live gone = removed_caused c (edge.Unreachable number) (not_over c (not_true _ (and_left _ _ live))) (gone_removed _ gone)
 
 error_followed : (h : SocketsView) (local peer : Endpoint) (number : ℕ) → Follows (IsStep h (Unreachable local peer number)) (IsAdded h (Unreachable local peer number)) h.entries (let after = after_unreachable h local peer number in after.entries)
@@ -593,6 +721,7 @@ error_followed h local peer number = by_entry (find (is_between local peer) h.en
 
 pub ends_followed : (h : SocketsView) (e : Event) → IsSoundTable h → Follows (IsStep h e) (IsAdded h e) h.entries (let after = after_event h e in after.entries)
 ends_followed h (Makes buffers) sound = joined_by (IsStep h (Makes buffers)) (IsAdded h (Makes buffers)) (same_step h (Makes buffers)) h.entries _ refl
+ends_followed h MakesDatagrams sound = joined_by (IsStep h MakesDatagrams) (IsAdded h MakesDatagrams) (same_step h MakesDatagrams) h.entries _ refl
 ends_followed h (Binds id local) sound = quiet_change h (Binds id local) refl (is_socket id) (role_after_bind local) (quiet_bound local) (bound_edge local) (bound_mute local) h.entries
 ends_followed h (Listens id backlog) sound = quiet_change h (Listens id backlog) refl (is_socket id) (role_after_listen backlog) (quiet_listening backlog) (listening_edge backlog) (listening_mute backlog) h.entries
 ends_followed h (Accepts id) sound = quiet_change h (Accepts id) refl (is_offered_at id) role_after_accept quiet_accepted accepted_edge accepted_mute h.entries
@@ -606,3 +735,6 @@ ends_followed h (Hears now isn source s) sound = segment_followed h now isn sour
 ends_followed h (Emits goes now) sound = emission_followed h goes now sound
 ends_followed h (GivesUp lost now) sound = given_up_followed h lost now
 ends_followed h (Unreachable local peer number) sound = error_followed h local peer number
+ends_followed h (SendsTo id peer octets routed) sound = sendto_followed h id peer octets routed
+ends_followed h (ReceivesFrom id len) sound = queued_change h (ReceivesFrom id len) refl (is_socket id) (λ bound. bound) after_read
+ends_followed h (HearsDatagram source d) sound = datagram_followed h source d

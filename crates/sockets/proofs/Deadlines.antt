@@ -9,7 +9,7 @@ use Rattle.tcp_state.specs.declared.connection.Resend.TheVariants.{Idle as Rests
 use Rattle.tcp_state.specs.View.{View, is_at_end, ends_at, resend_at, resend_after, after_resend, after_tick, after_stop, deadline}
 use Rattle.sockets.specs.declared.entry.Entry.{Entry}
 use Rattle.sockets.specs.declared.role.Role.{Role}
-use Rattle.sockets.specs.declared.role.Role.TheVariants.{Idle, Listener, Connected}
+use Rattle.sockets.specs.declared.role.Role.TheVariants.{Idle, Listener, Connected, Datagrams}
 use Rattle.sockets.specs.Entries.{deadline_of, role_after_tick, tick_fate_of, is_kept, with_role, entries_after_steps}
 use Rattle.sockets.specs.SocketsView.{SocketsView, later_moment}
 use Rattle.sockets.specs.Ticks.{least_deadline, IsLeastDeadline, HasNoDeadline}
@@ -135,6 +135,7 @@ tick_waits_at v now e =
 role_waits : (role : Role) (now : Moment) → has_come (deadline_of role) now ≡ false → (is_kept (tick_fate_of now role) ≡ true) × (role_after_tick now role ≡ role)
 role_waits (Idle buffers bound) now e = (refl, refl)
 role_waits (Listener l b) now e = (refl, refl)
+role_waits (Datagrams ours queues) now e = (refl, refl)
 role_waits (Connected c l) now e =
     let end : is_at_end c now ≡ false = (both_unreached (resend_at c.resend) (ends_at c) now e).1 in
     (rw end, ap (λ (v : View). Connected v l) (tick_waits_at c now e))

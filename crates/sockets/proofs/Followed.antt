@@ -1,6 +1,6 @@
 -- Tables of which each entry is followed to what is left of it.
 use Rattle.std.proofs.Common.{◌≡◌, inl, inr, Bool, true, false, List, [], ◌∷◌, ◌++◌, Option, Some, None, refl, subst}
-use Rattle.std.specs.List.{find, filter, retain_mut}
+use Rattle.std.specs.List.{find, retain_mut}
 use Rattle.sockets.specs.declared.entry.Entry.{Entry}
 use Rattle.sockets.specs.Lists.{change_first, remove_first}
 use Rattle.sockets.specs.Causes.{Follows}
@@ -59,14 +59,6 @@ module _ (Step : Entry → Option Entry → Type 0) (Added : List Entry → Type
       by_test (test x)
       (λ passes. rw passes (inl (changed x passes, each_followed none test change xs changed gone)))
       (λ fails. rw fails (goes x xs (retain_mut test change xs) (gone x fails) (each_followed none test change xs changed gone)))
-
-  -- each stays or goes
-  pub each_filtered : Added [] → (test : Entry → Bool) (xs : List Entry) → ((x : Entry) → Step x (Some x)) → ((x : Entry) → test x ≡ false → Step x None) → Follows Step Added xs (filter test xs)
-  each_filtered none test [] same gone = none
-  each_filtered none test (x ∷ xs) same gone =
-      by_test (test x)
-      (λ passes. rw passes (inl (same x, each_filtered none test xs same gone)))
-      (λ fails. rw fails (goes x xs (filter test xs) (gone x fails) (each_filtered none test xs same gone)))
 
 -- one step after another
 pub steps_joined : (First Then Whole : Entry → Option Entry → Type 0) → ((x : Entry) → First x None → Whole x None) → ((x y : Entry) (o : Option Entry) → First x (Some y) → Then y o → Whole x o)

@@ -5,7 +5,11 @@ pub mod Turns
 pub mod Connected
 pub mod Arrived
 pub mod Foreseen
-pub mod Emitted
+pub mod Emitting
+pub mod Queues
+pub mod Made
+pub mod Traffic
+pub mod Drawn
 pub mod Told
 pub mod Closed
 pub mod Retained

@@ -1,14 +1,17 @@
 -- Why the id given last never goes back.
-use Rattle.std.proofs.Common.{◌≡◌, ℕ, ◌≤◌, Bool, true, false, Option, Some, None, Result, Ok, Err, refl, arith}
+use Rattle.std.proofs.Common.{◌≡◌, ℕ, ◌≤◌, Bool, true, false, List, Option, Some, None, Result, Ok, Err, refl, arith}
 use Rattle.std.specs.List.{find}
 use Rattle.ipv4.specs.declared.addr.Addr.{Addr}
 use Rattle.ipv4.specs.declared.addr.Endpoint.{Endpoint}
+use Rattle.udp.specs.Datagram.{UserDatagram}
 use Rattle.tcp_segment.specs.declared.head.Head.{Head}
 use Rattle.tcp_segment.specs.Segment.{Segment}
 use Rattle.clock.specs.declared.moment.Moment.{Moment}
 use Rattle.tcp_state.specs.declared.connection.Fate.{Fate}
 use Rattle.tcp_state.specs.declared.connection.Fate.TheVariants.{Stays, Removed, Rejected}
 use Rattle.sockets.specs.declared.refusal.Refusal.{Refusal}
+use Rattle.sockets.specs.declared.datagrams.Reception.{Reception}
+use Rattle.sockets.specs.declared.datagrams.Reception.TheVariants.{Queued, NoRoom, NoSocket}
 use Rattle.sockets.specs.declared.entry.SocketId.{SocketId}
 use Rattle.sockets.specs.declared.entry.Entry.{Entry}
 use Rattle.sockets.specs.declared.role.Role.{Role}
@@ -17,9 +20,10 @@ use Rattle.sockets.specs.SocketsView.{SocketsView, role_of}
 use Rattle.sockets.specs.Emission.{after_segment_sent}
 use Rattle.sockets.specs.Unreachable.{after_unreachable}
 use Rattle.sockets.specs.Calls.{port_connected, after_connect, after_socket_closed}
+use Rattle.sockets.specs.Datagrams.{end_sent_from, after_sendto, reception, after_reception}
 use Rattle.sockets.specs.Arrival.{local_end, peer_end, is_opening as opens, has_no_place, arrival_with_reply, arrival, arrival_alone}
 use Rattle.sockets.specs.Replies.{reset_at_ack, answer_to, answer_at_listener}
-use Rattle.sockets.specs.Causes.{Event, Makes, Binds, Listens, Accepts, Connects, Sends, Receives, Shuts, Closes, Ticks, Hears, Emits, GivesUp, Unreachable, after_arrival, after_event}
+use Rattle.sockets.specs.Causes.{Event, Makes, MakesDatagrams, Binds, Listens, Accepts, Connects, Sends, Receives, Shuts, Closes, Ticks, Hears, Emits, GivesUp, Unreachable, SendsTo, ReceivesFrom, HearsDatagram, after_arrival, after_event}
 
 abbrev NotBefore : SocketsView → SocketsView → Type 0
 NotBefore h w = h.last_id ≤ w.last_id
@@ -86,6 +90,21 @@ error_numbered h local peer number = by_entry (find (is_between local peer) h.en
     by_entry None is = rw is (as_before h)
     by_entry (Some e) is = rw is (as_before h)
 
+sendto_numbered : (h : SocketsView) (id : SocketId) (peer : Endpoint) (octets : List ℕ) (routed : Bool) → NotBefore h (after_sendto h id peer octets routed)
+sendto_numbered h id peer octets routed = by_end (end_sent_from h id peer octets routed) refl
+  where
+    by_end : (r : Result Endpoint Refusal) → end_sent_from h id peer octets routed ≡ r → NotBefore h (after_sendto h id peer octets routed)
+    by_end (Err refusal) given = rw given (as_before h)
+    by_end (Ok local) given = rw given (as_before h)
+
+datagram_numbered : (h : SocketsView) (source : Addr) (d : UserDatagram) → NotBefore h (after_reception h source d)
+datagram_numbered h source d = by_reception (reception h d) refl
+  where
+    by_reception : (r : Reception) → reception h d ≡ r → NotBefore h (after_reception h source d)
+    by_reception Queued given = rw given (as_before h)
+    by_reception NoRoom given = rw given (as_before h)
+    by_reception NoSocket given = rw given (as_before h)
+
 pub never_back : (h : SocketsView) (e : Event) → NotBefore h (after_event h e)
 never_back h (Makes buffers) = omega arith
 never_back h (Connects isn id peer routed) = connect_numbered h isn id peer routed
@@ -101,3 +120,7 @@ never_back h (Sends id octets) = as_before h
 never_back h (Receives id len) = as_before h
 never_back h (Shuts id) = as_before h
 never_back h (Ticks now) = as_before h
+never_back h MakesDatagrams = omega arith
+never_back h (SendsTo id peer octets routed) = sendto_numbered h id peer octets routed
+never_back h (ReceivesFrom id len) = as_before h
+never_back h (HearsDatagram source d) = datagram_numbered h source d

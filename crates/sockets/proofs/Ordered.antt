@@ -1,9 +1,12 @@
 -- Why the table stays in order.
-use Rattle.std.proofs.Common.{◌≡◌, ℕ, ◌+◌, ◌≤◌, ◌==◌, ◌&&◌, ◌||◌, not, Bool, true, false, if◌then◌else◌, List, [], ◌∷◌, ◌++◌, count_by, Option, Some, None, Result, Ok, Err, is_some, refl, sym, ◌∙◌, subst, arith}
+use Rattle.std.proofs.Common.{◌≡◌, ℕ, ◌+◌, ◌≤◌, ◌==◌, ◌&&◌, ◌||◌, not, Bool, true, false, if◌then◌else◌, List, [], ◌∷◌, ◌++◌, count_by, Option, Some, None, Result, Ok, Err, is_some, option_map, option_and_then, refl, sym, ◌∙◌, ap, subst, arith}
 use Rattle.std.specs.List.{find, list_any, AllByRecursion}
 use Rattle.std.proofs.lemmas.Bool.{eqb-true, and_parts, or_parts}
 use Rattle.ipv4.specs.declared.addr.Addr.{Addr}
 use Rattle.ipv4.specs.declared.addr.Endpoint.{Endpoint}
+use Rattle.udp.specs.Datagram.{UserDatagram}
+use Rattle.udp_socket.specs.SocketView.{SocketView as Queues, with_sent, with_received, after_read}
+use Rattle.udp_socket.specs.Emission.{after_part}
 use Rattle.tcp_segment.specs.declared.head.Head.{Head}
 use Rattle.tcp_segment.specs.Segment.{Segment}
 use Rattle.clock.specs.declared.moment.Moment.{Moment}
@@ -16,77 +19,89 @@ use Rattle.tcp_state.specs.Due.{first_due}
 use Rattle.tcp_state.proofs.Causes.{not_true}
 use Rattle.sockets.specs.declared.refusal.Refusal.{Refusal}
 use Rattle.sockets.specs.declared.refusal.Refusal.TheVariants.{EBADF, EINVAL, EADDRINUSE, EADDRNOTAVAIL, ENETUNREACH}
+use Rattle.sockets.specs.declared.datagrams.Reception.{Reception}
+use Rattle.sockets.specs.declared.datagrams.Reception.TheVariants.{Queued, NoRoom, NoSocket}
 use Rattle.sockets.specs.declared.entry.SocketId.{SocketId}
 use Rattle.sockets.specs.declared.entry.Entry.{Entry}
 use Rattle.ipv4.specs.Addresses.{is_single_host, same_addr, same_end}
 use Rattle.sockets.specs.declared.role.Role.{Role}
-use Rattle.sockets.specs.declared.role.Role.TheVariants.{Idle, Listener, Connected}
-use Rattle.sockets.specs.Entries.{is_socket, waits_at, is_between, is_live_between, is_listening_at, sends, is_offered_at, is_kept, has_port, uses_port, entries_after_step, fate_of, role_after_segment, role_after_unreachable, unreachable_fate_of, role_after_tick, tick_fate_of, role_after_emission, emission_fate_of, role_after_abort, role_after_listener_close, listener_close_fate_of, role_after_close, close_fate_of, role_after_bind, role_after_listen, role_after_connect, role_after_accept, role_after_send, role_after_recv, role_after_shutdown, new_socket, new_waiting, with_role}
+use Rattle.sockets.specs.declared.role.Role.TheVariants.{Idle, Listener, Connected, Datagrams}
+use Rattle.sockets.specs.Entries.{is_socket, waits_at, is_between, is_live_between, is_listening_at, sends, is_offered_at, is_kept, has_port, uses_port, entries_after_step, fate_of, role_after_segment, role_after_unreachable, unreachable_fate_of, role_after_tick, tick_fate_of, role_after_emission, emission_fate_of, role_after_abort, role_after_listener_close, listener_close_fate_of, role_after_close, close_fate_of, role_after_bind, role_after_listen, role_after_connect, role_after_accept, role_after_send, role_after_recv, role_after_shutdown, new_socket, new_datagram_socket, new_waiting, on_datagrams, is_datagrams_at, with_role}
 use Rattle.sockets.specs.SocketsView.{SocketsView, new_sockets, later_moment, role_of}
-use Rattle.sockets.specs.Lost.{is_given_up, after_giving_up}
+use Rattle.sockets.specs.Lost.{role_after_giving_up, give_up_fate_of, after_giving_up}
 use Rattle.sockets.specs.Emission.{after_segment_sent}
 use Rattle.sockets.specs.Unreachable.{after_unreachable}
-use Rattle.sockets.specs.Calls.{open_answer, reach_refusal, port_for, last_port_after, is_pair_held, is_port_taken, bind_refusal, connect_refusal, after_connect, after_socket_closed}
+use Rattle.sockets.specs.Calls.{open_answer, reach_refusal, port_for, last_port_after, is_pair_held, is_port_taken, is_datagram_port_taken, bound_of, bind_refusal, connect_refusal, after_connect, after_socket_closed}
+use Rattle.sockets.specs.Datagrams.{sending_end, end_sent_from, after_sendto, reception, after_reception}
 use Rattle.sockets.specs.Arrival.{local_end, peer_end, is_opening as opens, has_no_place, arrival_with_reply, arrival, arrival_alone, after_opening}
 use Rattle.sockets.specs.Replies.{reset_at_ack, answer_to, answer_at_listener}
 use Rattle.sockets.specs.Lists.{change_first}
-use Rattle.sockets.specs.Ports.{IsDynamic, is_free_port}
-use Rattle.sockets.specs.Causes.{Event, Makes, Binds, Listens, Accepts, Connects, Sends, Receives, Shuts, Closes, Ticks, Hears, Emits, GivesUp, Unreachable, after_arrival, after_event}
+use Rattle.sockets.specs.Ports.{IsDynamic, first_port, is_free_port, is_free_datagram_port}
+use Rattle.sockets.specs.Causes.{Event, Makes, MakesDatagrams, Binds, Listens, Accepts, Connects, Sends, Receives, Shuts, Closes, Ticks, Hears, Emits, GivesUp, Unreachable, SendsTo, ReceivesFrom, HearsDatagram, after_arrival, after_event}
 use Rattle.sockets.specs.Order.{has_for_itself, is_alone_at, LiesAt, IsOrdered, IsAllowed}
-use Rattle.sockets.proofs.Caused.{settled_followed}
+use Rattle.sockets.proofs.Caused.{settled_followed, some_same}
 use Rattle.sockets.proofs.Connected.{after_connect-given}
-use Rattle.sockets.proofs.Emitted.{segment_sent-found}
+use Rattle.sockets.proofs.Emitting.{segment_sent-found}
+use Rattle.sockets.proofs.Queues.{sendto-refused, sendto-given, sent-from, queued-change, no_room-same, no_socket-same}
 use Rattle.sockets.proofs.Told.{told-found, told-none}
 use Rattle.sockets.proofs.Ends.{same_end-true}
 use Rattle.sockets.proofs.FirstPorts.{given_passes, given_dynamic}
-use Rattle.sockets.proofs.Followed.{IsNothing, by_test, first_changed, each_followed, each_filtered}
+use Rattle.sockets.proofs.Followed.{IsNothing, by_test, first_changed, each_followed}
 use Rattle.sockets.proofs.KeptEnds.{keeps-nothing, keeps-send, keeps-recv, keeps-shutdown, keeps-tick, keeps-abort, keeps-close, keeps-emitted, keeps-segment, keeps-unreachable}
-use Rattle.sockets.proofs.Ordering.{IsBound, Keeps, KeepsRole, keeps_role, keeps_connection, nowhere, no_port, ordered_by, ordered_still, ascends_joined, count_changed, count_joined, count_unfound, count_none}
+use Rattle.sockets.proofs.Ordering.{IsBound, Keeps, KeepsRole, keeps_role, keeps_connection, keeps_queues, nowhere, no_port, ordered_by, ordered_still, ascends_joined, count_changed, count_joined, count_unfound, count_none}
 
 pub fresh_ordered : (addr : Addr) → IsOrdered (new_sockets addr)
-fresh_ordered addr = record { ids = omega arith; ends = λ local peer. omega arith; ports = λ port. omega arith; own = tt; last_port = record { from_first = omega arith; to_last = omega arith } }
+fresh_ordered addr = record { ids = omega arith; ends = λ local peer. omega arith; ports = λ port. omega arith; datagram_ports = λ port. omega arith; own = tt; last_port = record { from_first = omega arith; to_last = omega arith } }
 
 -- Changes of a role that take no end and no port.
 
 listening_keeps : (backlog : ℕ) (r : Role) → KeepsRole r (role_after_listen backlog r)
 listening_keeps backlog (Idle buffers None) = keeps_role (Idle buffers None)
-listening_keeps backlog (Idle buffers (Some local)) = λ here. record { ends = λ l p e live. cc; port = λ port e has. has; own = λ lies. tt }
+listening_keeps backlog (Idle buffers (Some local)) = λ here. record { ends = λ l p e live. cc; port = λ port e has. has; datagrams = λ port e has. cc; own = λ lies. tt }
 listening_keeps backlog (Listener l b) = keeps_role (Listener l b)
+listening_keeps backlog (Datagrams ours queues) = keeps_role (Datagrams ours queues)
 listening_keeps backlog (Connected c l) = keeps_role (Connected c l)
 
 accepted_keeps : (r : Role) → KeepsRole r (role_after_accept r)
 accepted_keeps (Idle buffers bound) = keeps_role (Idle buffers bound)
 accepted_keeps (Listener l b) = keeps_role (Listener l b)
+accepted_keeps (Datagrams ours queues) = keeps_role (Datagrams ours queues)
 accepted_keeps (Connected c l) = keeps_connection c c l None (keeps-nothing c)
 
 sent_keeps : (octets : List ℕ) (r : Role) → KeepsRole r (role_after_send octets r)
 sent_keeps octets (Idle buffers bound) = keeps_role (Idle buffers bound)
 sent_keeps octets (Listener l b) = keeps_role (Listener l b)
+sent_keeps octets (Datagrams ours queues) = keeps_role (Datagrams ours queues)
 sent_keeps octets (Connected c l) = keeps_connection c _ l l (keeps-send c octets)
 
 received_keeps : (len : ℕ) (r : Role) → KeepsRole r (role_after_recv len r)
 received_keeps len (Idle buffers bound) = keeps_role (Idle buffers bound)
 received_keeps len (Listener l b) = keeps_role (Listener l b)
+received_keeps len (Datagrams ours queues) = keeps_role (Datagrams ours queues)
 received_keeps len (Connected c l) = by_test (len == 0) (λ none. rw none (keeps_role (Connected c l))) (λ some. rw some (keeps_connection c _ l l (keeps-recv c len)))
 
 shut_keeps : (r : Role) → KeepsRole r (role_after_shutdown r)
 shut_keeps (Idle buffers bound) = keeps_role (Idle buffers bound)
 shut_keeps (Listener l b) = keeps_role (Listener l b)
+shut_keeps (Datagrams ours queues) = keeps_role (Datagrams ours queues)
 shut_keeps (Connected c l) = by_test (is_some c.pending_error || is_opening c.state) (λ refused. rw refused (keeps_role (Connected c l))) (λ shuts. rw shuts (keeps_connection c _ l l (keeps-shutdown c)))
 
 ticked_keeps : (now : Moment) (r : Role) → KeepsRole r (role_after_tick now r)
 ticked_keeps now (Idle buffers bound) = keeps_role (Idle buffers bound)
 ticked_keeps now (Listener l b) = keeps_role (Listener l b)
+ticked_keeps now (Datagrams ours queues) = keeps_role (Datagrams ours queues)
 ticked_keeps now (Connected c l) = keeps_connection c _ l l (keeps-tick c now)
 
 closed_keeps : (now : Moment) (r : Role) → KeepsRole r (role_after_close now r)
 closed_keeps now (Idle buffers bound) = keeps_role (Idle buffers bound)
 closed_keeps now (Listener l b) = keeps_role (Listener l b)
+closed_keeps now (Datagrams ours queues) = keeps_role (Datagrams ours queues)
 closed_keeps now (Connected c l) = keeps_connection c _ l l (keeps-close c now)
 
 aborted_keeps : (now : Moment) (r : Role) → KeepsRole r (role_after_abort now r)
 aborted_keeps now (Idle buffers bound) = keeps_role (Idle buffers bound)
 aborted_keeps now (Listener l b) = keeps_role (Listener l b)
+aborted_keeps now (Datagrams ours queues) = keeps_role (Datagrams ours queues)
 aborted_keeps now (Connected c l) = keeps_connection c _ l l (keeps-abort c now)
 
 forsaken_keeps : (now : Moment) (id : SocketId) (r : Role) → KeepsRole r (role_after_listener_close now id r)
@@ -95,6 +110,7 @@ forsaken_keeps now id r = by_test (waits_at id r) (λ waits. rw waits (aborted_k
 emitted_keeps : (now : Moment) (r : Role) → KeepsRole r (role_after_emission now r)
 emitted_keeps now (Idle buffers bound) = keeps_role (Idle buffers bound)
 emitted_keeps now (Listener l b) = keeps_role (Listener l b)
+emitted_keeps now (Datagrams ours queues) = keeps_queues ours queues (after_part queues)
 emitted_keeps now (Connected c l) = by_due (first_due c) refl
   where
     by_due : (o : Option Due) → first_due c ≡ o → KeepsRole (Connected c l) (role_after_emission now (Connected c l))
@@ -104,39 +120,42 @@ emitted_keeps now (Connected c l) = by_due (first_due c) refl
 arrived_keeps : (now : Moment) (s : Segment) (local peer : Endpoint) (r : Role) → is_live_between local peer r ≡ true → KeepsRole r (role_after_segment now s r)
 arrived_keeps now s local peer (Idle buffers bound) live = keeps_role (Idle buffers bound)
 arrived_keeps now s local peer (Listener l b) live = keeps_role (Listener l b)
+arrived_keeps now s local peer (Datagrams ours queues) live = keeps_role (Datagrams ours queues)
 arrived_keeps now s local peer (Connected c l) live =
     keeps_connection c _ l l (keeps-segment c s now (not_true (is_closed c.state) (and_parts (not (is_closed c.state)) (same_end c.local local && same_end c.peer peer) live).0))
 
 told_keeps : (number : ℕ) (r : Role) → KeepsRole r (role_after_unreachable number r)
 told_keeps number (Idle buffers bound) = keeps_role (Idle buffers bound)
 told_keeps number (Listener l b) = keeps_role (Listener l b)
+told_keeps number (Datagrams ours queues) = keeps_role (Datagrams ours queues)
 told_keeps number (Connected c l) = keeps_connection c _ l l (keeps-unreachable c number)
 
 -- Steps of the table.
 
-stays : (h : SocketsView) (x : Entry) → Keeps nowhere no_port h.addr x (Some x)
+stays : (h : SocketsView) (x : Entry) → Keeps nowhere no_port no_port h.addr x (Some x)
 stays h x = (refl, keeps_role x.role h.addr)
 
 changed_ordered : (h : SocketsView) (test : Entry → Bool) (change : Role → Role) → ((x : Entry) → test x ≡ true → KeepsRole x.role (change x.role)) → IsOrdered h → IsOrdered (record h { entries = change_first test (with_role change) h.entries })
 changed_ordered h test change keeps o =
     let w : SocketsView = record h { entries = change_first test (with_role change) h.entries } in
-    ordered_still h w refl refl refl (first_changed (Keeps nowhere no_port h.addr) IsNothing refl test (with_role change) h.entries (stays h) (λ x passes found. (refl, keeps x passes h.addr))) o
+    ordered_still h w refl refl refl (first_changed (Keeps nowhere no_port no_port h.addr) IsNothing refl test (with_role change) h.entries (stays h) (λ x passes found. (refl, keeps x passes h.addr))) o
 
 settled_ordered : (h : SocketsView) (r : Fate) (test : Entry → Bool) (change : Role → Role) → ((x : Entry) → test x ≡ true → KeepsRole x.role (change x.role)) → IsOrdered h → IsOrdered (record h { entries = entries_after_step r test change h.entries })
 settled_ordered h r test change keeps o =
     let w : SocketsView = record h { entries = entries_after_step r test change h.entries } in
-    ordered_still h w refl refl refl (settled_followed (Keeps nowhere no_port h.addr) IsNothing refl r test change h.entries (stays h) (λ kept x passes found. (refl, keeps x passes h.addr)) (λ gone x passes found. tt)) o
+    ordered_still h w refl refl refl (settled_followed (Keeps nowhere no_port no_port h.addr) IsNothing refl r test change h.entries (stays h) (λ kept x passes found. (refl, keeps x passes h.addr)) (λ gone x passes found. tt)) o
 
 -- Joining the table.
 
 joined_ordered : (h : SocketsView) (x : Entry) → x.id.0 ≡ h.last_id + 1 → ((local peer : Endpoint) → is_between local peer x ≡ true → count_by (is_between local peer) h.entries ≡ 0)
-    → ((port : ℕ) → is_alone_at port x ≡ false) → LiesAt h.addr x.role → IsOrdered h → IsOrdered (record h { last_id = h.last_id + 1; entries = h.entries ++ x ∷ [] })
-joined_ordered h x id free alone lies o = record {
+    → ((port : ℕ) → is_alone_at port x ≡ false) → ((port : ℕ) → is_datagrams_at port x ≡ false) → LiesAt h.addr x.role → IsOrdered h → IsOrdered (record h { last_id = h.last_id + 1; entries = h.entries ++ x ∷ [] })
+joined_ordered h x id free alone unbound lies o = record {
   ids = ascends_joined 0 h.last_id h.entries x id o.ids;
   ends = λ local peer. rw (count_joined (is_between local peer) h.entries x) (by_test (is_between local peer x)
       (λ between. let none : count_by (is_between local peer) h.entries ≡ 0 = free local peer between in rw between (omega arith))
       (λ other. let before : count_by (is_between local peer) h.entries ≤ 1 = o.ends local peer in rw other (omega arith)));
   ports = λ port. let before : count_by (is_alone_at port) h.entries ≤ 1 = o.ports port in rw (count_joined (is_alone_at port) h.entries x, alone port) (omega arith);
+  datagram_ports = λ port. let before : count_by (is_datagrams_at port) h.entries ≤ 1 = o.datagram_ports port in rw (count_joined (is_datagrams_at port) h.entries x, unbound port) (omega arith);
   own = joined h.entries o.own;
   last_port = o.last_port;
 }
@@ -147,11 +166,6 @@ joined_ordered h x id free alone lies o = record {
 
 -- Binding.
 
-bound_role : (h : SocketsView) (local : Endpoint) (r : Role) → IsBound nowhere (λ (port : ℕ). local.port == port) h.addr r (role_after_bind local r)
-bound_role h local (Idle buffers bound) = record { ends = λ l p e live. cc; port = λ port other has. let bad : true ≡ false = sym has ∙ other in cc; own = λ lies. tt }
-bound_role h local (Listener l b) = record { ends = λ l p e live. live; port = λ port other has. has; own = λ lies. lies }
-bound_role h local (Connected c l) = record { ends = λ l p e live. live; port = λ port other has. has; own = λ lies. lies }
-
 -- no port that is not taken is had by anyone
 untaken : (port : ℕ) (xs : List Entry) → list_any (has_port port) xs ≡ false → list_any (is_alone_at port) xs ≡ false
 untaken port [] none = refl
@@ -161,6 +175,7 @@ untaken port (x ∷ xs) none = let parts = or_parts (has_port port x) (list_any 
     alone (Idle buffers None) other = refl
     alone (Idle buffers (Some l)) other = other
     alone (Listener l b) other = other
+    alone (Datagrams ours queues) other = refl
     alone (Connected c l) other = refl
 
 last_test : (a b c : Bool) (x y z : Refusal) → (if a then Some x else if b then Some y else if c then Some z else None) ≡ None → c ≡ false
@@ -169,26 +184,17 @@ last_test false true c x y z e = cc
 last_test false false true x y z e = cc
 last_test false false false x y z e = refl
 
--- a port that is bound was not taken
-bind_free : (h : SocketsView) (id : SocketId) (local : Endpoint) → bind_refusal h id local ≡ None → is_port_taken h local.port ≡ false
-bind_free h id local allowed = by_role (role_of h id) refl
-  where
-    by_role : (o : Option Role) → role_of h id ≡ o → is_port_taken h local.port ≡ false
-    by_role None is = let refused : bind_refusal h id local ≡ Some EBADF = rw is in cc
-    by_role (Some (Idle buffers None)) is = last_test _ _ (is_port_taken h local.port) EINVAL EADDRNOTAVAIL EADDRINUSE (rw is at allowed)
-    by_role (Some (Idle buffers (Some l))) is = let refused : bind_refusal h id local ≡ Some EINVAL = rw is in cc
-    by_role (Some (Listener l b)) is = let refused : bind_refusal h id local ≡ Some EINVAL = rw is in cc
-    by_role (Some (Connected c l)) is = let refused : bind_refusal h id local ≡ Some EINVAL = rw is in cc
+itself : (at_ends : Endpoint → Endpoint → Bool) (at_port at_datagrams : ℕ → Bool) (h : SocketsView) (x : Entry) → Keeps at_ends at_port at_datagrams h.addr x (Some x)
+itself at_ends at_port at_datagrams h x = (refl, record { ends = λ l p e live. live; port = λ port e has. has; datagrams = λ port e has. has; own = λ lies. lies })
 
-itself : (at_ends : Endpoint → Endpoint → Bool) (at_port : ℕ → Bool) (h : SocketsView) (x : Entry) → Keeps at_ends at_port h.addr x (Some x)
-itself at_ends at_port h x = (refl, record { ends = λ l p e live. live; port = λ port e has. has; own = λ lies. lies })
+-- one entry more at a port that none had
+one_more : (id : SocketId) (test : Entry → Bool) (change : Role → Role) (entries : List Entry) → count_by test entries ≡ 0 → count_by test (change_first (is_socket id) (with_role change) entries) ≤ 1
+one_more id test change entries none =
+    let more : count_by test (change_first (is_socket id) (with_role change) entries) ≤ count_by test entries + 1 = count_changed (is_socket id) test (with_role change) entries in
+    omega arith
 
 bind_ordered : (h : SocketsView) (id : SocketId) (local : Endpoint) → bind_refusal h id local ≡ None → IsOrdered h → IsOrdered (after_event h (Binds id local))
-bind_ordered h id local allowed o =
-    ordered_by nowhere at_port h (after_event h (Binds id local)) refl refl (λ (d : IsDynamic h.last_port). d)
-    (first_changed (Keeps nowhere at_port h.addr) IsNothing refl (is_socket id) (with_role (role_after_bind local)) h.entries (itself nowhere at_port h) (λ x passes found. (refl, bound_role h local x.role)))
-    (λ l p e. cc)
-    (λ port is. subst (λ (n : ℕ). count_by (is_alone_at n) changed ≤ 1) (eqb-true local.port port is) one) o
+bind_ordered h id local allowed o = by_role (role_of h id) refl
   where
     at_port : ℕ → Bool
     at_port port = local.port == port
@@ -196,11 +202,41 @@ bind_ordered h id local allowed o =
     changed : List Entry
     changed = change_first (is_socket id) (with_role (role_after_bind local)) h.entries
 
-    one : count_by (is_alone_at local.port) changed ≤ 1
-    one =
-        let none : count_by (is_alone_at local.port) h.entries ≡ 0 = count_none (is_alone_at local.port) h.entries (untaken local.port h.entries (bind_free h id local allowed)) in
-        let more : count_by (is_alone_at local.port) changed ≤ count_by (is_alone_at local.port) h.entries + 1 = count_changed (is_socket id) (is_alone_at local.port) (with_role (role_after_bind local)) h.entries in
-        omega arith
+    -- where the role of the socket is bound so, and the ports were free
+    bound_by : (at_stream at_datagrams : ℕ → Bool) (role : Role) → role_of h id ≡ Some role → IsBound nowhere at_stream at_datagrams h.addr role (role_after_bind local role)
+        → ((port : ℕ) → at_stream port ≡ true → count_by (is_alone_at port) changed ≤ 1) → ((port : ℕ) → at_datagrams port ≡ true → count_by (is_datagrams_at port) changed ≤ 1) → IsOrdered (after_event h (Binds id local))
+    bound_by at_stream at_datagrams role is bound streams datagrams =
+        ordered_by nowhere at_stream at_datagrams h (after_event h (Binds id local)) refl refl (λ (d : IsDynamic h.last_port). d)
+        (first_changed (Keeps nowhere at_stream at_datagrams h.addr) IsNothing refl (is_socket id) (with_role (role_after_bind local)) h.entries (itself nowhere at_stream at_datagrams h)
+        (λ x passes found.
+        let same : role ≡ x.role = some_same (role_of h id) role x.role is (ap (λ (y : Option Entry). option_map (λ (e : Entry). e.role) y) found) in
+        (refl, subst (λ (r : Role). IsBound nowhere at_stream at_datagrams h.addr r (role_after_bind local r)) same bound)))
+        (λ l p e. cc) streams datagrams o
+
+    one_stream : is_port_taken h local.port ≡ false → (port : ℕ) → at_port port ≡ true → count_by (is_alone_at port) changed ≤ 1
+    one_stream free port is =
+        subst (λ (n : ℕ). count_by (is_alone_at n) changed ≤ 1) (eqb-true local.port port is)
+        (one_more id (is_alone_at local.port) (role_after_bind local) h.entries (count_none (is_alone_at local.port) h.entries (untaken local.port h.entries free)))
+
+    one_datagrams : is_datagram_port_taken h local.port ≡ false → (port : ℕ) → at_port port ≡ true → count_by (is_datagrams_at port) changed ≤ 1
+    one_datagrams free port is =
+        subst (λ (n : ℕ). count_by (is_datagrams_at n) changed ≤ 1) (eqb-true local.port port is)
+        (one_more id (is_datagrams_at local.port) (role_after_bind local) h.entries (count_none (is_datagrams_at local.port) h.entries free))
+
+    by_role : (r : Option Role) → role_of h id ≡ r → IsOrdered (after_event h (Binds id local))
+    by_role None is = let refused : bind_refusal h id local ≡ Some EBADF = rw is in cc
+    by_role (Some (Idle buffers None)) is =
+        bound_by at_port no_port (Idle buffers None) is (record { ends = λ l p e live. cc; port = λ port other has. let bad : true ≡ false = sym has ∙ other in cc; datagrams = λ port e has. cc; own = λ lies. tt })
+        (one_stream (last_test _ _ (is_port_taken h local.port) EINVAL EADDRNOTAVAIL EADDRINUSE (rw is at allowed)))
+        (λ port e. cc)
+    by_role (Some (Idle buffers (Some l))) is = let refused : bind_refusal h id local ≡ Some EINVAL = rw is in cc
+    by_role (Some (Listener l b)) is = let refused : bind_refusal h id local ≡ Some EINVAL = rw is in cc
+    by_role (Some (Connected c l)) is = let refused : bind_refusal h id local ≡ Some EINVAL = rw is in cc
+    by_role (Some (Datagrams None queues)) is =
+        bound_by no_port at_port (Datagrams None queues) is (record { ends = λ l p e live. cc; port = λ port e has. cc; datagrams = λ port other has. let bad : true ≡ false = sym has ∙ other in cc; own = λ lies. tt })
+        (λ port e. cc)
+        (one_datagrams (last_test _ _ (is_datagram_port_taken h local.port) EINVAL EADDRNOTAVAIL EADDRINUSE (rw is at allowed)))
+    by_role (Some (Datagrams (Some l) queues)) is = let refused : bind_refusal h id local ≡ Some EINVAL = rw is in cc
 
 -- Connecting.
 
@@ -227,19 +263,20 @@ counted_dynamic h (Some b) peer port dynamic given = dynamic
 counted_dynamic h None peer port dynamic given = given_dynamic (is_free_port h.entries h.addr peer) h.last_port 0 16384 port given
 
 -- between the two ends alone a connection comes to lie
-connecting_role : (h : SocketsView) (local peer : Endpoint) (isn : ℕ) → local.addr ≡ h.addr → same_addr peer.addr h.addr ≡ false → (r : Role) → IsBound (λ (l p : Endpoint). same_end local l && same_end peer p) no_port h.addr r (role_after_connect local peer isn r)
-connecting_role h local peer isn own other (Idle buffers bound) = record { ends = λ l p apart live. let bad : true ≡ false = sym live ∙ apart in cc; port = λ port e has. cc; own = λ lies. (own, other) }
-connecting_role h local peer isn own other (Listener l b) = record { ends = λ l p e live. live; port = λ port e has. has; own = λ lies. lies }
-connecting_role h local peer isn own other (Connected c l) = record { ends = λ l p e live. live; port = λ port e has. has; own = λ lies. lies }
+connecting_role : (h : SocketsView) (local peer : Endpoint) (isn : ℕ) → local.addr ≡ h.addr → same_addr peer.addr h.addr ≡ false → (r : Role) → IsBound (λ (l p : Endpoint). same_end local l && same_end peer p) no_port no_port h.addr r (role_after_connect local peer isn r)
+connecting_role h local peer isn own other (Idle buffers bound) = record { ends = λ l p apart live. let bad : true ≡ false = sym live ∙ apart in cc; port = λ port e has. cc; datagrams = λ port e has. cc; own = λ lies. (own, other) }
+connecting_role h local peer isn own other (Listener l b) = record { ends = λ l p e live. live; port = λ port e has. has; datagrams = λ port e has. has; own = λ lies. lies }
+connecting_role h local peer isn own other (Datagrams ours queues) = record { ends = λ l p e live. live; port = λ port e has. has; datagrams = λ port e has. has; own = λ lies. lies }
+connecting_role h local peer isn own other (Connected c l) = record { ends = λ l p e live. live; port = λ port e has. has; datagrams = λ port e has. has; own = λ lies. lies }
 
 opened_ordered : (h : SocketsView) (id : SocketId) (peer : Endpoint) (isn port last : ℕ) → IsDynamic last → same_addr peer.addr h.addr ≡ false → is_pair_held h port peer ≡ false → IsOrdered h
     → IsOrdered (record h { last_port = last; entries = change_first (is_socket id) (with_role (role_after_connect (record { addr = h.addr; port = port }) peer isn)) h.entries })
 opened_ordered h id peer isn port last dynamic reached free o =
     let w : SocketsView = record h { last_port = last; entries = changed } in
-    ordered_by at_ends no_port h w refl refl (λ (d : IsDynamic h.last_port). dynamic)
-    (first_changed (Keeps at_ends no_port h.addr) IsNothing refl (is_socket id) (with_role (role_after_connect local peer isn)) h.entries (itself at_ends no_port h) (λ x passes found. (refl, connecting_role h local peer isn refl reached x.role)))
+    ordered_by at_ends no_port no_port h w refl refl (λ (d : IsDynamic h.last_port). dynamic)
+    (first_changed (Keeps at_ends no_port no_port h.addr) IsNothing refl (is_socket id) (with_role (role_after_connect local peer isn)) h.entries (itself at_ends no_port no_port h) (λ x passes found. (refl, connecting_role h local peer isn refl reached x.role)))
     at_them
-    (λ n e. cc) o
+    (λ n e. cc) (λ n e. cc) o
   where
     local : Endpoint
     local = record { addr = h.addr; port = port }
@@ -296,7 +333,7 @@ close_ordered : (h : SocketsView) (id : SocketId) → IsOrdered h → IsOrdered 
 close_ordered h id o =
     let w : SocketsView = after_socket_closed h id in
     ordered_still w (after_event h (Closes id)) refl refl refl
-    (each_followed (Keeps nowhere no_port w.addr) IsNothing refl (λ x. is_kept (listener_close_fate_of id x.role)) (with_role (role_after_listener_close h.kept id)) w.entries (λ x kept. (refl, forsaken_keeps h.kept id x.role w.addr)) (λ x gone. tt))
+    (each_followed (Keeps nowhere no_port no_port w.addr) IsNothing refl (λ x. is_kept (listener_close_fate_of id x.role)) (with_role (role_after_listener_close h.kept id)) w.entries (λ x kept. (refl, forsaken_keeps h.kept id x.role w.addr)) (λ x gone. tt))
     (socket_closed_ordered h id o)
 
 -- The clock.
@@ -304,7 +341,7 @@ close_ordered h id o =
 tick_ordered : (h : SocketsView) (now : Moment) → IsOrdered h → IsOrdered (after_event h (Ticks now))
 tick_ordered h now o =
     ordered_still h (after_event h (Ticks now)) refl refl refl
-    (each_followed (Keeps nowhere no_port h.addr) IsNothing refl (λ x. is_kept (tick_fate_of (later_moment h now) x.role)) (with_role (role_after_tick (later_moment h now))) h.entries (λ x kept. (refl, ticked_keeps (later_moment h now) x.role h.addr)) (λ x gone. tt))
+    (each_followed (Keeps nowhere no_port no_port h.addr) IsNothing refl (λ x. is_kept (tick_fate_of (later_moment h now) x.role)) (with_role (role_after_tick (later_moment h now))) h.entries (λ x kept. (refl, ticked_keeps (later_moment h now) x.role h.addr)) (λ x gone. tt))
     o
 
 -- A segment.
@@ -315,7 +352,7 @@ answer_ordered h (Some head) o = o
 
 opening_ordered : (h : SocketsView) (isn : ℕ) (listener : Entry) (source : Addr) (s : Segment) → find (is_between (local_end h s) (peer_end source s)) h.entries ≡ None → same_addr source h.addr ≡ false → IsOrdered h → IsOrdered (after_opening h isn listener source s)
 opening_ordered h isn listener source s none apart o =
-    joined_ordered h (new_waiting (record { 0 = h.last_id + 1 }) listener.id (opened_passively (local_end h s) (peer_end source s) isn s)) refl free (λ port. refl) (refl, apart) o
+    joined_ordered h (new_waiting (record { 0 = h.last_id + 1 }) listener.id (opened_passively (local_end h s) (peer_end source s) isn s)) refl free (λ port. refl) (λ port. refl) (refl, apart) o
   where
     free : (l p : Endpoint) → (same_end (local_end h s) l && same_end (peer_end source s) p) ≡ true → count_by (is_between l p) h.entries ≡ 0
     free l p is =
@@ -363,11 +400,95 @@ emission_ordered h goes now o = by_entry (find (sends goes) h.entries) refl
     by_entry (Some e) found =
         subst IsOrdered (sym (segment_sent-found h goes now e found)) (settled_ordered h (emission_fate_of (role_after_emission (later_moment h now) e.role)) (sends goes) (role_after_emission (later_moment h now)) (λ x passes. emitted_keeps (later_moment h now) x.role) o)
 
+given_up_keeps : (lost : Addr → Bool) (now : Moment) (r : Role) → KeepsRole r (role_after_giving_up lost now r)
+given_up_keeps lost now (Idle buffers bound) = keeps_role (Idle buffers bound)
+given_up_keeps lost now (Listener l b) = keeps_role (Listener l b)
+given_up_keeps lost now (Connected c l) = keeps_role (Connected c l)
+given_up_keeps lost now (Datagrams ours queues) = keeps_queues ours queues _
+
 given_up_ordered : (h : SocketsView) (lost : Addr → Bool) (now : Moment) → IsOrdered h → IsOrdered (after_giving_up h lost now)
 given_up_ordered h lost now o =
     ordered_still h (after_giving_up h lost now) refl refl refl
-    (each_filtered (Keeps nowhere no_port h.addr) IsNothing refl (λ e. not (is_given_up lost (later_moment h now) e.role)) h.entries (stays h) (λ x gone. tt))
+    (each_followed (Keeps nowhere no_port no_port h.addr) IsNothing refl (λ x. is_kept (give_up_fate_of lost (later_moment h now) x.role)) (with_role (role_after_giving_up lost (later_moment h now))) h.entries (λ x kept. (refl, given_up_keeps lost (later_moment h now) x.role h.addr)) (λ x gone. tt))
     o
+
+-- Datagrams.
+
+-- a port that a UDP socket is given belongs to no other
+sending_ordered : (h : SocketsView) (id : SocketId) (bound : Option Endpoint) (queues : Queues) (local : Endpoint) (change : Queues → Queues) (last next : ℕ) → role_of h id ≡ Some (Datagrams bound queues) → sending_end h bound ≡ Some local → (IsDynamic h.last_port → IsDynamic last) → IsOrdered h
+    → IsOrdered (record h { last_port = last; identification = next; entries = change_first (is_socket id) (with_role (on_datagrams (λ b. Some local) change)) h.entries })
+sending_ordered h id (Some there) queues local change last next is given dynamic o =
+    let same : there ≡ local = cc in
+    let P : Endpoint → Type 0 = λ (e : Endpoint). IsOrdered (record h { last_port = last; identification = next; entries = change_first (is_socket id) (with_role (on_datagrams (λ b. Some e) change)) h.entries }) in
+    subst P same (ordered_by nowhere no_port no_port h (record h { last_port = last; identification = next; entries = change_first (is_socket id) (with_role (on_datagrams (λ b. Some there) change)) h.entries }) refl refl dynamic
+    (first_changed (Keeps nowhere no_port no_port h.addr) IsNothing refl (is_socket id) (with_role (on_datagrams (λ b. Some there) change)) h.entries (stays h)
+    (λ x passes found.
+    let alike : Datagrams (Some there) queues ≡ x.role = some_same (role_of h id) (Datagrams (Some there) queues) x.role is (ap (λ (y : Option Entry). option_map (λ (e : Entry). e.role) y) found) in
+    (refl, subst (λ (r : Role). IsBound nowhere no_port no_port h.addr r (on_datagrams (λ b. Some there) change r)) alike (keeps_queues (Some there) queues (change queues) h.addr))))
+    (λ l p e. cc) (λ port e. cc) (λ port e. cc) o)
+sending_ordered h id None queues local change last next is given dynamic o =
+    ordered_by nowhere no_port at_port h (record h { last_port = last; identification = next; entries = changed }) refl refl dynamic
+    (first_changed (Keeps nowhere no_port at_port h.addr) IsNothing refl (is_socket id) (with_role (on_datagrams (λ b. Some local) change)) h.entries (itself nowhere no_port at_port h)
+    (λ x passes found.
+    let alike : Datagrams None queues ≡ x.role = some_same (role_of h id) (Datagrams None queues) x.role is (ap (λ (y : Option Entry). option_map (λ (e : Entry). e.role) y) found) in
+    (refl, subst (λ (r : Role). IsBound nowhere no_port at_port h.addr r (on_datagrams (λ b. Some local) change r)) alike
+    (record { ends = λ l p e live. cc; port = λ port e has. cc; datagrams = λ port other has. let bad : true ≡ false = sym has ∙ other in cc; own = λ lies. tt }))))
+    (λ l p e. cc) (λ port e. cc)
+    (λ port at_it. subst (λ (n : ℕ). count_by (is_datagrams_at n) changed ≤ 1) (eqb-true local.port port at_it)
+    (one_more id (is_datagrams_at local.port) (on_datagrams (λ b. Some local) change) h.entries (count_none (is_datagrams_at local.port) h.entries (free (first_port (is_free_datagram_port h.entries) h.last_port 0 16384) refl given)))) o
+  where
+    at_port : ℕ → Bool
+    at_port port = local.port == port
+
+    changed : List Entry
+    changed = change_first (is_socket id) (with_role (on_datagrams (λ b. Some local) change)) h.entries
+
+    free : (p : Option ℕ) → first_port (is_free_datagram_port h.entries) h.last_port 0 16384 ≡ p → option_map (λ (port : ℕ). let e : Endpoint = record { addr = h.addr; port = port } in e) p ≡ Some local → is_datagram_port_taken h local.port ≡ false
+    free None found sends = cc
+    free (Some port) found sends =
+        let same : ◌≡◌ {A = Option ℕ} (Some port) (Some local.port) = ap (λ (x : Option Endpoint). option_map (λ (e : Endpoint). e.port) x) sends in
+        let at_it : port ≡ local.port = cc in
+        subst (λ (n : ℕ). is_datagram_port_taken h n ≡ false) at_it (not_true _ (given_passes (is_free_datagram_port h.entries) h.last_port 0 16384 port found))
+
+-- the port given last stays dynamic
+sent_dynamic : (h : SocketsView) (bound : Option Endpoint) (local : Endpoint) → sending_end h bound ≡ Some local → IsDynamic h.last_port → IsDynamic (last_port_after h bound local.port)
+sent_dynamic h (Some b) local given dynamic = dynamic
+sent_dynamic h None local given dynamic = by_port (first_port (is_free_datagram_port h.entries) h.last_port 0 16384) refl given
+  where
+    by_port : (p : Option ℕ) → first_port (is_free_datagram_port h.entries) h.last_port 0 16384 ≡ p → option_map (λ (port : ℕ). let e : Endpoint = record { addr = h.addr; port = port } in e) p ≡ Some local → IsDynamic local.port
+    by_port None found sends = cc
+    by_port (Some port) found sends =
+        let same : ◌≡◌ {A = Option ℕ} (Some port) (Some local.port) = ap (λ (x : Option Endpoint). option_map (λ (e : Endpoint). e.port) x) sends in
+        let at_it : port ≡ local.port = cc in
+        subst IsDynamic at_it (given_dynamic (is_free_datagram_port h.entries) h.last_port 0 16384 port found)
+
+sendto_ordered : (h : SocketsView) (id : SocketId) (peer : Endpoint) (octets : List ℕ) (routed : Bool) → IsOrdered h → IsOrdered (after_sendto h id peer octets routed)
+sendto_ordered h id peer octets routed o = by_end (end_sent_from h id peer octets routed) refl
+  where
+    by_end : (r : Result Endpoint Refusal) → end_sent_from h id peer octets routed ≡ r → IsOrdered (after_sendto h id peer octets routed)
+    by_end (Err refusal) given = subst IsOrdered (sym (sendto-refused h id peer octets routed refusal given)) o
+    by_end (Ok local) given =
+        let from = sent-from h id peer octets routed local given in
+        let bound_there : option_and_then bound_of (role_of h id) ≡ from.bound = ap (λ (r : Option Role). option_and_then bound_of r) from.role in
+        subst IsOrdered (sym (sendto-given h id peer octets routed local given))
+        (sending_ordered h id from.bound from.queues local (λ queues. with_sent queues h.kept peer h.identification octets) _ _ from.role from.sends
+        (λ (d : IsDynamic h.last_port). subst (λ (b : Option Endpoint). IsDynamic (last_port_after h b local.port)) (sym bound_there) (sent_dynamic h from.bound local from.sends d)) o)
+
+queued_keeps : (change : Queues → Queues) (r : Role) → KeepsRole r (on_datagrams (λ bound. bound) change r)
+queued_keeps change (Idle buffers bound) = keeps_role (Idle buffers bound)
+queued_keeps change (Listener l b) = keeps_role (Listener l b)
+queued_keeps change (Connected c l) = keeps_role (Connected c l)
+queued_keeps change (Datagrams ours queues) = keeps_queues ours queues (change queues)
+
+datagram_ordered : (h : SocketsView) (source : Addr) (d : UserDatagram) → IsOrdered h → IsOrdered (after_reception h source d)
+datagram_ordered h source d o = by_reception (reception h d) refl
+  where
+    by_reception : (r : Reception) → reception h d ≡ r → IsOrdered (after_reception h source d)
+    by_reception Queued given =
+        subst IsOrdered (sym (queued-change h source d given))
+        (changed_ordered h (is_datagrams_at d.destination) (on_datagrams (λ bound. bound) (λ queues. with_received queues (record { addr = source; port = d.source }) d.payload)) (λ x passes. queued_keeps (λ queues. with_received queues (record { addr = source; port = d.source }) d.payload) x.role) o)
+    by_reception NoRoom given = subst IsOrdered (sym (no_room-same h source d given)) o
+    by_reception NoSocket given = subst IsOrdered (sym (no_socket-same h source d given)) o
 
 -- A hard error.
 
@@ -380,7 +501,8 @@ error_ordered h local peer number o = by_entry (find (is_between local peer) h.e
         subst IsOrdered (sym (told-found h local peer number e found)) (settled_ordered h (unreachable_fate_of number e.role) (is_between local peer) (role_after_unreachable number) (λ x passes. told_keeps number x.role) o)
 
 pub stays_ordered : (h : SocketsView) (e : Event) → IsAllowed h e → IsOrdered h → IsOrdered (after_event h e)
-stays_ordered h (Makes buffers) allowed o = joined_ordered h (new_socket (record { 0 = h.last_id + 1 }) buffers) refl (λ l p live. cc) (λ port. refl) tt o
+stays_ordered h (Makes buffers) allowed o = joined_ordered h (new_socket (record { 0 = h.last_id + 1 }) buffers) refl (λ l p live. cc) (λ port. refl) (λ port. refl) tt o
+stays_ordered h MakesDatagrams allowed o = joined_ordered h (new_datagram_socket (record { 0 = h.last_id + 1 })) refl (λ l p live. cc) (λ port. refl) (λ port. refl) tt o
 stays_ordered h (Binds id local) allowed o = bind_ordered h id local allowed o
 stays_ordered h (Listens id backlog) allowed o = changed_ordered h (is_socket id) (role_after_listen backlog) (λ x passes. listening_keeps backlog x.role) o
 stays_ordered h (Accepts id) allowed o = changed_ordered h (is_offered_at id) role_after_accept (λ x passes. accepted_keeps x.role) o
@@ -394,3 +516,6 @@ stays_ordered h (Hears now isn source s) allowed o = segment_ordered h now isn s
 stays_ordered h (Emits goes now) allowed o = emission_ordered h goes now o
 stays_ordered h (GivesUp lost now) allowed o = given_up_ordered h lost now o
 stays_ordered h (Unreachable local peer number) allowed o = error_ordered h local peer number o
+stays_ordered h (SendsTo id peer octets routed) allowed o = sendto_ordered h id peer octets routed o
+stays_ordered h (ReceivesFrom id len) allowed o = changed_ordered h (is_socket id) (on_datagrams (λ bound. bound) after_read) (λ x passes. queued_keeps after_read x.role) o
+stays_ordered h (HearsDatagram source d) allowed o = datagram_ordered h source d o

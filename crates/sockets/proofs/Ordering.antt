@@ -5,14 +5,15 @@ use Rattle.std.proofs.lemmas.List.Sums.{sum_by-cons, sum_by_push}
 use Rattle.std.proofs.lemmas.Bool.{and_parts, and_from, or_parts}
 use Rattle.ipv4.specs.declared.addr.Addr.{Addr}
 use Rattle.ipv4.specs.declared.addr.Endpoint.{Endpoint}
+use Rattle.udp_socket.specs.SocketView.{SocketView as Queues}
 use Rattle.tcp_state.specs.View.{View, is_closed}
 use Rattle.tcp_state.proofs.Causes.{not_true, of_false}
 use Rattle.sockets.specs.declared.entry.SocketId.{SocketId}
 use Rattle.sockets.specs.declared.entry.Entry.{Entry}
 use Rattle.ipv4.specs.Addresses.{same_addr, same_end}
 use Rattle.sockets.specs.declared.role.Role.{Role}
-use Rattle.sockets.specs.declared.role.Role.TheVariants.{Connected}
-use Rattle.sockets.specs.Entries.{is_live_between, is_between}
+use Rattle.sockets.specs.declared.role.Role.TheVariants.{Connected, Datagrams}
+use Rattle.sockets.specs.Entries.{is_live_between, is_between, uses_datagram_port, is_datagrams_at}
 use Rattle.sockets.specs.SocketsView.{SocketsView}
 use Rattle.sockets.specs.Lists.{change_first}
 use Rattle.sockets.specs.Causes.{Follows}
@@ -21,16 +22,17 @@ use Rattle.sockets.specs.Order.{AreAscending, has_for_itself, is_alone_at, LiesA
 use Rattle.sockets.proofs.KeptEnds.{KeepsEnds}
 use Rattle.sockets.proofs.Followed.{IsNothing, by_test}
 
--- Where the exceptions fail, a role lies between no further ends and has no further port for itself.
-pub record IsBound (at_ends : Endpoint → Endpoint → Bool) (at_port : ℕ → Bool) (here : Addr) (before after : Role) : Type 0 where
+-- Where the exceptions fail, a role lies between no further ends and has no further port for itself, over TCP or over UDP.
+pub record IsBound (at_ends : Endpoint → Endpoint → Bool) (at_port at_datagrams : ℕ → Bool) (here : Addr) (before after : Role) : Type 0 where
   pub ends : (local peer : Endpoint) → at_ends local peer ≡ false → is_live_between local peer after ≡ true → is_live_between local peer before ≡ true
   pub port : (port : ℕ) → at_port port ≡ false → has_for_itself port after ≡ true → has_for_itself port before ≡ true
+  pub datagrams : (port : ℕ) → at_datagrams port ≡ false → uses_datagram_port port after ≡ true → uses_datagram_port port before ≡ true
   pub own : LiesAt here before → LiesAt here after
 
 -- an entry that stays keeps its id
-abbrev pub Keeps : (Endpoint → Endpoint → Bool) → (ℕ → Bool) → Addr → Entry → Option Entry → Type 0
-Keeps at_ends at_port own x None = Unit {0}
-Keeps at_ends at_port own x (Some y) = (y.id ≡ x.id) × IsBound at_ends at_port own x.role y.role
+abbrev pub Keeps : (Endpoint → Endpoint → Bool) → (ℕ → Bool) → (ℕ → Bool) → Addr → Entry → Option Entry → Type 0
+Keeps at_ends at_port at_datagrams own x None = Unit {0}
+Keeps at_ends at_port at_datagrams own x (Some y) = (y.id ≡ x.id) × IsBound at_ends at_port at_datagrams own x.role y.role
 
 -- Ids.
 
@@ -131,22 +133,26 @@ count_none test (x ∷ xs) none = let parts = or_parts (test x) (list_any test x
 
 -- The order of the table.
 
-pub ordered_by : (at_ends : Endpoint → Endpoint → Bool) (at_port : ℕ → Bool) (h w : SocketsView) → w.addr ≡ h.addr → w.last_id ≡ h.last_id → (IsDynamic h.last_port → IsDynamic w.last_port)
-    → Follows (Keeps at_ends at_port h.addr) IsNothing h.entries w.entries
+pub ordered_by : (at_ends : Endpoint → Endpoint → Bool) (at_port at_datagrams : ℕ → Bool) (h w : SocketsView) → w.addr ≡ h.addr → w.last_id ≡ h.last_id → (IsDynamic h.last_port → IsDynamic w.last_port)
+    → Follows (Keeps at_ends at_port at_datagrams h.addr) IsNothing h.entries w.entries
     → ((local peer : Endpoint) → at_ends local peer ≡ true → count_by (is_between local peer) w.entries ≤ 1)
     → ((port : ℕ) → at_port port ≡ true → count_by (is_alone_at port) w.entries ≤ 1)
+    → ((port : ℕ) → at_datagrams port ≡ true → count_by (is_datagrams_at port) w.entries ≤ 1)
     → IsOrdered h → IsOrdered w
-ordered_by at_ends at_port h w addr last last_port f ends ports o = record {
+ordered_by at_ends at_port at_datagrams h w addr last last_port f ends ports datagrams o = record {
   last_port = last_port o.last_port;
-  ids = subst (λ (n : ℕ). AreAscending 0 n w.entries) (sym last) (ascends_followed (Keeps at_ends at_port h.addr) (λ x y s. s.0) 0 h.last_id h.entries w.entries f o.ids);
+  ids = subst (λ (n : ℕ). AreAscending 0 n w.entries) (sym last) (ascends_followed (Keeps at_ends at_port at_datagrams h.addr) (λ x y s. s.0) 0 h.last_id h.entries w.entries f o.ids);
   ends = λ local peer. by_test (at_ends local peer) (ends local peer)
       (λ other. let before : count_by (is_between local peer) h.entries ≤ 1 = o.ends local peer in
-      let less : count_by (is_between local peer) w.entries ≤ count_by (is_between local peer) h.entries = count_followed (Keeps at_ends at_port h.addr) (is_between local peer) (λ x y s passes. s.1.ends local peer other passes) h.entries w.entries f in omega arith);
+      let less : count_by (is_between local peer) w.entries ≤ count_by (is_between local peer) h.entries = count_followed (Keeps at_ends at_port at_datagrams h.addr) (is_between local peer) (λ x y s passes. s.1.ends local peer other passes) h.entries w.entries f in omega arith);
   ports = λ port. by_test (at_port port) (ports port)
       (λ other. let before : count_by (is_alone_at port) h.entries ≤ 1 = o.ports port in
-      let less : count_by (is_alone_at port) w.entries ≤ count_by (is_alone_at port) h.entries = count_followed (Keeps at_ends at_port h.addr) (is_alone_at port) (λ x y s passes. s.1.port port other passes) h.entries w.entries f in omega arith);
+      let less : count_by (is_alone_at port) w.entries ≤ count_by (is_alone_at port) h.entries = count_followed (Keeps at_ends at_port at_datagrams h.addr) (is_alone_at port) (λ x y s passes. s.1.port port other passes) h.entries w.entries f in omega arith);
+  datagram_ports = λ port. by_test (at_datagrams port) (datagrams port)
+      (λ other. let before : count_by (is_datagrams_at port) h.entries ≤ 1 = o.datagram_ports port in
+      let less : count_by (is_datagrams_at port) w.entries ≤ count_by (is_datagrams_at port) h.entries = count_followed (Keeps at_ends at_port at_datagrams h.addr) (is_datagrams_at port) (λ x y s passes. s.1.datagrams port other passes) h.entries w.entries f in omega arith);
   own = subst (λ (a : Addr). AllByRecursion (λ (e : Entry). LiesAt a e.role) w.entries) (sym addr)
-      (all_followed (Keeps at_ends at_port h.addr) (λ (e : Entry). LiesAt h.addr e.role) (λ x y s lies. s.1.own lies) h.entries w.entries f o.own);
+      (all_followed (Keeps at_ends at_port at_datagrams h.addr) (λ (e : Entry). LiesAt h.addr e.role) (λ x y s lies. s.1.own lies) h.entries w.entries f o.own);
 }
 
 -- Roles without exception.
@@ -158,13 +164,13 @@ abbrev pub no_port : ℕ → Bool
 no_port port = false
 
 abbrev pub KeepsRole : Role → Role → Type 0
-KeepsRole before after = (own : Addr) → IsBound nowhere no_port own before after
+KeepsRole before after = (own : Addr) → IsBound nowhere no_port no_port own before after
 
 pub keeps_role : (r : Role) → KeepsRole r r
-keeps_role r own = record { ends = λ local peer e live. live; port = λ port e has. has; own = λ lies. lies }
+keeps_role r own = record { ends = λ local peer e live. live; port = λ port e has. has; datagrams = λ port e has. has; own = λ lies. lies }
 
-pub ordered_still : (h w : SocketsView) → w.addr ≡ h.addr → w.last_id ≡ h.last_id → w.last_port ≡ h.last_port → Follows (Keeps nowhere no_port h.addr) IsNothing h.entries w.entries → IsOrdered h → IsOrdered w
-ordered_still h w addr last last_port f o = ordered_by nowhere no_port h w addr last (λ (d : IsDynamic h.last_port). subst IsDynamic (sym last_port) d) f (λ local peer e. cc) (λ port e. cc) o
+pub ordered_still : (h w : SocketsView) → w.addr ≡ h.addr → w.last_id ≡ h.last_id → w.last_port ≡ h.last_port → Follows (Keeps nowhere no_port no_port h.addr) IsNothing h.entries w.entries → IsOrdered h → IsOrdered w
+ordered_still h w addr last last_port f o = ordered_by nowhere no_port no_port h w addr last (λ (d : IsDynamic h.last_port). subst IsDynamic (sym last_port) d) f (λ local peer e. cc) (λ port e. cc) (λ port e. cc) o
 
 -- a connection whose ends stay
 pub keeps_connection : (c d : View) (l k : Option SocketId) → KeepsEnds c d → KeepsRole (Connected c l) (Connected d k)
@@ -175,5 +181,11 @@ keeps_connection c d l k keeps own = record {
       (of_false (is_closed c.state) (keeps.live (not_true (is_closed d.state) parts.0)))
       (ap (λ (x : Endpoint). same_end x local && same_end c.peer peer) (sym keeps.local) ∙ ap (λ (x : Endpoint). same_end d.local local && same_end x peer) (sym keeps.peer) ∙ parts.1);
   port = λ port e has. cc;
+  datagrams = λ port e has. cc;
   own = λ lies. (ap (λ (x : Endpoint). x.addr) keeps.local ∙ lies.0, ap (λ (x : Endpoint). same_addr x.addr own) keeps.peer ∙ lies.1);
 }
+
+-- a UDP socket that stays bound where it is
+pub keeps_queues : (bound : Option Endpoint) (q r : Queues) → KeepsRole (Datagrams bound q) (Datagrams bound r)
+keeps_queues None q r own = record { ends = λ local peer e live. cc; port = λ port e has. cc; datagrams = λ port e has. cc; own = λ lies. tt }
+keeps_queues (Some local) q r own = record { ends = λ local peer e live. cc; port = λ port e has. cc; datagrams = λ port e has. has; own = λ lies. tt }

@@ -1,9 +1,11 @@
 -- Why no connection stays in the table that is over.
-use Rattle.std.proofs.Common.{◌≡◌, ℕ, ◌==◌, ◌&&◌, ◌||◌, not, Bool, true, false, if◌then◌else◌, List, [], ◌∷◌, ◌++◌, Option, Some, None, Result, Ok, Err, is_some, option_map, refl, sym, ◌∙◌, ap, subst, arith}
+use Rattle.std.proofs.Common.{◌≡◌, ℕ, ◌==◌, ◌&&◌, ◌||◌, Bool, true, false, if◌then◌else◌, List, [], ◌∷◌, ◌++◌, Option, Some, None, Result, Ok, Err, is_some, option_map, refl, sym, ◌∙◌, ap, subst, arith}
 use Rattle.std.proofs.lemmas.Grind.{common_steps}
-use Rattle.std.specs.List.{find, filter, retain_mut, AllByRecursion}
+use Rattle.std.specs.List.{find, retain_mut, AllByRecursion}
 use Rattle.ipv4.specs.declared.addr.Addr.{Addr}
 use Rattle.ipv4.specs.declared.addr.Endpoint.{Endpoint}
+use Rattle.udp.specs.Datagram.{UserDatagram}
+use Rattle.udp_socket.specs.SocketView.{SocketView as Queues, with_sent, with_received, after_read}
 use Rattle.tcp_segment.specs.declared.head.Head.{Head}
 use Rattle.tcp_segment.specs.Segment.{Segment}
 use Rattle.clock.specs.declared.moment.Moment.{Moment}
@@ -17,23 +19,27 @@ use Rattle.tcp_state.specs.Unreachable.{after_unreachable}
 use Rattle.tcp_state.proofs.Edges.{and_left}
 use Rattle.tcp_state.proofs.Causes.{not_true}
 use Rattle.sockets.specs.declared.refusal.Refusal.{Refusal}
+use Rattle.sockets.specs.declared.datagrams.Reception.{Reception}
+use Rattle.sockets.specs.declared.datagrams.Reception.TheVariants.{Queued, NoRoom, NoSocket}
 use Rattle.sockets.specs.declared.entry.SocketId.{SocketId}
 use Rattle.sockets.specs.declared.entry.Entry.{Entry}
 use Rattle.sockets.specs.declared.role.Role.{Role}
-use Rattle.sockets.specs.declared.role.Role.TheVariants.{Idle, Listener, Connected}
-use Rattle.sockets.specs.Entries.{is_socket, waits_at, is_between, is_live_between, is_listening_at, sends, is_offered_at, is_kept, entries_after_step, fate_of, role_after_segment, role_after_unreachable, unreachable_fate_of, role_after_tick, tick_fate_of, role_after_emission, emission_fate_of, role_after_abort, abort_fate_of, role_after_listener_close, listener_close_fate_of, role_after_close, close_fate_of, role_after_bind, role_after_listen, role_after_connect, role_after_accept, role_after_send, role_after_recv, role_after_shutdown, with_role}
+use Rattle.sockets.specs.declared.role.Role.TheVariants.{Idle, Listener, Connected, Datagrams}
+use Rattle.sockets.specs.Entries.{is_socket, waits_at, is_between, is_live_between, is_listening_at, sends, is_offered_at, is_kept, entries_after_step, fate_of, role_after_segment, role_after_unreachable, unreachable_fate_of, role_after_tick, tick_fate_of, role_after_emission, emission_fate_of, role_after_abort, abort_fate_of, role_after_listener_close, listener_close_fate_of, role_after_close, close_fate_of, role_after_bind, role_after_listen, role_after_connect, role_after_accept, role_after_send, role_after_recv, role_after_shutdown, on_datagrams, is_datagrams_at, with_role}
 use Rattle.sockets.specs.SocketsView.{SocketsView, later_moment, role_of}
-use Rattle.sockets.specs.Lost.{is_given_up}
+use Rattle.sockets.specs.Lost.{role_after_giving_up, give_up_fate_of}
 use Rattle.sockets.specs.Emission.{after_segment_sent}
 use Rattle.sockets.specs.Unreachable.{after_unreachable as after_table_told}
 use Rattle.sockets.specs.Calls.{port_connected, after_connect, after_socket_closed}
+use Rattle.sockets.specs.Datagrams.{end_sent_from, after_sendto, reception, after_reception}
 use Rattle.sockets.specs.Arrival.{local_end, peer_end, is_opening as opens, has_no_place, arrival_with_reply, arrival, arrival_alone}
 use Rattle.sockets.specs.Replies.{reset_at_ack, answer_to, answer_at_listener}
 use Rattle.sockets.specs.Sound.{is_over_in, NoneIsOver}
 use Rattle.sockets.specs.Lists.{change_first, remove_first}
-use Rattle.sockets.specs.Causes.{Event, Makes, Binds, Listens, Accepts, Connects, Sends, Receives, Shuts, Closes, Ticks, Hears, Emits, GivesUp, Unreachable, after_arrival, after_event}
+use Rattle.sockets.specs.Causes.{Event, Makes, MakesDatagrams, Binds, Listens, Accepts, Connects, Sends, Receives, Shuts, Closes, Ticks, Hears, Emits, GivesUp, Unreachable, SendsTo, ReceivesFrom, HearsDatagram, after_arrival, after_event}
 use Rattle.sockets.proofs.Caused.{some_same, answered_same}
-use Rattle.sockets.proofs.Emitted.{segment_sent-found}
+use Rattle.sockets.proofs.Emitting.{segment_sent-found}
+use Rattle.sockets.proofs.Queues.{sendto-refused, sendto-given, queued-change, no_room-same, no_socket-same}
 use Rattle.sockets.proofs.Told.{told-found, told-none}
 use Rattle.sockets.proofs.Followed.{by_test}
 
@@ -67,10 +73,6 @@ all_retained test change (x ∷ xs) step all =
     (λ passes. rw passes (step x passes all.0, all_retained test change xs step all.1))
     (λ fails. rw fails (all_retained test change xs step all.1))
 
-all_filtered : (test : Entry → Bool) (xs : List Entry) → AreLeft xs → AreLeft (filter test xs)
-all_filtered test [] all = tt
-all_filtered test (x ∷ xs) all = by_test (test x) (λ passes. rw passes (all.0, all_filtered test xs all.1)) (λ fails. rw fails (all_filtered test xs all.1))
-
 all_settled_left : (r : Fate) (test : Entry → Bool) (change : Role → Role) (entries : List Entry) → (is_kept r ≡ true → (x : Entry) → test x ≡ true → find test entries ≡ Some x → IsLeft x → IsLeft (with_role change x))
     → AreLeft entries → AreLeft (entries_after_step r test change entries)
 all_settled_left r test change entries step all =
@@ -87,22 +89,26 @@ changed_left test change entries leaves all = all_changed test (with_role change
 bound_left : (local : Endpoint) → Leaves (role_after_bind local)
 bound_left local (Idle buffers bound) left = refl
 bound_left local (Listener l b) left = refl
+bound_left local (Datagrams ours queues) left = refl
 bound_left local (Connected c l) left = left
 
 listening_left : (backlog : ℕ) → Leaves (role_after_listen backlog)
 listening_left backlog (Idle buffers None) left = refl
 listening_left backlog (Idle buffers (Some local)) left = refl
 listening_left backlog (Listener l b) left = refl
+listening_left backlog (Datagrams ours queues) left = refl
 listening_left backlog (Connected c l) left = left
 
 connecting_left : (local peer : Endpoint) (isn : ℕ) → Leaves (role_after_connect local peer isn)
 connecting_left local peer isn (Idle buffers bound) left = refl
 connecting_left local peer isn (Listener l b) left = refl
+connecting_left local peer isn (Datagrams ours queues) left = refl
 connecting_left local peer isn (Connected c l) left = left
 
 accepted_left : Leaves role_after_accept
 accepted_left (Idle buffers bound) left = refl
 accepted_left (Listener l b) left = refl
+accepted_left (Datagrams ours queues) left = refl
 accepted_left (Connected c l) left = left
 
 send_left : (c : View) (octets : List ℕ) → is_over c ≡ false → is_over (after_send c octets) ≡ false
@@ -120,22 +126,26 @@ shutdown_left c left = rw (shut_closed c.state) left
 sent_left : (octets : List ℕ) → Leaves (role_after_send octets)
 sent_left octets (Idle buffers bound) left = refl
 sent_left octets (Listener l b) left = refl
+sent_left octets (Datagrams ours queues) left = refl
 sent_left octets (Connected c l) left = send_left c octets left
 
 received_left : (len : ℕ) → Leaves (role_after_recv len)
 received_left len (Idle buffers bound) left = refl
 received_left len (Listener l b) left = refl
+received_left len (Datagrams ours queues) left = refl
 received_left len (Connected c l) left = by_test (len == 0) (λ none. rw none left) (λ some. rw some (recv_left c len left))
 
 shut_left : Leaves role_after_shutdown
 shut_left (Idle buffers bound) left = refl
 shut_left (Listener l b) left = refl
+shut_left (Datagrams ours queues) left = refl
 shut_left (Connected c l) left = by_test (is_some c.pending_error || is_opening c.state) (λ refused. rw refused left) (λ shuts. rw shuts (shutdown_left c left))
 
 -- a change of a role that keeps its place
 tick_left : (now : Moment) (role : Role) → is_kept (tick_fate_of now role) ≡ true → is_over_in role ≡ false → is_over_in (role_after_tick now role) ≡ false
 tick_left now (Idle buffers bound) kept left = refl
 tick_left now (Listener l b) kept left = refl
+tick_left now (Datagrams ours queues) kept left = refl
 tick_left now (Connected c l) kept left =
     by_test (is_at_end c now)
     (λ ends. let alone : c.released ≡ false = at_end c.released (ap (λ (b : Bool). is_kept (if b && c.released then Removed else Stays)) (sym ends) ∙ kept) in rw (ends, alone))
@@ -148,11 +158,13 @@ tick_left now (Connected c l) kept left =
 close_left : (now : Moment) (role : Role) → is_kept (close_fate_of role) ≡ true → is_over_in (role_after_close now role) ≡ false
 close_left now (Idle buffers bound) kept = cc
 close_left now (Listener l b) kept = cc
+close_left now (Datagrams ours queues) kept = cc
 close_left now (Connected c l) kept = grind (arith, common_steps)
 
 abort_left : (now : Moment) (role : Role) → is_kept (abort_fate_of role) ≡ true → is_over_in (role_after_abort now role) ≡ false
 abort_left now (Idle buffers bound) kept = refl
 abort_left now (Listener l b) kept = refl
+abort_left now (Datagrams ours queues) kept = refl
 abort_left now (Connected c l) kept = by_test (is_closed c.state) (λ ended. let gone : is_kept (abort_fate_of (Connected c l)) ≡ false = rw ended in cc) (λ live. rw live)
 
 forsaken_left : (now : Moment) (id : SocketId) (role : Role) → is_kept (listener_close_fate_of id role) ≡ true → is_over_in role ≡ false → is_over_in (role_after_listener_close now id role) ≡ false
@@ -169,6 +181,7 @@ kept_tests ended lost false refuses ends live kept plain = refl
 heard_left : (now : Moment) (s : Segment) (local peer : Endpoint) (role : Role) → is_live_between local peer role ≡ true → is_kept (fate_of s role) ≡ true → is_over_in (role_after_segment now s role) ≡ false
 heard_left now s local peer (Idle buffers bound) live kept = refl
 heard_left now s local peer (Listener l b) live kept = refl
+heard_left now s local peer (Datagrams ours queues) live kept = refl
 heard_left now s local peer (Connected c l) live kept =
     by_test (is_lost c s)
     (λ lost. rw lost)
@@ -181,15 +194,49 @@ emit_left now role kept = after (role_after_emission now role) kept
     after : (r : Role) → is_kept (emission_fate_of r) ≡ true → is_over_in r ≡ false
     after (Idle buffers bound) stays = refl
     after (Listener l b) stays = refl
+    after (Datagrams ours queues) stays = refl
     after (Connected c l) stays = by_test (is_over c) (λ over. let gone : is_kept (emission_fate_of (Connected c l)) ≡ false = rw over in cc) (λ left. left)
 
 told_left : (number : ℕ) (role : Role) → is_kept (unreachable_fate_of number role) ≡ true → is_over_in (role_after_unreachable number role) ≡ false
 told_left number (Idle buffers bound) kept = refl
 told_left number (Listener l b) kept = refl
+told_left number (Datagrams ours queues) kept = refl
 told_left number (Connected c l) kept =
     by_test (is_over (after_unreachable c number)) (λ over. let gone : is_kept (unreachable_fate_of number (Connected c l)) ≡ false = rw over in cc) (λ left. left)
 
+-- what is done to a UDP socket alone
+queued_left : (bind : Option Endpoint → Option Endpoint) (change : Queues → Queues) → Leaves (on_datagrams bind change)
+queued_left bind change (Datagrams ours queues) left = refl
+queued_left bind change (Idle buffers bound) left = refl
+queued_left bind change (Listener l b) left = refl
+queued_left bind change (Connected c l) left = left
+
+given_up_left : (lost : Addr → Bool) (now : Moment) → Leaves (role_after_giving_up lost now)
+given_up_left lost now (Datagrams ours queues) left = refl
+given_up_left lost now (Idle buffers bound) left = refl
+given_up_left lost now (Listener l b) left = refl
+given_up_left lost now (Connected c l) left = left
+
 -- Events.
+
+sendto_left : (h : SocketsView) (id : SocketId) (peer : Endpoint) (octets : List ℕ) (routed : Bool) → NoneIsOver h → NoneIsOver (after_sendto h id peer octets routed)
+sendto_left h id peer octets routed all = by_end (end_sent_from h id peer octets routed) refl
+  where
+    by_end : (r : Result Endpoint Refusal) → end_sent_from h id peer octets routed ≡ r → NoneIsOver (after_sendto h id peer octets routed)
+    by_end (Err refusal) given = subst NoneIsOver (sym (sendto-refused h id peer octets routed refusal given)) all
+    by_end (Ok local) given =
+        subst NoneIsOver (sym (sendto-given h id peer octets routed local given))
+        (changed_left (is_socket id) (on_datagrams (λ bound. Some local) (λ queues. with_sent queues h.kept peer h.identification octets)) h.entries (queued_left (λ bound. Some local) (λ queues. with_sent queues h.kept peer h.identification octets)) all)
+
+datagram_left : (h : SocketsView) (source : Addr) (d : UserDatagram) → NoneIsOver h → NoneIsOver (after_reception h source d)
+datagram_left h source d all = by_reception (reception h d) refl
+  where
+    by_reception : (r : Reception) → reception h d ≡ r → NoneIsOver (after_reception h source d)
+    by_reception Queued given =
+        subst NoneIsOver (sym (queued-change h source d given))
+        (changed_left (is_datagrams_at d.destination) (on_datagrams (λ bound. bound) (λ queues. with_received queues (record { addr = source; port = d.source }) d.payload)) h.entries (queued_left (λ bound. bound) (λ queues. with_received queues (record { addr = source; port = d.source }) d.payload)) all)
+    by_reception NoRoom given = subst NoneIsOver (sym (no_room-same h source d given)) all
+    by_reception NoSocket given = subst NoneIsOver (sym (no_socket-same h source d given)) all
 
 connect_left : (h : SocketsView) (isn : ℕ) (id : SocketId) (peer : Endpoint) (routed : Bool) → NoneIsOver h → NoneIsOver (after_connect h isn id peer routed)
 connect_left h isn id peer routed all = by_port (port_connected h id peer routed) refl
@@ -266,6 +313,7 @@ error_left h local peer number all = by_entry (find (is_between local peer) h.en
 
 pub none_over : (h : SocketsView) (e : Event) → NoneIsOver h → NoneIsOver (after_event h e)
 none_over h (Makes buffers) all = all_joined h.entries _ all (refl, tt)
+none_over h MakesDatagrams all = all_joined h.entries _ all (refl, tt)
 none_over h (Binds id local) all = changed_left (is_socket id) (role_after_bind local) h.entries (bound_left local) all
 none_over h (Listens id backlog) all = changed_left (is_socket id) (role_after_listen backlog) h.entries (listening_left backlog) all
 none_over h (Accepts id) all = changed_left (is_offered_at id) role_after_accept h.entries accepted_left all
@@ -279,5 +327,9 @@ none_over h (Closes id) all =
 none_over h (Ticks now) all = all_retained (λ x. is_kept (tick_fate_of (later_moment h now) x.role)) (with_role (role_after_tick (later_moment h now))) h.entries (λ x kept left. tick_left (later_moment h now) x.role kept left) all
 none_over h (Hears now isn source s) all = segment_left h now isn source s all
 none_over h (Emits goes now) all = emission_left h goes now all
-none_over h (GivesUp lost now) all = all_filtered (λ e. not (is_given_up lost (later_moment h now) e.role)) h.entries all
+none_over h (GivesUp lost now) all =
+    all_retained (λ x. is_kept (give_up_fate_of lost (later_moment h now) x.role)) (with_role (role_after_giving_up lost (later_moment h now))) h.entries (λ x kept left. given_up_left lost (later_moment h now) x.role left) all
 none_over h (Unreachable local peer number) all = error_left h local peer number all
+none_over h (SendsTo id peer octets routed) all = sendto_left h id peer octets routed all
+none_over h (ReceivesFrom id len) all = changed_left (is_socket id) (on_datagrams (λ bound. bound) after_read) h.entries (queued_left (λ bound. bound) after_read) all
+none_over h (HearsDatagram source d) all = datagram_left h source d all

@@ -10,7 +10,7 @@ use Rattle.tcp_state.specs.Calls.{send_answer, after_send}
 use Rattle.tcp_state.proofs.Unchanged.{refused_leaves}
 use Rattle.sockets.specs.declared.entry.Entry.{Entry}
 use Rattle.sockets.specs.declared.role.Role.{Role}
-use Rattle.sockets.specs.declared.role.Role.TheVariants.{Idle, Listener, Connected}
+use Rattle.sockets.specs.declared.role.Role.TheVariants.{Idle, Listener, Connected, Datagrams}
 use Rattle.sockets.specs.declared.refusal.Refusal.{Refusal}
 use Rattle.sockets.specs.Entries.{role_after_send, role_after_segment, fate_of, with_role}
 use Rattle.sockets.specs.Calls.{role_send_answer, of_connection}
@@ -26,6 +26,7 @@ refused_by_connection c octets e (Err x) same refused = after_send_refused c oct
 pub sent_refused : (role : Role) (octets : List ℕ) (e : Refusal) → role_send_answer role octets ≡ Err e → role_after_send octets role ≡ role
 sent_refused (Idle buffers bound) octets e refused = refl
 sent_refused (Listener bound backlog) octets e refused = refl
+sent_refused (Datagrams ours queues) octets e refused = refl
 sent_refused (Connected c listener) octets e refused =
     ap (λ (v : View). Connected v listener) (refused_by_connection c octets e (send_answer c octets) refl refused)
 
@@ -39,4 +40,5 @@ entry_refused_segment e s now refused = ap (λ role. let y : Entry = record e { 
     role_refused : (role : Role) → fate_of s role ≡ Rejected → role_after_segment now s role ≡ role
     role_refused (Idle buffers bound) refused = refl
     role_refused (Listener bound backlog) refused = refl
+    role_refused (Datagrams ours queues) refused = refl
     role_refused (Connected c listener) refused = ap (λ (v : View). Connected v listener) (refused_leaves c s now refused)

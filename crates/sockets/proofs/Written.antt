@@ -40,3 +40,8 @@ on_ok (Err e) P p = tt
 pub on_some : {T : Type 0} (o : Option T) (P : Type 0) → P → OnSome o P
 on_some (Some x) P p = p
 on_some None P p = tt
+
+-- A fact of an answer that follows from another.
+pub ok_from : {T E : Type 0} (r : Result T E) (P Q : Type 0) → (P → Q) → OnOk r P → OnOk r Q
+ok_from (Ok x) P Q follows p = follows p
+ok_from (Err e) P Q follows p = tt

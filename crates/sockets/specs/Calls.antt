@@ -1,5 +1,5 @@
 -- The call table: for each socket call its refusal, by the tests in their order, and what it makes of the table.
-use Rattle.std.specs.Prelude.{ℕ, ◌+◌, ◌^◌, Bool, ◌==◌, ◌&&◌, ◌||◌, not, if◌then◌else◌, List, [], ◌∷◌, ◌++◌, length, take, drop, Option, Some, None, find, Result, Ok, Err, is_some, option_map, option_and_then}
+use Rattle.std.specs.Prelude.{ℕ, ◌+◌, ◌^◌, ◌≡◌, Bool, ◌==◌, ◌&&◌, ◌||◌, not, if◌then◌else◌, List, [], ◌∷◌, ◌++◌, length, take, drop, Option, Some, None, find, Result, Ok, Err, is_some, option_map, option_and_then}
 use Rattle.std.specs.List.{list_any}
 use Rattle.std.specs.Option.{ok_or}
 use Rattle.std.specs.Result.{result_ok, result_err}
@@ -15,13 +15,16 @@ use Rattle.tcp_state.specs.declared.calls.Refusal.TheVariants as connection_vari
 use Rattle.tcp_state.specs.Calls as connection_calls
 use Rattle.tcp_state.specs.View.{is_opening}
 use Rattle.sockets.specs.declared.entry.SocketId.{SocketId}
+use Rattle.sockets.specs.declared.entry.Kind.{Kind}
+use Rattle.sockets.specs.declared.entry.Kind.TheVariants.{Tcp, Udp}
+use Rattle.sockets.specs.declared.state.SocketState.{SocketState}
 use Rattle.sockets.specs.declared.entry.Entry.{Entry}
 use Rattle.sockets.specs.declared.role.Role.{Role}
-use Rattle.sockets.specs.declared.role.Role.TheVariants.{Idle, Listener, Connected}
+use Rattle.sockets.specs.declared.role.Role.TheVariants.{Idle, Listener, Connected, Datagrams}
 use Rattle.sockets.specs.declared.refusal.Refusal.{Refusal}
 use Rattle.sockets.specs.declared.refusal.Refusal.TheVariants.{EBADF, EINVAL, EADDRINUSE, EADDRNOTAVAIL, EISCONN, ENOTCONN, EALREADY, EAGAIN, ENETUNREACH, EOPNOTSUPP, ECONNREFUSED, ECONNRESET, EPIPE, EDESTADDRREQ}
 use Rattle.sockets.specs.Ports.{first_port, is_free_port}
-use Rattle.sockets.specs.Entries.{is_socket, has_port, is_between, is_offered_at, offered_peer, shown_state, new_socket, role_after_bind, role_after_listen, role_after_connect, role_after_accept, role_after_send, role_after_recv, role_after_shutdown, role_after_close, close_fate_of, role_after_listener_close, listener_close_fate_of, entries_after_step, entries_after_steps, with_role}
+use Rattle.sockets.specs.Entries.{is_socket, has_port, is_datagrams_at, is_between, is_offered_at, offered_peer, shown_state, new_socket, new_datagram_socket, role_after_bind, role_after_listen, role_after_connect, role_after_accept, role_after_send, role_after_recv, role_after_shutdown, role_after_close, close_fate_of, role_after_listener_close, listener_close_fate_of, entries_after_step, entries_after_steps, with_role}
 use Rattle.sockets.specs.SocketsView.{SocketsView, role_of, with_socket}
 use Rattle.sockets.specs.Lists.{change_first}
 
@@ -58,23 +61,46 @@ after_socket h buffers = record h {
   entries = h.entries ++ new_socket (record { 0 = h.last_id + 1 }) buffers ∷ [];
 }
 
--- an entry has this local port
+-- a new UDP socket at the end of the table
+abbrev pub after_datagram_socket : SocketsView → SocketsView
+after_datagram_socket h = record h {
+  last_id = h.last_id + 1;
+  entries = h.entries ++ new_datagram_socket (record { 0 = h.last_id + 1 }) ∷ [];
+}
+
+-- an entry with a new socket of this kind
+abbrev pub IsNewSocket : Kind → SocketId → Entry → Type 0
+IsNewSocket Tcp id e = (buffers : Buffers) × (e ≡ new_socket id buffers)
+IsNewSocket Udp id e = e ≡ new_datagram_socket id
+
+-- the table after a socket of this kind was made
+abbrev pub IsMade : Kind → SocketsView → SocketsView → Type 0
+IsMade Tcp old new = (buffers : Buffers) × (new ≡ after_socket old buffers)
+IsMade Udp old new = new ≡ after_datagram_socket old
+
+-- an entry over TCP has this local port
 abbrev pub is_port_taken : SocketsView → ℕ → Bool
 is_port_taken h port = list_any (has_port port) h.entries
+
+-- a UDP socket is bound to this port
+abbrev pub is_datagram_port_taken : SocketsView → ℕ → Bool
+is_datagram_port_taken h port = list_any (is_datagrams_at port) h.entries
 
 abbrev pub bind_refusal : SocketsView → SocketId → Endpoint → Option Refusal
 bind_refusal h id local = refusal_at h id of_role
   where
-    of_idle : Option Refusal
-    of_idle =
+    of_unbound : Bool → Option Refusal
+    of_unbound is_taken =
         if local.port == 0 then Some EINVAL
         else if not (same_addr local.addr h.addr) && not (same_addr local.addr any_addr) then Some EADDRNOTAVAIL
-        else if is_port_taken h local.port then Some EADDRINUSE
+        else if is_taken then Some EADDRINUSE
         else None
 
     of_role : Role → Option Refusal
-    of_role (Idle buffers None) = of_idle
+    of_role (Idle buffers None) = of_unbound (is_port_taken h local.port)
     of_role (Idle buffers (Some bound)) = Some EINVAL
+    of_role (Datagrams None socket) = of_unbound (is_datagram_port_taken h local.port)
+    of_role (Datagrams (Some bound) socket) = Some EINVAL
     of_role (Listener bound backlog) = Some EINVAL
     of_role (Connected c listener) = Some EINVAL
 
@@ -83,18 +109,22 @@ after_bind h id local = with_socket h id (role_after_bind local)
 
 -- a backlog of 1 alone
 abbrev pub listen_refusal : SocketsView → SocketId → ℕ → Option Refusal
-listen_refusal h id backlog = refusal_at h id (λ role. if backlog == 1 then of_role role else Some EINVAL)
+listen_refusal h id backlog = refusal_at h id of_role
   where
+    of_backlog : Option Refusal → Option Refusal
+    of_backlog refusal = if backlog == 1 then refusal else Some EINVAL
+
     of_role : Role → Option Refusal
-    of_role (Idle buffers None) = Some EDESTADDRREQ
-    of_role (Idle buffers (Some bound)) = None
-    of_role (Listener bound b) = Some EINVAL
-    of_role (Connected c listener) = Some EINVAL
+    of_role (Idle buffers None) = of_backlog (Some EDESTADDRREQ)
+    of_role (Idle buffers (Some bound)) = of_backlog None
+    of_role (Listener bound b) = of_backlog (Some EINVAL)
+    of_role (Connected c listener) = of_backlog (Some EINVAL)
+    of_role (Datagrams bound socket) = Some EOPNOTSUPP
 
 abbrev pub after_listen : SocketsView → SocketId → ℕ → SocketsView
 after_listen h id backlog = with_socket h id (role_after_listen backlog)
 
-abbrev pub state_answer : SocketsView → SocketId → Result State Refusal
+abbrev pub state_answer : SocketsView → SocketId → Result SocketState Refusal
 state_answer h id = answer_at h id (λ role. Ok (shown_state role))
 
 -- the connection that a listener accepts next, and its peer
@@ -113,6 +143,7 @@ accept_answer h id = answer_at h id of_role
     of_role (Listener bound backlog) = of_entry (find (is_offered_at id) h.entries)
     of_role (Idle buffers bound) = Err EINVAL
     of_role (Connected c listener) = Err EINVAL
+    of_role (Datagrams bound socket) = Err EOPNOTSUPP
 
 -- it waits no longer
 abbrev pub after_accept : SocketsView → SocketId → SocketsView
@@ -135,12 +166,14 @@ abbrev pub role_send_answer : Role → List ℕ → Result ℕ Refusal
 role_send_answer (Idle buffers bound) octets = Err ENOTCONN
 role_send_answer (Listener bound backlog) octets = Err EOPNOTSUPP
 role_send_answer (Connected c listener) octets = of_connection (connection_calls.send_answer c octets)
+role_send_answer (Datagrams bound socket) octets = Err EDESTADDRREQ
 
 -- what a receive into a buffer of this length answers
 abbrev pub role_recv_answer : Role → ℕ → Result Received Refusal
 role_recv_answer (Listener bound backlog) len = Err EOPNOTSUPP
 role_recv_answer (Idle buffers bound) len = if len == 0 then Err EINVAL else Err ENOTCONN
 role_recv_answer (Connected c listener) len = if len == 0 then Err EINVAL else of_connection (connection_calls.recv_answer c len)
+role_recv_answer (Datagrams bound socket) len = Err EOPNOTSUPP
 
 -- what a receive leaves in a buffer: the first octets that are readable stand at its front, where it answers octets
 abbrev pub read_front : Role → List ℕ → List ℕ
@@ -149,6 +182,7 @@ read_front (Connected c listener) buffer =
     else take (connection_calls.recv_count c (length buffer)) c.receiving.readable ++ drop (connection_calls.recv_count c (length buffer)) buffer
 read_front (Listener bound backlog) buffer = buffer
 read_front (Idle buffers bound) buffer = buffer
+read_front (Datagrams bound socket) buffer = buffer
 
 abbrev pub recv_front : SocketsView → SocketId → List ℕ → List ℕ
 recv_front h id buffer = of_socket buffer (λ role. read_front role buffer) (role_of h id)
@@ -170,6 +204,7 @@ abbrev pub role_shutdown_refusal : Role → Option Refusal
 role_shutdown_refusal (Idle buffers bound) = Some ENOTCONN
 role_shutdown_refusal (Listener bound backlog) = Some EOPNOTSUPP
 role_shutdown_refusal (Connected c listener) = option_map refusal_of (connection_calls.shutdown_refusal c)
+role_shutdown_refusal (Datagrams bound socket) = Some EOPNOTSUPP
 
 abbrev pub shutdown_refusal : SocketsView → SocketId → Option Refusal
 shutdown_refusal h id = refusal_at h id role_shutdown_refusal
@@ -219,6 +254,7 @@ abbrev pub open_answer : Role → Result (Option Endpoint) Refusal
 open_answer (Idle buffers bound) = Ok bound
 open_answer (Listener local backlog) = Err EOPNOTSUPP
 open_answer (Connected c listener) = had_connection c.state c.pending_error
+open_answer (Datagrams bound socket) = Err EOPNOTSUPP
 
 -- the port that a connect gives the socket's connection, or why it is refused: by what the socket is, by its peer, to whose address a route
 -- leads or none, by the ports
@@ -245,11 +281,12 @@ abbrev pub last_port_after : SocketsView → Option Endpoint → ℕ → ℕ
 last_port_after h (Some bound) port = h.last_port
 last_port_after h None port = port
 
--- where an idle socket is bound
+-- where a socket that opens a connection or sends a datagram is bound
 abbrev pub bound_of : Role → Option Endpoint
 bound_of (Idle buffers bound) = bound
 bound_of (Listener local backlog) = None
 bound_of (Connected c listener) = None
+bound_of (Datagrams bound socket) = bound
 
 -- the socket is a connection in SYN-SENT from our address and the port that it is given
 abbrev pub after_connect : SocketsView → ℕ → SocketId → Endpoint → Bool → SocketsView

@@ -3,6 +3,7 @@ use Rattle.std.specs.Prelude.{◌≡◌, ◌⊎◌, ℕ, ◌+◌, ◌==◌, ◌&
 use Rattle.ipv4.specs.declared.addr.Addr.{Addr}
 use Rattle.ipv4.specs.declared.addr.Endpoint.{Endpoint}
 use Rattle.tcp_segment.specs.Segment.{Segment}
+use Rattle.udp.specs.Datagram.{UserDatagram}
 use Rattle.tcp_state.specs.declared.buffers.Buffers.{Buffers}
 use Rattle.clock.specs.declared.moment.Moment.{Moment}
 use Rattle.tcp_state.specs.declared.state.State.TheVariants.{SynReceived}
@@ -12,19 +13,23 @@ use Rattle.tcp_state.specs.Edges as edge
 use Rattle.sockets.specs.declared.entry.SocketId.{SocketId}
 use Rattle.sockets.specs.declared.entry.Entry.{Entry}
 use Rattle.sockets.specs.declared.role.Role.{Role}
-use Rattle.sockets.specs.Entries.{in_connection, is_socket, is_waiting_at, is_between, is_listening_at, sends, shown_state, new_socket}
+use Rattle.sockets.specs.declared.state.SocketState.{SocketState}
+use Rattle.sockets.specs.declared.state.SocketState.TheVariants.{Datagram, Stream}
+use Rattle.sockets.specs.Entries.{in_connection, is_socket, is_waiting_at, is_between, is_listening_at, sends, shown_state, new_socket, new_datagram_socket}
 use Rattle.sockets.specs.SocketsView.{SocketsView, later_moment}
 use Rattle.sockets.specs.Ticks.{after_tick}
 use Rattle.sockets.specs.Lost.{is_given_up, after_giving_up}
 use Rattle.sockets.specs.Emission.{after_segment_sent}
 use Rattle.sockets.specs.Unreachable.{after_unreachable}
-use Rattle.sockets.specs.Calls.{after_socket, after_bind, after_listen, after_accept, after_connect, after_send, after_recv, after_shutdown, after_close}
+use Rattle.sockets.specs.Calls.{after_socket, after_datagram_socket, after_bind, after_listen, after_accept, after_connect, after_send, after_recv, after_shutdown, after_close}
+use Rattle.sockets.specs.Datagrams.{after_sendto, after_recvfrom, after_reception}
 use Rattle.sockets.specs.Arrival.{Arrival, Becomes, Opens, NoPlace, Answers, local_end, peer_end, is_opening, arrival}
 
--- what may happen to the table: a call that is not refused, a tick, a segment from an address, a segment goes out, resets are given up, or a
--- hard error about the segment of a number from one end to another
+-- what may happen to the table: a call that is not refused, a tick, a segment or a datagram from an address, something goes out, resets and
+-- datagrams are given up, or a hard error about the segment of a number from one end to another
 pub data Event : Type 0 where
   Makes : Buffers → Event
+  MakesDatagrams : Event
   Binds : SocketId → Endpoint → Event
   Listens : SocketId → ℕ → Event
   Accepts : SocketId → Event
@@ -38,6 +43,9 @@ pub data Event : Type 0 where
   Emits : (Entry → Bool) → Moment → Event
   GivesUp : (Addr → Bool) → Moment → Event
   Unreachable : Endpoint → Endpoint → ℕ → Event
+  SendsTo : SocketId → Endpoint → List ℕ → Bool → Event
+  ReceivesFrom : SocketId → ℕ → Event
+  HearsDatagram : Addr → UserDatagram → Event
 
 abbrev pub after_arrival : SocketsView → Arrival → SocketsView
 after_arrival h (Becomes next) = next
@@ -48,6 +56,7 @@ after_arrival h (Answers head) = h
 -- the table after an event
 abbrev pub after_event : SocketsView → Event → SocketsView
 after_event h (Makes buffers) = after_socket h buffers
+after_event h MakesDatagrams = after_datagram_socket h
 after_event h (Binds id local) = after_bind h id local
 after_event h (Listens id backlog) = after_listen h id backlog
 after_event h (Accepts id) = after_accept h id
@@ -61,6 +70,9 @@ after_event h (Hears now isn source s) = after_arrival h (arrival h now isn sour
 after_event h (Emits goes now) = after_segment_sent h goes now
 after_event h (GivesUp lost now) = after_giving_up h lost now
 after_event h (Unreachable local peer number) = after_unreachable h local peer number
+after_event h (SendsTo id peer octets routed) = after_sendto h id peer octets routed
+after_event h (ReceivesFrom id len) = after_recvfrom h id
+after_event h (HearsDatagram source d) = after_reception h source d
 
 -- an event of the entry's connection ends it
 abbrev pub is_connection_cause : edge.Event → Role → Bool
@@ -80,7 +92,7 @@ is_close_cause now role = in_connection true (λ c. edge.is_cause c (edge.Closes
 
 -- What ends an entry: that its socket is closed, as its role says, or the listener that it waits at; and for a connection a segment of its two
 -- ends, a tick, the going out of its segment or a hard error about a segment between its two ends, each as its own rules say, or that its reset
--- is given up.
+-- is given up. No datagram ends one.
 abbrev pub is_cause_for : SocketsView → Event → Entry → Bool
 is_cause_for h (Closes id) x = (is_socket id x && is_close_cause h.kept x.role) || is_waiting_at id x
 is_cause_for h (Ticks now) x = is_connection_cause (edge.Ticks (later_moment h now)) x.role
@@ -90,9 +102,21 @@ is_cause_for h (GivesUp lost now) x = is_given_up lost (later_moment h now) x.ro
 is_cause_for h (Unreachable local peer number) x = is_between local peer x && is_connection_cause (edge.Unreachable number) x.role
 is_cause_for h _ x = false
 
+-- a state of a connection is CLOSED
+abbrev pub is_closed_state : SocketState → Bool
+is_closed_state (Stream state) = is_closed state
+is_closed_state Datagram = false
+
 -- an entry becomes CLOSED
 abbrev pub becomes_closed : Role → Role → Bool
-becomes_closed before after = not (is_closed (shown_state before)) && is_closed (shown_state after)
+becomes_closed before after = not (is_closed_state (shown_state before)) && is_closed_state (shown_state after)
+
+-- a state stays or goes along an edge of the table of states, and a UDP socket stays one
+abbrev pub IsEdge : SocketState → SocketState → Type 0
+IsEdge (Stream before) (Stream after) = edge.IsEdge before after
+IsEdge Datagram Datagram = Unit {0}
+IsEdge (Stream before) Datagram = ⊥
+IsEdge Datagram (Stream after) = ⊥
 
 -- the error that an entry's connection tells its caller
 abbrev pub pending_error_in : Role → Option Error
@@ -115,7 +139,7 @@ IsToldBy h e x y = (error : Error) → pending_error_in y.role ≡ Some error �
 -- CLOSED, that has a cause; and so has an error that it tells.
 abbrev pub IsStep : SocketsView → Event → Entry → Option Entry → Type 0
 IsStep h e x None = is_cause_for h e x ≡ true
-IsStep h e x (Some y) = (y.id ≡ x.id) × edge.IsEdge (shown_state x.role) (shown_state y.role) × (becomes_closed x.role y.role ≡ true → is_cause_for h e x ≡ true) × IsToldBy h e x y
+IsStep h e x (Some y) = (y.id ≡ x.id) × IsEdge (shown_state x.role) (shown_state y.role) × (becomes_closed x.role y.role ≡ true → is_cause_for h e x ≡ true) × IsToldBy h e x y
 
 -- a new connection in SYN-RECEIVED between the two ends of a segment that opens one, told no error, which waits at the listener of the
 -- segment's destination port
@@ -123,15 +147,16 @@ pub record IsOpenedBy (h : SocketsView) (source : Addr) (s : Segment) (e : Entry
   pub opens : is_opening s.flags ≡ true
   pub id : e.id.0 ≡ h.last_id + 1
   pub between : is_between (local_end h s) (peer_end source s) e ≡ true
-  pub state : shown_state e.role ≡ SynReceived
+  pub state : shown_state e.role ≡ Stream SynReceived
   pub told : pending_error_in e.role ≡ None
   pub listener : Entry
   pub listens : find (is_listening_at s.destination) h.entries ≡ Some listener
   pub waits : is_waiting_at listener.id e ≡ true
 
--- What an event adds: the making of a socket adds an idle one that is not bound, a segment at most one connection, and nothing else any.
+-- What an event adds: the making of a socket adds one that is not bound, idle over TCP, a segment at most one connection, and nothing else any.
 abbrev pub IsAdded : SocketsView → Event → List Entry → Type 0
 IsAdded h (Makes buffers) added = added ≡ new_socket (record { 0 = h.last_id + 1 }) buffers ∷ []
+IsAdded h MakesDatagrams added = added ≡ new_datagram_socket (record { 0 = h.last_id + 1 }) ∷ []
 IsAdded h (Hears now isn source s) added = (added ≡ []) ⊎ ((e : Entry) × (added ≡ e ∷ []) × IsOpenedBy h source s e)
 IsAdded h _ added = added ≡ []
 

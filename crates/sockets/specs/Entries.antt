@@ -1,9 +1,9 @@
 -- The entries of the table: sockets, and connections that no socket names, not yet or no longer.
 use Rattle.std.specs.List.{retain_mut}
 use Rattle.std.specs.Prelude.{◌≡◌, ℕ, Bool, true, false, ◌&&◌, ◌||◌, not, ◌==◌, [], if◌then◌else◌, List, ◌++◌, drop, Option, Some, None, option_map, is_some, slice_get}
+use Rattle.ipv4.specs.declared.addr.Addr.{Addr}
 use Rattle.ipv4.specs.declared.addr.Endpoint.{Endpoint}
 use Rattle.ipv4.specs.declared.addr.Pair.{Pair}
-use Rattle.tcp_state.specs.declared.state.State.{State}
 use Rattle.tcp_state.specs.declared.state.State.TheVariants.{Closed, Listen}
 use Rattle.clock.specs.declared.moment.Moment.{Moment}
 use Rattle.tcp_state.specs.View.{View, is_opening, is_closed, is_syn_received, is_over, opened_actively, after_tick, tick_fate, deadline, reset_since}
@@ -17,11 +17,18 @@ use Rattle.tcp_state.specs.declared.emission.Due.{Due}
 use Rattle.tcp_state.specs.Due.{first_due, emitted_len, segment_octets}
 use Rattle.tcp_state.specs.Edges.{after_first}
 use Rattle.tcp_state.specs.declared.buffers.Buffers.{Buffers}
+use Rattle.udp_socket.specs.SocketView.{with_sent, with_received, after_read, has_room_in, has_room_out}
+use Rattle.udp_socket.specs.SocketView as datagrams
+use Rattle.udp_socket.specs.Emission as datagrams_out
 use Rattle.sockets.specs.declared.entry.SocketId.{SocketId}
 use Rattle.sockets.specs.declared.entry.Entry.{Entry}
 use Rattle.ipv4.specs.Addresses.{same_end}
 use Rattle.sockets.specs.declared.role.Role.{Role}
-use Rattle.sockets.specs.declared.role.Role.TheVariants.{Idle, Listener, Connected}
+use Rattle.sockets.specs.declared.role.Role.TheVariants.{Idle, Listener, Connected, Datagrams}
+use Rattle.sockets.specs.declared.state.SocketState.{SocketState}
+use Rattle.sockets.specs.declared.state.SocketState.TheVariants.{Datagram, Stream}
+use Rattle.sockets.specs.declared.emission.Emitted.{Emitted}
+use Rattle.sockets.specs.declared.emission.Emitted.TheVariants as emitted
 use Rattle.sockets.specs.Lists.{change_first, remove_first}
 
 -- what a connection makes of itself, and any other role stays
@@ -29,12 +36,21 @@ abbrev pub on_connection : (View → View) → Role → Role
 on_connection change (Connected c listener) = Connected (change c) listener
 on_connection change (Listener local backlog) = Listener local backlog
 on_connection change (Idle buffers bound) = Idle buffers bound
+on_connection change (Datagrams bound socket) = Datagrams bound socket
 
 -- what `of` says of a connection, and `other` of any other role
 abbrev pub in_connection : {T : Type 0} → T → (View → T) → Role → T
 in_connection other of (Connected c listener) = of c
 in_connection other of (Listener local backlog) = other
 in_connection other of (Idle buffers bound) = other
+in_connection other of (Datagrams bound socket) = other
+
+-- what a UDP socket makes of itself, and any other role stays
+abbrev pub on_datagrams : (Option Endpoint → Option Endpoint) → (datagrams.SocketView → datagrams.SocketView) → Role → Role
+on_datagrams bind change (Datagrams bound socket) = Datagrams (bind bound) (change socket)
+on_datagrams bind change (Connected c listener) = Connected c listener
+on_datagrams bind change (Listener local backlog) = Listener local backlog
+on_datagrams bind change (Idle buffers bound) = Idle buffers bound
 
 -- Tests of a role.
 
@@ -44,6 +60,7 @@ is_pending (Connected connection (Some listener)) = true
 is_pending (Connected connection None) = false
 is_pending (Listener local backlog) = false
 is_pending (Idle buffers bound) = false
+is_pending (Datagrams bound socket) = false
 
 -- a connection that its caller closed
 abbrev pub is_left : Role → Bool
@@ -61,12 +78,21 @@ is_live_between local peer role = in_connection false (λ c. not (is_closed c.st
 abbrev pub joins : Pair → Role → Bool
 joins pair role = is_live_between pair.first pair.second role || is_live_between pair.second pair.first role
 
--- the local port is this one
+-- the local port over TCP is this one
 abbrev pub uses_port : ℕ → Role → Bool
 uses_port port (Connected c listener) = c.local.port == port
 uses_port port (Listener local backlog) = local.port == port
 uses_port port (Idle buffers (Some local)) = local.port == port
 uses_port port (Idle buffers None) = false
+uses_port port (Datagrams bound socket) = false
+
+-- a UDP socket bound to this port
+abbrev pub uses_datagram_port : ℕ → Role → Bool
+uses_datagram_port port (Datagrams (Some local) socket) = local.port == port
+uses_datagram_port port (Datagrams None socket) = false
+uses_datagram_port port (Connected c listener) = false
+uses_datagram_port port (Listener local backlog) = false
+uses_datagram_port port (Idle buffers bound) = false
 
 -- a connection that waits at this listener to be accepted, in SYN-RECEIVED or past it
 abbrev pub waits_at : SocketId → Role → Bool
@@ -74,6 +100,7 @@ waits_at id (Connected c (Some listener)) = listener.0 == id.0
 waits_at id (Connected c None) = false
 waits_at id (Listener local backlog) = false
 waits_at id (Idle buffers bound) = false
+waits_at id (Datagrams bound socket) = false
 
 -- the peer of a connection that waits at this listener and has passed SYN-RECEIVED
 abbrev pub offered_peer : SocketId → Role → Option Endpoint
@@ -81,23 +108,31 @@ offered_peer id (Connected c (Some listener)) = if (listener.0 == id.0) && not (
 offered_peer id (Connected c None) = None
 offered_peer id (Listener local backlog) = None
 offered_peer id (Idle buffers bound) = None
+offered_peer id (Datagrams bound socket) = None
 
--- the state that a socket shows (RFC 9293 section 3.3.2)
-abbrev pub shown_state : Role → State
-shown_state (Connected c listener) = c.state
-shown_state (Listener local backlog) = Listen
-shown_state (Idle buffers bound) = Closed
+-- the state that a socket shows: that of its connection (RFC 9293 section 3.3.2), or that it is a UDP socket
+abbrev pub shown_state : Role → SocketState
+shown_state (Connected c listener) = Stream c.state
+shown_state (Listener local backlog) = Stream Listen
+shown_state (Idle buffers bound) = Stream Closed
+shown_state (Datagrams bound socket) = Datagram
 
 abbrev pub deadline_of : Role → Option Moment
 deadline_of role = in_connection None deadline role
 
--- a segment is due
+-- a segment is due, or a datagram waits to go out
 abbrev pub has_due : Role → Bool
-has_due role = in_connection false (λ c. is_some (first_due c)) role
+has_due (Connected c listener) = is_some (first_due c)
+has_due (Datagrams bound socket) = is_some (datagrams_out.due_peer socket.outbox)
+has_due (Listener local backlog) = false
+has_due (Idle buffers bound) = false
 
--- to whom a segment is due
+-- to whom the segment is due, or the first datagram goes
 abbrev pub due_peer : Role → Option Endpoint
-due_peer role = in_connection None (λ c. if is_some (first_due c) then Some c.peer else None) role
+due_peer (Connected c listener) = if is_some (first_due c) then Some c.peer else None
+due_peer (Datagrams bound socket) = datagrams_out.due_peer socket.outbox
+due_peer (Listener local backlog) = None
+due_peer (Idle buffers bound) = None
 
 -- to whom the reset of an abort is owed, and since when it waits to go out
 abbrev pub reset_wait : Role → Option (Endpoint × Moment)
@@ -108,11 +143,13 @@ abbrev pub backlog_of : Role → ℕ
 backlog_of (Listener local backlog) = backlog
 backlog_of (Connected c listener) = 0
 backlog_of (Idle buffers bound) = 0
+backlog_of (Datagrams bound socket) = 0
 
 abbrev pub listens_at : ℕ → Role → Bool
 listens_at port (Listener local backlog) = local.port == port
 listens_at port (Connected c listener) = false
 listens_at port (Idle buffers bound) = false
+listens_at port (Datagrams bound socket) = false
 
 -- Tests of an entry by its id and its role.
 
@@ -132,7 +169,11 @@ is_of_pair pair e = joins pair e.role
 abbrev pub has_port : ℕ → Entry → Bool
 has_port port e = uses_port port e.role
 
--- bound to this port as a socket
+-- the UDP socket at a port
+abbrev pub is_datagrams_at : ℕ → Entry → Bool
+is_datagrams_at port e = uses_datagram_port port e.role
+
+-- bound to this port as a socket over TCP
 abbrev pub is_bound_at : ℕ → Entry → Bool
 is_bound_at port e = has_socket e.role && uses_port port e.role
 
@@ -145,11 +186,11 @@ is_offered_at id e = is_some (offered_peer id e.role)
 abbrev pub is_due : Entry → Bool
 is_due e = has_due e.role
 
--- a segment is due that goes out: the layer above says by this test of whom it may
+-- what is due goes out: the layer above says by this test of whom it may
 abbrev pub sends : (Entry → Bool) → Entry → Bool
 sends goes e = is_due e && goes e
 
--- the entry in this place has a segment due
+-- the entry in this place has a segment or a datagram due
 abbrev pub IsDueAt : List Entry → ℕ → Type 0
 IsDueAt entries place = (e : Entry) × (slice_get entries place ≡ Some e) × (is_due e ≡ true)
 
@@ -158,6 +199,10 @@ IsDueAt entries place = (e : Entry) × (slice_get entries place ≡ Some e) × (
 -- an idle socket with empty buffers, not bound
 abbrev pub new_socket : SocketId → Buffers → Entry
 new_socket id buffers = record { id = id; role = Idle buffers None }
+
+-- a UDP socket in which nothing waits, not bound
+abbrev pub new_datagram_socket : SocketId → Entry
+new_datagram_socket id = record { id = id; role = Datagrams None datagrams.new_socket }
 
 -- a connection that waits at a listener
 abbrev pub new_waiting : SocketId → SocketId → View → Entry
@@ -169,23 +214,27 @@ abbrev pub role_after_bind : Endpoint → Role → Role
 role_after_bind local (Idle buffers bound) = Idle buffers (Some local)
 role_after_bind local (Listener l b) = Listener l b
 role_after_bind local (Connected c l) = Connected c l
+role_after_bind local (Datagrams bound socket) = Datagrams (Some local) socket
 
 abbrev pub role_after_listen : ℕ → Role → Role
 role_after_listen backlog (Idle buffers (Some local)) = Listener local backlog
 role_after_listen backlog (Idle buffers None) = Idle buffers None
 role_after_listen backlog (Listener l b) = Listener l b
 role_after_listen backlog (Connected c l) = Connected c l
+role_after_listen backlog (Datagrams bound socket) = Datagrams bound socket
 
 -- a connection in SYN-SENT (RFC 9293 section 3.10.1)
 abbrev pub role_after_connect : Endpoint → Endpoint → ℕ → Role → Role
 role_after_connect local peer isn (Idle buffers bound) = Connected (opened_actively local peer isn) None
 role_after_connect local peer isn (Listener l b) = Listener l b
 role_after_connect local peer isn (Connected c l) = Connected c l
+role_after_connect local peer isn (Datagrams bound socket) = Datagrams bound socket
 
 abbrev pub role_after_accept : Role → Role
 role_after_accept (Connected c listener) = Connected c None
 role_after_accept (Listener l b) = Listener l b
 role_after_accept (Idle buffers bound) = Idle buffers bound
+role_after_accept (Datagrams bound socket) = Datagrams bound socket
 
 -- octets are given to the connection, and as many are taken as there is room for
 abbrev pub role_after_send : List ℕ → Role → Role
@@ -198,6 +247,21 @@ role_after_shutdown role = on_connection (λ c. if is_some c.pending_error || is
 -- octets of the connection are read into a buffer of this length, and none into an empty one
 abbrev pub role_after_recv : ℕ → Role → Role
 role_after_recv len role = on_connection (λ c. if len == 0 then c else after_recv c len) role
+
+-- a UDP socket has room for a further datagram of so many octets to be sent
+abbrev pub has_room_to_send : ℕ → Role → Bool
+has_room_to_send len (Datagrams bound socket) = has_room_out socket len
+has_room_to_send len (Connected c listener) = false
+has_room_to_send len (Listener local backlog) = false
+has_room_to_send len (Idle buffers bound) = false
+
+-- a datagram to be sent from `local` stands behind the others, and the socket is bound there where it was not bound
+abbrev pub role_after_sendto : Endpoint → Moment → Endpoint → ℕ → List ℕ → Role → Role
+role_after_sendto local now peer identification octets role = on_datagrams (λ bound. Some local) (λ socket. with_sent socket now peer identification octets) role
+
+-- the first datagram that came was read
+abbrev pub role_after_recvfrom : Role → Role
+role_after_recvfrom role = on_datagrams (λ bound. bound) after_read role
 
 -- What else happens to a role: what becomes of it, and of the entry's place.
 
@@ -243,32 +307,63 @@ role_after_listener_close now id role = if waits_at id role then role_after_abor
 abbrev pub listener_close_fate_of : SocketId → Role → Fate
 listener_close_fate_of id role = if waits_at id role then abort_fate_of role else Stays
 
--- the segment that is due goes out; an abort is over once its reset has gone out
+-- a UDP socket has room for a further datagram of so many octets that came
+abbrev pub has_room_to_receive : ℕ → Role → Bool
+has_room_to_receive len (Datagrams bound socket) = has_room_in socket len
+has_room_to_receive len (Connected c listener) = false
+has_room_to_receive len (Listener local backlog) = false
+has_room_to_receive len (Idle buffers bound) = false
+
+-- a datagram that came from this endpoint stands behind the others
+abbrev pub role_after_reception : Endpoint → List ℕ → Role → Role
+role_after_reception from octets role = on_datagrams (λ bound. bound) (λ socket. with_received socket from octets) role
+
+-- The segment that is due goes out, and an abort is over once its reset has gone out; or the part of a datagram that is due does (RFC 791
+-- section 3.2).
 abbrev pub role_after_emission : Moment → Role → Role
-role_after_emission now role = on_connection (λ c. after_first c (first_due c) now) role
+role_after_emission now (Connected c listener) = Connected (after_first c (first_due c) now) listener
+role_after_emission now (Datagrams bound socket) = Datagrams bound (datagrams_out.after_part socket)
+role_after_emission now (Listener local backlog) = Listener local backlog
+role_after_emission now (Idle buffers bound) = Idle buffers bound
 
 abbrev pub emission_fate_of : Role → Fate
 emission_fate_of role = in_connection Stays (λ c. if is_over c then Removed else Stays) role
 
--- its length in octets
-abbrev pub due_len : Role → Option ℕ
-due_len role = in_connection None (λ c. option_map (emitted_len c) (first_due c)) role
+-- what is told of it: a segment's length in octets, or what the header of IPv4 says of a part
+abbrev pub due_emitted : Role → Option Emitted
+due_emitted (Connected c listener) = option_map (λ due. emitted.Segment (emitted_len c due)) (first_due c)
+due_emitted (Datagrams bound socket) = option_map (λ part. emitted.Datagram part) (datagrams_out.due_part socket)
+due_emitted (Listener local backlog) = None
+due_emitted (Idle buffers bound) = None
 
--- its octets
-abbrev pub due_octets : Role → List ℕ
-due_octets role = in_connection [] (λ c. of_due c (first_due c)) role
-  where
-    of_due : View → Option Due → List ℕ
-    of_due c None = []
-    of_due c (Some due) = segment_octets c due
+-- how many octets it has
+abbrev pub len_of : Emitted → ℕ
+len_of (emitted.Segment len) = len
+len_of (emitted.Datagram part) = part.fragment.len
 
--- its octets stand at the front of what was there
-abbrev pub due_front : Role → List ℕ → List ℕ
-due_front role out = in_connection out (λ c. of_due c (first_due c)) role
+-- the endpoint that datagrams of a socket come from: our address, and the port that it is bound to
+abbrev pub source_of : Addr → Option Endpoint → Endpoint
+source_of own (Some local) = record { addr = own; port = local.port }
+source_of own None = record { addr = own; port = 0 }
+
+-- the octets that go out, from our address
+abbrev pub due_octets : Addr → Role → List ℕ
+due_octets own (Connected c listener) = of_due (first_due c)
   where
-    of_due : View → Option Due → List ℕ
-    of_due c None = out
-    of_due c (Some due) = segment_octets c due ++ drop (emitted_len c due) out
+    of_due : Option Due → List ℕ
+    of_due None = []
+    of_due (Some due) = segment_octets c due
+due_octets own (Datagrams bound socket) = datagrams_out.due_octets (source_of own bound) socket
+due_octets own (Listener local backlog) = []
+due_octets own (Idle buffers bound) = []
+
+-- they stand at the front of what was there
+abbrev pub due_front : Addr → Role → List ℕ → List ℕ
+due_front own role out = of_due (due_emitted role)
+  where
+    of_due : Option Emitted → List ℕ
+    of_due None = out
+    of_due (Some e) = due_octets own role ++ drop (len_of e) out
 
 -- the entry with its role changed
 abbrev pub with_role : (Role → Role) → Entry → Entry

@@ -6,6 +6,7 @@ pub mod Ticks
 pub mod Lost
 pub mod Ports
 pub mod Calls
+pub mod Datagrams
 pub mod Arrival
 pub mod Pairs
 pub mod Unreachable
@@ -13,4 +14,5 @@ pub mod Emission
 pub mod Sound
 pub mod Causes
 pub mod Order
+pub mod Traffic
 pub mod Names

@@ -1,12 +1,16 @@
--- Resets of aborts that are given up, since they can't go out. How long they wait is this stack's own.
-use Rattle.std.specs.Prelude.{Bool, false, not, ◌&&◌, filter, Option, Some, None}
+-- What is given up since it can't go out: resets of aborts, and datagrams. How long they wait is this stack's own.
+use Rattle.std.specs.Prelude.{Bool, false, ◌&&◌, if◌then◌else◌, Option, Some, None}
 use Rattle.ipv4.specs.declared.addr.Addr.{Addr}
 use Rattle.ipv4.specs.declared.addr.Endpoint.{Endpoint}
 use Rattle.clock.specs.declared.moment.Moment.{Moment}
 use Rattle.clock.specs.Moments.{after, has_come}
+use Rattle.tcp_state.specs.declared.connection.Fate.{Fate}
+use Rattle.tcp_state.specs.declared.connection.Fate.TheVariants.{Stays, Removed}
+use Rattle.udp_socket.specs.Waits as datagrams
 use Rattle.sockets.specs.declared.role.Role.{Role}
+use Rattle.sockets.specs.declared.role.Role.TheVariants.{Idle, Listener, Connected, Datagrams}
 use Rattle.sockets.specs.declared.role.TheConstants.{RESET_WAIT}
-use Rattle.sockets.specs.Entries.{reset_wait}
+use Rattle.sockets.specs.Entries.{reset_wait, entries_after_steps}
 use Rattle.sockets.specs.SocketsView.{SocketsView, later_moment}
 
 -- a reset that is owed to a peer at a lost address is given up once it has waited for 3,000 milliseconds
@@ -17,6 +21,28 @@ is_given_up lost now role = of_wait (reset_wait role)
     of_wait None = false
     of_wait (Some (peer, since)) = has_come (Some (after since RESET_WAIT)) now && lost peer.addr
 
--- with it its connection is taken out; the others stay in order
+-- with it its connection is taken out
+abbrev pub give_up_fate_of : (Addr → Bool) → Moment → Role → Fate
+give_up_fate_of lost now role = if is_given_up lost now role then Removed else Stays
+
+-- a UDP socket gives up each datagram to a lost address that has waited as long
+abbrev pub role_after_giving_up : (Addr → Bool) → Moment → Role → Role
+role_after_giving_up lost now (Datagrams bound socket) = Datagrams bound (datagrams.after_giving_up socket lost now)
+role_after_giving_up lost now (Connected c listener) = Connected c listener
+role_after_giving_up lost now (Listener local backlog) = Listener local backlog
+role_after_giving_up lost now (Idle buffers bound) = Idle buffers bound
+
+-- all else stays, in order
 abbrev pub after_giving_up : SocketsView → (Addr → Bool) → Moment → SocketsView
-after_giving_up h lost now = record h { entries = filter (λ e. not (is_given_up lost (later_moment h now) e.role)) h.entries }
+after_giving_up h lost now = record h { entries = entries_after_steps (give_up_fate_of lost (later_moment h now)) (role_after_giving_up lost (later_moment h now)) h.entries }
+
+-- the moment from which something of an entry is given up: None where all that waits is for addresses that are not lost
+abbrev pub give_up_at : (Addr → Bool) → Role → Option Moment
+give_up_at lost (Connected c listener) = of_wait (reset_wait (Connected c listener))
+  where
+    of_wait : Option (Endpoint × Moment) → Option Moment
+    of_wait None = None
+    of_wait (Some (peer, since)) = if lost peer.addr then Some (after since RESET_WAIT) else None
+give_up_at lost (Datagrams bound socket) = datagrams.deadline lost socket
+give_up_at lost (Listener local backlog) = None
+give_up_at lost (Idle buffers bound) = None

@@ -9,13 +9,14 @@ use Rattle.sockets.specs.declared.role.Role.{Role}
 use Rattle.sockets.specs.Lists.{change_first}
 use Rattle.sockets.specs.Entries.{is_socket, is_of_pair, with_role}
 
--- its address, the kept moment, the dynamic port given last (65,535 before the first), the id given last (0 before the first),
--- and its entries in order of id
+-- its address, the kept moment, the dynamic port given last (65,535 before the first), the id given last (0 before the first), the
+-- identification of the next datagram (RFC 791 section 3.2), and its entries in order of id
 pub record SocketsView : Type 0 where
   pub addr : Addr
   pub kept : Moment
   pub last_port : ℕ
   pub last_id : ℕ
+  pub identification : ℕ
   pub entries : List Entry
 
 -- what the socket that the id names is
@@ -37,6 +38,7 @@ new_sockets addr = record {
   kept = record { 0 = 0 };
   last_port = 65535;
   last_id = 0;
+  identification = 0;
   entries = [];
 }
 

@@ -5,7 +5,7 @@ use Rattle.ipv4.specs.declared.addr.Endpoint.{Endpoint}
 use Rattle.tcp_state.specs.View.{View, IsSound, is_over}
 use Rattle.sockets.specs.declared.entry.Entry.{Entry}
 use Rattle.sockets.specs.declared.role.Role.{Role}
-use Rattle.sockets.specs.declared.role.Role.TheVariants.{Idle, Listener, Connected}
+use Rattle.sockets.specs.declared.role.Role.TheVariants.{Idle, Listener, Connected, Datagrams}
 use Rattle.sockets.specs.Entries.{in_connection}
 use Rattle.sockets.specs.SocketsView.{SocketsView}
 
@@ -24,6 +24,7 @@ abbrev pub IsSoundRole : Role → Type 0
 IsSoundRole (Connected c listener) = IsSoundConnection c
 IsSoundRole (Listener local backlog) = Unit {0}
 IsSoundRole (Idle buffers bound) = Unit {0}
+IsSoundRole (Datagrams bound socket) = Unit {0}
 
 pub record IsSoundTable (h : SocketsView) : Type 0 where
   pub entries : AllByRecursion (λ (e : Entry). IsSoundRole e.role) h.entries

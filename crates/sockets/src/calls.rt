@@ -4,17 +4,20 @@ ghost use Rattle.std.specs.Prelude.{◌≡◌, ◌^◌, ◌<◌, ◌≤◌, ◌�
 ghost use Rattle.tcp_state.specs.declared.buffers.Buffers.{Buffers};
 ghost use Rattle.std.specs.Result.{result_err};
 ghost use Rattle.std.specs.Option.{ok_or};
-ghost use Rattle.sockets.specs.Calls.{open_answer};
+ghost use Rattle.sockets.specs.Calls.{open_answer, IsNewSocket};
 
 use crate::entry::{Entry, Kind, SocketId};
 use crate::refusal::Refusal;
 use crate::role::Role;
 use crate::sockets::Sockets;
+use crate::state::SocketState;
 use crate::{ports, table};
 use clock::Moment;
 use ipv4::{Addr, Endpoint, Pair};
+use std::alloc::Global;
 use tcp_segment::Seq;
 use tcp_state::{Buffers, Received, State};
+use udp_socket::UdpSocket;
 
 /// The address that stands for every address of ours.
 const ANY: Addr = Addr([0; 4]);
@@ -26,34 +29,31 @@ const BACKLOG: usize = 1;
 impl Sockets {
     ghost use Rattle.sockets.specs.SocketsView.{SocketsView, later_moment};
     ghost use Rattle.sockets.specs.Entries.{is_socket};
-    ghost use Rattle.sockets.specs.Calls.{bind_refusal, after_bind, listen_refusal, after_listen, state_answer, after_socket, is_table_full, accept_answer, after_accept, send_answer, after_send, recv_answer, recv_front, after_recv, connect_refusal, after_connect, reach_refusal, port_for, last_port_after, pair_connected, shutdown_refusal, after_shutdown};
+    ghost use Rattle.sockets.specs.Calls.{bind_refusal, after_bind, listen_refusal, after_listen, state_answer, is_table_full, IsMade, accept_answer, after_accept, send_answer, after_send, recv_answer, recv_front, after_recv, connect_refusal, after_connect, reach_refusal, port_for, last_port_after, pair_connected, shutdown_refusal, after_shutdown};
 
-    /// Makes a socket, with the room for one connection. EMFILE where the table is full or the last id is given, ENOMEM.
+    /// Makes a socket, with the room for one connection, or with the two queues of a UDP socket. EMFILE where the table is full or the last id is given, ENOMEM.
     pub fn socket(&mut self, kind: Kind) -> Result<SocketId, Refusal>
         ensures full { (result ≡ Err Refusal.EMFILE) ↔ IsTrue (is_table_full self.old) }
         ensures other { IfErr result (λ e. (e ≡ Refusal.EMFILE) ⊎ (e ≡ Refusal.ENOMEM)) }
-        ensures ok { IfOk result (λ id. (id.0 ≡ self.old.last_id + 1) × ((buffers : Buffers) × (self.new ≡ after_socket self.old buffers))) }
+        ensures ok { IfOk result (λ id. (id.0 ≡ self.old.last_id + 1) × IsMade kind self.old self.new) }
         ensures err { OnErr result (self.new ≡ self.old) }
     {
-        let Kind::Tcp = kind;
         if self.entries.is_full() {
             return Err(Refusal::EMFILE);
         }
         let Some(id) = self.last_id.checked_add(1) else {
             return Err(Refusal::EMFILE);
         };
-        let Ok(buffers) = Buffers::new(self.alloc) else {
-            return Err(Refusal::ENOMEM);
-        };
+        let entry = new_socket(self.alloc, kind, SocketId(id))?;
         self.last_id = id;
-        self.entries.push(Entry::socket(SocketId(id), buffers));
+        self.entries.push(entry);
         Ok(SocketId(id))
     }
 
     /// Binds a socket to a local endpoint, at our address or 0.0.0.0, which stands for it.
     ///
     /// EBADF; EINVAL where it is bound already or has had a connection, or the port is 0; EADDRNOTAVAIL at another
-    /// address; EADDRINUSE where an entry has the port.
+    /// address; EADDRINUSE where an entry of its kind has the port.
     pub fn bind(&mut self, id: SocketId, local: Endpoint) -> Result<(), Refusal>
         ensures refused { result_err result ≡ bind_refusal self.old id local }
         ensures ok { OnOk result (self.new ≡ after_bind self.old id local) }
@@ -70,8 +70,12 @@ impl Sockets {
         ensures place { IfOk result (λ place. position (is_socket id) self.now.entries ≡ Some place) }
     {
         let place = self.socket_place(id)?;
-        let Role::Idle { bound: None, .. } = &self.entries[place].role else {
-            return Err(Refusal::EINVAL);
+        let is_taken = match &self.entries[place].role {
+            Role::Idle { bound: None, .. } => table::is_port_taken(&self.entries, local.port),
+            Role::Datagrams { bound: None, .. } => {
+                table::is_datagram_port_taken(&self.entries, local.port)
+            }
+            _ => return Err(Refusal::EINVAL),
         };
         if local.port == 0 {
             return Err(Refusal::EINVAL);
@@ -79,7 +83,7 @@ impl Sockets {
         if local.addr != self.addr && local.addr != ANY {
             return Err(Refusal::EADDRNOTAVAIL);
         }
-        if table::is_port_taken(&self.entries, local.port) {
+        if is_taken {
             return Err(Refusal::EADDRINUSE);
         }
         Ok(place)
@@ -87,7 +91,7 @@ impl Sockets {
 
     /// Lets a bound socket take connections, of which `backlog` may wait to be accepted.
     ///
-    /// EBADF; EINVAL where the backlog is not 1, or the socket listens already or has had a connection; EDESTADDRREQ
+    /// EBADF; EOPNOTSUPP of a UDP socket; EINVAL where the backlog is not 1, or the socket listens already or has had a connection; EDESTADDRREQ
     /// where it is not bound.
     pub fn listen(&mut self, id: SocketId, backlog: usize) -> Result<(), Refusal>
         ensures refused { result_err result ≡ listen_refusal self.old id backlog }
@@ -105,11 +109,9 @@ impl Sockets {
         ensures place { IfOk result (λ place. position (is_socket id) self.now.entries ≡ Some place) }
     {
         let place = self.socket_place(id)?;
-        let role = &self.entries[place].role;
-        if backlog != BACKLOG {
-            return Err(Refusal::EINVAL);
-        }
-        match role {
+        match &self.entries[place].role {
+            Role::Datagrams { .. } => Err(Refusal::EOPNOTSUPP),
+            _ if backlog != BACKLOG => Err(Refusal::EINVAL),
             Role::Idle { bound: Some(_), .. } => Ok(place),
             Role::Idle { bound: None, .. } => Err(Refusal::EDESTADDRREQ),
             _ => Err(Refusal::EINVAL),
@@ -118,16 +120,18 @@ impl Sockets {
 
     /// Takes the connection that first passed SYN-RECEIVED of those that wait at a listener: its id from now on, and its peer.
     ///
-    /// EBADF; EINVAL where the socket does not listen; EAGAIN where no connection waits.
+    /// EBADF; EOPNOTSUPP of a UDP socket; EINVAL where the socket does not listen; EAGAIN where no connection waits.
     pub fn accept(&mut self, id: SocketId) -> Result<(SocketId, Endpoint), Refusal>
         ensures answer { result ≡ accept_answer self.old id }
         ensures ok { OnOk result (self.new ≡ after_accept self.old id) }
         ensures err { OnErr result (self.new ≡ self.old) }
     {
         let listener = self.socket_place(id)?;
-        let Role::Listener { .. } = &self.entries[listener].role else {
-            return Err(Refusal::EINVAL);
-        };
+        match &self.entries[listener].role {
+            Role::Listener { .. } => {}
+            Role::Datagrams { .. } => return Err(Refusal::EOPNOTSUPP),
+            _ => return Err(Refusal::EINVAL),
+        }
         let place = table::next_accepted(&self.entries, id).ok_or(Refusal::EAGAIN)?;
         let entry = &mut self.entries[place];
         let peer = entry.role.offered_peer(id).ok_or(Refusal::EAGAIN)?;
@@ -137,7 +141,7 @@ impl Sockets {
 
     /// Opens a connection to `peer`, whose initial sequence number here is `isn` (RFC 9293 section 3.10.1).
     ///
-    /// EBADF; EOPNOTSUPP where the socket listens; the error that its connection is told; EALREADY while it opens a connection; EISCONN where it has had
+    /// EBADF; EOPNOTSUPP of a UDP socket and where the socket listens; the error that its connection is told; EALREADY while it opens a connection; EISCONN where it has had
     /// one; EADDRNOTAVAIL for port 0, no single host or our own address; ENETUNREACH where no route leads to the peer, which `is_routed`
     /// says; EADDRINUSE where the pair is held or no dynamic port is free.
     pub fn connect(
@@ -175,8 +179,8 @@ impl Sockets {
         Some(Pair::new(Endpoint { addr, port }, peer))
     }
 
-    /// Whether this is a peer that a connection may have, and a route leads to it, which `is_routed` says.
-    fn may_reach(&self, peer: Endpoint, is_routed: bool) -> Result<(), Refusal>
+    /// Whether this is a peer that a connection or a datagram may have, and a route leads to it, which `is_routed` says.
+    pub(crate) fn may_reach(&self, peer: Endpoint, is_routed: bool) -> Result<(), Refusal>
         ensures { result_err result ≡ reach_refusal self.now peer is_routed }
     {
         if peer.port == 0 || !peer.addr.is_single_host() || peer.addr == self.addr {
@@ -207,8 +211,8 @@ impl Sockets {
         }
     }
 
-    /// The dynamic port given last, once a connection has this port: that of a bound socket does not count.
-    fn last_port_after(&self, bound: Option<Endpoint>, port: u16) -> u16
+    /// The dynamic port given last, once a socket has this port: that of a bound socket does not count.
+    pub(crate) fn last_port_after(&self, bound: Option<Endpoint>, port: u16) -> u16
         requires { bound ≡ None → 49152 ≤ port }
         ensures value { result ≡ last_port_after self.now bound port }
         ensures dynamic { 49152 ≤ result }
@@ -221,7 +225,7 @@ impl Sockets {
 
     /// Gives octets to a connection (RFC 9293 section 3.10.2), and answers how many it took: the first that find room.
     ///
-    /// EBADF; EOPNOTSUPP where the socket listens; ENOTCONN where it has no connection; the error that its connection is told; EAGAIN
+    /// EBADF; EDESTADDRREQ of a UDP socket; EOPNOTSUPP where the socket listens; ENOTCONN where it has no connection; the error that its connection is told; EAGAIN
     /// while the connection is opened; EPIPE once our side is closed; EAGAIN where octets are given and there is no room.
     pub fn send(&mut self, id: SocketId, octets: &[u8]) -> Result<usize, Refusal>
         ensures answer { result ≡ send_answer self.old id octets.now }
@@ -236,7 +240,7 @@ impl Sockets {
     /// is told where nothing is readable and the peer's FIN has come behind all its octets, and where the connection is CLOSED and told no
     /// error.
     ///
-    /// EBADF; EOPNOTSUPP where the socket listens; EINVAL for an empty buffer; ENOTCONN where it has no connection; the error that its
+    /// EBADF; EOPNOTSUPP of a UDP socket and where the socket listens; EINVAL for an empty buffer; ENOTCONN where it has no connection; the error that its
     /// connection is told; EAGAIN while the connection is opened, or where nothing is readable before the end.
     pub fn recv(&mut self, id: SocketId, buffer: &mut [u8]) -> Result<Received, Refusal>
         ensures answer { result ≡ recv_answer self.old id (length buffer.old) }
@@ -250,7 +254,7 @@ impl Sockets {
 
     /// Closes our side of a connection (RFC 9293 section 3.10.4): a FIN follows the octets that were given. Closed again, it stays so.
     ///
-    /// EBADF; EOPNOTSUPP where the socket listens; the error that its connection is told; ENOTCONN where it has no connection or is opening
+    /// EBADF; EOPNOTSUPP of a UDP socket and where the socket listens; the error that its connection is told; ENOTCONN where it has no connection or is opening
     /// one.
     pub fn shutdown_write(&mut self, id: SocketId) -> Result<(), Refusal>
         ensures refused { result_err result ≡ shutdown_refusal self.old id }
@@ -270,7 +274,7 @@ impl Sockets {
         let place = self.socket_place(id)?;
         match &self.entries[place].role {
             Role::Idle { .. } => Err(Refusal::ENOTCONN),
-            Role::Listener { .. } => Err(Refusal::EOPNOTSUPP),
+            Role::Listener { .. } | Role::Datagrams { .. } => Err(Refusal::EOPNOTSUPP),
             Role::Connected { connection, .. } => match connection.error() {
                 Some(error) => Err(Refusal::from(error)),
                 None if connection.state().is_opening() => Err(Refusal::ENOTCONN),
@@ -279,8 +283,8 @@ impl Sockets {
         }
     }
 
-    /// The state of a socket (RFC 9293 section 3.3.2); CLOSED where it has had no connection. EBADF.
-    pub fn state(&self, id: SocketId) -> Result<State, Refusal>
+    /// The state of a socket (RFC 9293 section 3.3.2), CLOSED where it has had no connection, or that it is a UDP socket. EBADF.
+    pub fn state(&self, id: SocketId) -> Result<SocketState, Refusal>
         ensures { result ≡ state_answer self.now id }
     {
         let place = self.socket_place(id)?;
@@ -302,11 +306,28 @@ fn may_open(role: &Role) -> Result<Option<Endpoint>, Refusal>
 {
     match role {
         Role::Idle { bound, .. } => Ok(*bound),
-        Role::Listener { .. } => Err(Refusal::EOPNOTSUPP),
+        Role::Listener { .. } | Role::Datagrams { .. } => Err(Refusal::EOPNOTSUPP),
         Role::Connected { connection, .. } => match (connection.error(), connection.state()) {
             (Some(error), _) => Err(Refusal::from(error)),
             (None, State::SynSent | State::SynReceived) => Err(Refusal::EALREADY),
             (None, _) => Err(Refusal::EISCONN),
+        },
+    }
+}
+
+/// An entry with a new socket of this kind. ENOMEM.
+fn new_socket(alloc: Global, kind: Kind, id: SocketId) -> Result<Entry, Refusal>
+    ensures ok { IfOk result (λ entry. IsNewSocket kind id entry) }
+    ensures err { IfErr result (λ e. e ≡ Refusal.ENOMEM) }
+{
+    match kind {
+        Kind::Tcp => match Buffers::new(alloc) {
+            Ok(buffers) => Ok(Entry::socket(id, buffers)),
+            Err(_) => Err(Refusal::ENOMEM),
+        },
+        Kind::Udp => match UdpSocket::new(alloc) {
+            Ok(socket) => Ok(Entry::datagrams(id, socket)),
+            Err(_) => Err(Refusal::ENOMEM),
         },
     }
 }

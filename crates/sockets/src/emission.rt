@@ -1,6 +1,7 @@
-//! What the table sends (RFC 9293 section 3.8).
+//! What the table sends: segments (RFC 9293 section 3.8), and datagrams in parts (RFC 791 section 3.2).
 
 ghost use Rattle.std.specs.Prelude.{◌≡◌, ◌≤◌, length, Bool, Some, position};
+ghost use Rattle.sockets.specs.Emission.{IsWithin};
 ghost use Rattle.sockets.specs.declared.entry.Entry.{Entry};
 ghost use Rattle.sockets.specs.Entries.{sends, IsDueAt};
 
@@ -8,26 +9,38 @@ use crate::sockets::Sockets;
 use crate::table;
 use clock::Moment;
 use tcp_state::MOST_SEGMENT;
+use udp::{MOST_IN_FRAGMENT, Part};
+
+/// What was written of an entry.
+#[derive(Clone, Copy, PartialEq, Eq, Debug)]
+pub enum Emitted {
+    /// A segment of this length in octets.
+    Segment(usize),
+    /// A part of a datagram: what the header of IPv4 has to tell of it.
+    Datagram(Part),
+}
 
 #[tactic(auto, using(crate::proofs::Firsts::firsts))]
 impl Sockets {
-    ghost use Rattle.sockets.specs.Emission.{segment_len, segment_front, after_segment_sent};
+    ghost use Rattle.sockets.specs.Emission.{emitted, emitted_front, after_segment_sent};
 
-    /// Writes the segment of the entry in this place, which has one due, from `out[0]` on, and answers its length in octets. The entry
-    /// is taken out where it is over then. Whatever the test by which it is the first that may send, this is the emission by that test.
-    pub fn emit_at(&mut self, place: usize, now: Moment, out: &mut [u8]) -> usize
+    /// Writes what the entry in this place has due, a segment or a part of a datagram, from `out[0]` on, and answers what was written. The
+    /// entry is taken out where it is over then. Whatever the test by which it is the first that may send, this is the emission by that test.
+    pub fn emit_at(&mut self, place: usize, now: Moment, out: &mut [u8]) -> Emitted
         requires due { IsDueAt self.old.entries place }
-        requires room { MOST_SEGMENT ≤ length out.old }
-        ensures len { (goes : Entry → Bool) → position (sends goes) self.old.entries ≡ Some place → Some result ≡ segment_len self.old goes }
-        ensures bound { result ≤ MOST_SEGMENT }
+        requires segment { MOST_SEGMENT ≤ length out.old }
+        requires part { MOST_IN_FRAGMENT ≤ length out.old }
+        ensures what { (goes : Entry → Bool) → position (sends goes) self.old.entries ≡ Some place → Some result ≡ emitted self.old goes }
+        ensures bound { IsWithin result }
         ensures after { (goes : Entry → Bool) → position (sends goes) self.old.entries ≡ Some place → self.new ≡ after_segment_sent self.old goes now }
-        ensures frame { (goes : Entry → Bool) → position (sends goes) self.old.entries ≡ Some place → out.new ≡ segment_front self.old goes out.old }
+        ensures frame { (goes : Entry → Bool) → position (sends goes) self.old.entries ≡ Some place → out.new ≡ emitted_front self.old goes out.old }
     {
         let now = self.later_moment(now);
+        let own = self.addr;
         let entry = &mut self.entries[place];
-        let len = entry.emit(now, out);
+        let emitted = entry.emit(own, now, out);
         let fate = entry.role.emission_fate_of();
         table::settle(&mut self.entries, place, fate);
-        len
+        emitted
     }
 }

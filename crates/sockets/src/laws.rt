@@ -1,7 +1,8 @@
 //! Laws over the definitions alone: functions with nothing to do, whose contracts are the laws.
 
-ghost use Rattle.std.specs.Prelude.{◌≡◌, ℕ, ◌+◌, ◌≤◌, Bool, true, false, not, [], length, Option, Some, None, is_some};
+ghost use Rattle.std.specs.Prelude.{◌≡◌, ℕ, ◌+◌, ◌%◌, ◌^◌, ◌≤◌, ◌<◌, Bool, true, false, not, List, [], length, Option, Some, None, is_some, is_ok, option_map};
 ghost use Rattle.ipv4.specs.declared.addr.Addr.{Addr};
+ghost use Rattle.udp_socket.specs.SocketView.{SocketView, with_sent};
 ghost use Rattle.ipv4.specs.declared.addr.Endpoint.{Endpoint};
 ghost use Rattle.ipv4.specs.declared.addr.Pair.{Pair};
 ghost use Rattle.ipv4.specs.Addresses.{pair_of, same_addr};
@@ -13,14 +14,17 @@ ghost use Rattle.clock.specs.Moments.{has_come};
 ghost use Rattle.sockets.specs.declared.entry.SocketId.{SocketId};
 ghost use Rattle.sockets.specs.SocketsView.{SocketsView, holder_id, new_sockets, later_moment, role_of};
 ghost use Rattle.sockets.specs.Ticks.{after_tick, least_deadline, IsLeastDeadline, HasNoDeadline};
-ghost use Rattle.sockets.specs.Lost.{after_giving_up};
+ghost use Rattle.sockets.specs.Lost.{role_after_giving_up, after_giving_up};
 ghost use Rattle.sockets.specs.Arrival.{Opens, Answers, local_end, peer_end, arrival, opened_by, pair_opened};
+ghost use Rattle.sockets.specs.declared.role.Role.TheVariants.{Datagrams};
+ghost use Rattle.sockets.specs.Datagrams.{sendto_answer, after_sendto, sending_end};
 ghost use Rattle.sockets.specs.Calls.{connect_refusal, after_connect, pair_connected};
 ghost use Rattle.sockets.specs.Pairs.{socket_pair};
 ghost use Rattle.sockets.specs.Sound.{IsSoundTable, NoneIsOver};
 ghost use Rattle.sockets.specs.Ports.{first_port, IsDynamic, IsFirstBehind};
 ghost use Rattle.sockets.specs.Order.{IsOrdered, IsAllowed};
 ghost use Rattle.sockets.specs.Causes.{Event, after_event, IsAdded, IsStep, Follows};
+ghost use Rattle.sockets.specs.Traffic.{streams, is_of_datagrams, after_events, datagrams_taken_in};
 
 /// What `would_open` foresees of a segment is the pair that it leads to the opening of, whatever the moment and the initial number.
 /// Where a segment that doesn't come from our own address opens one, the new connection, of the next id, holds that pair.
@@ -57,9 +61,9 @@ pub fn nothing_over_stays()
     ensures { (h : SocketsView) (e : Event) → NoneIsOver h → NoneIsOver (after_event h e) }
 {}
 
-/// No socket is given up with the resets that can't go out: each id names what it named.
+/// No socket is given up with the resets that can't go out: each id names what it named, a UDP socket without the datagrams that it gives up.
 pub fn sockets_are_not_given_up()
-    ensures { (h : SocketsView) (lost : Addr → Bool) (now : Moment) (id : SocketId) → IsSoundTable h → role_of (after_giving_up h lost now) id ≡ role_of h id }
+    ensures { (h : SocketsView) (lost : Addr → Bool) (now : Moment) (id : SocketId) → IsSoundTable h → role_of (after_giving_up h lost now) id ≡ option_map (role_after_giving_up lost (later_moment h now)) (role_of h id) }
 {}
 
 /// Of the dynamic ports (RFC 6335 section 6: 49152 to 65535) the first one that passes is given, in the turn that begins behind the last one
@@ -82,10 +86,25 @@ pub fn ticks_wait()
 {}
 
 /// The table stays in order, from the first on, whatever happens but a call that is refused and a segment from our own address: ids ascend, no two connections but CLOSED
-/// ones have the same two ends (RFC 9293 section 3.4.1), and no two sockets without a connection have the same port.
+/// ones have the same two ends (RFC 9293 section 3.4.1), no two TCP sockets without a connection have the same port, and no
+/// two UDP sockets.
 /// The id given last never goes back, so none is given twice.
 pub fn tables_stay_ordered()
     ensures fresh { (addr : Addr) → IsOrdered (new_sockets addr) }
     ensures kept { (h : SocketsView) (e : Event) → IsAllowed h e → IsOrdered h → IsOrdered (after_event h e) }
     ensures numbered { (h : SocketsView) (e : Event) → let after = after_event h e in h.last_id ≤ after.last_id }
+{}
+
+/// No datagram moves a connection: where a UDP socket is made, where a datagram is given to be sent, is read or comes, every TCP socket and
+/// every connection stays as it was, in order.
+pub fn datagrams_move_no_connection()
+    ensures { (h : SocketsView) (e : Event) → is_of_datagrams e ≡ true → streams (after_event h e) ≡ streams h }
+{}
+
+/// The identifications of datagrams are drawn in turn, modulo 2^16 (RFC 791 section 3.2): a datagram that a socket takes stands behind the
+/// others that it sends, with the table's identification, and whatever happens, that one counts the datagrams that were taken.
+pub fn identifications_are_drawn_in_turn()
+    ensures taken { (h : SocketsView) (id : SocketId) (peer : Endpoint) (octets : List ℕ) (routed : Bool) (bound : Option Endpoint) (socket : SocketView) → role_of h id ≡ Some (Datagrams bound socket)
+        → is_ok (sendto_answer h id peer octets routed) ≡ true → role_of (after_sendto h id peer octets routed) id ≡ Some (Datagrams (sending_end h bound) (with_sent socket h.kept peer h.identification octets)) }
+    ensures counted { (h : SocketsView) (events : List Event) → h.identification < 2 ^ 16 → let after = after_events h events in after.identification ≡ (h.identification + datagrams_taken_in h events) % 2 ^ 16 }
 {}

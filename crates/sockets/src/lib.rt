@@ -1,10 +1,11 @@
-//! The table of sockets and connections over one address. A segment comes to it parsed, with the address that it came from, and goes out as its
-//! octets; the layer above says to whom a route leads and what may go out, and keeps what answers a segment.
+//! The table of sockets and connections over one address. A segment or a datagram comes to it parsed, with the address that it came from, and
+//! goes out as its octets; the layer above says to whom a route leads and what may go out, and keeps what answers a segment.
 #![tactic(auto)]
 
 mod arrival;
 mod calls;
 mod closing;
+mod datagrams;
 mod emission;
 mod entry;
 pub mod laws;
@@ -13,12 +14,16 @@ mod refusal;
 mod replies;
 mod role;
 mod sockets;
+mod state;
 mod table;
 mod taken;
 mod unreachable;
 
+pub use datagrams::Reception;
+pub use emission::Emitted;
 pub use entry::{Entry, Kind, SocketId};
 pub use refusal::Refusal;
 pub use role::RESET_WAIT;
 pub use sockets::Sockets;
+pub use state::SocketState;
 pub use taken::Taken;

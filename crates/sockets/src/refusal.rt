@@ -28,15 +28,17 @@ pub enum Refusal {
     ECONNRESET,
     /// Our side of the connection is closed.
     EPIPE,
+    /// The datagram is longer than one can be.
+    EMSGSIZE,
     /// No route leads to the address.
     ENETUNREACH,
     /// The table is full, or the last id is given.
     EMFILE,
     /// Memory ran out.
     ENOMEM,
-    /// The socket is listening.
+    /// The socket is listening, or of the other kind.
     EOPNOTSUPP,
-    /// The socket is not bound.
+    /// The socket is not bound, or a UDP socket, which has no peer.
     EDESTADDRREQ,
 }
 
@@ -59,6 +61,7 @@ impl fmt::Display for Refusal {
             Refusal::ECONNREFUSED => "E9 ECONNREFUSED",
             Refusal::ECONNRESET => "E10 ECONNRESET",
             Refusal::EPIPE => "E12 EPIPE",
+            Refusal::EMSGSIZE => "E13 EMSGSIZE",
             Refusal::ENETUNREACH => "E14 ENETUNREACH",
             Refusal::EMFILE => "E15 EMFILE",
             Refusal::ENOMEM => "E16 ENOMEM",

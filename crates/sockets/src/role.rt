@@ -1,16 +1,21 @@
-//! What an entry of the table is: a socket without a connection, a listener, or a connection.
+//! What an entry of the table is: a TCP socket without a connection, a listener, a connection, or a UDP socket.
 
-ghost use Rattle.std.specs.Prelude.{◌≡◌, ◌≤◌, Bool, true, length, Some};
+ghost use Rattle.std.specs.Prelude.{◌≡◌, ◌≤◌, Bool, true, if◌then◌else◌, length, Some, OnOk, OnErr};
 ghost use Rattle.ipv4.specs.declared.addr.Addr.{Addr};
-ghost use Rattle.sockets.specs.Entries.{is_pending, is_left, has_socket, is_live_between, joins, uses_port, waits_at, offered_peer, shown_state, deadline_of, has_due, due_peer, reset_wait, backlog_of, listens_at, is_kept};
+ghost use Rattle.sockets.specs.Emission.{IsWithin};
+ghost use Rattle.sockets.specs.Entries.{is_pending, is_left, has_socket, is_live_between, joins, uses_port, uses_datagram_port, waits_at, offered_peer, shown_state, deadline_of, has_due, due_peer, reset_wait, backlog_of, listens_at, is_kept, source_of};
 
+use crate::emission::Emitted;
 use crate::entry::SocketId;
 use crate::refusal::Refusal;
+use crate::state::SocketState;
 use clock::Moment;
 use ipv4::{Addr, Endpoint, Pair};
 use std::mem;
 use tcp_segment::{Seq, TcpView};
 use tcp_state::{Buffers, Connection, Fate, MOST_SEGMENT, Received, State};
+use udp::MOST_IN_FRAGMENT;
+use udp_socket::{MOST_OCTETS, UdpSocket};
 
 /// How long the reset of an abort waits for a hop that isn't known before it is given up, in milliseconds. It is this stack's own.
 pub const RESET_WAIT: u64 = 3_000;
@@ -18,7 +23,7 @@ pub const RESET_WAIT: u64 = 3_000;
 /// What an entry is.
 #[derive(Drop)]
 pub(crate) enum Role {
-    /// A socket that has had no connection, with the room of one, bound or not.
+    /// A TCP socket that has had no connection, with the room of one, bound or not.
     Idle {
         buffers: Buffers,
         bound: Option<Endpoint>,
@@ -32,6 +37,11 @@ pub(crate) enum Role {
     Connected {
         connection: Connection,
         listener: Option<SocketId>,
+    },
+    /// A UDP socket, bound or not.
+    Datagrams {
+        bound: Option<Endpoint>,
+        socket: UdpSocket,
     },
 }
 
@@ -48,6 +58,16 @@ impl Default for Role {
     }
 }
 
+/// The endpoint that the datagrams of a socket come from: our address, and the port that it is bound to.
+fn source_of(own: Addr, bound: Option<Endpoint>) -> Endpoint
+    ensures { result ≡ source_of own bound }
+{
+    Endpoint {
+        addr: own,
+        port: bound.map_or(0, |local| local.port),
+    }
+}
+
 /// Whether an entry keeps its place.
 pub(crate) fn is_kept(fate: Fate) -> bool
     ensures { result ≡ is_kept fate }
@@ -58,7 +78,7 @@ pub(crate) fn is_kept(fate: Fate) -> bool
 /// What a role shows.
 impl Role {
     ghost use Rattle.sockets.specs.Pairs.{pair_in};
-    ghost use Rattle.sockets.specs.Lost.{is_given_up};
+    ghost use Rattle.sockets.specs.Lost.{is_given_up, give_up_at};
     ghost use Rattle.sockets.specs.Sound.{IsSoundRole};
 
     /// Whether this is a socket: a connection is none while it is not accepted, and once its caller closed it.
@@ -119,7 +139,7 @@ impl Role {
         }
     }
 
-    /// Whether this is the local port of a bound socket, a listener or a connection.
+    /// Whether this is the local port of a bound TCP socket, a listener or a connection.
     pub(crate) fn uses_port(&self, port: u16) -> bool
         ensures { result ≡ uses_port port self.now }
     {
@@ -131,6 +151,19 @@ impl Role {
             Role::Idle { bound: None, .. } => false,
             Role::Listener { local, .. } => local.port == port,
             Role::Connected { connection, .. } => connection.local().port == port,
+            Role::Datagrams { .. } => false,
+        }
+    }
+
+    /// Whether this is a UDP socket bound to the local port `port`.
+    pub(crate) fn uses_datagram_port(&self, port: u16) -> bool
+        ensures { result ≡ uses_datagram_port port self.now }
+    {
+        match self {
+            Role::Datagrams {
+                bound: Some(local), ..
+            } => local.port == port,
+            _ => false,
         }
     }
 
@@ -188,14 +221,15 @@ impl Role {
         }
     }
 
-    /// The state of RFC 9293 section 3.3.2 that the entry is in; CLOSED without a connection.
-    pub(crate) fn state(&self) -> State
+    /// The state that the entry shows: that of RFC 9293 section 3.3.2, CLOSED without a connection, or that it is a UDP socket.
+    pub(crate) fn state(&self) -> SocketState
         ensures { result ≡ shown_state self.now }
     {
         match self {
-            Role::Idle { .. } => State::Closed,
-            Role::Listener { .. } => State::Listen,
-            Role::Connected { connection, .. } => connection.state(),
+            Role::Idle { .. } => SocketState::Stream(State::Closed),
+            Role::Listener { .. } => SocketState::Stream(State::Listen),
+            Role::Connected { connection, .. } => SocketState::Stream(connection.state()),
+            Role::Datagrams { .. } => SocketState::Datagram,
         }
     }
 
@@ -209,7 +243,7 @@ impl Role {
         }
     }
 
-    /// To whom a segment is due.
+    /// To whom a segment is due, or the first datagram goes.
     pub(crate) fn due_peer(&self) -> Option<Endpoint>
         ensures { result ≡ due_peer self.now }
     {
@@ -217,12 +251,13 @@ impl Role {
             Role::Connected { connection, .. } if connection.due().is_some() => {
                 Some(connection.peer())
             }
+            Role::Datagrams { socket, .. } => socket.due_peer(),
             _ => None,
         }
     }
 
     /// To whom the reset of an abort is owed, and since when it waits to go out.
-    pub(crate) fn reset_wait(&self) -> Option<(Endpoint, Moment)>
+    fn reset_wait(&self) -> Option<(Endpoint, Moment)>
         ensures { result ≡ reset_wait self.now }
     {
         let Role::Connected { connection, .. } = self else {
@@ -233,13 +268,28 @@ impl Role {
     }
 
     /// Whether its reset is given up: it has waited for `RESET_WAIT`, and its peer's address is lost.
-    pub(crate) fn is_given_up<F: Fn(Addr) -> bool>(&self, now: Moment, lost: &F) -> bool
+    fn is_given_up<F: Fn(Addr) -> bool>(&self, now: Moment, lost: &F) -> bool
         requires { F.IsAlwaysCallable lost.now }
         ensures { (test : Addr → Bool) → ((addr : Addr) (answer : Bool) → F.post lost.now addr answer → answer ≡ test addr) → result ≡ is_given_up test now self.now }
     {
         match self.reset_wait() {
             Some((peer, since)) => since.after(RESET_WAIT) <= now && lost(peer.addr),
             None => false,
+        }
+    }
+
+    /// The moment from which something of it is given up: its reset, where its peer's address is lost, or one of its datagrams to a lost
+    /// address.
+    pub(crate) fn give_up_at<F: Fn(Addr) -> bool>(&self, lost: &F) -> Option<Moment>
+        requires { F.IsAlwaysCallable lost.now }
+        ensures { (test : Addr → Bool) → ((addr : Addr) (answer : Bool) → F.post lost.now addr answer → answer ≡ test addr) → result ≡ give_up_at test self.now }
+    {
+        if let Role::Datagrams { socket, .. } = self {
+            return socket.deadline(lost);
+        }
+        match self.reset_wait() {
+            Some((peer, since)) if lost(peer.addr) => Some(since.after(RESET_WAIT)),
+            _ => None,
         }
     }
 
@@ -257,15 +307,19 @@ impl Role {
 
 /// What the calls, a segment, an error, the clock and an emission make of a role. Each names the role that it is for, and leaves any other.
 impl Role {
-    ghost use Rattle.sockets.specs.Entries.{role_after_bind, role_after_listen, role_after_connect, role_after_accept, role_after_send, role_after_recv, role_after_shutdown, role_after_segment, fate_of, role_after_unreachable, unreachable_fate_of, role_after_tick, tick_fate_of, role_after_emission, emission_fate_of, due_len, due_front, role_after_close, close_fate_of, role_after_abort, abort_fate_of, role_after_listener_close, listener_close_fate_of};
+    ghost use Rattle.sockets.specs.Entries.{role_after_bind, role_after_listen, role_after_connect, role_after_accept, role_after_send, role_after_recv, role_after_shutdown, role_after_segment, fate_of, role_after_unreachable, unreachable_fate_of, role_after_tick, tick_fate_of, role_after_emission, emission_fate_of, due_emitted, due_front, has_room_to_send, role_after_sendto, role_after_recvfrom, has_room_to_receive, role_after_reception, role_after_close, close_fate_of, role_after_abort, abort_fate_of, role_after_listener_close, listener_close_fate_of};
     ghost use Rattle.sockets.specs.Calls.{role_send_answer, role_recv_answer, read_front};
+    ghost use Rattle.sockets.specs.Datagrams.{role_recvfrom_answer, datagram_front};
+    ghost use Rattle.sockets.specs.Lost.{give_up_fate_of, role_after_giving_up};
 
-    /// Binds an idle socket to `local`.
+    /// Binds a socket without a connection to `to`.
     pub(crate) fn bind(&mut self, to: Endpoint)
         ensures { self.new ≡ role_after_bind to self.old }
     {
-        if let Role::Idle { bound, .. } = self {
-            *bound = Some(to);
+        match self {
+            Role::Idle { bound, .. } => *bound = Some(to),
+            Role::Datagrams { bound, .. } => *bound = Some(to),
+            _ => {}
         }
     }
 
@@ -313,6 +367,7 @@ impl Role {
         match self {
             Role::Idle { .. } => Err(Refusal::ENOTCONN),
             Role::Listener { .. } => Err(Refusal::EOPNOTSUPP),
+            Role::Datagrams { .. } => Err(Refusal::EDESTADDRREQ),
             Role::Connected { connection, .. } => match connection.send(octets) {
                 Ok(taken) => Ok(taken),
                 Err(refusal) => Err(Refusal::from(refusal)),
@@ -327,7 +382,7 @@ impl Role {
         ensures octets { buffer.new ≡ read_front self.old buffer.old }
     {
         match self {
-            Role::Listener { .. } => Err(Refusal::EOPNOTSUPP),
+            Role::Listener { .. } | Role::Datagrams { .. } => Err(Refusal::EOPNOTSUPP),
             _ if buffer.is_empty() => Err(Refusal::EINVAL),
             Role::Idle { .. } => Err(Refusal::ENOTCONN),
             Role::Connected { connection, .. } => match connection.recv(buffer) {
@@ -343,6 +398,56 @@ impl Role {
     {
         if let Role::Connected { connection, .. } = self {
             let _ = connection.shutdown();
+        }
+    }
+
+    /// Takes a datagram to be sent from `local`, where the UDP socket is bound then, and answers whether it did: not where it has no room.
+    pub(crate) fn send_to(
+        &mut self,
+        now: Moment,
+        local: Endpoint,
+        peer: Endpoint,
+        identification: u16,
+        octets: &[u8],
+    ) -> bool
+        requires { length octets.now ≤ MOST_OCTETS }
+        ensures room { result ≡ has_room_to_send (length octets.now) self.old }
+        ensures after { self.new ≡ (if result then role_after_sendto local now peer identification octets.now self.old else self.old) }
+    {
+        let Role::Datagrams { bound, socket } = self else {
+            return false;
+        };
+        if socket.send(now, peer, identification, octets).is_err() {
+            return false;
+        }
+        *bound = Some(local);
+        true
+    }
+
+    /// Reads the first datagram that came into `buffer`, as far as this has room, and answers how many octets these are, and where it is from.
+    pub(crate) fn recv_from(&mut self, buffer: &mut [u8]) -> Result<(usize, Endpoint), Refusal>
+        ensures answer { result ≡ role_recvfrom_answer self.old (length buffer.old) }
+        ensures ok { OnOk result (self.new ≡ role_after_recvfrom self.old) }
+        ensures err { OnErr result (self.new ≡ self.old) }
+        ensures octets { buffer.new ≡ datagram_front self.old buffer.old }
+    {
+        let Role::Datagrams { socket, .. } = self else {
+            return Err(Refusal::EOPNOTSUPP);
+        };
+        if buffer.is_empty() {
+            return Err(Refusal::EINVAL);
+        }
+        socket.recv(buffer).ok_or(Refusal::EAGAIN)
+    }
+
+    /// Takes a datagram that came from this endpoint, and answers whether it did: not where it has no room.
+    pub(crate) fn receive(&mut self, from: Endpoint, octets: &[u8]) -> bool
+        ensures room { result ≡ has_room_to_receive (length octets.now) self.old }
+        ensures after { self.new ≡ (if result then role_after_reception from octets.now self.old else self.old) }
+    {
+        match self {
+            Role::Datagrams { socket, .. } => socket.receive(from, octets),
+            _ => false,
         }
     }
 
@@ -413,20 +518,41 @@ impl Role {
         }
     }
 
-    /// Writes the segment that is due from `out[0]` on, and answers its length in octets.
-    pub(crate) fn emit(&mut self, now: Moment, out: &mut [u8]) -> usize
+    /// Gives up what has waited too long for a lost address, and answers what becomes of the entry.
+    pub(crate) fn give_up<F: Fn(Addr) -> bool>(&mut self, now: Moment, lost: &F) -> Fate
+        requires { F.IsAlwaysCallable lost.now }
+        ensures fate { (test : Addr → Bool) → ((addr : Addr) (answer : Bool) → F.post lost.now addr answer → answer ≡ test addr) → result ≡ give_up_fate_of test now self.old }
+        ensures after { (test : Addr → Bool) → ((addr : Addr) (answer : Bool) → F.post lost.now addr answer → answer ≡ test addr) → self.new ≡ role_after_giving_up test now self.old }
+    {
+        if let Role::Datagrams { socket, .. } = self {
+            socket.give_up(now, lost);
+            return Fate::Stays;
+        }
+        if self.is_given_up(now, lost) {
+            Fate::Removed
+        } else {
+            Fate::Stays
+        }
+    }
+
+    /// Writes the segment or the part of a datagram that is due, from our address, from `out[0]` on, and answers what was written.
+    pub(crate) fn emit(&mut self, own: Addr, now: Moment, out: &mut [u8]) -> Emitted
         requires due { has_due self.old ≡ true }
-        requires room { MOST_SEGMENT ≤ length out.old }
-        ensures len { Some result ≡ due_len self.old }
-        ensures bound { result ≤ MOST_SEGMENT }
+        requires segment { MOST_SEGMENT ≤ length out.old }
+        requires part { MOST_IN_FRAGMENT ≤ length out.old }
+        ensures what { Some result ≡ due_emitted self.old }
+        ensures bound { IsWithin result }
         ensures after { self.new ≡ role_after_emission now self.old }
-        ensures frame { out.new ≡ due_front self.old out.old }
+        ensures frame { out.new ≡ due_front own self.old out.old }
     {
         match self {
             Role::Connected { connection, .. } => match connection.emit(now, out) {
-                Some(len) => len,
+                Some(len) => Emitted::Segment(len),
                 None => unreachable!(),
             },
+            Role::Datagrams { bound, socket } => {
+                Emitted::Datagram(socket.emit(source_of(own, *bound), out))
+            }
             _ => unreachable!(),
         }
     }

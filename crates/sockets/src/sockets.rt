@@ -19,6 +19,7 @@ pub struct Sockets {
     pub(crate) kept: Moment,
     pub(crate) last_port: u16,
     pub(crate) last_id: u64,
+    pub(crate) identification: u16,
     pub(crate) entries: ArrayVec<Entry, ENTRIES>,
 }
 
@@ -33,6 +34,7 @@ impl Model for Sockets {
       kept = h.kept;
       last_port = h.last_port;
       last_id = h.last_id;
+      identification = h.identification;
       entries = h.entries.items;
     } };
 
@@ -58,6 +60,7 @@ impl Sockets {
             kept: Moment(0),
             last_port: ports::LAST,
             last_id: 0,
+            identification: 0,
             entries: ArrayVec::new(),
         }
     }
@@ -117,7 +120,8 @@ impl Sockets {
     }
 
     /// Gives up each reset of an abort that is owed to a peer at a lost address, which `lost` says, and has waited for 3,000 ms or more at the
-    /// later of `now` and the kept moment: its connection is taken out of the table. All else stays, in order.
+    /// later of `now` and the kept moment: its connection is taken out of the table. So does a UDP socket give up each datagram to a lost
+    /// address that has waited as long. All else stays, in order.
     pub fn give_up<F: Fn(Addr) -> bool>(&mut self, now: Moment, lost: F)
         requires { F.IsAlwaysCallable lost }
         ensures { (test : Addr → Bool) → ((addr : Addr) (answer : Bool) → F.post lost addr answer → answer ≡ test addr) → self.new ≡ after_giving_up self.old test now }

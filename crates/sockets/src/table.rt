@@ -1,11 +1,11 @@
 //! What is looked up in the table, which stands in order of id.
 
-ghost use Rattle.std.specs.Prelude.{◌≡◌, ◌<◌, Bool, not, if◌then◌else◌, length, remove, position, count_by, filter, fold, None};
+ghost use Rattle.std.specs.Prelude.{◌≡◌, ◌<◌, Bool, if◌then◌else◌, length, remove, position, count_by, fold, None};
 ghost use Rattle.std.specs.List.{list_any, AllByRecursion};
-ghost use Rattle.sockets.specs.Entries.{is_kept, entries_after_steps, tick_fate_of, role_after_listener_close, listener_close_fate_of, is_socket, is_between, is_of_pair, has_port, is_bound_at, is_waiting_at, is_offered_at, is_listening_at, deadline_of, role_after_tick, with_role};
+ghost use Rattle.sockets.specs.Entries.{is_kept, entries_after_steps, tick_fate_of, role_after_listener_close, listener_close_fate_of, is_socket, is_between, is_of_pair, has_port, is_bound_at, is_datagrams_at, is_waiting_at, is_offered_at, is_listening_at, deadline_of, role_after_tick, with_role};
 ghost use Rattle.clock.specs.Moments.{sooner};
 ghost use Rattle.ipv4.specs.declared.addr.Addr.{Addr};
-ghost use Rattle.sockets.specs.Lost.{is_given_up};
+ghost use Rattle.sockets.specs.Lost.{give_up_fate_of, role_after_giving_up};
 ghost use Rattle.sockets.specs.Sound.{IsSoundRole};
 
 use crate::entry::{Entry, SocketId};
@@ -54,18 +54,32 @@ pub(crate) fn is_pair_held(entries: &[Entry], local: Endpoint, peer: Endpoint) -
         .any(|entry| entry.role.is_live_between(local, peer))
 }
 
-/// Whether an entry has this local port.
+/// Whether an entry has this local port over TCP.
 pub(crate) fn is_port_taken(entries: &[Entry], port: u16) -> bool
     ensures { result ≡ list_any (has_port port) entries.now }
 {
     entries.iter().any(|entry| entry.role.uses_port(port))
 }
 
-/// Whether a socket has this local port.
+/// Whether a TCP socket has this local port.
 pub(crate) fn is_port_bound(entries: &[Entry], port: u16) -> bool
     ensures { result ≡ list_any (is_bound_at port) entries.now }
 {
     entries.iter().any(|entry| entry.role.has_socket() && entry.role.uses_port(port))
+}
+
+/// Whether a UDP socket is bound to this port.
+pub(crate) fn is_datagram_port_taken(entries: &[Entry], port: u16) -> bool
+    ensures { result ≡ list_any (is_datagrams_at port) entries.now }
+{
+    entries.iter().any(|entry| entry.role.uses_datagram_port(port))
+}
+
+/// The place of the UDP socket at a local port.
+pub(crate) fn datagrams_at(entries: &[Entry], port: u16) -> Option<usize>
+    ensures { result ≡ position (is_datagrams_at port) entries.now }
+{
+    entries.iter().position(|entry| entry.role.uses_datagram_port(port))
 }
 
 /// The place of the listener at a local port.
@@ -108,16 +122,16 @@ pub(crate) fn forsake(entries: &mut ArrayVec<Entry, ENTRIES>, now: Moment, id: S
     entries.retain(|entry| entry.forsake(now, id));
 }
 
-/// Takes out the connections whose reset is given up.
+/// Lets every entry give up what has waited too long for a lost address, and takes out the connections whose reset is given up.
 pub(crate) fn give_up<F: Fn(Addr) -> bool>(
     entries: &mut ArrayVec<Entry, ENTRIES>,
     now: Moment,
     lost: &F,
 )
     requires { F.IsAlwaysCallable lost.now }
-    ensures { (test : Addr → Bool) → ((addr : Addr) (answer : Bool) → F.post lost.now addr answer → answer ≡ test addr) → entries.new.items ≡ filter (λ e. not (is_given_up test now e.role)) entries.old.items }
+    ensures { (test : Addr → Bool) → ((addr : Addr) (answer : Bool) → F.post lost.now addr answer → answer ≡ test addr) → entries.new.items ≡ entries_after_steps (give_up_fate_of test now) (role_after_giving_up test now) entries.old.items }
 {
-    entries.retain(|entry| !entry.role.is_given_up(now, lost));
+    entries.retain(|entry| entry.give_up(now, lost));
 }
 
 /// The least deadline of the entries.

@@ -1,9 +1,10 @@
 -- What is left is what the closure keeps of each entry in turn.
-use Rattle.std.proofs.Common.{rules, not}
+use Rattle.std.proofs.Common.{rules}
 use Rattle.sockets.specs.declared.entry.Entry.{Entry}
-use Rattle.sockets.specs.Lost.{is_given_up}
-use Rattle.arrayvec.proofs.ArrayVecLemmas.{filter-from_retain}
+use Rattle.sockets.specs.Entries.{is_kept, with_role}
+use Rattle.sockets.specs.Lost.{give_up_fate_of, role_after_giving_up}
+use Rattle.sockets.proofs.Retained.{retained}
 use Rattle.sockets.proofs.table.give_up.Goals as goal
 
 pub returns : goal.returns
-returns g c = λ test computes. filter-from_retain _ (λ (e : Entry). not (is_given_up test c.args.now e.role)) _ (λ x b f' y called. search rules) _ _ c.retain.ensures.filtered
+returns g c = λ test computes. retained _ (λ (e : Entry). is_kept (give_up_fate_of test c.args.now e.role)) (with_role (role_after_giving_up test c.args.now)) _ (λ x b f' y called. search rules) _ _ c.retain.ensures.filtered

@@ -7,7 +7,7 @@ use Rattle.sockets.specs.declared.entry.Entry.{Entry}
 use Rattle.sockets.specs.Entries.{sends, role_after_emission, emission_fate_of, entries_after_step, with_role}
 use Rattle.sockets.specs.SocketsView.{SocketsView, later_moment}
 use Rattle.sockets.proofs.Arrived.{entry_settled}
-use Rattle.sockets.proofs.Emitted.{segment_sent-found}
+use Rattle.sockets.proofs.Emitting.{segment_sent-found}
 use Rattle.sockets.proofs.Firsts.{find-position}
 use Rattle.sockets.proofs.sockets.Sockets.emit_at.Goals as goal
 
@@ -22,8 +22,8 @@ returns-clause-after c = λ goes place.
     c.index-deref_mut-place.is ∙ ap (λ (es : List Entry). get_or es c.args.place x) (c.deref_mut.ensures.value ∙ entries)
     in
     let found : find test h.entries ≡ Some x = find-position test h.entries c.args.place x place at in
-    let sent : c.emit-len.new.self ≡ with_role (role_after_emission now) x =
-    c.emit-len.ensures.after ∙ ap (λ (m : Moment). with_role (role_after_emission m) (get_or c.deref_mut.result.now c.args.place x)) c.later_moment-now.ensures ∙ ap (λ (e : Entry). with_role (role_after_emission now) e) (sym c.index-deref_mut-place.is)
+    let sent : c.emit-emitted.new.self ≡ with_role (role_after_emission now) x =
+    c.emit-emitted.ensures.after ∙ ap (λ (m : Moment). with_role (role_after_emission m) (get_or c.deref_mut.result.now c.args.place x)) c.later_moment-now.ensures ∙ ap (λ (e : Entry). with_role (role_after_emission now) e) (sym c.index-deref_mut-place.is)
     in
     entry_settled _ _ test (role_after_emission now) _ _ _ _ _ c.emission_fate_of-fate.result c.self.view_is place c.deref_mut.ensures.value c.index-deref_mut-place.is (sent ∙ ap (λ (e : Entry). with_role (role_after_emission now) e) c.index-deref_mut-place.is) c.settle.ensures
     ∙ ap (λ (r : Fate). let w : SocketsView = record h { entries = entries_after_step r test (role_after_emission now) h.entries } in w) (c.emission_fate_of-fate.ensures ∙ ap (λ (e : Entry). emission_fate_of e.role) sent)

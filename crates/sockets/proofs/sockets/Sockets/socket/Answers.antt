@@ -1,7 +1,15 @@
--- The new socket has the buffers that were made.
-use Rattle.std.proofs.Common.{arith}
+-- The new socket stands at the end of the table.
+use Rattle.std.proofs.Common.{◌≡◌, ℕ, ◌+◌, arith, subst}
 use Rattle.std.proofs.lemmas.Grind.{common_steps}
+use Rattle.sockets.specs.Calls.{IsNewSocket}
+use Rattle.sockets.specs.declared.entry.Entry.{Entry}
+use Rattle.sockets.specs.SocketsView.{SocketsView}
+use Rattle.sockets.proofs.Made.{made}
 use Rattle.sockets.proofs.sockets.Sockets.socket.Goals as goal
 
 pub returns-clause-ok : goal.returns-clause-ok
-returns-clause-ok c = (grind (arith, common_steps), (c.in-Ok.buffers, grind (arith, common_steps)))
+returns-clause-ok c =
+    let h : SocketsView = c.args.self.now in
+    let entry : Entry = c.in_ok-entry.entry in
+    let next : c.in-Some.id ≡ h.last_id + 1 = grind (arith, common_steps) in
+    (next, made c.args.kind h _ entry (subst (λ (n : ℕ). IsNewSocket c.args.kind (record { 0 = n }) entry) next c.in_ok-entry.ensures.ok) (grind (arith, common_steps)))

@@ -1,0 +1,11 @@
+-- What the making of a socket makes of the table.
+use Rattle.std.proofs.Common.{◌≡◌, ◌+◌, [], ◌∷◌, ◌++◌, ◌∙◌, ap}
+use Rattle.sockets.specs.declared.entry.Entry.{Entry}
+use Rattle.sockets.specs.declared.entry.Kind.{Kind}
+use Rattle.sockets.specs.declared.entry.Kind.TheVariants.{Tcp, Udp}
+use Rattle.sockets.specs.SocketsView.{SocketsView}
+use Rattle.sockets.specs.Calls.{IsNewSocket, IsMade}
+
+pub made : (kind : Kind) (h w : SocketsView) (e : Entry) → IsNewSocket kind (record { 0 = h.last_id + 1 }) e → w ≡ record h { last_id = h.last_id + 1; entries = h.entries ++ e ∷ [] } → IsMade kind h w
+made Tcp h w e new is = (new.0, is ∙ ap (λ (x : Entry). let v : SocketsView = record h { last_id = h.last_id + 1; entries = h.entries ++ x ∷ [] } in v) new.1)
+made Udp h w e new is = is ∙ ap (λ (x : Entry). let v : SocketsView = record h { last_id = h.last_id + 1; entries = h.entries ++ x ∷ [] } in v) new

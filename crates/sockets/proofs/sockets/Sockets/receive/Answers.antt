@@ -1,0 +1,24 @@
+-- The write at the place is the change of the first UDP socket at the port, or none where it has no room.
+use Rattle.std.proofs.Common.{◌≡◌, ◌∙◌, ℕ, List, Some, ap, sym}
+use Rattle.std.specs.List.{position}
+use Rattle.ipv4.specs.declared.addr.Endpoint.{Endpoint}
+use Rattle.udp.specs.Datagram.{UserDatagram}
+use Rattle.sockets.specs.declared.entry.Entry.{Entry}
+use Rattle.sockets.specs.Entries.{is_datagrams_at}
+use Rattle.sockets.specs.SocketsView.{SocketsView}
+use Rattle.sockets.proofs.Queues.{received}
+use Rattle.sockets.proofs.sockets.Sockets.receive.Goals as goal
+
+pub returns-clause-after : goal.returns-clause-after
+returns-clause-after c =
+    let h : SocketsView = c.args.self.now in
+    let d : UserDatagram = c.args.datagram.now in
+    let entries = ap (λ (w : SocketsView). w.entries) c.self.view_is in
+    let place : position (is_datagrams_at d.destination) h.entries ≡ Some c.in-Some.place =
+    ap (λ (es : List Entry). position (is_datagrams_at d.destination) es) (sym entries ∙ sym c.deref.ensures.0)
+    ∙ ap (λ (port : ℕ). position (is_datagrams_at port) c.deref.result.now) (sym c.destination.ensures)
+    ∙ sym c.datagrams_at.ensures
+    ∙ c.in-Some.is
+    in
+    let from = ap (λ (port : ℕ). let e : Endpoint = record { addr = c.args.source; port = port } in e) c.source.ensures in
+    received _ h c.args.source d _ _ _ _ _ _ _ c.self.view_is place c.deref_mut.ensures.value c.index-deref_mut-place.is from c.payload.ensures.octets c.receive.ensures.room c.receive.ensures.after

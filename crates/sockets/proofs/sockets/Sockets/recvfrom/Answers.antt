@@ -1,0 +1,10 @@
+-- The write at the socket's place is the change of the first entry that the id names.
+use Rattle.std.proofs.Common.{◌≡◌, get_or}
+use Rattle.sockets.specs.Entries.{is_socket, role_after_recvfrom, with_role}
+use Rattle.sockets.proofs.Written.{entry_written, ok_from}
+use Rattle.sockets.proofs.sockets.Sockets.recvfrom.Goals as goal
+
+pub returns-clause-ok : goal.returns-clause-ok
+returns-clause-ok c =
+    ok_from c.recv_from.result (c.recv_from.new.self ≡ with_role role_after_recvfrom (get_or c.deref_mut.result.now c.in_ok-place.place c.index-deref_mut-place.result)) _
+    (λ changed. entry_written _ _ (is_socket c.args.id) (with_role role_after_recvfrom) _ _ _ _ c.self.view_is c.in_ok-place.ensures.place c.deref_mut.ensures.value c.index-deref_mut-place.is changed) c.recv_from.ensures.ok

@@ -1,0 +1,56 @@
+-- The write at the socket's place is the change of the first entry that the id names, from the port that is given.
+use Rattle.std.proofs.Common.{◌≡◌, ◌∙◌, ℕ, Bool, true, false, if◌then◌else◌, nat_lt, List, length, get_or, Option, Some, None, Ok, arith, ap, sym}
+use Rattle.std.specs.List.{find}
+use Rattle.std.proofs.lemmas.Bool.Decides.{nat_tests}
+use Rattle.ipv4.specs.declared.addr.Endpoint.{Endpoint}
+use Rattle.udp_socket.specs.declared.socket.TheConstants.{MOST_OCTETS}
+use Rattle.sockets.specs.declared.entry.Entry.{Entry}
+use Rattle.sockets.specs.declared.role.Role.{Role}
+use Rattle.sockets.specs.Entries.{is_socket, has_room_to_send, role_after_sendto, with_role}
+use Rattle.sockets.specs.SocketsView.{SocketsView, with_socket}
+use Rattle.sockets.specs.Calls.{reach_refusal, last_port_after}
+use Rattle.sockets.specs.Datagrams.{datagrams_bound, sending_end, end_sent_from, next_identification}
+use Rattle.sockets.proofs.Caused.{some_same}
+use Rattle.sockets.proofs.Connected.{some_from_ok}
+use Rattle.sockets.proofs.Firsts.{find-position}
+use Rattle.sockets.proofs.Queues.{end_given, bound_found, sendto-given}
+use Rattle.sockets.proofs.Written.{entry_written}
+use Rattle.sockets.proofs.sockets.Sockets.sendto.Goals as goal
+
+pub returns-clause-ok : goal.returns-clause-ok
+returns-clause-ok c =
+    let h : SocketsView = c.args.self.now in
+    let octets : List ℕ = c.args.octets.now in
+    let local : Endpoint = c.in_ok-local.local in
+    let bound : Option Endpoint = c.in_ok-bound.bound in
+    let place = c.in_ok-place.ensures.place in
+    let entries = ap (λ (w : SocketsView). w.entries) c.self.view_is in
+    let first : Entry = c.index-deref-place.result in
+    let first_at : first ≡ get_or h.entries c.in_ok-place.place first =
+    c.index-deref-place.is ∙ ap (λ (es : List Entry). get_or es c.in_ok-place.place first) (c.deref.ensures.0 ∙ entries)
+    in
+    let x : Entry = c.index-deref_mut-place.result in
+    let at : x ≡ get_or h.entries c.in_ok-place.place x =
+    c.index-deref_mut-place.is ∙ ap (λ (es : List Entry). get_or es c.in_ok-place.place x) (c.deref_mut.ensures.value ∙ entries)
+    in
+    let found : find (is_socket c.args.id) h.entries ≡ Some x = find-position (is_socket c.args.id) h.entries c.in_ok-place.place x place at in
+    let first_found : find (is_socket c.args.id) h.entries ≡ Some first = find-position (is_socket c.args.id) h.entries c.in_ok-place.place first place first_at in
+    let same : first ≡ x = some_same _ first x first_found found in
+    let bound_is : datagrams_bound x.role ≡ Ok bound = ap (λ (e : Entry). datagrams_bound e.role) (sym same ∙ c.index-deref-place.is) ∙ sym c.in_ok-bound.ensures in
+    let short : nat_lt MOST_OCTETS (length octets) ≡ false = grind (arith, nat_tests, c.if-octets-gt-MOST_OCTETS.false) in
+    let reached : reach_refusal h c.args.peer c.args.is_routed ≡ None = sym c.in_ok-may_reach.ensures in
+    let sends : sending_end h bound ≡ Some local = some_from_ok _ _ _ c.in_ok-local.ensures.value in
+    let sent : c.send_to.result ≡ true = c.if-not-send_to.false in
+    let room : has_room_to_send (length octets) x.role ≡ true = ap (λ (e : Entry). has_room_to_send (length octets) e.role) c.index-deref_mut-place.is ∙ sym c.send_to.ensures.room ∙ sent in
+    let given : end_sent_from h c.args.id c.args.peer octets c.args.is_routed ≡ Ok local = end_given h c.args.id c.args.peer octets c.args.is_routed x bound local found bound_is short reached sends room in
+    let counted : c.last_port_after-last_port.result ≡ last_port_after h bound local.port = c.last_port_after-last_port.ensures.value in
+    let moved =
+    ap (λ (w : SocketsView). let r : SocketsView = record w { last_port = c.last_port_after-last_port.result; identification = next_identification w.identification } in r) c.self.view_is
+    ∙ ap (λ (p : ℕ). let r : SocketsView = record h { last_port = p; identification = next_identification h.identification } in r) counted
+    in
+    let change : Role → Role = role_after_sendto local c.self.inside.kept c.args.peer c.self.inside.identification octets in
+    let there : Entry = get_or c.deref_mut.result.now c.in_ok-place.place x in
+    entry_written _ _ (is_socket c.args.id) (with_role change) _ _ _ _ moved place c.deref_mut.ensures.value c.index-deref_mut-place.is (c.send_to.ensures.after ∙ ap (λ (b : Bool). if b then with_role change there else there) sent)
+    ∙ ap (λ (w : SocketsView). with_socket (record h { last_port = last_port_after h bound local.port; identification = next_identification h.identification }) c.args.id (role_after_sendto local w.kept c.args.peer w.identification octets)) c.self.view_is
+    ∙ ap (λ (b : Option Endpoint). with_socket (record h { last_port = last_port_after h b local.port; identification = next_identification h.identification }) c.args.id (role_after_sendto local h.kept c.args.peer h.identification octets)) (sym (bound_found h c.args.id x bound found bound_is))
+    ∙ sym (sendto-given h c.args.id c.args.peer octets c.args.is_routed local given)
