@@ -1,0 +1,165 @@
+-- One more than 65,536: two with one identification, and fragments of both that make what neither is.
+use Rattle.std.proofs.Common.{◌≡◌, ℕ, ◌<◌, ◌%◌, Bool, true, false, cond, nat_eq, List, [], ◌∷◌, ◌++◌, length, map, get_or, replicate, slice_index, Option, Some, None, refl, sym, ◌∙◌, ap, subst, arith}
+use Rattle.std.specs.List.{range_with_len}
+use Rattle.std.proofs.lemmas.List.FromFn.{length-map-range_with_len, get_or-map-range_with_len}
+use Rattle.std.proofs.lemmas.Option.{slice_get_within, get_or_from_slice_get}
+use Rattle.clock.specs.declared.moment.Moment.{Moment}
+use Rattle.ipv4.specs.declared.addr.Endpoint.{Endpoint}
+use Rattle.ipv4.specs.Datagram.{Datagram}
+use Rattle.udp.specs.Datagram.{spelling}
+use Rattle.reassembly.specs.Events.Event.{Takes}
+use Rattle.reassembly.specs.Fragments.{end_of, key_of, quote_of}
+use Rattle.reassembly.specs.Octets.{reaching, put, laid, whole_of}
+use Rattle.reassembly.specs.Parts.{IsPartOf}
+use Rattle.reassembly.specs.Places.{after_take, outcome_at, place_for}
+use Rattle.reassembly.specs.Reassembly.{Reassembly, outcome}
+use Rattle.reassembly.specs.Reassembly.Outcome.{Completes}
+use Rattle.datagram_law.specs.Accepted.{Accepted, AreInTurn, IsInWidths, datagram_of}
+use Rattle.datagram_law.specs.Carried.{IsOfOne, IsWholeOfOne}
+use Rattle.datagram_law.specs.Pools.{IsPoolOf}
+use Rattle.datagram_law.proofs.Gathering.{new, one_event}
+
+abbrev source : Endpoint
+source = record { addr = record { 0 = 10 ∷ 0 ∷ 0 ∷ 1 ∷ [] }; port = 1 }
+
+abbrev peer : Endpoint
+peer = record { addr = record { 0 = 10 ∷ 0 ∷ 0 ∷ 2 ∷ [] }; port = 2 }
+
+-- each has the octet 0, but the last the octet 1
+abbrev with_octet : ℕ → Bool → Accepted
+with_octet n is_last = record { source = source; peer = peer; identification = n % 65536; octets = cond is_last 1 0 ∷ [] }
+
+abbrev entry : ℕ → Accepted
+entry n = with_octet n (nat_eq n 65536)
+
+so_many : ℕ → List Accepted
+so_many n = map entry (range_with_len 0 n)
+
+count : (n : ℕ) → length (so_many n) ≡ n
+unfolding so_many
+count n = length-map-range_with_len entry 0 n
+
+entry_at : (n k : ℕ) (a : Accepted) → k < length (so_many n) → get_or (so_many n) k a ≡ entry k
+unfolding so_many
+entry_at n k a within = get_or-map-range_with_len entry 0 n k k a (omega (arith, within, count n)) (omega arith)
+
+in_turn : (n : ℕ) → AreInTurn (so_many n)
+in_turn n = record {
+  numbered = λ k a e.
+      let is : entry k ≡ a = sym (entry_at n k a (slice_get_within (so_many n) k a e)) ∙ get_or_from_slice_get (so_many n) k a a e in
+      sym (ap (λ (x : Accepted). x.identification) is);
+  widths = λ k d within. subst IsInWidths (sym (entry_at n k d within)) (fits k);
+}
+  where
+    fits : (k : ℕ) → IsInWidths (entry k)
+    fits k = record { source_addr = refl; source_port = omega arith; peer_addr = refl; peer_port = omega arith; len = omega arith }
+
+-- the first eight octets of the first one, and the last octet of the last one
+abbrev carrying : Bool → ℕ → List ℕ → Datagram
+carrying more offset payload = record {
+  service = 0;
+  identification = 0;
+  reserved = false;
+  dont_fragment = false;
+  more_fragments = more;
+  offset = offset;
+  ttl = 64;
+  protocol = 17;
+  checksum = 0;
+  source = source.addr;
+  destination = peer.addr;
+  options = [];
+  payload = payload;
+}
+
+abbrev header : List ℕ
+header = 0 ∷ 1 ∷ 0 ∷ 2 ∷ 0 ∷ 9 ∷ 235 ∷ 214 ∷ []
+
+abbrev first : Datagram
+first = carrying true 0 header
+
+abbrev second : Datagram
+second = carrying false 1 (1 ∷ [])
+
+first_part : IsPartOf (spelling (datagram_of (entry 0))) first
+first_part =
+    let end : end_of first ≡ 8 = refl in
+    let all : length (spelling (datagram_of (entry 0))) ≡ 9 = refl in
+    record { within = omega (arith, end, all); octets = refl; ends = λ e. absurd (never e) }
+  where
+    never : false ≡ true → ⊥
+    never e = cc
+
+second_part : IsPartOf (spelling (datagram_of (entry 65536))) second
+second_part =
+    let end : end_of second ≡ 9 = refl in
+    let all : length (spelling (datagram_of (entry 65536))) ≡ 9 = refl in
+    record { within = omega (arith, end, all); octets = refl; ends = λ e. refl }
+
+of_first : (n : ℕ) → n ≡ 65537 → IsOfOne (so_many n) first
+of_first n is =
+    let within : 0 < length (so_many n) = omega (arith, is, count n) in
+    (0, entry 0, within, entry_at n 0 (entry 0) within, record { source = refl; destination = refl; protocol = refl; identification = refl; part = first_part })
+
+of_second : (n : ℕ) → n ≡ 65537 → IsOfOne (so_many n) second
+of_second n is =
+    let within : 65536 < length (so_many n) = omega (arith, is, count n) in
+    (65536, entry 65536, within, entry_at n 65536 (entry 65536) within, record { source = refl; destination = refl; protocol = refl; identification = refl; part = second_part })
+
+abbrev now : Moment
+now = record { 0 = 0 }
+
+abbrev places : List (Option Reassembly)
+places = after_take now first (replicate 4 None)
+
+pool : (n : ℕ) → n ≡ 65537 → IsPoolOf (so_many n) places
+pool n is = one_event (so_many n) (replicate 4 None) (Takes now first) (new (so_many n)) (of_first n is)
+
+found : place_for (key_of second) places ≡ Some 0
+unfolding outcome laid put reaching whole_of
+found = refl
+
+completes : outcome_at now second places 0 ≡ Completes (header ++ 1 ∷ []) (quote_of first)
+unfolding outcome laid put reaching whole_of
+completes = refl
+
+of_neither : (n : ℕ) → IsWholeOfOne (so_many n) second (header ++ 1 ∷ []) → ⊥
+of_neither n (k, a, within, there, (of, is)) =
+    by_test (nat_eq k 65536) (is ∙ ap (λ (x : Accepted). spelling (datagram_of x)) (sym there ∙ entry_at n k a within))
+  where
+    other_sum : ◌≡◌ {A = ℕ} 235 234 → ⊥
+    other_sum e = omega (arith, e)
+
+    other_octet : ◌≡◌ {A = ℕ} 1 0 → ⊥
+    other_octet e = omega (arith, e)
+
+    by_test : (b : Bool) → header ++ 1 ∷ [] ≡ spelling (datagram_of (with_octet k b)) → ⊥
+    by_test true e = other_sum (ap (λ (xs : List ℕ). slice_index xs 6) e)
+    by_test false e = other_octet (ap (λ (xs : List ℕ). slice_index xs 8) e)
+
+abbrev pub Mixed : ℕ → Type 0
+Mixed n =
+    (accepted : List Accepted) × (places : List (Option Reassembly)) × (now : Moment) × (d : Datagram) × (place : ℕ) × (payload : List ℕ) × (quote : List ℕ)
+    × AreInTurn accepted × (length accepted ≡ n) × IsPoolOf accepted places × IsOfOne accepted d
+    × (place_for (key_of d) places ≡ Some place) × (outcome_at now d places place ≡ Completes payload quote) × (IsWholeOfOne accepted d payload → ⊥)
+
+mixed_of : (n : ℕ) → n ≡ 65537 → Mixed n
+mixed_of n is = (
+  so_many n,
+  places,
+  now,
+  second,
+  0,
+  header ++ 1 ∷ [],
+  quote_of first,
+  in_turn n,
+  count n,
+  pool n is,
+  of_second n is,
+  found,
+  completes,
+  of_neither n,
+)
+
+pub mixed : Mixed 65537
+mixed = mixed_of 65537 refl

@@ -1,0 +1,4 @@
+pub mod Accepted
+pub mod Carried
+pub mod Pools
+pub mod Sockets
