@@ -3,13 +3,14 @@ use Rattle.std.proofs.Common.{◌≡◌, ◌≢◌, ℕ, zero, suc, ◌+◌, ◌
 use Rattle.std.specs.List.{find, position, slice_get, AllByRecursion}
 use Rattle.ether.specs.declared.mac.Mac.{Mac}
 use Rattle.ipv4.specs.declared.addr.Addr.{Addr}
+use Rattle.ipv4.specs.declared.addr.Endpoint.{Endpoint}
 use Rattle.clock.specs.declared.moment.Moment.{Moment}
 use Rattle.tcp_segment.specs.declared.head.Head.{Head}
 use Rattle.tcp_segment.specs.Segment.{Segment}
 use Rattle.tcp_segment.specs.Sent.{CanBeSent, sent_segment, sent_octets, sent_offset}
 use Rattle.tcp_state.specs.declared.emission.Due.{Due}
 use Rattle.tcp_state.specs.View.{View}
-use Rattle.tcp_state.specs.Due.{first_due, head_of, octets_of as text_of, segment_octets as connection_octets}
+use Rattle.tcp_state.specs.Due.{emitted_len, first_due, head_of, octets_of as text_of, segment_octets as connection_octets}
 use Rattle.tcp_state.proofs.GoesOut.{due-may}
 use Rattle.icmp.specs.Message.{Message, spelling}
 use Rattle.icmp.specs.Sent.{echo_reply, error_for}
@@ -26,7 +27,7 @@ use Rattle.interface.specs.declared.reply.Waiting.{Waiting}
 use Rattle.interface.specs.declared.way.Way.{Way}
 use Rattle.interface.specs.declared.way.Way.TheVariants.{To, Ask, Waits}
 use Rattle.interface.specs.InterfaceView.{InterfaceView}
-use Rattle.interface.specs.Emission.{segment_frame_to, message_frame_to, request_frame, reply_frame, frame_by, frame_of_one}
+use Rattle.interface.specs.Emission.{segment_frame_to, message_frame_to, part_frame_to, request_frame, reply_frame, frame_by, frame_of_one}
 use Rattle.interface.specs.Replies.{is_due, way_of}
 use Rattle.interface.specs.Sound.{IsSoundReply}
 use Rattle.interface.specs.Ways.{way}
@@ -34,19 +35,24 @@ use Rattle.interface.proofs.Heard.{segment_heard}
 use Rattle.sockets.specs.declared.entry.SocketId.{SocketId}
 use Rattle.sockets.specs.declared.entry.Entry.{Entry}
 use Rattle.sockets.specs.declared.role.Role.{Role}
-use Rattle.sockets.specs.declared.role.Role.TheVariants.{Idle, Listener, Connected}
-use Rattle.sockets.specs.Entries.{due_peer, due_octets, sends}
-use Rattle.sockets.specs.Emission.{segment_octets}
+use Rattle.sockets.specs.declared.role.Role.TheVariants.{Idle, Listener, Connected, Datagrams}
+use Rattle.sockets.specs.declared.emission.Emitted.{Emitted}
+use Rattle.sockets.specs.declared.emission.Emitted.TheVariants as what
+use Rattle.sockets.specs.Entries.{due_emitted, due_octets, due_peer, sends}
+use Rattle.sockets.specs.Emission.{emitted, emitted_octets}
 use Rattle.sockets.specs.Order.{IsOrdered, LiesAt}
 use Rattle.sockets.specs.Sound.{IsSoundConnection, IsSoundRole}
 use Rattle.sockets.specs.SocketsView.{SocketsView, later_moment}
+use Rattle.udp.specs.declared.cutting.Part.{Part}
+use Rattle.udp_socket.specs.Emission.{due_part, due_peer as datagram_peer, fragment_of}
+use Rattle.udp_socket.specs.SocketView.{Outgoing, SocketView}
 use Rattle.host.specs.Arrival.{IsDelivered, MeetsHeard, MeetsSegment, segment_arrival}
 use Rattle.host.specs.Carried.{Carried, carried, carried_by, carried_for, carried_reply, due_segment}
-use Rattle.host.specs.Emission.{Emission, Replies, Sends, Asks, Nothing, emission, emission_at, emission_by, emission_from, emission_octets, emission_to, goes_out_from, octets_of}
+use Rattle.host.specs.Emission.{Emission, Replies, Sends, Asks, Nothing, emission, emission_at, emission_by, emission_from, emission_octets, emission_to, emitted_frame, goes_out_from, octets_of}
 use Rattle.host.specs.HostView.{HostView}
 use Rattle.host.specs.Sound.{IsSoundHost}
 use Rattle.host.proofs.DueSegments.{due-can, due-fits}
-use Rattle.host.proofs.Hearing.{CanGo, echo-can, echo-frame, error-can, error-frame, heard-nothing, heard-reply, heard-request, heard-segment, pair-message, pair-nothing, pair-reply, pair-request, pair-segment, segment-message, way-mac}
+use Rattle.host.proofs.Hearing.{CanGo, echo-can, echo-frame, error-can, error-frame, heard-nothing, heard-reply, heard-request, heard-segment, pair-message, pair-nothing, pair-part, pair-reply, pair-request, pair-segment, segment-message, segment-part, way-mac}
 
 -- octets in which nobody hears a segment
 record GoesNone (octets : List ℕ) : Type 0 where
@@ -89,6 +95,9 @@ message-goes : (i : InterfaceView) (theirs : Mac) (to : Addr) (m : Message) (oct
 message-goes i theirs to m octets can is =
     let goes : GoesNone (message_frame_to i theirs to (spelling m)) = record { unheard = λ mac ours r. segment-message i theirs to m mac ours r can; pairless = pair-message i theirs to m can } in
     subst GoesNone (sym is) goes
+
+part-goes : (i : InterfaceView) (theirs : Mac) (to : Addr) (part : Part) (octets : List ℕ) → length theirs.0 ≡ 6 → length i.mac.0 ≡ 6 → GoesNone (part_frame_to i theirs to part octets)
+part-goes i theirs to part octets whole own = record { unheard = λ mac ours r. segment-part i theirs to part octets mac ours r whole own; pairless = pair-part i theirs to part octets whole own }
 
 reset-frame : (i : InterfaceView) (mac : Mac) (to : Addr) (head : Head) → reply_frame i mac (Reset to head) ≡ segment_frame_to i mac to (sent_octets i.addr to head [])
 unfolding reply_frame
@@ -144,104 +153,155 @@ replies-go h moment place sound = by_place (slice_get h.interface.replies place)
         let own = sound.interface in
         reply-goes h moment sound waiting.reply (at-all (λ (w : Waiting). IsSoundReply h.interface.addr w.reply) h.interface.replies place waiting own.replies at) (way_of h.interface moment waiting.reply) refl
 
--- An entry's segment.
+-- What an entry has due.
 
--- the entry whose segment goes out
-pub record Sending (h : HostView) (moment : Moment) (mac : Mac) (to : Addr) : Type 0 where
+-- the entry for which a frame goes out
+record Sending (h : HostView) (moment : Moment) (mac : Mac) (to : Addr) : Type 0 where
   pub e : Entry
-  pub c : View
-  pub l : Option SocketId
-  pub due : Due
+  pub peer : Endpoint
   pub found : find (sends (goes_out_from h moment)) h.sockets.entries ≡ Some e
-  pub role : e.role ≡ Connected c l
-  pub first : first_due c ≡ Some due
-  pub is_to : to ≡ c.peer.addr
+  pub due : due_peer e.role ≡ Some peer
+  pub is_to : to ≡ peer.addr
   pub leads : way h.interface moment to ≡ To mac
 
-pub sending : (h : HostView) (moment : Moment) (mac : Mac) (to : Addr) → emission h moment ≡ Sends mac to → Sending h moment mac to
+sending : (h : HostView) (moment : Moment) (mac : Mac) (to : Addr) → emission h moment ≡ Sends mac to → Sending h moment mac to
 sending h moment mac to = by_place (position (is_due h.interface moment) h.interface.replies)
   where
     test : Entry → Bool
     test = sends (goes_out_from h moment)
 
-    by_way : (e : Entry) (c : View) (l : Option SocketId) (due : Due) → find test h.sockets.entries ≡ Some e → e.role ≡ Connected c l → first_due c ≡ Some due → (w : Way) → way h.interface moment c.peer.addr ≡ w
-        → emission_by c.peer.addr w ≡ Sends mac to → Sending h moment mac to
-    by_way e c l due found role first (To theirs) is same =
+    by_way : (e : Entry) (peer : Endpoint) → find test h.sockets.entries ≡ Some e → due_peer e.role ≡ Some peer → (w : Way) → way h.interface moment peer.addr ≡ w
+        → emission_by peer.addr w ≡ Sends mac to → Sending h moment mac to
+    by_way e peer found due (To theirs) is same =
         let macs : theirs ≡ mac = cc in
-        let tos : c.peer.addr ≡ to = cc in
-        record { e = e; c = c; l = l; due = due; found = found; role = role; first = first; is_to = sym tos; leads = ap (way h.interface moment) (sym tos) ∙ (is ∙ ap To macs) }
-    by_way e c l due found role first (Ask hop) is same = cc
-    by_way e c l due found role first Waits is same = cc
+        let tos : peer.addr ≡ to = cc in
+        record { e = e; peer = peer; found = found; due = due; is_to = sym tos; leads = ap (way h.interface moment) (sym tos) ∙ (is ∙ ap To macs) }
+    by_way e peer found due (Ask hop) is same = cc
+    by_way e peer found due Waits is same = cc
 
-    by_due : (e : Entry) (c : View) (l : Option SocketId) → find test h.sockets.entries ≡ Some e → e.role ≡ Connected c l → (o : Option Due) → first_due c ≡ o → emission_to h moment (cond (is_some o) (Some c.peer) None) ≡ Sends mac to
-        → Sending h moment mac to
-    by_due e c l found role None first same = cc
-    by_due e c l found role (Some due) first same = by_way e c l due found role first (way h.interface moment c.peer.addr) refl same
-
-    by_role : (e : Entry) → find test h.sockets.entries ≡ Some e → (r : Role) → e.role ≡ r → emission_to h moment (due_peer r) ≡ Sends mac to → Sending h moment mac to
-    by_role e found (Connected c l) role same = by_due e c l found role (first_due c) refl same
-    by_role e found (Listener local backlog) role same = cc
-    by_role e found (Idle buffers bound) role same = cc
+    by_peer : (e : Entry) → find test h.sockets.entries ≡ Some e → (o : Option Endpoint) → due_peer e.role ≡ o → emission_to h moment o ≡ Sends mac to → Sending h moment mac to
+    by_peer e found None due same = cc
+    by_peer e found (Some peer) due same = by_way e peer found due (way h.interface moment peer.addr) refl same
 
     by_entry : (o : Option Entry) → find test h.sockets.entries ≡ o → emission_from h moment o ≡ Sends mac to → Sending h moment mac to
     by_entry None found same = cc
-    by_entry (Some e) found same = by_role e found e.role refl same
+    by_entry (Some e) found same = by_peer e found (due_peer e.role) refl same
 
     by_place : (o : Option ℕ) → emission_at h moment o ≡ Sends mac to → Sending h moment mac to
     by_place (Some place) same = cc
     by_place None same = by_entry (find test h.sockets.entries) refl same
 
-pub found-octets : (own : SocketsView) (goes : Entry → Bool) (e : Entry) → find (sends goes) own.entries ≡ Some e → segment_octets own goes ≡ due_octets e.role
+-- the part of a datagram that is due first
+first_part : (socket : SocketView) (o : Outgoing) (rest : List Outgoing) → socket.outbox ≡ o ∷ rest
+    → due_part socket ≡ Some (record { identification = o.identification; fragment = fragment_of o socket.parts })
+first_part socket o rest at = rw at refl
+
+-- what is told of it, and its octets
+found-emitted : (own : SocketsView) (goes : Entry → Bool) (e : Entry) → find (sends goes) own.entries ≡ Some e → emitted own goes ≡ due_emitted e.role
+found-emitted own goes e found = rw found refl
+
+found-octets : (own : SocketsView) (goes : Entry → Bool) (e : Entry) → find (sends goes) own.entries ≡ Some e → emitted_octets own goes ≡ due_octets own.addr e.role
 found-octets own goes e found = rw found
 
-pub first-octets : (c : View) (l : Option SocketId) (due : Due) → first_due c ≡ Some due → due_octets (Connected c l) ≡ connection_octets c due
-first-octets c l due first = rw first
+first-octets : (own : Addr) (c : View) (l : Option SocketId) (due : Due) → first_due c ≡ Some due → due_octets own (Connected c l) ≡ connection_octets c due
+first-octets own c l due first = rw first
 
--- it is carried in that frame
-pub record IsSending (h : HostView) (moment : Moment) (mac : Mac) (to : Addr) : Type 0 where
-  pub own : Carried
-  pub carried_so : carried_by h moment (Sends mac to) ≡ Some own
-  pub goes : Goes h.interface (octets_of h moment (Sends mac to)) own
+-- It is a segment in that frame, or a part of a datagram.
+pub data IsSending (h : HostView) (moment : Moment) (mac : Mac) (to : Addr) : Type 0 where
+  SendsSegment : (own : Carried) → carried_by h moment (Sends mac to) ≡ Some own → Goes h.interface (octets_of h moment (Sends mac to)) own → IsSending h moment mac to
+  SendsPart : (part : Part) (octets : List ℕ) → carried_by h moment (Sends mac to) ≡ None → octets_of h moment (Sends mac to) ≡ part_frame_to h.interface mac to part octets → length mac.0 ≡ 6 → IsSending h moment mac to
 
-pub is-sending : (h : HostView) (moment : Moment) (mac : Mac) (to : Addr) → IsSoundHost h → IsOrdered h.sockets → emission h moment ≡ Sends mac to → IsSending h moment mac to
-is-sending h moment mac to sound ordered is =
-    let k = sending h moment mac to is in
-    let c : View = k.c in
+-- in the frame is what the entry has due
+sent-frame : (h : HostView) (moment : Moment) (mac : Mac) (to : Addr) (e : Entry) (role : Role) → find (sends (goes_out_from h moment)) h.sockets.entries ≡ Some e → e.role ≡ role
+    → octets_of h moment (Sends mac to) ≡ emitted_frame h.interface mac to (due_emitted role) (due_octets h.sockets.addr role)
+sent-frame h moment mac to e role found is =
     let goes : Entry → Bool = goes_out_from h moment in
-    let head : Head = head_of c k.due in
-    let text : List ℕ = text_of c k.due in
+    ap (λ (o : Option Emitted). emitted_frame h.interface mac to o (emitted_octets h.sockets goes)) (found-emitted h.sockets goes e found ∙ ap due_emitted is)
+    ∙ ap (λ (l : List ℕ). emitted_frame h.interface mac to (due_emitted role) l) (found-octets h.sockets goes e found ∙ ap (due_octets h.sockets.addr) is)
+
+carried-so : (h : HostView) (moment : Moment) (mac : Mac) (to : Addr) (e : Entry) (role : Role) → find (sends (goes_out_from h moment)) h.sockets.entries ≡ Some e → e.role ≡ role
+    → carried_by h moment (Sends mac to) ≡ option_map (λ segment. record { mac = mac; to = to; segment = segment }) (due_segment role)
+carried-so h moment mac to e role found is =
+    let made : Segment → Carried = λ s. record { mac = mac; to = to; segment = s } in
+    ap (λ (o : Option Entry). option_map made (option_and_then (λ (x : Entry). due_segment x.role) o)) found ∙ ap (λ (r : Role). option_map made (due_segment r)) is
+
+of-connection : (h : HostView) (moment : Moment) (mac : Mac) (to : Addr) (e : Entry) (c : View) (l : Option SocketId) (due : Due) → IsSoundHost h → IsOrdered h.sockets
+    → find (sends (goes_out_from h moment)) h.sockets.entries ≡ Some e → e.role ≡ Connected c l → first_due c ≡ Some due → to ≡ c.peer.addr → way h.interface moment to ≡ To mac → IsSending h moment mac to
+of-connection h moment mac to e c l due sound ordered found role first is_to leads =
+    let goes : Entry → Bool = goes_out_from h moment in
+    let head : Head = head_of c due in
+    let text : List ℕ = text_of c due in
     let table = sound.table in
-    let solid : IsSoundConnection c = subst IsSoundRole k.role (found-all (λ (e : Entry). IsSoundRole e.role) (sends goes) h.sockets.entries k.e table.entries k.found) in
-    let may = due-may c k.due solid.sound k.first in
-    let lies : LiesAt h.sockets.addr (Connected c k.l) = subst (LiesAt h.sockets.addr) k.role (found-all (λ (e : Entry). LiesAt h.sockets.addr e.role) (sends goes) h.sockets.entries k.e ordered.own k.found) in
+    let solid : IsSoundConnection c = subst IsSoundRole role (found-all (λ (x : Entry). IsSoundRole x.role) (sends goes) h.sockets.entries e table.entries found) in
+    let may = due-may c due solid.sound first in
+    let lies : LiesAt h.sockets.addr (Connected c l) = subst (LiesAt h.sockets.addr) role (found-all (λ (x : Entry). LiesAt h.sockets.addr x.role) (sends goes) h.sockets.entries e ordered.own found) in
     let source : c.local.addr ≡ h.interface.addr = lies.0 ∙ sym sound.own in
     let own : Carried = record { mac = mac; to = to; segment = sent_segment head text } in
     let made : Segment → Carried = λ s. record { mac = mac; to = to; segment = s } in
     let carries : carried_by h moment (Sends mac to) ≡ Some own =
-    ap (λ (o : Option Entry). option_map made (option_and_then (λ (e : Entry). due_segment e.role) o)) k.found
-    ∙ ap (λ (r : Role). option_map made (due_segment r)) k.role
-    ∙ ap (λ (d : Option Due). option_map made (option_map (λ (due : Due). sent_segment (head_of c due) (text_of c due)) d)) k.first in
-    let spelled : segment_octets h.sockets goes ≡ sent_octets h.interface.addr to head text =
-    found-octets h.sockets goes k.e k.found ∙ ap due_octets k.role ∙ first-octets c k.l k.due k.first
-    ∙ ap (λ (a : Addr). sent_octets a c.peer.addr head text) source ∙ ap (λ (a : Addr). sent_octets h.interface.addr a head text) (sym k.is_to) in
+    carried-so h moment mac to e (Connected c l) found role
+    ∙ ap (λ (d : Option Due). option_map made (option_map (λ (x : Due). sent_segment (head_of c x) (text_of c x)) d)) first in
+    let spelled : connection_octets c due ≡ sent_octets h.interface.addr to head text =
+    ap (λ (a : Addr). sent_octets a c.peer.addr head text) source ∙ ap (λ (a : Addr). sent_octets h.interface.addr a head text) (sym is_to) in
+    let framed : octets_of h moment (Sends mac to) ≡ segment_frame_to h.interface mac to (connection_octets c due) =
+    sent-frame h moment mac to e (Connected c l) found role
+    ∙ ap (λ (d : Option Due). emitted_frame h.interface mac to (option_map (λ (x : Due). what.Segment (emitted_len c x)) d) (due_octets h.sockets.addr (Connected c l))) first
+    ∙ ap (segment_frame_to h.interface mac to) (first-octets h.sockets.addr c l due first) in
     let can : CanBeSent h.interface.addr to head text =
-    subst (λ (a : Addr). CanBeSent h.interface.addr a head text) (sym k.is_to) (subst (λ (a : Addr). CanBeSent a c.peer.addr head text) source (due-can c k.due solid may)) in
-    let goes_so : Goes h.interface (octets_of h moment (Sends mac to)) own = record {
+    subst (λ (a : Addr). CanBeSent h.interface.addr a head text) (sym is_to) (subst (λ (a : Addr). CanBeSent a c.peer.addr head text) source (due-can c due solid may)) in
+    SendsSegment own carries (record {
       head = head;
       text = text;
-      is = ap (segment_frame_to h.interface mac to) spelled;
+      is = framed ∙ ap (segment_frame_to h.interface mac to) spelled;
       segment = refl;
       can = can;
-      whole = way-mac h.interface moment to mac sound.interface k.leads;
-      fits = due-fits c k.due may;
-    } in
-    record { own = own; carried_so = carries; goes = goes_so }
+      whole = way-mac h.interface moment to mac sound.interface leads;
+      fits = due-fits c due may;
+    })
+
+of-datagrams : (h : HostView) (moment : Moment) (mac : Mac) (to : Addr) (e : Entry) (bound : Option Endpoint) (socket : SocketView) (part : Part) → IsSoundHost h
+    → find (sends (goes_out_from h moment)) h.sockets.entries ≡ Some e → e.role ≡ Datagrams bound socket → due_part socket ≡ Some part → way h.interface moment to ≡ To mac → IsSending h moment mac to
+of-datagrams h moment mac to e bound socket part sound found role due leads =
+    let octets : List ℕ = due_octets h.sockets.addr (Datagrams bound socket) in
+    SendsPart part octets (carried-so h moment mac to e (Datagrams bound socket) found role)
+    (sent-frame h moment mac to e (Datagrams bound socket) found role
+    ∙ ap (λ (o : Option Part). emitted_frame h.interface mac to (option_map (λ (x : Part). what.Datagram x) o) octets) due)
+    (way-mac h.interface moment to mac sound.interface leads)
+
+pub is-sending : (h : HostView) (moment : Moment) (mac : Mac) (to : Addr) → IsSoundHost h → IsOrdered h.sockets → emission h moment ≡ Sends mac to → IsSending h moment mac to
+is-sending h moment mac to sound ordered is =
+    let k = sending h moment mac to is in
+    by_role k.e k.found k.peer k.is_to k.leads k.e.role refl k.due
+  where
+    by_due : (e : Entry) (c : View) (l : Option SocketId) → find (sends (goes_out_from h moment)) h.sockets.entries ≡ Some e → e.role ≡ Connected c l → (peer : Endpoint) → to ≡ peer.addr → way h.interface moment to ≡ To mac
+        → (o : Option Due) → first_due c ≡ o → cond (is_some o) (Some c.peer) None ≡ Some peer → IsSending h moment mac to
+    by_due e c l found role peer is_to leads None first due = cc
+    by_due e c l found role peer is_to leads (Some d) first due =
+        let same : c.peer ≡ peer = cc in
+        of-connection h moment mac to e c l d sound ordered found role first (is_to ∙ ap (λ (x : Endpoint). x.addr) (sym same)) leads
+
+    by_outbox : (e : Entry) (bound : Option Endpoint) (socket : SocketView) → find (sends (goes_out_from h moment)) h.sockets.entries ≡ Some e → e.role ≡ Datagrams bound socket → (peer : Endpoint)
+        → way h.interface moment to ≡ To mac → (out : List Outgoing) → socket.outbox ≡ out → datagram_peer out ≡ Some peer → IsSending h moment mac to
+    by_outbox e bound socket found role peer leads [] at due = cc
+    by_outbox e bound socket found role peer leads (o ∷ rest) at due =
+        of-datagrams h moment mac to e bound socket (record { identification = o.identification; fragment = fragment_of o socket.parts }) sound found role (first_part socket o rest at) leads
+
+    by_role : (e : Entry) → find (sends (goes_out_from h moment)) h.sockets.entries ≡ Some e → (peer : Endpoint) → to ≡ peer.addr → way h.interface moment to ≡ To mac → (r : Role) → e.role ≡ r → due_peer r ≡ Some peer
+        → IsSending h moment mac to
+    by_role e found peer is_to leads (Connected c l) role due = by_due e c l found role peer is_to leads (first_due c) refl due
+    by_role e found peer is_to leads (Datagrams bound socket) role due = by_outbox e bound socket found role peer leads socket.outbox refl due
+    by_role e found peer is_to leads (Listener local backlog) role due = cc
+    by_role e found peer is_to leads (Idle buffers bound) role due = cc
 
 sends-go : (h : HostView) (moment : Moment) (mac : Mac) (to : Addr) → IsSoundHost h → IsOrdered h.sockets → emission h moment ≡ Sends mac to
     → Carry h.interface (octets_of h moment (Sends mac to)) (carried_by h moment (Sends mac to))
-sends-go h moment mac to sound ordered is =
-    let k = is-sending h moment mac to sound ordered is in
-    subst (Carry h.interface (octets_of h moment (Sends mac to))) (sym k.carried_so) k.goes
+sends-go h moment mac to sound ordered is = elim (is-sending h moment mac to sound ordered is) [
+  | SendsSegment own carries goes ↦ subst (Carry h.interface (octets_of h moment (Sends mac to))) (sym carries) goes
+  | SendsPart part octets carries spelled whole ↦
+      let mine = sound.interface in
+      let none : GoesNone (octets_of h moment (Sends mac to)) = subst GoesNone (sym spelled) (part-goes h.interface mac to part octets whole mine.mac) in
+      subst (Carry h.interface (octets_of h moment (Sends mac to))) (sym carries) none
+]
 
 -- Whatever goes out.
 carries : (h : HostView) (moment : Moment) → IsSoundHost h → IsOrdered h.sockets → (x : Emission) → emission h moment ≡ x → Carry h.interface (octets_of h moment x) (carried_by h moment x)

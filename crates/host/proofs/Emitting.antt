@@ -1,25 +1,40 @@
 -- What goes out for the first entry for which a frame can.
-use Rattle.std.proofs.Common.{◌≡◌, ℕ, ◌&&◌, Bool, true, false, cond, List, [], ◌∷◌, ◌++◌, length, drop, get_or, Option, Some, None, option_map, refl, sym, ◌∙◌, ap}
+use Rattle.std.proofs.Common.{◌≡◌, ℕ, ◌+◌, ◌-◌, ◌*◌, ◌≤◌, ◌&&◌, min, Bool, true, false, cond, List, [], ◌∷◌, ◌++◌, length, drop, slice_range, get_or, Option, Some, None, is_some, option_map, refl, sym, ◌∙◌, ap, length-take}
 use Rattle.std.specs.List.{find, position}
 use Rattle.std.proofs.lemmas.List.Quantifiers.{position-Some}
 use Rattle.std.proofs.lemmas.Option.{slice_get-get_or}
+use Rattle.std.proofs.lemmas.List.{length-drop}
+use Rattle.ether.specs.declared.mac.Mac.{Mac}
+use Rattle.ipv4.specs.declared.addr.Addr.{Addr}
 use Rattle.ipv4.specs.declared.addr.Endpoint.{Endpoint}
 use Rattle.clock.specs.declared.moment.Moment.{Moment}
 use Rattle.tcp_segment.proofs.Checksum.{sent_octets_len}
-use Rattle.tcp_state.specs.Due.{first_due, emitted_len, head_of, octets_of, segment_octets as due_segment}
+use Rattle.tcp_state.specs.declared.emission.Due.{Due}
+use Rattle.tcp_state.specs.Due.{first_due, emitted_len as segment_len, head_of, octets_of, segment_octets as due_segment}
+use Rattle.interface.proofs.Framed.{framed}
 use Rattle.interface.specs.Replies.{goes_out}
 use Rattle.interface.specs.Ways.{way}
 use Rattle.sockets.specs.declared.entry.Entry.{Entry}
 use Rattle.sockets.specs.declared.role.Role.{Role}
-use Rattle.sockets.specs.declared.role.Role.TheVariants.{Idle, Listener, Connected}
-use Rattle.sockets.specs.Entries.{due_peer, has_due, is_due, sends, due_len, due_octets, due_front, IsDueAt}
-use Rattle.sockets.specs.Emission.{segment_len, segment_octets, segment_front}
+use Rattle.sockets.specs.declared.role.Role.TheVariants.{Idle, Listener, Connected, Datagrams}
+use Rattle.sockets.specs.declared.emission.Emitted.{Emitted}
+use Rattle.sockets.specs.declared.emission.Emitted.TheVariants as emitted
+use Rattle.sockets.specs.Entries.{due_peer, due_emitted, has_due, is_due, sends, due_octets, due_front, len_of, source_of, IsDueAt}
+use Rattle.sockets.specs.Emission.{emitted, emitted_octets, emitted_front}
 use Rattle.sockets.specs.SocketsView.{SocketsView}
 use Rattle.sockets.proofs.Firsts.{find-position, find-position_none}
+use Rattle.udp.specs.declared.cutting.Part.{Part}
+use Rattle.udp.specs.Datagram.{spelling}
+use Rattle.udp.specs.Fragments.{fragment, part_of}
+use Rattle.udp.proofs.Answering.{sent_len}
+use Rattle.udp.proofs.Covering.{part_is}
+use Rattle.udp_socket.specs.Emission.{datagram_of, fragment_of, head_of as datagram_head, octets_of as part_octets}
+use Rattle.udp_socket.specs.SocketView.{Outgoing}
+use borrow.Rule.Slice.PartMut.{mid_of, put_mid}
 use Rattle.host.specs.HostView.{HostView}
-use Rattle.host.specs.Emission.{Nothing, emission_from, emission_to, goes_out_from, table_emission, way_to}
+use Rattle.host.specs.Emission.{Nothing, emission_from, emission_to, emitted_frame, goes_out_from, table_emission, way_to}
 
--- where a segment is due to a peer, one is due
+-- where something is due to a peer, it is due
 due-peer : (role : Role) (peer : Endpoint) → due_peer role ≡ Some peer → has_due role ≡ true
 due-peer (Idle buffers bound) peer e = cc
 due-peer (Listener local backlog) peer e = cc
@@ -28,13 +43,14 @@ due-peer (Connected c listener) peer e = by_due (has_due (Connected c listener))
     by_due : (b : Bool) → cond b (Some c.peer) None ≡ Some peer → b ≡ true
     by_due true is = refl
     by_due false is = cc
+due-peer (Datagrams bound socket) peer e = ap (λ o. is_some o) e
 
--- whether an entry's segment goes out is what can be done for its peer's address
+-- whether what an entry has due goes out is what can be done for its peer's address
 pub sends_by : (h : HostView) (now : Moment) (e : Entry) (peer : Endpoint) → due_peer e.role ≡ Some peer → sends (goes_out_from h now) e ≡ goes_out (way h.interface now peer.addr)
 sends_by h now e peer is =
     ap (λ b. b && goes_out (way_to h now (due_peer e.role))) (due-peer e.role peer is) ∙ ap (λ p. goes_out (way_to h now p)) is
 
--- the first entry that sends has a segment due
+-- the first entry that sends has something due
 pub due_at : (goes : Entry → Bool) (entries : List Entry) (place : ℕ) → position (sends goes) entries ≡ Some place → IsDueAt entries place
 due_at goes [] place e = cc
 due_at goes (x ∷ xs) place e =
@@ -60,43 +76,73 @@ entry_from h now place x entries peer first same at is =
 pub none_from : (h : HostView) (now : Moment) → position (sends (goes_out_from h now)) h.sockets.entries ≡ None → table_emission h now ≡ Nothing
 none_from h now none = ap (emission_from h now) (find-position_none (sends (goes_out_from h now)) h.sockets.entries none)
 
--- the octets of a segment, as many as are said, are at the front
-front_is : (role : Role) (out : List ℕ) (n : ℕ) → Some n ≡ due_len role → due_front role out ≡ due_octets role ++ drop n out
-front_is (Idle buffers bound) out n e = cc
-front_is (Listener local backlog) out n e = cc
-front_is (Connected c listener) out n e =
-    elim (first_due c) as (λ d. Some n ≡ option_map (emitted_len c) d → elim d as (λ x. List ℕ) [ None ↦ out | Some w ↦ due_segment c w ++ drop (emitted_len c w) out ] ≡ elim d as (λ x. List ℕ) [ None ↦ [] | Some w ↦ due_segment c w ] ++ drop n out) [
-      | None ↦ λ e. cc
-      | Some w ↦ λ e. let same : emitted_len c w ≡ n = cc in ap (λ k. due_segment c w ++ drop k out) same
-    ] e
+-- The octets of what goes out, as many as are said, are at the front.
 
-len_is : (role : Role) (n : ℕ) → Some n ≡ due_len role → length (due_octets role) ≡ n
-len_is (Idle buffers bound) n e = cc
-len_is (Listener local backlog) n e = cc
-len_is (Connected c listener) n e =
-    elim (first_due c) as (λ d. Some n ≡ option_map (emitted_len c) d → length (elim d as (λ x. List ℕ) [ None ↦ [] | Some w ↦ due_segment c w ]) ≡ n) [
-      | None ↦ λ e. cc
-      | Some w ↦ λ e. let same : emitted_len c w ≡ n = cc in sent_octets_len c.local.addr c.peer.addr (head_of c w) (octets_of c w) ∙ same
-    ] e
+-- a part has the octets that its fragment tells
+part_len : (source : Endpoint) (o : Outgoing) (number : ℕ) → length (part_octets source o number) ≡ (let f = fragment_of o number in f.len)
+part_len source o number =
+    let payload : List ℕ = spelling (datagram_of source o) in
+    let len : length payload ≡ 8 + length o.octets = sent_len source.addr o.peer.addr (datagram_head source o) o.octets in
+    ap (λ n. length (part_of payload (fragment n number))) (sym len)
+    ∙ ap length (part_is payload number)
+    ∙ length-take 1480 (drop (1480 * number) payload)
+    ∙ ap (λ n. min 1480 n) (length-drop (1480 * number) payload ∙ ap (λ n. n - 1480 * number) len)
+
+front_is : (own : Addr) (role : Role) (out : List ℕ) (what : Emitted) → due_emitted role ≡ Some what → due_front own role out ≡ due_octets own role ++ drop (len_of what) out
+front_is own role out what e = rw e refl
 
 -- the first entry's
-pub segment_front_is : (h : SocketsView) (goes : Entry → Bool) (out : List ℕ) (n : ℕ) → Some n ≡ segment_len h goes → segment_front h goes out ≡ segment_octets h goes ++ drop n out
-segment_front_is h goes out n e = by_entry (find (sends goes) h.entries) refl
+pub emitted_front_is : (h : SocketsView) (goes : Entry → Bool) (out : List ℕ) (what : Emitted) → Some what ≡ emitted h goes → emitted_front h goes out ≡ emitted_octets h goes ++ drop (len_of what) out
+emitted_front_is h goes out what e = by_entry (find (sends goes) h.entries) refl
   where
-    by_entry : (o : Option Entry) → find (sends goes) h.entries ≡ o → segment_front h goes out ≡ segment_octets h goes ++ drop n out
-    by_entry None found = let len : segment_len h goes ≡ None = rw found in let no = e ∙ len in cc
+    by_entry : (o : Option Entry) → find (sends goes) h.entries ≡ o → emitted_front h goes out ≡ emitted_octets h goes ++ drop (len_of what) out
+    by_entry None found = let told : emitted h goes ≡ None = rw found in let no = e ∙ told in cc
     by_entry (Some x) found =
-        let len : segment_len h goes ≡ due_len x.role = rw found in
-        let front : segment_front h goes out ≡ due_front x.role out = rw found in
-        let octets : segment_octets h goes ≡ due_octets x.role = rw found in
-        front ∙ front_is x.role out n (e ∙ len) ∙ ap (λ l. l ++ drop n out) (sym octets)
+        let told : emitted h goes ≡ due_emitted x.role = rw found in
+        let front : emitted_front h goes out ≡ due_front h.addr x.role out = rw found in
+        let octets : emitted_octets h goes ≡ due_octets h.addr x.role = rw found in
+        front ∙ front_is h.addr x.role out what (sym told ∙ sym e) ∙ ap (λ l. l ++ drop (len_of what) out) (sym octets)
 
-pub segment_len_is : (h : SocketsView) (goes : Entry → Bool) (n : ℕ) → Some n ≡ segment_len h goes → length (segment_octets h goes) ≡ n
-segment_len_is h goes n e = by_entry (find (sends goes) h.entries) refl
+role_octets_len : (own : Addr) (role : Role) (what : Emitted) → due_emitted role ≡ Some what → length (due_octets own role) ≡ len_of what
+role_octets_len own (Idle buffers bound) what e = cc
+role_octets_len own (Listener local backlog) what e = cc
+role_octets_len own (Connected c listener) what e = by_due (first_due c) refl e
   where
-    by_entry : (o : Option Entry) → find (sends goes) h.entries ≡ o → length (segment_octets h goes) ≡ n
-    by_entry None found = let len : segment_len h goes ≡ None = rw found in let no = e ∙ len in cc
+    by_due : (o : Option Due) → first_due c ≡ o → option_map (λ due. emitted.Segment (segment_len c due)) o ≡ Some what → length (due_octets own (Connected c listener)) ≡ len_of what
+    by_due None first e = cc
+    by_due (Some due) first e =
+        let same : emitted.Segment (segment_len c due) ≡ what = cc in
+        let octets : due_octets own (Connected c listener) ≡ due_segment c due = rw first in
+        ap length octets ∙ sent_octets_len c.local.addr c.peer.addr (head_of c due) (octets_of c due) ∙ ap len_of same
+role_octets_len own (Datagrams bound socket) what e = by_outbox socket.outbox refl
+  where
+    by_outbox : (out : List Outgoing) → socket.outbox ≡ out → length (due_octets own (Datagrams bound socket)) ≡ len_of what
+    by_outbox [] at =
+        let none : due_emitted (Datagrams bound socket) ≡ None = rw at refl in
+        let no = sym none ∙ e in cc
+    by_outbox (o ∷ rest) at =
+        let part : Part = record { identification = o.identification; fragment = fragment_of o socket.parts } in
+        let told : due_emitted (Datagrams bound socket) ≡ Some (emitted.Datagram part) = rw at refl in
+        let same : emitted.Datagram part ≡ what = (let both = sym told ∙ e in cc) in
+        let octets : due_octets own (Datagrams bound socket) ≡ part_octets (source_of own bound) o socket.parts = rw at refl in
+        ap length octets ∙ part_len (source_of own bound) o socket.parts ∙ ap len_of same
+
+pub emitted_octets_len : (h : SocketsView) (goes : Entry → Bool) (what : Emitted) → Some what ≡ emitted h goes → length (emitted_octets h goes) ≡ len_of what
+emitted_octets_len h goes what e = by_entry (find (sends goes) h.entries) refl
+  where
+    by_entry : (o : Option Entry) → find (sends goes) h.entries ≡ o → length (emitted_octets h goes) ≡ len_of what
+    by_entry None found = let told : emitted h goes ≡ None = rw found in let no = e ∙ told in cc
     by_entry (Some x) found =
-        let len : segment_len h goes ≡ due_len x.role = rw found in
-        let octets : segment_octets h goes ≡ due_octets x.role = rw found in
-        ap length octets ∙ len_is x.role n (e ∙ len)
+        let told : emitted h goes ≡ due_emitted x.role = rw found in
+        let octets : emitted_octets h goes ≡ due_octets h.addr x.role = rw found in
+        ap length octets ∙ role_octets_len h.addr x.role what (sym told ∙ sym e)
+
+-- they stand in a frame behind its heads
+pub framed_out : (h : HostView) (goes : Entry → Bool) (mac : Mac) (to : Addr) (out written after : List ℕ) (what : Emitted) (m : ℕ) → length out ≡ 1514 → Some what ≡ emitted h.sockets goes
+    → written ≡ emitted_front h.sockets goes (mid_of 34 1480 out) → len_of what ≤ 1480 → 34 + len_of what ≤ m
+    → after ≡ emitted_frame h.interface mac to (Some what) (slice_range (put_mid 34 1480 out written) 34 (34 + len_of what)) ++ drop m (put_mid 34 1480 out written)
+    → after ≡ emitted_frame h.interface mac to (emitted h.sockets goes) (emitted_octets h.sockets goes) ++ drop m out
+framed_out h goes mac to out written after what m len told front fits past is =
+    framed (emitted_frame h.interface mac to (Some what)) out written (emitted_octets h.sockets goes) after (len_of what) m len
+    (front ∙ emitted_front_is h.sockets goes (mid_of 34 1480 out) what told) (emitted_octets_len h.sockets goes what told) fits past is
+    ∙ ap (λ (o : Option Emitted). emitted_frame h.interface mac to o (emitted_octets h.sockets goes) ++ drop m out) told

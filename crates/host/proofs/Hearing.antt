@@ -1,4 +1,5 @@
--- What is heard of a frame that goes out: a segment or a control message at its address, as it was meant, and neither in anything else.
+-- What is heard of a frame that goes out: a segment or a control message at its address, as it was meant, and neither in anything else, such as
+-- a part of a user datagram.
 use Rattle.std.proofs.Common.{◌≡◌, ℕ, ◌+◌, ◌*◌, ◌≤◌, Bool, true, false, cond, if◌then◌else◌, List, [], ◌++◌, length, append-nil, Option, Some, None, Ok, refl, ap, arith}
 use Rattle.ether.specs.declared.mac.Mac.{Mac}
 use Rattle.ipv4.specs.declared.addr.Addr.{Addr}
@@ -17,17 +18,19 @@ use Rattle.frames.specs.declared.meaning.Received.{Received}
 use Rattle.frames.specs.declared.meaning.Meaning.TheVariants.{Tcp, Icmp}
 use Rattle.frames.specs.Meaning.{heard}
 use Rattle.frames.specs.Pairs.{pair_in, pair_between}
-use Rattle.frames.proofs.Hearers.{as_sent, messages_as_sent, no_message_in_packet, no_message_in_segment, no_packet, no_segment_in_message}
-use Rattle.frames.proofs.EmittedPairs.{message_pairs, packet_pairs, segment_pairs}
+use Rattle.frames.proofs.Hearers.{as_sent, messages_as_sent, no_message_in_packet, no_message_in_segment, no_packet, no_segment_in_message, no_segment_in_part}
+use Rattle.frames.proofs.UserHearers.{no_message_in_part}
+use Rattle.frames.proofs.EmittedPairs.{message_pairs, packet_pairs, part_pairs, segment_pairs}
 use Rattle.icmp.specs.declared.error.Reason.{Reason}
 use Rattle.interface.specs.declared.reply.Reply.TheVariants.{Arp, Reset, Echo, Error}
 use Rattle.interface.specs.declared.way.Way.TheVariants.{To, Ask, Waits}
 use Rattle.interface.specs.InterfaceView.{InterfaceView}
-use Rattle.interface.specs.Emission.{head_to, segment_frame_to, message_frame_to, request_frame, reply_frame}
+use Rattle.interface.specs.Emission.{head_to, segment_frame_to, message_frame_to, part_frame_to, request_frame, reply_frame}
 use Rattle.interface.specs.Routing.{next_hop}
 use Rattle.interface.specs.Sound.{IsSound, IsSoundEcho, IsSoundError}
 use Rattle.interface.specs.Ways.{mac_of, way_by_mac, way_over, way}
 use Rattle.interface.proofs.KnownMacs.{known_macs}
+use Rattle.udp.specs.declared.cutting.Part.{Part}
 
 -- in no octets there is no segment
 pub heard-nothing : (mac : Mac) (ours : Addr) (r : Received) → heard mac ours [] ≡ Ok (Tcp r) → ⊥
@@ -171,6 +174,22 @@ error-can i theirs to reason quoted sound solid whole = record {
   most = let all : length (quoted ++ []) ≡ length quoted = ap length (append-nil quoted) in omega (arith, all, solid.most);
   spelled = error_spelled reason quoted [];
 }
+
+-- A part of a user datagram.
+
+pub segment-part : (i : InterfaceView) (theirs : Mac) (to : Addr) (part : Part) (octets : List ℕ) (mac : Mac) (ours : Addr) (r : Received) → length theirs.0 ≡ 6 → length i.mac.0 ≡ 6
+    → heard mac ours (part_frame_to i theirs to part octets) ≡ Ok (Tcp r) → ⊥
+unfolding part_frame_to
+segment-part i theirs to part octets mac ours r whole own e = no_segment_in_part (head_to i theirs to) part octets mac ours r whole own e
+
+pub message-part : (i : InterfaceView) (theirs : Mac) (to : Addr) (part : Part) (octets : List ℕ) (mac : Mac) (ours : Addr) (c : Control) → length theirs.0 ≡ 6 → length i.mac.0 ≡ 6
+    → heard mac ours (part_frame_to i theirs to part octets) ≡ Ok (Icmp c) → ⊥
+unfolding part_frame_to
+message-part i theirs to part octets mac ours c whole own e = no_message_in_part (head_to i theirs to) part octets mac ours c whole own e
+
+pub pair-part : (i : InterfaceView) (theirs : Mac) (to : Addr) (part : Part) (octets : List ℕ) → length theirs.0 ≡ 6 → length i.mac.0 ≡ 6 → pair_in (part_frame_to i theirs to part octets) ≡ None
+unfolding part_frame_to
+pair-part i theirs to part octets whole own = part_pairs (head_to i theirs to) part octets whole own
 
 -- the hop of a way that is open has a whole MAC
 pub way-mac : (i : InterfaceView) (now : Moment) (to : Addr) (mac : Mac) → IsSound i → way i now to ≡ To mac → length mac.0 ≡ 6

@@ -10,3 +10,4 @@ pub mod HeldBack
 pub mod Causes
 pub mod Messages
 pub mod Reporting
+pub mod Gathering

@@ -7,11 +7,12 @@ use Rattle.ipv4.specs.Datagram.{Datagram, header_octets}
 use Rattle.clock.specs.declared.moment.Moment.{Moment}
 use Rattle.icmp.specs.declared.error.Reason.{Reason}
 use Rattle.icmp.specs.declared.error.Reason.TheVariants.{NetUnreachable, HostUnreachable, ProtocolUnreachable, PortUnreachable, FragmentationNeeded, SourceRouteFailed, TransitTimeExceeded, ReassemblyTimeExceeded}
-use Rattle.icmp.specs.Errors.{kind_of}
+use Rattle.icmp.specs.Errors.{code_of, kind_of}
 use Rattle.icmp.specs.Message.{Message, IsEchoRequest, spelling}
 use Rattle.icmp.specs.Sent.{RepliesTo, echo_reply, error_for, sent}
 use Rattle.frames.specs.declared.meaning.Control.{Control}
-use Rattle.frames.specs.declared.meaning.Meaning.TheVariants.{Icmp, Other}
+use Rattle.frames.specs.declared.meaning.Meaning.{Meaning}
+use Rattle.frames.specs.declared.meaning.Meaning.TheVariants.{Icmp}
 use Rattle.frames.specs.Meaning.{heard}
 use Rattle.interface.specs.declared.reply.Reply.{Reply}
 use Rattle.interface.specs.declared.reply.Reply.TheVariants.{Arp, Reset, Echo, Error}
@@ -24,14 +25,15 @@ use Rattle.interface.specs.Replies.{way_of}
 use Rattle.interface.specs.Sound.{IsSoundReply}
 use Rattle.sockets.specs.Order.{IsOrdered}
 use Rattle.sockets.specs.SocketsView.{later_moment}
+use Rattle.host.specs.Causes.{IsAbout}
 use Rattle.host.specs.ConfigView.{ConfigView}
 use Rattle.host.specs.Emission.{Emission, Replies, Sends, Asks, Nothing, emission, emission_octets, octets_of}
 use Rattle.host.specs.HostView.{HostView}
 use Rattle.host.specs.Runs.{Event, Runs, WasHeard}
 use Rattle.host.specs.Sound.{IsSoundHost}
-use Rattle.host.proofs.Carriage.{at-all, is-sending}
+use Rattle.host.proofs.Carriage.{SendsPart, SendsSegment, at-all, is-sending}
 use Rattle.host.proofs.Causes.{IsCaused, run-stands}
-use Rattle.host.proofs.Hearing.{CanGo, echo-can, echo-frame, error-can, error-frame, heard-message, message-nothing, message-reply, message-request, message-reset, message-segment, way-mac}
+use Rattle.host.proofs.Hearing.{CanGo, echo-can, echo-frame, error-can, error-frame, heard-message, message-nothing, message-part, message-reply, message-request, message-reset, message-segment, way-mac}
 
 -- the message that is heard of a reply, and where
 abbrev pub IsOfReply : Reply → Addr → Message → Type 0
@@ -88,11 +90,14 @@ was-reply h moment sound ordered (Replies place) is mac ours c e = by_place (sli
           at = at;
           is = of-reply h moment sound waiting.reply (at-all (λ (w : Waiting). IsSoundReply h.interface.addr w.reply) h.interface.replies place waiting own.replies at) (way_of h.interface moment waiting.reply) refl mac ours c e;
         }
-was-reply h moment sound ordered (Sends theirs to) is mac ours c e =
-    let own = sound.interface in
-    let k = is-sending h moment theirs to sound ordered is in
-    let g = k.goes in
-    absurd (message-segment h.interface k.own.mac k.own.to g.head g.text mac ours c g.can g.whole own.mac g.fits (subst (λ (l : List ℕ). heard mac ours l ≡ Ok (Icmp c)) g.is e))
+was-reply h moment sound ordered (Sends theirs to) is mac ours c e = elim (is-sending h moment theirs to sound ordered is) [
+  | SendsSegment own carried goes ↦
+      let mine = sound.interface in
+      absurd (message-segment h.interface own.mac own.to goes.head goes.text mac ours c goes.can goes.whole mine.mac goes.fits (subst (λ (l : List ℕ). heard mac ours l ≡ Ok (Icmp c)) goes.is e))
+  | SendsPart part octets carried spelled whole ↦
+      let mine = sound.interface in
+      absurd (message-part h.interface theirs to part octets mac ours c whole mine.mac (subst (λ (l : List ℕ). heard mac ours l ≡ Ok (Icmp c)) spelled e))
+]
 was-reply h moment sound ordered (Asks hop) is mac ours c e = absurd (let own = sound.interface in message-request h.interface hop mac ours c own.mac e)
 was-reply h moment sound ordered Nothing is mac ours c e = absurd (message-nothing mac ours c e)
 
@@ -129,26 +134,26 @@ requested c events (Echo to identifier number octets) ours m caused is kind = (
 requested c events (Error to reason quoted) ours m caused is kind = absurd (no-error reason (sym (ap (λ (x : Message). x.kind) is.1) ∙ kind))
 
 abbrev Reported : ConfigView → List Event → Addr → Message → Type 0
-Reported c events ours m = (d : Datagram) × WasHeard c events (Other d) × (d.source ≡ ours) × (m ≡ error_for ProtocolUnreachable (header_octets d) d.payload)
+Reported c events ours m =
+    (reason : Reason) × (d : Datagram) × (meaning : Meaning) × IsAbout reason d meaning × WasHeard c events meaning × (d.source ≡ ours) × (m ≡ error_for reason (header_octets d) d.payload)
+
+quoting : Reason → List ℕ → Message
+quoting reason quoted = sent (record { kind = kind_of reason; code = code_of reason; identifier = 0; number = 0 }) quoted
 
 reported : (c : ConfigView) (events : List Event) (r : Reply) (ours : Addr) (m : Message) → IsCaused c events r → IsOfReply r ours m → m.kind ≢ 0 → Reported c events ours m
+unfolding quoting
 reported c events (Arp packet) ours m caused is kind = absurd is
 reported c events (Reset to head) ours m caused is kind = absurd is
 reported c events (Echo to identifier number octets) ours m caused is kind = absurd (kind (ap (λ (x : Message). x.kind) is.1))
 reported c events (Error to reason quoted) ours m caused is kind =
-    let d : Datagram = caused.cause in (
-      d,
-      caused.was_heard,
-      caused.from ∙ sym is.0,
-      is.1 ∙ ap (λ (x : Reason). error_for x quoted []) caused.unreachable
-          ∙ ap (λ (l : List ℕ). sent (record { kind = 3; code = 2; identifier = 0; number = 0 }) l) (append-nil quoted ∙ caused.quotes),
-    )
+    (reason, caused.cause, caused.meaning, caused.about, caused.was_heard, caused.from ∙ sym is.0, is.1 ∙ ap (quoting reason) (append-nil quoted ∙ caused.quotes))
 
 -- What goes out after these events.
 
 caused-at : (c : ConfigView) (events : List Event) (h : HostView) (k : ℕ) (w : Waiting) → Runs c events h → slice_get h.interface.replies k ≡ Some w → IsCaused c events w.reply
 caused-at c events h k w ran at =
-    let stands = run-stands c events h ran in
+    let host = run-stands c events h ran in
+    let stands = host.interface in
     at-all (λ (x : Waiting). IsCaused c events x.reply) h.interface.replies k w stands.replies at
 
 pub request-there : (c : ConfigView) (events : List Event) (h : HostView) (now : Moment) (mac : Mac) (ours : Addr) (reply : Control) → Runs c events h → IsSoundHost h → IsOrdered h.sockets

@@ -12,16 +12,18 @@ use Rattle.arp.specs.declared.packet.ArpPacket.{ArpPacket}
 use Rattle.arp.specs.Cache.{is_request_for}
 use Rattle.arp.specs.Packet.{reply_to}
 use Rattle.arp.specs.Reading.{packet_in}
+use Rattle.icmp.specs.declared.error.Reason.{Reason}
 use Rattle.icmp.specs.MayAnswer.{MayAnswer}
 use Rattle.icmp.specs.Message.{Message, IsEchoRequest}
 use Rattle.frames.specs.declared.drop.DropCause.{DropCause}
 use Rattle.frames.specs.declared.drop.DropCause.TheVariants.{Short, OtherMac, OtherType, OtherAddress}
 use Rattle.frames.specs.declared.meaning.Control.{Control}
 use Rattle.frames.specs.declared.meaning.Meaning.{Meaning}
-use Rattle.frames.specs.declared.meaning.Meaning.TheVariants.{Arp, Tcp, Icmp, Other, UdpFragment}
+use Rattle.frames.specs.declared.meaning.Meaning.TheVariants.{Arp, Tcp, Icmp, Udp, Other, UdpFragment}
+use Rattle.frames.specs.declared.meaning.UserReceived.{UserReceived}
 use Rattle.frames.specs.Meaning.{broadcast, datagram_heard, frame_heard, heard, may_send, packet_heard, same_mac}
 use Rattle.frames.proofs.Deciding.{mac-Decides}
-use Rattle.frames.proofs.Hearers.{others_from_others, others_are_whole}
+use Rattle.frames.proofs.Hearers.{fragments_are_parts, fragments_from_others, others_are_whole, others_from_others, users_are_carried, users_from_others}
 use Rattle.interface.specs.declared.reply.Reply.{Reply}
 use Rattle.interface.specs.declared.reply.Reply.TheVariants as reply
 use Rattle.interface.specs.declared.reply.QueueFault.TheVariants as fault
@@ -32,25 +34,44 @@ use Rattle.interface.specs.Ways.{is_routed}
 use Rattle.sockets.specs.Arrival.{Arrival, Becomes, Opens, NoPlace, Answers}
 use Rattle.sockets.specs.SocketsView.{later_moment}
 use Rattle.host.specs.Arrival.{IsDelivered, MeetsHeard, MeetsMessage, MeetsSegment, heard_by, queue_answer, segment_arrival}
+use Rattle.host.specs.Causes.{IsAbout, Untaken, Unbound, UnboundInFragments, Late}
 use Rattle.host.specs.ConfigView.{IsOfOne}
 use Rattle.host.specs.HostView.{HostView, with_interface}
 use Rattle.host.specs.Messages.{Told, Asks, Refuses, Nothing, errors_of, is_error, refused_quote, told_by, told_by_quote}
 
--- a datagram that nothing takes
-pub may-answer : (mac : Mac) (ours : Addr) (octets : List ℕ) (d : Datagram) → IsSingleHost ours → heard mac ours octets ≡ Ok (Other d) → MayAnswer d false
-may-answer mac ours octets d single e =
-    let here = others_from_others mac ours octets d e in
-    let others = others_are_whole mac ours octets d e in
-    let whole = others.1 in
-    let at : IsSingleHost d.destination = subst IsSingleHost (sym here.1) single in
+-- a datagram of another protocol than ICMP, from one host, for one host, and no later fragment
+may-so : (ours : Addr) (d : Datagram) → IsSingleHost ours → d.destination ≡ ours → IsSingleHost d.source → d.protocol ≢ 1 → d.offset ≡ 0 → MayAnswer d false
+may-so ours d single here from other first =
+    let at : IsSingleHost d.destination = subst IsSingleHost (sym here) single in
     record {
-      no_error = λ is. others.3 is.protocol;
-      no_broadcast = λ is. let first : slice_index d.destination.0 0 ≡ 255 = ap (λ (l : List ℕ). slice_index l 0) is in omega (arith, first, at.class_a_to_c);
+      no_error = λ is. other is.protocol;
+      no_broadcast = λ is. let octet : slice_index d.destination.0 0 ≡ 255 = ap (λ (l : List ℕ). slice_index l 0) is in omega (arith, octet, at.class_a_to_c);
       no_multicast = λ is. omega (arith, is.least, at.class_a_to_c);
       no_link_broadcast = λ is. cc;
-      first_fragment = whole.1;
-      single_source = others.0.single;
+      first_fragment = first;
+      single_source = from;
     }
+
+not-icmp : (n : ℕ) → n ≡ 17 → n ≢ 1
+not-icmp n is other = omega (arith, is, other)
+
+-- what an error is about
+pub may-answer : (mac : Mac) (ours : Addr) (octets : List ℕ) (reason : Reason) (d : Datagram) (meaning : Meaning) → IsSingleHost ours → heard mac ours octets ≡ Ok meaning → IsAbout reason d meaning → MayAnswer d false
+may-answer mac ours octets _ _ _ single e (Untaken d) =
+    let others = others_are_whole mac ours octets d e in
+    let whole = others.1 in
+    may-so ours d single (others_from_others mac ours octets d e).1 others.0.single others.3 whole.1
+may-answer mac ours octets _ _ _ single e (Unbound d u) =
+    let r : UserReceived = record { carrier = d; datagram = u } in
+    let users = users_are_carried mac ours octets r e in
+    let whole = users.1 in
+    may-so ours d single (users_from_others mac ours octets r e).1 users.0.single (not-icmp d.protocol users.2) whole.1
+may-answer mac ours octets _ _ _ single e (UnboundInFragments d first) =
+    let parts = fragments_are_parts mac ours octets d e in
+    may-so ours d single (fragments_from_others mac ours octets d e).1 parts.0.single (not-icmp d.protocol parts.2) first
+may-answer mac ours octets _ _ _ single e (Late d first) =
+    let parts = fragments_are_parts mac ours octets d e in
+    may-so ours d single (fragments_from_others mac ours octets d e).1 parts.0.single (not-icmp d.protocol parts.2) first
 
 -- the frame of one isn't for all of the link
 no-broadcast : (mac : Mac) → IsOfOne mac → mac ≢ broadcast
@@ -59,35 +80,54 @@ no-broadcast mac one is =
     let even : 255 % 2 ≡ 0 = ap (λ n. n % 2) (sym first) ∙ one in
     omega (arith, even)
 
-of_packet : (ours : Addr) (d : Datagram) (o : Option ArpPacket) → packet_heard ours o ≡ Ok (Other d) → ⊥
-of_packet ours d None e = cc
-of_packet ours d (Some p) e = by_test (may_send ours p.sender_addr) e
+-- what isn't an ARP packet
+abbrev IsNoPacket : Meaning → Type 0
+IsNoPacket (Arp packet) = ⊥
+IsNoPacket (Tcp r) = Unit {0}
+IsNoPacket (Icmp c) = Unit {0}
+IsNoPacket (Udp r) = Unit {0}
+IsNoPacket (Other d) = Unit {0}
+IsNoPacket (UdpFragment d) = Unit {0}
+
+about-no-packet : (reason : Reason) (d : Datagram) (meaning : Meaning) → IsAbout reason d meaning → IsNoPacket meaning
+about-no-packet _ _ _ (Untaken d) = tt
+about-no-packet _ _ _ (Unbound d u) = tt
+about-no-packet _ _ _ (UnboundInFragments d first) = tt
+about-no-packet _ _ _ (Late d first) = tt
+
+of_packet : (ours : Addr) (m : Meaning) (o : Option ArpPacket) → IsNoPacket m → packet_heard ours o ≡ Ok m → ⊥
+of_packet ours m None other e = cc
+of_packet ours m (Some p) other e = by_test (may_send ours p.sender_addr) e
   where
-    by_test : (b : Bool) → cond b (Ok (Arp p)) (Err OtherAddress) ≡ Ok (Other d) → ⊥
-    by_test true e = cc
+    by_test : (b : Bool) → cond b (Ok (Arp p)) (Err OtherAddress) ≡ Ok m → ⊥
+    by_test true e = let same : Arp p ≡ m = cc in subst IsNoPacket (sym same) other
     by_test false e = cc
 
-of_frame : (mac : Mac) (ours : Addr) (d : Datagram) (f : Frame) → IsOfOne mac → frame_heard mac ours (Some f) ≡ Ok (Other d) → f.destination ≢ broadcast
-of_frame mac ours d f one e for_all =
+of_frame : (mac : Mac) (ours : Addr) (m : Meaning) (f : Frame) → IsOfOne mac → IsNoPacket m → frame_heard mac ours (Some f) ≡ Ok m → f.destination ≢ broadcast
+of_frame mac ours m f one other e for_all =
     by_tests (same_mac f.destination mac) (same_mac f.destination broadcast) (f.kind == 2054) refl e
   where
     rest : Result Meaning DropCause
     rest = cond (f.kind == 2048) (datagram_heard ours (datagram_in f.payload)) (Err OtherType)
 
-    by_tests : (own all arp : Bool) → same_mac f.destination mac ≡ own → cond (own || (all && arp)) (cond arp (packet_heard ours (packet_in f.payload)) rest) (Err OtherMac) ≡ Ok (Other d) → ⊥
-    by_tests true all true own e = of_packet ours d (packet_in f.payload) e
+    by_tests : (own all arp : Bool) → same_mac f.destination mac ≡ own → cond (own || (all && arp)) (cond arp (packet_heard ours (packet_in f.payload)) rest) (Err OtherMac) ≡ Ok m → ⊥
+    by_tests true all true own e = of_packet ours m (packet_in f.payload) other e
     by_tests true all false own e = no-broadcast mac one (sym ((mac-Decides f.destination mac).0 own) ∙ for_all)
-    by_tests false true true own e = of_packet ours d (packet_in f.payload) e
+    by_tests false true true own e = of_packet ours m (packet_in f.payload) other e
     by_tests false true false own e = cc
     by_tests false false arp own e = cc
 
-pub in-no-broadcast : (mac : Mac) (ours : Addr) (octets : List ℕ) (d : Datagram) (f : Frame) → IsOfOne mac → heard mac ours octets ≡ Ok (Other d) → frame_in octets ≡ Some f → f.destination ≢ broadcast
+in-none : (mac : Mac) (ours : Addr) (octets : List ℕ) (m : Meaning) (f : Frame) → IsOfOne mac → IsNoPacket m → heard mac ours octets ≡ Ok m → frame_in octets ≡ Some f → f.destination ≢ broadcast
 unfolding heard
-in-no-broadcast mac ours octets d f one e framed = by_length (nat_lt 1514 (length octets)) e
+in-none mac ours octets m f one other e framed = by_length (nat_lt 1514 (length octets)) e
   where
-    by_length : (many : Bool) → cond many (Err Short) (frame_heard mac ours (frame_in octets)) ≡ Ok (Other d) → f.destination ≢ broadcast
+    by_length : (many : Bool) → cond many (Err Short) (frame_heard mac ours (frame_in octets)) ≡ Ok m → f.destination ≢ broadcast
     by_length true e = cc
-    by_length false e = of_frame mac ours d f one (subst (λ (o : Option Frame). frame_heard mac ours o ≡ Ok (Other d)) framed e)
+    by_length false e = of_frame mac ours m f one other (subst (λ (o : Option Frame). frame_heard mac ours o ≡ Ok m) framed e)
+
+pub in-no-broadcast : (mac : Mac) (ours : Addr) (octets : List ℕ) (reason : Reason) (d : Datagram) (meaning : Meaning) (f : Frame) → IsOfOne mac → heard mac ours octets ≡ Ok meaning → IsAbout reason d meaning
+    → frame_in octets ≡ Some f → f.destination ≢ broadcast
+in-no-broadcast mac ours octets reason d meaning f one e about framed = in-none mac ours octets meaning f one (about-no-packet reason d meaning about) e framed
 
 -- No other frame adds an error.
 
@@ -119,20 +159,22 @@ of_message Asks h moment c answer new met =
 of_message (Refuses quote) h moment c answer new met = ap errors_of met.1
 of_message Nothing h moment c answer new met = ap errors_of met.1
 
-of_meaning : (m : Result Meaning DropCause) (h : HostView) (moment : Moment) (isn : ℕ) (answer : Result (Unit {0}) DropCause) (new : HostView) → ((d : Datagram) → m ≢ Ok (Other d)) → MeetsHeard m h moment isn answer new
-    → errors_of new ≡ errors_of h
-of_meaning (Ok (Arp packet)) h moment isn answer new none met =
+of_meaning : (m : Result Meaning DropCause) (h : HostView) (moment : Moment) (isn : ℕ) (answer : Result (Unit {0}) DropCause) (new : HostView)
+    → ((d : Datagram) → m ≢ Ok (Other d)) → ((r : UserReceived) → m ≢ Ok (Udp r)) → ((d : Datagram) → m ≢ Ok (UdpFragment d)) → MeetsHeard m h moment isn answer new → errors_of new ≡ errors_of h
+of_meaning (Ok (Arp packet)) h moment isn answer new none user part met =
     let aware : HostView = with_interface h (learnt moment packet h.interface) in
     ap errors_of met.1 ∙ owed-adds-none aware (is_request_for h.interface.addr packet) moment (reply.Arp (reply_to packet h.interface.mac)) refl
-of_meaning (Ok (Tcp r)) h moment isn answer new none met = of_segment (segment_arrival h moment isn r.source r.segment) h moment r.source answer new met
-of_meaning (Ok (Icmp c)) h moment isn answer new none met = of_message (told_by c.message) h moment c answer new met
-of_meaning (Ok (Other d)) h moment isn answer new none met = absurd (none d refl)
-of_meaning (Ok (UdpFragment d)) h moment isn answer new none met = ap errors_of met.1
-of_meaning (Err cause) h moment isn answer new none met = ap errors_of met.1
+of_meaning (Ok (Tcp r)) h moment isn answer new none user part met = of_segment (segment_arrival h moment isn r.source r.segment) h moment r.source answer new met
+of_meaning (Ok (Icmp c)) h moment isn answer new none user part met = of_message (told_by c.message) h moment c answer new met
+of_meaning (Ok (Udp r)) h moment isn answer new none user part met = absurd (user r refl)
+of_meaning (Ok (Other d)) h moment isn answer new none user part met = absurd (none d refl)
+of_meaning (Ok (UdpFragment d)) h moment isn answer new none user part met = absurd (part d refl)
+of_meaning (Err cause) h moment isn answer new none user part met = ap errors_of met.1
 
-pub others-add-none : (h : HostView) (now : Moment) (isn : ℕ) (octets : List ℕ) (answer : Result (Unit {0}) DropCause) (new : HostView) → ((d : Datagram) → heard_by h octets ≢ Ok (Other d))
+pub others-add-none : (h : HostView) (now : Moment) (isn : ℕ) (octets : List ℕ) (answer : Result (Unit {0}) DropCause) (new : HostView)
+    → ((d : Datagram) → heard_by h octets ≢ Ok (Other d)) → ((r : UserReceived) → heard_by h octets ≢ Ok (Udp r)) → ((d : Datagram) → heard_by h octets ≢ Ok (UdpFragment d))
     → IsDelivered h now isn octets answer new → errors_of new ≡ errors_of h
-others-add-none h now isn octets answer new none delivered = of_meaning (heard_by h octets) h (later_moment h.sockets now) isn answer new none delivered
+others-add-none h now isn octets answer new none user part delivered = of_meaning (heard_by h octets) h (later_moment h.sockets now) isn answer new none user part delivered
 
 -- A request that is taken is answered.
 

@@ -1,5 +1,5 @@
 -- The deadline, and that a tick before it changes nothing where no neighbour is forgotten.
-use Rattle.std.proofs.Common.{◌≡◌, ◌≤◌, ◌&&◌, ◌||◌, not, nat_lt, Bool, true, false, cond, List, [], ◌∷◌, filter, fold, length, Option, Some, None, is_some, option_map, refl, sym, ◌∙◌, ap, arith}
+use Rattle.std.proofs.Common.{◌≡◌, ℕ, ◌<◌, ◌≤◌, ◌&&◌, ◌||◌, not, nat_lt, Bool, true, false, cond, List, [], ◌∷◌, filter, fold, length, Option, Some, None, IfSome, is_some, option_map, refl, sym, ◌∙◌, ap, arith}
 use Rattle.std.specs.List.{find, list_any, AllByRecursion}
 use Rattle.std.proofs.lemmas.Bool.Decides.{nat_tests}
 use Rattle.ipv4.specs.declared.addr.Addr.{Addr}
@@ -14,17 +14,25 @@ use Rattle.interface.specs.InterfaceView.{InterfaceView}
 use Rattle.interface.specs.Routing.{next_hop}
 use Rattle.interface.specs.Ways.{knows_hop, mac_of}
 use Rattle.interface.specs.Timing.{asked_until, deadline_for, deadline_of, end_of, is_over, is_unknown, sought, stays, after_tick as interface_after_tick, least_deadline as reply_deadline}
+use Rattle.reassembly.specs.Places.{after_age as pool_after_age, expired, next_deadline as pool_deadline}
+use Rattle.reassembly.specs.Reassembly.{Reassembly}
+use Rattle.reassembly.proofs.Soonest.{nothing_before}
 use Rattle.sockets.specs.declared.entry.Entry.{Entry}
+use Rattle.sockets.specs.declared.entry.SocketId.{SocketId}
 use Rattle.sockets.specs.declared.role.Role.{Role}
-use Rattle.sockets.specs.declared.role.Role.TheVariants.{Idle, Listener, Connected}
+use Rattle.sockets.specs.declared.role.Role.TheVariants.{Idle, Listener, Connected, Datagrams}
 use Rattle.sockets.specs.declared.role.TheConstants.{RESET_WAIT}
-use Rattle.sockets.specs.Entries.{due_peer, reset_wait}
-use Rattle.sockets.specs.Lost.{is_given_up, after_giving_up}
+use Rattle.sockets.specs.Entries.{due_peer, entries_after_steps, is_kept, with_role}
+use Rattle.sockets.specs.Lost.{after_giving_up, give_up_at, give_up_fate_of, is_given_up, role_after_giving_up}
 use Rattle.sockets.specs.SocketsView.{SocketsView, later_moment}
 use Rattle.sockets.specs.Ticks.{after_tick as sockets_after_tick, least_deadline as timer_deadline}
 use Rattle.sockets.proofs.Deadlines.{tick_waits}
+use Rattle.tcp_state.specs.View.{View}
+use Rattle.udp_socket.specs.declared.tag.TheConstants.{DATAGRAM_WAIT}
+use Rattle.udp_socket.specs.SocketView.{Outgoing, SocketView}
+use Rattle.udp_socket.specs.Waits.{after_giving_up as datagrams_after, deadline, deadline_of as datagram_deadline, is_given_up as is_datagram_given_up, parts_left}
 use Rattle.host.specs.HostView.{HostView, with_sockets}
-use Rattle.host.specs.Ticks.{after_tick, hop_deadline, lacks_hop, least_deadline, request_deadline, reset_deadline, table_after_tick}
+use Rattle.host.specs.Ticks.{after_tick, all_reported, hop_deadline, lacks_hop, least_deadline, request_deadline, table_after_tick}
 
 -- Tests and lists.
 
@@ -67,10 +75,13 @@ fold-come f first (x ∷ xs) now =
     ∙ or-assoc (has_come first now) (has_come (f x) now) (list_any (λ y. has_come (f y) now) xs)
 
 pub deadline-come : (h : HostView) (now : Moment) → has_come (least_deadline h) now
-    ≡ (has_come (timer_deadline h.sockets) now || has_come (reply_deadline h.interface h.sockets.kept) now || list_any (λ e. has_come (hop_deadline h e) now) h.sockets.entries)
+    ≡ (has_come (timer_deadline h.sockets) now || has_come (reply_deadline h.interface h.sockets.kept) now || has_come (pool_deadline h.pool) now || list_any (λ e. has_come (hop_deadline h e) now) h.sockets.entries)
 deadline-come h now =
-    fold-come (hop_deadline h) (sooner (timer_deadline h.sockets) (reply_deadline h.interface h.sockets.kept)) h.sockets.entries now
-    ∙ ap (λ b. b || list_any (λ e. has_come (hop_deadline h e) now) h.sockets.entries) (sooner-has_come (timer_deadline h.sockets) (reply_deadline h.interface h.sockets.kept) now)
+    let sides : Option Moment = sooner (timer_deadline h.sockets) (reply_deadline h.interface h.sockets.kept) in
+    let hops : Bool = list_any (λ e. has_come (hop_deadline h e) now) h.sockets.entries in
+    fold-come (hop_deadline h) (sooner sides (pool_deadline h.pool)) h.sockets.entries now
+    ∙ ap (λ b. b || hops) (sooner-has_come sides (pool_deadline h.pool) now)
+    ∙ ap (λ b. (b || has_come (pool_deadline h.pool) now) || hops) (sooner-has_come (timer_deadline h.sockets) (reply_deadline h.interface h.sockets.kept) now)
 
 -- Moments.
 
@@ -147,33 +158,91 @@ replies-stay : (i : InterfaceView) (kept moment : Moment) → kept.0 ≤ moment.
 replies-stay i kept moment order aged [] all = tt
 replies-stay i kept moment order aged (w ∷ ws) all = (reply-stays i kept moment order aged w all.0, replies-stay i kept moment order aged ws all.1)
 
--- the reset of an abort isn't given up
-reset-stays : (h : HostView) (moment : Moment) → h.sockets.kept.0 ≤ moment.0 → after_age moment h.interface.cache ≡ h.interface.cache → (role : Role) → has_come (reset_deadline h (reset_wait role)) moment ≡ false
-    → is_given_up (lacks_hop h moment) moment role ≡ false
-reset-stays h moment order aged (Idle buffers bound) early = refl
-reset-stays h moment order aged (Listener local backlog) early = refl
-reset-stays h moment order aged (Connected c l) early = by_owed c.owes_reset early
+-- What has waited for less long than it may isn't given up.
+
+and-false : (b : Bool) → (b && false) ≡ false
+and-false true = refl
+and-false false = refl
+
+goes-on : (over moment : Moment) (then now : Bool) → then ≡ now → has_come (cond (not now) (Some over) None) moment ≡ false → (has_come (Some over) moment && not then) ≡ false
+goes-on over moment true now same e = and-false (has_come (Some over) moment)
+goes-on over moment false true same e = cc
+goes-on over moment false false same e = ap (λ b. b && true) e
+
+-- the reset of an abort
+reset-stays : (h : HostView) (moment : Moment) → h.sockets.kept.0 ≤ moment.0 → after_age moment h.interface.cache ≡ h.interface.cache → (c : View) (l : Option SocketId)
+    → has_come (give_up_at (lacks_hop h h.sockets.kept) (Connected c l)) moment ≡ false → is_given_up (lacks_hop h moment) moment (Connected c l) ≡ false
+reset-stays h moment order aged c l early = by_owed c.owes_reset early
   where
-    by_known : (then now : Bool) → then ≡ now → has_come (cond now None (Some (after c.since RESET_WAIT))) moment ≡ false → (has_come (Some (after c.since RESET_WAIT)) moment && not then) ≡ false
-    by_known true now same e = and-false (has_come (Some (after c.since RESET_WAIT)) moment)
-      where
-        and-false : (b : Bool) → (b && false) ≡ false
-        and-false true = refl
-        and-false false = refl
-    by_known false true same e = cc
-    by_known false false same e = ap (λ b. b && true) e
-
-    by_owed : (b : Bool) → has_come (reset_deadline h (reset_wait (Connected (record c { owes_reset = b }) l))) moment ≡ false → is_given_up (lacks_hop h moment) moment (Connected (record c { owes_reset = b }) l) ≡ false
+    by_owed : (b : Bool) → has_come (give_up_at (lacks_hop h h.sockets.kept) (Connected (record c { owes_reset = b }) l)) moment ≡ false → is_given_up (lacks_hop h moment) moment (Connected (record c { owes_reset = b }) l) ≡ false
     by_owed false e = refl
-    by_owed true e = by_known (knows_hop h.interface moment c.peer.addr) (knows_hop h.interface h.sockets.kept c.peer.addr) (known-alike h.interface h.sockets.kept moment c.peer.addr order aged) e
+    by_owed true e =
+        goes-on (after c.since RESET_WAIT) moment (knows_hop h.interface moment c.peer.addr) (knows_hop h.interface h.sockets.kept c.peer.addr)
+        (known-alike h.interface h.sockets.kept moment c.peer.addr order aged) e
 
-resets-stay : (h : HostView) (moment : Moment) → h.sockets.kept.0 ≤ moment.0 → after_age moment h.interface.cache ≡ h.interface.cache → (entries : List Entry) → AllByRecursion (λ (e : Entry). has_come (hop_deadline h e) moment ≡ false) entries
-    → AllByRecursion (λ (e : Entry). not (is_given_up (lacks_hop h moment) moment e.role) ≡ true) entries
-resets-stay h moment order aged [] all = tt
-resets-stay h moment order aged (e ∷ es) all =
-    let two = neither (has_come (reset_deadline h (reset_wait e.role)) moment) (has_come (request_deadline h (due_peer e.role)) moment)
-    (sym (sooner-has_come (reset_deadline h (reset_wait e.role)) (request_deadline h (due_peer e.role)) moment) ∙ all.0) in
-    (ap not (reset-stays h moment order aged e.role two.0), resets-stay h moment order aged es all.1)
+-- the datagrams of a UDP socket
+datagrams-stay : (h : HostView) (moment : Moment) → h.sockets.kept.0 ≤ moment.0 → after_age moment h.interface.cache ≡ h.interface.cache → (os : List Outgoing)
+    → AllByRecursion (λ (o : Outgoing). has_come (datagram_deadline (lacks_hop h h.sockets.kept) o) moment ≡ false) os
+    → AllByRecursion (λ (o : Outgoing). not (is_datagram_given_up (lacks_hop h moment) moment o) ≡ true) os
+datagrams-stay h moment order aged [] all = tt
+datagrams-stay h moment order aged (o ∷ os) all =
+    let here = goes-on (after o.since DATAGRAM_WAIT) moment (knows_hop h.interface moment o.peer.addr) (knows_hop h.interface h.sockets.kept o.peer.addr)
+    (known-alike h.interface h.sockets.kept moment o.peer.addr order aged) all.0 in
+    (ap not here, datagrams-stay h moment order aged os all.1)
+
+parts-stay : (lost : Addr → Bool) (moment : Moment) (os : List Outgoing) (parts : ℕ) → AllByRecursion (λ (o : Outgoing). not (is_datagram_given_up lost moment o) ≡ true) os → parts_left lost moment os parts ≡ parts
+parts-stay lost moment [] parts all = refl
+parts-stay lost moment (o ∷ os) parts all = by_test (is_datagram_given_up lost moment o) all.0
+  where
+    by_test : (b : Bool) → not b ≡ true → cond b 0 parts ≡ parts
+    by_test true e = cc
+    by_test false e = refl
+
+socket-stays : (h : HostView) (moment : Moment) → h.sockets.kept.0 ≤ moment.0 → after_age moment h.interface.cache ≡ h.interface.cache → (s : SocketView)
+    → has_come (deadline (lacks_hop h h.sockets.kept) s) moment ≡ false → datagrams_after s (lacks_hop h moment) moment ≡ s
+socket-stays h moment order aged s early =
+    let waiting = none-of (λ o. has_come (datagram_deadline (lacks_hop h h.sockets.kept) o) moment) s.outbox (sym (fold-come (datagram_deadline (lacks_hop h h.sockets.kept)) None s.outbox moment) ∙ early) in
+    let all = datagrams-stay h moment order aged s.outbox waiting in
+    let kept : filter (λ (o : Outgoing). not (is_datagram_given_up (lacks_hop h moment) moment o)) s.outbox ≡ s.outbox =
+    all-kept (λ (o : Outgoing). not (is_datagram_given_up (lacks_hop h moment) moment o)) s.outbox all in
+    let parts : parts_left (lacks_hop h moment) moment s.outbox s.parts ≡ s.parts = parts-stay (lacks_hop h moment) moment s.outbox s.parts all in
+    λ k. record s { outbox = kept k; parts = parts k }
+
+-- an entry
+stays-so : (lost : Addr → Bool) (moment : Moment) (role : Role) → is_given_up lost moment role ≡ false → is_kept (give_up_fate_of lost moment role) ≡ true
+stays-so lost moment role e = rw e refl
+
+role-stays : (h : HostView) (moment : Moment) → h.sockets.kept.0 ≤ moment.0 → after_age moment h.interface.cache ≡ h.interface.cache → (role : Role)
+    → has_come (give_up_at (lacks_hop h h.sockets.kept) role) moment ≡ false
+    → (is_kept (give_up_fate_of (lacks_hop h moment) moment role) ≡ true) × (role_after_giving_up (lacks_hop h moment) moment role ≡ role)
+role-stays h moment order aged (Idle buffers bound) early = (refl, refl)
+role-stays h moment order aged (Listener local backlog) early = (refl, refl)
+role-stays h moment order aged (Connected c l) early = (stays-so (lacks_hop h moment) moment (Connected c l) (reset-stays h moment order aged c l early), refl)
+role-stays h moment order aged (Datagrams bound socket) early = (refl, ap (λ (s : SocketView). Datagrams bound s) (socket-stays h moment order aged socket early))
+
+entries-stay : (h : HostView) (moment : Moment) → h.sockets.kept.0 ≤ moment.0 → after_age moment h.interface.cache ≡ h.interface.cache → (entries : List Entry)
+    → AllByRecursion (λ (e : Entry). has_come (hop_deadline h e) moment ≡ false) entries
+    → entries_after_steps (give_up_fate_of (lacks_hop h moment) moment) (role_after_giving_up (lacks_hop h moment) moment) entries ≡ entries
+entries-stay h moment order aged [] all = refl
+entries-stay h moment order aged (e ∷ es) all =
+    let two = neither (has_come (give_up_at (lacks_hop h h.sockets.kept) e.role) moment) (has_come (request_deadline h (due_peer e.role)) moment)
+    (sym (sooner-has_come (give_up_at (lacks_hop h h.sockets.kept) e.role) (request_deadline h (due_peer e.role)) moment) ∙ all.0) in
+    let here = role-stays h moment order aged e.role two.0 in
+    let test = here.0 in
+    let same : with_role (role_after_giving_up (lacks_hop h moment) moment) e ≡ e = ap (λ (r : Role). let x : Entry = record e { role = r } in x) here.1 in
+    rw test (ap (λ (x : Entry). x ∷ entries_after_steps (give_up_fate_of (lacks_hop h moment) moment) (role_after_giving_up (lacks_hop h moment) moment) es) same
+    ∙ ap (λ (xs : List Entry). e ∷ xs) (entries-stay h moment order aged es all.1))
+
+-- the pool
+before : (next moment : Moment) → has_come (Some next) moment ≡ false → moment.0 < next.0
+before next moment early = grind (arith, nat_tests, early)
+
+pool-stays : (places : List (Option Reassembly)) (moment : Moment) → has_come (pool_deadline places) moment ≡ false → (pool_after_age moment places ≡ places) × (expired moment places ≡ [])
+pool-stays places moment early = nothing_before places moment (by_next (pool_deadline places) early)
+  where
+    by_next : (o : Option Moment) → has_come o moment ≡ false → IfSome o (λ (next : Moment). moment.0 < next.0)
+    by_next None e = tt
+    by_next (Some next) e = before next moment e
 
 -- A tick.
 
@@ -182,19 +251,27 @@ pub tick-waits : (h : HostView) (now : Moment) → let moment = later_moment h.s
 tick-waits h now early aged =
     let moment : Moment = later_moment h.sockets now in
     let order : h.sockets.kept.0 ≤ moment.0 = not-before h.sockets now in
-    let parts = neither (has_come (timer_deadline h.sockets) moment || has_come (reply_deadline h.interface h.sockets.kept) moment) (list_any (λ e. has_come (hop_deadline h e) moment) h.sockets.entries) (sym (deadline-come h moment) ∙ early) in
-    let sides = neither (has_come (timer_deadline h.sockets) moment) (has_come (reply_deadline h.interface h.sockets.kept) moment) parts.0 in
+    let timer : Bool = has_come (timer_deadline h.sockets) moment in
+    let reply : Bool = has_come (reply_deadline h.interface h.sockets.kept) moment in
+    let aging : Bool = has_come (pool_deadline h.pool) moment in
+    let hops : Bool = list_any (λ e. has_come (hop_deadline h e) moment) h.sockets.entries in
+    let waits = neither (timer || reply || aging) hops (sym (deadline-come h moment) ∙ early) in
+    let sides = neither (timer || reply) aging waits.0 in
+    let fronts = neither timer reply sides.0 in
     let table : SocketsView = record h.sockets { kept = moment } in
     let timers : sockets_after_tick h.sockets moment ≡ table =
-    tick_waits h.sockets moment (ap (has_come (timer_deadline h.sockets)) (later-twice h.sockets now) ∙ sides.0) ∙ ap (λ (m : Moment). let t : SocketsView = record h.sockets { kept = m } in t) (later-twice h.sockets now) in
-    let kept-on : filter (λ (e : Entry). not (is_given_up (lacks_hop h moment) moment e.role)) h.sockets.entries ≡ h.sockets.entries =
-    all-kept (λ (e : Entry). not (is_given_up (lacks_hop h moment) moment e.role)) h.sockets.entries (resets-stay h moment order aged h.sockets.entries (none-of (λ e. has_come (hop_deadline h e) moment) h.sockets.entries parts.1)) in
-    let resets : after_giving_up table (lacks_hop h moment) moment ≡ table =
-    ap (λ (m : Moment). let t : SocketsView = record table { entries = filter (λ (e : Entry). not (is_given_up (lacks_hop h moment) m e.role)) table.entries } in t) (later-own h.sockets moment)
+    tick_waits h.sockets moment (ap (has_come (timer_deadline h.sockets)) (later-twice h.sockets now) ∙ fronts.0) ∙ ap (λ (m : Moment). let t : SocketsView = record h.sockets { kept = m } in t) (later-twice h.sockets now) in
+    let kept-on : entries_after_steps (give_up_fate_of (lacks_hop h moment) moment) (role_after_giving_up (lacks_hop h moment) moment) h.sockets.entries ≡ h.sockets.entries =
+    entries-stay h moment order aged h.sockets.entries (none-of (λ e. has_come (hop_deadline h e) moment) h.sockets.entries waits.1) in
+    let given_up : after_giving_up table (lacks_hop h moment) moment ≡ table =
+    ap (λ (m : Moment). let t : SocketsView = record table { entries = entries_after_steps (give_up_fate_of (lacks_hop h moment) m) (role_after_giving_up (lacks_hop h moment) m) table.entries } in t) (later-own h.sockets moment)
     ∙ ap (λ (es : List Entry). let t : SocketsView = record table { entries = es } in t) kept-on in
-    let waiting = none-of (λ w. has_come (deadline_of h.interface h.sockets.kept w) moment) h.interface.replies (sym (fold-come (deadline_of h.interface h.sockets.kept) None h.interface.replies moment) ∙ sides.1) in
+    let waiting = none-of (λ w. has_come (deadline_of h.interface h.sockets.kept w) moment) h.interface.replies (sym (fold-come (deadline_of h.interface h.sockets.kept) None h.interface.replies moment) ∙ fronts.1) in
     let replies : filter (stays h.interface moment) h.interface.replies ≡ h.interface.replies =
     all-kept (stays h.interface moment) h.interface.replies (replies-stay h.interface h.sockets.kept moment order aged h.interface.replies waiting) in
     let own : interface_after_tick h.interface moment ≡ h.interface = λ k. record h.interface { cache = aged k; replies = replies k } in
-    let tables : table_after_tick h moment ≡ table = ap (λ (t : SocketsView). after_giving_up t (lacks_hop h moment) moment) timers ∙ resets in
-    λ k. record { interface = own k; sockets = tables k }
+    let pool = pool-stays h.pool moment sides.1 in
+    let side : all_reported moment (interface_after_tick h.interface moment) (expired moment h.pool) ≡ h.interface =
+    ap (all_reported moment (interface_after_tick h.interface moment)) pool.1 ∙ own in
+    let tables : table_after_tick h moment ≡ table = ap (λ (t : SocketsView). after_giving_up t (lacks_hop h moment) moment) timers ∙ given_up in
+    λ k. record { interface = side k; sockets = tables k; pool = pool.0 k }

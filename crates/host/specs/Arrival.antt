@@ -1,25 +1,37 @@
 -- What a frame that arrives makes of a host: what its octets are to the host is found layer by layer, from the lowest up, and the layer
--- that they reach takes them (RFC 826, RFC 1122 sections 3.2.1 and 3.2.2, RFC 9293 section 3.10.7).
-use Rattle.std.specs.Prelude.{◌≡◌, ℕ, Bool, if◌then◌else◌, List, ◌++◌, take, Option, None, Result, Ok, Err, MatchResult}
+-- that they reach takes them (RFC 826, RFC 1122 sections 3.2.1 and 3.2.2, RFC 9293 section 3.10.7, RFC 768).
+use Rattle.std.specs.Prelude.{◌≡◌, ℕ, Bool, if◌then◌else◌, List, take, Option, Some, None, Result, Ok, Err, MatchResult, option_map}
 use Rattle.ipv4.specs.declared.addr.Addr.{Addr}
 use Rattle.ipv4.specs.declared.addr.Pair.{Pair}
-use Rattle.ipv4.specs.Datagram.{Datagram, header_octets}
+use Rattle.ipv4.specs.Datagram.{Datagram}
 use Rattle.clock.specs.declared.moment.Moment.{Moment}
 use Rattle.tcp_segment.specs.Segment.{Segment}
-use Rattle.icmp.specs.declared.error.Reason.TheVariants.{ProtocolUnreachable}
+use Rattle.icmp.specs.declared.error.Reason.{Reason}
+use Rattle.icmp.specs.declared.error.Reason.TheVariants.{ProtocolUnreachable, PortUnreachable}
 use Rattle.frames.specs.declared.drop.DropCause.{DropCause}
 use Rattle.frames.specs.declared.drop.DropCause.TheVariants.{NoRoom}
 use Rattle.frames.specs.declared.meaning.Control.{Control}
+use Rattle.frames.specs.declared.meaning.UserReceived.{UserReceived}
 use Rattle.frames.specs.declared.meaning.Meaning.{Meaning}
-use Rattle.frames.specs.declared.meaning.Meaning.TheVariants.{Arp, Tcp, Icmp, Other, UdpFragment}
+use Rattle.frames.specs.declared.meaning.Meaning.TheVariants.{Arp, Tcp, Icmp, Udp, Other, UdpFragment}
 use Rattle.frames.specs.Meaning.{heard}
 use Rattle.interface.specs.declared.reply.QueueFault.{QueueFault}
 use Rattle.interface.specs.Ways.{is_routed}
 use Rattle.interface.specs.Replies.{after_heard, heard_answer, after_answer, after_echo, after_report, answer_result}
 use Rattle.sockets.specs.Arrival.{Arrival, Becomes, Opens, NoPlace, Answers, arrival, pair_opened}
+use Rattle.reassembly.specs.Fragments.{key_of, quote_of}
+use Rattle.reassembly.specs.Places.{after_take, outcome_at, place_for}
+use Rattle.reassembly.specs.Reassembly.{Outcome, Reassembly}
+use Rattle.reassembly.specs.Reassembly.Outcome.{Waits, Completes, GivesUp}
+use Rattle.sockets.specs.declared.datagrams.Reception.{Reception}
+use Rattle.sockets.specs.declared.datagrams.Reception.TheVariants as socket
+use Rattle.sockets.specs.Datagrams.{reception, after_reception}
 use Rattle.sockets.specs.SocketsView.{later_moment}
 use Rattle.sockets.specs.Unreachable.{after_unreachable}
-use Rattle.host.specs.HostView.{HostView, with_interface, with_sockets}
+use Rattle.udp.specs.declared.fault.UdpFault.{UdpFault}
+use Rattle.udp.specs.Datagram.{UserDatagram}
+use Rattle.udp.specs.Reading.{datagram_or_fault}
+use Rattle.host.specs.HostView.{HostView, with_interface, with_pool, with_sockets}
 use Rattle.host.specs.Messages.{Told, Asks, Refuses, Nothing, told_by}
 
 -- a full queue of replies by its name as a cause
@@ -55,23 +67,62 @@ MeetsMessage Asks h moment c answer new =
 MeetsMessage (Refuses quote) h moment c answer new = (answer ≡ Ok tt) × (new ≡ with_sockets h (after_unreachable h.sockets quote.source quote.destination quote.number))
 MeetsMessage Nothing h moment c answer new = (answer ≡ Ok tt) × (new ≡ h)
 
--- A datagram whose protocol nothing takes is reported to its source by an error with its header and 8 octets of its payload, which joins the control
+-- A datagram that can't be delivered is reported to its source, with its header and 8 octets of its payload: the error joins the control
 -- replies, where there is room (RFC 1122 section 3.2.2.1).
-abbrev pub MeetsDatagram : HostView → Moment → Datagram → Result (Unit {0}) DropCause → HostView → Type 0
-MeetsDatagram h moment d answer new =
+abbrev pub MeetsDatagram : Reason → HostView → Moment → Datagram → Result (Unit {0}) DropCause → HostView → Type 0
+MeetsDatagram reason h moment d answer new =
     (answer ≡ queue_answer (answer_result h.interface d.source))
-    × (new ≡ with_interface h (after_report h.interface moment d.source ProtocolUnreachable (header_octets d ++ take 8 d.payload)))
+    × (new ≡ with_interface h (after_report h.interface moment d.source reason (quote_of d)))
 
--- An ARP packet is learnt, and answered where it asks for our address; a segment goes to the table; a message is met by what it tells, and a
--- datagram that nothing takes is reported; a fragment is taken, and changes nothing; what is dropped changes nothing.
+-- A user datagram from an address goes to the socket that is bound to its port. Where none is, its source is told so, with this quote of it
+-- (RFC 1122 section 4.1.3.1); a socket without room loses it.
+abbrev pub after_user_datagram : Reception → HostView → Moment → Addr → UserDatagram → List ℕ → HostView
+after_user_datagram socket.Queued h moment source d quote = with_sockets h (after_reception h.sockets source d)
+after_user_datagram socket.NoRoom h moment source d quote = h
+after_user_datagram socket.NoSocket h moment source d quote = with_interface h (after_report h.interface moment source PortUnreachable quote)
+
+-- of one that came whole, the answer says so
+abbrev pub user_datagram_answer : Reception → HostView → Addr → Result (Unit {0}) DropCause
+user_datagram_answer socket.Queued h source = Ok tt
+user_datagram_answer socket.NoRoom h source = Err NoRoom
+user_datagram_answer socket.NoSocket h source = queue_answer (answer_result h.interface source)
+
+abbrev pub MeetsUserDatagram : Reception → HostView → Moment → UserReceived → Result (Unit {0}) DropCause → HostView → Type 0
+MeetsUserDatagram to h moment r answer new =
+    (answer ≡ user_datagram_answer to h r.carrier.source)
+    × (new ≡ after_user_datagram to h moment r.carrier.source r.datagram (quote_of r.carrier))
+
+-- What a fragment comes to in the pool, where it has a place there.
+abbrev pub fragment_outcome : Moment → Datagram → List (Option Reassembly) → Option Outcome
+fragment_outcome moment d pool = option_map (outcome_at moment d pool) (place_for (key_of d) pool)
+
+-- a payload that was put together is met as that of a datagram from this address for that one, of which an error quotes 68 octets at most
+abbrev pub after_payload : Result UserDatagram UdpFault → HostView → Moment → Addr → List ℕ → HostView
+after_payload (Ok d) h moment source quote = after_user_datagram (reception h.sockets d) h moment source d (take 68 quote)
+after_payload (Err fault) h moment source quote = h
+
+-- what comes of a fragment: its datagram waits for others, or is given up, or is whole
+abbrev pub after_outcome : Outcome → HostView → Moment → Datagram → HostView
+after_outcome (Waits r) h moment d = h
+after_outcome GivesUp h moment d = h
+after_outcome (Completes payload quote) h moment d = after_payload (datagram_or_fault d.source d.destination payload) h moment d.source quote
+
+-- A fragment is laid into the pool (RFC 791 section 3.2), where there is a place for its datagram.
+abbrev pub MeetsFragment : Option Outcome → HostView → Moment → Datagram → Result (Unit {0}) DropCause → HostView → Type 0
+MeetsFragment None h moment d answer new = (answer ≡ Err NoRoom) × (new ≡ h)
+MeetsFragment (Some outcome) h moment d answer new = (answer ≡ Ok tt) × (new ≡ after_outcome outcome (with_pool h (after_take moment d h.pool)) moment d)
+
+-- An ARP packet is learnt, and answered where it asks for our address; a segment goes to the table; a message is met by what it tells; a user
+-- datagram goes to its socket, and a fragment of one to the pool; a datagram that nothing takes is reported; what is dropped changes nothing.
 abbrev pub MeetsHeard : Result Meaning DropCause → HostView → Moment → ℕ → Result (Unit {0}) DropCause → HostView → Type 0
 MeetsHeard (Ok (Arp packet)) h moment isn answer new =
     (answer ≡ queue_answer (heard_answer h.interface packet)) × (new ≡ with_interface h (after_heard h.interface moment packet))
 MeetsHeard (Ok (Tcp received)) h moment isn answer new =
     MeetsSegment (segment_arrival h moment isn received.source received.segment) h moment received.source answer new
 MeetsHeard (Ok (Icmp c)) h moment isn answer new = MeetsMessage (told_by c.message) h moment c answer new
-MeetsHeard (Ok (Other d)) h moment isn answer new = MeetsDatagram h moment d answer new
-MeetsHeard (Ok (UdpFragment d)) h moment isn answer new = (answer ≡ Ok tt) × (new ≡ h)
+MeetsHeard (Ok (Udp r)) h moment isn answer new = MeetsUserDatagram (reception h.sockets r.datagram) h moment r answer new
+MeetsHeard (Ok (UdpFragment d)) h moment isn answer new = MeetsFragment (fragment_outcome moment d h.pool) h moment d answer new
+MeetsHeard (Ok (Other d)) h moment isn answer new = MeetsDatagram ProtocolUnreachable h moment d answer new
 MeetsHeard (Err cause) h moment isn answer new = (answer ≡ Err cause) × (new ≡ h)
 
 -- what the octets of a frame are to the host
@@ -87,6 +138,7 @@ abbrev pub foreseen_of : HostView → Result Meaning DropCause → Option Pair
 foreseen_of h (Ok (Tcp received)) = if is_routed h.interface received.source then pair_opened h.sockets received.source received.segment else None
 foreseen_of h (Ok (Arp packet)) = None
 foreseen_of h (Ok (Icmp c)) = None
+foreseen_of h (Ok (Udp r)) = None
 foreseen_of h (Ok (Other d)) = None
 foreseen_of h (Ok (UdpFragment d)) = None
 foreseen_of h (Err cause) = None

@@ -1,4 +1,4 @@
--- The segment that what goes out carries (RFC 9293 section 3.1). `laws::layers_compose` says that it is the one which is heard.
+-- The segment that what goes out carries (RFC 9293 section 3.1); a user datagram carries none. `laws::layers_compose` says that it is the one which is heard.
 use Rattle.std.specs.Prelude.{[], find, slice_get, Option, Some, None, option_map, option_and_then}
 use Rattle.ether.specs.declared.mac.Mac.{Mac}
 use Rattle.ipv4.specs.declared.addr.Addr.{Addr}

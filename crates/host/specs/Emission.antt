@@ -1,5 +1,5 @@
 -- What goes out: for the first control reply for which a frame can, and where there is none for the first entry, in order of id, with a
--- segment due for which one can. Where the MAC of the next hop isn't known, the request for it goes out in that place (RFC 1122 section 2.3.2.2).
+-- segment or a datagram due for which one can. Where the MAC of the next hop isn't known, the request for it goes out in that place (RFC 1122 section 2.3.2.2).
 use Rattle.std.specs.Prelude.{ℕ, ◌+◌, max, Bool, List, [], ◌++◌, drop, position, find, Option, Some, None, option_map}
 use Rattle.ether.specs.declared.mac.Mac.{Mac}
 use Rattle.ipv4.specs.declared.addr.Addr.{Addr}
@@ -9,37 +9,40 @@ use Rattle.interface.specs.declared.way.Way.{Way}
 use Rattle.interface.specs.declared.way.Way.TheVariants.{To, Ask, Waits}
 use Rattle.interface.specs.Ways.{way}
 use Rattle.interface.specs.Replies.{is_due, goes_out}
-use Rattle.interface.specs.Emission.{segment_frame_to, request_frame, asked, len_at, frame_at, after_emission as after_reply}
+use Rattle.interface.specs.InterfaceView.{InterfaceView}
+use Rattle.interface.specs.Emission.{segment_frame_to, part_frame_to, request_frame, asked, len_at, frame_at, after_emission as after_reply}
+use Rattle.sockets.specs.declared.emission.Emitted.{Emitted}
+use Rattle.sockets.specs.declared.emission.Emitted.TheVariants.{Segment, Datagram}
 use Rattle.sockets.specs.declared.entry.Entry.{Entry}
 use Rattle.sockets.specs.Entries.{due_peer, sends}
 use Rattle.sockets.specs.SocketsView.{later_moment}
-use Rattle.sockets.specs.Emission.{segment_len, segment_octets, after_segment_sent}
+use Rattle.sockets.specs.Emission.{emitted, emitted_octets, after_segment_sent}
 use Rattle.host.specs.HostView.{HostView, with_interface, with_sockets}
 
--- what can be done at a moment for a segment that is due to this peer, where one is due
+-- what can be done at a moment for a segment or a datagram that is due to this peer, where one is due
 abbrev pub way_to : HostView → Moment → Option Endpoint → Way
 way_to h moment None = Waits
 way_to h moment (Some peer) = way h.interface moment peer.addr
 
--- a frame can go out for the segment that an entry has due: it, or the request for its hop
+-- a frame can go out for what an entry has due: it, or the request for its hop
 abbrev pub goes_out_from : HostView → Moment → Entry → Bool
 goes_out_from h moment e = goes_out (way_to h moment (due_peer e.role))
 
--- What goes out: the frame for the reply in this place, that is the reply or the request for its hop; the segment of the first entry for which
--- one can, in a frame to this MAC and for this address; in its place the request for this hop; or nothing.
+-- What goes out: the frame for the reply in this place, that is the reply or the request for its hop; what is due first of the first entry for
+-- which a frame can, in one to this MAC and for this address; in its place the request for this hop; or nothing.
 pub data Emission : Type 0 where
   Replies : ℕ → Emission
   Sends : Mac → Addr → Emission
   Asks : Addr → Emission
   Nothing : Emission
 
--- for a segment to this address
+-- for what is due to this address
 abbrev pub emission_by : Addr → Way → Emission
 emission_by to (To mac) = Sends mac to
 emission_by to (Ask hop) = Asks hop
 emission_by to Waits = Nothing
 
--- for the segment that is due to this peer
+-- for what is due to this peer
 abbrev pub emission_to : HostView → Moment → Option Endpoint → Emission
 emission_to h moment None = Nothing
 emission_to h moment (Some peer) = emission_by peer.addr (way h.interface moment peer.addr)
@@ -61,20 +64,32 @@ emission_at h moment None = table_emission h moment
 abbrev pub emission : HostView → Moment → Emission
 emission h moment = emission_at h moment (position (is_due h.interface moment) h.interface.replies)
 
--- the length of a frame with so many octets of a segment: 60 at least
+-- the length of a frame with so many octets behind the heads of frame and datagram: 60 at least
 abbrev pub framed_len : ℕ → ℕ
-framed_len segment = max (34 + segment) 60
+framed_len octets = max (34 + octets) 60
+
+-- what a table gives out is a segment, or a part of a datagram
+abbrev pub emitted_len : Emitted → ℕ
+emitted_len (Segment len) = framed_len len
+emitted_len (Datagram part) = framed_len part.fragment.len
+
+-- its octets in a frame to this MAC and for this address
+abbrev pub emitted_frame : InterfaceView → Mac → Addr → Option Emitted → List ℕ → List ℕ
+emitted_frame i mac to None octets = []
+emitted_frame i mac to (Some (Segment len)) octets = segment_frame_to i mac to octets
+emitted_frame i mac to (Some (Datagram part)) octets = part_frame_to i mac to part octets
 
 -- the length of what goes out, its octets, and what is left of the host
 abbrev pub len_of : HostView → Moment → Emission → Option ℕ
 len_of h moment (Replies place) = Some (len_at h.interface moment place)
-len_of h moment (Sends mac to) = option_map framed_len (segment_len h.sockets (goes_out_from h moment))
+len_of h moment (Sends mac to) = option_map emitted_len (emitted h.sockets (goes_out_from h moment))
 len_of h moment (Asks hop) = Some 60
 len_of h moment Nothing = None
 
 abbrev pub octets_of : HostView → Moment → Emission → List ℕ
 octets_of h moment (Replies place) = frame_at h.interface moment place
-octets_of h moment (Sends mac to) = segment_frame_to h.interface mac to (segment_octets h.sockets (goes_out_from h moment))
+octets_of h moment (Sends mac to) =
+    emitted_frame h.interface mac to (emitted h.sockets (goes_out_from h moment)) (emitted_octets h.sockets (goes_out_from h moment))
 octets_of h moment (Asks hop) = request_frame h.interface hop
 octets_of h moment Nothing = []
 

@@ -8,3 +8,4 @@ pub mod Sound
 pub mod Places
 pub mod Carried
 pub mod Runs
+pub mod Causes

@@ -25,11 +25,13 @@ impl Host {
     /// where it isn't for us, and a broadcast is for us with ARP alone; OtherType with neither IPv4 nor ARP; IpHeader, IpSum where the header
     /// of the datagram isn't well; OtherAddress where the datagram is for another host, or it or the ARP packet comes from our own
     /// address or from no single host; Fragment for one of any protocol but UDP; UpperHeader, UpperSum where the ARP packet, the
-    /// segment or the message isn't well. NoRoom where it would open a connection and there is no place in the backlog or the table, no id, no memory
-    /// or no route to its source, where it is to be answered by a reset, an echo or an error and 16 control replies wait, and where it asks for
-    /// our MAC and 16 wait: what that ARP packet says is learnt all the same.
+    /// segment, the message or the user datagram isn't well. NoRoom where it would open a connection and there is no place in the backlog or
+    /// the table, no id, no memory or no route to its source, where its user datagram finds 64 others at the socket, where it is a fragment of
+    /// a datagram that has no place in the pool, where it is to be answered by a reset, an echo or an error and 16 control replies wait, and where
+    /// it asks for our MAC and 16 wait: what that ARP packet says is learnt all the same.
     ///
-    /// What answers a datagram isn't sent where no route leads to its source, and the frame is taken then.
+    /// What answers a datagram isn't sent where no route leads to its source, and the frame is taken then. So is a fragment of UDP: what its
+    /// datagram comes to once it is whole is no matter of this frame.
     pub fn deliver(&mut self, now: Moment, isn: Seq, frame: &[u8]) -> Result<(), DropCause>
         ensures { IsDelivered self.old now isn.0 frame.now result self.new }
     {
@@ -38,8 +40,9 @@ impl Host {
             Meaning::Arp(packet) => room(self.interface.hear(now, &packet)),
             Meaning::Tcp(received) => self.take(now, isn, &received),
             Meaning::Icmp(control) => self.hear(now, &control),
-            Meaning::Other(datagram) => self.report(now, &datagram),
-            Meaning::UdpFragment(_) => Ok(()),
+            Meaning::Udp(received) => self.receive(now, &received),
+            Meaning::UdpFragment(fragment) => self.gather(now, &fragment),
+            Meaning::Other(datagram) => self.report(now, Reason::ProtocolUnreachable, &datagram),
         }
     }
 
@@ -80,15 +83,20 @@ impl Host {
         Ok(())
     }
 
-    /// Answers a datagram whose protocol nothing here takes by the error that says so, at this moment (RFC 1122 section 3.2.2.1).
-    fn report(&mut self, now: Moment, datagram: &Ipv4View<'_>) -> Result<(), DropCause>
-        ensures { MeetsDatagram self.old now datagram.now result self.new }
+    /// Answers a datagram that can't be delivered here by the error that says why, at this moment (RFC 1122 section 3.2.2.1).
+    pub(crate) fn report(
+        &mut self,
+        now: Moment,
+        reason: Reason,
+        datagram: &Ipv4View<'_>,
+    ) -> Result<(), DropCause>
+        ensures { MeetsDatagram reason self.old now datagram.now result self.new }
     {
         room(
             self.interface.report(
                 now,
                 datagram.source(),
-                Reason::ProtocolUnreachable,
+                reason,
                 datagram.header(),
                 datagram.payload(),
             ),

@@ -10,7 +10,7 @@ use clock::Moment;
 use ether::{Mac, SPACE};
 use interface::Way;
 use ipv4::Addr;
-use sockets::Entry;
+use sockets::{Emitted, Entry};
 
 /// The length of the heads of a frame and a datagram, in octets (RFC 894, RFC 791 section 3.1).
 const HEADS: usize = 34;
@@ -19,8 +19,8 @@ impl Host {
     ghost use Rattle.host.specs.Emission.{emission_len, after_emission, emission_front, goes_out_from, len_of, octets_of, left_by, front_of, table_emission, emission_by};
 
     /// Writes the frame that goes out first, at the later of `now` and the kept moment, from `out[0]` on, and answers its length,
-    /// 60 to 1,514 octets: that of the first control reply for which one can, in the order in which they wait, else that of the
-    /// segment of the first entry, in order of id, for which one can (RFC 894, RFC 9293 section 3.8). Where the MAC of the next hop
+    /// 60 to 1,514 octets: that of the first control reply for which one can, in the order in which they wait, else that of the segment
+    /// or the part of a datagram of the first entry, in order of id, for which one can (RFC 894, RFC 9293 section 3.8, RFC 768). Where the MAC of the next hop
     /// isn't known, the ARP request for it goes out in that place, once a second an address, and what it is for waits as it is
     /// (RFC 1122 sections 2.3.2.1 and 2.3.2.2). None only where nothing can go out now, and then nothing has changed.
     pub fn next_frame(&mut self, now: Moment, out: &mut [u8; SPACE]) -> Option<usize>
@@ -36,7 +36,7 @@ impl Host {
         }
     }
 
-    /// Writes the frame for the segment of the first entry, in order of id, for which one can go out now.
+    /// Writes the frame for the first entry, in order of id, for which one can go out now.
     fn emit_from_table(&mut self, now: Moment, out: &mut [u8; SPACE]) -> Option<usize>
         ensures answer { result ≡ len_of self.old now (table_emission self.old now) }
         ensures bounds { IfSome result (λ len. (60 ≤ len) × (len ≤ SPACE)) }
@@ -49,7 +49,7 @@ impl Host {
         }
     }
 
-    /// Writes the frame for the segment of the entry in this place, which is that entry.
+    /// Writes the frame for the entry in this place, which is that entry.
     fn emit_from(&mut self, place: usize, now: Moment, out: &mut [u8; SPACE]) -> Option<usize>
         requires first { position (sends (goes_out_from self.old now)) self.old.sockets.entries ≡ Some place }
         ensures answer { result ≡ len_of self.old now (table_emission self.old now) }
@@ -63,7 +63,7 @@ impl Host {
         }
     }
 
-    /// Writes the frame for the segment of the entry in this place, which is due to this address: it, or the request for its hop.
+    /// Writes the frame for what the entry in this place has due, to this address: it, or the request for its hop.
     fn emit_to(
         &mut self,
         place: usize,
@@ -79,15 +79,15 @@ impl Host {
         ensures frame { out.new ≡ front_of (octets_of self.old now (table_emission self.old now)) out.old result }
     {
         match self.interface.way(now, to) {
-            Way::To(mac) => Some(self.emit_segment(place, mac, to, now, out)),
+            Way::To(mac) => Some(self.emit_entry(place, mac, to, now, out)),
             Way::Ask(hop) => Some(self.interface.emit_request(now, hop, out)),
             Way::Waits => None,
         }
     }
 
-    /// Writes the frame of the segment of the entry in this place, the first for which a frame can go out now, for an address and to the
+    /// Writes the frame of what the entry in this place has due, the first for which a frame can go out now, for an address and to the
     /// interface with this MAC, and answers its length, 60 to 1,514 octets.
-    fn emit_segment(
+    fn emit_entry(
         &mut self,
         place: usize,
         mac: Mac,
@@ -101,11 +101,13 @@ impl Host {
         ensures after { self.new ≡ left_by self.old now (Sends mac to) }
         ensures frame { out.new ≡ octets_of self.old now (Sends mac to) ++ drop result out.old }
     {
-        let segment_len = self.sockets.emit_at(place, now, &mut out[HEADS..]);
-        self.interface.emit_segment(mac, to, segment_len, out)
+        match self.sockets.emit_at(place, now, &mut out[HEADS..]) {
+            Emitted::Segment(len) => self.interface.emit_segment(mac, to, len, out),
+            Emitted::Datagram(part) => self.interface.emit_part(mac, to, part, out),
+        }
     }
 
-    /// The place of the first entry, in order of id, with a segment due for which a frame can go out now.
+    /// The place of the first entry, in order of id, with a segment or a datagram due for which a frame can go out now.
     fn first_entry(&self, now: Moment) -> Option<usize>
         ensures { result ≡ position (sends (goes_out_from self.now now)) self.now.sockets.entries }
     {
@@ -115,7 +117,7 @@ impl Host {
             .position(|entry| self.sends(now, entry))
     }
 
-    /// Whether an entry has a segment due for which a frame can go out now.
+    /// Whether an entry has a segment or a datagram due for which a frame can go out now.
     fn sends(&self, now: Moment, entry: &Entry) -> bool
         ensures { result ≡ sends (goes_out_from self.now now) entry.now }
     {

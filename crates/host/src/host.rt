@@ -5,16 +5,19 @@ ghost use Rattle.std.specs.Prelude.{◌≡◌, IfOk, IfErr};
 use crate::config::Config;
 use interface::Interface;
 use ipv4::Pair;
+use reassembly::Pool;
 use sockets::{Refusal, SocketId, Sockets};
 use std::alloc::Global;
 use std::marker::Model;
 
-/// A host with one interface and one address. Its frame side is the interface, and its sockets are a table over the same address. The making of
-/// a host takes memory, for the control replies that will wait, and so do sockets and the connections that frames open; nothing else does.
+/// A host with one interface and one address. Its frame side is the interface, its sockets are a table over the same address, and in its pool
+/// fragments of datagrams are put together. The making of a host takes memory, for the control replies that will wait and for the four
+/// datagrams of the pool, and so do sockets and the connections that frames open; nothing else does.
 #[derive(Drop)]
 pub struct Host {
     pub(crate) interface: Interface,
     pub(crate) sockets: Sockets,
+    pub(crate) pool: Pool,
 }
 
 impl Model for Host {
@@ -24,7 +27,7 @@ impl Model for Host {
 
     ghost Value = { HostView };
 
-    ghost view = { λ h. record { interface = h.interface; sockets = h.sockets } };
+    ghost view = { λ h. record { interface = h.interface; sockets = h.sockets; pool = h.pool } };
 
     ghost invariant = { λ h. (h.interface.addr ≡ h.sockets.addr) × IsSingleHost h.interface.addr };
 }
@@ -41,13 +44,13 @@ impl Host {
         ensures refusal { IfErr result (λ refusal. refusal ≡ Refusal.ENOMEM) }
     {
         let (mac, addr, routes) = config.into_parts();
-        match Interface::new(alloc, mac, addr, routes) {
-            Ok(interface) => Ok(Host {
-                interface,
-                sockets: Sockets::new(alloc, addr),
-            }),
-            Err(_) => Err(Refusal::ENOMEM),
-        }
+        let interface = Interface::new(alloc, mac, addr, routes).map_err(|_| Refusal::ENOMEM)?;
+        let pool = Pool::new(alloc).map_err(|_| Refusal::ENOMEM)?;
+        Ok(Host {
+            interface,
+            sockets: Sockets::new(alloc, addr),
+            pool,
+        })
     }
 
     /// The entry with a connection of this pair in any state but CLOSED.

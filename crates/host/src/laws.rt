@@ -11,7 +11,7 @@ ghost use Rattle.ipv4.specs.Datagram.{Datagram, header_octets};
 ghost use Rattle.clock.specs.declared.moment.Moment.{Moment};
 ghost use Rattle.clock.specs.Moments.{has_come};
 ghost use Rattle.arp.specs.Cache.{after_age};
-ghost use Rattle.icmp.specs.declared.error.Reason.TheVariants.{ProtocolUnreachable};
+ghost use Rattle.icmp.specs.declared.error.Reason.{Reason};
 ghost use Rattle.icmp.specs.MayAnswer.{MayAnswer};
 ghost use Rattle.icmp.specs.Message.{Message, IsEchoRequest};
 ghost use Rattle.icmp.specs.Sent.{RepliesTo, error_for};
@@ -19,13 +19,16 @@ ghost use Rattle.frames.specs.declared.drop.DropCause.{DropCause};
 ghost use Rattle.frames.specs.declared.drop.DropCause.TheVariants.{NoRoom};
 ghost use Rattle.frames.specs.declared.meaning.Control.{Control};
 ghost use Rattle.frames.specs.declared.meaning.Received.{Received};
-ghost use Rattle.frames.specs.declared.meaning.Meaning.TheVariants.{Tcp, Icmp, Other};
+ghost use Rattle.frames.specs.declared.meaning.UserReceived.{UserReceived};
+ghost use Rattle.frames.specs.declared.meaning.Meaning.{Meaning};
+ghost use Rattle.frames.specs.declared.meaning.Meaning.TheVariants.{Tcp, Icmp, Udp, Other, UdpFragment};
 ghost use Rattle.frames.specs.Meaning.{heard, broadcast};
 ghost use Rattle.frames.specs.Pairs.{pair_in, pair_between};
 ghost use Rattle.interface.specs.declared.reply.Reply.TheVariants.{Echo};
 ghost use Rattle.interface.specs.declared.reply.Waiting.{Waiting};
 ghost use Rattle.interface.specs.Ways.{is_routed};
 ghost use Rattle.interface.specs.Timing.{least_deadline as reply_deadline};
+ghost use Rattle.reassembly.specs.Places.{next_deadline as pool_deadline};
 ghost use Rattle.sockets.specs.declared.entry.Entry.{Entry};
 ghost use Rattle.sockets.specs.Entries.{due_peer, sends};
 ghost use Rattle.sockets.specs.Order.{IsOrdered};
@@ -35,9 +38,10 @@ ghost use Rattle.host.specs.ConfigView.{ConfigView, IsOfOne};
 ghost use Rattle.host.specs.HostView.{HostView, with_interface, with_sockets};
 ghost use Rattle.host.specs.Arrival.{IsDelivered, MeetsSegment, heard_by, segment_arrival};
 ghost use Rattle.host.specs.Carried.{Carried, carried};
+ghost use Rattle.host.specs.Causes.{IsAbout};
 ghost use Rattle.host.specs.Emission.{Replies, Sends, Nothing, emission, emission_to, emission_len, after_emission, emission_octets, goes_out_from};
 ghost use Rattle.host.specs.Messages.{errors_of};
-ghost use Rattle.host.specs.Places.{ReplyOf, SegmentOf, places, can_go_out};
+ghost use Rattle.host.specs.Places.{ReplyOf, EntryOf, places, can_go_out};
 ghost use Rattle.host.specs.Runs.{Event, Runs, WasHeard};
 ghost use Rattle.host.specs.Sound.{IsSoundHost};
 ghost use Rattle.host.specs.Ticks.{after_tick, least_deadline, hop_deadline};
@@ -65,13 +69,13 @@ pub fn layers_compose()
 pub fn the_first_place_goes_out()
     ensures reply { (h : HostView) (moment : Moment) (w : Waiting) → find (can_go_out h moment) (places h) ≡ Some (ReplyOf w)
         → (place : ℕ) × (slice_get h.interface.replies place ≡ Some w) × (emission h moment ≡ Replies place) }
-    ensures segment { (h : HostView) (moment : Moment) (e : Entry) → find (can_go_out h moment) (places h) ≡ Some (SegmentOf e)
+    ensures entry { (h : HostView) (moment : Moment) (e : Entry) → find (can_go_out h moment) (places h) ≡ Some (EntryOf e)
         → (find (sends (goes_out_from h moment)) h.sockets.entries ≡ Some e) × (emission h moment ≡ emission_to h moment (due_peer e.role)) }
     ensures none { (h : HostView) (moment : Moment) → find (can_go_out h moment) (places h) ≡ None → emission h moment ≡ Nothing }
     ensures only { (h : HostView) (now : Moment) → emission_len h now ≡ None → find (can_go_out h (later_moment h.sockets now)) (places h) ≡ None }
 {}
 
-/// Only a segment that goes out itself changes the table: what a request goes out for waits as it is, and so does every entry while a control
+/// Only a segment or a datagram that goes out itself changes the table: what a request goes out for waits as it is, and so does every entry while a control
 /// reply goes out (RFC 1122 section 2.3.2.2).
 pub fn requests_hold_nothing_back()
     ensures { (h : HostView) (now : Moment) → let moment = later_moment h.sockets now in ((mac : Mac) (to : Addr) → emission h moment ≢ Sends mac to)
@@ -87,11 +91,11 @@ pub fn dropped_frames_change_the_cache_alone()
         → cause ≢ NoRoom → new ≡ h }
 {}
 
-/// The deadline is the least: it has come exactly where that of the timers has come, or that of the control replies, or one of those of the
-/// entries that wait for their hops.
+/// The deadline is the least: it has come exactly where that of the timers has come, or that of the control replies, or that of the pool, or one of
+/// those of the entries that wait for their hops.
 pub fn deadline_is_the_least()
     ensures { (h : HostView) (now : Moment) → has_come (least_deadline h) now
-        ≡ (has_come (timer_deadline h.sockets) now || has_come (reply_deadline h.interface h.sockets.kept) now || list_any (λ e. has_come (hop_deadline h e) now) h.sockets.entries) }
+        ≡ (has_come (timer_deadline h.sockets) now || has_come (reply_deadline h.interface h.sockets.kept) now || has_come (pool_deadline h.pool) now || list_any (λ e. has_come (hop_deadline h e) now) h.sockets.entries) }
 {}
 
 /// A tick before the deadline, at which no neighbour is forgotten, changes nothing but the kept moment. (One that forgets the hop of what waits,
@@ -101,15 +105,17 @@ pub fn ticks_wait()
         → after_tick h now ≡ with_sockets h (record h.sockets { kept = moment }) }
 {}
 
-/// What is answered by an error may be (RFC 1122 section 3.2.2). A datagram that nothing takes carries no control message, is for one host, is no
-/// fragment and comes from one host; and no frame for all of the link brings one. Nothing else that is heard adds an error to the control
-/// replies: no segment does, and no message, which may be an error itself.
+/// What is answered by an error may be (RFC 1122 section 3.2.2). A datagram that nothing takes, a whole user datagram and a fragment zero carry no
+/// control message, are for one host, are no later fragments and come from one host; and no frame for all of the link brings one. Nothing else
+/// that is heard adds an error to the control replies: no segment does, and no message, which may be an error itself.
 pub fn answered_datagrams_may_be()
-    ensures may { (mac : Mac) (ours : Addr) (octets : List ℕ) (d : Datagram) → IsSingleHost ours → heard mac ours octets ≡ Ok (Other d) → MayAnswer d false }
-    ensures link { (mac : Mac) (ours : Addr) (octets : List ℕ) (d : Datagram) (f : Frame) → IsOfOne mac → heard mac ours octets ≡ Ok (Other d)
-        → frame_in octets ≡ Some f → f.destination ≢ broadcast }
+    ensures may { (mac : Mac) (ours : Addr) (octets : List ℕ) (reason : Reason) (d : Datagram) (meaning : Meaning) → IsSingleHost ours
+        → heard mac ours octets ≡ Ok meaning → IsAbout reason d meaning → MayAnswer d false }
+    ensures link { (mac : Mac) (ours : Addr) (octets : List ℕ) (reason : Reason) (d : Datagram) (meaning : Meaning) (f : Frame) → IsOfOne mac
+        → heard mac ours octets ≡ Ok meaning → IsAbout reason d meaning → frame_in octets ≡ Some f → f.destination ≢ broadcast }
     ensures others { (h : HostView) (now : Moment) (isn : ℕ) (octets : List ℕ) (answer : Result (Unit {0}) DropCause) (new : HostView)
-        → ((d : Datagram) → heard_by h octets ≢ Ok (Other d)) → IsDelivered h now isn octets answer new → errors_of new ≡ errors_of h }
+        → ((d : Datagram) → heard_by h octets ≢ Ok (Other d)) → ((r : UserReceived) → heard_by h octets ≢ Ok (Udp r)) → ((d : Datagram) → heard_by h octets ≢ Ok (UdpFragment d))
+        → IsDelivered h now isn octets answer new → errors_of new ≡ errors_of h }
 {}
 
 /// An echo reply has its request, over every list of events of a host (RFC 792). Whoever hears one in what the host gives out is at an address
@@ -126,10 +132,12 @@ pub fn echo_replies_have_requests()
 {}
 
 /// An error has its cause, over every list of events of a host (RFC 792). Whoever hears another control message than an echo reply in what the
-/// host gives out is at an address from which a datagram was delivered to the host that nothing there takes, and the message is the error
-/// about that datagram.
+/// host gives out is at an address from which a datagram was delivered to the host, and the message is the error about that datagram, for
+/// its reason: nothing there takes the datagram; it is a whole user datagram, or the fragment zero of one, and its port is unreachable; or
+/// the time for its other fragments ran out.
 pub fn errors_have_causes()
     ensures { (c : ConfigView) (events : List Event) (h : HostView) (now : Moment) (mac : Mac) (ours : Addr) (error : Control)
         → Runs c events h → IsSoundHost h → IsOrdered h.sockets → heard mac ours (emission_octets h now) ≡ Ok (Icmp error) → error.message.kind ≢ 0
-        → (d : Datagram) × WasHeard c events (Other d) × (d.source ≡ ours) × (error.message ≡ error_for ProtocolUnreachable (header_octets d) d.payload) }
+        → (reason : Reason) × (d : Datagram) × (meaning : Meaning) × IsAbout reason d meaning × WasHeard c events meaning × (d.source ≡ ours)
+        × (error.message ≡ error_for reason (header_octets d) d.payload) }
 {}

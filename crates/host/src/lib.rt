@@ -1,10 +1,11 @@
 //! One host on an Ethernet link: it takes frames and gives frames (RFC 894, RFC 826, RFC 791), and between them the sockets of its caller
-//! (RFC 9293). The frame side and the table of sockets are crates of their own; this one joins them, event by event.
+//! (RFC 9293, RFC 768). The frame side and the table of sockets are crates of their own; this one joins them, event by event.
 #![tactic(auto)]
 
 mod arrival;
 mod calls;
 mod config;
+mod datagrams;
 mod emission;
 mod host;
 pub mod laws;
@@ -13,4 +14,4 @@ mod ticks;
 pub use config::Config;
 pub use frames::DropCause;
 pub use host::Host;
-pub use sockets::{Kind, Refusal, SocketId};
+pub use sockets::{Kind, Refusal, SocketId, SocketState};

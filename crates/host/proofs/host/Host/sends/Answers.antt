@@ -8,7 +8,7 @@ use Rattle.host.proofs.host.Host.sends.Goals as goal
 
 pub returns-in-Some : goal.returns-in-Some
 returns-in-Some c =
-    let h : HostView = record { interface = c.self.inside.interface; sockets = c.self.inside.sockets } in
+    let h : HostView = record { interface = c.self.inside.interface; sockets = c.self.inside.sockets; pool = c.self.inside.pool } in
     c.goes_out.ensures
     ∙ ap goes_out c.way.ensures
     ∙ sym (sends_by h c.args.now c.args.entry.now c.in-Some.peer (sym c.due_peer.ensures ∙ c.in-Some.is))
