@@ -8,4 +8,5 @@ pub mod told
 pub mod counts
 pub mod fairness
 pub mod runs
+pub mod datagrams
 pub mod RunGiven

@@ -1,3 +1,4 @@
 pub mod FramesCarry
 pub mod FramesGoOut
 pub mod FramesArrive
+pub mod TableSends

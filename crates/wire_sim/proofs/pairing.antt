@@ -9,3 +9,4 @@ pub mod CloseIsMoves
 pub mod ConnectIsMove
 pub mod CallsOfNetwork
 pub mod ErrorIsMove
+pub mod DatagramsMoveNothing

@@ -5,3 +5,4 @@ pub mod PairOfPorts
 pub mod CallsOnTable
 pub mod SegmentArrived
 pub mod UnseenRoles
+pub mod DatagramArrived

@@ -7,6 +7,7 @@ pub mod Steps
 pub mod WorldRoom
 pub mod Trace
 pub mod Runs
+pub mod Datagrams
 pub mod Coverage
 pub mod Holding
 pub mod Notes

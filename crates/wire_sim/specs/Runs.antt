@@ -10,6 +10,7 @@ use Rattle.wire_sim.specs.declared.event.Event.TheVariants as event
 use Rattle.wire_sim.specs.declared.event.Answer.{Answer}
 use Rattle.wire_sim.specs.declared.event.Unfair.{Unfair}
 use Rattle.wire_sim.specs.declared.event.Unfair.TheVariants.{NoMemory}
+use Rattle.sockets.specs.Sound.{IsEndpoint}
 use Rattle.host.specs.ConfigView.{ConfigView}
 use Rattle.host.specs.Sound.{IsSoundHost}
 use Rattle.wire_sim.specs.Fairness.{Amount, unfair_event, IsFair}
@@ -17,9 +18,11 @@ use Rattle.wire_sim.specs.WorldView.{WorldView, SameAnswer, written_at, fresh_wo
 use Rattle.wire_sim.specs.Steps.{Steps}
 use Rattle.wire_sim.specs.Trace.{written, StreamLaw}
 
--- an initial sequence number that is handed in has 32 bits
+-- what is handed in is of its width: an initial sequence number has 32 bits, an address 4 octets and a port 16 bits
 abbrev pub IsNumberedCall : Call → Type 0
 IsNumberedCall (call.Connect isn id peer) = isn.0 < 2 ^ 32
+IsNumberedCall (call.Bind id local) = IsEndpoint local
+IsNumberedCall (call.SendTo id peer octets) = IsEndpoint peer
 IsNumberedCall _ = Unit {0}
 
 abbrev pub IsNumbered : Event → Type 0
@@ -64,6 +67,7 @@ EveryRunIsTallied = (limit : ℕ) (w : WorldView) → IsReached limit w → (sid
 -- the same call or event, whose octets may stand elsewhere in memory
 abbrev pub SameCall : Call → Call → Type 0
 SameCall (call.Send i octets) (call.Send j others) = (i ≡ j) × (octets.items ≡ others.items)
+SameCall (call.SendTo i p octets) (call.SendTo j q others) = (i ≡ j) × (p ≡ q) × (octets.items ≡ others.items)
 SameCall a b = a ≡ b
 
 abbrev pub SameEvent : Event → Event → Type 0

@@ -2,14 +2,16 @@
 -- what is said here.
 use Rattle.std.specs.Prelude.{◌≡◌, ℕ, ◌+◌, min, nat_lt, Bool, true, false, if◌then◌else◌, List, [], ◌∷◌, ◌++◌, length, take, Option, Some, None, option_map, slice_get, Result, Ok, Err}
 use Rattle.ipv4.specs.declared.addr.Addr.{Addr}
+use Rattle.ipv4.specs.declared.addr.Endpoint.{Endpoint}
 use Rattle.ipv4.specs.declared.addr.Pair.{Pair}
 use Rattle.clock.specs.declared.moment.Moment.{Moment}
-use Rattle.tcp_state.specs.declared.buffers.Buffers.{Buffers}
 use Rattle.tcp_state.specs.declared.calls.Received.{Received}
 use Rattle.tcp_state.specs.declared.calls.Received.TheVariants as received
+use Rattle.udp.specs.Waiting.{Waiting}
+use Rattle.sockets.specs.declared.entry.Kind.{Kind}
 use Rattle.sockets.specs.declared.entry.SocketId.{SocketId}
 use Rattle.sockets.specs.declared.role.Role.{Role}
-use Rattle.sockets.specs.declared.role.Role.TheVariants.{Connected}
+use Rattle.sockets.specs.declared.role.Role.TheVariants.{Connected, Datagrams}
 use Rattle.sockets.specs.declared.refusal.Refusal.{Refusal}
 use Rattle.sockets.specs.declared.refusal.Refusal.TheVariants.{EMFILE, ENOMEM}
 use Rattle.wire_sim.specs.declared.event.Side.{Side}
@@ -24,7 +26,8 @@ use Rattle.wire_sim.specs.declared.event.Opening.{Opening}
 use Rattle.wire_sim.specs.declared.world.bag.Frame.{Frame}
 use Rattle.wire_sim.specs.declared.world.bag.Note.{Note}
 use Rattle.wire_sim.specs.declared.world.station.Station.{Station}
-use Rattle.sockets.specs.Calls.{unless_refused, is_table_full, after_socket, bind_refusal, after_bind, listen_refusal, after_listen, accept_answer, after_accept, connect_refusal, after_connect, send_answer, after_send, recv_answer, after_recv, shutdown_refusal, after_shutdown, close_refusal, after_close, state_answer}
+use Rattle.sockets.specs.Calls.{unless_refused, is_table_full, IsMade, bind_refusal, after_bind, listen_refusal, after_listen, accept_answer, after_accept, connect_refusal, after_connect, send_answer, after_send, recv_answer, after_recv, shutdown_refusal, after_shutdown, close_refusal, after_close, state_answer}
+use Rattle.sockets.specs.Datagrams.{sendto_answer, after_sendto, recvfrom_answer, after_recvfrom}
 use Rattle.host.specs.Arrival.{IsDelivered}
 use Rattle.sockets.specs.SocketsView.{SocketsView, role_of}
 use Rattle.host.specs.HostView.{HostView}
@@ -52,12 +55,12 @@ abbrev pub Answers : {T : Type 0} → Result T Refusal → (T → Answer) → So
 Answers (Ok value) told next old answer new = (answer ≡ told value) × (new ≡ next)
 Answers (Err refusal) told next old answer new = (answer ≡ reply.Refused refusal) × (new ≡ old)
 
--- a new socket, but where the table is full or memory is refused
-abbrev pub MeetsSocket : SocketsView → Answer → SocketsView → Type 0
-MeetsSocket h (reply.Socket id) new = (is_table_full h ≡ false) × (id.0 ≡ h.last_id + 1) × ((buffers : Buffers) × (new ≡ after_socket h buffers))
-MeetsSocket h (reply.Refused EMFILE) new = (is_table_full h ≡ true) × (new ≡ h)
-MeetsSocket h (reply.Refused ENOMEM) new = (is_table_full h ≡ false) × (new ≡ h)
-MeetsSocket h _ new = ⊥
+-- a new socket of the kind, but where the table is full or memory is refused
+abbrev pub MeetsSocket : Kind → SocketsView → Answer → SocketsView → Type 0
+MeetsSocket kind h (reply.Socket id) new = (is_table_full h ≡ false) × (id.0 ≡ h.last_id + 1) × IsMade kind h new
+MeetsSocket kind h (reply.Refused EMFILE) new = (is_table_full h ≡ true) × (new ≡ h)
+MeetsSocket kind h (reply.Refused ENOMEM) new = (is_table_full h ≡ false) × (new ≡ h)
+MeetsSocket kind h _ new = ⊥
 
 -- how many octets one receive asks for at most
 abbrev pub recv_len : ℕ → ℕ
@@ -78,15 +81,35 @@ MeetsReceived h id len (Ok received.EndOfStream) reply.EndOfStream new = new ≡
 MeetsReceived h id len (Err refusal) (reply.Refused told) new = (told ≡ refusal) × (new ≡ h)
 MeetsReceived h id len _ _ new = ⊥
 
+-- the first octets of the first datagram that waits at a socket
+abbrev pub first_waiting_on : SocketsView → SocketId → ℕ → List ℕ
+first_waiting_on h id count = of_role (role_of h id)
+  where
+    of_inbox : List Waiting → List ℕ
+    of_inbox [] = []
+    of_inbox (first ∷ rest) = take count first.octets
+
+    of_role : Option Role → List ℕ
+    of_role (Some (Datagrams bound socket)) = of_inbox socket.inbox
+    of_role _ = []
+
+-- the octets that are answered of a datagram are its first, with the endpoint that it came from
+abbrev pub MeetsReceivedFrom : SocketsView → SocketId → Result (ℕ × Endpoint) Refusal → Answer → SocketsView → Type 0
+MeetsReceivedFrom h id (Ok (count, from)) (reply.Datagram octets told) new = (octets.items ≡ first_waiting_on h id count) × (told ≡ from) × (new ≡ after_recvfrom h id)
+MeetsReceivedFrom h id (Err refusal) (reply.Refused told) new = (told ≡ refusal) × (new ≡ h)
+MeetsReceivedFrom h id _ _ new = ⊥
+
 -- what is answered to a call, and what the table becomes, where it is told to which addresses a route leads
 abbrev pub MeetsCall : (Addr → Bool) → Call → SocketsView → Answer → SocketsView → Type 0
-MeetsCall routed (call.Socket kind) h answer new = MeetsSocket h answer new
+MeetsCall routed (call.Socket kind) h answer new = MeetsSocket kind h answer new
 MeetsCall routed (call.Bind id local) h answer new = Answers (unless_refused (bind_refusal h id local) (tt {0})) (λ _. reply.Done) (after_bind h id local) h answer new
 MeetsCall routed (call.Listen id backlog) h answer new = Answers (unless_refused (listen_refusal h id backlog) (tt {0})) (λ _. reply.Done) (after_listen h id backlog) h answer new
 MeetsCall routed (call.Accept id) h answer new = Answers (accept_answer h id) (λ p. reply.Accepted p.0 p.1) (after_accept h id) h answer new
 MeetsCall routed (call.Connect isn id peer) h answer new = Answers (unless_refused (connect_refusal h id peer (routed peer.addr)) (tt {0})) (λ _. reply.Started) (after_connect h isn.0 id peer (routed peer.addr)) h answer new
 MeetsCall routed (call.Send id octets) h answer new = Answers (send_answer h id octets.items) (λ count. reply.Sent count) (after_send h id octets.items) h answer new
 MeetsCall routed (call.Recv id len) h answer new = MeetsReceived h id (recv_len len) (recv_answer h id (recv_len len)) answer new
+MeetsCall routed (call.SendTo id peer octets) h answer new = Answers (sendto_answer h id peer octets.items (routed peer.addr)) (λ count. reply.Sent count) (after_sendto h id peer octets.items (routed peer.addr)) h answer new
+MeetsCall routed (call.RecvFrom id len) h answer new = MeetsReceivedFrom h id (recvfrom_answer h id (recv_len len)) answer new
 MeetsCall routed (call.Shutdown id) h answer new = Answers (unless_refused (shutdown_refusal h id) (tt {0})) (λ _. reply.Done) (after_shutdown h id) h answer new
 MeetsCall routed (call.Close id) h answer new = Answers (unless_refused (close_refusal h id) (tt {0})) (λ _. reply.Done) (after_close h id) h answer new
 MeetsCall routed (call.State id) h answer new = Answers (state_answer h id) (λ state. reply.State state) h h answer new
@@ -166,6 +189,7 @@ Steps (event.Deliver side index isn) place answer old new = DeliversFrame side i
 -- how many octets the host that an event names may read for it
 abbrev pub call_recv_len : Call → ℕ
 call_recv_len (call.Recv id len) = recv_len len
+call_recv_len (call.RecvFrom id len) = recv_len len
 call_recv_len _ = 0
 
 abbrev pub event_recv_len : Event → ℕ

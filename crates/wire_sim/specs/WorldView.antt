@@ -1,5 +1,6 @@
 -- What a reader sees of a world.
 use Rattle.std.specs.Prelude.{◌≡◌, ℕ, Bool, ◌||◌, List, [], vec_len, Option, Some, None}
+use Rattle.ipv4.specs.declared.addr.Endpoint.{Endpoint}
 use Rattle.ipv4.specs.declared.addr.Pair.{Pair}
 use Rattle.clock.specs.declared.moment.Moment.{Moment}
 use Rattle.wire_sim.specs.declared.event.Side.{Side}
@@ -63,21 +64,30 @@ clock_of n side = let s = station_of n side in s.clock
 -- the octets that an answer holds
 abbrev pub octets_in : Answer → Option (List ℕ)
 octets_in (answer.Octets octets) = Some octets.items
+octets_in (answer.Datagram octets from) = Some octets.items
 octets_in _ = None
+
+-- the endpoint that a datagram came from
+abbrev pub source_in : Answer → Option Endpoint
+source_in (answer.Datagram octets from) = Some from
+source_in _ = None
 
 -- an answer without octets
 abbrev pub plain : Answer → Option Answer
 plain (answer.Octets octets) = None
+plain (answer.Datagram octets from) = None
 plain a = Some a
 
 -- the same answer, whose octets may stand elsewhere in memory
 pub record SameAnswer (a b : Answer) : Type 0 where
   pub octets : octets_in a ≡ octets_in b
+  pub source : source_in a ≡ source_in b
   pub others : plain a ≡ plain b
 
 -- how many octets an answer holds
 abbrev pub octets_len : Answer → ℕ
 octets_len (answer.Octets octets) = vec_len octets
+octets_len (answer.Datagram octets from) = vec_len octets
 octets_len _ = 0
 
 -- a host on which nothing happened, at the moment 0

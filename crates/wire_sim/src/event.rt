@@ -4,11 +4,10 @@ ghost use Rattle.std.specs.Prelude.{◌≡◌, ◌<◌, ◌≤◌, ◌==◌, ◌
 
 use crate::room::filled;
 use clock::Moment;
-use host::{DropCause, Kind, Refusal, SocketId};
+use host::{DropCause, Kind, Refusal, SocketId, SocketState};
 use ipv4::{Endpoint, Pair};
 use std::fmt;
 use tcp_segment::Seq;
-use tcp_state::State;
 use thiserror::Error;
 
 /// One of the two hosts.
@@ -76,6 +75,17 @@ pub enum Call {
         id: SocketId,
         len: usize,
     },
+    /// Sends octets to an endpoint as one datagram.
+    SendTo {
+        id: SocketId,
+        peer: Endpoint,
+        octets: Vec<u8>,
+    },
+    /// Reads the first datagram that came to a socket into a buffer of `len` octets.
+    RecvFrom {
+        id: SocketId,
+        len: usize,
+    },
     /// Closes our side of a connection.
     Shutdown {
         id: SocketId,
@@ -118,10 +128,12 @@ pub enum Answer {
     Sent(usize),
     /// These octets were read.
     Octets(Vec<u8>),
+    /// These octets of a datagram were read, which came from this endpoint.
+    Datagram { octets: Vec<u8>, from: Endpoint },
     /// The peer has closed its side, and all that it wrote was read.
     EndOfStream,
     /// The state of a socket.
-    State(State),
+    State(SocketState),
     /// A frame went into the bag: its index there, and its length in octets.
     Frame { index: usize, len: usize },
     /// No frame is due.
@@ -150,6 +162,10 @@ impl Answer {
             Answer::Started => Answer::Started,
             Answer::Sent(taken) => Answer::Sent(*taken),
             Answer::Octets(octets) => Answer::Octets(filled(room, octets.as_slice())),
+            Answer::Datagram { octets, from } => Answer::Datagram {
+                octets: filled(room, octets.as_slice()),
+                from: *from,
+            },
             Answer::EndOfStream => Answer::EndOfStream,
             Answer::State(state) => Answer::State(*state),
             Answer::Frame { index, len } => Answer::Frame {

@@ -4,6 +4,7 @@ ghost use Rattle.wire_sim.specs.Runs.{EveryRunIsLawful, EveryRunIsTallied, Every
 ghost use Rattle.wire_sim.specs.Coverage.{EveryConnectionIsListed, EveryOpeningIsUnique, EveryOctetIsCovered};
 ghost use Rattle.wire_sim.specs.Holding.{EveryOpeningIsBegun, EveryHoldingIsNoted};
 ghost use Rattle.wire_sim.specs.Notes.{EveryNoteIsTraced, EveryDelayIsTraced};
+ghost use Rattle.wire_sim.specs.Datagrams.{EveryRunKeepsDatagrams, EveryDatagramIsTraced};
 
 /// In every run of a world of two hosts, over every list of socket calls, ticks, emissions and fair deliveries in any order, for
 /// every pair of endpoints, every epoch and both directions, what was read at one end begins what was written at the other, and the
@@ -72,4 +73,18 @@ pub fn every_delay_is_traced()
 /// the epoch in which it went out, neither end took the limit or more from its caller since, and it opens no pair a second time in one epoch.
 pub fn fair_is_unrefused()
     ensures { FairIsUnrefused }
+{}
+
+/// In every run of a world, over every list of events in any order, with frames lost, repeated and in any order: each datagram that was read of a
+/// UDP socket has the source, and begins with the octets, as many as the buffer had room for, of one that the other host accepted from its
+/// callers for the end at which it was read, as long as that host accepted no more than the 65,536 that have an identification each (RFC 768,
+/// RFC 791 section 3.2).
+pub fn every_run_keeps_datagrams()
+    ensures { EveryRunKeepsDatagrams }
+{}
+
+/// What was accepted and read in a run are the calls of its trace that were answered so, in order: for whom and which octets each datagram was
+/// that was accepted, from whom and which octets each that was read.
+pub fn every_datagram_is_traced()
+    ensures { EveryDatagramIsTraced }
 {}

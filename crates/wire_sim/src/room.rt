@@ -5,7 +5,7 @@ ghost use Rattle.std.specs.Prelude.{◌≡◌, ◌≤◌, true, false, length, v
 use crate::event::{Call, Event};
 use std::alloc::{AllocError, Global};
 
-/// The octets that one `recv` answers at most.
+/// The octets that one `recv` or `recvfrom` answers at most.
 pub(crate) const MOST_READ: usize = 65_535;
 
 /// The octets of a frame at most (RFC 894).
@@ -32,7 +32,7 @@ impl Room {
         ensures plain { event_recv_len event.now ≡ 0 → is_emission event.now ≡ false → IsOk result }
     {
         match event {
-            Event::Call(_, Call::Recv { len, .. }) => {
+            Event::Call(_, Call::Recv { len, .. } | Call::RecvFrom { len, .. }) => {
                 let len = (*len).min(MOST_READ);
                 let mut octets = Vec::with_capacity(alloc, len)?;
                 octets.resize(len, 0)?;

@@ -11,7 +11,7 @@ use Rattle.ipv4.proofs.Pairs.{pair_of-swapped}
 use Rattle.tcp_segment.specs.Segment.{Segment}
 use Rattle.frames.specs.declared.drop.DropCause.{DropCause}
 use Rattle.frames.specs.declared.meaning.Meaning.{Meaning}
-use Rattle.frames.specs.declared.meaning.Meaning.TheVariants.{Arp, Tcp, Icmp, Other, UdpFragment}
+use Rattle.frames.specs.declared.meaning.Meaning.TheVariants.{Arp, Tcp, Icmp, Udp, Other, UdpFragment}
 use Rattle.frames.specs.declared.meaning.Control.{Control}
 use Rattle.frames.specs.declared.meaning.Received.{Received}
 use Rattle.frames.specs.Meaning.{heard, may_send}
@@ -23,7 +23,10 @@ use Rattle.sockets.specs.declared.taken.Taken.TheVariants as taken
 use Rattle.sockets.specs.Arrival.{Arrival, Becomes, Opens as OpensTable, NoPlace, Answers, local_end, peer_end, arrival, pair_opened, Meets as MeetsTable}
 use Rattle.sockets.specs.SocketsView.{SocketsView, later_moment, holder_id}
 use Rattle.sockets.specs.Unreachable.{after_unreachable}
-use Rattle.host.specs.Arrival.{MeetsSegment, arrival_by_route, segment_arrival, MeetsMessage, MeetsHeard, IsDelivered, heard_by, foreseen_of, foreseen}
+use Rattle.reassembly.specs.Fragments.{quote_of}
+use Rattle.udp.specs.Datagram.{UserDatagram}
+use Rattle.sockets.specs.Datagrams.{reception, after_reception}
+use Rattle.host.specs.Arrival.{fragment_outcome, MeetsSegment, arrival_by_route, segment_arrival, MeetsMessage, MeetsHeard, IsDelivered, heard_by, foreseen_of, foreseen}
 use Rattle.host.specs.HostView.{HostView}
 use Rattle.host.specs.Messages.{Told, Asks, Refuses, Nothing, told_by}
 use Rattle.host.specs.Sound.{IsSoundHost}
@@ -44,8 +47,10 @@ use Rattle.wire_sim.specs.Steps.{MeetsFrame}
 use Rattle.wire_sim.specs.Tallies.{is_opening_of}
 use Rattle.wire_sim.specs.WorldView.{NetworkView, written_at}
 use Rattle.wire_sim.proofs.tables.CallsOnTable.{not_true}
-use Rattle.wire_sim.proofs.openings.HeldIsOpened.{unheld-told}
+use Rattle.wire_sim.proofs.openings.HeldIsOpened.{unheld-told, unheld-received}
 use Rattle.wire_sim.proofs.tables.PairOfPorts.{same_addr-other, unheld}
+use Rattle.wire_sim.proofs.pairing.DatagramsMoveNothing.{projects-received}
+use Rattle.wire_sim.proofs.tables.DatagramArrived.{UserArrived, Kept, Came, user-arrived, fragment-arrived}
 use Rattle.wire_sim.proofs.tables.SegmentArrived.{Arrived, Ignored, segment-arrived}
 use Rattle.wire_sim.proofs.tables.TableById.{end_at}
 use Rattle.wire_sim.proofs.pairing.ArrivalIsMove.{Opens, OpensNone, held-still, MayCome, projects-arrived}
@@ -156,6 +161,10 @@ noted-unheld openings side place (Some note) old new keeps = by_holder (holder_i
 unheld-refused : (own : SocketsView) (local peer : Endpoint) (number : ℕ) (pair : Pair) → holder_id own pair ≡ None → holder_id (after_unreachable own local peer number) pair ≡ None
 unheld-refused own local peer number pair free = ap (option_map (λ (e : Entry). e.id)) (unheld-told own local peer number pair (unheld own pair free))
 
+-- nor does a datagram that comes
+unheld-received_from : (own : SocketsView) (source : Addr) (d : UserDatagram) (pair : Pair) → holder_id own pair ≡ None → holder_id (after_reception own source d) pair ≡ None
+unheld-received_from own source d pair free = ap (option_map (λ (e : Entry). e.id)) (unheld-received own source d pair (unheld own pair free))
+
 -- a segment comes from another address
 from-another : (own : Addr) (source : Addr) → may_send own source ≡ true → same_addr own source ≡ false
 from-another own source may = same_addr-other source own (not_true (same_addr source own) (and_parts (is_single_host source) (not (same_addr source own)) may).1)
@@ -166,12 +175,14 @@ named-pair from to out own a o r at k =
     let s = r.segment in
     k.pair ∙ (pair_of-swapped (record { addr = r.source; port = s.source }) (record { addr = a; port = s.destination }) ∙ ap (λ x. pair_of (record { addr = x; port = s.destination }) (peer_end r.source s)) (sym at))
 
--- What a frame that was delivered is to the host's table: nothing, a segment that arrives, or an error that tells of one that went out.
+-- What a frame that was delivered is to the host's table: nothing, a segment that arrives, an error that tells of one that went out, or a datagram
+-- for a UDP socket.
 pub data IsToTable (h h' : HostView) (moment : Moment) (isn : ℕ) (o : Option Note) : Type 0 where
   Aside : h'.sockets ≡ h.sockets → IsToTable h h' moment isn o
   Brings : (r : Received) (note : Note) → o ≡ Some note → note.pair ≡ pair_of (local_end h.sockets r.segment) (peer_end r.source r.segment)
       → Arrived h.sockets moment isn (local_end h.sockets r.segment) (peer_end r.source r.segment) r.segment (segment_foreseen h r.source r.segment) h'.sockets → IsToTable h h' moment isn o
   Tells : (local peer : Endpoint) (number : ℕ) → h'.sockets ≡ after_unreachable h.sockets local peer number → IsToTable h h' moment isn o
+  Receives : (source : Addr) (d : UserDatagram) → h'.sockets ≡ after_reception h.sockets source d → IsToTable h h' moment isn o
 
 heard-to_table : (from to : Side) (out : Sent) (a : Addr) (h h' : HostView) (clock : Moment) (isn : ℕ) (f : Frame) (answer : Result (Unit {0}) DropCause) → h.interface.addr ≡ h.sockets.addr → h.sockets.addr ≡ a → Carries a from to out f
     → IsDelivered h clock isn f.octets.items answer h' → IsToTable h h' (later_moment h.sockets clock) isn f.note
@@ -185,6 +196,10 @@ heard-to_table from to out a h h' clock isn f answer own at carries = by_meaning
     by_told (Refuses quote) c meets = Tells quote.source quote.destination quote.number (ap (λ (w : HostView). w.sockets) meets.1)
     by_told Nothing c meets = Aside (ap (λ (w : HostView). w.sockets) meets.1)
 
+    by_user : UserArrived h.sockets h'.sockets → IsToTable h h' moment isn f.note
+    by_user (Kept same) = Aside same
+    by_user (Came source d same) = Receives source d same
+
     by_meaning : (m : Result Meaning DropCause) → heard_by h f.octets.items ≡ m → MeetsHeard m h moment isn answer h' → IsToTable h h' moment isn f.note
     by_meaning (Ok (Arp packet)) is meets = Aside (ap (λ (w : HostView). w.sockets) meets.1)
     by_meaning (Ok (Tcp r)) is meets =
@@ -192,7 +207,8 @@ heard-to_table from to out a h h' clock isn f answer own at carries = by_meaning
         Brings r k.note k.noted (named-pair from to out h.sockets a f.note r at k) (segment-taken h moment isn r.source r.segment answer h' meets)
     by_meaning (Ok (Icmp c)) is meets = by_told (told_by c.message) c meets
     by_meaning (Ok (Other d)) is meets = Aside (ap (λ (w : HostView). w.sockets) meets.1)
-    by_meaning (Ok (UdpFragment d)) is meets = Aside (ap (λ (w : HostView). w.sockets) meets.1)
+    by_meaning (Ok (Udp r)) is meets = by_user (user-arrived (reception h.sockets r.datagram) h h' moment r.carrier.source r.datagram (quote_of r.carrier) meets.1)
+    by_meaning (Ok (UdpFragment d)) is meets = by_user (fragment-arrived (fragment_outcome moment d h.pool) h h' moment d answer meets)
     by_meaning (Err cause) is meets = Aside (ap (λ (w : HostView). w.sockets) meets.1)
 
 pub frame-to_table : (from to : Side) (out : Sent) (a : Addr) (h h' : HostView) (clock : Moment) (isn : ℕ) (f : Frame) (answer : Answer) → h.interface.addr ≡ h.sockets.addr → h.sockets.addr ≡ a → Carries a from to out f
@@ -245,6 +261,14 @@ frame-heard limit hs ts a b h h' other n bag trace clock isn place f answer is_l
         subst (λ w. Opens limit hs ts a b w other bag n.openings (noted_opening n.openings hs place f.note h.sockets w) trace) (sym becomes)
         (OpensNone (noted-unheld n.openings hs place f.note h.sockets next (unheld-refused h.sockets local peer number)) (projects-told limit hs ts a b h.sockets other bag n.openings trace local peer number p))
 
+    -- nor does a datagram for a UDP socket
+    by_user : UserArrived h.sockets h'.sockets → Opens limit hs ts a b h'.sockets other bag n.openings (noted_opening n.openings hs place f.note h.sockets h'.sockets) trace
+    by_user (Kept same) = still same
+    by_user (Came source d becomes) =
+        let next = after_reception h.sockets source d in
+        subst (λ w. Opens limit hs ts a b w other bag n.openings (noted_opening n.openings hs place f.note h.sockets w) trace) (sym becomes)
+        (OpensNone (noted-unheld n.openings hs place f.note h.sockets next (unheld-received_from h.sockets source d)) (projects-received limit hs ts a b h.sockets other bag n.openings trace source d p))
+
     by_told : (t : Told) (c : Control) → MeetsMessage t h moment c answer h' → Opens limit hs ts a b h'.sockets other bag n.openings (noted_opening n.openings hs place f.note h.sockets h'.sockets) trace
     by_told Asks c meets = still (ap (λ (w : HostView). w.sockets) meets.1)
     by_told (Refuses quote) c meets = tells quote.source quote.destination quote.number (ap (λ (w : HostView). w.sockets) meets.1)
@@ -256,7 +280,8 @@ frame-heard limit hs ts a b h h' other n bag trace clock isn place f answer is_l
     by_meaning (Ok (Tcp r)) is meets = segment-arrives limit hs ts a b h h' other n bag trace moment isn place f r answer is_limit tallied sound small_isn p carries late fair is meets
     by_meaning (Ok (Icmp c)) is meets = by_told (told_by c.message) c meets
     by_meaning (Ok (Other d)) is meets = still (ap (λ (w : HostView). w.sockets) meets.1)
-    by_meaning (Ok (UdpFragment d)) is meets = still (ap (λ (w : HostView). w.sockets) meets.1)
+    by_meaning (Ok (Udp r)) is meets = by_user (user-arrived (reception h.sockets r.datagram) h h' moment r.carrier.source r.datagram (quote_of r.carrier) meets.1)
+    by_meaning (Ok (UdpFragment d)) is meets = by_user (fragment-arrived (fragment_outcome moment d h.pool) h h' moment d answer meets)
     by_meaning (Err cause) is meets = still (ap (λ (w : HostView). w.sockets) meets.1)
 
 -- and whatever the host answers

@@ -1,16 +1,19 @@
 -- A frame that a host emits is a move of one pairing, or of none; and whoever hears a segment of it hears what went out.
 use Rattle.std.proofs.Common.{◌≡◌, ℕ, inl, inr, true, List, [], ◌∷◌, ◌++◌, Option, Some, None, option_map, Ok, refl, sym, ◌∙◌, ap, subst}
-use Rattle.std.specs.List.{slice_get, AllByRecursion}
+use Rattle.std.specs.List.{find, slice_get, AllByRecursion}
 use Rattle.ether.specs.declared.mac.Mac.{Mac}
 use Rattle.ipv4.specs.declared.addr.Addr.{Addr}
+use Rattle.ipv4.specs.declared.addr.Endpoint.{Endpoint}
 use Rattle.ipv4.specs.Addresses.{pair_of}
 use Rattle.clock.specs.declared.moment.Moment.{Moment}
 use Rattle.tcp_segment.specs.declared.head.Head.{Head}
 use Rattle.tcp_segment.specs.Sent.{CanBeSent, sent_segment, sent_octets}
 use Rattle.tcp_state.specs.declared.emission.Due.{Due}
 use Rattle.tcp_state.specs.View.{View}
-use Rattle.tcp_state.specs.Due.{flags_of, head_of, octets_of, segment_octets as connection_octets}
+use Rattle.tcp_state.specs.Due.{first_due, flags_of, head_of, octets_of, segment_octets as connection_octets}
 use Rattle.tcp_state.proofs.GoesOut.{due-may}
+use Rattle.udp.specs.declared.cutting.Part.{Part}
+use Rattle.udp_socket.specs.SocketView.{SocketView}
 use Rattle.frames.specs.declared.meaning.Received.{Received}
 use Rattle.frames.specs.declared.meaning.Meaning.TheVariants.{Tcp}
 use Rattle.frames.specs.Meaning.{heard}
@@ -22,22 +25,25 @@ use Rattle.interface.specs.declared.reply.Waiting.{Waiting}
 use Rattle.interface.specs.declared.way.Way.{Way}
 use Rattle.interface.specs.declared.way.Way.TheVariants.{To, Ask, Waits}
 use Rattle.interface.specs.InterfaceView.{InterfaceView}
-use Rattle.interface.specs.Emission.{segment_frame_to, request_frame, reply_frame, frame_by, frame_of_one, frame_at}
+use Rattle.interface.specs.Emission.{segment_frame_to, part_frame_to, request_frame, reply_frame, frame_by, frame_of_one, frame_at}
 use Rattle.interface.specs.Replies.{way_of}
+use Rattle.interface.specs.Ways.{way}
 use Rattle.interface.specs.Sound.{IsSound, IsSoundReply}
+use Rattle.sockets.specs.declared.emission.Emitted.TheVariants.{Datagram}
+use Rattle.sockets.specs.declared.entry.SocketId.{SocketId}
 use Rattle.sockets.specs.declared.entry.Entry.{Entry}
-use Rattle.sockets.specs.declared.role.Role.TheVariants.{Connected}
-use Rattle.sockets.specs.Entries.{sends, due_octets, role_after_emission, emission_fate_of, entries_after_step}
-use Rattle.sockets.specs.Emission.{segment_octets, after_segment_sent}
+use Rattle.sockets.specs.declared.role.Role.TheVariants.{Connected, Datagrams}
+use Rattle.sockets.specs.Entries.{sends, due_emitted, with_role, role_after_emission, emission_fate_of, entries_after_step}
+use Rattle.sockets.specs.Emission.{emitted, emitted_octets, after_segment_sent}
+use Rattle.sockets.specs.Lists.{change_first}
 use Rattle.sockets.specs.SocketsView.{SocketsView, later_moment}
 use Rattle.sockets.specs.Sound.{IsSoundConnection, IsSoundRole}
 use Rattle.host.specs.HostView.{HostView}
 use Rattle.host.specs.Emission as host_emission
-use Rattle.host.specs.Emission.{Emission, Replies, Sends, Asks, Nothing, goes_out_from, emission, emission_to, emission_by, table_emission, len_of, left_by, emission_len, emission_octets, after_emission}
+use Rattle.host.specs.Emission.{Emission, Replies, Sends, Asks, Nothing, goes_out_from, emission, emitted_frame, len_of, left_by, emission_len, emission_octets, after_emission}
 use Rattle.host.specs.Sound.{IsSoundHost}
 use Rattle.host.proofs.Hearing.{heard-nothing, heard-request, heard-reply, heard-segment, heard-reset, segment-message, echo-can, echo-frame, error-can, error-frame, way-mac}
 use Rattle.host.proofs.DueSegments.{due-can, due-fits}
-use Rattle.host.proofs.Carriage.{sending, found-octets, first-octets}
 use Rattle.wire_sim.specs.declared.event.Side.{Side}
 use Rattle.wire_sim.specs.declared.event.Opening.{Opening}
 use Rattle.wire_sim.specs.declared.event.Happening.{Happening}
@@ -49,6 +55,8 @@ use Rattle.wire_sim.proofs.lists.FoundAfterChange.{All-find, All-at, All-added, 
 use Rattle.wire_sim.proofs.emission.SegmentsGoOut.{Emits}
 use Rattle.wire_sim.proofs.pairing.EmissionIsMove.{emission_of, bag_after, among-new, GoesReset, GoesOn, projects-emitted}
 use Rattle.wire_sim.proofs.pairing.WorldAsPairings.{Sent, Bag, Projects}
+use Rattle.wire_sim.proofs.pairing.CallsAreMoves.{projects-quiet_at}
+use Rattle.wire_sim.proofs.carried.TableSends.{OfConnection, OfSocket, sends-for, segment-framed, part-framed, part-unheard}
 use Rattle.wire_sim.proofs.carried.FramesCarry.{IsTallied, at_side-noted, IsSent, Carries, Carried, carried-more}
 use Rattle.wire_sim.proofs.tables.TableById.{entry_with, IsOpened, found-role}
 
@@ -136,54 +144,87 @@ carries-reply n dst hs ts out f i moment place sound octets note = by_place (sli
     by_place (Some waiting) at octets =
         by_way waiting.reply (All-at (λ (w : Waiting). IsSoundReply i.addr w.reply) i.replies place waiting sound.replies at) (way_of i moment waiting.reply) refl octets
 
--- An entry's segment.
+-- A connection's segment.
 
-frame-sent : (limit : ℕ) (hs ts : Side) (a b : Addr) (h : HostView) (other : SocketsView) (n : NetworkView) (bag : Bag) (trace : List Happening) (f : Frame) (moment : Moment) (mac : Mac) (to : Addr)
-    → IsTallied n trace → IsSoundHost h → emission h moment ≡ Sends mac to → f.sender ≡ hs → f.octets.items ≡ segment_frame_to h.interface mac to (segment_octets h.sockets (goes_out_from h moment))
+segment-sent : (limit : ℕ) (hs ts : Side) (a b : Addr) (h : HostView) (other : SocketsView) (n : NetworkView) (bag : Bag) (trace : List Happening) (f : Frame) (moment : Moment) (mac : Mac) (to : Addr) (e : Entry) (c : View) (l : Option SocketId) (due : Due)
+    → find (sends (goes_out_from h moment)) h.sockets.entries ≡ Some e → e.role ≡ Connected c l → first_due c ≡ Some due → to ≡ c.peer.addr → way h.interface moment to ≡ To mac
+    → IsTallied n trace → IsSoundHost h → f.sender ≡ hs → f.octets.items ≡ emitted_frame h.interface mac to (emitted h.sockets (goes_out_from h moment)) (emitted_octets h.sockets (goes_out_from h moment))
     → f.note ≡ option_map (note_of n) (pair_in f.octets.items) → Projects limit hs ts a b h.sockets other bag n.openings trace → AllByRecursion (Carried hs ts a b bag) n.frames
     → WentOut limit hs ts a b (after_segment_sent h.sockets (goes_out_from h moment) moment) other (n.frames ++ f ∷ []) n.openings trace
-frame-sent limit hs ts a b h other n bag trace f moment mac to tallied sound is sender octets note p carried =
+segment-sent limit hs ts a b h other n bag trace f moment mac to e c l due found is_role first is_to leads tallied sound sender octets note p carried =
     let own = h.sockets in
     let goes = goes_out_from h moment in
     let test = sends goes in
-    let k = sending h moment mac to is in
-    let emits : Emits own.entries test k.e k.c k.l k.due = record { found = k.found; role = k.role; first = k.first } in
-    let solid : IsSoundConnection k.c = subst IsSoundRole k.role (All-find (λ (e : Entry). IsSoundRole e.role) test own.entries k.e sound.table.entries k.found) in
-    let may = due-may k.c k.due solid.sound k.first in
+    let emits : Emits own.entries test e c l due = record { found = found; role = is_role; first = first } in
+    let solid : IsSoundConnection c = subst IsSoundRole is_role (All-find (λ (e : Entry). IsSoundRole e.role) test own.entries e sound.table.entries found) in
+    let may = due-may c due solid.sound first in
     let now = later_moment own moment in
-    let next : SocketsView = record own { entries = entries_after_step (emission_fate_of (role_after_emission now k.e.role)) test (role_after_emission now) own.entries } in
-    let becomes : after_segment_sent own goes moment ≡ next = rw k.found in
-    let spelled : segment_octets own goes ≡ connection_octets k.c k.due = found-octets own goes k.e k.found ∙ (ap due_octets k.role ∙ first-octets k.c k.l k.due k.first) in
-    let role = found-role test own.entries (record { id = k.e.id; role = Connected k.c k.l }) p.own_table.sole (k.found ∙ ap Some (entry_with k.e (Connected k.c k.l) k.role)) in
-    let opened : IsOpened hs a n.openings k.e.id k.c = p.own_table.noted k.e.id (Connected k.c k.l) role in
-    let source : h.interface.addr ≡ k.c.local.addr = sound.own ∙ (p.own_addr ∙ sym opened.local) in
-    let frame : f.octets.items ≡ segment_frame_to h.interface mac k.c.peer.addr (sent_octets h.interface.addr k.c.peer.addr (head_of k.c k.due) (octets_of k.c k.due)) =
-    octets ∙ (ap (segment_frame_to h.interface mac to) spelled ∙ (ap (λ t. segment_frame_to h.interface mac t (connection_octets k.c k.due)) k.is_to
-    ∙ ap (λ x. segment_frame_to h.interface mac k.c.peer.addr (sent_octets x k.c.peer.addr (head_of k.c k.due) (octets_of k.c k.due))) (sym source))) in
-    let can : CanBeSent h.interface.addr k.c.peer.addr (head_of k.c k.due) (octets_of k.c k.due) = subst (λ x. CanBeSent x k.c.peer.addr (head_of k.c k.due) (octets_of k.c k.due)) (sym source) (due-can k.c k.due solid may) in
-    let hears : (m : Mac) (r : Received) → heard m b (segment_frame_to h.interface mac k.c.peer.addr (sent_octets h.interface.addr k.c.peer.addr (head_of k.c k.due) (octets_of k.c k.due))) ≡ Ok (Tcp r)
-    → (b ≡ k.c.peer.addr) × (r ≡ record { source = h.interface.addr; segment = sent_segment (head_of k.c k.due) (octets_of k.c k.due) }) =
-    λ m r e. heard-segment h.interface mac k.c.peer.addr (head_of k.c k.due) (octets_of k.c k.due) m b r can (way-mac h.interface moment to mac sound.interface k.leads) sound.interface.mac (due-fits k.c k.due may) e in
+    let next : SocketsView = record own { entries = entries_after_step (emission_fate_of (role_after_emission now e.role)) test (role_after_emission now) own.entries } in
+    let becomes : after_segment_sent own goes moment ≡ next = rw found in
+    let role = found-role test own.entries (record { id = e.id; role = Connected c l }) p.own_table.sole (found ∙ ap Some (entry_with e (Connected c l) is_role)) in
+    let opened : IsOpened hs a n.openings e.id c = p.own_table.noted e.id (Connected c l) role in
+    let source : h.interface.addr ≡ c.local.addr = sound.own ∙ (p.own_addr ∙ sym opened.local) in
+    let frame : f.octets.items ≡ segment_frame_to h.interface mac c.peer.addr (sent_octets h.interface.addr c.peer.addr (head_of c due) (octets_of c due)) =
+    octets ∙ (segment-framed h.interface mac to own goes e c l due found is_role first ∙ (ap (λ t. segment_frame_to h.interface mac t (connection_octets c due)) is_to
+    ∙ ap (λ x. segment_frame_to h.interface mac c.peer.addr (sent_octets x c.peer.addr (head_of c due) (octets_of c due))) (sym source))) in
+    let can : CanBeSent h.interface.addr c.peer.addr (head_of c due) (octets_of c due) = subst (λ x. CanBeSent x c.peer.addr (head_of c due) (octets_of c due)) (sym source) (due-can c due solid may) in
+    let hears : (m : Mac) (r : Received) → heard m b (segment_frame_to h.interface mac c.peer.addr (sent_octets h.interface.addr c.peer.addr (head_of c due) (octets_of c due))) ≡ Ok (Tcp r)
+    → (b ≡ c.peer.addr) × (r ≡ record { source = h.interface.addr; segment = sent_segment (head_of c due) (octets_of c due) }) =
+    λ m r e. heard-segment h.interface mac c.peer.addr (head_of c due) (octets_of c due) m b r can (way-mac h.interface moment to mac sound.interface leads) sound.interface.mac (due-fits c due may) e in
     subst (λ w. WentOut limit hs ts a b w other (n.frames ++ f ∷ []) n.openings trace) (sym becomes)
-    (elim (projects-emitted limit hs ts a b own other bag n.openings trace now test k.e k.c k.l k.due emits sound.table p) [
+    (elim (projects-emitted limit hs ts a b own other bag n.openings trace now test e c l due emits sound.table p) [
       | GoesReset is_reset q ↦
           went-aside limit hs ts a b next other bag n.frames n.openings trace f sender q carried
-          (carries-reset n b hs ts bag.out f (segment_frame_to h.interface mac k.c.peer.addr (sent_octets h.interface.addr k.c.peer.addr (head_of k.c k.due) (octets_of k.c k.due))) h.interface.addr k.c.peer.addr (head_of k.c k.due) frame note
-          (ap (λ d. let x = flags_of k.c d in x.rst) is_reset)
-          (λ m r e. let two = hears m r e in (two.0, two.1 ∙ ap (λ l. let x : Received = record { source = h.interface.addr; segment = sent_segment (head_of k.c k.due) l } in x) (ap (octets_of k.c) is_reset))))
+          (carries-reset n b hs ts bag.out f (segment_frame_to h.interface mac c.peer.addr (sent_octets h.interface.addr c.peer.addr (head_of c due) (octets_of c due))) h.interface.addr c.peer.addr (head_of c due) frame note
+          (ap (λ d. let x = flags_of c d in x.rst) is_reset)
+          (λ m r e. let two = hears m r e in (two.0, two.1 ∙ ap (λ l. let x : Received = record { source = h.interface.addr; segment = sent_segment (head_of c due) l } in x) (ap (octets_of c) is_reset))))
       | GoesOn unreset q ↦
-          let more = bag_after hs ts n.openings trace k.c k.due bag in
+          let more = bag_after hs ts n.openings trace c due bag in
           record {
             bag = more;
             projects = q;
             carried = All-added (Carried hs ts a b more) n.frames f
-                (All-weaker (Carried hs ts a b bag) (Carried hs ts a b more) (λ g c. carried-more hs ts a b bag (pair_of k.c.local k.c.peer) (epoch_of n.openings (pair_of k.c.local k.c.peer)) (emission_of hs ts n.openings trace k.c k.due) g c) n.frames carried)
+                (All-weaker (Carried hs ts a b bag) (Carried hs ts a b more) (λ g was. carried-more hs ts a b bag (pair_of c.local c.peer) (epoch_of n.openings (pair_of c.local c.peer)) (emission_of hs ts n.openings trace c due) g was) n.frames carried)
                 (inl (
                   sender,
-                  carries-sent n trace b hs ts bag f (segment_frame_to h.interface mac k.c.peer.addr (sent_octets h.interface.addr k.c.peer.addr (head_of k.c k.due) (octets_of k.c k.due))) h.interface.addr k.c k.due tallied frame note source hears,
+                  carries-sent n trace b hs ts bag f (segment_frame_to h.interface mac c.peer.addr (sent_octets h.interface.addr c.peer.addr (head_of c due) (octets_of c due))) h.interface.addr c due tallied frame note source hears,
                 ));
           }
     ])
+
+-- A part of a UDP socket's datagram: it moves no connection, and nobody hears a segment in its frame.
+
+part-sent : (limit : ℕ) (hs ts : Side) (a b : Addr) (h : HostView) (other : SocketsView) (n : NetworkView) (bag : Bag) (trace : List Happening) (f : Frame) (moment : Moment) (mac : Mac) (to : Addr) (e : Entry) (bound : Option Endpoint) (socket : SocketView) (part : Part)
+    → find (sends (goes_out_from h moment)) h.sockets.entries ≡ Some e → e.role ≡ Datagrams bound socket → due_emitted e.role ≡ Some (Datagram part) → way h.interface moment to ≡ To mac
+    → IsSoundHost h → f.sender ≡ hs → f.octets.items ≡ emitted_frame h.interface mac to (emitted h.sockets (goes_out_from h moment)) (emitted_octets h.sockets (goes_out_from h moment))
+    → Projects limit hs ts a b h.sockets other bag n.openings trace → AllByRecursion (Carried hs ts a b bag) n.frames
+    → WentOut limit hs ts a b (after_segment_sent h.sockets (goes_out_from h moment) moment) other (n.frames ++ f ∷ []) n.openings trace
+part-sent limit hs ts a b h other n bag trace f moment mac to e bound socket part found role due leads sound sender octets p carried =
+    let own = h.sockets in
+    let goes = goes_out_from h moment in
+    let test = sends goes in
+    let now = later_moment own moment in
+    let x : Entry = record { id = e.id; role = Datagrams bound socket } in
+    let at : find test own.entries ≡ Some x = found ∙ ap Some (entry_with e (Datagrams bound socket) role) in
+    let next : SocketsView = record own { entries = change_first test (with_role (role_after_emission now)) own.entries } in
+    let becomes : after_segment_sent own goes moment ≡ next = rw at in
+    let whole = way-mac h.interface moment to mac sound.interface leads in
+    subst (λ w. WentOut limit hs ts a b w other (n.frames ++ f ∷ []) n.openings trace) (sym becomes)
+    (went-aside limit hs ts a b next other bag n.frames n.openings trace f sender
+    (projects-quiet_at limit hs ts a b own other bag n.openings trace test (role_after_emission now) x at refl (λ noted. noted) p) carried
+    (carries-none b hs ts bag.out f (part_frame_to h.interface mac to part (emitted_octets own goes)) (octets ∙ part-framed h.interface mac to own goes e part found due)
+    (λ m r e. part-unheard h.interface mac to part (emitted_octets own goes) m b r whole sound.interface.mac e)))
+
+-- Whatever the table sends.
+frame-sent : (limit : ℕ) (hs ts : Side) (a b : Addr) (h : HostView) (other : SocketsView) (n : NetworkView) (bag : Bag) (trace : List Happening) (f : Frame) (moment : Moment) (mac : Mac) (to : Addr)
+    → IsTallied n trace → IsSoundHost h → emission h moment ≡ Sends mac to → f.sender ≡ hs → f.octets.items ≡ emitted_frame h.interface mac to (emitted h.sockets (goes_out_from h moment)) (emitted_octets h.sockets (goes_out_from h moment))
+    → f.note ≡ option_map (note_of n) (pair_in f.octets.items) → Projects limit hs ts a b h.sockets other bag n.openings trace → AllByRecursion (Carried hs ts a b bag) n.frames
+    → WentOut limit hs ts a b (after_segment_sent h.sockets (goes_out_from h moment) moment) other (n.frames ++ f ∷ []) n.openings trace
+frame-sent limit hs ts a b h other n bag trace f moment mac to tallied sound is sender octets note p carried =
+    elim (sends-for h moment mac to is) [
+      | OfConnection e c l due found role first is_to leads ↦ segment-sent limit hs ts a b h other n bag trace f moment mac to e c l due found role first is_to leads tallied sound sender octets note p carried
+      | OfSocket e bound socket part found role due leads ↦ part-sent limit hs ts a b h other n bag trace f moment mac to e bound socket part found role due leads sound sender octets p carried
+    ]
 
 -- Whatever goes out.
 pub frame-went-out : (limit : ℕ) (hs ts : Side) (a b : Addr) (h : HostView) (other : SocketsView) (n : NetworkView) (bag : Bag) (trace : List Happening) (clock : Moment) (len : ℕ) (f : Frame)

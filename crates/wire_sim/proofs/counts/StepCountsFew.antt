@@ -10,7 +10,7 @@ use Rattle.tcp_state.specs.declared.calls.Refusal.TheVariants as connection
 use Rattle.tcp_state.specs.Calls.{unless_pending, send_count}
 use Rattle.sockets.specs.declared.entry.SocketId.{SocketId}
 use Rattle.sockets.specs.declared.role.Role.{Role}
-use Rattle.sockets.specs.declared.role.Role.TheVariants.{Idle, Listener, Connected}
+use Rattle.sockets.specs.declared.role.Role.TheVariants.{Idle, Listener, Connected, Datagrams}
 use Rattle.sockets.specs.declared.refusal.Refusal.{Refusal}
 use Rattle.wire_sim.specs.declared.event.Side.{Side}
 use Rattle.wire_sim.specs.declared.event.Side.TheVariants.{A, B}
@@ -72,6 +72,7 @@ connection_took None false false false n v e = cc
 
 role_took : (role : Role) (octets : List ℕ) (v : ℕ) → role_send_answer role octets ≡ Ok v → v ≤ 65535
 role_took (Idle buffers bound) octets v e = cc
+role_took (Datagrams bound socket) octets v e = cc
 role_took (Listener bound backlog) octets v e = cc
 role_took (Connected c listener) octets v e = let same : send_count c octets ≡ v = connection_took _ _ _ _ _ v e in omega (arith, same)
 
@@ -108,6 +109,8 @@ called-grows side (call.Connect isn id peer) place i n answer routed new meets =
 called-grows side (call.Send id octets) place i n answer routed new meets =
     send-grows side id octets place i n answer _ _ new _ (λ v. took (table_of n side) id octets.items v _ refl) meets
 called-grows side (call.Recv id len) place i n answer routed new meets = kept-grows n side new i
+called-grows side (call.SendTo id peer octets) place i n answer routed new meets = kept-grows n side new i
+called-grows side (call.RecvFrom id len) place i n answer routed new meets = kept-grows n side new i
 called-grows side (call.Shutdown id) place i n answer routed new meets = kept-grows n side new i
 called-grows side (call.Close id) place i n answer routed new meets = kept-grows n side new i
 called-grows side (call.State id) place i n answer routed new meets = kept-grows n side new i
@@ -134,6 +137,7 @@ emitted-grows side place i (reply.Accepted id peer) old new steps = absurd steps
 emitted-grows side place i reply.Started old new steps = absurd steps
 emitted-grows side place i (reply.Sent count) old new steps = absurd steps
 emitted-grows side place i (reply.Octets octets) old new steps = absurd steps
+emitted-grows side place i (reply.Datagram octets from) old new steps = absurd steps
 emitted-grows side place i reply.EndOfStream old new steps = absurd steps
 emitted-grows side place i (reply.State state) old new steps = absurd steps
 emitted-grows side place i reply.Taken old new steps = absurd steps

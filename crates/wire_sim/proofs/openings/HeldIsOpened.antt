@@ -2,6 +2,7 @@
 use Rattle.std.proofs.Common.{◌≡◌, ◌⊎◌, inl, inr, ℕ, ◌&&◌, ◌||◌, ◌==◌, not, if◌then◌else◌, Bool, true, false, cond, List, [], ◌∷◌, Option, Some, None, is_some, refl, sym, ◌∙◌, ap}
 use Rattle.std.specs.List.{find}
 use Rattle.std.proofs.lemmas.Bool.{and_parts}
+use Rattle.ipv4.specs.declared.addr.Addr.{Addr}
 use Rattle.ipv4.specs.declared.addr.Endpoint.{Endpoint}
 use Rattle.ipv4.specs.declared.addr.Pair.{Pair}
 use Rattle.std.specs.Ordering.{is_le}
@@ -16,12 +17,18 @@ use Rattle.tcp_state.specs.Calls.{after_send, after_recv, after_shutdown, after_
 use Rattle.tcp_state.specs.Due.{first_due, after_emitted}
 use Rattle.tcp_state.specs.Arrival.{after_segment_at}
 use Rattle.tcp_state.specs.Unreachable.{after_unreachable}
+use Rattle.udp.specs.Datagram.{UserDatagram}
+use Rattle.udp_socket.specs.SocketView.{SocketView}
 use Rattle.sockets.specs.declared.entry.SocketId.{SocketId}
 use Rattle.sockets.specs.declared.entry.Entry.{Entry}
 use Rattle.sockets.specs.declared.role.Role.{Role}
-use Rattle.sockets.specs.declared.role.Role.TheVariants.{Idle, Listener, Connected}
-use Rattle.sockets.specs.Entries.{is_live_between, role_after_connect, is_between, joins, is_of_pair, is_kept, entries_after_step, entries_after_steps, with_role, role_after_bind, role_after_listen, role_after_accept, role_after_tick, role_after_segment, role_after_unreachable, unreachable_fate_of, role_after_send, role_after_shutdown, role_after_recv, role_after_emission, role_after_close, role_after_abort, role_after_listener_close, waits_at}
+use Rattle.sockets.specs.declared.role.Role.TheVariants.{Idle, Listener, Connected, Datagrams}
+use Rattle.sockets.specs.Entries.{is_live_between, on_datagrams, is_datagrams_at, role_after_reception, role_after_connect, is_between, joins, is_of_pair, is_kept, entries_after_step, entries_after_steps, with_role, role_after_bind, role_after_listen, role_after_accept, role_after_tick, role_after_segment, role_after_unreachable, unreachable_fate_of, role_after_send, role_after_shutdown, role_after_recv, role_after_emission, role_after_close, role_after_abort, role_after_listener_close, waits_at}
+use Rattle.sockets.specs.declared.datagrams.Reception.{Reception}
+use Rattle.sockets.specs.declared.datagrams.Reception.TheVariants.{Queued, NoRoom, NoSocket}
+use Rattle.sockets.specs.Datagrams.{reception, after_reception}
 use Rattle.sockets.specs.Lists.{change_first, remove_first}
+use Rattle.sockets.specs.Lost.{role_after_giving_up}
 use Rattle.sockets.specs.SocketsView.{SocketsView}
 use Rattle.sockets.specs.Unreachable as table_errors
 use Rattle.wire_sim.proofs.lists.FoundAfterChange.{none-removed}
@@ -70,32 +77,38 @@ unjoined pair v w l k keeps out = decide (is_closed w.state) refl
 
 pub unheld_bound_to : (local : Endpoint) → KeepsUnheld (role_after_bind local)
 unheld_bound_to local pair (Idle b bound) out = refl
+unheld_bound_to local pair (Datagrams bound s) out = refl
 unheld_bound_to local pair (Listener x y) out = refl
 unheld_bound_to local pair (Connected c l) out = out
 
 pub unheld_listening : (backlog : ℕ) → KeepsUnheld (role_after_listen backlog)
 unheld_listening backlog pair (Idle b (Some x)) out = refl
 unheld_listening backlog pair (Idle b None) out = refl
+unheld_listening backlog pair (Datagrams bound s) out = refl
 unheld_listening backlog pair (Listener x y) out = refl
 unheld_listening backlog pair (Connected c l) out = out
 
 pub unheld_accepted : KeepsUnheld role_after_accept
 unheld_accepted pair (Idle b bound) out = refl
+unheld_accepted pair (Datagrams bound s) out = refl
 unheld_accepted pair (Listener x y) out = refl
 unheld_accepted pair (Connected c l) out = unjoined pair c c l None (keeps-nothing c) out
 
 pub unheld_ticked : (now : Moment) → KeepsUnheld (role_after_tick now)
 unheld_ticked now pair (Idle b bound) out = refl
+unheld_ticked now pair (Datagrams bound s) out = refl
 unheld_ticked now pair (Listener x y) out = refl
 unheld_ticked now pair (Connected c l) out = unjoined pair c (after_tick c now) l l (keeps-tick c now) out
 
 pub unheld_sent : (octets : List ℕ) → KeepsUnheld (role_after_send octets)
 unheld_sent octets pair (Idle b bound) out = refl
+unheld_sent octets pair (Datagrams bound s) out = refl
 unheld_sent octets pair (Listener x y) out = refl
 unheld_sent octets pair (Connected c l) out = unjoined pair c (after_send c octets) l l (keeps-send c octets) out
 
 pub unheld_received : (len : ℕ) → KeepsUnheld (role_after_recv len)
 unheld_received len pair (Idle b bound) out = refl
+unheld_received len pair (Datagrams bound s) out = refl
 unheld_received len pair (Listener x y) out = refl
 unheld_received len pair (Connected c l) out = unjoined pair c (if len == 0 then c else after_recv c len) l l (either (len == 0)) out
   where
@@ -105,6 +118,7 @@ unheld_received len pair (Connected c l) out = unjoined pair c (if len == 0 then
 
 pub unheld_write_shut : KeepsUnheld role_after_shutdown
 unheld_write_shut pair (Idle b bound) out = refl
+unheld_write_shut pair (Datagrams bound s) out = refl
 unheld_write_shut pair (Listener x y) out = refl
 unheld_write_shut pair (Connected c l) out = unjoined pair c (if is_some c.pending_error || is_opening c.state then c else after_shutdown c) l l (either (is_some c.pending_error || is_opening c.state)) out
   where
@@ -114,17 +128,20 @@ unheld_write_shut pair (Connected c l) out = unjoined pair c (if is_some c.pendi
 
 pub unheld_closed : (now : Moment) → KeepsUnheld (role_after_close now)
 unheld_closed now pair (Idle b bound) out = refl
+unheld_closed now pair (Datagrams bound s) out = refl
 unheld_closed now pair (Listener x y) out = refl
 unheld_closed now pair (Connected c l) out = unjoined pair c (after_close c now) l l (keeps-close c now) out
 
 unheld_aborted : (now : Moment) → KeepsUnheld (role_after_abort now)
 unheld_aborted now pair (Idle b bound) out = refl
+unheld_aborted now pair (Datagrams bound s) out = refl
 unheld_aborted now pair (Listener x y) out = refl
 unheld_aborted now pair (Connected c l) out = unjoined pair c (after_abort c now) l l (keeps-abort c now) out
 
 -- an error is told to it
 unheld_refused : (number : ℕ) → KeepsUnheld (role_after_unreachable number)
 unheld_refused number pair (Idle b bound) out = refl
+unheld_refused number pair (Datagrams bound s) out = refl
 unheld_refused number pair (Listener x y) out = refl
 unheld_refused number pair (Connected c l) out = unjoined pair c (after_unreachable c number) l l (keeps-unreachable c number) out
 
@@ -137,6 +154,7 @@ unheld_forsaken now id pair r out = either (waits_at id r)
 
 pub unheld_emitted_at : (now : Moment) → KeepsUnheld (role_after_emission now)
 unheld_emitted_at now pair (Idle b bound) out = refl
+unheld_emitted_at now pair (Datagrams bound s) out = refl
 unheld_emitted_at now pair (Listener x y) out = refl
 unheld_emitted_at now pair (Connected c l) out = by_due (first_due c) refl
   where
@@ -144,9 +162,23 @@ unheld_emitted_at now pair (Connected c l) out = by_due (first_due c) refl
     by_due None is = let same : role_after_emission now (Connected c l) ≡ Connected c l = rw is in ap (joins pair) same ∙ out
     by_due (Some due) is = let same : role_after_emission now (Connected c l) ≡ Connected (after_emitted c due now) l = rw is in ap (joins pair) same ∙ unjoined pair c (after_emitted c due now) l l (keeps-emitted c due now) out
 
+-- what a UDP socket makes of itself
+pub unheld_datagrams : (bind : Option Endpoint → Option Endpoint) (change : SocketView → SocketView) → KeepsUnheld (on_datagrams bind change)
+unheld_datagrams bind change pair (Idle b bound) out = refl
+unheld_datagrams bind change pair (Datagrams bound s) out = refl
+unheld_datagrams bind change pair (Listener x y) out = refl
+unheld_datagrams bind change pair (Connected c l) out = out
+
+pub unheld_given_up : (lost : Addr → Bool) (now : Moment) → KeepsUnheld (role_after_giving_up lost now)
+unheld_given_up lost now pair (Idle b bound) out = refl
+unheld_given_up lost now pair (Datagrams bound s) out = refl
+unheld_given_up lost now pair (Listener x y) out = refl
+unheld_given_up lost now pair (Connected c l) out = out
+
 -- an idle socket connects, to an end of another pair
 pub unheld_connecting : (local peer : Endpoint) (isn : ℕ) (pair : Pair) → joins pair (Connected (opened_actively local peer isn) None) ≡ false → (r : Role) → joins pair r ≡ false → joins pair (role_after_connect local peer isn r) ≡ false
 unheld_connecting local peer isn pair other (Idle b bound) out = other
+unheld_connecting local peer isn pair other (Datagrams bound s) out = refl
 unheld_connecting local peer isn pair other (Listener x y) out = refl
 unheld_connecting local peer isn pair other (Connected c l) out = out
 
@@ -181,6 +213,7 @@ unheld-arrived now s pair local peer e between out = of_role e.role between out
 
     of_role : (r : Role) → is_live_between local peer r ≡ true → joins pair r ≡ false → joins pair (role_after_segment now s r) ≡ false
     of_role (Idle b bound) between out = refl
+    of_role (Datagrams bound s) between out = refl
     of_role (Listener x y) between out = refl
     of_role (Connected c l) between out =
         unjoined pair c (after_segment_at c s now) l l (keeps-segment c s now (live (is_closed c.state) (and_parts (not (is_closed c.state)) (same_end c.local local && same_end c.peer peer) between).0)) out
@@ -221,6 +254,20 @@ unheld-told own local peer number pair none = by_entry (find (is_between local p
     by_entry (Some e) is =
         let same : table_errors.after_unreachable own local peer number ≡ record own { entries = entries_after_step (unreachable_fate_of number e.role) (is_between local peer) (role_after_unreachable number) own.entries } = rw is in
         ap (λ (w : SocketsView). find (is_of_pair pair) w.entries) same ∙ unheld-settled (unreachable_fate_of number e.role) (is_between local peer) (role_after_unreachable number) pair own.entries (unheld_refused number) none
+
+-- the UDP socket that a datagram comes for
+pub unheld-received : (own : SocketsView) (source : Addr) (d : UserDatagram) (pair : Pair) → find (is_of_pair pair) own.entries ≡ None → find (is_of_pair pair) (let w = after_reception own source d in w.entries) ≡ None
+unheld-received own source d pair none = by_reception (reception own d) refl
+  where
+    from : Endpoint
+    from = record { addr = source; port = d.source }
+
+    by_reception : (r : Reception) → reception own d ≡ r → find (is_of_pair pair) (let w = after_reception own source d in w.entries) ≡ None
+    by_reception Queued is =
+        let same : after_reception own source d ≡ record own { entries = change_first (is_datagrams_at d.destination) (with_role (role_after_reception from d.payload)) own.entries } = rw is in
+        ap (λ (w : SocketsView). find (is_of_pair pair) w.entries) same ∙ unheld-changed (is_datagrams_at d.destination) (role_after_reception from d.payload) pair own.entries (unheld_datagrams _ _) none
+    by_reception NoRoom is = let same : after_reception own source d ≡ own = rw is in ap (λ (w : SocketsView). find (is_of_pair pair) w.entries) same ∙ none
+    by_reception NoSocket is = let same : after_reception own source d ≡ own = rw is in ap (λ (w : SocketsView). find (is_of_pair pair) w.entries) same ∙ none
 
 -- each entry takes a step
 pub unheld-all : (fate : Role → Fate) (g : Role → Role) (pair : Pair) (xs : List Entry) → KeepsUnheld g → find (is_of_pair pair) xs ≡ None → find (is_of_pair pair) (entries_after_steps fate g xs) ≡ None

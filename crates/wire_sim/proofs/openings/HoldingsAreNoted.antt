@@ -1,5 +1,5 @@
 -- Wherever a host comes to hold a pair, the event adds its opening.
-use Rattle.std.proofs.Common.{◌≡◌, ℕ, ◌+◌, ◌⊎◌, inl, inr, if◌then◌else◌, Bool, true, false, [], ◌∷◌, ◌++◌, length, Option, Some, None, option_map, arith, refl, sym, ◌∙◌, ap, subst}
+use Rattle.std.proofs.Common.{◌≡◌, ℕ, ◌+◌, ◌⊎◌, inl, inr, Bool, true, false, List, [], ◌∷◌, ◌++◌, length, Option, Some, None, option_map, Result, Ok, Err, arith, refl, sym, ◌∙◌, ap, subst}
 use Rattle.std.specs.List.{find, slice_get}
 use Rattle.ipv4.specs.declared.addr.Addr.{Addr}
 use Rattle.ipv4.specs.declared.addr.Endpoint.{Endpoint}
@@ -8,18 +8,22 @@ use Rattle.ipv4.specs.Addresses.{pair_of}
 use Rattle.tcp_segment.specs.declared.seq.Seq.{Seq}
 use Rattle.tcp_segment.specs.Segment.{Segment}
 use Rattle.clock.specs.declared.moment.Moment.{Moment}
-use Rattle.tcp_state.specs.declared.connection.Fate.TheVariants.{Stays, Removed}
 use Rattle.tcp_state.specs.Arrival.{fate, opened_passively}
+use Rattle.udp_socket.specs.SocketView.{new_socket}
+use Rattle.sockets.specs.declared.entry.Kind.{Kind}
+use Rattle.sockets.specs.declared.entry.Kind.TheVariants.{Tcp, Udp}
 use Rattle.sockets.specs.declared.entry.SocketId.{SocketId}
 use Rattle.sockets.specs.declared.entry.Entry.{Entry}
-use Rattle.sockets.specs.declared.role.Role.TheVariants.{Idle, Connected}
-use Rattle.sockets.specs.Calls.{unless_refused, after_socket, bind_refusal, after_bind, listen_refusal, after_listen, accept_answer, after_accept, connect_refusal, after_connect, send_answer, after_send, after_recv, shutdown_refusal, after_shutdown, close_refusal, after_close, after_socket_closed, state_answer}
+use Rattle.sockets.specs.declared.role.Role.TheVariants.{Idle, Connected, Datagrams}
+use Rattle.sockets.specs.Calls.{unless_refused, IsMade, after_socket, after_datagram_socket, bind_refusal, after_bind, listen_refusal, after_listen, accept_answer, after_accept, connect_refusal, after_connect, send_answer, after_send, after_recv, shutdown_refusal, after_shutdown, close_refusal, after_close, after_socket_closed, state_answer}
 use Rattle.sockets.specs.declared.refusal.Refusal.{Refusal}
 use Rattle.sockets.specs.Arrival.{local_end, peer_end}
-use Rattle.sockets.specs.Entries.{is_socket, is_between, role_after_segment, is_offered_at, is_of_pair, sends, role_after_bind, role_after_listen, role_after_accept, role_after_send, role_after_recv, role_after_shutdown, role_after_close, close_fate_of, role_after_listener_close, listener_close_fate_of, role_after_tick, tick_fate_of, role_after_emission, emission_fate_of, entries_after_step}
+use Rattle.sockets.specs.Datagrams.{end_sent_from, sendto_answer, after_sendto, recvfrom_answer, after_recvfrom, after_reception}
+use Rattle.sockets.specs.Lists.{change_first}
+use Rattle.sockets.specs.Entries.{is_socket, is_between, with_role, role_after_sendto, role_after_recvfrom, role_after_segment, is_offered_at, is_of_pair, sends, role_after_bind, role_after_listen, role_after_accept, role_after_send, role_after_recv, role_after_shutdown, role_after_close, close_fate_of, role_after_listener_close, listener_close_fate_of, role_after_tick, tick_fate_of, role_after_emission, emission_fate_of, entries_after_step}
 use Rattle.sockets.specs.SocketsView.{SocketsView, holder_id, later_moment}
 use Rattle.sockets.specs.Ticks as table_ticks
-use Rattle.sockets.specs.Lost.{is_given_up, after_giving_up}
+use Rattle.sockets.specs.Lost.{give_up_fate_of, role_after_giving_up, after_giving_up}
 use Rattle.sockets.specs.Emission.{after_segment_sent}
 use Rattle.interface.specs.Ways.{is_routed}
 use Rattle.sockets.specs.Unreachable.{after_unreachable}
@@ -51,12 +55,11 @@ use Rattle.wire_sim.proofs.openings.OctetsAreCovered.{as_list}
 use Rattle.wire_sim.proofs.tables.SegmentArrived.{Arrived, Ignored, Heard, Began}
 use Rattle.wire_sim.proofs.fairness.CountedAsTraced.{same_unfair}
 use Rattle.wire_sim.proofs.lists.FoundAfterChange.{All-at, find-added_none}
-use Rattle.wire_sim.proofs.openings.HeldIsOpened.{joined, unheld-changed, unheld-settled, unheld-heard, unheld-told, unheld-all, unheld_bound_to, unheld_listening, unheld_accepted, unheld_ticked, unheld_sent, unheld_received, unheld_write_shut, unheld_closed, unheld_forsaken, unheld_emitted_at}
+use Rattle.wire_sim.proofs.openings.HeldIsOpened.{joined, unheld-changed, unheld-settled, unheld-heard, unheld-told, unheld-all, unheld-received, unheld_datagrams, unheld_given_up, unheld_bound_to, unheld_listening, unheld_accepted, unheld_ticked, unheld_sent, unheld_received, unheld_write_shut, unheld_closed, unheld_forsaken, unheld_emitted_at}
 use Rattle.wire_sim.proofs.tables.PairOfPorts.{unheld}
 use Rattle.wire_sim.proofs.carried.FramesCarry.{Carried}
-use Rattle.wire_sim.proofs.carried.FramesArrive.{segment_foreseen, IsToTable, Aside, Brings, Tells, frame-to_table}
-use Rattle.wire_sim.proofs.pairing.TickIsMoves.{left-steps}
-use Rattle.wire_sim.proofs.pairing.CallsAreMoves.{ReadsOctets, ReadsEnd, socket_outcome, recv_outcome}
+use Rattle.wire_sim.proofs.carried.FramesArrive.{segment_foreseen, IsToTable, Aside, Brings, Tells, Receives, frame-to_table}
+use Rattle.wire_sim.proofs.pairing.CallsAreMoves.{ReadsOctets, ReadsEnd, socket_outcome, recv_outcome, recvfrom_outcome}
 use Rattle.wire_sim.proofs.pairing.CloseIsMoves.{closes-on}
 use Rattle.wire_sim.proofs.runs.RunsAreLawful.{IsOrderly, orderly, orderly-swapped, orderly-tallied, fair_sender, not_own, other-with, own-with, own-again}
 
@@ -76,10 +79,28 @@ abbrev is_connecting : Call → Bool
 is_connecting (call.Connect isn id peer) = true
 is_connecting _ = false
 
+-- a new socket holds no pair
+made-keeps : (kind : Kind) (own own' : SocketsView) → IsMade kind own own' → KeepsPairs own own'
+made-keeps Tcp own own' made =
+    keeps-next own (after_socket own made.0) own' made.1 (λ pair none. find-added_none (is_of_pair pair) own.entries (record { id = record { 0 = own.last_id + 1 }; role = Idle made.0 None }) refl ∙ none)
+made-keeps Udp own own' made =
+    keeps-next own (after_datagram_socket own) own' made (λ pair none. find-added_none (is_of_pair pair) own.entries (record { id = record { 0 = own.last_id + 1 }; role = Datagrams None new_socket }) refl ∙ none)
+
+-- nor does one that sends a datagram
+sent_to-keeps : (own : SocketsView) (id : SocketId) (peer : Endpoint) (octets : List ℕ) (routed : Bool) → KeepsPairs own (after_sendto own id peer octets routed)
+sent_to-keeps own id peer octets routed pair none = by_end (end_sent_from own id peer octets routed) refl
+  where
+    by_end : (r : Result Endpoint Refusal) → end_sent_from own id peer octets routed ≡ r → find (is_of_pair pair) (let w = after_sendto own id peer octets routed in w.entries) ≡ None
+    by_end (Err e) is = let same : after_sendto own id peer octets routed ≡ own = rw is in ap (λ (w : SocketsView). find (is_of_pair pair) w.entries) same ∙ none
+    by_end (Ok local) is =
+        let change = role_after_sendto local own.kept peer own.identification octets in
+        let same : (let w = after_sendto own id peer octets routed in w.entries) ≡ change_first (is_socket id) (with_role change) own.entries = rw is in
+        ap (find (is_of_pair pair)) same ∙ unheld-changed (is_socket id) change pair own.entries (unheld_datagrams _ _) none
+
 call-keeps : (routed : Addr → Bool) (c : Call) (answer : Answer) (own own' : SocketsView) → is_connecting c ≡ false → MeetsCall routed c own answer own' → KeepsPairs own own'
 call-keeps routed (call.Socket kind) answer own own' other m =
-    elim (socket_outcome own answer own' m) [
-      | inl x ↦ keeps-next own (after_socket own x.1) own' x.3 (λ pair none. find-added_none (is_of_pair pair) own.entries (record { id = record { 0 = own.last_id + 1 }; role = Idle x.1 None }) refl ∙ none)
+    elim (socket_outcome kind own answer own' m) [
+      | inl made ↦ made-keeps kind own own' made
       | inr same ↦ keeps-same own own' same
     ]
 call-keeps routed (call.Bind id local) answer own own' other m =
@@ -112,6 +133,17 @@ call-keeps routed (call.Recv id len) answer own own' other m = by_outcome (recv_
     by_outcome (inl x) = reads x.becomes
     by_outcome (inr (inl x)) = reads x.becomes
     by_outcome (inr (inr x)) = keeps-same own own' x.2
+call-keeps routed (call.SendTo id peer octets) answer own own' other m =
+    let reached = routed peer.addr in
+    elim (outcome (sendto_answer own id peer octets.items reached) (λ count. reply.Sent count) (after_sendto own id peer octets.items reached) own answer own' m) [
+      | inl x ↦ keeps-next own (after_sendto own id peer octets.items reached) own' x.3 (sent_to-keeps own id peer octets.items reached)
+      | inr x ↦ keeps-same own own' x.3
+    ]
+call-keeps routed (call.RecvFrom id len) answer own own' other m =
+    elim (recvfrom_outcome own id (recvfrom_answer own id (recv_len len)) answer own' m) [
+      | inl same ↦ keeps-next own (after_recvfrom own id) own' same (λ pair none. unheld-changed (is_socket id) role_after_recvfrom pair own.entries (unheld_datagrams _ _) none)
+      | inr same ↦ keeps-same own own' same
+    ]
 call-keeps routed (call.Shutdown id) answer own own' other m =
     elim (outcome (unless_refused (shutdown_refusal own id) (tt {0})) (λ _. reply.Done) (after_shutdown own id) own answer own' m) [
       | inl x ↦ keeps-next own (after_shutdown own id) own' x.3 (λ pair none. unheld-changed (is_socket id) role_after_shutdown pair own.entries unheld_write_shut none)
@@ -134,11 +166,11 @@ call-keeps routed (call.State id) answer own own' other m =
       | inr x ↦ keeps-same own own' x.3
     ]
 
--- resets that are given up take their connections away
+-- what is given up takes connections away at most
 given_up-keeps : (own : SocketsView) (lost : Addr → Bool) (moment : Moment) → KeepsPairs own (after_giving_up own lost moment)
 given_up-keeps own lost moment pair none =
-    let test = is_given_up lost (later_moment own moment) in
-    ap (find (is_of_pair pair)) (left-steps test own.entries) ∙ unheld-all (λ r. if test r then Removed else Stays) (λ r. r) pair own.entries (λ p r out. out) none
+    let now = later_moment own moment in
+    unheld-all (give_up_fate_of lost now) (role_after_giving_up lost now) pair own.entries (unheld_given_up lost now) none
 
 ticked-keeps : (own : SocketsView) (moment : Moment) → KeepsPairs own (table_ticks.after_tick own moment)
 ticked-keeps own moment pair none = unheld-all (tick_fate_of (later_moment own moment)) (role_after_tick (later_moment own moment)) pair own.entries (unheld_ticked (later_moment own moment)) none
@@ -282,6 +314,7 @@ frame-noted limit hs ts old new index isn answer sound w fair step x y id free h
     of_table : (f : Frame) → IsToTable (host_of old.network hs) host' moment isn.0 f.note → new.network ≡ after_delivery hs (length old.trace) f.note old.network host' → Noted (event.Deliver hs index isn) old new hs pair id
     of_table f (Aside same) becomes = absurd (holds-none own own' pair id (keeps-same own own' same) free held)
     of_table f (Brings r note noted names arrived) becomes = of_arrival f note (local_end own r.segment) (peer_end r.source r.segment) r.segment (segment_foreseen (host_of old.network hs) r.source r.segment) noted names arrived becomes
+    of_table f (Receives source d same) becomes = absurd (holds-none own own' pair id (keeps-next own (after_reception own source d) own' same (λ p none. unheld-received own source d p none)) free held)
     of_table f (Tells local peer number same) becomes =
         absurd (holds-none own own' pair id (keeps-next own (after_unreachable own local peer number) own' same (λ p none. unheld-told own local peer number p none)) free held)
 

@@ -9,7 +9,7 @@ use Rattle.tcp_state.specs.View.{View, is_closed}
 use Rattle.sockets.specs.declared.entry.SocketId.{SocketId}
 use Rattle.sockets.specs.declared.entry.Entry.{Entry}
 use Rattle.sockets.specs.declared.role.Role.{Role}
-use Rattle.sockets.specs.declared.role.Role.TheVariants.{Idle, Listener, Connected}
+use Rattle.sockets.specs.declared.role.Role.TheVariants.{Idle, Listener, Connected, Datagrams}
 use Rattle.wire_sim.specs.declared.event.Side.{Side}
 use Rattle.wire_sim.specs.declared.event.Side.TheVariants.{A, B}
 use Rattle.wire_sim.specs.declared.event.Opening.{Opening}
@@ -167,3 +167,4 @@ table-other side own last xs os o told apart rises t = record {
     noted id (Connected c l) at k = opened-added side own os o xs id c l rises at k
     noted id (Listener local backlog) at k = same id ∙ k
     noted id (Idle buffers bound) at k = same id ∙ k
+    noted id (Datagrams bound socket) at k = same id ∙ k

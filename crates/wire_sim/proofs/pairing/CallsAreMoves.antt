@@ -1,13 +1,13 @@
 -- What each answered call makes of the pairings: a move of one of them, or of none.
-use Rattle.std.proofs.Common.{◌≡◌, ℕ, ◌+◌, ◌≤◌, ◌==◌, ◌⊎◌, inl, inr, Bool, true, false, List, [], ◌∷◌, ◌++◌, length, take, Option, Some, None, is_some, Result, Ok, Err, arith, refl, sym, ◌∙◌, ap, subst}
+use Rattle.std.proofs.Common.{◌≡◌, ℕ, ◌≤◌, ◌==◌, ◌⊎◌, inl, inr, Bool, true, false, List, [], ◌∷◌, ◌++◌, length, take, Option, Some, None, is_some, Result, Ok, Err, arith, refl, sym, ◌∙◌, ap, subst}
 use Rattle.std.specs.List.{find}
 use Rattle.std.specs.Global.{Vec}
 use Rattle.ipv4.specs.declared.addr.Addr.{Addr}
+use Rattle.ipv4.specs.declared.addr.Endpoint.{Endpoint}
 use Rattle.tcp_state.specs.declared.calls.Received.{Received}
 use Rattle.tcp_state.specs.declared.calls.Received.TheVariants as received
 use Rattle.tcp_state.specs.View.{View, is_opening}
 use Rattle.tcp_state.specs.Calls as connection_calls
-use Rattle.tcp_state.specs.declared.buffers.Buffers.{Buffers}
 use Rattle.wire_sim.specs.declared.event.Side.{Side}
 use Rattle.wire_sim.specs.declared.event.Call.{Call}
 use Rattle.wire_sim.specs.declared.event.Call.TheVariants as call
@@ -15,20 +15,22 @@ use Rattle.wire_sim.specs.declared.event.Answer.{Answer}
 use Rattle.wire_sim.specs.declared.event.Answer.TheVariants as reply
 use Rattle.wire_sim.specs.declared.event.Opening.{Opening}
 use Rattle.wire_sim.specs.declared.event.Happening.{Happening}
+use Rattle.sockets.specs.declared.entry.Kind.{Kind}
 use Rattle.sockets.specs.declared.entry.SocketId.{SocketId}
 use Rattle.sockets.specs.declared.entry.Entry.{Entry}
 use Rattle.sockets.specs.declared.role.Role.{Role}
 use Rattle.sockets.specs.declared.role.Role.TheVariants.{Connected}
 use Rattle.sockets.specs.declared.refusal.Refusal.{Refusal}
 use Rattle.sockets.specs.declared.refusal.Refusal.TheVariants as refusal
-use Rattle.sockets.specs.Calls.{after_socket, send_answer, after_send, recv_answer, after_recv, shutdown_refusal, after_shutdown}
+use Rattle.sockets.specs.Calls.{IsMade, send_answer, after_send, recv_answer, after_recv, shutdown_refusal, after_shutdown}
+use Rattle.sockets.specs.Datagrams.{after_recvfrom}
 use Rattle.sockets.specs.Entries.{is_socket, role_after_send, role_after_recv as received_role, role_after_shutdown, with_role}
 use Rattle.sockets.specs.SocketsView.{SocketsView}
 use Rattle.sockets.specs.Lists.{change_first}
 use Rattle.stream_law.specs.Pairing.{Present, Meets, takes, closes, gives, ends}
 use Rattle.sockets.specs.Sound.{IsSoundConnection, IsSoundRole, IsSoundTable}
 use Rattle.wire_sim.specs.Sides.{other_side}
-use Rattle.wire_sim.specs.Steps.{MeetsSocket, MeetsReceived}
+use Rattle.wire_sim.specs.Steps.{MeetsSocket, MeetsReceived, MeetsReceivedFrom}
 use Rattle.wire_sim.specs.Tallies.{is_opening_at}
 use Rattle.wire_sim.proofs.tables.CallsOnTable.{sends-on, reads-on, octets_told, end_told, received-connected, readable_on-connected, socket-kept, shuts-on}
 use Rattle.wire_sim.proofs.tables.EntryChanges.{SameBut, SameTold, table-becomes, table-told, end-told, meets-moved, opened-kept}
@@ -76,6 +78,30 @@ projects-moved limit hs ts a b own own' other bag openings trace trace' id r add
           (subst (λ x. EndGoes limit (end_with (presence_in (role_at own.entries id.0)) (told hs trace id)) (end_with (presence_in x) (told hs trace' id))) (sym becomes.here) goes) h.meets;
     })
 
+-- a table that shows the same
+pub projects-alike : (limit : ℕ) (hs ts : Side) (a b : Addr) (own own' other : SocketsView) (bag : Bag) (openings : List Opening) (trace : List Happening) → own'.addr ≡ own.addr → own'.last_id ≡ own.last_id → own'.entries ≡ own.entries
+    → Projects limit hs ts a b own other bag openings trace → Projects limit hs ts a b own' other bag openings trace
+projects-alike limit hs ts a b own own' other bag openings trace addr last entries h = projects-turned limit hs ts a b own own' other bag openings trace trace h (record {
+  addr = addr;
+  table = subst (λ xs. IsTable hs a own'.last_id xs openings (told hs trace)) (sym entries) (subst (λ n. IsTable hs a n own.entries openings (told hs trace)) (sym last) h.own_table);
+  other_told = λ i. refl;
+  meets = λ pair epoch.
+      subst (λ xs. Meets limit (pairing (end_at hs openings xs (told hs trace) pair epoch) (end_at ts openings other.entries (told ts trace) pair epoch) (bag.out pair epoch) (bag.arrived pair epoch))) (sym entries) (h.meets pair epoch);
+})
+
+-- one entry changed to what shows the same
+pub projects-quiet_at : (limit : ℕ) (hs ts : Side) (a b : Addr) (own other : SocketsView) (bag : Bag) (openings : List Opening) (trace : List Happening) (test : Entry → Bool) (g : Role → Role) (x : Entry) → find test own.entries ≡ Some x
+    → presence_in (Some (g x.role)) ≡ presence_in (Some x.role) → (IsNoted hs a openings x.id x.role → IsNoted hs a openings x.id (g x.role))
+    → Projects limit hs ts a b own other bag openings trace → Projects limit hs ts a b (record own { entries = change_first test (with_role g) own.entries }) other bag openings trace
+projects-quiet_at limit hs ts a b own other bag openings trace test g x at seen noted h =
+    let next : SocketsView = record own { entries = change_first test (with_role g) own.entries } in
+    let before = found-role test own.entries x h.own_table.sole at in
+    projects-moved limit hs ts a b own next other bag openings trace trace x.id (Some (g x.role)) refl refl (becomes-changed test g own.entries x h.own_table.sole at)
+    (λ role is. let same : g x.role ≡ role = cc in (subst (λ r. IsNoted hs a openings x.id r) same (noted (h.own_table.noted x.id x.role before)), h.own_table.bound x.id x.role before))
+    (λ i apart. refl) (λ none may. h.own_table.silent x.id none (inr (x.role, before))) (λ i. refl)
+    (end-stays limit (end_with (presence_in (role_at own.entries x.id.0)) (told hs trace x.id)) (end_with (presence_in (Some (g x.role))) (told hs trace x.id))
+    (ap (λ p. end_with p (told hs trace x.id)) (seen ∙ sym (ap presence_in before)))) h
+
 -- a change of our host that no connection sees
 pub projects-quiet : (limit : ℕ) (hs ts : Side) (a b : Addr) (own other : SocketsView) (bag : Bag) (openings : List Opening) (trace : List Happening) (test : Entry → Bool) (g : Role → Role) → IsQuietChange g
     → Projects limit hs ts a b own other bag openings trace → Projects limit hs ts a b (record own { entries = change_first test (with_role g) own.entries }) other bag openings trace
@@ -86,45 +112,41 @@ projects-quiet limit hs ts a b own other bag openings trace test g quiet h = by_
 
     by_found : (o : Option Entry) → find test own.entries ≡ o → Projects limit hs ts a b next other bag openings trace
     by_found None at = subst (λ xs. Projects limit hs ts a b (record own { entries = xs }) other bag openings trace) (sym (change-none test (with_role g) own.entries at)) h
-    by_found (Some x) at =
-        let before = found-role test own.entries x h.own_table.sole at in
-        projects-moved limit hs ts a b own next other bag openings trace trace x.id (Some (g x.role)) refl refl (becomes-changed test g own.entries x h.own_table.sole at)
-        (λ role is. let same : g x.role ≡ role = cc in (subst (λ r. IsNoted hs a openings x.id r) same (quiet.noted hs a openings x.id x.role (h.own_table.noted x.id x.role before)), h.own_table.bound x.id x.role before))
-        (λ i apart. refl) (λ none may. h.own_table.silent x.id none (inr (x.role, before))) (λ i. refl)
-        (end-stays limit (end_with (presence_in (role_at own.entries x.id.0)) (told hs trace x.id)) (end_with (presence_in (Some (g x.role))) (told hs trace x.id))
-        (ap (λ p. end_with p (told hs trace x.id)) (quiet.seen x.role ∙ sym (ap presence_in before)))) h
+    by_found (Some x) at = projects-quiet_at limit hs ts a b own other bag openings trace test g x at (quiet.seen x.role) (quiet.noted hs a openings x.id x.role) h
 
 -- What a socket call shows, by its answer.
 
-pub socket_outcome : (h : SocketsView) (answer : Answer) (new : SocketsView) → MeetsSocket h answer new → ((id : SocketId) × (b : Buffers) × (id.0 ≡ h.last_id + 1) × (new ≡ after_socket h b)) ⊎ (new ≡ h)
-socket_outcome h (reply.Socket id) new m = inl (id, m.2.0, m.1, m.2.1)
-socket_outcome h reply.Done new m = absurd m
-socket_outcome h (reply.Accepted i p) new m = absurd m
-socket_outcome h reply.Started new m = absurd m
-socket_outcome h (reply.Sent n) new m = absurd m
-socket_outcome h (reply.Octets o) new m = absurd m
-socket_outcome h reply.EndOfStream new m = absurd m
-socket_outcome h (reply.State s) new m = absurd m
-socket_outcome h (reply.Frame i l) new m = absurd m
-socket_outcome h reply.NoFrame new m = absurd m
-socket_outcome h reply.Taken new m = absurd m
-socket_outcome h (reply.Dropped c) new m = absurd m
-socket_outcome h (reply.Refused refusal.EBADF) new m = absurd m
-socket_outcome h (reply.Refused refusal.EINVAL) new m = absurd m
-socket_outcome h (reply.Refused refusal.EADDRINUSE) new m = absurd m
-socket_outcome h (reply.Refused refusal.EADDRNOTAVAIL) new m = absurd m
-socket_outcome h (reply.Refused refusal.EISCONN) new m = absurd m
-socket_outcome h (reply.Refused refusal.ENOTCONN) new m = absurd m
-socket_outcome h (reply.Refused refusal.EALREADY) new m = absurd m
-socket_outcome h (reply.Refused refusal.EAGAIN) new m = absurd m
-socket_outcome h (reply.Refused refusal.ENETUNREACH) new m = absurd m
-socket_outcome h (reply.Refused refusal.EPIPE) new m = absurd m
-socket_outcome h (reply.Refused refusal.ECONNREFUSED) new m = absurd m
-socket_outcome h (reply.Refused refusal.ECONNRESET) new m = absurd m
-socket_outcome h (reply.Refused refusal.EMFILE) new m = inr m.1
-socket_outcome h (reply.Refused refusal.ENOMEM) new m = inr m.1
-socket_outcome h (reply.Refused refusal.EOPNOTSUPP) new m = absurd m
-socket_outcome h (reply.Refused refusal.EDESTADDRREQ) new m = absurd m
+pub socket_outcome : (kind : Kind) (h : SocketsView) (answer : Answer) (new : SocketsView) → MeetsSocket kind h answer new → IsMade kind h new ⊎ (new ≡ h)
+socket_outcome kind h (reply.Socket id) new m = inl m.2
+socket_outcome kind h reply.Done new m = absurd m
+socket_outcome kind h (reply.Accepted i p) new m = absurd m
+socket_outcome kind h reply.Started new m = absurd m
+socket_outcome kind h (reply.Sent n) new m = absurd m
+socket_outcome kind h (reply.Octets o) new m = absurd m
+socket_outcome kind h (reply.Datagram o f) new m = absurd m
+socket_outcome kind h reply.EndOfStream new m = absurd m
+socket_outcome kind h (reply.State s) new m = absurd m
+socket_outcome kind h (reply.Frame i l) new m = absurd m
+socket_outcome kind h reply.NoFrame new m = absurd m
+socket_outcome kind h reply.Taken new m = absurd m
+socket_outcome kind h (reply.Dropped c) new m = absurd m
+socket_outcome kind h (reply.Refused refusal.EBADF) new m = absurd m
+socket_outcome kind h (reply.Refused refusal.EINVAL) new m = absurd m
+socket_outcome kind h (reply.Refused refusal.EADDRINUSE) new m = absurd m
+socket_outcome kind h (reply.Refused refusal.EADDRNOTAVAIL) new m = absurd m
+socket_outcome kind h (reply.Refused refusal.EISCONN) new m = absurd m
+socket_outcome kind h (reply.Refused refusal.ENOTCONN) new m = absurd m
+socket_outcome kind h (reply.Refused refusal.EALREADY) new m = absurd m
+socket_outcome kind h (reply.Refused refusal.EAGAIN) new m = absurd m
+socket_outcome kind h (reply.Refused refusal.ENETUNREACH) new m = absurd m
+socket_outcome kind h (reply.Refused refusal.EPIPE) new m = absurd m
+socket_outcome kind h (reply.Refused refusal.ECONNREFUSED) new m = absurd m
+socket_outcome kind h (reply.Refused refusal.ECONNRESET) new m = absurd m
+socket_outcome kind h (reply.Refused refusal.EMFILE) new m = inr m.1
+socket_outcome kind h (reply.Refused refusal.ENOMEM) new m = inr m.1
+socket_outcome kind h (reply.Refused refusal.EOPNOTSUPP) new m = absurd m
+socket_outcome kind h (reply.Refused refusal.EDESTADDRREQ) new m = absurd m
+socket_outcome kind h (reply.Refused refusal.EMSGSIZE) new m = absurd m
 
 -- What a receive shows: octets, or that nothing changed.
 pub record ReadsOctets (h : SocketsView) (id : SocketId) (len : ℕ) (answer : Answer) (new : SocketsView) : Type 0 where
@@ -166,6 +188,7 @@ recv_outcome h id len answer new = by_outcome (recv_answer h id len) refl answer
         let same : count ≡ connection_calls.recv_count r.c len = t.2 in
         inl (record { c = r.c; l = r.l; found = r.found; untold = t.0; opened = t.1; some = r.some; octets = o; is_answer = refl; are_first = m.0 ∙ (readable_on-connected h id count r.c r.l r.found ∙ ap (λ i. take i r.c.receiving.readable) same); becomes = m.1 })
     by_outcome (Ok (received.Octets count)) is reply.EndOfStream m = absurd m
+    by_outcome (Ok (received.Octets count)) is (reply.Datagram o f) m = absurd m
     by_outcome (Ok (received.Octets count)) is (reply.State s) m = absurd m
     by_outcome (Ok (received.Octets count)) is (reply.Frame i l) m = absurd m
     by_outcome (Ok (received.Octets count)) is reply.NoFrame m = absurd m
@@ -179,6 +202,7 @@ recv_outcome h id len answer new = by_outcome (recv_answer h id len) refl answer
     by_outcome (Ok received.EndOfStream) is (reply.Sent n) m = absurd m
     by_outcome (Ok received.EndOfStream) is (reply.Octets o) m = absurd m
     by_outcome (Ok received.EndOfStream) is reply.EndOfStream m = let r = reads-on h id len received.EndOfStream is in inr (inl (record { c = r.c; l = r.l; found = r.found; some = r.some; told = r.told; is_answer = refl; becomes = m }))
+    by_outcome (Ok received.EndOfStream) is (reply.Datagram o f) m = absurd m
     by_outcome (Ok received.EndOfStream) is (reply.State s) m = absurd m
     by_outcome (Ok received.EndOfStream) is (reply.Frame i l) m = absurd m
     by_outcome (Ok received.EndOfStream) is reply.NoFrame m = absurd m
@@ -192,12 +216,45 @@ recv_outcome h id len answer new = by_outcome (recv_answer h id len) refl answer
     by_outcome (Err x) is (reply.Sent n) m = absurd m
     by_outcome (Err x) is (reply.Octets o) m = absurd m
     by_outcome (Err x) is reply.EndOfStream m = absurd m
+    by_outcome (Err x) is (reply.Datagram o f) m = absurd m
     by_outcome (Err x) is (reply.State s) m = absurd m
     by_outcome (Err x) is (reply.Frame i l) m = absurd m
     by_outcome (Err x) is reply.NoFrame m = absurd m
     by_outcome (Err x) is reply.Taken m = absurd m
     by_outcome (Err x) is (reply.Dropped c) m = absurd m
     by_outcome (Err x) is (reply.Refused e) m = inr (inr (e, refl, m.1))
+
+-- What the receipt of a datagram shows: the datagram, or that nothing changed.
+pub recvfrom_outcome : (h : SocketsView) (id : SocketId) (r : Result (ℕ × Endpoint) Refusal) (answer : Answer) (new : SocketsView) → MeetsReceivedFrom h id r answer new
+    → (new ≡ after_recvfrom h id) ⊎ (new ≡ h)
+recvfrom_outcome h id (Ok (n, f)) (reply.Socket i) new m = absurd m
+recvfrom_outcome h id (Ok (n, f)) reply.Done new m = absurd m
+recvfrom_outcome h id (Ok (n, f)) (reply.Accepted i p) new m = absurd m
+recvfrom_outcome h id (Ok (n, f)) reply.Started new m = absurd m
+recvfrom_outcome h id (Ok (n, f)) (reply.Sent k) new m = absurd m
+recvfrom_outcome h id (Ok (n, f)) (reply.Octets o) new m = absurd m
+recvfrom_outcome h id (Ok (n, f)) (reply.Datagram o g) new m = inl m.2
+recvfrom_outcome h id (Ok (n, f)) reply.EndOfStream new m = absurd m
+recvfrom_outcome h id (Ok (n, f)) (reply.State s) new m = absurd m
+recvfrom_outcome h id (Ok (n, f)) (reply.Frame i l) new m = absurd m
+recvfrom_outcome h id (Ok (n, f)) reply.NoFrame new m = absurd m
+recvfrom_outcome h id (Ok (n, f)) reply.Taken new m = absurd m
+recvfrom_outcome h id (Ok (n, f)) (reply.Dropped c) new m = absurd m
+recvfrom_outcome h id (Ok (n, f)) (reply.Refused e) new m = absurd m
+recvfrom_outcome h id (Err x) (reply.Socket i) new m = absurd m
+recvfrom_outcome h id (Err x) reply.Done new m = absurd m
+recvfrom_outcome h id (Err x) (reply.Accepted i p) new m = absurd m
+recvfrom_outcome h id (Err x) reply.Started new m = absurd m
+recvfrom_outcome h id (Err x) (reply.Sent n) new m = absurd m
+recvfrom_outcome h id (Err x) (reply.Octets o) new m = absurd m
+recvfrom_outcome h id (Err x) (reply.Datagram o f) new m = absurd m
+recvfrom_outcome h id (Err x) reply.EndOfStream new m = absurd m
+recvfrom_outcome h id (Err x) (reply.State s) new m = absurd m
+recvfrom_outcome h id (Err x) (reply.Frame i l) new m = absurd m
+recvfrom_outcome h id (Err x) reply.NoFrame new m = absurd m
+recvfrom_outcome h id (Err x) reply.Taken new m = absurd m
+recvfrom_outcome h id (Err x) (reply.Dropped c) new m = absurd m
+recvfrom_outcome h id (Err x) (reply.Refused e) new m = inr m.1
 
 -- Calls that change no connection.
 

@@ -6,7 +6,8 @@ use Rattle.ipv4.specs.declared.addr.Endpoint.{Endpoint}
 use Rattle.tcp_segment.specs.declared.seq.Seq.{Seq}
 use Rattle.interface.specs.Ways.{is_routed}
 use Rattle.sockets.specs.declared.entry.SocketId.{SocketId}
-use Rattle.sockets.specs.Calls.{unless_refused, after_socket, bind_refusal, after_bind, listen_refusal, after_listen, accept_answer, after_accept, connect_refusal, after_connect, pair_connected, send_answer, after_send, after_recv, shutdown_refusal, after_shutdown, close_refusal, after_close, state_answer}
+use Rattle.sockets.specs.Calls.{unless_refused, bind_refusal, after_bind, listen_refusal, after_listen, accept_answer, after_accept, connect_refusal, after_connect, pair_connected, send_answer, after_send, after_recv, shutdown_refusal, after_shutdown, close_refusal, after_close, state_answer}
+use Rattle.sockets.specs.Datagrams.{sendto_answer, after_sendto, recvfrom_answer, after_recvfrom}
 use Rattle.sockets.specs.Entries.{is_socket, is_offered_at, role_after_bind, role_after_listen, role_after_accept}
 use Rattle.sockets.specs.SocketsView.{SocketsView}
 use Rattle.sockets.specs.Sound.{IsSoundTable}
@@ -28,10 +29,11 @@ use Rattle.wire_sim.specs.WorldView.{NetworkView, host_of, table_of}
 use Rattle.wire_sim.proofs.tables.CallsOnTable.{outcome, not_refused}
 use Rattle.wire_sim.proofs.tables.UnseenRoles.{quiet_bound_to, quiet_listening, quiet_accepted}
 use Rattle.wire_sim.proofs.pairing.WorldAsPairings.{Bag, Projects}
-use Rattle.wire_sim.proofs.pairing.CallsAreMoves.{socket_outcome, recv_outcome, kept, changed, projects-silent, call-sends, call-receives, call-ends, call-closes, taken-fit}
+use Rattle.wire_sim.proofs.pairing.CallsAreMoves.{socket_outcome, recv_outcome, recvfrom_outcome, kept, changed, projects-silent, call-sends, call-receives, call-ends, call-closes, taken-fit}
 use Rattle.wire_sim.proofs.pairing.CloseIsMoves.{call-forsakes}
-use Rattle.wire_sim.proofs.pairing.ConnectIsMove.{IsFirst, projects-connects, projects-socket_added}
-use Rattle.wire_sim.proofs.told.TraceAndOneMore.{IsQuiet, answered, tallies, tallies-counted, tallies-quiet, tallies-opened, quiet-everywhere, quiet-socket, quiet-bind, quiet-listen, quiet-accept, quiet-connect, quiet-state, quiet-send_refused, quiet-recv_refused, quiet-shutdown_refused, quiet-close_refused}
+use Rattle.wire_sim.proofs.pairing.ConnectIsMove.{IsFirst, projects-connects, projects-socket_made}
+use Rattle.wire_sim.proofs.pairing.DatagramsMoveNothing.{projects-sent_to, projects-received_from}
+use Rattle.wire_sim.proofs.told.TraceAndOneMore.{IsQuiet, answered, tallies, tallies-counted, tallies-quiet, tallies-opened, quiet-everywhere, quiet-socket, quiet-bind, quiet-listen, quiet-accept, quiet-connect, quiet-state, quiet-sendto, quiet-recvfrom, quiet-send_refused, quiet-recv_refused, quiet-shutdown_refused, quiet-close_refused}
 
 -- What a call made of the network: nothing beside its host, a count, or an opening.
 pub data CallGoes (limit : ℕ) (hs ts : Side) (a b : Addr) (host' : HostView) (other : SocketsView) (n : NetworkView) (bag : Bag) (c : Call) (answer : Answer) (place : ℕ) (trace : List Happening) : Type 0 where
@@ -81,9 +83,8 @@ pub projects-called : (limit : ℕ) (hs ts : Side) (a b : Addr) (host host' : Ho
     → CallGoes limit hs ts a b host' other n bag c answer place trace
 projects-called limit hs ts a b host host' other n bag place trace (call.Socket kind) answer sound opposite is_host is_other numbered fair m h =
     let own = host.sockets in
-    elim (socket_outcome own answer host'.sockets m) [
-      | inl x ↦ plain limit hs ts a b host' other n bag (call.Socket kind) answer place trace refl (λ i. quiet-socket hs kind answer i)
-          (kept limit hs ts a b (after_socket own x.1) host'.sockets other bag n.openings trace x.3 (projects-socket_added limit hs ts a b own other bag n.openings trace x.1 h))
+    elim (socket_outcome kind own answer host'.sockets m) [
+      | inl made ↦ plain limit hs ts a b host' other n bag (call.Socket kind) answer place trace refl (λ i. quiet-socket hs kind answer i) (projects-socket_made limit hs ts a b own host'.sockets other bag n.openings trace kind made h)
       | inr same ↦ plain limit hs ts a b host' other n bag (call.Socket kind) answer place trace refl (λ i. quiet-socket hs kind answer i) (kept limit hs ts a b own host'.sockets other bag n.openings trace same h)
     ]
 projects-called limit hs ts a b host host' other n bag place trace (call.Bind id local) answer sound opposite is_host is_other numbered fair m h =
@@ -150,6 +151,26 @@ projects-called limit hs ts a b host host' other n bag place trace (call.Recv id
             subst (λ r. CallGoes limit hs ts a b host' other n bag (call.Recv id len) r place trace) (sym x.1)
             (plain limit hs ts a b host' other n bag (call.Recv id len) (reply.Refused x.0) place trace refl (λ i. quiet-recv_refused hs id len x.0 i) (kept limit hs ts a b own host'.sockets other bag n.openings trace x.2 h))
       ]
+    ]
+projects-called limit hs ts a b host host' other n bag place trace (call.SendTo id peer octets) answer sound opposite is_host is_other numbered fair m h =
+    let own = host.sockets in
+    let routed = is_routed host.interface peer.addr in
+    let quiet = quiet-sendto hs id peer octets answer in
+    elim (outcome (sendto_answer own id peer octets.items routed) (λ count. reply.Sent count) (after_sendto own id peer octets.items routed) own answer host'.sockets m) [
+      | inl x ↦ plain limit hs ts a b host' other n bag (call.SendTo id peer octets) answer place trace (called-plain answer) quiet
+          (kept limit hs ts a b (after_sendto own id peer octets.items routed) host'.sockets other bag n.openings trace x.3 (projects-sent_to limit hs ts a b own other bag n.openings trace id peer octets.items routed h))
+      | inr x ↦ plain limit hs ts a b host' other n bag (call.SendTo id peer octets) answer place trace (called-plain answer) quiet (kept limit hs ts a b own host'.sockets other bag n.openings trace x.3 h)
+    ]
+  where
+    called-plain : (answer : Answer) → after_call hs (call.SendTo id peer octets) answer place n host' ≡ with_host n hs host'
+    called-plain answer = refl
+projects-called limit hs ts a b host host' other n bag place trace (call.RecvFrom id len) answer sound opposite is_host is_other numbered fair m h =
+    let own = host.sockets in
+    let quiet = quiet-recvfrom hs id len answer in
+    elim (recvfrom_outcome own id (recvfrom_answer own id (recv_len len)) answer host'.sockets m) [
+      | inl same ↦ plain limit hs ts a b host' other n bag (call.RecvFrom id len) answer place trace refl quiet
+          (kept limit hs ts a b (after_recvfrom own id) host'.sockets other bag n.openings trace same (projects-received_from limit hs ts a b own other bag n.openings trace id h))
+      | inr same ↦ plain limit hs ts a b host' other n bag (call.RecvFrom id len) answer place trace refl quiet (kept limit hs ts a b own host'.sockets other bag n.openings trace same h)
     ]
 projects-called limit hs ts a b host host' other n bag place trace (call.Shutdown id) answer sound opposite is_host is_other numbered fair m h =
     let own = host.sockets in

@@ -17,7 +17,7 @@ use Rattle.wire_sim.specs.declared.event.Happening.{Happening}
 use Rattle.sockets.specs.declared.entry.SocketId.{SocketId}
 use Rattle.sockets.specs.declared.entry.Entry.{Entry}
 use Rattle.sockets.specs.declared.role.Role.{Role}
-use Rattle.sockets.specs.declared.role.Role.TheVariants.{Idle, Listener, Connected}
+use Rattle.sockets.specs.declared.role.Role.TheVariants.{Idle, Listener, Connected, Datagrams}
 use Rattle.sockets.specs.declared.refusal.Refusal.TheVariants.{EBADF}
 use Rattle.sockets.specs.Calls.{close_refusal, after_socket_closed, after_close}
 use Rattle.sockets.specs.Entries.{is_socket, is_kept, waits_at, role_after_close, close_fate_of, role_after_abort, abort_fate_of, role_after_listener_close, listener_close_fate_of, entries_after_step}
@@ -128,6 +128,7 @@ forsaking limit now id t r there out arrived = waiting (waits_at id r)
         by_state false met = moved limit was (pairing (end_with (Present (connection_calls.aborted_at c now)) t) there out arrived) (stops was c (connection_calls.aborted_at c now) t.closed refl (stops-left c (connection_calls.aborted_at c now) refl refl) (λ e. e)) met
     aborting (Listener b n) met = met
     aborting (Idle b n) met = met
+    aborting (Datagrams b s) met = met
 
     waiting : (b : Bool) → Meets limit (pairing (end_with (presence_in (Some r)) t) there out arrived)
         → Meets limit (pairing (end_with (presence_in (settle (if b then abort_fate_of r else Stays) (λ q. if b then role_after_abort now q else q) r)) t) there out arrived)
@@ -183,6 +184,12 @@ own-closed limit hs ts a b own other bag openings trace id (Idle buffers bound) 
     projects-unopened limit hs ts a b own (record own { entries = entries_after_step Removed (is_socket id) (role_after_close own.kept) own.entries }) other bag openings trace (trace ++ answered hs (call.Close id) reply.Done ∷ []) id refl refl
     (becomes-settled Removed (is_socket id) (role_after_close own.kept) own.entries x h.own_table.sole found) (h.own_table.bound id (Idle buffers bound) before) (h.own_table.noted id (Idle buffers bound) before)
     (forsakes-told hs trace id).1 (told-other hs ts trace (call.Close id) reply.Done opposite) h
+own-closed limit hs ts a b own other bag openings trace id (Datagrams bound socket) sound opposite found h =
+    let x : Entry = record { id = id; role = Datagrams bound socket } in
+    let before : role_at own.entries id.0 ≡ Some (Datagrams bound socket) = found-role (is_socket id) own.entries x h.own_table.sole found in
+    projects-unopened limit hs ts a b own (record own { entries = entries_after_step Removed (is_socket id) (role_after_close own.kept) own.entries }) other bag openings trace (trace ++ answered hs (call.Close id) reply.Done ∷ []) id refl refl
+    (becomes-settled Removed (is_socket id) (role_after_close own.kept) own.entries x h.own_table.sole found) (h.own_table.bound id (Datagrams bound socket) before) (h.own_table.noted id (Datagrams bound socket) before)
+    (forsakes-told hs trace id).1 (told-other hs ts trace (call.Close id) reply.Done opposite) h
 
 pub call-forsakes : (limit : ℕ) (hs ts : Side) (a b : Addr) (own other : SocketsView) (bag : Bag) (openings : List Opening) (trace : List Happening) (id : SocketId) → IsSoundTable own → ts ≡ other_side hs → close_refusal own id ≡ None
     → Projects limit hs ts a b own other bag openings trace → Projects limit hs ts a b (after_close own id) other bag openings (trace ++ answered hs (call.Close id) reply.Done ∷ [])
@@ -197,6 +204,7 @@ call-forsakes limit hs ts a b own other bag openings trace id sound opposite acc
     aborts i (Connected c l) m = opened-kept hs a openings i c (connection_calls.after_abort c own.kept) (keeps-abort c own.kept) m
     aborts i (Listener local backlog) m = m
     aborts i (Idle buffers bound) m = m
+    aborts i (Datagrams bound socket) m = m
 
     noted : (i : SocketId) (r : Role) → IsNoted hs a openings i r → IsNoted hs a openings i (role_after_listener_close own.kept id r)
     noted i r m = by_waiting (waits_at id r)

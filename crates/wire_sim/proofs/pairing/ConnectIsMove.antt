@@ -5,23 +5,26 @@ use Rattle.ipv4.specs.declared.addr.Addr.{Addr}
 use Rattle.ipv4.specs.declared.addr.Endpoint.{Endpoint}
 use Rattle.ipv4.specs.declared.addr.Pair.{Pair}
 use Rattle.ipv4.specs.Addresses.{pair_of}
-use Rattle.tcp_state.specs.declared.buffers.Buffers.{Buffers}
+use Rattle.udp_socket.specs.SocketView.{new_socket}
 use Rattle.tcp_state.specs.View.{opened_actively}
 use Rattle.wire_sim.specs.declared.event.Side.{Side}
 use Rattle.wire_sim.specs.declared.event.Opening.{Opening}
 use Rattle.wire_sim.specs.declared.event.Happening.{Happening}
+use Rattle.sockets.specs.declared.entry.Kind.{Kind}
+use Rattle.sockets.specs.declared.entry.Kind.TheVariants.{Tcp, Udp}
 use Rattle.sockets.specs.declared.entry.SocketId.{SocketId}
 use Rattle.sockets.specs.declared.entry.Entry.{Entry}
 use Rattle.sockets.specs.declared.role.Role.{Role}
-use Rattle.sockets.specs.declared.role.Role.TheVariants.{Idle, Listener, Connected}
-use Rattle.sockets.specs.Calls.{after_socket, connect_refusal, after_connect, last_port_after, pair_connected}
+use Rattle.sockets.specs.declared.role.Role.TheVariants.{Idle, Listener, Connected, Datagrams}
+use Rattle.sockets.specs.Calls.{IsMade, after_socket, after_datagram_socket, connect_refusal, after_connect, last_port_after, pair_connected}
 use Rattle.sockets.specs.Entries.{is_socket, is_of_pair, role_after_connect, with_role}
 use Rattle.sockets.specs.SocketsView.{SocketsView, holder_id}
 use Rattle.sockets.specs.Lists.{change_first}
 use Rattle.wire_sim.specs.Fairness.{second_in}
 use Rattle.wire_sim.specs.Openings.{epoch_of, epoch_connected, opened_as, opened_by_connect}
 use Rattle.sockets.specs.Pairs.{socket_pair}
-use Rattle.stream_law.specs.Pairing.{connects, nothing_yet}
+use Rattle.stream_law.specs.Pairing.{Departed, Meets, connects, nothing_yet}
+use Rattle.wire_sim.specs.Tallies.{is_opening_at}
 use Rattle.wire_sim.specs.Trace.{sent_on}
 use Rattle.wire_sim.proofs.tables.CallsOnTable.{connects-on, socket_pair-connected, found-connecting}
 use Rattle.wire_sim.proofs.tables.EntryChanges.{meets-moved}
@@ -41,6 +44,7 @@ table-ours side a own last xs os t same table i r at = of_role r (table.noted (r
     of_role (Connected c l) k = k.local ∙ sym same
     of_role (Listener local backlog) k = tt
     of_role (Idle b bound) k = tt
+    of_role (Datagrams bound socket) k = tt
 
 -- The epoch of a pair that is opened by a connect is its present one or the next, and rises only where no host holds the pair.
 pub record Rises (own other : SocketsView) (os : List Opening) (pair : Pair) (epoch : ℕ) : Type 0 where
@@ -115,22 +119,36 @@ projects-connects limit hs ts a b own other bag openings place trace isn id peer
       projects = subst (λ w. Projects limit hs ts a b w other bag (openings ++ o ∷ []) trace) (sym is_next) made;
     }
 
--- an idle socket joins the table
-pub projects-socket_added : (limit : ℕ) (hs ts : Side) (a b : Addr) (own other : SocketsView) (bag : Bag) (openings : List Opening) (trace : List Happening) (buffers : Buffers) → Projects limit hs ts a b own other bag openings trace
-    → Projects limit hs ts a b (after_socket own buffers) other bag openings trace
-projects-socket_added limit hs ts a b own other bag openings trace buffers h =
+-- a socket that no connection stands at joins the table
+pub projects-joined : (limit : ℕ) (hs ts : Side) (a b : Addr) (own next other : SocketsView) (bag : Bag) (openings : List Opening) (trace : List Happening) (r : Role) → next.addr ≡ own.addr → next.last_id ≡ own.last_id + 1
+    → next.entries ≡ own.entries ++ record { id = record { 0 = own.last_id + 1 }; role = r } ∷ [] → presence_in (Some r) ≡ Departed
+    → ((id : SocketId) → find (is_opening_at hs id) openings ≡ None → IsNoted hs a openings id r) → Projects limit hs ts a b own other bag openings trace
+    → Projects limit hs ts a b next other bag openings trace
+projects-joined limit hs ts a b own next other bag openings trace r addr last entries absent unseen h =
     let id : SocketId = record { 0 = own.last_id + 1 } in
-    let next = after_socket own buffers in
-    let x : Entry = record { id = id; role = Idle buffers None } in
+    let x : Entry = record { id = id; role = r } in
+    let ys = own.entries ++ x ∷ [] in
     let above : own.last_id < id.0 = omega arith in
     let free = free-later hs a own.last_id openings own.entries (told hs trace) id above h.own_table in
-    let becomes : Becomes own.entries next.entries id.0 (Some (Idle buffers None)) = becomes-added own.entries x h.own_table.sole free in
+    let becomes : Becomes own.entries ys id.0 (Some r) = becomes-added own.entries x h.own_table.sole free in
     let was : role_at own.entries id.0 ≡ None = ap (option_map (λ (e : Entry). e.role)) free in
     projects-turned limit hs ts a b own next other bag openings trace trace h (record {
-      addr = refl;
-      table = table-socket hs a own.last_id openings own.entries (told hs trace) id buffers refl h.own_table;
+      addr = addr;
+      table = subst (λ n. IsTable hs a n next.entries openings (told hs trace)) (sym last)
+          (subst (λ xs. IsTable hs a (own.last_id + 1) xs openings (told hs trace)) (sym entries) (table-socket hs a own.last_id openings own.entries (told hs trace) id r refl (unseen id) h.own_table));
       other_told = λ i. refl;
-      meets = meets-moved limit hs openings id own.entries next.entries (told hs trace) (told hs trace) (λ pair epoch. end_at ts openings other.entries (told ts trace) pair epoch) bag.out bag.arrived becomes.others (λ i apart. refl)
-          (end-stays limit (end_with (presence_in (role_at own.entries id.0)) (told hs trace id)) (end_with (presence_in (role_at next.entries id.0)) (told hs trace id))
-          (ap (λ r. end_with (presence_in r) (told hs trace id)) becomes.here ∙ sym (ap (λ r. end_with (presence_in r) (told hs trace id)) was))) h.meets;
+      meets = subst (λ xs. (pair : Pair) (epoch : ℕ) → Meets limit (pairing (end_at hs openings xs (told hs trace) pair epoch) (end_at ts openings other.entries (told ts trace) pair epoch) (bag.out pair epoch) (bag.arrived pair epoch))) (sym entries)
+          (meets-moved limit hs openings id own.entries ys (told hs trace) (told hs trace) (λ pair epoch. end_at ts openings other.entries (told ts trace) pair epoch) bag.out bag.arrived becomes.others (λ i apart. refl)
+          (end-stays limit (end_with (presence_in (role_at own.entries id.0)) (told hs trace id)) (end_with (presence_in (role_at ys id.0)) (told hs trace id))
+          (ap (λ r. end_with (presence_in r) (told hs trace id)) becomes.here ∙ (ap (λ p. end_with p (told hs trace id)) absent ∙ sym (ap (λ r. end_with (presence_in r) (told hs trace id)) was)))) h.meets);
     })
+
+-- a new socket of either kind joins the table
+pub projects-socket_made : (limit : ℕ) (hs ts : Side) (a b : Addr) (own next other : SocketsView) (bag : Bag) (openings : List Opening) (trace : List Happening) (kind : Kind) → IsMade kind own next → Projects limit hs ts a b own other bag openings trace
+    → Projects limit hs ts a b next other bag openings trace
+projects-socket_made limit hs ts a b own next other bag openings trace Tcp made h =
+    subst (λ w. Projects limit hs ts a b w other bag openings trace) (sym made.1)
+    (projects-joined limit hs ts a b own (after_socket own made.0) other bag openings trace (Idle made.0 None) refl refl refl refl (λ id none. none) h)
+projects-socket_made limit hs ts a b own next other bag openings trace Udp made h =
+    subst (λ w. Projects limit hs ts a b w other bag openings trace) (sym made)
+    (projects-joined limit hs ts a b own (after_datagram_socket own) other bag openings trace (Datagrams None new_socket) refl refl refl refl (λ id none. none) h)

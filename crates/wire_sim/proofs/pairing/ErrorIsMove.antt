@@ -9,7 +9,7 @@ use Rattle.tcp_state.specs.Unreachable.{is_unreachable, after_unreachable, unrea
 use Rattle.sockets.specs.declared.entry.SocketId.{SocketId}
 use Rattle.sockets.specs.declared.entry.Entry.{Entry}
 use Rattle.sockets.specs.declared.role.Role.{Role}
-use Rattle.sockets.specs.declared.role.Role.TheVariants.{Idle, Listener, Connected}
+use Rattle.sockets.specs.declared.role.Role.TheVariants.{Idle, Listener, Connected, Datagrams}
 use Rattle.sockets.specs.Entries.{is_between, is_live_between, is_kept, role_after_unreachable, entries_after_step}
 use Rattle.sockets.specs.SocketsView.{SocketsView}
 use Rattle.sockets.specs.Unreachable as table_errors
@@ -77,6 +77,7 @@ projects-told limit hs ts a b own other bag openings trace local peer number h =
     of_role e found (Connected c l) role = of_connection c l e.id (found ∙ ap Some (entry_with e (Connected c l) role))
     of_role e found (Listener bound backlog) role = let bad : false ≡ true = sym (ap (is_live_between local peer) role) ∙ find-passes test own.entries e found in cc
     of_role e found (Idle buffers bound) role = let bad : false ≡ true = sym (ap (is_live_between local peer) role) ∙ find-passes test own.entries e found in cc
+    of_role e found (Datagrams bound socket) role = let bad : false ≡ true = sym (ap (is_live_between local peer) role) ∙ find-passes test own.entries e found in cc
 
     by_found : (o : Option Entry) → find test own.entries ≡ o → Shown
     by_found None none = let same : table_errors.after_unreachable own local peer number ≡ own = rw none in subst (λ w. Projects limit hs ts a b w other bag openings trace) (sym same) h

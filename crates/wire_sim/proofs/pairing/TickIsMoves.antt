@@ -1,6 +1,6 @@
 -- A step of every entry of a table, as a tick is one, is a move of every pairing whose end it changes.
-use Rattle.std.proofs.Common.{◌≡◌, ℕ, ◌&&◌, inl, inr, not, Bool, true, false, cond, if◌then◌else◌, List, [], ◌∷◌, Option, Some, None, refl, sym, ◌∙◌, ap, subst}
-use Rattle.std.specs.List.{find, filter}
+use Rattle.std.proofs.Common.{◌≡◌, ℕ, ◌&&◌, inl, inr, Bool, true, false, cond, if◌then◌else◌, List, Option, Some, None, refl, sym, ◌∙◌, ap, subst}
+use Rattle.std.specs.List.{find}
 use Rattle.ipv4.specs.declared.addr.Addr.{Addr}
 use Rattle.ipv4.specs.declared.addr.Pair.{Pair}
 use Rattle.tcp_state.specs.declared.connection.Fate.{Fate}
@@ -11,22 +11,22 @@ use Rattle.wire_sim.specs.declared.event.Side.{Side}
 use Rattle.wire_sim.specs.declared.event.Opening.{Opening}
 use Rattle.wire_sim.specs.declared.event.Happening.{Happening}
 use Rattle.sockets.specs.declared.entry.SocketId.{SocketId}
-use Rattle.sockets.specs.declared.entry.Entry.{Entry}
 use Rattle.sockets.specs.declared.role.Role.{Role}
-use Rattle.sockets.specs.declared.role.Role.TheVariants.{Idle, Listener, Connected}
-use Rattle.sockets.specs.Entries.{is_kept, with_role, entries_after_steps, role_after_tick, tick_fate_of}
+use Rattle.sockets.specs.declared.role.Role.TheVariants.{Idle, Listener, Connected, Datagrams}
+use Rattle.sockets.specs.Entries.{is_kept, entries_after_steps, role_after_tick, tick_fate_of}
 use Rattle.sockets.specs.Ticks as table_ticks
-use Rattle.sockets.specs.Lost.{is_given_up, after_giving_up}
+use Rattle.sockets.specs.Lost.{is_given_up, give_up_fate_of, role_after_giving_up, after_giving_up}
 use Rattle.sockets.specs.SocketsView.{SocketsView, later_moment}
 use Rattle.stream_law.specs.Pairing.{Present, Departed, Meets, rests, stops, leaves}
 use Rattle.stream_law.proofs.PairingEndings.{stops-at_end}
 use Rattle.stream_law.proofs.PairingMoves.{same-resend}
 use Rattle.wire_sim.specs.Tallies.{is_opening_of}
 use Rattle.wire_sim.proofs.tables.EntryChanges.{opened-kept}
+use Rattle.wire_sim.proofs.tables.UnseenRoles.{IsQuiet, quiet_given_up}
 use Rattle.wire_sim.proofs.pairing.EndMoves.{pairing, EndGoes, moved, end-stays}
 use Rattle.sockets.proofs.KeptEnds.{keeps-tick}
 use Rattle.wire_sim.proofs.pairing.WorldAsPairings.{told, Bag, Projects, projects-turned}
-use Rattle.wire_sim.proofs.tables.TableById.{Account, role_at, settle, settle_each, role_at-settled, sole-settled, presence_in, end_with, end_of, end_at, IsNoted, MayOpen, IsTable, entry_with}
+use Rattle.wire_sim.proofs.tables.TableById.{Account, role_at, settle, settle_each, role_at-settled, sole-settled, presence_in, end_with, end_of, end_at, IsNoted, MayOpen, IsTable}
 
 -- what is left of an entry
 pub left-behind : (fate : Role → Fate) (g : Role → Role) (o : Option Role) (r : Role) → settle_each fate g o ≡ Some r → (q : Role) × (o ≡ Some q) × (is_kept (fate q) ≡ true) × (g q ≡ r)
@@ -90,6 +90,7 @@ role_goes limit now t (Connected c l) there out arrived = by_end (is_at_end c no
     by_end false left is was = moved limit (pairing (end_with (Present c) t) there out arrived) (pairing (end_with (Present (after_resend c now)) t) there out arrived) (rests (pairing (end_with (Present c) t) there out arrived) c (after_resend c now) refl (same-resend c now))
 role_goes limit now t (Listener b n) there out arrived = end-stays limit (end_with Departed t) (end_with Departed t) refl there out arrived
 role_goes limit now t (Idle b n) there out arrived = end-stays limit (end_with Departed t) (end_with Departed t) refl there out arrived
+role_goes limit now t (Datagrams b n) there out arrived = end-stays limit (end_with Departed t) (end_with Departed t) refl there out arrived
 
 pub projects-ticked : (limit : ℕ) (hs ts : Side) (a b : Addr) (own other : SocketsView) (bag : Bag) (openings : List Opening) (trace : List Happening) (moment : Moment)
     → Projects limit hs ts a b own other bag openings trace → Projects limit hs ts a b (table_ticks.after_tick own moment) other bag openings trace
@@ -101,23 +102,9 @@ projects-ticked limit hs ts a b own other bag openings trace moment h =
     noted now id (Connected c l) k = opened-kept hs a openings id c (after_tick c now) (keeps-tick c now) k
     noted now id (Listener b n) k = k
     noted now id (Idle b n) k = k
+    noted now id (Datagrams b n) k = k
 
--- Resets of aborts that are given up: their connections are gone.
-
--- what passes a test of roles is what is left where each that does not is removed
-pub left-steps : (test : Role → Bool) (xs : List Entry) → filter (λ (e : Entry). not (test e.role)) xs ≡ entries_after_steps (λ r. if test r then Removed else Stays) (λ r. r) xs
-left-steps test [] = refl
-left-steps test (e ∷ xs) = step (test e.role) (left-steps test xs)
-  where
-    kept : List Entry
-    kept = filter (λ (e : Entry). not (test e.role)) xs
-
-    settled : List Entry
-    settled = entries_after_steps (λ r. if test r then Removed else Stays) (λ r. r) xs
-
-    step : (b : Bool) → kept ≡ settled → cond (not b) (e ∷ kept) kept ≡ cond (is_kept (if b then Removed else Stays)) (with_role (λ r. r) e ∷ settled) settled
-    step true more = more
-    step false more = ap (λ l. e ∷ l) more ∙ ap (λ (x : Entry). x ∷ settled) (entry_with e e.role refl)
+-- What is given up: connections whose resets can't go out are gone, and datagrams no connection sees.
 
 -- a connection that is gone, or none
 leaves_end : (limit : ℕ) (t : Account) (r : Role) → EndGoes limit (end_with (presence_in (Some r)) t) (end_with Departed t)
@@ -125,18 +112,25 @@ leaves_end limit t (Connected c l) there out arrived =
     moved limit (pairing (end_with (Present c) t) there out arrived) (pairing (end_with Departed t) there out arrived) (leaves (pairing (end_with (Present c) t) there out arrived) c t.closed refl (λ e. e))
 leaves_end limit t (Listener b n) there out arrived = end-stays limit (end_with Departed t) (end_with Departed t) refl there out arrived
 leaves_end limit t (Idle b n) there out arrived = end-stays limit (end_with Departed t) (end_with Departed t) refl there out arrived
+leaves_end limit t (Datagrams b n) there out arrived = end-stays limit (end_with Departed t) (end_with Departed t) refl there out arrived
 
 pub projects-given_up : (limit : ℕ) (hs ts : Side) (a b : Addr) (own other : SocketsView) (bag : Bag) (openings : List Opening) (trace : List Happening) (lost : Addr → Bool) (moment : Moment)
     → Projects limit hs ts a b own other bag openings trace → Projects limit hs ts a b (after_giving_up own lost moment) other bag openings trace
 projects-given_up limit hs ts a b own other bag openings trace lost moment h =
-    projects-settled limit hs ts a b own (after_giving_up own lost moment) other bag openings trace (λ r. if test r then Removed else Stays) (λ r. r) refl refl (left-steps test own.entries) (λ id q k. k) goes h
+    projects-settled limit hs ts a b own (after_giving_up own lost moment) other bag openings trace (give_up_fate_of lost now) change refl refl refl (λ id q k. quiet.noted hs a openings id q k) goes h
   where
-    test : Role → Bool
-    test = is_given_up lost (later_moment own moment)
+    now : Moment
+    now = later_moment own moment
 
-    goes : (t : Account) (q : Role) → EndGoes limit (end_with (presence_in (Some q)) t) (end_with (presence_in (settle (if test q then Removed else Stays) (λ r. r) q)) t)
-    goes t q = by_test (test q)
+    change : Role → Role
+    change = role_after_giving_up lost now
+
+    quiet : IsQuiet change
+    quiet = quiet_given_up lost now
+
+    goes : (t : Account) (q : Role) → EndGoes limit (end_with (presence_in (Some q)) t) (end_with (presence_in (settle (give_up_fate_of lost now q) change q)) t)
+    goes t q = by_test (is_given_up lost now q)
       where
-        by_test : (b : Bool) → EndGoes limit (end_with (presence_in (Some q)) t) (end_with (presence_in (settle (if b then Removed else Stays) (λ r. r) q)) t)
+        by_test : (b : Bool) → EndGoes limit (end_with (presence_in (Some q)) t) (end_with (presence_in (settle (if b then Removed else Stays) change q)) t)
         by_test true = leaves_end limit t q
-        by_test false = end-stays limit (end_with (presence_in (Some q)) t) (end_with (presence_in (Some q)) t) refl
+        by_test false = end-stays limit (end_with (presence_in (Some q)) t) (end_with (presence_in (Some (change q))) t) (ap (λ p. end_with p t) (quiet.seen q))

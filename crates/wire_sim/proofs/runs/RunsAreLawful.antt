@@ -207,6 +207,7 @@ orderly-emitted limit hs ts old new trace (reply.Accepted i p) opposite sound st
 orderly-emitted limit hs ts old new trace reply.Started opposite sound step w = absurd step
 orderly-emitted limit hs ts old new trace (reply.Sent m) opposite sound step w = absurd step
 orderly-emitted limit hs ts old new trace (reply.Octets o) opposite sound step w = absurd step
+orderly-emitted limit hs ts old new trace (reply.Datagram o f) opposite sound step w = absurd step
 orderly-emitted limit hs ts old new trace reply.EndOfStream opposite sound step w = absurd step
 orderly-emitted limit hs ts old new trace (reply.State s) opposite sound step w = absurd step
 orderly-emitted limit hs ts old new trace (reply.Frame i l) opposite sound step w =

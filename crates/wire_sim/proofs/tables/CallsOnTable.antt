@@ -17,7 +17,7 @@ use Rattle.tcp_state.specs.View.{View, is_opening, is_write_closed, is_read_clos
 use Rattle.sockets.specs.declared.entry.SocketId.{SocketId}
 use Rattle.sockets.specs.declared.entry.Entry.{Entry}
 use Rattle.sockets.specs.declared.role.Role.{Role}
-use Rattle.sockets.specs.declared.role.Role.TheVariants.{Idle, Listener, Connected}
+use Rattle.sockets.specs.declared.role.Role.TheVariants.{Idle, Listener, Connected, Datagrams}
 use Rattle.sockets.specs.declared.refusal.Refusal.{Refusal}
 use Rattle.sockets.specs.declared.refusal.Refusal.TheVariants.{EBADF, EINVAL, EADDRINUSE, EADDRNOTAVAIL, EISCONN, ENOTCONN, EALREADY, ENETUNREACH}
 use Rattle.wire_sim.specs.declared.event.Answer.{Answer}
@@ -119,6 +119,7 @@ sends-on h id octets count answered = by_entry (find (is_socket id) h.entries) r
 
     by_role : (e : Entry) → find (is_socket id) h.entries ≡ Some e → (r : Role) → e.role ≡ r → role_send_answer r octets ≡ Ok count → SendsOn h id octets count
     by_role e at (Idle buffers bound) is a = cc
+    by_role e at (Datagrams bound socket) is a = cc
     by_role e at (Listener bound backlog) is a = cc
     by_role e at (Connected c l) is a = by_tests c l (found_socket h.entries id e (Connected c l) at is) c.pending_error (is_opening c.state) (is_write_closed c.state) ((send_room c.sending == 0) && not (length octets == 0)) refl refl refl a
 
@@ -191,6 +192,7 @@ reads-on h id len got answered = by_entry (find (is_socket id) h.entries) refl
 
     by_role : (e : Entry) → find (is_socket id) h.entries ≡ Some e → (r : Role) → e.role ≡ r → role_recv_answer r len ≡ Ok got → ReadsOn h id len got
     by_role e at (Idle buffers bound) is a = absurd (of_idle (len == 0) a)
+    by_role e at (Datagrams bound socket) is a = cc
     by_role e at (Listener bound backlog) is a = cc
     by_role e at (Connected c l) is a = by_tests c l (found_socket h.entries id e (Connected c l) at is) (len == 0) (connection_calls.recv_answer c len) refl refl a
 
@@ -262,6 +264,7 @@ reached-apart h peer routed = step (peer.port == 0) (not (is_single_host peer.ad
 pub opens_idle : (r : Role) (bound : Option Endpoint) → open_answer r ≡ Ok bound → (b : Buffers) × (r ≡ Idle b bound)
 opens_idle (Idle buffers at) bound e = let same : at ≡ bound = cc in (buffers, ap (Idle buffers) same)
 opens_idle (Listener local backlog) bound e = cc
+opens_idle (Datagrams at socket) bound e = cc
 opens_idle (Connected c l) bound e = absurd (by_error c.pending_error e)
   where
     step : (opening : Bool) → cond opening (Err EALREADY) (Err EISCONN) ≡ Ok bound → ⊥
@@ -366,6 +369,7 @@ shuts-on h id none = by_entry (find (is_socket id) h.entries) refl
 
     by_role : (e : Entry) → find (is_socket id) h.entries ≡ Some e → (r : Role) → e.role ≡ r → role_shutdown_refusal r ≡ None → ShutsOn h id
     by_role e at (Idle buffers bound) is a = cc
+    by_role e at (Datagrams bound socket) is a = cc
     by_role e at (Listener bound backlog) is a = cc
     by_role e at (Connected c l) is a = by_tests c l (found_socket h.entries id e (Connected c l) at is) c.pending_error (is_opening c.state) refl refl a
 

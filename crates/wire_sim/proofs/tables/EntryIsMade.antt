@@ -5,12 +5,11 @@ use Rattle.std.proofs.lemmas.Bool.{and_from}
 use Rattle.ipv4.specs.declared.addr.Addr.{Addr}
 use Rattle.ipv4.specs.declared.addr.Pair.{Pair}
 use Rattle.ipv4.specs.Addresses.{pair_of}
-use Rattle.tcp_state.specs.declared.buffers.Buffers.{Buffers}
 use Rattle.tcp_state.specs.View.{View}
 use Rattle.sockets.specs.declared.entry.SocketId.{SocketId}
 use Rattle.sockets.specs.declared.entry.Entry.{Entry}
 use Rattle.sockets.specs.declared.role.Role.{Role}
-use Rattle.sockets.specs.declared.role.Role.TheVariants.{Idle, Listener, Connected}
+use Rattle.sockets.specs.declared.role.Role.TheVariants.{Idle, Listener, Connected, Datagrams}
 use Rattle.stream_law.specs.Pairing.{Present, nothing_yet}
 use Rattle.wire_sim.specs.declared.event.Side.{Side}
 use Rattle.wire_sim.specs.declared.event.Opening.{Opening}
@@ -97,6 +96,7 @@ table-made side own last last' os o xs ys told c l m grows within t = record {
     noted j (Connected d k) apart before n = opened-added side own os o xs j d k m.rises before n
     noted j (Listener local backlog) apart before n = others j apart ∙ n
     noted j (Idle buffers bound) apart before n = others j apart ∙ n
+    noted j (Datagrams bound socket) apart before n = others j apart ∙ n
 
 -- its end was nothing yet ..
 pub end-unmade : (side : Side) (os : List Opening) (o : Opening) (xs : List Entry) (told : Told) → o.side ≡ side → IsNext os o → end_at side os xs told o.pair o.epoch ≡ nothing_yet
@@ -141,12 +141,12 @@ free-later side own last os xs told id above t = decide (find (has_id id.0) xs) 
     decide None at = refl
     decide (Some e) at = let before = t.bound id e.role (ap (option_map (λ (e : Entry). e.role)) at) in absurd (omega (arith, before, above))
 
--- an idle socket joins the table
-pub table-socket : (side : Side) (own : Addr) (last : ℕ) (os : List Opening) (xs : List Entry) (told : Told) (id : SocketId) (b : Buffers) → id.0 ≡ last + 1 → IsTable side own last xs os told
-    → IsTable side own (last + 1) (xs ++ record { id = id; role = Idle b None } ∷ []) os told
-table-socket side own last os xs told id b next t =
-    table-becomes side own (last + 1) xs (xs ++ x ∷ []) os told told id (Some (Idle b None)) (becomes-added xs x t.sole free)
-    (λ role is. let same : Idle b None ≡ role = cc in (subst (λ r. IsNoted side own os id r) same unopened, omega (arith, next)))
+-- a socket that opened nothing joins the table
+pub table-socket : (side : Side) (own : Addr) (last : ℕ) (os : List Opening) (xs : List Entry) (told : Told) (id : SocketId) (r : Role) → id.0 ≡ last + 1 → (find (is_opening_at side id) os ≡ None → IsNoted side own os id r) → IsTable side own last xs os told
+    → IsTable side own (last + 1) (xs ++ record { id = id; role = r } ∷ []) os told
+table-socket side own last os xs told id r next unseen t =
+    table-becomes side own (last + 1) xs (xs ++ x ∷ []) os told told id (Some r) (becomes-added xs x t.sole free)
+    (λ role is. let same : r ≡ role = cc in (subst (λ r. IsNoted side own os id r) same (unseen unopened), omega (arith, next)))
     (λ j apart. refl) (λ none may. t.silent id none (inl (omega (arith, next)))) (record {
       sole = t.sole;
       bound = λ j r at. let before = t.bound j r at in omega (arith, before);
@@ -156,7 +156,7 @@ table-socket side own last os xs told id b next t =
     })
   where
     x : Entry
-    x = record { id = id; role = Idle b None }
+    x = record { id = id; role = r }
 
     sooner : (j : SocketId) → MayOpen (last + 1) xs j → MayOpen last xs j
     sooner j (inl above) = inl (omega (arith, above))

@@ -11,7 +11,7 @@ use Rattle.ipv4.specs.Addresses.{endpoint_cmp, pair_of, same_addr, same_end}
 use Rattle.sockets.specs.declared.entry.SocketId.{SocketId}
 use Rattle.sockets.specs.declared.entry.Entry.{Entry}
 use Rattle.sockets.specs.declared.role.Role.{Role}
-use Rattle.sockets.specs.declared.role.Role.TheVariants.{Idle, Listener, Connected}
+use Rattle.sockets.specs.declared.role.Role.TheVariants.{Idle, Listener, Connected, Datagrams}
 use Rattle.tcp_state.specs.View.{View, is_closed}
 use Rattle.sockets.specs.Entries.{is_live_between, is_between, joins, is_of_pair}
 use Rattle.sockets.specs.SocketsView.{SocketsView, holder_id}
@@ -73,6 +73,7 @@ abbrev pub IsOurs : Addr → Role → Type 0
 IsOurs own (Connected c listener) = c.local.addr ≡ own
 IsOurs own (Listener local backlog) = Unit {0}
 IsOurs own (Idle buffers bound) = Unit {0}
+IsOurs own (Datagrams bound socket) = Unit {0}
 
 -- a connection of ours lies not from another address to us
 not_reversed : (local peer : Endpoint) (r : Role) → same_addr local.addr peer.addr ≡ false → IsOurs local.addr r → is_live_between peer local r ≡ false
@@ -82,6 +83,7 @@ not_reversed local peer (Connected c l) apart ours =
     (ap (λ b. (b && (c.local.port == peer.port)) && (same_addr c.peer.addr local.addr && (c.peer.port == local.port))) other)
 not_reversed local peer (Listener bound backlog) apart ours = refl
 not_reversed local peer (Idle buffers bound) apart ours = refl
+not_reversed local peer (Datagrams bound socket) apart ours = refl
 
 -- a role of ours is of the pair just where it lies between the two ends
 pub joins-between : (local peer : Endpoint) (r : Role) → same_addr local.addr peer.addr ≡ false → IsOurs local.addr r → joins (pair_of local peer) r ≡ is_live_between local peer r

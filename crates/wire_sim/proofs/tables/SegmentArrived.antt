@@ -15,7 +15,7 @@ use Rattle.tcp_state.specs.View.{View}
 use Rattle.sockets.specs.declared.entry.SocketId.{SocketId}
 use Rattle.sockets.specs.declared.entry.Entry.{Entry}
 use Rattle.sockets.specs.declared.role.Role.{Role}
-use Rattle.sockets.specs.declared.role.Role.TheVariants.{Idle, Listener, Connected}
+use Rattle.sockets.specs.declared.role.Role.TheVariants.{Idle, Listener, Connected, Datagrams}
 use Rattle.sockets.specs.declared.taken.Taken.{Taken}
 use Rattle.sockets.specs.Arrival.{Opens, NoPlace, local_end, peer_end, is_opening, has_no_place, after_opening, arrival_with_reply, opening, arrival_at, arrival_alone, arrival_at_connection, arrival, pair_opened, Meets}
 use Rattle.sockets.specs.Entries.{is_live_between, is_between, is_listening_at, role_after_segment, fate_of, entries_after_step, new_waiting}
@@ -66,6 +66,9 @@ segment-arrived h now isn source s opened said new seen = by_entry (find (is_bet
 
     heard : (e : Entry) → find (is_between local peer) h.entries ≡ Some e → Meets (arrival_at_connection h now source s (fate_of s e.role)) h said new → (r : Role) → e.role ≡ r → Shown
     heard e at meets (Idle buffers bound) role =
+        let bad : false ≡ true = sym (ap (is_live_between local peer) role) ∙ find-passes (is_between local peer) h.entries e at in
+        cc
+    heard e at meets (Datagrams bound socket) role =
         let bad : false ≡ true = sym (ap (is_live_between local peer) role) ∙ find-passes (is_between local peer) h.entries e at in
         cc
     heard e at meets (Listener bound backlog) role =

@@ -11,7 +11,7 @@ use Rattle.tcp_state.specs.View.{View, is_closed}
 use Rattle.sockets.specs.declared.entry.SocketId.{SocketId}
 use Rattle.sockets.specs.declared.entry.Entry.{Entry}
 use Rattle.sockets.specs.declared.role.Role.{Role}
-use Rattle.sockets.specs.declared.role.Role.TheVariants.{Idle, Listener, Connected}
+use Rattle.sockets.specs.declared.role.Role.TheVariants.{Idle, Listener, Connected, Datagrams}
 use Rattle.tcp_state.specs.declared.connection.Fate.{Fate}
 use Rattle.sockets.specs.Entries.{is_kept, entries_after_step, entries_after_steps, with_role}
 use Rattle.sockets.specs.Lists.{change_first, remove_first}
@@ -192,6 +192,7 @@ abbrev pub IsNoted : Side → Addr → List Opening → SocketId → Role → Ty
 IsNoted side own os id (Connected c listener) = IsOpened side own os id c
 IsNoted side own os id (Listener local backlog) = find (is_opening_at side id) os ≡ None
 IsNoted side own os id (Idle buffers bound) = find (is_opening_at side id) os ≡ None
+IsNoted side own os id (Datagrams bound socket) = find (is_opening_at side id) os ≡ None
 
 -- an id that is to come, or has an entry
 abbrev pub MayOpen : ℕ → List Entry → SocketId → Type 0

@@ -282,6 +282,14 @@ quiet-connect side isn id peer a i = (refl, refl, refl, refl)
 pub quiet-state : (side : Side) (id : SocketId) (a : Answer) (i : SocketId) → IsQuiet side i (answered side (call.State id) a)
 quiet-state side id a i = (refl, refl, refl, refl)
 
+-- a datagram that is sent, whatever is answered
+pub quiet-sendto : (side : Side) (id : SocketId) (peer : Endpoint) (octets : Vec ℕ) (a : Answer) (i : SocketId) → IsQuiet side i (answered side (call.SendTo id peer octets) a)
+quiet-sendto side id peer octets a i = (refl, refl, refl, refl)
+
+-- a datagram that is read, whatever is answered
+pub quiet-recvfrom : (side : Side) (id : SocketId) (len : ℕ) (a : Answer) (i : SocketId) → IsQuiet side i (answered side (call.RecvFrom id len) a)
+quiet-recvfrom side id len a i = (refl, refl, refl, refl)
+
 -- a send that is refused
 pub quiet-send_refused : (side : Side) (id : SocketId) (octets : Vec ℕ) (e : Refusal) (i : SocketId) → IsQuiet side i (answered side (call.Send id octets) (answer.Refused e))
 quiet-send_refused side id octets e i = (refl, refl, refl, refl)

@@ -49,6 +49,7 @@ impl Model for World {
 }
 
 impl World {
+    ghost use Rattle.wire_sim.specs.Datagrams.{DatagramLaw};
     ghost use Rattle.wire_sim.specs.Runs.{unfair, IsStep, IsReached, RunsTo};
     ghost use Rattle.wire_sim.specs.Trace.{StreamLaw};
     ghost use Rattle.wire_sim.specs.WorldRoom.{HasRoom, IsPlain, KeepsRoom};
@@ -100,6 +101,7 @@ impl World {
         ensures taken { IfOk result (λ told. (answer : Answer) × SameAnswer told answer × IsStep event answer self.old.seen self.new.seen) }
         ensures reached { IsReached self.new.seen.network.limit self.new.seen }
         ensures lawful { StreamLaw self.new.seen.trace self.new.seen.network.openings }
+        ensures datagrams { (run : IsReached self.new.seen.network.limit self.new.seen) → DatagramLaw self.new.seen.network.limit self.new.seen run }
     {
         self.network.sound();
         self.network.admits(&event)?;
@@ -128,6 +130,7 @@ impl World {
         ensures full { OnErr result (vec_capacity results.old < vec_len results.old + length events.now) }
         ensures reached { IsReached self.new.seen.network.limit self.new.seen }
         ensures lawful { StreamLaw self.new.seen.trace self.new.seen.network.openings }
+        ensures datagrams { (run : IsReached self.new.seen.network.limit self.new.seen) → DatagramLaw self.new.seen.network.limit self.new.seen run }
     {
         let _ = &self.alloc;
         if results.reserve(events.len()).is_err() {
@@ -136,7 +139,7 @@ impl World {
         for event in events {
             let outcome = match event.clone() {
                 Ok(event) => self.step(event),
-                // Only a send owns octets that take memory, and no rule refuses a send.
+                // Only what is sent owns octets that take memory, and no rule refuses a send.
                 Err(_) => Err(Unfair::NoMemory),
             };
             tell(results, outcome);

@@ -137,7 +137,7 @@ impl Network {
         }
     }
 
-    /// Makes a socket call, and notes what it opened or wrote.
+    /// Makes a socket call, and notes what it opened or wrote. A datagram belongs to no connection, so none is noted.
     fn call(&mut self, side: Side, call: &Call, place: usize, octets: Vec<u8>) -> Answer
         requires openings { vec_len self.old.ledger.openings < vec_capacity self.old.ledger.openings }
         requires written { vec_len self.old.ledger.written < vec_capacity self.old.ledger.written }

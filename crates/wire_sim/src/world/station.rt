@@ -4,7 +4,9 @@ ghost use Rattle.std.specs.Prelude.{◌≡◌, ◌<◌, ◌≤◌, IfOk, IfSome,
 ghost use Rattle.wire_sim.specs.WorldView.{octets_len};
 ghost use Rattle.std.specs.Result.{ForOk};
 ghost use Rattle.sockets.specs.Calls.{recv_answer};
-ghost use Rattle.wire_sim.specs.Steps.{MeetsReceived};
+ghost use Rattle.sockets.specs.Datagrams.{recvfrom_answer};
+ghost use Rattle.sockets.specs.Sound.{IsEndpoint};
+ghost use Rattle.wire_sim.specs.Steps.{MeetsReceived, MeetsReceivedFrom};
 
 use crate::event::{Answer, Call};
 use clock::Moment;
@@ -53,7 +55,10 @@ impl Station {
         let host = &mut self.host;
         match call {
             Call::Socket(kind) => answered(host.socket(*kind), Answer::Socket),
-            Call::Bind { id, local } => answered(host.bind(*id, *local), |()| Answer::Done),
+            Call::Bind { id, local } => {
+                sized(*local);
+                answered(host.bind(*id, *local), |()| Answer::Done)
+            }
             Call::Listen { id, backlog } => answered(host.listen(*id, *backlog), |()| Answer::Done),
             Call::Accept { id } => {
                 answered(host.accept(*id), |(id, peer)| Answer::Accepted(id, peer))
@@ -67,6 +72,11 @@ impl Station {
                 answered(host.send(*id, octets.as_slice()), Answer::Sent)
             }
             Call::Recv { id, .. } => received(host, *id, buffer),
+            Call::SendTo { id, peer, octets } => {
+                sized(*peer);
+                answered(host.sendto(*id, *peer, octets.as_slice()), Answer::Sent)
+            }
+            Call::RecvFrom { id, .. } => received_from(host, *id, buffer),
             Call::Shutdown { id } => answered(host.shutdown_write(*id), |()| Answer::Done),
             Call::Close { id } => answered(host.close(*id), |()| Answer::Done),
             Call::State { id } => answered(host.state(*id), Answer::State),
@@ -144,6 +154,13 @@ impl Station {
     }
 }
 
+/// The fields of an endpoint are of their widths, for the contracts above; it does nothing.
+fn sized(endpoint: Endpoint)
+    ensures { IsEndpoint endpoint }
+{
+    let _ = endpoint;
+}
+
 /// What a call answers: `answer` of its value, or its refusal.
 fn answered<T, F: FnOnce(T) -> Answer>(outcome: Result<T, Refusal>, answer: F) -> Answer
     requires { ForOk outcome (F.pre answer) }
@@ -167,6 +184,24 @@ fn received(host: &mut Host, id: SocketId, mut buffer: Vec<u8>) -> Answer
             Answer::Octets(buffer)
         }
         Ok(Received::EndOfStream) => Answer::EndOfStream,
+        Err(refusal) => Answer::Refused(refusal),
+    }
+}
+
+/// Reads the first datagram of the socket `id` into `buffer`.
+fn received_from(host: &mut Host, id: SocketId, mut buffer: Vec<u8>) -> Answer
+    ensures octets { octets_len result ≤ vec_len buffer }
+    ensures answer { MeetsReceivedFrom host.old.sockets id (recvfrom_answer host.old.sockets id (vec_len buffer)) result host.new.sockets }
+    ensures others { host.new ≡ record host.old { sockets = host.new.sockets } }
+{
+    match host.recvfrom(id, buffer.as_mut_slice()) {
+        Ok((count, from)) => {
+            buffer.truncate(count);
+            Answer::Datagram {
+                octets: buffer,
+                from,
+            }
+        }
         Err(refusal) => Answer::Refused(refusal),
     }
 }

@@ -10,6 +10,7 @@ use Rattle.wire_sim.specs.Runs.{unfair, SameEvent, IsReached, IsOutcome, RunsTo}
 use Rattle.wire_sim.specs.Trace.{StreamLaw}
 use Rattle.wire_sim.proofs.runs.CopyIsSame.{cloned}
 use Rattle.wire_sim.proofs.runs.FieldsAreReached.{reached-again, lawful, seen-is}
+use Rattle.wire_sim.proofs.datagrams.RunsKeepDatagrams.{runs-keep}
 use Rattle.wire_sim.proofs.RunGiven.{runs-next, runs-none, runs-all, step-outcome, same_event}
 use Rattle.wire_sim.proofs.world.World.run.Goals.{in-Ok, in-Err}
 use Rattle.wire_sim.proofs.world.World.run.Goals as goal
@@ -69,3 +70,10 @@ returns-clause-steps c =
     let ended : c.loop-event.event-index ≡ length c.args.events.now = omega (arith, c.loop-event-test.false, c.loop-event.auto.event-index-end) in
     subst (λ (l : List (Result Answer Unfair)). RunsTo c.args.events.now (drop (length l) c.loop-event.results.items) c.args.self.now.seen c.loop-event.self.seen) c.reserve.ensures.items
     (runs-all c.args.events.now c.loop-event.event-index (drop (length c.reserve.new.self.items) c.loop-event.results.items) c.args.self.now.seen c.loop-event.self.seen ended c.loop-event.invariant.5)
+
+-- whatever run led here keeps the law of datagrams
+pub returns-clause-datagrams : goal.returns-clause-datagrams
+returns-clause-datagrams c = λ run. runs-keep _ _ run
+
+pub returns-then-is_err-clause-datagrams : goal.returns-then-is_err-clause-datagrams
+returns-then-is_err-clause-datagrams c = λ run. runs-keep _ _ run

@@ -9,6 +9,7 @@ use Rattle.wire_sim.proofs.fairness.CountedAsTraced.{same_unfair}
 use Rattle.wire_sim.proofs.runs.RunsAreLawful.{run_tallied}
 use Rattle.wire_sim.proofs.runs.FieldsAreReached.{reached-next, same-parts, reached-again, lawful, step_from, seen-is}
 use Rattle.wire_sim.proofs.counts.StepCountsFew.{Steps-grows}
+use Rattle.wire_sim.proofs.datagrams.RunsKeepDatagrams.{runs-keep}
 use Rattle.wire_sim.proofs.world.World.step.Goals as goal
 
 -- what stands in a world's fields
@@ -78,7 +79,7 @@ returns-in_err-admits-clause-memory c =
 pub returns-clause-taken : goal.returns-clause-taken
 returns-clause-taken c =
     let step = taken c in
-    (c.perform-answer.result, record { octets = c.copied-told.ensures.octets; others = c.copied-told.ensures.others }, step_from c.args.event c.perform-answer.result (after c.self.inside) c.args.self.now.seen _ (sym (seen-is c.self.view_is)) step)
+    (c.perform-answer.result, record { octets = c.copied-told.ensures.octets; source = c.copied-told.ensures.source; others = c.copied-told.ensures.others }, step_from c.args.event c.perform-answer.result (after c.self.inside) c.args.self.now.seen _ (sym (seen-is c.self.view_is)) step)
 
 pub returns-clause-reached : goal.returns-clause-reached
 returns-clause-reached c = reached-next (after c.self.inside) (record { network = network_view c.perform-answer.new.self; trace = c.note.new.trace.items }) c.args.event c.perform-answer.result c.self.invariant.1 (taken c)
@@ -99,3 +100,13 @@ returns-in_err-admits-clause-lawful c = lawful _ (after c.self.inside) c.args.se
 
 pub returns-in_default-clause-lawful : goal.returns-in_default-clause-lawful
 returns-in_default-clause-lawful c = lawful _ (after c.self.inside) (record { network = network_view c.reserve.new.network; trace = c.reserve.new.trace.items }) (same-parts _ _ _ _ c.reserve.ensures.network c.reserve.ensures.trace) c.self.invariant.1
+
+-- whatever run led here keeps the law of datagrams
+pub returns-clause-datagrams : goal.returns-clause-datagrams
+returns-clause-datagrams c = λ run. runs-keep _ _ run
+
+pub returns-in_err-admits-clause-datagrams : goal.returns-in_err-admits-clause-datagrams
+returns-in_err-admits-clause-datagrams c = λ run. runs-keep _ _ run
+
+pub returns-in_default-clause-datagrams : goal.returns-in_default-clause-datagrams
+returns-in_default-clause-datagrams c = λ run. runs-keep _ _ run

@@ -1,0 +1,11 @@
+pub mod TablesKeepToAccepted
+pub mod TablesInTime
+pub mod TablesOfCalls
+pub mod TablesOfDatagrams
+pub mod PartsGoOut
+pub mod UserFrames
+pub mod UserArrives
+pub mod CallsKeep
+pub mod EventsKeep
+pub mod RunsKeepDatagrams
+pub mod TracesTell

@@ -1,0 +1,148 @@
+-- A new table, and what the calls make of one that tell of no datagram.
+use Rattle.std.proofs.Common.{◌≡◌, ℕ, ◌+◌, ◌<◌, ◌^◌, Bool, List, [], ◌++◌, Option, Some, None, Result, Ok, Err, refl, sym, ◌∙◌, subst, append-nil, arith}
+use Rattle.std.specs.List.{find}
+use Rattle.std.specs.Prelude.{option_and_then}
+use Rattle.ipv4.specs.declared.addr.Addr.{Addr}
+use Rattle.ipv4.specs.declared.addr.Endpoint.{Endpoint}
+use Rattle.sockets.specs.declared.entry.Entry.{Entry}
+use Rattle.sockets.specs.declared.entry.Kind.{Kind}
+use Rattle.sockets.specs.declared.entry.Kind.TheVariants.{Tcp, Udp}
+use Rattle.sockets.specs.declared.entry.SocketId.{SocketId}
+use Rattle.sockets.specs.declared.refusal.Refusal.{Refusal}
+use Rattle.sockets.specs.declared.refusal.Refusal.TheVariants.{EINVAL}
+use Rattle.sockets.specs.declared.role.Role.{Role}
+use Rattle.sockets.specs.declared.role.Role.TheVariants.{Idle, Listener, Connected, Datagrams}
+use Rattle.sockets.specs.Calls.{of_socket, bound_of, last_port_after, IsMade, bind_refusal, after_bind, after_listen, after_accept, port_connected, after_connect, after_send, after_recv, after_shutdown, after_socket_closed, after_close}
+use Rattle.sockets.specs.Entries.{is_socket, is_offered_at, new_socket as new_entry, new_datagram_socket, with_role, role_after_bind, role_after_listen, role_after_connect, role_after_accept, role_after_close, role_after_listener_close, listener_close_fate_of, close_fate_of, entries_after_step}
+use Rattle.sockets.specs.SocketsView.{SocketsView, new_sockets, role_of, with_socket}
+use Rattle.datagram_law.specs.Accepted.{Accepted, AreInTurn}
+use Rattle.datagram_law.specs.Sockets.{IsSocketOf}
+use Rattle.datagram_law.proofs.Keeping.{new}
+use Rattle.wire_sim.proofs.lists.FoundAfterChange.{All-find, All-changed, All-added, change-none}
+use Rattle.wire_sim.proofs.datagrams.TablesKeepToAccepted.{IsEntryOf, AreEntriesOf, IsTableOf, Keeps, keeps-connection, keeps-listening, keeps-connecting, keeps-accepting, keeps-forsaking, are-more, are-changed, are-settled, are-stepped}
+
+-- nothing was accepted yet
+none-in_turn : AreInTurn []
+none-in_turn = record { numbered = λ n a e. cc; widths = λ k d within. absurd (omega (arith, within)) }
+
+pub kept-fresh : (addr : Addr) → IsTableOf [] [] (new_sockets addr)
+kept-fresh addr = record { numbered = refl; in_turn = none-in_turn; sockets = tt }
+
+-- one of the two hosts accepts more
+pub are-own : (own other more : List Accepted) (addr : Addr) (entries : List Entry) → AreEntriesOf own other addr entries → AreEntriesOf (own ++ more) other addr entries
+are-own own other more addr entries are =
+    subst (λ (xs : List Accepted). AreEntriesOf (own ++ more) xs addr entries) (append-nil other) (are-more own other more [] addr entries are)
+
+are-further : (own other further : List Accepted) (addr : Addr) (entries : List Entry) → AreEntriesOf own other addr entries
+    → AreEntriesOf own (other ++ further) addr entries
+are-further own other further addr entries are =
+    subst (λ (xs : List Accepted). AreEntriesOf xs (other ++ further) addr entries) (append-nil own) (are-more own other [] further addr entries are)
+
+pub kept-more : (own other further : List Accepted) (h : SocketsView) → IsTableOf own other h → IsTableOf own (other ++ further) h
+kept-more own other further h t = record { numbered = t.numbered; in_turn = t.in_turn; sockets = are-further own other further h.addr h.entries t.sockets }
+
+-- A socket is made.
+
+pub kept-made : (own other : List Accepted) (kind : Kind) (h next : SocketsView) → IsMade kind h next → IsTableOf own other h → IsTableOf own other next
+kept-made own other Tcp h next (buffers, made) t = subst (IsTableOf own other) (sym made) record {
+  numbered = t.numbered;
+  in_turn = t.in_turn;
+  sockets = All-added (λ (e : Entry). IsEntryOf own other h.addr e.role) h.entries (new_entry (record { 0 = h.last_id + 1 }) buffers) t.sockets tt;
+}
+kept-made own other Udp h next made t = subst (IsTableOf own other) (sym made) record {
+  numbered = t.numbered;
+  in_turn = t.in_turn;
+  sockets = All-added (λ (e : Entry). IsEntryOf own other h.addr e.role) h.entries (new_datagram_socket (record { 0 = h.last_id + 1 })) t.sockets refl;
+}
+
+-- A socket changes.
+
+kept-changed : (own other : List Accepted) (h : SocketsView) (id : SocketId) (g : Role → Role) → Keeps g → IsTableOf own other h → IsTableOf own other (with_socket h id g)
+kept-changed own other h id g keeps t = record { numbered = t.numbered; in_turn = t.in_turn; sockets = are-changed own other h.addr g keeps (is_socket id) h.entries t.sockets }
+
+pub kept-listen : (own other : List Accepted) (h : SocketsView) (id : SocketId) (backlog : ℕ) → IsTableOf own other h → IsTableOf own other (after_listen h id backlog)
+kept-listen own other h id backlog t = kept-changed own other h id (role_after_listen backlog) (keeps-listening backlog) t
+
+pub kept-send : (own other : List Accepted) (h : SocketsView) (id : SocketId) (octets : List ℕ) → IsTableOf own other h → IsTableOf own other (after_send h id octets)
+kept-send own other h id octets t = kept-changed own other h id _ (keeps-connection _) t
+
+pub kept-recv : (own other : List Accepted) (h : SocketsView) (id : SocketId) (len : ℕ) → IsTableOf own other h → IsTableOf own other (after_recv h id len)
+kept-recv own other h id len t = kept-changed own other h id _ (keeps-connection _) t
+
+pub kept-shutdown : (own other : List Accepted) (h : SocketsView) (id : SocketId) → IsTableOf own other h → IsTableOf own other (after_shutdown h id)
+kept-shutdown own other h id t = kept-changed own other h id _ (keeps-connection _) t
+
+pub kept-accept : (own other : List Accepted) (h : SocketsView) (id : SocketId) → IsTableOf own other h → IsTableOf own other (after_accept h id)
+kept-accept own other h id t = record {
+  numbered = t.numbered;
+  in_turn = t.in_turn;
+  sockets = are-changed own other h.addr role_after_accept keeps-accepting (is_offered_at id) h.entries t.sockets;
+}
+
+-- a port is given, or nothing changes
+pub kept-connect : (own other : List Accepted) (h : SocketsView) (isn : ℕ) (id : SocketId) (peer : Endpoint) (routed : Bool) → IsTableOf own other h
+    → IsTableOf own other (after_connect h isn id peer routed)
+kept-connect own other h isn id peer routed t = by_port (port_connected h id peer routed) refl
+  where
+    by_port : (o : Result ℕ Refusal) → port_connected h id peer routed ≡ o → IsTableOf own other (after_connect h isn id peer routed)
+    by_port (Err refusal) is =
+        let same : after_connect h isn id peer routed ≡ h = rw is in
+        subst (IsTableOf own other) (sym same) t
+    by_port (Ok port) is =
+        let local : Endpoint = record { addr = h.addr; port = port } in
+        let given : SocketsView = record h { last_port = last_port_after h (option_and_then bound_of (role_of h id)) port } in
+        let same : after_connect h isn id peer routed ≡ with_socket given id (role_after_connect local peer isn) = rw is in
+        let there : IsTableOf own other given = record { numbered = t.numbered; in_turn = t.in_turn; sockets = t.sockets } in
+        subst (IsTableOf own other) (sym same) (kept-changed own other given id (role_after_connect local peer isn) (keeps-connecting local peer isn) there)
+
+-- a UDP socket is bound while nothing waits in it
+pub kept-bind : (own other : List Accepted) (h : SocketsView) (id : SocketId) (local : Endpoint) → local.port < 2 ^ 16 → bind_refusal h id local ≡ None → IsTableOf own other h
+    → IsTableOf own other (after_bind h id local)
+kept-bind own other h id local width may t =
+    record { numbered = t.numbered; in_turn = t.in_turn; sockets = by_entry (find (is_socket id) h.entries) refl }
+  where
+    P : Entry → Type 0
+    P e = IsEntryOf own other h.addr e.role
+
+    by_role : (e : Entry) → find (is_socket id) h.entries ≡ Some e → (r : Role) → e.role ≡ r → IsEntryOf own other h.addr r → IsEntryOf own other h.addr (role_after_bind local r)
+    by_role e at (Idle buffers bound) is here = tt
+    by_role e at (Listener l b) is here = tt
+    by_role e at (Connected c l) is here = tt
+    by_role e at (Datagrams None s) is here =
+        let end : Endpoint = record { addr = h.addr; port = local.port } in
+        (width, subst (IsSocketOf own other end) (sym here) (new own other end))
+    by_role e at (Datagrams (Some bound) s) is here =
+        let refused : bind_refusal h id local ≡ Some EINVAL = rw (at, is) in
+        let bad : Some EINVAL ≡ None = sym refused ∙ may in cc
+
+    by_entry : (o : Option Entry) → find (is_socket id) h.entries ≡ o → AreEntriesOf own other h.addr (after_bind h id local).entries
+    by_entry None at = subst (AreEntriesOf own other h.addr) (sym (change-none (is_socket id) (with_role (role_after_bind local)) h.entries at)) t.sockets
+    by_entry (Some e) at =
+        All-changed P (is_socket id) (with_role (role_after_bind local)) h.entries e at (by_role e at e.role refl (All-find P (is_socket id) h.entries e t.sockets at)) t.sockets
+
+-- A socket is closed.
+
+kept-socket_closed : (own other : List Accepted) (h : SocketsView) (id : SocketId) → IsTableOf own other h → IsTableOf own other (after_socket_closed h id)
+kept-socket_closed own other h id t = by_role (role_of h id)
+  where
+    closed : Role → SocketsView
+    closed role = record h { entries = entries_after_step (close_fate_of role) (is_socket id) (role_after_close h.kept) h.entries }
+
+    by_role : (o : Option Role) → IsTableOf own other (of_socket h closed o)
+    by_role None = t
+    by_role (Some role) = record {
+      numbered = t.numbered;
+      in_turn = t.in_turn;
+      sockets = are-settled own other h.addr (close_fate_of role) (role_after_close h.kept) (keeps-connection _) (is_socket id) h.entries t.sockets;
+    }
+
+pub kept-close : (own other : List Accepted) (h : SocketsView) (id : SocketId) → IsTableOf own other h → IsTableOf own other (after_close h id)
+kept-close own other h id t =
+    let closed : SocketsView = after_socket_closed h id in
+    let there : IsTableOf own other closed = kept-socket_closed own other h id t in
+    record {
+      numbered = there.numbered;
+      in_turn = there.in_turn;
+      sockets =
+          are-stepped own other closed.addr (listener_close_fate_of id) (role_after_listener_close h.kept id) (keeps-forsaking h.kept id) closed.entries there.sockets;
+    }
