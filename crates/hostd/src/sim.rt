@@ -113,7 +113,7 @@ fn add_line<W: Sink>(line: &str, lines: &mut String, out: &mut W) -> Result<(), 
 }
 
 /// A fresh world. The two hosts differ in address and MAC, so it is made unless there is no memory.
-fn new_world(alloc: Global, limit: Option<u64>) -> Result<World, TextFault>
+pub(crate) fn new_world(alloc: Global, limit: Option<u64>) -> Result<World, TextFault>
     requires { ForSome limit (λ n. (1 ≤ n) × (n ≤ 2 ^ 30)) }
     ensures world { IfOk result (λ world. IsFirst limit world.seen) }
     ensures faults { IfErr result (λ fault. fault ≡ TextFault.NoMemory) }
@@ -127,7 +127,11 @@ fn new_world(alloc: Global, limit: Option<u64>) -> Result<World, TextFault>
 }
 
 /// Runs one command and answers the line that it prints.
-fn execute(alloc: Global, command: &Command<'_>, world: &mut World) -> Result<String, AllocError>
+pub(crate) fn execute(
+    alloc: Global,
+    command: &Command<'_>,
+    world: &mut World,
+) -> Result<String, AllocError>
     ensures { IfOk result (λ line. Prints command.now (string_bytes line) world.old.seen world.new.seen) }
 {
     match command {
@@ -190,7 +194,7 @@ fn style(action: &Action<'_>) -> Style
     ensures { result ≡ style_of action.now }
 {
     match action {
-        Action::Count { .. } => Style::Count,
+        Action::Count { .. } | Action::CountFrom { .. } => Style::Count,
         _ => Style::Text,
     }
 }

@@ -2,6 +2,7 @@
 
 mod closing;
 mod command_line;
+mod datagrams;
 mod devices;
 mod drops;
 mod examples;
@@ -52,8 +53,9 @@ pass 0 -> a 1 b 1
 
 /// All transcripts. Each is a list of parts, in whose lines an arrow parts a script's line from what it prints; a line without
 /// one prints nothing.
-const TRANSCRIPTS: [&[&[&str]]; 8] = [
+const TRANSCRIPTS: [&[&[&str]]; 9] = [
     closing::TRANSCRIPTS,
+    datagrams::TRANSCRIPTS,
     drops::TRANSCRIPTS,
     examples::TRANSCRIPTS,
     hops::TRANSCRIPTS,

@@ -2,9 +2,11 @@
 
 mod calls;
 mod closing;
+mod datagrams;
 mod documents;
 mod drops;
 mod ends;
+mod fragments;
 mod gateways;
 mod hops;
 mod messages;

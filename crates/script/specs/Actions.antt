@@ -4,12 +4,21 @@ use Rattle.std.specs.Str.{bytes_eq}
 use Rattle.tcp_segment.specs.declared.seq.Seq.{Seq}
 use Rattle.clock.specs.declared.moment.Moment.{Moment}
 use Rattle.sockets.specs.declared.entry.SocketId.{SocketId}
+use Rattle.sockets.specs.declared.entry.Kind.{Kind}
+use Rattle.sockets.specs.declared.entry.Kind.TheVariants.{Tcp, Udp}
 use Rattle.script.specs.Words.{number_of, text_of}
 use Rattle.script.specs.Keywords.{keyword_of}
 use Rattle.script.specs.declared.action.Keyword.{Keyword}
 use Rattle.script.specs.declared.action.Keyword.TheVariants as keyword
 use Rattle.script.specs.declared.action.Action.{Action}
-use Rattle.script.specs.declared.action.Action.TheVariants.{Socket, Bind, Listen, Accept, Connect, Send, Fill, Recv, Count, Shutdown, Close, State, Tick, Emit, Deliver}
+use Rattle.script.specs.declared.action.Action.TheVariants.{Socket, Bind, Listen, Accept, Connect, Send, Fill, Recv, Count, SendTo, FillTo, RecvFrom, CountFrom, Shutdown, Close, State, Tick, Emit, Deliver}
+
+-- the kind of a socket
+abbrev pub kind_of : List ℕ → Option Kind
+kind_of word =
+    if bytes_eq word (codes "tcp") then Some Tcp
+    else if bytes_eq word (codes "udp") then Some Udp
+    else None
 
 -- a number of 64 bits
 abbrev pub wide : List ℕ → Option ℕ
@@ -39,17 +48,25 @@ isn_of word = option_map (λ n. record { 0 = n }) (number_of (2 ^ 32 - 1) word)
 abbrev pub together : {A B C : Type 0} → (A → B → C) → Option A → Option B → Option C
 together make a b = option_and_then (λ x. option_map (λ y. make x y) b) a
 
+-- what is made of a socket's id, a port and one part more, if all are there
+abbrev pub for_port : {A B : Type 0} → (SocketId → ℕ → A → B) → List ℕ → List ℕ → Option A → Option B
+for_port make id port a = option_and_then (λ s. together (λ p x. make s p x) (port_of port) a) (id_of id)
+
 -- what a keyword says with its arguments
 abbrev pub said_by : Keyword → List (List ℕ) → Option Action
-said_by keyword.Socket (kind ∷ []) = if bytes_eq kind (codes "tcp") then Some Socket else None
+said_by keyword.Socket (kind ∷ []) = option_map Socket (kind_of kind)
 said_by keyword.Bind (id ∷ port ∷ []) = together Bind (id_of id) (port_of port)
 said_by keyword.Listen (id ∷ backlog ∷ []) = together Listen (id_of id) (wide backlog)
 said_by keyword.Accept (id ∷ []) = option_map Accept (id_of id)
-said_by keyword.Connect (id ∷ port ∷ isn ∷ []) = option_and_then (λ s. together (λ p i. Connect s p i) (port_of port) (isn_of isn)) (id_of id)
+said_by keyword.Connect (id ∷ port ∷ isn ∷ []) = for_port Connect id port (isn_of isn)
 said_by keyword.Send (id ∷ text ∷ []) = together Send (id_of id) (text_of text)
 said_by keyword.Fill (id ∷ count ∷ []) = together Fill (id_of id) (octets_of count)
 said_by keyword.Recv (id ∷ most ∷ []) = together Recv (id_of id) (octets_of most)
 said_by keyword.Count (id ∷ most ∷ []) = together Count (id_of id) (octets_of most)
+said_by keyword.SendTo (id ∷ port ∷ text ∷ []) = for_port SendTo id port (text_of text)
+said_by keyword.FillTo (id ∷ port ∷ count ∷ []) = for_port FillTo id port (octets_of count)
+said_by keyword.RecvFrom (id ∷ most ∷ []) = together RecvFrom (id_of id) (octets_of most)
+said_by keyword.CountFrom (id ∷ most ∷ []) = together CountFrom (id_of id) (octets_of most)
 said_by keyword.Shutdown (id ∷ []) = option_map Shutdown (id_of id)
 said_by keyword.Close (id ∷ []) = option_map Close (id_of id)
 said_by keyword.State (id ∷ []) = option_map State (id_of id)

@@ -6,10 +6,9 @@ use Rattle.wire_sim.specs.Sides.{other_side}
 use Rattle.wire_sim.specs.declared.event.Event.{Event}
 use Rattle.wire_sim.specs.declared.event.Event.TheVariants as event
 use Rattle.wire_sim.specs.declared.event.Call.TheVariants as call
-use Rattle.sockets.specs.declared.entry.Kind.TheVariants.{Tcp}
 use Rattle.script.specs.Hosts.{address_of}
 use Rattle.script.specs.declared.action.Action.{Action}
-use Rattle.script.specs.declared.action.Action.TheVariants.{Socket, Bind, Listen, Accept, Connect, Send, Fill, Recv, Count, Shutdown, Close, State, Tick, Emit, Deliver}
+use Rattle.script.specs.declared.action.Action.TheVariants.{Socket, Bind, Listen, Accept, Connect, Send, Fill, Recv, Count, SendTo, FillTo, RecvFrom, CountFrom, Shutdown, Close, State, Tick, Emit, Deliver}
 
 -- a port of a side's host
 abbrev pub endpoint_of : Side → ℕ → Endpoint
@@ -17,7 +16,7 @@ endpoint_of side port = record { addr = address_of side; port = port }
 
 -- the event is what the action of this side's host says
 abbrev pub IsEventOf : Side → Action → Event → Type 0
-IsEventOf side Socket happens = happens ≡ event.Call side (call.Socket Tcp)
+IsEventOf side (Socket kind) happens = happens ≡ event.Call side (call.Socket kind)
 IsEventOf side (Bind id port) happens = happens ≡ event.Call side (call.Bind id (endpoint_of side port))
 IsEventOf side (Listen id backlog) happens = happens ≡ event.Call side (call.Listen id backlog)
 IsEventOf side (Accept id) happens = happens ≡ event.Call side (call.Accept id)
@@ -28,6 +27,14 @@ IsEventOf side (Fill id count) (event.Call s (call.Send i octets)) = (s ≡ side
 IsEventOf side (Fill id count) happens = ⊥
 IsEventOf side (Recv id most) happens = happens ≡ event.Call side (call.Recv id most)
 IsEventOf side (Count id most) happens = happens ≡ event.Call side (call.Recv id most)
+IsEventOf side (SendTo id port text) (event.Call s (call.SendTo i peer octets)) =
+    (s ≡ side) × (i ≡ id) × (peer ≡ endpoint_of (other_side side) port) × (octets.items ≡ text)
+IsEventOf side (SendTo id port text) happens = ⊥
+IsEventOf side (FillTo id port count) (event.Call s (call.SendTo i peer octets)) =
+    (s ≡ side) × (i ≡ id) × (peer ≡ endpoint_of (other_side side) port) × (octets.items ≡ replicate count 120)
+IsEventOf side (FillTo id port count) happens = ⊥
+IsEventOf side (RecvFrom id most) happens = happens ≡ event.Call side (call.RecvFrom id most)
+IsEventOf side (CountFrom id most) happens = happens ≡ event.Call side (call.RecvFrom id most)
 IsEventOf side (Shutdown id) happens = happens ≡ event.Call side (call.Shutdown id)
 IsEventOf side (Close id) happens = happens ≡ event.Call side (call.Close id)
 IsEventOf side (State id) happens = happens ≡ event.Call side (call.State id)

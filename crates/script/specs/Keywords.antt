@@ -2,7 +2,7 @@
 use Rattle.std.specs.Prelude.{ℕ, List, Option, Some, None, codes, if◌then◌else◌}
 use Rattle.std.specs.Str.{bytes_eq}
 use Rattle.script.specs.declared.action.Keyword.{Keyword}
-use Rattle.script.specs.declared.action.Keyword.TheVariants.{Socket, Bind, Listen, Accept, Connect, Send, Fill, Recv, Count, Shutdown, Close, State, Tick, Emit, Deliver}
+use Rattle.script.specs.declared.action.Keyword.TheVariants.{Socket, Bind, Listen, Accept, Connect, Send, Fill, Recv, Count, SendTo, FillTo, RecvFrom, CountFrom, Shutdown, Close, State, Tick, Emit, Deliver}
 
 -- the keyword that a word is
 abbrev pub keyword_of : List ℕ → Option Keyword
@@ -16,6 +16,10 @@ keyword_of word =
     else if bytes_eq word (codes "fill") then Some Fill
     else if bytes_eq word (codes "recv") then Some Recv
     else if bytes_eq word (codes "count") then Some Count
+    else if bytes_eq word (codes "sendto") then Some SendTo
+    else if bytes_eq word (codes "fillto") then Some FillTo
+    else if bytes_eq word (codes "recvfrom") then Some RecvFrom
+    else if bytes_eq word (codes "countfrom") then Some CountFrom
     else if bytes_eq word (codes "shutdown") then Some Shutdown
     else if bytes_eq word (codes "close") then Some Close
     else if bytes_eq word (codes "state") then Some State

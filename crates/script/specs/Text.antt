@@ -3,13 +3,12 @@ use Rattle.std.specs.Prelude.{◌++◌, codes, slice_index, length, ℕ, ◌+◌
 use Rattle.std.specs.List.{flat_map}
 use Rattle.std.specs.Fmt.{decimal}
 use Rattle.wire_sim.specs.declared.event.Answer.{Answer}
-use Rattle.wire_sim.specs.declared.event.Answer.TheVariants.{Socket, Done, Accepted, Started, Sent, Octets, EndOfStream, State, Frame, NoFrame, Taken, Dropped, Refused}
+use Rattle.wire_sim.specs.declared.event.Answer.TheVariants.{Socket, Done, Accepted, Started, Sent, Octets, Datagram, EndOfStream, State, Frame, NoFrame, Taken, Dropped, Refused}
 use Rattle.ipv4.specs.declared.addr.Endpoint.{Endpoint}
-use Rattle.tcp_state.specs.Names.{state_text}
-use Rattle.sockets.specs.Names.{refusal_text}
+use Rattle.sockets.specs.Names.{refusal_text, socket_state_text}
 use Rattle.frames.specs.Drops.{number_of}
 use Rattle.script.specs.declared.action.Action.{Action}
-use Rattle.script.specs.declared.action.Action.TheVariants.{Count}
+use Rattle.script.specs.declared.action.Action.TheVariants.{Count, CountFrom}
 use Rattle.script.specs.declared.answer.Style.{Style}
 use Rattle.script.specs.declared.answer.Style.TheVariants as style
 use Rattle.std.specs.Char.{is_ascii_graphic}
@@ -28,9 +27,10 @@ escape_of octet =
 abbrev pub escaped_of : List ℕ → List ℕ
 escaped_of octets = flat_map escape_of octets
 
--- of the octets that `count` reads the number is shown
+-- of the octets that `count` and `countfrom` read the number is shown
 abbrev pub style_of : Action → Style
 style_of (Count id most) = style.Count
+style_of (CountFrom id most) = style.Count
 style_of action = style.Text
 
 -- a peer: the four numbers of its address with points between them, and its port
@@ -39,6 +39,11 @@ peer_text peer =
     decimal (slice_index peer.addr.0 0) ++ (codes "." ++ (decimal (slice_index peer.addr.0 1) ++ (codes "."
     ++ (decimal (slice_index peer.addr.0 2) ++ (codes "." ++ (decimal (slice_index peer.addr.0 3) ++ (codes " " ++ decimal peer.port)))))))
 
+-- the octets that were read: as text, or their number
+abbrev pub octets_text : Style → List ℕ → List ℕ
+octets_text style.Text octets = codes "octets " ++ escaped_of octets
+octets_text style.Count octets = codes "octets " ++ decimal (length octets)
+
 -- what is printed of an answer
 abbrev pub shown_of : Style → Answer → List ℕ
 shown_of how (Socket id) = codes "id " ++ decimal id.0
@@ -46,10 +51,10 @@ shown_of how Done = codes "ok"
 shown_of how (Accepted id peer) = codes "id " ++ (decimal id.0 ++ (codes " " ++ peer_text peer))
 shown_of how Started = codes "started"
 shown_of how (Sent count) = codes "sent " ++ decimal count
-shown_of style.Text (Octets octets) = codes "octets " ++ escaped_of octets.items
-shown_of style.Count (Octets octets) = codes "octets " ++ decimal (length octets.items)
+shown_of how (Octets octets) = octets_text how octets.items
+shown_of how (Datagram octets from) = octets_text how octets.items ++ (codes " from " ++ peer_text from)
 shown_of how EndOfStream = codes "end"
-shown_of how (State told) = state_text told
+shown_of how (State told) = socket_state_text told
 shown_of how (Frame index len) = codes "frame " ++ decimal index ++ codes " " ++ decimal len
 shown_of how NoFrame = codes "none"
 shown_of how Taken = codes "taken"

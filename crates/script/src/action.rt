@@ -2,11 +2,11 @@
 
 ghost use Rattle.std.specs.Prelude.{◌≡◌, ◌≢◌, [], ◌∷◌, map};
 ghost use Rattle.script.specs.Keywords.{keyword_of};
-ghost use Rattle.script.specs.Actions.{action_of, said_by, id_of, moment_of, isn_of, port_of, octets_of};
+ghost use Rattle.script.specs.Actions.{action_of, said_by, id_of, kind_of, moment_of, isn_of, port_of, octets_of};
 
 use crate::words::{Text, number};
 use clock::Moment;
-use host::SocketId;
+use host::{Kind, SocketId};
 use tcp_segment::Seq;
 
 /// The greatest count of octets, and the greatest MAX, of a line.
@@ -15,36 +15,91 @@ const MOST_OCTETS: u64 = 2_000_000;
 /// What a line has one host do.
 #[derive(Debug, Drop)]
 pub enum Action<'a> {
-    /// Make a TCP socket.
-    Socket,
+    /// Make a socket.
+    Socket(Kind),
     /// Bind a socket to the host's own address and a port.
-    Bind { id: SocketId, port: u16 },
+    Bind {
+        id: SocketId,
+        port: u16,
+    },
     /// Let a socket take connections.
-    Listen { id: SocketId, backlog: usize },
+    Listen {
+        id: SocketId,
+        backlog: usize,
+    },
     /// Take a connection that waits at a listener.
-    Accept { id: SocketId },
+    Accept {
+        id: SocketId,
+    },
     /// Open a connection to a port of the other host.
-    Connect { id: SocketId, port: u16, isn: Seq },
+    Connect {
+        id: SocketId,
+        port: u16,
+        isn: Seq,
+    },
     /// Give a text to a connection.
-    Send { id: SocketId, text: Text<'a> },
+    Send {
+        id: SocketId,
+        text: Text<'a>,
+    },
     /// Give so many octets `x` to a connection.
-    Fill { id: SocketId, count: usize },
+    Fill {
+        id: SocketId,
+        count: usize,
+    },
     /// Read at most so many octets, and show them.
-    Recv { id: SocketId, most: usize },
+    Recv {
+        id: SocketId,
+        most: usize,
+    },
     /// Read at most so many octets, and show how many there were.
-    Count { id: SocketId, most: usize },
+    Count {
+        id: SocketId,
+        most: usize,
+    },
+    /// Give a text as a datagram for a port of the other host.
+    SendTo {
+        id: SocketId,
+        port: u16,
+        text: Text<'a>,
+    },
+    /// Give so many octets `x` as a datagram for a port of the other host.
+    FillTo {
+        id: SocketId,
+        port: u16,
+        count: usize,
+    },
+    /// Read at most so many octets of the first datagram, and show them and where it came from.
+    RecvFrom {
+        id: SocketId,
+        most: usize,
+    },
+    /// Read at most so many octets of the first datagram, and show how many there were and where it came from.
+    CountFrom {
+        id: SocketId,
+        most: usize,
+    },
     /// Close our side of a connection: what was given goes out first, then the end.
-    Shutdown { id: SocketId },
+    Shutdown {
+        id: SocketId,
+    },
     /// Give a socket back: its id is gone, and its connection ends by itself.
-    Close { id: SocketId },
+    Close {
+        id: SocketId,
+    },
     /// Ask for a socket's state.
-    State { id: SocketId },
+    State {
+        id: SocketId,
+    },
     /// Tell the moment, in milliseconds.
     Tick(Moment),
     /// Emit a frame, where one is due.
     Emit,
     /// Take the frame with this index, and an initial sequence number for the connection that it may open.
-    Deliver { index: usize, isn: Seq },
+    Deliver {
+        index: usize,
+        isn: Seq,
+    },
 }
 
 /// The first word of an action.
@@ -68,6 +123,14 @@ pub enum Keyword {
     Recv,
     /// `count`
     Count,
+    /// `sendto`
+    SendTo,
+    /// `fillto`
+    FillTo,
+    /// `recvfrom`
+    RecvFrom,
+    /// `countfrom`
+    CountFrom,
     /// `shutdown`
     Shutdown,
     /// `close`
@@ -97,6 +160,10 @@ impl Keyword {
             b"fill" => Keyword::Fill,
             b"recv" => Keyword::Recv,
             b"count" => Keyword::Count,
+            b"sendto" => Keyword::SendTo,
+            b"fillto" => Keyword::FillTo,
+            b"recvfrom" => Keyword::RecvFrom,
+            b"countfrom" => Keyword::CountFrom,
             b"shutdown" => Keyword::Shutdown,
             b"close" => Keyword::Close,
             b"state" => Keyword::State,
@@ -145,7 +212,7 @@ fn with_one<'a>(keyword: Keyword, word: &'a [u8]) -> Option<Action<'a>>
     ensures { result ≡ said_by keyword (word.entry.now ∷ []) }
 {
     match keyword {
-        Keyword::Socket if word == b"tcp".as_slice() => Some(Action::Socket),
+        Keyword::Socket => Some(Action::Socket(socket_kind(word)?)),
         Keyword::Accept => Some(Action::Accept {
             id: socket_id(word)?,
         }),
@@ -206,6 +273,14 @@ fn on_socket<'a>(keyword: Keyword, first: &'a [u8], second: &'a [u8]) -> Option<
             id,
             most: octets(second)?,
         }),
+        Keyword::RecvFrom => Some(Action::RecvFrom {
+            id,
+            most: octets(second)?,
+        }),
+        Keyword::CountFrom => Some(Action::CountFrom {
+            id,
+            most: octets(second)?,
+        }),
         _ => None,
     }
 }
@@ -224,6 +299,26 @@ fn with_three<'a>(
             port: port(second)?,
             isn: initial(third)?,
         }),
+        Keyword::SendTo => Some(Action::SendTo {
+            id: socket_id(first)?,
+            port: port(second)?,
+            text: Text::new(third)?,
+        }),
+        Keyword::FillTo => Some(Action::FillTo {
+            id: socket_id(first)?,
+            port: port(second)?,
+            count: octets(third)?,
+        }),
+        _ => None,
+    }
+}
+
+fn socket_kind(word: &[u8]) -> Option<Kind>
+    ensures { result ≡ kind_of word.now }
+{
+    match word {
+        b"tcp" => Some(Kind::Tcp),
+        b"udp" => Some(Kind::Udp),
         _ => None,
     }
 }

@@ -1,7 +1,7 @@
 //! How the answers of a world are printed.
 
 ghost use Rattle.std.specs.Prelude.{◌≡◌, ◌<◌, ◌++◌, [], ◌∷◌, OnOk, IfOk, codes, length, string_bytes};
-ghost use Rattle.script.specs.Text.{hex_digit_of, escape_of, escaped_of, peer_text, shown_of};
+ghost use Rattle.script.specs.Text.{hex_digit_of, escape_of, escaped_of, octets_text, peer_text, shown_of};
 ghost use Rattle.wire_sim.specs.Names.{unfair_text};
 ghost use Rattle.std.specs.Fmt.{decimal};
 
@@ -63,6 +63,7 @@ pub fn show(answer: &Answer, style: Style, line: &mut String) -> Result<(), Allo
         Answer::Started => line.push_str("started"),
         Answer::Sent(count) => write!(line, "sent {count}"),
         Answer::Octets(octets) => show_octets(octets.as_slice(), style, line),
+        Answer::Datagram { octets, from } => show_datagram(octets.as_slice(), *from, style, line),
         Answer::EndOfStream => line.push_str("end"),
         Answer::State(state) => write!(line, "{state}"),
         Answer::Frame { index, len } => write!(line, "frame {index} {len}"),
@@ -78,8 +79,30 @@ fn show_accepted(id: SocketId, peer: Endpoint, line: &mut String) -> Result<(), 
     ensures { OnOk result (string_bytes line.new ≡ string_bytes line.old
         ++ (codes "id " ++ (decimal id.0 ++ (codes " " ++ peer_text peer)))) }
 {
+    write!(line, "id {} ", id.0)?;
+    show_peer(peer, line)
+}
+
+/// The octets of a datagram that were read, or how many they are, and where it came from.
+fn show_datagram(
+    octets: &[u8],
+    from: Endpoint,
+    style: Style,
+    line: &mut String,
+) -> Result<(), AllocError>
+    ensures { OnOk result (string_bytes line.new ≡ string_bytes line.old ++ (octets_text style octets.now ++ (codes " from " ++ peer_text from))) }
+{
+    show_octets(octets, style, line)?;
+    line.push_str(" from ")?;
+    show_peer(from, line)
+}
+
+/// An address, and the port there.
+fn show_peer(peer: Endpoint, line: &mut String) -> Result<(), AllocError>
+    ensures { OnOk result (string_bytes line.new ≡ string_bytes line.old ++ peer_text peer) }
+{
     let [a, b, c, d] = peer.addr.0;
-    write!(line, "id {} {a}.{b}.{c}.{d} {}", id.0, peer.port)
+    write!(line, "{a}.{b}.{c}.{d} {}", peer.port)
 }
 
 /// Adds what is printed of an event that the world refuses to `line`.
@@ -89,9 +112,9 @@ pub fn show_unfair(unfair: Unfair, line: &mut String) -> Result<(), AllocError>
     write!(line, "{unfair}")
 }
 
+/// The octets that were read, or how many they are.
 fn show_octets(octets: &[u8], style: Style, line: &mut String) -> Result<(), AllocError>
-    ensures text { style ≡ Style.Text → OnOk result (string_bytes line.new ≡ string_bytes line.old ++ (codes "octets " ++ escaped_of octets.now)) }
-    ensures count { style ≡ Style.Count → OnOk result (string_bytes line.new ≡ string_bytes line.old ++ (codes "octets " ++ decimal (length octets.now))) }
+    ensures { OnOk result (string_bytes line.new ≡ string_bytes line.old ++ octets_text style octets.now) }
 {
     match style {
         Style::Text => {

@@ -2,10 +2,11 @@
 
 ghost use Rattle.std.specs.Prelude.{◌≡◌, IfOk};
 ghost use Rattle.script.specs.Events.{IsEventOf, endpoint_of};
+ghost use Rattle.wire_sim.specs.Sides.{other_side};
 
 use crate::action::Action;
 use crate::hosts::address;
-use host::Kind;
+use host::SocketId;
 use ipv4::Endpoint;
 use std::alloc::{AllocError, Global};
 use wire_sim::{Call, Event, Side};
@@ -18,7 +19,7 @@ pub fn event(alloc: Global, side: Side, action: &Action<'_>) -> Result<Event, Al
         Action::Tick(moment) => Ok(Event::Tick(side, *moment)),
         Action::Emit => Ok(Event::Emit(side)),
         Action::Deliver { index, isn } => Ok(Event::Deliver(side, *index, *isn)),
-        Action::Socket => Ok(Event::Call(side, Call::Socket(Kind::Tcp))),
+        Action::Socket(kind) => Ok(Event::Call(side, Call::Socket(*kind))),
         Action::Bind { id, port } => {
             let local = endpoint(side, *port);
             Ok(Event::Call(side, Call::Bind { id: *id, local }))
@@ -61,10 +62,40 @@ pub fn event(alloc: Global, side: Side, action: &Action<'_>) -> Result<Event, Al
                 len: *most,
             },
         )),
+        Action::SendTo { id, port, text } => {
+            let octets = Vec::from_slice(alloc, text.octets())?;
+            Ok(datagram(side, *id, *port, octets))
+        }
+        Action::FillTo { id, port, count } => {
+            let octets = vec![in alloc; b'x'; *count]?;
+            Ok(datagram(side, *id, *port, octets))
+        }
+        Action::RecvFrom { id, most } => Ok(Event::Call(
+            side,
+            Call::RecvFrom {
+                id: *id,
+                len: *most,
+            },
+        )),
+        Action::CountFrom { id, most } => Ok(Event::Call(
+            side,
+            Call::RecvFrom {
+                id: *id,
+                len: *most,
+            },
+        )),
         Action::Shutdown { id } => Ok(Event::Call(side, Call::Shutdown { id: *id })),
         Action::Close { id } => Ok(Event::Call(side, Call::Close { id: *id })),
         Action::State { id } => Ok(Event::Call(side, Call::State { id: *id })),
     }
+}
+
+/// Octets are given as a datagram for a port of the other host.
+fn datagram(side: Side, id: SocketId, port: u16, octets: Vec<u8>) -> Event
+    ensures { result ≡ Event.Call side (Call.SendTo id (endpoint_of (other_side side) port) octets) }
+{
+    let peer = endpoint(side.other(), port);
+    Event::Call(side, Call::SendTo { id, peer, octets })
 }
 
 fn endpoint(side: Side, port: u16) -> Endpoint

@@ -240,6 +240,65 @@ pass 0 -> a 1 b 1
 b recv 3 100 -> octets xxxxxxxxxxxxxxxx
 ";
 
+/// examples/datagrams.txt
+const DATAGRAMS: &str =
+    "# Two hosts exchange datagrams (UDP): one that fits a frame, one in fragments, and one that nobody waits for.
+#
+# b waits for datagrams at port 5001. A UDP socket has no connection, and its state is always the same.
+b socket udp -> id 1
+b bind 1 5001 -> ok
+b state 1 -> DATAGRAM
+# a sends five octets. Its socket wasn't bound, so it is given the first dynamic port.
+a socket udp -> id 1
+a sendto 1 5001 hello -> sent 5
+# a doesn't know b's MAC yet: the datagram waits until b has answered the request for it.
+pass 0 -> a 1 b 1
+a emit -> frame 2 60
+b deliver 2 0 -> taken
+# b reads at most so many octets as it says. What is left of a datagram is lost.
+b recvfrom 1 4 -> octets hell from 10.0.0.1 49152
+b recvfrom 1 100 -> E8 EAGAIN
+# b answers to where it came from.
+b sendto 1 49152 welcome -> sent 7
+b emit -> frame 3 60
+a deliver 3 0 -> taken
+a recvfrom 1 100 -> octets welcome from 10.0.0.2 5001
+# With its header of 8 octets a datagram of 3,000 fills two frames and a bit: it goes out in three fragments.
+a fillto 1 5001 3000 -> sent 3000
+a emit -> frame 4 1514
+a emit -> frame 5 1514
+a emit -> frame 6 82
+a emit -> none
+# They may come in any order and more than once. b reads nothing until all are there.
+b deliver 6 0 -> taken
+b deliver 4 0 -> taken
+b deliver 4 0 -> taken
+b countfrom 1 4000 -> E8 EAGAIN
+b deliver 5 0 -> taken
+b countfrom 1 4000 -> octets 3000 from 10.0.0.1 49152
+# Of the next one two fragments are lost. After a minute b gives it up, and tells a so (time exceeded).
+a fillto 1 5001 3000 -> sent 3000
+a emit -> frame 7 1514
+a emit -> frame 8 1514
+a emit -> frame 9 82
+b deliver 7 0 -> taken
+b tick 59999 -> ok
+b emit -> none
+b tick 60000 -> ok
+b emit -> frame 10 70
+a deliver 10 0 -> taken
+# Nobody waits at port 9. b tells a (port unreachable), and a's caller hears nothing of it.
+a socket udp -> id 2
+a sendto 2 9 hi -> sent 2
+pass 0 -> a 1 b 1
+a recvfrom 2 100 -> E8 EAGAIN
+# A datagram has at most 65,507 octets.
+a fillto 2 9 65508 -> E13 EMSGSIZE
+# For connections there are TCP sockets.
+a send 2 hi -> E18 EDESTADDRREQ
+a connect 2 80 100 -> E17 EOPNOTSUPP
+";
+
 /// The examples, each alone.
 pub const TRANSCRIPTS: &[&[&str]] = &[
     &[HANDSHAKE],
@@ -247,4 +306,5 @@ pub const TRANSCRIPTS: &[&[&str]] = &[
     &[SIMULTANEOUS_CLOSE],
     &[RESET],
     &[OLD_SEGMENT_REFUSED],
+    &[DATAGRAMS],
 ];

@@ -26,7 +26,8 @@ const BAD: &str = " \n\
     a send 1 \u{e9}\n\
     # \u{e9}\n\
     a socket\n\
-    a socket udp\n\
+    a socket raw\n\
+    a socket udp 1\n\
     a socket TCP\n\
     a bind 1 65536\n\
     a bind 1 -1\n\
@@ -54,7 +55,15 @@ const BAD: &str = " \n\
     a shutdown 1 1\n\
     a close\n\
     a close 1 1\n\
-    a sendto 1 5001 hello";
+    a sendto 1 5001\n\
+    a sendto 1 65536 hello\n\
+    a sendto 1 5001 two words\n\
+    a fillto 1 5001 2000001\n\
+    a fillto 1 5001 x\n\
+    a recvfrom 1 2000001\n\
+    a recvfrom 1 1 1\n\
+    a countfrom 1\n\
+    a peername 1";
 
 /// A script without commands, how it ends and what it prints: the limit comes first, or is bad.
 const SCRIPTS: [(&str, Result<Option<DropCause>, TextFault>, &str); 8] = [

@@ -1,10 +1,12 @@
 //! Connections over a network that loses a frame or gives one twice: all octets are read all the same, and then the end.
 
-use super::{Asked, GOOD, ended};
+use crate::sim::{execute, new_world};
+use script::Script;
 use std::alloc::Global;
 use std::fmt::Display;
 use std::process::Abort;
 use std::test::Fail;
+use wire_sim::World;
 
 /// What becomes of the frames of a dialogue: all but one arrive once.
 #[derive(Clone, Copy, Debug)]
@@ -26,10 +28,11 @@ impl Network {
     }
 }
 
-/// A script that grows line by line, by what it has printed so far.
+/// A script that grows line by line, by what it has printed so far, and the world that it has led to.
 #[derive(Drop)]
 struct Dialogue {
     alloc: Global,
+    world: World,
     script: String,
     network: Network,
     isn: u32,
@@ -121,57 +124,49 @@ const SOCKETS_BACK: Course = Course {
 };
 
 impl Dialogue {
-    /// Adds a line.
-    fn say(&mut self, line: impl Display + Drop) -> Result<(), Fail> {
-        write!(self.script, "{line}\n")?;
-        Ok(())
+    /// Runs a line more, and answers what it prints.
+    fn ask(&mut self, line: impl Display + Drop) -> Result<String, Fail> {
+        let line = format!(in self.alloc; "{line}")?;
+        write!(self.script, "{}\n", line.as_str())?;
+        let script = Script::parse(self.alloc, line.as_bytes())?;
+        let mut said = String::new(self.alloc);
+        for command in script.commands.iter() {
+            let printed = execute(self.alloc, command, &mut self.world)?;
+            said.push_str(printed.as_str().lines().next().unwrap_or(""))?;
+        }
+        Ok(said)
     }
 
-    /// What the script prints so far.
-    fn printed(&self) -> Result<String, Fail> {
-        let end = ended(self.alloc, Asked::Sim, self.script.as_bytes(), GOOD, GOOD);
-        end.answer?;
-        let printed = str::from_utf8(end.sink.taken())?;
-        Ok(String::from_str(self.alloc, printed)?)
-    }
-
-    /// Adds a line, and answers what it prints.
-    fn ask(&mut self, line: &str) -> Result<String, Fail> {
-        self.say(line)?;
-        let printed = self.printed()?;
-        let last = printed.as_str().lines().last().unwrap_or("");
-        Ok(String::from_str(self.alloc, last)?)
+    /// A side emits what it has due. Answers the indices of its frames.
+    fn emissions(&mut self, emit: &str) -> Result<Vec<usize>, Fail> {
+        let mut frames = Vec::new(self.alloc);
+        for _ in 0..EMISSIONS {
+            let said = self.ask(emit)?;
+            if let Some(index) = frame_in(said.as_str()) {
+                frames.push(index)?;
+            }
+        }
+        Ok(frames)
     }
 
     /// Each side emits what it has due, and then each takes what the network gives it. Answers whether there was a frame.
     fn crossing(&mut self) -> Result<bool, Fail> {
-        let before = self.script.as_str().lines().count();
-        for emit in ["a emit", "b emit"] {
-            for _ in 0..EMISSIONS {
-                self.say(emit)?;
-            }
+        let from_a = self.emissions("a emit")?;
+        let from_b = self.emissions("b emit")?;
+        for index in from_a.iter() {
+            self.deliver("b deliver", *index)?;
         }
-        let printed = self.printed()?;
-        let mut goes = false;
-        for (place, said) in printed.as_str().lines().skip(before).enumerate() {
-            let deliver = if place < EMISSIONS {
-                "b deliver"
-            } else {
-                "a deliver"
-            };
-            if let Some(index) = frame_in(said) {
-                goes = true;
-                self.deliver(deliver, index)?;
-            }
+        for index in from_b.iter() {
+            self.deliver("a deliver", *index)?;
         }
-        Ok(goes)
+        Ok(!from_a.is_empty() || !from_b.is_empty())
     }
 
     /// A side takes a frame as often as the network gives it.
     fn deliver(&mut self, deliver: &str, index: usize) -> Result<(), Fail> {
         let isn = self.isn;
         for _ in 0..self.network.times(index) {
-            self.say(format_args!("{deliver} {index} {isn}"))?;
+            self.ask(format_args!("{deliver} {index} {isn}"))?;
         }
         Ok(())
     }
@@ -185,7 +180,9 @@ impl Dialogue {
         }
         self.turns = self.turns.saturating_add(1);
         let seconds = self.turns;
-        self.say(format_args!("a tick {seconds}000\nb tick {seconds}000"))
+        self.ask(format_args!("a tick {seconds}000"))?;
+        self.ask(format_args!("b tick {seconds}000"))?;
+        Ok(())
     }
 
     /// Makes a call until it is answered, a second apart, and so many times more at most.
@@ -227,13 +224,14 @@ fn plays_through(
 ) -> Result<(), Fail> {
     let mut dialogue = Dialogue {
         alloc,
+        world: new_world(alloc, None)?,
         script: String::new(alloc),
         network,
         isn,
         turns: 0,
     };
     dialogue.calls(rt, &LISTENING, 0)?;
-    dialogue.say(format_args!("a connect 1 80 {isn}"))?;
+    dialogue.ask(format_args!("a connect 1 80 {isn}"))?;
     dialogue.calls(rt, course.rows, TRIES)?;
     for _ in 0..TRIES {
         dialogue.turn()?;

@@ -16,6 +16,11 @@ a recv 1 1 -> E1 EBADF
 a recv 1 0 -> E1 EBADF
 a count 1 1 -> E1 EBADF
 a count 1 0 -> E1 EBADF
+a sendto 1 80 x -> E1 EBADF
+a fillto 1 0 65508 -> E1 EBADF
+a recvfrom 1 1 -> E1 EBADF
+a recvfrom 1 0 -> E1 EBADF
+a countfrom 1 0 -> E1 EBADF
 a shutdown 1 -> E1 EBADF
 a close 1 -> E1 EBADF
 a state 1 -> E1 EBADF
@@ -62,6 +67,10 @@ a connect 1 0 5 -> E4 EADDRNOTAVAIL
 a send 1 x -> E6 ENOTCONN
 a recv 1 1 -> E6 ENOTCONN
 a shutdown 1 -> E6 ENOTCONN
+a sendto 1 80 x -> E17 EOPNOTSUPP
+a fillto 1 0 65508 -> E17 EOPNOTSUPP
+a recvfrom 1 1 -> E17 EOPNOTSUPP
+a countfrom 1 0 -> E17 EOPNOTSUPP
 a state 1 -> CLOSED
 ";
 
@@ -81,6 +90,10 @@ a recv 1 1 -> E17 EOPNOTSUPP
 a count 1 0 -> E17 EOPNOTSUPP
 a count 1 1 -> E17 EOPNOTSUPP
 a shutdown 1 -> E17 EOPNOTSUPP
+a sendto 1 80 x -> E17 EOPNOTSUPP
+a fillto 1 0 65508 -> E17 EOPNOTSUPP
+a recvfrom 1 1 -> E17 EOPNOTSUPP
+a countfrom 1 0 -> E17 EOPNOTSUPP
 a state 1 -> LISTEN
 ";
 
@@ -98,7 +111,47 @@ a recv 1 1 -> E8 EAGAIN
 a count 1 0 -> E2 EINVAL
 a count 1 1 -> E8 EAGAIN
 a shutdown 1 -> E6 ENOTCONN
+a sendto 1 80 x -> E17 EOPNOTSUPP
+a fillto 1 0 65508 -> E17 EOPNOTSUPP
+a recvfrom 1 1 -> E17 EOPNOTSUPP
+a countfrom 1 0 -> E17 EOPNOTSUPP
 a state 1 -> SYN-SENT
+";
+
+/// A UDP socket that was made, one that is bound, and one that has no room.
+const DATAGRAMS: &str = "a socket udp -> id 1
+a listen 1 0 -> E17 EOPNOTSUPP
+a accept 1 -> E17 EOPNOTSUPP
+a connect 1 0 5 -> E17 EOPNOTSUPP
+a send 1 x -> E18 EDESTADDRREQ
+a fill 1 0 -> E18 EDESTADDRREQ
+a recv 1 0 -> E17 EOPNOTSUPP
+a recv 1 1 -> E17 EOPNOTSUPP
+a count 1 0 -> E17 EOPNOTSUPP
+a shutdown 1 -> E17 EOPNOTSUPP
+a recvfrom 1 0 -> E2 EINVAL
+a recvfrom 1 1 -> E8 EAGAIN
+a countfrom 1 0 -> E2 EINVAL
+a countfrom 1 1 -> E8 EAGAIN
+a fillto 1 0 65508 -> E13 EMSGSIZE
+a fillto 1 0 65507 -> E4 EADDRNOTAVAIL
+a fillto 1 80 65508 -> E13 EMSGSIZE
+a state 1 -> DATAGRAM
+a bind 1 0 -> E2 EINVAL
+a bind 1 5 -> ok
+a bind 1 6 -> E2 EINVAL
+a listen 1 1 -> E17 EOPNOTSUPP
+a connect 1 80 5 -> E17 EOPNOTSUPP
+a send 1 x -> E18 EDESTADDRREQ
+a fillto 1 80 65507 -> sent 65507
+a fillto 1 80 12 -> sent 12
+a fillto 1 80 0 -> E8 EAGAIN
+a sendto 1 80 x -> E8 EAGAIN
+a fillto 1 0 0 -> E4 EADDRNOTAVAIL
+a fillto 1 80 65508 -> E13 EMSGSIZE
+a state 1 -> DATAGRAM
+a close 1 -> ok
+a state 1 -> E1 EBADF
 ";
 
 /// Both ends of a connection, and then one whose caller has no room and closes its side.
@@ -128,6 +181,10 @@ a fill 1 0 -> E12 EPIPE
 a connect 1 80 9 -> E5 EISCONN
 a recv 1 1 -> E8 EAGAIN
 a shutdown 1 -> ok
+a sendto 1 80 x -> E17 EOPNOTSUPP
+a fillto 1 0 65508 -> E17 EOPNOTSUPP
+a recvfrom 1 1 -> E17 EOPNOTSUPP
+a countfrom 1 0 -> E17 EOPNOTSUPP
 a state 1 -> FIN-WAIT-1
 ";
 
@@ -265,6 +322,7 @@ pub const TRANSCRIPTS: &[&[&str]] = &[
     &[IDLE],
     &[LISTENING],
     &[CONNECTING],
+    &[DATAGRAMS],
     &[OPENING, ACCEPTED, CONNECTED],
     &[OPENING, ACCEPTED, ENDED],
     &[TOLD_REFUSED],

@@ -3,7 +3,7 @@
 use super::stations::{CLIENT, ONE, SERVER, Side, Station, TWO, config};
 use clock::Moment;
 use ether::Mac;
-use host::{Config, Host, Kind, SocketId};
+use host::{Config, Host, Kind, SocketId, SocketState};
 use ipv4::{Addr, Endpoint, Prefix};
 use routes::{Hop, Routes};
 use std::alloc::Global;
@@ -64,7 +64,7 @@ impl Link for Station {
 
 /// A client opens a connection to a listener, whose MAC it learns first: its state then, and the connection that the listener
 /// takes, with its peer.
-fn meet(alloc: Global, listener: &mut Station) -> Option<(State, (SocketId, Endpoint))> {
+fn meet(alloc: Global, listener: &mut Station) -> Option<(SocketState, (SocketId, Endpoint))> {
     let now = Moment(0);
     let (mut host, id) = client(alloc, now, Seq(5))?;
     for _ in 0..3 {
@@ -76,9 +76,10 @@ fn meet(alloc: Global, listener: &mut Station) -> Option<(State, (SocketId, Endp
 #[test]
 fn the_documents_connect_two_hosts(rt: HostRuntime) {
     let mut listener = Station::new(&rt, rt.alloc(), config(&rt, Side::B));
-    listener.socket();
+    listener.socket(Kind::Tcp);
     assert_eq!(rt; listener.host.bind(ONE, SERVER), Ok(()));
     assert_eq!(rt; listener.host.listen(ONE, 1), Ok(()));
     let met = meet(rt.alloc(), &mut listener);
-    assert_eq!(rt; met, Some((State::Established, (TWO, CLIENT))));
+    let established = SocketState::Stream(State::Established);
+    assert_eq!(rt; met, Some((established, (TWO, CLIENT))));
 }

@@ -1,6 +1,6 @@
 //! Frames that a host doesn't take, each by one fault of a good one, and frames that it takes and that change nothing.
 
-use super::octets::{ECHO, REQUEST, SYN};
+use super::octets::{ECHO, HI, REQUEST, SYN};
 use super::stations::Side::B;
 use super::stations::{Station, Told, config};
 use host::DropCause;
@@ -17,7 +17,7 @@ const WRONG_SUM: &[u8] = b"\x02\0\0\0\0\x02\x02\0\0\0\0\x01\x08\0\
 type Row = (&'static [u8], &'static [(usize, u8)], Result<(), DropCause>);
 
 /// Where an octet of the IPv4 header is another, so is its checksum, and that of a message where its type or code is.
-const ROWS: [Row; 27] = [
+const ROWS: [Row; 30] = [
     (&[0; 13], &[], Err(DropCause::Short)),
     (&[0; 1_515], &[], Err(DropCause::Short)),
     (SYN, &[(5, 3)], Err(DropCause::OtherMac)),
@@ -45,7 +45,10 @@ const ROWS: [Row; 27] = [
     (ECHO, &[(37, 0x9a)], Err(DropCause::UpperSum)),
     (ECHO, &[(17, 0x1b), (25, 0xac)], Err(DropCause::UpperHeader)),
     (ECHO, &[(21, 1), (25, 0xa7)], Err(DropCause::Fragment)),
-    (ECHO, &[(21, 1), (23, 17), (25, 0x97)], Ok(())),
+    (HI, &[(41, 0x5e)], Err(DropCause::UpperSum)),
+    (HI, &[(39, 0x0b)], Err(DropCause::UpperHeader)),
+    (HI, &[(39, 7)], Err(DropCause::UpperHeader)),
+    (HI, &[(17, 0x1b), (25, 0xc9)], Err(DropCause::UpperHeader)),
     (
         ECHO,
         &[

@@ -11,7 +11,7 @@ use super::stations::{
     Act, CLIENT, ONE, SERVER, Scenario, Station, Step, TWO, Told, config, plays,
 };
 use clock::Moment;
-use host::{DropCause, Refusal};
+use host::{DropCause, Kind, Refusal};
 use std::alloc::Global;
 use std::process::Abort;
 use tcp_segment::Seq;
@@ -184,7 +184,7 @@ const ERRORS: [Row; 17] = [
 fn calling(rt: &impl Abort, alloc: Global) -> Station {
     let mut station = Station::new(rt, alloc, config(rt, A));
     assert!(rt; station.hear(0, REPLY) == Told::Done);
-    assert!(rt; station.socket() == Told::Id(ONE));
+    assert!(rt; station.socket(Kind::Tcp) == Told::Id(ONE));
     let called = station
         .host
         .connect(Moment(0), Seq(4_294_967_295), ONE, SERVER);

@@ -1,7 +1,7 @@
 //! The names of states, and the texts of refusals.
 
 use ether::Mac;
-use host::{Config, DropCause, Refusal};
+use host::{Config, DropCause, Refusal, SocketState};
 use ipv4::Addr;
 use routes::Routes;
 use std::alloc::Global;
@@ -34,8 +34,14 @@ const STATES: &[(State, &str)] = &[
     (State::TimeWait, "TIME-WAIT"),
 ];
 
+const SOCKET_STATES: &[(SocketState, &str)] = &[
+    (SocketState::Datagram, "DATAGRAM"),
+    (SocketState::Stream(State::FinWait1), "FIN-WAIT-1"),
+];
+
 const REFUSALS: &[(Refusal, &str)] = &[
     (Refusal::EAGAIN, "E8 EAGAIN"),
+    (Refusal::EMSGSIZE, "E13 EMSGSIZE"),
     (Refusal::ENETUNREACH, "E14 ENETUNREACH"),
     (Refusal::EDESTADDRREQ, "E18 EDESTADDRREQ"),
 ];
@@ -52,6 +58,7 @@ const UNFAIR: &[(Unfair, &str)] = &[
 fn texts_are_those_of_the_documents(rt: HostRuntime) -> Result<(), Fail> {
     let alloc = rt.alloc();
     prints(&rt, alloc, STATES)?;
+    prints(&rt, alloc, SOCKET_STATES)?;
     prints(&rt, alloc, REFUSALS)?;
     prints(&rt, alloc, &[(DropCause::NoRoom, "F9 NoRoom")])?;
     prints(&rt, alloc, UNFAIR)

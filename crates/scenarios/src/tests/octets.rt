@@ -180,3 +180,68 @@ pub(super) const NEIGHBOUR_ASKED: &[u8] = b"\xff\xff\xff\xff\xff\xff\x02\0\0\0\0
 pub(super) const NEAR_GATEWAY_ASKED: &[u8] = b"\xff\xff\xff\xff\xff\xff\x02\0\0\0\0\x02\x08\x06\
     \0\x01\x08\0\x06\x04\0\x01\x02\0\0\0\0\x02\x0a\0\0\x02\0\0\0\0\0\0\x0a\0\0\x09\
     \0\0\0\0\0\0\0\0\0\0\0\0\0\0\0\0\0\0";
+
+/// A datagram from port 5000 of A to port 5001 of B (RFC 768).
+pub(super) const HI: &[u8] = b"\x02\0\0\0\0\x02\x02\0\0\0\0\x01\x08\0\
+    \x45\0\0\x1e\0\x07\0\0\x40\x11\x66\xc6\x0a\0\0\x01\x0a\0\0\x02\
+    \x13\x88\x13\x89\0\x0a\x5c\x5d\x68\x69\
+    \0\0\0\0\0\0\0\0\0\0\0\0\0\0\0\0";
+
+/// The same without a checksum.
+pub(super) const HI_WITHOUT_SUM: &[u8] = b"\x02\0\0\0\0\x02\x02\0\0\0\0\x01\x08\0\
+    \x45\0\0\x1e\0\x07\0\0\x40\x11\x66\xc6\x0a\0\0\x01\x0a\0\0\x02\
+    \x13\x88\x13\x89\0\x0a\0\0\x68\x69\
+    \0\0\0\0\0\0\0\0\0\0\0\0\0\0\0\0";
+
+/// The gateway hands on the same from 192.0.2.9.
+pub(super) const FAR_HI: &[u8] = b"\x02\0\0\0\0\x02\x02\0\0\0\0\xfe\x08\0\
+    \x45\0\0\x1e\0\x07\0\0\x40\x11\xae\xbd\xc0\0\x02\x09\x0a\0\0\x02\
+    \x13\x88\x13\x89\0\x0a\xa4\x54\x68\x69\
+    \0\0\0\0\0\0\0\0\0\0\0\0\0\0\0\0";
+
+/// B tells A that nobody waits at that port: the error quotes A's header and 8 octets behind it (RFC 792).
+pub(super) const NO_PORT: &[u8] = b"\x02\0\0\0\0\x01\x02\0\0\0\0\x02\x08\0\
+    \x45\0\0\x38\0\0\x40\0\x40\x01\x26\xc3\x0a\0\0\x02\x0a\0\0\x01\
+    \x03\x03\x79\x84\0\0\0\0\x45\0\0\x1e\0\x07\0\0\x40\x11\x66\xc6\x0a\0\0\x01\x0a\0\0\x02\
+    \x13\x88\x13\x89\0\x0a\x5c\x5d";
+
+/// The first datagram of A's host, from port 49152, and the second one. They are alike but for their identification.
+pub(super) const FIRST_SENT: &[u8] = b"\x02\0\0\0\0\x02\x02\0\0\0\0\x01\x08\0\
+    \x45\0\0\x1e\0\0\0\0\x40\x11\x66\xcd\x0a\0\0\x01\x0a\0\0\x02\
+    \xc0\0\x13\x89\0\x0a\xaf\xe4\x68\x69\
+    \0\0\0\0\0\0\0\0\0\0\0\0\0\0\0\0";
+
+pub(super) const SECOND_SENT: &[u8] = b"\x02\0\0\0\0\x02\x02\0\0\0\0\x01\x08\0\
+    \x45\0\0\x1e\0\x01\0\0\x40\x11\x66\xcc\x0a\0\0\x01\x0a\0\0\x02\
+    \xc0\0\x13\x89\0\x0a\xaf\xe4\x68\x69\
+    \0\0\0\0\0\0\0\0\0\0\0\0\0\0\0\0";
+
+/// A datagram from port 5000 whose sum comes out as 0, which is sent as ffff.
+pub(super) const SUM_OF_ZERO: &[u8] = b"\x02\0\0\0\0\x02\x02\0\0\0\0\x01\x08\0\
+    \x45\0\0\x1e\0\0\0\0\x40\x11\x66\xcd\x0a\0\0\x01\x0a\0\0\x02\
+    \x13\x88\x13\x89\0\x0a\xff\xff\xc4\xc6\
+    \0\0\0\0\0\0\0\0\0\0\0\0\0\0\0\0";
+
+/// The first fragment of a datagram of 24 octets without a checksum, to port 5001: its header and `AAAAAAAA`.
+pub(super) const FRAGMENT_A: &[u8] = b"\x02\0\0\0\0\x02\x02\0\0\0\0\x01\x08\0\
+    \x45\0\0\x24\0\x07\x20\0\x40\x11\x46\xc0\x0a\0\0\x01\x0a\0\0\x02\
+    \x13\x88\x13\x89\0\x18\0\0AAAAAAAA\
+    \0\0\0\0\0\0\0\0\0\0";
+
+/// The last one, from its eighth octet on: `BBBBBBBBCCCCCCCC`.
+pub(super) const FRAGMENT_B: &[u8] = b"\x02\0\0\0\0\x02\x02\0\0\0\0\x01\x08\0\
+    \x45\0\0\x24\0\x07\0\x01\x40\x11\x66\xbf\x0a\0\0\x01\x0a\0\0\x02\
+    BBBBBBBBCCCCCCCC\
+    \0\0\0\0\0\0\0\0\0\0";
+
+/// B tells A that nobody waits for the datagram whose first fragment that is.
+pub(super) const NO_PORT_OF_A: &[u8] = b"\x02\0\0\0\0\x01\x02\0\0\0\0\x02\x08\0\
+    \x45\0\0\x38\0\0\x40\0\x40\x01\x26\xc3\x0a\0\0\x02\x0a\0\0\x01\
+    \x03\x03\xd5\xd3\0\0\0\0\x45\0\0\x24\0\x07\x20\0\x40\x11\x46\xc0\x0a\0\0\x01\x0a\0\0\x02\
+    \x13\x88\x13\x89\0\x18\0\0";
+
+/// B tells A that the rest of it didn't come in time.
+pub(super) const TIME_EXCEEDED: &[u8] = b"\x02\0\0\0\0\x01\x02\0\0\0\0\x02\x08\0\
+    \x45\0\0\x38\0\0\x40\0\x40\x01\x26\xc3\x0a\0\0\x02\x0a\0\0\x01\
+    \x0b\x01\xcd\xd5\0\0\0\0\x45\0\0\x24\0\x07\x20\0\x40\x11\x46\xc0\x0a\0\0\x01\x0a\0\0\x02\
+    \x13\x88\x13\x89\0\x18\0\0";

@@ -3,7 +3,7 @@
 use super::octets::{REPLIED_BACK, REPLY};
 use clock::Moment;
 use ether::Mac;
-use host::{Config, DropCause, Host, Kind, Refusal, SocketId};
+use host::{Config, DropCause, Host, Kind, Refusal, SocketId, SocketState};
 use ipv4::{Addr, Endpoint, Pair, Prefix};
 use routes::{Hop, Routes};
 use std::alloc::Global;
@@ -64,8 +64,10 @@ pub(super) enum Side {
 /// What is done at a host, or asked of it. All is done at moment 0, but for a tick.
 #[derive(Clone, Copy)]
 pub(super) enum Act {
-    /// Makes a socket.
+    /// Makes a TCP socket.
     Socket,
+    /// Makes a UDP socket.
+    DatagramSocket,
     /// Binds a socket.
     Bind(SocketId, Endpoint),
     /// Lets a socket take connections, of which one may wait.
@@ -78,6 +80,10 @@ pub(super) enum Act {
     Send(SocketId, &'static [u8]),
     /// Reads four octets at most.
     Recv(SocketId),
+    /// Sends octets to an endpoint as a datagram.
+    SendTo(SocketId, Endpoint, &'static [u8]),
+    /// Reads 16 octets at most of a datagram, which are to be these.
+    RecvFrom(SocketId, &'static [u8]),
     /// Closes a socket.
     Close(SocketId),
     /// The state of a socket.
@@ -123,8 +129,12 @@ pub(super) enum Told {
     Count(usize),
     /// What a read answers.
     Received(Received),
-    /// The state of a socket.
+    /// Where a datagram came from.
+    From(Endpoint),
+    /// The state of a connection.
     State(State),
+    /// That of a UDP socket.
+    Datagram,
     /// The pair of a connection.
     Pair(Option<Pair>),
     /// The entry that holds a pair.
@@ -179,8 +189,8 @@ impl Station {
     }
 
     /// Makes a socket.
-    pub(super) fn socket(&mut self) -> Told {
-        match self.host.socket(Kind::Tcp) {
+    pub(super) fn socket(&mut self, kind: Kind) -> Told {
+        match self.host.socket(kind) {
             Ok(id) => Told::Id(id),
             Err(refusal) => Told::Refused(refusal),
         }
@@ -210,10 +220,34 @@ impl Station {
         }
     }
 
+    /// Sends a datagram.
+    fn send_to(&mut self, id: SocketId, peer: Endpoint, octets: &[u8]) -> Told {
+        match self.host.sendto(id, peer, octets) {
+            Ok(count) => Told::Count(count),
+            Err(refusal) => Told::Refused(refusal),
+        }
+    }
+
+    /// Reads a datagram: where it came from, if its octets are these.
+    pub(super) fn recv_from(&mut self, id: SocketId, want: &[u8]) -> Told {
+        let mut buffer = [0; 16];
+        match self.host.recvfrom(id, &mut buffer) {
+            Ok((count, from)) => {
+                if &buffer[..count.min(16)] == want {
+                    Told::From(from)
+                } else {
+                    Told::Is(false)
+                }
+            }
+            Err(refusal) => Told::Refused(refusal),
+        }
+    }
+
     /// The state of a socket.
     pub(super) fn state(&self, id: SocketId) -> Told {
         match self.host.state(id) {
-            Ok(state) => Told::State(state),
+            Ok(SocketState::Stream(state)) => Told::State(state),
+            Ok(SocketState::Datagram) => Told::Datagram,
             Err(refusal) => Told::Refused(refusal),
         }
     }
@@ -380,13 +414,16 @@ impl Hosts {
 /// Does what is done at `station`, and answers what that tells.
 fn act_at(station: &mut Station, other: &mut Station, act: Act) -> Told {
     match act {
-        Act::Socket => station.socket(),
+        Act::Socket => station.socket(Kind::Tcp),
+        Act::DatagramSocket => station.socket(Kind::Udp),
         Act::Bind(id, local) => done(station.host.bind(id, local)),
         Act::Listen(id) => done(station.host.listen(id, 1)),
         Act::Accept(id) => station.accept(id),
         Act::Connect(isn, id, peer) => done(station.host.connect(Moment(0), Seq(isn), id, peer)),
         Act::Send(id, octets) => station.send(id, octets),
         Act::Recv(id) => station.recv(id),
+        Act::SendTo(id, peer, octets) => station.send_to(id, peer, octets),
+        Act::RecvFrom(id, want) => station.recv_from(id, want),
         Act::Close(id) => done(station.host.close(id)),
         Act::State(id) => station.state(id),
         Act::Pair(id) => Told::Pair(station.host.pair_of(id)),

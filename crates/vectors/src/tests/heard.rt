@@ -6,6 +6,7 @@ use frames::{DropCause, FrameHead, Meaning, emit_arp, read};
 use icmp::Kind;
 use ipv4::{Addr, Protocol};
 use std::test::Fail;
+use udp::{Fragment, Part};
 
 const MAC: Mac = Mac([2, 0, 0, 0, 0, 2]);
 
@@ -27,13 +28,18 @@ const REQUEST: [u8; 60] =
 const ECHO: [u8; 60] =
     *b"\x02\0\0\0\0\x02\x02\0\0\0\0\x01\x08\0\x45\0\0\x1f\0\0\x40\0\x40\x01\x26\xdc\x0a\0\0\x01\x0a\0\0\x02\x08\0\x33\x9b\0\x01\0\x01\x61\x62\x63\0\0\0\0\0\0\0\0\0\0\0\0\0\0\0";
 
-/// What a frame is, by the parts that tell it apart: the packet's sender, the segment's source, the message's source and type, or the
-/// protocol.
+/// A user datagram of 10.0.0.1 for 10.0.0.2 with the data `hi`, padded (RFC 768).
+const HI: [u8; 60] =
+    *b"\x02\0\0\0\0\x02\x02\0\0\0\0\x01\x08\0\x45\0\0\x1e\0\x07\0\0\x40\x11\x66\xc6\x0a\0\0\x01\x0a\0\0\x02\x13\x88\x13\x89\0\x0a\x5c\x5dhi\0\0\0\0\0\0\0\0\0\0\0\0\0\0\0\0";
+
+/// What a frame is, by the parts that tell it apart: the packet's sender, the source of the segment or of the user datagram, the message's
+/// source and type, or the protocol.
 #[derive(Clone, Copy, PartialEq, Eq)]
 enum Said {
     Arp(Addr),
     Tcp(Addr, u16),
     Icmp(Addr, Kind),
+    Udp(Addr, u16),
     Other(Protocol),
     UdpFragment(Protocol),
 }
@@ -43,6 +49,10 @@ fn heard_as(octets: &[u8]) -> Result<Said, DropCause> {
         Meaning::Arp(packet) => Ok(Said::Arp(packet.sender_addr)),
         Meaning::Tcp(received) => Ok(Said::Tcp(received.source, received.segment.source())),
         Meaning::Icmp(control) => Ok(Said::Icmp(control.source, control.message.kind())),
+        Meaning::Udp(received) => Ok(Said::Udp(
+            received.carrier.source(),
+            received.datagram.source(),
+        )),
         Meaning::Other(datagram) => Ok(Said::Other(datagram.protocol())),
         Meaning::UdpFragment(datagram) => Ok(Said::UdpFragment(datagram.protocol())),
     }
@@ -78,7 +88,7 @@ const OF_THE_SYN: [Row; 18] = [
     (&[(46, 0x40)], Err(DropCause::UpperHeader)),
     (&[(51, 0xd4)], Err(DropCause::UpperSum)),
     (&[(23, 1), (25, 0xcf)], Err(DropCause::UpperSum)),
-    (&[(23, 17), (25, 0xbf)], Ok(Said::Other(Protocol::UDP))),
+    (&[(23, 17), (25, 0xbf)], Err(DropCause::UpperHeader)),
     (
         &[(20, 0x60), (23, 17), (24, 0x06), (25, 0xbf)],
         Ok(Said::UdpFragment(Protocol::UDP)),
@@ -108,6 +118,18 @@ const OF_THE_ECHO: [Row; 7] = [
         ],
         Err(DropCause::OtherAddress),
     ),
+];
+
+const OF_THE_DATAGRAM: [Row; 8] = [
+    (&[], Ok(Said::Udp(OTHER, 5_000))),
+    (&[(40, 0), (41, 0)], Ok(Said::Udp(OTHER, 5_000))),
+    (&[(43, 0x6a)], Err(DropCause::UpperSum)),
+    (&[(39, 11)], Err(DropCause::UpperHeader)),
+    (&[(33, 3), (25, 0xc5)], Err(DropCause::OtherAddress)),
+    // more fragments follow behind ten octets
+    (&[(20, 0x20), (24, 0x46)], Err(DropCause::IpHeader)),
+    (&[(21, 1), (25, 0xc5)], Ok(Said::UdpFragment(Protocol::UDP))),
+    (&[(23, 47), (25, 0xa8)], Ok(Said::Other(Protocol(47)))),
 ];
 
 const OF_THE_REQUEST: [Row; 8] = [
@@ -143,6 +165,9 @@ fn frames_are_heard(rt: HostRuntime) {
     for (changes, want) in OF_THE_ECHO {
         assert!(rt; heard_as(&changed(ECHO, changes)) == want);
     }
+    for (changes, want) in OF_THE_DATAGRAM {
+        assert!(rt; heard_as(&changed(HI, changes)) == want);
+    }
     for (changes, want) in OF_THE_REQUEST {
         assert!(rt; heard_as(&changed(REQUEST, changes)) == want);
     }
@@ -166,6 +191,13 @@ fn frames_go_out(rt: HostRuntime) {
     out[34..45].copy_from_slice(&ECHO[34..45]);
     assert!(rt; head.emit_icmp(11, &mut out) == 60);
     assert!(rt; out.starts_with(&ECHO));
+    out[34..44].copy_from_slice(&HI[34..44]);
+    let part = Part {
+        identification: 7,
+        fragment: Fragment::at(10, 0),
+    };
+    assert!(rt; head.emit_udp(part, &mut out) == 60);
+    assert!(rt; out.starts_with(&HI));
     assert!(rt; emit_arp(&ArpPacket::request(OTHER_MAC, OTHER, OURS), &mut out) == 60);
     assert!(rt; out.starts_with(&REQUEST));
     assert!(rt; head.emit_tcp(1_480, &mut out) == SPACE);

@@ -4,7 +4,7 @@ use super::{A, B};
 use inet_sum::sum;
 use ipv4::Endpoint;
 use std::test::Fail;
-use udp::{CAPACITY, Head, Queue, QueueFault, UdpFault, UdpView, fragments};
+use udp::{CAPACITY, Fragment, Head, Queue, QueueFault, UdpFault, UdpView, fragments};
 
 /// The ports, the length, the checksum and the payload, or the fault.
 type Read<'a> = Result<(u16, u16, u16, u16, &'a [u8]), UdpFault>;
@@ -92,6 +92,8 @@ fn payloads_are_cut(rt: HostRuntime) -> Result<(), Fail> {
         cut.push((fragment.offset, fragment.len, fragment.more_fragments))?;
     }
     assert!(rt; cut.as_slice() == FRAGMENTS.as_slice());
+    let last = Fragment::at(3_008, 2);
+    assert!(rt; (last.offset, last.len, last.more_fragments) == FRAGMENTS[2]);
     Ok(())
 }
 
@@ -171,6 +173,26 @@ fn first_in_first_out(rt: HostRuntime) -> Result<(), Fail> {
             "event {number}"
         );
     }
+    Ok(())
+}
+
+#[test]
+fn the_first_goes_behind_the_others(rt: HostRuntime) -> Result<(), Fail> {
+    let mut queue = Queue::with_capacity(rt.alloc(), CAPACITY)?;
+    queue.requeue();
+    assert!(rt; queue.first().is_none());
+    for (port, octets) in [(1, b"abc"), (2, b"def"), (3, b"ghi")] {
+        assert!(rt; answers(&mut queue, Event::Push(port, octets)));
+    }
+    queue.requeue();
+    for (port, octets) in [(2, *b"def"), (3, *b"ghi"), (1, *b"abc")] {
+        assert!(rt;
+            first_of(&queue) == Some((port, octets)),
+            "from port {port}"
+        );
+        queue.pop();
+    }
+    assert!(rt; queue.first().is_none());
     Ok(())
 }
 

@@ -33,3 +33,38 @@ pub returns-in-deliver : goal.returns-in-deliver
 returns-in-deliver c =
     let same : c.args.word.now ≡ codes "deliver" = text_from_reads _ _ (omega arith) (search rules) in
     ap keyword_of (sym same)
+
+pub returns-in-sendto : goal.returns-in-sendto
+returns-in-sendto c =
+    let same : c.args.word.now ≡ codes "sendto" = text_from_reads _ _ (omega arith) (search rules) in
+    ap keyword_of (sym same)
+
+pub returns-in-fillto : goal.returns-in-fillto
+returns-in-fillto c =
+    let same : c.args.word.now ≡ codes "fillto" = text_from_reads _ _ (omega arith) (search rules) in
+    ap keyword_of (sym same)
+
+pub returns-in-recvfrom : goal.returns-in-recvfrom
+returns-in-recvfrom c =
+    let same : c.args.word.now ≡ codes "recvfrom" = text_from_reads _ _ (omega arith) (search rules) in
+    ap keyword_of (sym same)
+
+pub returns-in-countfrom : goal.returns-in-countfrom
+returns-in-countfrom c =
+    let same : c.args.word.now ≡ codes "countfrom" = text_from_reads _ _ (omega arith) (search rules) in
+    ap keyword_of (sym same)
+
+pub returns-in-count : goal.returns-in-count
+returns-in-count c =
+    let same : c.args.word.now ≡ codes "count" = text_from_reads _ _ (omega arith) (search rules) in
+    ap keyword_of (sym same)
+
+pub returns-in-close : goal.returns-in-close
+returns-in-close c =
+    let same : c.args.word.now ≡ codes "close" = text_from_reads _ _ (omega arith) (search rules) in
+    ap keyword_of (sym same)
+
+pub returns-in-state : goal.returns-in-state
+returns-in-state c =
+    let same : c.args.word.now ≡ codes "state" = text_from_reads _ _ (omega arith) (search rules) in
+    ap keyword_of (sym same)
