@@ -135,12 +135,7 @@ impl Host {
     /// EBADF; EOPNOTSUPP for a stream socket; EMSGSIZE for more than 65,507 octets; EADDRNOTAVAIL for port 0, no single host or our own
     /// address; ENETUNREACH where no route leads to the peer's address (RFC 1122 section 3.3.1.1); EADDRINUSE where no dynamic port is free;
     /// EAGAIN where there is no room.
-    pub fn sendto(
-        &mut self,
-        id: SocketId,
-        peer: Endpoint,
-        octets: &[u8],
-    ) -> Result<usize, Refusal>
+    pub fn sendto(&mut self, id: SocketId, peer: Endpoint, octets: &[u8]) -> Result<usize, Refusal>
         ensures answer { result ≡ sendto_answer self.old.sockets id peer octets.now (is_routed self.old.interface peer.addr) }
         ensures ok { OnOk result (self.new ≡ with_sockets self.old (after_sendto self.old.sockets id peer octets.now (is_routed self.old.interface peer.addr))) }
         ensures err { OnErr result (self.new ≡ self.old) }

@@ -21,7 +21,11 @@ impl Host {
 
     /// Takes a user datagram for us that came whole, at this moment: it goes to the socket that is bound to its port, and where none is,
     /// its source is told so (RFC 1122 section 4.1.3.1).
-    pub(crate) fn receive(&mut self, now: Moment, received: &UserReceived<'_>) -> Result<(), DropCause>
+    pub(crate) fn receive(
+        &mut self,
+        now: Moment,
+        received: &UserReceived<'_>,
+    ) -> Result<(), DropCause>
         ensures { MeetsUserDatagram (reception self.old.sockets received.now.datagram) self.old now received.now result self.new }
     {
         let carrier = &received.carrier;

@@ -430,9 +430,11 @@ sending_ordered h id None queues local change last next is given dynamic o =
     ordered_by nowhere no_port at_port h (record h { last_port = last; identification = next; entries = changed }) refl refl dynamic
     (first_changed (Keeps nowhere no_port at_port h.addr) IsNothing refl (is_socket id) (with_role (on_datagrams (λ b. Some local) change)) h.entries (itself nowhere no_port at_port h)
     (λ x passes found.
-    let alike : Datagrams None queues ≡ x.role = some_same (role_of h id) (Datagrams None queues) x.role is (ap (λ (y : Option Entry). option_map (λ (e : Entry). e.role) y) found) in
-    (refl, subst (λ (r : Role). IsBound nowhere no_port at_port h.addr r (on_datagrams (λ b. Some local) change r)) alike
-    (record { ends = λ l p e live. cc; port = λ port e has. cc; datagrams = λ port other has. let bad : true ≡ false = sym has ∙ other in cc; own = λ lies. tt }))))
+    let alike : Datagrams None queues ≡ x.role = some_same (role_of h id) (Datagrams None queues) x.role is (ap (λ (y : Option Entry). option_map (λ (e : Entry). e.role) y) found) in (
+      refl,
+      subst (λ (r : Role). IsBound nowhere no_port at_port h.addr r (on_datagrams (λ b. Some local) change r)) alike
+          (record { ends = λ l p e live. cc; port = λ port e has. cc; datagrams = λ port other has. let bad : true ≡ false = sym has ∙ other in cc; own = λ lies. tt }),
+    )))
     (λ l p e. cc) (λ port e. cc)
     (λ port at_it. subst (λ (n : ℕ). count_by (is_datagrams_at n) changed ≤ 1) (eqb-true local.port port at_it)
     (one_more id (is_datagrams_at local.port) (on_datagrams (λ b. Some local) change) h.entries (count_none (is_datagrams_at local.port) h.entries (free (first_port (is_free_datagram_port h.entries) h.last_port 0 16384) refl given)))) o

@@ -161,7 +161,8 @@ impl Role {
     {
         match self {
             Role::Datagrams {
-                bound: Some(local), ..
+                bound: Some(local),
+                ..
             } => local.port == port,
             _ => false,
         }

@@ -72,14 +72,18 @@ pub(crate) fn is_port_bound(entries: &[Entry], port: u16) -> bool
 pub(crate) fn is_datagram_port_taken(entries: &[Entry], port: u16) -> bool
     ensures { result ≡ list_any (is_datagrams_at port) entries.now }
 {
-    entries.iter().any(|entry| entry.role.uses_datagram_port(port))
+    entries
+        .iter()
+        .any(|entry| entry.role.uses_datagram_port(port))
 }
 
 /// The place of the UDP socket at a local port.
 pub(crate) fn datagrams_at(entries: &[Entry], port: u16) -> Option<usize>
     ensures { result ≡ position (is_datagrams_at port) entries.now }
 {
-    entries.iter().position(|entry| entry.role.uses_datagram_port(port))
+    entries
+        .iter()
+        .position(|entry| entry.role.uses_datagram_port(port))
 }
 
 /// The place of the listener at a local port.

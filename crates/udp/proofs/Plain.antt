@@ -85,6 +85,7 @@ fault_parsed src dst octets are = by_len (len_in octets) refl
   where
     none : (d : UserDatagram) → len_in octets ≡ None → HasForm d octets → ⊥
     none d is form = let read = (form_read d octets form).len in cc
+
     by_len : (o : Option ℕ) → len_in octets ≡ o → IsParsed src dst octets (read_at src dst octets o)
     by_len None is = λ d. none d is
     by_len (Some n) is = at_len src dst octets n are is _ refl

@@ -77,6 +77,7 @@ without_filtered keep (x ∷ xs) = by_test (keep x) (without_filtered keep xs) r
     skipped : (ys : List Outgoing) → IsWithout ys xs → IsWithout ys (x ∷ xs)
     skipped [] p = tt
     skipped (y ∷ ys) p = inr p
+
     by_test : (b : Bool) → IsWithout (filter keep xs) xs → keep x ≡ b → IsWithout (filter keep (x ∷ xs)) (x ∷ xs)
     by_test true p is = rw is (inl (refl, p))
     by_test false p is = rw is (skipped (filter keep xs) p)

@@ -53,8 +53,10 @@ parts_kept s (Emits source) are = of_outbox s.inbox s.outbox s.parts are
       where
         more : SocketView
         more = record { inbox = inbox; outbox = o ∷ rest; parts = parts + 1 }
+
         last : SocketView
         last = record { inbox = inbox; outbox = rest; parts = 0 }
+
         by_test : (b : Bool) → (fragment_of o parts).more_fragments ≡ b → HasPartsLeft (cond b more last).outbox (cond b more last).parts
         by_test true is = let below : 1480 * (parts + 1) < 8 + length o.octets = grind (arith, nat_tests, is) in omega (arith, below)
         by_test false is = none_out rest
@@ -128,8 +130,10 @@ module _ (source : Endpoint) where
     where
       more : SocketView
       more = record { inbox = inbox; outbox = o ∷ rest; parts = parts + 1 }
+
       last : SocketView
       last = record { inbox = inbox; outbox = rest; parts = 0 }
+
       by_test : (b : Bool) → (fragment_of o parts).more_fragments ≡ b
           → (gone o parts ++ []) ++ next o parts ≡ runs (map whole (cond b [] (o ∷ []))) ++ runs (begun (cond b more last))
       by_test true is =

@@ -11,7 +11,9 @@ use clock::{Moment, sooner};
 use ipv4::{Addr, Endpoint};
 use std::alloc::{AllocError, Global};
 use std::marker::Model;
-use udp::{CAPACITY, Fragment, HEADER_LEN, Head, MOST_IN_FRAGMENT, MOST_WAITING, Part, Queue, QueueFault};
+use udp::{
+    CAPACITY, Fragment, HEADER_LEN, Head, MOST_IN_FRAGMENT, MOST_WAITING, Part, Queue, QueueFault,
+};
 
 /// The octets of data of a datagram at most: the payload of IPv4 has room for no more behind a header of 8 octets, where the header of
 /// IPv4 has 20 (RFC 768, RFC 791 section 3.1).

@@ -113,5 +113,5 @@ runs-keep limit _ (goes_on w v happens answer run step) reader few =
     let few_before = few-before before more few in
     let read_before = All-weaker (WasAccepted before) (WasAccepted (before ++ more)) (was-accepted_more before more) (read_in limit w run reader) (runs-keep limit w run reader few_before) in
     let read_now = All-weaker (WasAccepted before) (WasAccepted (before ++ more)) (was-accepted_more before more) (read_by reader happens answer w)
-        (read-event (accepted_in limit w run) w v reader happens answer step few_before (hosts-keep limit w run)) in
+    (read-event (accepted_in limit w run) w v reader happens answer step few_before (hosts-keep limit w run)) in
     All-append (WasAccepted (before ++ more)) (read_in limit w run reader) (read_by reader happens answer w) read_before read_now

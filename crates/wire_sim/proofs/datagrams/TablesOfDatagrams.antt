@@ -83,7 +83,7 @@ kept-reception own other h source d came t = by_reception (reception h d) refl
     by_role (Datagrams (Some local) s) passes here =
         let same : local.port ≡ d.destination = eqb-true local.port d.destination passes in
         let for : CameFrom other from (record { addr = h.addr; port = local.port }) d.payload =
-                subst (λ (port : ℕ). CameFrom other from (record { addr = h.addr; port = port }) d.payload) (sym same) came in
+        subst (λ (port : ℕ). CameFrom other from (record { addr = h.addr; port = port }) d.payload) (sym same) came in
         (here.0, receives own other (record { addr = h.addr; port = local.port }) from s d.payload here.1 for)
 
     by_entry : (o : Option Entry) → find (is_datagrams_at d.destination) h.entries ≡ o → AreEntriesOf own other h.addr (change_first (is_datagrams_at d.destination) (with_role g) h.entries)
@@ -189,12 +189,11 @@ read-of_one own other h id len count from answered t = by_bound r.bound r.role
         let end : Endpoint = record { addr = h.addr; port = local.port } in
         let here = found-of own other h (is_socket id) r.e (Datagrams (Some local) r.s) r.found is t in
         let incoming : All (λ (w : Waiting). CameFrom other w.endpoint end w.octets) (r.first ∷ r.rest) =
-                subst (All (λ (w : Waiting). CameFrom other w.endpoint end w.octets)) r.waits here.1.incoming in
+        subst (All (λ (w : Waiting). CameFrom other w.endpoint end w.octets)) r.waits here.1.incoming in
         let came : CameFrom other r.first.endpoint end r.first.octets = All-head (λ (w : Waiting). CameFrom other w.endpoint end w.octets) r.first r.rest incoming in
         let its_end : socket_end h id ≡ end = rw (r.found, is) in
         let least : count ≡ min len (length r.first.octets) = omega (arith, r.given) in
-        let shown : first_waiting_on h id count ≡ take count r.first.octets = rw (r.found, is, r.waits) in
-        (
+        let shown : first_waiting_on h id count ≡ take count r.first.octets = rw (r.found, is, r.waits) in (
           r.first.octets,
           subst (λ (x : Endpoint). CameFrom other x (socket_end h id) r.first.octets) (sym r.source) (subst (λ (x : Endpoint). CameFrom other r.first.endpoint x r.first.octets) (sym its_end) came),
           shown ∙ (ap (λ (n : ℕ). take n r.first.octets) least ∙ take_min len r.first.octets),
@@ -302,8 +301,7 @@ ready own other h None s local given here = by_port (first_port (is_free_datagra
     by_port (Some port) is e =
         let x : Endpoint = record { addr = h.addr; port = port } in
         let whole : x ≡ local = cc in
-        let same : port ≡ local.port = ap (λ (y : Endpoint). y.port) whole in
-        (
+        let same : port ≡ local.port = ap (λ (y : Endpoint). y.port) whole in (
           subst (λ (k : ℕ). k < 2 ^ 16) same (first_port-below (is_free_datagram_port h.entries) h.last_port 0 16384 port is),
           subst (IsSocketOf own other end) (sym here) (new own other end),
         )

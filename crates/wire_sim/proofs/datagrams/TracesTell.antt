@@ -66,11 +66,11 @@ traces-tell limit _ (goes_on w v happens answer run step) side =
     let h : Happening = record { event = happens; answer = answer } in
     let before = traces-tell limit w run side in (
       map-append sent_of (accepted_in limit w run side) (accepted_by side happens answer w v)
-      ∙ (ap (λ xs. xs ++ map sent_of (accepted_by side happens answer w v)) before.0
-      ∙ (ap (λ xs. told_in sent_by_call side w.trace ++ xs) (sent-event side happens answer w v)
-      ∙ (sym (told-more sent_by_call side w.trace h) ∙ ap (told_in sent_by_call side) (sym step.trace)))),
+          ∙ (ap (λ xs. xs ++ map sent_of (accepted_by side happens answer w v)) before.0
+          ∙ (ap (λ xs. told_in sent_by_call side w.trace ++ xs) (sent-event side happens answer w v)
+          ∙ (sym (told-more sent_by_call side w.trace h) ∙ ap (told_in sent_by_call side) (sym step.trace)))),
       map-append read_of (read_in limit w run side) (read_by side happens answer w)
-      ∙ (ap (λ xs. xs ++ map read_of (read_by side happens answer w)) before.1
-      ∙ (ap (λ xs. told_in read_from_call side w.trace ++ xs) (read-event side happens answer w)
-      ∙ (sym (told-more read_from_call side w.trace h) ∙ ap (told_in read_from_call side) (sym step.trace)))),
+          ∙ (ap (λ xs. xs ++ map read_of (read_by side happens answer w)) before.1
+          ∙ (ap (λ xs. told_in read_from_call side w.trace ++ xs) (read-event side happens answer w)
+          ∙ (sym (told-more read_from_call side w.trace h) ∙ ap (told_in read_from_call side) (sym step.trace)))),
     )

@@ -18,7 +18,7 @@ returns g c = λ test computes.
     let J : List Tag → Option Moment → Type 0 = λ ys a. a ≡ fold (λ l (tag : Tag). sooner l (deadline_of test (bare tag))) None ys in
     fold_over (TakesFirst deref) deref _ J _
     (λ ys a x b f' so called. let next : b ≡ sooner a (deadline_of test (bare x.now)) = search rules in
-        (next ∙ ap (λ (l : Option Moment). sooner l (deadline_of test (bare x.now))) so ∙ sym (fold-append (λ l (tag : Tag). sooner l (deadline_of test (bare tag))) None ys (x.now ∷ [])), search rules))
+    (next ∙ ap (λ (l : Option Moment). sooner l (deadline_of test (bare x.now))) so ∙ sym (fold-append (λ l (tag : Tag). sooner l (deadline_of test (bare tag))) None ys (x.now ∷ [])), search rules))
     c.iter.result c.self.inside.tags.items _ _ (YieldsList-from_rest {shows = deref} c.self.inside.tags.items c.iter.ensures.rest).runs refl c.fold.ensures.ran
     ∙ deadline_beside test c.self.inside.tags.items c.self.inside.datagrams.items None c.self.invariant.beside
     ∙ ap (λ (s : SocketView). deadline test s) c.self.view_is

@@ -12,4 +12,4 @@ invariant-loop g l =
     × (l.self.parts ≡ 0)
     × ((kept : List Outgoing) × (l.self.outbox ≡ drop l.counter l.fn.self.outbox ++ (first_if l.first_stays l.fn.self.outbox ++ kept)))
     × ((test : Addr → Bool) → ((addr : Addr) (answer : Bool) → goal.F-post g l.fn.lost addr answer → answer ≡ test addr)
-        → l.self.outbox ≡ drop l.counter l.fn.self.outbox ++ filter (stays test l.fn.now) (take l.counter l.fn.self.outbox))
+    → l.self.outbox ≡ drop l.counter l.fn.self.outbox ++ filter (stays test l.fn.now) (take l.counter l.fn.self.outbox))
