@@ -9,7 +9,7 @@ use Rattle.tcp_state.specs.View.{View, IsSound, is_opening, is_syn_sent, is_syn_
 use Rattle.tcp_state.specs.Halves.{Receiving as ReceivingHalf}
 use Rattle.tcp_state.specs.Stream.{outstanding, is_new_ack, after_acknowledged, after_octets, stands_next, after_end}
 use Rattle.tcp_state.specs.Windows.{updates_window}
-use Rattle.tcp_state.specs.Arrival.{after_segment, after_syn_ack, is_right_syn_ack, is_acceptable_to, after_acceptable_segment, after_acknowledging_segment, after_ack, is_read_on, after_window, after_text, owing_ack, after_establishment, ends_by_syn, fin_acknowledged, after_new_ack, beyond_fin, beyond_end, is_receiving, counts_fin, after_fin}
+use Rattle.tcp_state.specs.Arrival.{after_segment, is_simultaneous_syn, after_simultaneous_syn, after_syn_ack, is_right_syn_ack, is_acceptable_to, after_acceptable_segment, after_acknowledging_segment, after_ack, is_read_on, after_window, after_text, owing_ack, after_establishment, ends_by_syn, fin_acknowledged, after_new_ack, beyond_fin, beyond_end, is_receiving, counts_fin, after_fin}
 use Rattle.stream_law.specs.Channel.{Channel, Sending, Open, Receiving, Waiting, Synchronised, IsAmong, IsRecent}
 use Rattle.stream_law.specs.ChannelSteps.{Step, nothing_kept}
 use Rattle.stream_law.specs.ChannelViews.{frame_of, Leads, stays, goes, sender_of, receiving_of, SendsInto, ReceivesFrom, Follows, IsOfWidth, CameFrom}
@@ -148,6 +148,27 @@ arrives-syn_ack cap limit v s c d sound fits waiting into from came =
       receives = record { receiving = refl; readable = from.readable; end_seen = from.end_seen ∙ (opening_plain v.state opening).1 };
     })
     (λ wrong. nothing cap limit v v c d refl refl refl refl into from)
+
+-- the SYN of a peer that opens at the same time, in SYN-SENT: our own SYN stays as it was, sent or not, and waits to be acknowledged
+arrives-simultaneous_syn : (cap limit : ℕ) (v : View) (s : Segment) (c d : Channel) → is_syn_sent v.state ≡ true → s.flags.syn ≡ true → SendsInto v c → ReceivesFrom v d → CameFrom limit s c d
+    → Follows cap limit (after_simultaneous_syn v s) c d
+arrives-simultaneous_syn cap limit v s c d waiting syn into from came =
+    let opening = syn_sent_opens v.state waiting in
+    record {
+      into = c.sending;
+      readable = d.readable;
+      end_seen = d.end_seen;
+      from = Synchronised (record { rnext = (s.number + 1) % 2 ^ 32; kept = nothing_kept });
+      leads_into = stays c;
+      leads_from = one_step cap limit d (record d { receiving = Synchronised (record { rnext = (s.number + 1) % 2 ^ 32; kept = nothing_kept }) })
+          (hears-syn cap limit v d s came.sent_at waiting syn from came.frame);
+      sends = record {
+        sending = into.sending
+            ∙ (ap (λ b. Open (record (sender_of v) { syn_acked = not b })) opening ∙ ap (λ b. Open (record (sender_of v) { syn_acked = false; fin_acked = b })) (opening_unfinished v.state opening));
+        closed = into.closed ∙ (opening_plain v.state opening).0;
+      };
+      receives = record { receiving = refl; readable = from.readable; end_seen = from.end_seen ∙ (opening_plain v.state opening).1 };
+    }
 
 -- the sending side of a connection after an acknowledgement
 record Acknowledged (cap limit : ℕ) (v w : View) (c : Channel) : Type 0 where
@@ -364,8 +385,10 @@ arrives cap limit v s c d sound fits unreset into from came =
     (λ ignored. same)
     (λ read. either P s.flags.rst _ _
     (λ rst. let bad : true ≡ false = sym rst ∙ unreset in absurd (true_is_not_false bad))
-    (λ no_rst. either P (is_syn_sent v.state) (after_syn_ack v s) _
-    (λ waiting. arrives-syn_ack cap limit v s c d sound fits waiting into from came)
+    (λ no_rst. either P (is_syn_sent v.state) _ _
+    (λ waiting. either P (is_simultaneous_syn v s) (after_simultaneous_syn v s) (after_syn_ack v s)
+    (λ opens. arrives-simultaneous_syn cap limit v s c d waiting (and_left s.flags.syn (not s.flags.ack) opens) into from came)
+    (λ other. arrives-syn_ack cap limit v s c d sound fits waiting into from came))
     (λ past_syn. either P (is_acceptable_to v s) (after_acceptable_segment v s) (owing_ack v)
     (λ accepted. either P s.flags.syn _ _
     (λ syn. either P (ends_by_syn v s) v (owing_ack v) (λ ends. same) (λ stays. owes))

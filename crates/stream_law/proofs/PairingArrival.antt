@@ -6,7 +6,7 @@ use Rattle.tcp_state.specs.declared.state.State.TheVariants.{Established, FinWai
 use Rattle.tcp_state.specs.Numbers.{is_before}
 use Rattle.tcp_state.specs.View.{View, IsSound, is_closed, is_listening, is_syn_sent, is_syn_received, is_fin_next}
 use Rattle.tcp_state.specs.Stream.{is_new_ack}
-use Rattle.tcp_state.specs.Arrival.{after_segment, fate, after_syn_ack, is_right_syn_ack, is_acceptable_to, after_acceptable_segment, after_acknowledging_segment, after_ack, is_read_on, after_window, after_text, after_fin, counts_fin, is_receiving, owing_ack, after_establishment, ends_by_syn, fin_acknowledged, after_new_ack, beyond_fin, beyond_end}
+use Rattle.tcp_state.specs.Arrival.{after_segment, fate, is_simultaneous_syn, after_simultaneous_syn, after_syn_ack, is_right_syn_ack, is_acceptable_to, after_acceptable_segment, after_acknowledging_segment, after_ack, is_read_on, after_window, after_text, after_fin, counts_fin, is_receiving, owing_ack, after_establishment, ends_by_syn, fin_acknowledged, after_new_ack, beyond_fin, beyond_end}
 use Rattle.stream_law.specs.Channel.{Channel, IsAmong}
 use Rattle.stream_law.specs.ChannelViews.{CameFrom}
 use Rattle.stream_law.specs.Pairing.{Present, Emission, Pairing, IsTimely, remains}
@@ -22,8 +22,8 @@ unlistening v s l unreset =
     (λ ignored. l)
     (λ read. either P s.flags.rst _ _
     (λ rst. let bad : true ≡ false = sym rst ∙ unreset in cc)
-    (λ no_rst. either P (is_syn_sent v.state) (after_syn_ack v s) _
-    (λ waiting. either P (is_right_syn_ack v s) _ v (λ right. refl) (λ wrong. l))
+    (λ no_rst. either P (is_syn_sent v.state) _ _
+    (λ waiting. either P (is_simultaneous_syn v s) (after_simultaneous_syn v s) (after_syn_ack v s) (λ opens. refl) (λ other. either P (is_right_syn_ack v s) _ v (λ right. refl) (λ wrong. l)))
     (λ past_syn. either P (is_acceptable_to v s) (after_acceptable_segment v s) (owing_ack v)
     (λ accepted. either P s.flags.syn _ _
     (λ syn. either P (ends_by_syn v s) v (owing_ack v) (λ ends. l) (λ stays. l))

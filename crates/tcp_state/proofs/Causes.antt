@@ -12,7 +12,7 @@ use Rattle.tcp_state.specs.Numbers.{is_before}
 use Rattle.tcp_state.specs.Stream.{is_new_ack, is_in_window}
 use Rattle.tcp_state.specs.View.{View, is_opening, is_syn_sent, is_syn_received, is_closed, is_over, awaits_fin_ack, is_write_closed, is_at_end, after_stop, after_resend, is_fin_next}
 use Rattle.tcp_state.specs.Calls.{after_send, after_recv, beyond_shutdown, shutdown_refusal, after_shutdown, aborted_at, after_release, is_removed_by_close, is_aborted_by_close}
-use Rattle.tcp_state.specs.Arrival.{owing_ack, after_establishment, is_receiving, beyond_fin, beyond_end, fin_acknowledged, after_new_ack, after_ack, is_read_on, is_read, after_window, after_text, counts_fin, after_fin, after_acknowledging_segment, after_acceptable_segment, ends_by_syn, ends_by_reset, ends_opening, is_acting_reset, is_acceptable_to, after_reset, reset_error, after_rst_in_syn_sent, after_rst, is_right_syn_ack, after_syn_ack, after_segment, is_lost, after_lost, after_heard, is_rejected}
+use Rattle.tcp_state.specs.Arrival.{owing_ack, after_establishment, is_receiving, beyond_fin, beyond_end, fin_acknowledged, after_new_ack, after_ack, is_read_on, is_read, after_window, after_text, counts_fin, after_fin, after_acknowledging_segment, after_acceptable_segment, ends_by_syn, ends_by_reset, ends_opening, is_acting_reset, is_acceptable_to, after_reset, reset_error, after_rst_in_syn_sent, after_rst, is_right_syn_ack, after_syn_ack, is_simultaneous_syn, after_simultaneous_syn, after_segment, is_lost, after_lost, after_heard, is_rejected}
 use Rattle.tcp_state.specs.Due.{first_due, after_ack_paid, after_numbers}
 use Rattle.tcp_state.specs.Unreachable.{is_unreachable, after_unreachable, unreachable_fate}
 use Rattle.tcp_state.specs.Edges.{Event, Hears, Ticks, Emits, Sends, Receives, Shuts, Closes, Aborts, Unreachable, after_first, fate_by, is_removed, is_reset_by, is_last_ack, ends_by_ack, is_cause, ends_by}
@@ -121,8 +121,9 @@ closed_by_segment v s lives =
     (λ acts. let caused : is_reset_by v s ≡ true = both s.flags.rst _ rst (else_chosen (is_syn_sent v.state) confirms (is_acting_reset v s) past acts) in
     either View P (ends_by_reset v s) v (after_reset v (reset_error v.state)) (λ removed. none) (λ reset closed. inl caused))
     (λ elsewhere. either View P (is_in_window v.receiving s.number) (owing_ack v) v (λ drawn. none) (λ dropped. none))))
-    (λ no_rst. either View P (is_syn_sent v.state) (after_syn_ack v s) _
-    (λ waits. either View P (is_right_syn_ack v s) _ v (λ right closed. cc) (λ wrong. none))
+    (λ no_rst. either View P (is_syn_sent v.state) _ _
+    (λ waits. either View P (is_simultaneous_syn v s) (after_simultaneous_syn v s) (after_syn_ack v s) (λ simultaneous closed. cc)
+    (λ answers. either View P (is_right_syn_ack v s) _ v (λ right closed. cc) (λ wrong. none)))
     (λ past. either View P (is_acceptable_to v s) (after_acceptable_segment v s) (owing_ack v)
     (λ accepted. either View P s.flags.syn _ _
     (λ syn. either View P (ends_by_syn v s) v (owing_ack v) (λ removed. none) (λ drawn. none))

@@ -14,3 +14,5 @@ pub mod Waiting
 pub mod Gains
 pub mod ResetAges
 pub mod Unreachable
+pub mod Simultaneous
+pub mod SynAnswers

@@ -14,7 +14,7 @@ use Rattle.tcp_state.specs.Windows.{updates_window, after_window_update, sendabl
 use Rattle.tcp_state.specs.View.{View, IsSound, is_opening, is_syn_sent, is_syn_received, is_closed, is_write_closed, is_at_end, after_stop, after_resend, is_due, is_fin_next}
 use Rattle.tcp_state.specs.Calls.{shutdown_refusal, after_shutdown, aborted_at, after_release, is_removed_by_close, is_aborted_by_close}
 use Rattle.tcp_state.specs.declared.calls.Refusal.TheVariants.{ECONNREFUSED}
-use Rattle.tcp_state.specs.Arrival.{owing_ack, after_establishment, is_receiving, fin_acknowledged, after_new_ack, after_ack, is_read_on, after_window, after_text, counts_fin, after_fin, after_acknowledging_segment, after_acceptable_segment, ends_by_syn, ends_by_reset, is_acting_reset, is_acceptable_to, after_reset, reset_error, after_rst_in_syn_sent, after_rst, is_right_syn_ack, after_syn_ack, after_segment, is_lost, after_lost, after_heard}
+use Rattle.tcp_state.specs.Arrival.{owing_ack, after_establishment, is_receiving, fin_acknowledged, after_new_ack, after_ack, is_read_on, after_window, after_text, counts_fin, after_fin, after_acknowledging_segment, after_acceptable_segment, ends_by_syn, ends_by_reset, is_acting_reset, is_acceptable_to, after_reset, reset_error, after_rst_in_syn_sent, after_rst, is_right_syn_ack, after_syn_ack, is_simultaneous_syn, after_simultaneous_syn, after_segment, is_lost, after_lost, after_heard}
 use Rattle.tcp_state.specs.Due.{first_due, again, ack_due, after_ack_paid, after_numbers}
 use Rattle.tcp_state.specs.Unreachable.{is_unreachable}
 use Rattle.tcp_state.specs.Edges.{Event, Hears, Ticks, Emits, Sends, Receives, Shuts, Closes, Aborts, Unreachable, after_first, after_event}
@@ -185,6 +185,14 @@ by_syn_ack v s sound opening =
     })
     (λ wrong. still v v refl refl refl)
 
+by_simultaneous_syn : (v : View) (s : Segment) → is_syn_sent v.state ≡ true → NeverBack v (after_simultaneous_syn v s)
+by_simultaneous_syn v s opening = record {
+  una = rests v.sending.una;
+  nxt = rests v.sending.nxt;
+  rnext = λ past_opening. clash (is_syn_sent v.state) opening past_opening;
+  edge = λ past_opening. clash (is_syn_sent v.state) opening past_opening;
+}
+
 by_segment : (v : View) (s : Segment) → IsSound v → s.acknowledgement < 2 ^ 32 → NeverBack v (after_segment v s)
 by_segment v s sound fits =
     let P : View → Type 0 = λ w. NeverBack v w in
@@ -199,8 +207,9 @@ by_segment v s sound fits =
     (λ opened. either View P (is_acting_reset v s) _ _
     (λ acts. either View P (ends_by_reset v s) v (after_reset v (reset_error v.state)) (λ removed. none) (λ stays. reset))
     (λ elsewhere. either View P (is_in_window v.receiving s.number) (owing_ack v) v (λ drawn. owing) (λ dropped. none))))
-    (λ no_rst. either View P (is_syn_sent v.state) (after_syn_ack v s) _
-    (λ opening. by_syn_ack v s sound opening)
+    (λ no_rst. either View P (is_syn_sent v.state) _ _
+    (λ opening. either View P (is_simultaneous_syn v s) (after_simultaneous_syn v s) (after_syn_ack v s) (λ simultaneous. by_simultaneous_syn v s opening)
+    (λ answers. by_syn_ack v s sound opening))
     (λ opened. either View P (is_acceptable_to v s) (after_acceptable_segment v s) (owing_ack v)
     (λ accepted. either View P s.flags.syn _ _
     (λ syn. either View P (ends_by_syn v s) v (owing_ack v) (λ removed. none) (λ drawn. owing))

@@ -12,7 +12,7 @@ use Rattle.tcp_state.specs.Numbers.{is_before}
 use Rattle.tcp_state.specs.Halves.{Receiving}
 use Rattle.tcp_state.specs.Stream.{is_new_ack, octets_gained, after_octets, receive_window, is_in_window}
 use Rattle.tcp_state.specs.View.{View, IsSound, is_syn_sent, is_syn_received, is_closed, is_write_closed, is_fin_next}
-use Rattle.tcp_state.specs.Arrival.{owing_ack, after_establishment, is_receiving, beyond_fin, fin_acknowledged, after_new_ack, after_ack, is_read_on, is_read, brings_more, after_window, after_text, counts_fin, after_fin, after_acknowledging_segment, after_acceptable_segment, ends_by_syn, ends_by_reset, is_acting_reset, is_acceptable_to, after_reset, reset_error, after_rst_in_syn_sent, after_rst, is_right_syn_ack, after_syn_ack, after_segment, is_lost, after_lost, after_segment_at}
+use Rattle.tcp_state.specs.Arrival.{owing_ack, after_establishment, is_receiving, beyond_fin, fin_acknowledged, after_new_ack, after_ack, is_read_on, is_read, brings_more, after_window, after_text, counts_fin, after_fin, after_acknowledging_segment, after_acceptable_segment, ends_by_syn, ends_by_reset, is_acting_reset, is_acceptable_to, after_reset, reset_error, after_rst_in_syn_sent, after_rst, is_right_syn_ack, after_syn_ack, is_simultaneous_syn, after_simultaneous_syn, after_segment, is_lost, after_lost, after_segment_at}
 use Rattle.tcp_state.proofs.Edges.{either}
 use Rattle.tcp_state.proofs.Causes.{both, of_false}
 use Rattle.tcp_state.proofs.Unchanged.{clash}
@@ -117,8 +117,9 @@ readable_by_segment v s k =
     (λ past_opening. either View P (is_acting_reset v s) _ _
     (λ acts. either View P (ends_by_reset v s) v (after_reset v (reset_error v.state)) (λ removed. refl) (λ reset. refl))
     (λ elsewhere. either View P (is_in_window v.receiving s.number) (owing_ack v) v (λ drawn. refl) (λ dropped. refl))))
-    (λ no_rst. either View P (is_syn_sent v.state) (after_syn_ack v s) _
-    (λ waits. either View P (is_right_syn_ack v s) _ v (λ right. refl) (λ wrong. refl))
+    (λ no_rst. either View P (is_syn_sent v.state) _ _
+    (λ waits. either View P (is_simultaneous_syn v s) (after_simultaneous_syn v s) (after_syn_ack v s) (λ simultaneous. refl)
+    (λ answers. either View P (is_right_syn_ack v s) _ v (λ right. refl) (λ wrong. refl)))
     (λ past_opening. either View P (is_acceptable_to v s) (after_acceptable_segment v s) (owing_ack v)
     (λ accepted. either View P s.flags.syn _ _
     (λ syn. either View P (ends_by_syn v s) v (owing_ack v) (λ removed. refl) (λ drawn. refl))

@@ -10,7 +10,7 @@ use Rattle.tcp_state.specs.Numbers.{is_before}
 use Rattle.tcp_state.specs.Stream.{is_new_ack, is_in_window}
 use Rattle.tcp_state.specs.View.{View, IsSound, is_opening, is_syn_sent, is_syn_received, is_closed, is_time_wait, is_write_closed, is_fin_next, is_at_end, after_stop, after_resend, reset_since}
 use Rattle.tcp_state.specs.declared.calls.Refusal.TheVariants.{ECONNREFUSED}
-use Rattle.tcp_state.specs.Arrival.{owing_ack, after_reset, reset_error, after_rst_in_syn_sent, after_rst, is_acting_reset, ends_by_reset, ends_by_syn, is_right_syn_ack, after_syn_ack, is_acceptable_to, after_acceptable_segment, after_acknowledging_segment, after_establishment, fin_acknowledged, after_new_ack, after_ack, after_window, is_read_on, is_receiving, after_text, counts_fin, after_fin, after_segment, is_read, brings_more, is_lost, after_lost, begins_wait, starts_clock, repeats_fin, timed}
+use Rattle.tcp_state.specs.Arrival.{owing_ack, after_reset, reset_error, after_rst_in_syn_sent, after_rst, is_acting_reset, ends_by_reset, ends_by_syn, is_right_syn_ack, after_syn_ack, is_simultaneous_syn, after_simultaneous_syn, is_acceptable_to, after_acceptable_segment, after_acknowledging_segment, after_establishment, fin_acknowledged, after_new_ack, after_ack, after_window, is_read_on, is_receiving, after_text, counts_fin, after_fin, after_segment, is_read, brings_more, is_lost, after_lost, begins_wait, starts_clock, repeats_fin, timed}
 use Rattle.tcp_state.specs.Calls.{aborted_at, after_release, is_removed_by_close, is_aborted_by_close, shutdown_refusal, after_shutdown}
 use Rattle.tcp_state.specs.Due.{first_due, after_ack_paid, after_numbers}
 use Rattle.tcp_state.specs.Unreachable.{is_unreachable}
@@ -69,8 +69,9 @@ owed_by_segment v s =
     (λ past. either View P (is_acting_reset v s) _ _
     (λ acts. either View P (ends_by_reset v s) v (after_reset v (reset_error v.state)) (λ removed. refl) (λ kept. refl))
     (λ elsewhere. either View P (is_in_window v.receiving s.number) (owing_ack v) v (λ drawn. refl) (λ dropped. refl))))
-    (λ no_rst. either View P (is_syn_sent v.state) (after_syn_ack v s) _
-    (λ waits. either View P (is_right_syn_ack v s) _ v (λ right. refl) (λ wrong. refl))
+    (λ no_rst. either View P (is_syn_sent v.state) _ _
+    (λ waits. either View P (is_simultaneous_syn v s) (after_simultaneous_syn v s) (after_syn_ack v s) (λ simultaneous. refl)
+    (λ answers. either View P (is_right_syn_ack v s) _ v (λ right. refl) (λ wrong. refl)))
     (λ past. either View P (is_acceptable_to v s) (after_acceptable_segment v s) (owing_ack v)
     (λ accepted. either View P s.flags.syn _ _
     (λ syn. either View P (ends_by_syn v s) v (owing_ack v) (λ removed. refl) (λ drawn. refl))

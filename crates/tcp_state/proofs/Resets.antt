@@ -11,7 +11,7 @@ use Rattle.tcp_state.specs.declared.state.State.TheVariants.{SynSent}
 use Rattle.tcp_state.specs.Halves.{Receiving}
 use Rattle.tcp_state.specs.Stream.{outstanding, is_new_ack, is_in_window, receive_window, is_acceptable}
 use Rattle.tcp_state.specs.View.{View, IsSound, is_opening, is_syn_sent, is_closed, is_over, is_time_wait, is_fin_next}
-use Rattle.tcp_state.specs.Arrival.{owing_ack, is_acceptable_to, is_acting_reset, is_read, is_lost, after_lost, ends_by_syn, ends_by_reset, ends_opening, acknowledges_unsent, is_rejected, after_reset, reset_error, after_rst_in_syn_sent, after_rst, after_syn_ack, after_acceptable_segment, after_segment, starts_clock, repeats_fin, after_segment_at, after_heard}
+use Rattle.tcp_state.specs.Arrival.{owing_ack, is_acceptable_to, is_acting_reset, is_read, is_lost, after_lost, ends_by_syn, ends_by_reset, ends_opening, acknowledges_unsent, is_rejected, after_reset, reset_error, after_rst_in_syn_sent, after_rst, after_acceptable_segment, after_segment, starts_clock, repeats_fin, after_segment_at, after_heard}
 use Rattle.tcp_state.specs.Edges.{Hears, after_event, fate_by, is_removed, is_reset_by, ends_by, ends_by_ack}
 use Rattle.tcp_state.proofs.Edges.{either, and_left, and_right}
 use Rattle.tcp_state.proofs.Causes.{both, or_left, or_right, or_else, not_true, of_false, by, segment-cause}
@@ -93,7 +93,7 @@ unaccepted_segment v s past_opening refused =
     (λ past. either View P (is_acting_reset v s) _ _
     (λ acts. clash (is_acceptable_to v s) (and_left (is_acceptable_to v s) (s.number == v.receiving.rnext) acts) refused)
     (λ elsewhere. either View P (is_in_window v.receiving s.number) (owing_ack v) v (λ drawn. refl) (λ dropped. refl))))
-    (λ no_rst. either View P (is_syn_sent v.state) (after_syn_ack v s) _
+    (λ no_rst. either View P (is_syn_sent v.state) _ _
     (λ waits. clash (is_syn_sent v.state) waits past_opening)
     (λ past. either View P (is_acceptable_to v s) (after_acceptable_segment v s) (owing_ack v)
     (λ accepted. clash (is_acceptable_to v s) accepted refused)
@@ -145,7 +145,7 @@ elsewhere_changes v s now past_opening rst apart =
 
 -- A reset at RCV.NXT that takes no numbers acts.
 
-next_accepted : (r : Receiving) (number span : ℕ) → r.rnext < 2 ^ 32 → number ≡ r.rnext → span ≡ 0 → is_acceptable r number span ≡ true
+pub next_accepted : (r : Receiving) (number span : ℕ) → r.rnext < 2 ^ 32 → number ≡ r.rnext → span ≡ 0 → is_acceptable r number span ≡ true
 next_accepted r number span small same none =
     let window = receive_window r in
     ap (is_acceptable r number) none
@@ -165,10 +165,10 @@ taken_out false true over refused opening a b c d = cc
 taken_out false false false true opening a b c d = cc
 taken_out false false false false false a b c d = cc
 
-rst_not_lost : (v : View) (s : Segment) → s.flags.rst ≡ true → is_lost v s ≡ false
+pub rst_not_lost : (v : View) (s : Segment) → s.flags.rst ≡ true → is_lost v s ≡ false
 rst_not_lost v s rst = by (is_lost v s ≡ false) (is_lost v s) (λ lost. clash s.flags.rst rst (read_is_no_rst v s (lost_is_read v s lost))) (λ kept. kept)
 
-rst_not_refused : (v : View) (s : Segment) → s.flags.rst ≡ true → is_rejected v s ≡ false
+pub rst_not_refused : (v : View) (s : Segment) → s.flags.rst ≡ true → is_rejected v s ≡ false
 rst_not_refused v s rst =
     by (is_rejected v s ≡ false) (is_rejected v s)
     (λ refused. clash s.flags.rst rst

@@ -9,7 +9,7 @@ use Rattle.tcp_state.specs.declared.state.State.TheVariants.{Closed, SynSent, Sy
 use Rattle.tcp_state.specs.Stream.{is_new_ack, is_in_window}
 use Rattle.tcp_state.specs.View.{View, IsSound, is_syn_sent, is_opening, is_closed, is_read_closed, is_listening, is_write_closed, end_of_wait, is_at_end, after_stop, after_resend, is_fin_next}
 use Rattle.tcp_state.specs.Calls.{after_send, after_recv, beyond_shutdown, shutdown_refusal, after_shutdown, aborted_at, after_release, is_removed_by_close, is_aborted_by_close}
-use Rattle.tcp_state.specs.Arrival.{owing_ack, ends_by_syn, ends_by_reset, is_acting_reset, is_acceptable_to, after_reset, reset_error, after_rst_in_syn_sent, after_rst, is_right_syn_ack, after_syn_ack, after_acknowledging_segment, after_acceptable_segment, after_segment, is_lost, after_lost}
+use Rattle.tcp_state.specs.Arrival.{owing_ack, ends_by_syn, ends_by_reset, is_acting_reset, is_acceptable_to, after_reset, reset_error, after_rst_in_syn_sent, after_rst, is_right_syn_ack, after_syn_ack, is_simultaneous_syn, after_simultaneous_syn, after_acknowledging_segment, after_acceptable_segment, after_segment, is_lost, after_lost}
 use Rattle.tcp_state.specs.Due.{first_due}
 use Rattle.tcp_state.specs.Unreachable.{is_unreachable}
 use Rattle.tcp_state.specs.Edges.{Event, Hears, Ticks, Emits, Sends, Receives, Shuts, Closes, Aborts, Unreachable, after_first, after_event, is_last_ack}
@@ -69,8 +69,9 @@ seen_by_segment v s lives connection =
     (λ past. either View P (is_acting_reset v s) _ _
     (λ acts. either View P (ends_by_reset v s) v (after_reset v (reset_error v.state)) (λ removed. none) (λ stays. reset))
     (λ elsewhere. either View P (is_in_window v.receiving s.number) (owing_ack v) v (λ drawn. owing) (λ dropped. none))))
-    (λ no_rst. either View P (is_syn_sent v.state) (after_syn_ack v s) _
-    (λ waits. either View P (is_right_syn_ack v s) _ v (λ right k. let bad : true ≡ false = sym k.closed in cc) (λ wrong. none))
+    (λ no_rst. either View P (is_syn_sent v.state) _ _
+    (λ waits. either View P (is_simultaneous_syn v s) (after_simultaneous_syn v s) (after_syn_ack v s) (λ simultaneous k. let bad : true ≡ false = sym k.closed in cc)
+    (λ answers. either View P (is_right_syn_ack v s) _ v (λ right k. let bad : true ≡ false = sym k.closed in cc) (λ wrong. none)))
     (λ past. either View P (is_acceptable_to v s) (after_acceptable_segment v s) (owing_ack v)
     (λ accepted. either View P s.flags.syn _ _
     (λ syn. either View P (ends_by_syn v s) v (owing_ack v) (λ removed. none) (λ drawn. owing))

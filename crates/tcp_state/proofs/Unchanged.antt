@@ -13,7 +13,7 @@ use Rattle.tcp_state.specs.Numbers.{is_before}
 use Rattle.tcp_state.specs.Stream.{outstanding, is_new_ack}
 use Rattle.tcp_state.specs.Windows.{sendable}
 use Rattle.tcp_state.specs.View.{View, IsSound, is_opening, is_syn_sent, is_syn_received, is_closed, is_over, is_due, is_idle, is_time_wait, awaits_fin_ack, is_write_finished, is_fin_next}
-use Rattle.tcp_state.specs.Arrival.{owing_ack, after_establishment, after_ack, is_read_on, after_acknowledging_segment, after_acceptable_segment, ends_opening, is_acceptable_to, is_right_syn_ack, after_syn_ack, after_segment, is_lost, after_lost, after_heard, begins_wait, starts_clock, repeats_fin, timed, after_segment_at, acknowledges_unsent, is_rejected, fate}
+use Rattle.tcp_state.specs.Arrival.{owing_ack, after_establishment, after_ack, is_read_on, after_acknowledging_segment, after_acceptable_segment, ends_opening, is_acceptable_to, is_right_syn_ack, after_syn_ack, is_simultaneous_syn, after_simultaneous_syn, after_segment, is_lost, after_lost, after_heard, begins_wait, starts_clock, repeats_fin, timed, after_segment_at, acknowledges_unsent, is_rejected, fate}
 use Rattle.tcp_state.specs.Due.{first_due, again}
 use Rattle.tcp_state.proofs.Edges.{either, and_left, and_right}
 use Rattle.tcp_state.proofs.Causes.{or_else, not_true}
@@ -95,8 +95,9 @@ unsent_leaves v s u =
     (λ closed. refl)
     (λ lives. either View P s.flags.rst _ _
     (λ rst. clash s.flags.rst rst u.no_rst)
-    (λ no_rst. either View P (is_syn_sent v.state) (after_syn_ack v s) _
-    (λ waits. either View P (is_right_syn_ack v s) _ v (λ right. clash new (and_right (s.flags.syn && s.flags.ack) new right) u.old) (λ wrong. refl))
+    (λ no_rst. either View P (is_syn_sent v.state) _ _
+    (λ waits. either View P (is_simultaneous_syn v s) (after_simultaneous_syn v s) (after_syn_ack v s) (λ simultaneous. clash s.flags.ack u.ack (not_true s.flags.ack (and_right s.flags.syn (not s.flags.ack) simultaneous)))
+    (λ answers. either View P (is_right_syn_ack v s) _ v (λ right. clash new (and_right (s.flags.syn && s.flags.ack) new right) u.old) (λ wrong. refl)))
     (λ past. let r = u.received past in either View P (is_acceptable_to v s) (after_acceptable_segment v s) (owing_ack v)
     (λ accepted. either View P s.flags.syn _ _
     (λ syn. clash s.flags.syn syn r.2)

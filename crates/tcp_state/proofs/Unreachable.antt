@@ -49,12 +49,12 @@ unequal a b differ = elim (eqb_tells a b) [ inl same ↦ absurd (differ same.1) 
 pub other_stays : (v : View) (number : ℕ) → v.sending.una ≢ number → after_event v (Unreachable number) ≡ v
 other_stays v number differ = unhit v number (and_no (is_syn_sent v.state && not (outstanding v.sending == 0)) (v.sending.una == number) (unequal v.sending.una number differ))
 
-none_listed : (xs : List ℕ) → length xs ≤ 0 → xs ≡ []
+pub none_listed : (xs : List ℕ) → length xs ≤ 0 → xs ≡ []
 none_listed [] e = refl
 none_listed (x ∷ xs) e = absurd (omega (arith, e))
 
 -- a connection in SYN-SENT, as it is kept
-record IsOpening (v : View) : Type 0 where
+pub record IsOpening (v : View) : Type 0 where
   pub waits : is_syn_sent v.state ≡ true
   pub kept : v.released ≡ false
   pub quiet : v.owes_reset ≡ false
@@ -70,7 +70,7 @@ unowed SynSent left true e f = cc
 unowed SynSent left false e f = refl
 unowed _ left owes e f = cc
 
-opening : (v : View) → IsSound v → v.state ≡ SynSent → IsOpening v
+pub opening : (v : View) → IsSound v → v.state ≡ SynSent → IsOpening v
 opening v sound opens = record {
   waits = ap is_syn_sent opens;
   kept = unleft v.state v.released opens sound.release;
@@ -87,7 +87,7 @@ hit v sound waits sent =
     equal n = elim (eqb_tells n n) [ inl same ↦ same.0 | inr other ↦ absurd (other.1 refl) ]
 
 -- of what is CLOSED and owes no reset nothing is due
-silent : (v : View) → IsSound v → v.owes_reset ≡ false → first_due (after_reset v (Some ECONNREFUSED)) ≡ None
+pub silent : (v : View) → IsSound v → v.owes_reset ≡ false → first_due (after_reset v (Some ECONNREFUSED)) ≡ None
 silent v sound quiet =
     let w = after_reset v (Some ECONNREFUSED) in
     let none : (outstanding w.sending == 0) ≡ true = ap (λ n. n == 0) (none_outstanding_at v.sending.nxt sound.nxt) in

@@ -10,7 +10,7 @@ use Rattle.tcp_segment.specs.Segment.{Segment}
 use Rattle.clock.specs.declared.moment.Moment.{Moment}
 use Rattle.tcp_state.specs.Stream.{is_new_ack, is_in_window}
 use Rattle.tcp_state.specs.View.{View, is_syn_sent, is_syn_received, is_closed, is_fin_next}
-use Rattle.tcp_state.specs.Arrival.{owing_ack, after_establishment, fin_acknowledged, after_new_ack, after_ack, is_read_on, after_window, after_text, after_fin, after_acknowledging_segment, after_acceptable_segment, ends_by_syn, ends_by_reset, is_acting_reset, is_acceptable_to, after_reset, reset_error, after_rst_in_syn_sent, after_rst, is_right_syn_ack, after_syn_ack, after_segment, is_lost, after_lost, after_segment_at}
+use Rattle.tcp_state.specs.Arrival.{owing_ack, after_establishment, fin_acknowledged, after_new_ack, after_ack, is_read_on, after_window, after_text, after_fin, after_acknowledging_segment, after_acceptable_segment, ends_by_syn, ends_by_reset, is_acting_reset, is_acceptable_to, after_reset, reset_error, after_rst_in_syn_sent, after_rst, is_right_syn_ack, after_syn_ack, is_simultaneous_syn, after_simultaneous_syn, after_segment, is_lost, after_lost, after_segment_at}
 use Rattle.tcp_state.proofs.Edges.{either}
 use Rattle.tcp_state.proofs.Onward.{text_sends, fin_sends}
 
@@ -114,8 +114,9 @@ segment_believes v s =
     (λ past_opening. either View P (is_acting_reset v s) _ _
     (λ acts. either View P (ends_by_reset v s) v (after_reset v (reset_error v.state)) (λ removed. none v refl refl) (λ reset. inl (refl, refl)))
     (λ elsewhere. either View P (is_in_window v.receiving s.number) (owing_ack v) v (λ drawn. inl (refl, refl)) (λ dropped. none v refl refl))))
-    (λ no_rst. either View P (is_syn_sent v.state) (after_syn_ack v s) _
-    (λ waits. either View P (is_right_syn_ack v s) _ v (λ right. inr (refl, refl, inl waits)) (λ wrong. none v refl refl))
+    (λ no_rst. either View P (is_syn_sent v.state) _ _
+    (λ waits. either View P (is_simultaneous_syn v s) (after_simultaneous_syn v s) (after_syn_ack v s) (λ simultaneous. inr (refl, refl, inl waits))
+    (λ answers. either View P (is_right_syn_ack v s) _ v (λ right. inr (refl, refl, inl waits)) (λ wrong. none v refl refl)))
     (λ past_opening. either View P (is_acceptable_to v s) (after_acceptable_segment v s) (owing_ack v)
     (λ accepted. either View P s.flags.syn _ _
     (λ syn. either View P (ends_by_syn v s) v (owing_ack v) (λ removed. none v refl refl) (λ drawn. inl (refl, refl)))

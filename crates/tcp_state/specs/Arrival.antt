@@ -9,7 +9,7 @@ use Rattle.tcp_state.specs.declared.connection.Fate.{Fate}
 use Rattle.tcp_state.specs.declared.connection.Fate.TheVariants.{Stays, Removed, Rejected}
 use Rattle.tcp_state.specs.declared.buffers.TheConstants.{CAPACITY}
 use Rattle.clock.specs.declared.moment.Moment.{Moment}
-use Rattle.tcp_state.specs.declared.connection.Resend.TheVariants.{Idle}
+use Rattle.tcp_state.specs.declared.connection.Resend.TheVariants.{Idle, Due}
 use Rattle.tcp_state.specs.declared.state.State.{State}
 use Rattle.tcp_state.specs.declared.state.State.TheVariants.{SynSent, SynReceived, Established, FinWait1, FinWait2, CloseWait, Closing, LastAck, TimeWait, Closed}
 use Rattle.tcp_state.specs.Stream.{outstanding, is_new_ack, sending_from, receiving_nothing, after_syn_acknowledged, after_acknowledged, is_in_window, is_acceptable, after_syn, after_octets, stands_next, after_end}
@@ -56,7 +56,7 @@ abbrev pub after_rst_in_syn_sent : View → Segment → View
 after_rst_in_syn_sent v s =
     if s.flags.ack && is_new_ack v.sending s.acknowledgement then after_reset v (reset_error v.state) else v
 
--- in SYN-SENT only a SYN that acknowledges ours is taken (section 3.10.7.3); our SYN advertised the whole room of an empty buffer
+-- in SYN-SENT a SYN is taken that acknowledges ours, which ends the opening (section 3.10.7.3, fourth); our SYN advertised the whole room of an empty buffer
 abbrev pub is_right_syn_ack : View → Segment → Bool
 is_right_syn_ack v s = s.flags.syn && s.flags.ack && is_new_ack v.sending s.acknowledgement
 
@@ -69,6 +69,19 @@ after_syn_ack v s =
       owes_ack = true;
       resend = Idle;
     } else v
+
+-- .. or one without ACK, of a peer that opens at the same time (section 3.5, figure 7): a SYN-ACK is due, with the number of our SYN. That had advertised the
+-- whole room, if it went out.
+abbrev pub is_simultaneous_syn : View → Segment → Bool
+is_simultaneous_syn v s = s.flags.syn && not s.flags.ack
+
+abbrev pub after_simultaneous_syn : View → Segment → View
+after_simultaneous_syn v s = record v {
+  state = SynReceived;
+  sending = after_syn_heard v.sending s.number s.window (smss_of s);
+  receiving = after_syn v.receiving s.number (if outstanding v.sending == 0 then 0 else CAPACITY);
+  resend = if outstanding v.sending == 0 then Idle else Due;
+}
 
 -- the acceptability test, in every state but SYN-SENT (section 3.10.7.4, first)
 abbrev pub is_acceptable_to : View → Segment → Bool
@@ -175,7 +188,7 @@ abbrev pub after_segment : View → Segment → View
 after_segment v s =
     if is_closed v.state then v
     else if s.flags.rst then (if is_syn_sent v.state then after_rst_in_syn_sent v s else after_rst v s)
-    else if is_syn_sent v.state then after_syn_ack v s
+    else if is_syn_sent v.state then (if is_simultaneous_syn v s then after_simultaneous_syn v s else after_syn_ack v s)
     else if is_acceptable_to v s then after_acceptable_segment v s
     else owing_ack v
 

@@ -11,3 +11,4 @@ pub mod Unreachable
 pub mod Edges
 pub mod Positions
 pub mod Inside
+pub mod Simultaneous

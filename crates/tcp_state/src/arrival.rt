@@ -2,8 +2,10 @@
 
 ghost use Rattle.std.specs.Prelude.{◌≡◌, true, false, ◌&&◌, ◌||◌, not, if◌then◌else◌, IsTrue, ◌==◌};
 ghost use Rattle.tcp_state.specs.View.{is_opening, is_syn_sent, is_syn_received, is_closed, is_fin_next};
-ghost use Rattle.tcp_state.specs.Arrival.{after_segment, after_syn_ack, owing_ack, after_establishment, after_ack, is_read_on, after_window, after_text, after_acknowledging_segment, after_acceptable_segment, ends_by_syn, is_acceptable_to, fin_acknowledged, after_new_ack, after_fin, after_reset, reset_error, after_rst_in_syn_sent, after_rst, is_acting_reset, ends_by_reset, is_right_syn_ack, fate, after_segment_at, after_heard, is_lost, is_read, brings_more, after_lost, repeats_fin, is_rejected, ends_opening};
-ghost use Rattle.tcp_state.specs.Stream.{is_new_ack};
+ghost use Rattle.tcp_state.specs.Arrival.{after_segment, after_syn_ack, owing_ack, after_establishment, after_ack, is_read_on, after_window, after_text, after_acknowledging_segment, after_acceptable_segment, ends_by_syn, is_acceptable_to, fin_acknowledged, after_new_ack, after_fin, after_reset, reset_error, after_rst_in_syn_sent, after_rst, is_acting_reset, ends_by_reset, is_right_syn_ack, is_simultaneous_syn, after_simultaneous_syn, fate, after_segment_at, after_heard, is_lost, is_read, brings_more, after_lost, repeats_fin, is_rejected, ends_opening};
+ghost use Rattle.tcp_segment.specs.Segment.{smss_of};
+ghost use Rattle.tcp_state.specs.Stream.{is_new_ack, after_syn};
+ghost use Rattle.tcp_state.specs.Windows.{after_syn_heard};
 
 use crate::buffers::CAPACITY;
 use crate::connection::{Connection, Fate, Resend};
@@ -54,7 +56,7 @@ impl Connection {
             return self.hear_reset(segment);
         }
         if self.state == State::SynSent {
-            return self.hear_syn_ack(segment);
+            return self.hear_first_syn(segment);
         }
         if !self.is_acceptable(segment) {
             self.owes_ack = true;
@@ -211,20 +213,44 @@ impl Connection {
         );
     }
 
-    /// In SYN-SENT only a SYN that acknowledges ours is taken (RFC 9293 section 3.10.7.3).
-    fn hear_syn_ack(&mut self, segment: &TcpView<'_>) -> Fate
+    /// Takes a segment without RST in SYN-SENT: a SYN that acknowledges ours, or one without ACK (RFC 9293 section 3.10.7.3).
+    fn hear_first_syn(&mut self, segment: &TcpView<'_>) -> Fate
         requires { is_syn_sent self.old.state ≡ true }
         ensures fate { result ≡ (if segment.now.flags.ack && not (is_new_ack self.old.sending segment.now.acknowledgement) then Fate.Rejected else Fate.Stays) }
-        ensures after { self.new ≡ after_syn_ack self.old segment.now }
+        ensures after { self.new ≡ (if is_simultaneous_syn self.old segment.now then after_simultaneous_syn self.old segment.now else after_syn_ack self.old segment.now) }
     {
         let flags = segment.flags();
         if flags.ack && !self.sender.is_new(segment.acknowledgement()) {
             return Fate::Rejected;
         }
-        if flags.syn && flags.ack {
-            self.establish_by(segment);
+        if flags.syn {
+            if flags.ack {
+                self.establish_by(segment);
+            } else {
+                self.answer_syn(segment);
+            }
         }
         Fate::Stays
+    }
+
+    /// The peer opens at the same time: a SYN-ACK is due, with the number of our SYN.
+    fn answer_syn(&mut self, segment: &TcpView<'_>)
+        requires { is_syn_sent self.old.state ≡ true }
+        ensures { self.new ≡ after_simultaneous_syn self.old segment.now }
+    {
+        let was_sent = self.sender.outstanding() != 0;
+        self.take_syn(segment, if was_sent { CAPACITY as u16 } else { 0 });
+        self.resend = if was_sent { Resend::Due } else { Resend::Idle };
+        self.state = State::SynReceived;
+    }
+
+    /// Takes what the peer's SYN says. Our SYN advertised a window of so many octets to it.
+    fn take_syn(&mut self, syn: &TcpView<'_>, advertised: u16)
+        requires { is_syn_sent self.old.state ≡ true }
+        ensures { self.new ≡ record self.old { sending = after_syn_heard self.old.sending syn.now.number syn.now.window (smss_of syn.now); receiving = after_syn self.old.receiving syn.now.number advertised } }
+    {
+        self.sender.hear_syn(syn.number(), syn.window(), syn.smss());
+        self.receiver.hear_syn(syn.number(), advertised);
     }
 
     /// The peer's SYN acknowledges ours.
@@ -233,10 +259,8 @@ impl Connection {
         requires right { is_right_syn_ack self.old segment.now ≡ true }
         ensures { self.new ≡ after_syn_ack self.old segment.now }
     {
-        self.sender
-            .hear_syn(segment.number(), segment.window(), segment.smss());
+        self.take_syn(segment, CAPACITY as u16);
         self.sender.acknowledge_syn();
-        self.receiver.hear_syn(segment.number(), CAPACITY as u16);
         self.state = State::Established;
         self.resend = Resend::Idle;
         self.owes_ack = true;

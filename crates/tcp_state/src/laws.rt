@@ -1,6 +1,7 @@
 //! Laws over the definitions alone: functions with nothing to do, whose contracts are the laws.
 
 ghost use Rattle.std.specs.Prelude.{◌≡◌, ℕ, ◌+◌, ◌-◌, ◌<◌, ◌≤◌, ◌==◌, ◌≢◌, nat_lt, ◌^◌, ◌⊎◌, ◌↔◌, ◌||◌, List, [], ◌++◌, slice_get, length, true, false, if◌then◌else◌, Some, None, is_some};
+ghost use Rattle.ipv4.specs.declared.addr.Endpoint.{Endpoint};
 ghost use Rattle.tcp_segment.specs.Segment.{Segment, span_of};
 ghost use Rattle.tcp_state.specs.declared.calls.Refusal.{Refusal};
 ghost use Rattle.clock.specs.declared.moment.Moment.{Moment};
@@ -8,7 +9,7 @@ ghost use Rattle.clock.specs.Moments.{has_come};
 ghost use Rattle.tcp_state.specs.declared.connection.Fate.{Fate};
 ghost use Rattle.tcp_state.specs.declared.state.State.{State};
 ghost use Rattle.tcp_state.specs.declared.emission.Due.{Due};
-ghost use Rattle.tcp_state.specs.View.{View, IsSound, is_closed, is_syn_sent, is_over, is_due, is_read_closed, deadline, after_tick, reset_since};
+ghost use Rattle.tcp_state.specs.View.{View, IsSound, is_closed, is_syn_sent, is_over, is_due, is_read_closed, deadline, after_tick, reset_since, opened_actively};
 ghost use Rattle.tcp_segment.specs.Wire.{wire, IsBefore};
 ghost use Rattle.tcp_state.specs.Numbers.{is_before};
 ghost use Rattle.tcp_state.specs.Halves.{Sending, Receiving};
@@ -18,6 +19,7 @@ ghost use Rattle.tcp_state.specs.Positions.{ReceivesAt, IsNear, MeetsWindow, Are
 ghost use Rattle.tcp_state.specs.Arrival.{fate, is_acceptable_to, is_receiving, is_read, after_ack, after_segment_at};
 ghost use Rattle.tcp_state.specs.Due.{first_due};
 ghost use Rattle.tcp_state.specs.Unreachable.{IsRefused};
+ghost use Rattle.tcp_state.specs.Simultaneous.{crossed, AnswersSyn, HasOpened};
 ghost use Rattle.tcp_state.specs.Edges.{Event, after_event, fate_by, moment_of, state_after, IsEdge, ends_by, is_cause, may_raise};
 
 /// One event joins only states that the table of edges joins, or leaves the state.
@@ -153,4 +155,23 @@ pub fn hard_errors_end_openings_alone()
     ensures numbered { (v : View) (number : ℕ) → v.sending.una ≢ number → after_event v (Event.Unreachable number) ≡ v }
     ensures ends { (v : View) → IsSound v → v.state ≡ State.SynSent → v.sending.nxt ≢ v.sending.una
         → IsRefused (after_event v (Event.Unreachable v.sending.una)) × (fate_by v (Event.Unreachable v.sending.una) ≡ Fate.Stays) }
+{}
+
+/// Two connections that open to each other at the same time (RFC 9293 section 3.5, figure 7): once their SYNs crossed, a SYN-ACK is due at each, with the number
+/// of its SYN; once the SYN-ACKs crossed, and then what is due for them, both are open, and each expects the number behind the other's SYN.
+pub fn simultaneous_openings_meet()
+    ensures answers { (here there : Endpoint) (isn other : ℕ) (first : Moment) → isn < 2 ^ 32 → other < 2 ^ 32
+        → (let ends = crossed (record { one = opened_actively here there isn; other = opened_actively there here other }) first in AnswersSyn isn other ends.one × AnswersSyn other isn ends.other) }
+    ensures opens { (here there : Endpoint) (isn other : ℕ) (first second third : Moment) → isn < 2 ^ 32 → other < 2 ^ 32
+        → (let ends = crossed (crossed (crossed (record { one = opened_actively here there isn; other = opened_actively there here other }) first) second) third in
+        HasOpened isn other ends.one × HasOpened other isn ends.other) }
+{}
+
+/// A SYN without ACK that comes to a connection in SYN-SENT draws a SYN-ACK with the number of its own SYN, whether that has gone out or not (RFC 9293 section
+/// 3.10.7.3, fourth). A reset at RCV.NXT then ends it as refused, as in SYN-SENT, and leaves it its place (section 3.10.7.4, second).
+pub fn simultaneous_syns_are_answered()
+    ensures answered { (v : View) (s : Segment) (now : Moment) → IsSound v → v.state ≡ State.SynSent → s.flags.rst ≡ false → s.flags.syn ≡ true → s.flags.ack ≡ false
+        → AnswersSyn v.sending.una s.number (after_segment_at v s now) × (fate v s ≡ Fate.Stays) }
+    ensures reset { (v : View) (s : Segment) (now : Moment) → IsSound v → v.state ≡ State.SynReceived → v.passive ≡ false → s.flags.rst ≡ true → s.number ≡ v.receiving.rnext → span_of s ≡ 0
+        → IsRefused (after_segment_at v s now) × (fate v s ≡ Fate.Stays) }
 {}

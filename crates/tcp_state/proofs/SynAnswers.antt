@@ -1,0 +1,167 @@
+-- Why a SYN without ACK in SYN-SENT draws a SYN-ACK, and what a reset then does.
+use Rattle.std.proofs.Common.{◌≡◌, ℕ, ◌^◌, ◌<◌, ◌≤◌, ◌==◌, ◌||◌, ◌&&◌, not, min, nat_le, if◌then◌else◌, Bool, true, false, length, Some, arith, refl, sym, ◌∙◌, ap, subst}
+use Rattle.std.proofs.lemmas.Bool.{le-leb, eq-eqb}
+use Rattle.clock.specs.declared.moment.Moment.{Moment}
+use Rattle.tcp_segment.specs.Segment.{Segment, span_of}
+use Rattle.tcp_segment.specs.Wire.{wire, past}
+use Rattle.tcp_state.specs.declared.calls.Refusal.TheVariants.{ECONNREFUSED}
+use Rattle.tcp_state.specs.declared.connection.Fate.TheVariants.{Stays, Removed, Rejected}
+use Rattle.tcp_state.specs.declared.connection.Resend.TheVariants as resend
+use Rattle.tcp_state.specs.declared.emission.Due.TheVariants.{Rst, Syn}
+use Rattle.tcp_state.specs.declared.state.State.{State}
+use Rattle.tcp_state.specs.declared.state.State.TheVariants.{SynSent, SynReceived}
+use Rattle.tcp_state.specs.Numbers.{later_number}
+use Rattle.tcp_state.specs.Stream.{outstanding, is_new_ack}
+use Rattle.tcp_state.specs.View.{View, IsSound, is_opening, is_syn_sent, is_syn_received, is_closed, is_over, is_due, is_write_closed, is_fin_next}
+use Rattle.tcp_state.specs.Arrival.{after_reset, reset_error, after_rst_in_syn_sent, after_rst, is_acting_reset, ends_by_reset, ends_by_syn, ends_opening, is_acceptable_to, is_simultaneous_syn, after_simultaneous_syn, after_syn_ack, after_segment, is_receiving, is_read, brings_more, is_lost, after_lost, after_heard, timed, after_segment_at, is_rejected, fate}
+use Rattle.tcp_state.specs.Due.{first_due, ack_due}
+use Rattle.tcp_state.specs.Edges.{after_first}
+use Rattle.tcp_state.specs.Simultaneous.{AnswersSyn}
+use Rattle.tcp_state.specs.Unreachable.{IsRefused}
+use Rattle.tcp_state.proofs.Edges.{either}
+use Rattle.tcp_state.proofs.Causes.{both, of_false}
+use Rattle.tcp_state.proofs.Unchanged.{clash}
+use Rattle.tcp_state.proofs.Resets.{next_accepted, rst_not_lost, rst_not_refused}
+use Rattle.tcp_state.proofs.Unreachable.{none_listed, opening, silent}
+
+-- The SYN.
+
+answered : (v : View) (s : Segment) → is_closed v.state ≡ false → is_syn_sent v.state ≡ true → s.flags.rst ≡ false → is_simultaneous_syn v s ≡ true → after_segment v s ≡ after_simultaneous_syn v s
+answered v s lives waits no_rst syn =
+    let P : View → Type 0 = λ w. w ≡ after_simultaneous_syn v s in
+    either View P (is_closed v.state) v _
+    (λ closed. clash (is_closed v.state) closed lives)
+    (λ open_yet. either View P s.flags.rst _ _
+    (λ rst. clash s.flags.rst rst no_rst)
+    (λ plain. either View P (is_syn_sent v.state) _ _
+    (λ opens. either View P (is_simultaneous_syn v s) (after_simultaneous_syn v s) (after_syn_ack v s) (λ is. refl) (λ other. clash (is_simultaneous_syn v s) syn other))
+    (λ past_opening. clash (is_syn_sent v.state) waits past_opening)))
+
+goes_at_once : (none : Bool) → (none || is_due (if none then resend.Idle else resend.Due)) ≡ true
+goes_at_once true = refl
+goes_at_once false = refl
+
+one_out : (v : View) → IsSound v → v.state ≡ SynSent → outstanding v.sending ≤ 1
+one_out v sound opens = subst (λ t. outstanding v.sending ≤ (if is_opening t || is_fin_next v then 1 else min (length v.sending.held) 1460)) opens sound.flight
+
+-- SND.NXT is the number behind the SYN, whether that had gone out or goes out now
+then_sent : (una nxt : ℕ) → una < 2 ^ 32 → nxt < 2 ^ 32 → past nxt una ≤ 1 → later_number una nxt (wire una 1) ≡ wire una 1
+then_sent una nxt small fits few =
+    either ℕ (λ n. n ≡ wire una 1) (nat_le (past nxt una) (past (wire una 1) una)) (wire una 1) nxt
+    (λ le. refl) (λ gt. clash (nat_le (past nxt una) (past (wire una 1) una)) (le-leb (past nxt una) (past (wire una 1) una) (omega (arith, small, few))) gt)
+
+answers : (v : View) (s : Segment) (now : Moment) → IsSound v → v.state ≡ SynSent → AnswersSyn v.sending.una s.number (timed v s now (after_simultaneous_syn v s))
+answers v s now sound opens =
+    let w = timed v s now (after_simultaneous_syn v s) in
+    let none = outstanding v.sending == 0 in
+    let o = opening v sound opens in
+    let due : first_due w ≡ Some Syn =
+    ap (λ b. if b then Some Rst else (if none || is_due (if none then resend.Idle else resend.Due) then Some Syn else ack_due w)) o.quiet ∙ ap (λ b. if b then Some Syn else ack_due w) (goes_at_once none) in
+    record {
+      state = refl;
+      due = due;
+      syn = refl;
+      ack = refl;
+      number = refl;
+      expects = refl;
+      then_sent = λ later. ap (λ d. (after_first w d later).sending.nxt) due ∙ then_sent v.sending.una v.sending.nxt sound.una sound.nxt (one_out v sound opens);
+    }
+
+living : (t : State) → t ≡ SynSent → is_closed t ≡ false
+living SynSent e = refl
+living _ e = cc
+
+stays_where : (closed lost over refused opening : Bool) → over ≡ false → refused ≡ false → opening ≡ false
+    → (if closed || lost then Stays else if over then Removed else if refused then Rejected else if opening then Removed else Stays) ≡ Stays
+stays_where true lost over refused opening a b c = refl
+stays_where false true over refused opening a b c = refl
+stays_where false false false false false a b c = refl
+stays_where false false true refused opening a b c = cc
+stays_where false false false true opening a b c = cc
+stays_where false false false false true a b c = cc
+
+without_ack : (rst ack other more : Bool) → ack ≡ false → (not rst && ack && not other && more) ≡ false
+without_ack true ack other more e = refl
+without_ack false false other more e = refl
+without_ack false true other more e = cc
+
+pub syn_answered : (v : View) (s : Segment) (now : Moment) → IsSound v → v.state ≡ SynSent → s.flags.rst ≡ false → s.flags.syn ≡ true → s.flags.ack ≡ false
+    → AnswersSyn v.sending.una s.number (after_segment_at v s now) × (fate v s ≡ Stays)
+syn_answered v s now sound opens no_rst syn no_ack =
+    let o = opening v sound opens in
+    let is : is_simultaneous_syn v s ≡ true = both s.flags.syn (not s.flags.ack) syn (of_false s.flags.ack no_ack) in
+    let same = answered v s (living v.state opens) o.waits no_rst is in
+    let kept : is_lost v s ≡ false = ap (λ b. b && is_receiving v.state && is_read v s && brings_more v s) o.kept in
+    let heard : after_heard v s ≡ after_simultaneous_syn v s = ap (λ b. if b then after_lost v s else after_segment v s) kept ∙ same in (
+      subst (λ w. AnswersSyn v.sending.una s.number (timed v s now w)) (sym heard) (answers v s now sound opens),
+      stays_where (is_closed v.state) (is_lost v s) (is_over (after_segment v s)) (is_rejected v s) (ends_opening v s) (ap is_over same)
+          (without_ack s.flags.rst s.flags.ack (is_new_ack v.sending s.acknowledgement) _ no_ack)
+          (ap (λ b. not b && (if s.flags.rst then ends_by_reset v s else ends_by_syn v s)) o.waits),
+    )
+
+-- A reset.
+
+record IsAnswering (v : View) : Type 0 where
+  pub lives : is_closed v.state ≡ false
+  pub past_opening : is_syn_sent v.state ≡ false
+  pub quiet : v.owes_reset ≡ false
+
+unowed : (t : State) (left owes : Bool) → t ≡ SynReceived → (owes && not (is_closed t && left)) ≡ false → owes ≡ false
+unowed SynReceived left true e f = cc
+unowed SynReceived left false e f = refl
+unowed _ left owes e f = cc
+
+answering : (v : View) → IsSound v → v.state ≡ SynReceived → IsAnswering v
+answering v sound is = record { lives = ap is_closed is; past_opening = ap is_syn_sent is; quiet = unowed v.state v.released v.owes_reset is sound.reset }
+
+reset_leaves : (v : View) (s : Segment) → IsAnswering v → s.flags.rst ≡ true → is_acting_reset v s ≡ true → ends_by_reset v s ≡ false → after_segment v s ≡ after_reset v (reset_error v.state)
+reset_leaves v s a rst acts kept =
+    let P : View → Type 0 = λ w. w ≡ after_reset v (reset_error v.state) in
+    either View P (is_closed v.state) v _
+    (λ closed. clash (is_closed v.state) closed a.lives)
+    (λ open_yet. either View P s.flags.rst _ _
+    (λ is_rst. either View P (is_syn_sent v.state) (after_rst_in_syn_sent v s) (after_rst v s)
+    (λ waits. clash (is_syn_sent v.state) waits a.past_opening)
+    (λ past. either View P (is_acting_reset v s) _ _
+    (λ acting. either View P (ends_by_reset v s) v (after_reset v (reset_error v.state)) (λ removed. clash (ends_by_reset v s) removed kept) (λ reset. refl))
+    (λ elsewhere. clash (is_acting_reset v s) acts elsewhere)))
+    (λ no_rst. clash s.flags.rst rst no_rst))
+
+refused : (v : View) (s : Segment) (now : Moment) → IsSound v → v.state ≡ SynReceived → v.owes_reset ≡ false → IsRefused (timed v s now (after_reset v (Some ECONNREFUSED)))
+refused v s now sound is quiet = record {
+  closed = refl;
+  send = λ octets. refl;
+  recv = λ len. refl;
+  held = refl;
+  readable = none_listed v.receiving.readable (subst (λ t. length v.receiving.readable ≤ (if is_opening t then 0 else 65535)) is sound.readable);
+  due = silent v sound quiet;
+  timer = refl;
+}
+
+by_no_listener : (acts passive received : Bool) → passive ≡ false → (acts && passive && received) ≡ false
+by_no_listener true true received e = cc
+by_no_listener true false received e = refl
+by_no_listener false passive received e = refl
+
+pub reset_refuses : (v : View) (s : Segment) (now : Moment) → IsSound v → v.state ≡ SynReceived → v.passive ≡ false → s.flags.rst ≡ true → s.number ≡ v.receiving.rnext → span_of s ≡ 0
+    → IsRefused (after_segment_at v s now) × (fate v s ≡ Stays)
+reset_refuses v s now sound is active rst same none =
+    let a = answering v sound is in
+    let accepted : is_acceptable_to v s ≡ true = next_accepted v.receiving s.number (span_of s) sound.rnext same none in
+    let acts : is_acting_reset v s ≡ true = both (is_acceptable_to v s) (s.number == v.receiving.rnext) accepted (eq-eqb s.number v.receiving.rnext same) in
+    let kept : ends_by_reset v s ≡ false = by_no_listener (is_acting_reset v s) v.passive (is_syn_received v.state) active in
+    let error : reset_error v.state ≡ Some ECONNREFUSED = ap reset_error is in
+    let leaves : after_segment v s ≡ after_reset v (Some ECONNREFUSED) = reset_leaves v s a rst acts kept ∙ ap (after_reset v) error in
+    let heard : after_heard v s ≡ after_reset v (Some ECONNREFUSED) = ap (λ b. if b then after_lost v s else after_segment v s) (rst_not_lost v s rst) ∙ leaves in
+    let left : v.released ≡ false = unleft v.state v.released is sound.release in (
+      subst (λ w. IsRefused (timed v s now w)) (sym heard) (refused v s now sound is a.quiet),
+      stays_where (is_closed v.state) (is_lost v s) (is_over (after_segment v s)) (is_rejected v s) (ends_opening v s)
+          (ap is_over leaves ∙ ap (λ b. b && not v.owes_reset) left)
+          (rst_not_refused v s rst)
+          (ap (λ b. not b && (if s.flags.rst then ends_by_reset v s else ends_by_syn v s)) a.past_opening ∙ (ap (λ b. if b then ends_by_reset v s else ends_by_syn v s) rst ∙ kept)),
+    )
+  where
+    unleft : (t : State) (left : Bool) → t ≡ SynReceived → (left && not (is_write_closed t)) ≡ false → left ≡ false
+    unleft SynReceived true e f = cc
+    unleft SynReceived false e f = refl
+    unleft _ left e f = cc
