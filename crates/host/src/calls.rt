@@ -13,7 +13,7 @@ use tcp_state::Received;
 
 impl Host {
     ghost use Rattle.host.specs.HostView.{with_sockets};
-    ghost use Rattle.sockets.specs.Calls.{is_table_full, IsMade, bind_refusal, after_bind, listen_refusal, after_listen, accept_answer, after_accept, connect_refusal, after_connect, pair_connected, send_answer, after_send, recv_answer, recv_front, after_recv, shutdown_refusal, after_shutdown, close_refusal, after_close, state_answer};
+    ghost use Rattle.sockets.specs.Calls.{is_table_full, IsMade, bind_refusal, after_bind, listen_refusal, after_listen, accept_answer, after_accept, connect_refusal, after_connect, pair_connected, send_answer, after_send, recv_answer, recv_front, after_recv, shutdown_refusal, after_shutdown, close_refusal, after_close, state_answer, sockname_answer, peername_answer};
     ghost use Rattle.sockets.specs.Datagrams.{sendto_answer, after_sendto, recvfrom_answer, recvfrom_front, after_recvfrom};
 
     /// Makes a socket: a stream socket with the room for one connection, or a datagram socket with the room for its datagrams. EMFILE where the table is full or the last id is given, ENOMEM.
@@ -26,10 +26,11 @@ impl Host {
         self.sockets.socket(kind)
     }
 
-    /// Binds a socket to a local endpoint, at our address or 0.0.0.0, which stands for it.
+    /// Binds a socket to a local endpoint, at our address or 0.0.0.0, which stands for it. In place of port 0 it is given a dynamic port
+    /// (RFC 6335 section 6): the first behind the last one given that no entry of the socket's kind has. `sockname` tells which.
     ///
-    /// EBADF; EINVAL where it is bound already or has had a connection, or the port is 0; EADDRNOTAVAIL at another
-    /// address; EADDRINUSE where an entry of the socket's kind has the port.
+    /// EBADF; EINVAL where it is bound already or has had a connection; EADDRNOTAVAIL at another address; EADDRINUSE where an entry of the
+    /// socket's kind has the port, or port 0 is asked for and no dynamic port is free.
     pub fn bind(&mut self, id: SocketId, local: Endpoint) -> Result<(), Refusal>
         ensures refused { result_err result ≡ bind_refusal self.old.sockets id local }
         ensures ok { OnOk result (self.new ≡ with_sockets self.old (after_bind self.old.sockets id local)) }
@@ -38,10 +39,11 @@ impl Host {
         self.sockets.bind(id, local)
     }
 
-    /// Lets a bound socket take connections, of which `backlog` may wait to be accepted.
+    /// Lets a bound socket take connections, of which `backlog` may wait, 1 to 8: those in SYN-RECEIVED and those that are not accepted count,
+    /// reset since or not.
     ///
-    /// EBADF; EOPNOTSUPP for a datagram socket; EINVAL where the backlog is not 1, or the socket listens already or has had a connection;
-    /// EDESTADDRREQ where it is not bound.
+    /// EBADF; EOPNOTSUPP for a datagram socket; EINVAL where the backlog is not 1 to 8, or the socket listens already or has had a
+    /// connection; EDESTADDRREQ where it is not bound.
     pub fn listen(&mut self, id: SocketId, backlog: usize) -> Result<(), Refusal>
         ensures refused { result_err result ≡ listen_refusal self.old.sockets id backlog }
         ensures ok { OnOk result (self.new ≡ with_sockets self.old (after_listen self.old.sockets id backlog)) }
@@ -50,7 +52,7 @@ impl Host {
         self.sockets.listen(id, backlog)
     }
 
-    /// Takes the connection that first passed SYN-RECEIVED of those that wait at a listener: its id from now on, and its peer.
+    /// Takes the connection that first passed SYN-RECEIVED of those that wait at a listener, reset since or not: its id from now on, and its peer.
     ///
     /// EBADF; EOPNOTSUPP for a datagram socket; EINVAL where the socket does not listen; EAGAIN where no connection waits.
     pub fn accept(&mut self, id: SocketId) -> Result<(SocketId, Endpoint), Refusal>
@@ -179,5 +181,20 @@ impl Host {
         ensures { result ≡ state_answer self.now.sockets id }
     {
         self.sockets.state(id)
+    }
+
+    /// Where a socket is: the local end of its connection, else the endpoint that it is bound to, with the port that it was given; 0.0.0.0 and
+    /// port 0 where it is not bound. EBADF.
+    pub fn sockname(&self, id: SocketId) -> Result<Endpoint, Refusal>
+        ensures { result ≡ sockname_answer self.now.sockets id }
+    {
+        self.sockets.sockname(id)
+    }
+
+    /// The peer of a socket's connection, in any state, CLOSED too. EBADF; ENOTCONN where it has had none.
+    pub fn peername(&self, id: SocketId) -> Result<Endpoint, Refusal>
+        ensures { result ≡ peername_answer self.now.sockets id }
+    {
+        self.sockets.peername(id)
     }
 }

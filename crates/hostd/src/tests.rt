@@ -1,5 +1,6 @@
 //! Whole scripts and frames, from memory to memory. The expected lines are those that the documents of the project give.
 
+mod backlog;
 mod closing;
 mod command_line;
 mod datagrams;
@@ -12,6 +13,8 @@ mod losses;
 mod refusals;
 mod resets;
 mod scripts;
+mod simultaneous;
+mod table;
 mod windows;
 
 use crate::fault::TextFault;
@@ -53,7 +56,8 @@ pass 0 -> a 1 b 1
 
 /// All transcripts. Each is a list of parts, in whose lines an arrow parts a script's line from what it prints; a line without
 /// one prints nothing.
-const TRANSCRIPTS: [&[&[&str]]; 9] = [
+const TRANSCRIPTS: [&[&[&str]]; 12] = [
+    backlog::TRANSCRIPTS,
     closing::TRANSCRIPTS,
     datagrams::TRANSCRIPTS,
     drops::TRANSCRIPTS,
@@ -62,6 +66,8 @@ const TRANSCRIPTS: [&[&[&str]]; 9] = [
     refusals::TRANSCRIPTS,
     resets::TRANSCRIPTS,
     scripts::TRANSCRIPTS,
+    simultaneous::TRANSCRIPTS,
+    table::TRANSCRIPTS,
     windows::TRANSCRIPTS,
 ];
 

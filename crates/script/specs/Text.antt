@@ -4,6 +4,7 @@ use Rattle.std.specs.List.{flat_map}
 use Rattle.std.specs.Fmt.{decimal}
 use Rattle.wire_sim.specs.declared.event.Answer.{Answer}
 use Rattle.wire_sim.specs.declared.event.Answer.TheVariants.{Socket, Done, Accepted, Started, Sent, Octets, Datagram, EndOfStream, State, Frame, NoFrame, Taken, Dropped, Refused}
+use Rattle.wire_sim.specs.declared.event.Answer.TheVariants as answered
 use Rattle.ipv4.specs.declared.addr.Endpoint.{Endpoint}
 use Rattle.sockets.specs.Names.{refusal_text, socket_state_text}
 use Rattle.frames.specs.Drops.{number_of}
@@ -33,7 +34,7 @@ style_of (Count id most) = style.Count
 style_of (CountFrom id most) = style.Count
 style_of action = style.Text
 
--- a peer: the four numbers of its address with points between them, and its port
+-- an end, as a peer: the four numbers of its address with points between them, and its port
 abbrev pub peer_text : Endpoint → List ℕ
 peer_text peer =
     decimal (slice_index peer.addr.0 0) ++ (codes "." ++ (decimal (slice_index peer.addr.0 1) ++ (codes "."
@@ -55,6 +56,7 @@ shown_of how (Octets octets) = octets_text how octets.items
 shown_of how (Datagram octets from) = octets_text how octets.items ++ (codes " from " ++ peer_text from)
 shown_of how EndOfStream = codes "end"
 shown_of how (State told) = socket_state_text told
+shown_of how (answered.Endpoint end) = peer_text end
 shown_of how (Frame index len) = codes "frame " ++ decimal index ++ codes " " ++ decimal len
 shown_of how NoFrame = codes "none"
 shown_of how Taken = codes "taken"

@@ -66,6 +66,7 @@ pub fn show(answer: &Answer, style: Style, line: &mut String) -> Result<(), Allo
         Answer::Datagram { octets, from } => show_datagram(octets.as_slice(), *from, style, line),
         Answer::EndOfStream => line.push_str("end"),
         Answer::State(state) => write!(line, "{state}"),
+        Answer::Endpoint(end) => show_peer(*end, line),
         Answer::Frame { index, len } => write!(line, "frame {index} {len}"),
         Answer::NoFrame => line.push_str("none"),
         Answer::Taken => line.push_str("taken"),

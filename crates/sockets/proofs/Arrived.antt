@@ -11,9 +11,9 @@ use Rattle.sockets.specs.declared.role.Role.{Role}
 use Rattle.sockets.specs.declared.entry.Entry.{Entry}
 use Rattle.sockets.specs.declared.taken.Taken.{Taken}
 use Rattle.sockets.specs.declared.taken.Taken.TheVariants.{Done, Answer}
-use Rattle.sockets.specs.Arrival.{Arrival, Becomes, Answers, local_end, peer_end, is_opening, arrival_with_reply, arrival_alone, arrival, Meets}
+use Rattle.sockets.specs.Arrival.{Arrival, Becomes, Answers, local_end, peer_end, is_opening, arrival_with_reply, offered_with, arrival_at_connection, arrival_alone, arrival, Meets}
 use Rattle.sockets.specs.Replies.{reset_at_ack, answer_to, answer_at_listener}
-use Rattle.sockets.specs.Entries.{is_between, is_listening_at, role_after_segment, fate_of, is_kept, entries_after_step, with_role}
+use Rattle.sockets.specs.Entries.{is_between, is_listening_at, role_after_segment, fate_of, is_offered_by, is_kept, entries_after_step, with_role}
 use Rattle.sockets.specs.SocketsView.{SocketsView, later_moment}
 use Rattle.sockets.specs.Lists.{change_first, remove_first}
 use Rattle.sockets.proofs.Firsts.{refill_set, remove_first-position, remove-set}
@@ -46,16 +46,21 @@ entry_settled v h p f zs ws i x y r same place lent at written is = by_kept (is_
         ∙ ap (λ (w : SocketsView). let u : SocketsView = record w { entries = remove_first p h.entries } in u) same
         ∙ ap (λ b. let w : SocketsView = record h { entries = if b then change_first p (with_role f) h.entries else remove_first p h.entries } in w) (sym gone)
 
--- a segment for a connection of the table, which refuses it ..
+-- a segment for a connection of the table goes to it
+at-connection : (h : SocketsView) (now : Moment) (isn : ℕ) (source : Addr) (s : Segment) (e : Entry) → find (is_between (local_end h s) (peer_end source s)) h.entries ≡ Some e
+    → arrival h now isn source s ≡ arrival_at_connection h now source s e (fate_of s e.role)
+at-connection h now isn source s e found = rw found
+
+-- .. which refuses it ..
 pub refusal-answered : (h : SocketsView) (now : Moment) (isn : ℕ) (source : Addr) (s : Segment) (e : Entry) → find (is_between (local_end h s) (peer_end source s)) h.entries ≡ Some e → fate_of s e.role ≡ Rejected
     → arrival h now isn source s ≡ Answers (reset_at_ack s)
 refusal-answered h now isn source s e found refused = rw (found, refused)
 
 -- .. or takes it
 pub taken : (h : SocketsView) (now : Moment) (isn : ℕ) (source : Addr) (s : Segment) (e : Entry) (r : Fate) → find (is_between (local_end h s) (peer_end source s)) h.entries ≡ Some e → fate_of s e.role ≡ r → (r ≡ Rejected → ⊥)
-    → arrival h now isn source s ≡ Becomes (record h { entries = entries_after_step r (is_between (local_end h s) (peer_end source s)) (role_after_segment (later_moment h now) s) h.entries })
-taken h now isn source s e Stays found is other = rw (found, is)
-taken h now isn source s e Removed found is other = rw (found, is)
+    → arrival h now isn source s ≡ Becomes (record h { entries = entries_after_step r (is_between (local_end h s) (peer_end source s)) (role_after_segment (later_moment h now) s) h.entries; offered = offered_with (is_offered_by (later_moment h now) s e.role) e.id h.offered })
+taken h now isn source s e Stays found is other = at-connection h now isn source s e found ∙ ap (λ (r : Fate). arrival_at_connection h now source s e r) is
+taken h now isn source s e Removed found is other = at-connection h now isn source s e found ∙ ap (λ (r : Fate). arrival_at_connection h now source s e r) is
 taken h now isn source s e Rejected found is other = absurd (other refl)
 
 -- a segment for a listener that opens nothing

@@ -35,12 +35,12 @@ use Rattle.sockets.specs.declared.entry.SocketId.{SocketId}
 use Rattle.sockets.specs.declared.entry.Entry.{Entry}
 use Rattle.sockets.specs.declared.role.Role.{Role}
 use Rattle.sockets.specs.declared.role.Role.TheVariants.{Idle, Listener, Connected, Datagrams}
-use Rattle.sockets.specs.Entries.{is_socket, waits_at, is_between, is_live_between, is_listening_at, sends, has_due, has_socket, new_waiting, role_after_abort, abort_fate_of, is_offered_at, shown_state, is_kept, entries_after_step, fate_of, role_after_segment, role_after_unreachable, unreachable_fate_of, role_after_tick, tick_fate_of, role_after_emission, emission_fate_of, role_after_listener_close, listener_close_fate_of, role_after_close, close_fate_of, role_after_bind, role_after_listen, role_after_connect, role_after_accept, role_after_send, role_after_recv, role_after_shutdown, on_datagrams, is_datagrams_at, with_role}
+use Rattle.sockets.specs.Entries.{is_socket, waits_at, is_between, is_live_between, is_listening_at, sends, has_due, has_socket, new_waiting, role_after_abort, abort_fate_of, shown_state, is_kept, entries_after_step, fate_of, role_after_segment, role_after_unreachable, unreachable_fate_of, role_after_tick, tick_fate_of, role_after_emission, emission_fate_of, role_after_listener_close, listener_close_fate_of, role_after_close, close_fate_of, role_after_bind, role_after_listen, role_after_connect, role_after_accept, role_after_send, role_after_recv, role_after_shutdown, on_datagrams, is_datagrams_at, with_role}
 use Rattle.sockets.specs.SocketsView.{SocketsView, later_moment, role_of}
 use Rattle.sockets.specs.Lost.{is_given_up, role_after_giving_up, give_up_fate_of, after_giving_up}
 use Rattle.sockets.specs.Emission.{after_segment_sent}
 use Rattle.sockets.specs.Unreachable.{after_unreachable}
-use Rattle.sockets.specs.Calls.{port_connected, after_connect, after_socket_closed, after_close}
+use Rattle.sockets.specs.Calls.{port_bound, after_bind, is_next_at, port_connected, after_connect, after_socket_closed, after_close}
 use Rattle.sockets.specs.Datagrams.{end_sent_from, after_sendto, reception, after_reception}
 use Rattle.sockets.specs.Arrival.{local_end, peer_end, is_opening as opens, has_no_place, arrival_with_reply, arrival, arrival_alone}
 use Rattle.sockets.specs.Replies.{reset_at_ack, answer_to, answer_at_listener}
@@ -322,6 +322,14 @@ datagram_followed h source d = by_reception (reception h d) refl
     by_reception Queued given = subst P (sym (queued-change h source d given)) (queued_change h e refl (is_datagrams_at d.destination) (λ bound. bound) (λ queues. with_received queues (record { addr = source; port = d.source }) d.payload))
     by_reception NoRoom given = subst P (sym (no_room-same h source d given)) (as_it_was (IsStep h e) (IsAdded h e) refl (same_step h e) h.entries)
     by_reception NoSocket given = subst P (sym (no_socket-same h source d given)) (as_it_was (IsStep h e) (IsAdded h e) refl (same_step h e) h.entries)
+
+bind_followed : (h : SocketsView) (id : SocketId) (local : Endpoint) → Follows (IsStep h (Binds id local)) (IsAdded h (Binds id local)) h.entries (let after = after_bind h id local in after.entries)
+bind_followed h id local = by_port (port_bound h id local) refl
+  where
+    by_port : (r : Result ℕ Refusal) → port_bound h id local ≡ r → Follows (IsStep h (Binds id local)) (IsAdded h (Binds id local)) h.entries (let after = after_bind h id local in after.entries)
+    by_port (Err refusal) given = rw given (as_it_was (IsStep h (Binds id local)) (IsAdded h (Binds id local)) refl (same_step h (Binds id local)) h.entries)
+    by_port (Ok port) given =
+        rw given (quiet_change h (Binds id local) refl (is_socket id) (role_after_bind (record { addr = local.addr; port = port })) (quiet_bound (record { addr = local.addr; port = port })) (bound_edge (record { addr = local.addr; port = port })) (bound_mute (record { addr = local.addr; port = port })) h.entries)
 
 connect_followed : (h : SocketsView) (isn : ℕ) (id : SocketId) (peer : Endpoint) (routed : Bool) → Follows (IsStep h (Connects isn id peer routed)) (IsAdded h (Connects isn id peer routed)) h.entries (let after = after_connect h isn id peer routed in after.entries)
 connect_followed h isn id peer routed = by_port (port_connected h id peer routed) refl
@@ -722,9 +730,9 @@ error_followed h local peer number = by_entry (find (is_between local peer) h.en
 pub ends_followed : (h : SocketsView) (e : Event) → IsSoundTable h → Follows (IsStep h e) (IsAdded h e) h.entries (let after = after_event h e in after.entries)
 ends_followed h (Makes buffers) sound = joined_by (IsStep h (Makes buffers)) (IsAdded h (Makes buffers)) (same_step h (Makes buffers)) h.entries _ refl
 ends_followed h MakesDatagrams sound = joined_by (IsStep h MakesDatagrams) (IsAdded h MakesDatagrams) (same_step h MakesDatagrams) h.entries _ refl
-ends_followed h (Binds id local) sound = quiet_change h (Binds id local) refl (is_socket id) (role_after_bind local) (quiet_bound local) (bound_edge local) (bound_mute local) h.entries
+ends_followed h (Binds id local) sound = bind_followed h id local
 ends_followed h (Listens id backlog) sound = quiet_change h (Listens id backlog) refl (is_socket id) (role_after_listen backlog) (quiet_listening backlog) (listening_edge backlog) (listening_mute backlog) h.entries
-ends_followed h (Accepts id) sound = quiet_change h (Accepts id) refl (is_offered_at id) role_after_accept quiet_accepted accepted_edge accepted_mute h.entries
+ends_followed h (Accepts id) sound = quiet_change h (Accepts id) refl (is_next_at h id) role_after_accept quiet_accepted accepted_edge accepted_mute h.entries
 ends_followed h (Connects isn id peer routed) sound = connect_followed h isn id peer routed
 ends_followed h (Sends id octets) sound = quiet_change h (Sends id octets) refl (is_socket id) (role_after_send octets) (quiet_sent octets) (sent_edge octets) (sent_mute octets) h.entries
 ends_followed h (Receives id len) sound = quiet_change h (Receives id len) refl (is_socket id) (role_after_recv len) (quiet_received len) (received_edge len) (received_mute len) h.entries

@@ -22,7 +22,7 @@ use Rattle.sockets.specs.Entries.{is_socket, has_socket, is_between, is_listenin
 use Rattle.sockets.specs.SocketsView.{SocketsView, role_of}
 use Rattle.sockets.specs.Emission.{after_segment_sent}
 use Rattle.sockets.specs.Unreachable.{after_unreachable}
-use Rattle.sockets.specs.Calls.{port_connected, after_connect, after_socket_closed}
+use Rattle.sockets.specs.Calls.{port_bound, after_bind, port_connected, after_connect, after_socket_closed}
 use Rattle.sockets.specs.Datagrams.{sending_end, end_sent_from, sendto_answer, after_sendto, reception, after_reception}
 use Rattle.sockets.specs.Arrival.{local_end, peer_end, is_opening as opens, has_no_place, arrival_with_reply, arrival, arrival_alone}
 use Rattle.sockets.specs.Replies.{reset_at_ack, answer_to, answer_at_listener}
@@ -37,6 +37,13 @@ IsSame h w = w.identification ≡ h.identification
 
 as_before : (h : SocketsView) → IsSame h h
 as_before h = refl
+
+bind_same : (h : SocketsView) (id : SocketId) (local : Endpoint) → IsSame h (after_bind h id local)
+bind_same h id local = by_port (port_bound h id local) refl
+  where
+    by_port : (r : Result ℕ Refusal) → port_bound h id local ≡ r → IsSame h (after_bind h id local)
+    by_port (Err refusal) given = rw given (as_before h)
+    by_port (Ok port) given = rw given (as_before h)
 
 connect_same : (h : SocketsView) (isn : ℕ) (id : SocketId) (peer : Endpoint) (routed : Bool) → IsSame h (after_connect h isn id peer routed)
 connect_same h isn id peer routed = by_port (port_connected h id peer routed) refl
@@ -117,7 +124,7 @@ drawn h (SendsTo id peer octets routed) low = by_end (end_sent_from h id peer oc
     by_end (Ok local) given = rw given
 drawn h (Makes buffers) low = kept h.identification _ low (as_before h)
 drawn h MakesDatagrams low = kept h.identification _ low (as_before h)
-drawn h (Binds id local) low = kept h.identification _ low (as_before h)
+drawn h (Binds id local) low = kept h.identification _ low (bind_same h id local)
 drawn h (Listens id backlog) low = kept h.identification _ low (as_before h)
 drawn h (Accepts id) low = kept h.identification _ low (as_before h)
 drawn h (Connects isn id peer routed) low = kept h.identification _ low (connect_same h isn id peer routed)

@@ -12,7 +12,7 @@ use Rattle.tcp_state.specs.Stream.{is_new_ack, is_in_window}
 use Rattle.tcp_state.specs.View.{View, is_opening, is_syn_sent, is_syn_received, is_closed, is_write_closed, is_at_end, after_stop, after_resend, after_tick, is_fin_next}
 use Rattle.tcp_state.specs.Calls.{after_send, after_recv, beyond_shutdown, after_shutdown, aborted, aborted_at, after_abort, is_removed_by_close, is_aborted_by_close, after_release, after_close}
 use Rattle.tcp_state.specs.Due.{after_emitted, after_ack_paid, after_numbers}
-use Rattle.tcp_state.specs.Arrival.{after_segment, is_simultaneous_syn, after_simultaneous_syn, after_syn_ack, is_right_syn_ack, is_acceptable_to, after_acceptable_segment, after_acknowledging_segment, after_ack, is_read_on, after_window, after_text, owing_ack, after_establishment, ends_by_syn, fin_acknowledged, after_new_ack, is_receiving, counts_fin, after_fin, after_reset, reset_error, after_rst_in_syn_sent, is_acting_reset, ends_by_reset, after_rst, is_lost, after_lost, after_heard, after_segment_at}
+use Rattle.tcp_state.specs.Arrival.{after_segment, after_syn_ack, is_right_syn_ack, is_simultaneous_syn, after_simultaneous_syn, is_acceptable_to, after_acceptable_segment, after_acknowledging_segment, after_ack, is_read_on, after_window, after_text, owing_ack, after_establishment, ends_by_syn, fin_acknowledged, after_new_ack, is_receiving, counts_fin, after_fin, after_reset, reset_error, after_rst_in_syn_sent, is_acting_reset, ends_by_reset, after_rst, is_lost, after_lost, after_heard, after_segment_at}
 use Rattle.tcp_state.specs.Unreachable.{is_unreachable, after_unreachable}
 
 -- the endpoints stay, and nothing that is CLOSED lives again

@@ -17,6 +17,8 @@ pub mod Followed
 pub mod Caused
 pub mod Over
 pub mod FirstPorts
+pub mod Bound
+pub mod Offered
 pub mod Deadlines
 pub mod Opened
 pub mod Ends

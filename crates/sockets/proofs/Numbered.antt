@@ -19,7 +19,7 @@ use Rattle.sockets.specs.Entries.{is_between, is_listening_at, sends, fate_of}
 use Rattle.sockets.specs.SocketsView.{SocketsView, role_of}
 use Rattle.sockets.specs.Emission.{after_segment_sent}
 use Rattle.sockets.specs.Unreachable.{after_unreachable}
-use Rattle.sockets.specs.Calls.{port_connected, after_connect, after_socket_closed}
+use Rattle.sockets.specs.Calls.{port_bound, after_bind, port_connected, after_connect, after_socket_closed}
 use Rattle.sockets.specs.Datagrams.{end_sent_from, after_sendto, reception, after_reception}
 use Rattle.sockets.specs.Arrival.{local_end, peer_end, is_opening as opens, has_no_place, arrival_with_reply, arrival, arrival_alone}
 use Rattle.sockets.specs.Replies.{reset_at_ack, answer_to, answer_at_listener}
@@ -30,6 +30,13 @@ NotBefore h w = h.last_id ≤ w.last_id
 
 as_before : (h : SocketsView) → NotBefore h h
 as_before h = omega arith
+
+bind_numbered : (h : SocketsView) (id : SocketId) (local : Endpoint) → NotBefore h (after_bind h id local)
+bind_numbered h id local = by_port (port_bound h id local) refl
+  where
+    by_port : (r : Result ℕ Refusal) → port_bound h id local ≡ r → NotBefore h (after_bind h id local)
+    by_port (Err refusal) given = rw given (as_before h)
+    by_port (Ok port) given = rw given (as_before h)
 
 connect_numbered : (h : SocketsView) (isn : ℕ) (id : SocketId) (peer : Endpoint) (routed : Bool) → NotBefore h (after_connect h isn id peer routed)
 connect_numbered h isn id peer routed = by_port (port_connected h id peer routed) refl
@@ -113,7 +120,7 @@ never_back h (Hears now isn source s) = segment_numbered h now isn source s
 never_back h (Emits goes now) = emission_numbered h goes now
 never_back h (Unreachable local peer number) = error_numbered h local peer number
 never_back h (GivesUp lost now) = as_before h
-never_back h (Binds id local) = as_before h
+never_back h (Binds id local) = bind_numbered h id local
 never_back h (Listens id backlog) = as_before h
 never_back h (Accepts id) = as_before h
 never_back h (Sends id octets) = as_before h

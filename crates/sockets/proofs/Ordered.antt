@@ -26,20 +26,21 @@ use Rattle.sockets.specs.declared.entry.Entry.{Entry}
 use Rattle.ipv4.specs.Addresses.{is_single_host, same_addr, same_end}
 use Rattle.sockets.specs.declared.role.Role.{Role}
 use Rattle.sockets.specs.declared.role.Role.TheVariants.{Idle, Listener, Connected, Datagrams}
-use Rattle.sockets.specs.Entries.{is_socket, waits_at, is_between, is_live_between, is_listening_at, sends, is_offered_at, is_kept, has_port, uses_port, entries_after_step, fate_of, role_after_segment, role_after_unreachable, unreachable_fate_of, role_after_tick, tick_fate_of, role_after_emission, emission_fate_of, role_after_abort, role_after_listener_close, listener_close_fate_of, role_after_close, close_fate_of, role_after_bind, role_after_listen, role_after_connect, role_after_accept, role_after_send, role_after_recv, role_after_shutdown, new_socket, new_datagram_socket, new_waiting, on_datagrams, is_datagrams_at, with_role}
+use Rattle.sockets.specs.Entries.{is_socket, waits_at, is_between, is_live_between, is_listening_at, sends, is_kept, is_offered_by, has_port, uses_port, entries_after_step, fate_of, role_after_segment, role_after_unreachable, unreachable_fate_of, role_after_tick, tick_fate_of, role_after_emission, emission_fate_of, role_after_abort, role_after_listener_close, listener_close_fate_of, role_after_close, close_fate_of, role_after_bind, role_after_listen, role_after_connect, role_after_accept, role_after_send, role_after_recv, role_after_shutdown, new_socket, new_datagram_socket, new_waiting, on_datagrams, is_datagrams_at, with_role}
 use Rattle.sockets.specs.SocketsView.{SocketsView, new_sockets, later_moment, role_of}
 use Rattle.sockets.specs.Lost.{role_after_giving_up, give_up_fate_of, after_giving_up}
 use Rattle.sockets.specs.Emission.{after_segment_sent}
 use Rattle.sockets.specs.Unreachable.{after_unreachable}
-use Rattle.sockets.specs.Calls.{open_answer, reach_refusal, port_for, last_port_after, is_pair_held, is_port_taken, is_datagram_port_taken, bound_of, bind_refusal, connect_refusal, after_connect, after_socket_closed}
+use Rattle.sockets.specs.Calls.{open_answer, reach_refusal, port_for, last_port_after, is_pair_held, bound_of, port_at, port_bound, last_port_bound, bind_refusal, after_bind, is_next_at, connect_refusal, after_connect, after_socket_closed}
 use Rattle.sockets.specs.Datagrams.{sending_end, end_sent_from, after_sendto, reception, after_reception}
-use Rattle.sockets.specs.Arrival.{local_end, peer_end, is_opening as opens, has_no_place, arrival_with_reply, arrival, arrival_alone, after_opening}
+use Rattle.sockets.specs.Arrival.{local_end, peer_end, is_opening as opens, has_no_place, arrival_with_reply, offered_with, arrival, arrival_alone, after_opening}
 use Rattle.sockets.specs.Replies.{reset_at_ack, answer_to, answer_at_listener}
 use Rattle.sockets.specs.Lists.{change_first}
-use Rattle.sockets.specs.Ports.{IsDynamic, first_port, is_free_port, is_free_datagram_port}
+use Rattle.sockets.specs.Ports.{IsDynamic, first_port, is_free_port, is_unused_port, is_free_datagram_port}
 use Rattle.sockets.specs.Causes.{Event, Makes, MakesDatagrams, Binds, Listens, Accepts, Connects, Sends, Receives, Shuts, Closes, Ticks, Hears, Emits, GivesUp, Unreachable, SendsTo, ReceivesFrom, HearsDatagram, after_arrival, after_event}
 use Rattle.sockets.specs.Order.{has_for_itself, is_alone_at, LiesAt, IsOrdered, IsAllowed}
 use Rattle.sockets.proofs.Caused.{settled_followed, some_same}
+use Rattle.sockets.proofs.Bound.{port-allowed, port-given, bind-given}
 use Rattle.sockets.proofs.Connected.{after_connect-given}
 use Rattle.sockets.proofs.Emitting.{segment_sent-found}
 use Rattle.sockets.proofs.Queues.{sendto-refused, sendto-given, sent-from, queued-change, no_room-same, no_socket-same}
@@ -132,6 +133,10 @@ told_keeps number (Connected c l) = keeps_connection c _ l l (keeps-unreachable 
 
 -- Steps of the table.
 
+-- those offered stand apart from its order
+offered_ordered : (w : SocketsView) (ids : List SocketId) → IsOrdered w → IsOrdered (record w { offered = ids })
+offered_ordered w ids o = record { ids = o.ids; ends = o.ends; ports = o.ports; datagram_ports = o.datagram_ports; own = o.own; last_port = o.last_port }
+
 stays : (h : SocketsView) (x : Entry) → Keeps nowhere no_port no_port h.addr x (Some x)
 stays h x = (refl, keeps_role x.role h.addr)
 
@@ -178,12 +183,6 @@ untaken port (x ∷ xs) none = let parts = or_parts (has_port port x) (list_any 
     alone (Datagrams ours queues) other = refl
     alone (Connected c l) other = refl
 
-last_test : (a b c : Bool) (x y z : Refusal) → (if a then Some x else if b then Some y else if c then Some z else None) ≡ None → c ≡ false
-last_test true b c x y z e = cc
-last_test false true c x y z e = cc
-last_test false false true x y z e = cc
-last_test false false false x y z e = refl
-
 itself : (at_ends : Endpoint → Endpoint → Bool) (at_port at_datagrams : ℕ → Bool) (h : SocketsView) (x : Entry) → Keeps at_ends at_port at_datagrams h.addr x (Some x)
 itself at_ends at_port at_datagrams h x = (refl, record { ends = λ l p e live. live; port = λ port e has. has; datagrams = λ port e has. has; own = λ lies. lies })
 
@@ -193,50 +192,61 @@ one_more id test change entries none =
     let more : count_by test (change_first (is_socket id) (with_role change) entries) ≤ count_by test entries + 1 = count_changed (is_socket id) test (with_role change) entries in
     omega arith
 
+abbrev bound_at : SocketsView → SocketId → Endpoint → List Entry
+bound_at h id there = change_first (is_socket id) (with_role (role_after_bind there)) h.entries
+
+-- where the role of the socket is bound so, and the ports were free
+bound_ordered : (h : SocketsView) (id : SocketId) (there : Endpoint) (last : ℕ) (at_stream at_datagrams : ℕ → Bool) (role : Role) → (IsDynamic h.last_port → IsDynamic last) → role_of h id ≡ Some role → IsBound nowhere at_stream at_datagrams h.addr role (role_after_bind there role)
+    → ((port : ℕ) → at_stream port ≡ true → count_by (is_alone_at port) (bound_at h id there) ≤ 1) → ((port : ℕ) → at_datagrams port ≡ true → count_by (is_datagrams_at port) (bound_at h id there) ≤ 1)
+    → IsOrdered h → IsOrdered (record h { last_port = last; entries = bound_at h id there })
+bound_ordered h id there last at_stream at_datagrams role dynamic is bound streams datagrams o =
+    let w : SocketsView = record h { last_port = last; entries = bound_at h id there } in
+    ordered_by nowhere at_stream at_datagrams h w refl refl dynamic
+    (first_changed (Keeps nowhere at_stream at_datagrams h.addr) IsNothing refl (is_socket id) (with_role (role_after_bind there)) h.entries (itself nowhere at_stream at_datagrams h)
+    (λ x passes found.
+    let same : role ≡ x.role = some_same (role_of h id) role x.role is (ap (λ (y : Option Entry). option_map (λ (e : Entry). e.role) y) found) in
+    (refl, subst (λ (r : Role). IsBound nowhere at_stream at_datagrams h.addr r (role_after_bind there r)) same bound)))
+    (λ l p e. cc) streams datagrams o
+
 bind_ordered : (h : SocketsView) (id : SocketId) (local : Endpoint) → bind_refusal h id local ≡ None → IsOrdered h → IsOrdered (after_event h (Binds id local))
-bind_ordered h id local allowed o = by_role (role_of h id) refl
+bind_ordered h id local allowed o = by_port (port-allowed (port_bound h id local) allowed)
   where
-    at_port : ℕ → Bool
-    at_port port = local.port == port
+    at : ℕ → Endpoint
+    at port = record { addr = local.addr; port = port }
 
-    changed : List Entry
-    changed = change_first (is_socket id) (with_role (role_after_bind local)) h.entries
+    one_stream : (given : ℕ) → is_unused_port h.entries given ≡ true → (port : ℕ) → (given == port) ≡ true → count_by (is_alone_at port) (bound_at h id (at given)) ≤ 1
+    one_stream given free port is =
+        subst (λ (n : ℕ). count_by (is_alone_at n) (bound_at h id (at given)) ≤ 1) (eqb-true given port is)
+        (one_more id (is_alone_at given) (role_after_bind (at given)) h.entries (count_none (is_alone_at given) h.entries (untaken given h.entries (not_true _ free))))
 
-    -- where the role of the socket is bound so, and the ports were free
-    bound_by : (at_stream at_datagrams : ℕ → Bool) (role : Role) → role_of h id ≡ Some role → IsBound nowhere at_stream at_datagrams h.addr role (role_after_bind local role)
-        → ((port : ℕ) → at_stream port ≡ true → count_by (is_alone_at port) changed ≤ 1) → ((port : ℕ) → at_datagrams port ≡ true → count_by (is_datagrams_at port) changed ≤ 1) → IsOrdered (after_event h (Binds id local))
-    bound_by at_stream at_datagrams role is bound streams datagrams =
-        ordered_by nowhere at_stream at_datagrams h (after_event h (Binds id local)) refl refl (λ (d : IsDynamic h.last_port). d)
-        (first_changed (Keeps nowhere at_stream at_datagrams h.addr) IsNothing refl (is_socket id) (with_role (role_after_bind local)) h.entries (itself nowhere at_stream at_datagrams h)
-        (λ x passes found.
-        let same : role ≡ x.role = some_same (role_of h id) role x.role is (ap (λ (y : Option Entry). option_map (λ (e : Entry). e.role) y) found) in
-        (refl, subst (λ (r : Role). IsBound nowhere at_stream at_datagrams h.addr r (role_after_bind local r)) same bound)))
-        (λ l p e. cc) streams datagrams o
+    one_datagrams : (given : ℕ) → is_free_datagram_port h.entries given ≡ true → (port : ℕ) → (given == port) ≡ true → count_by (is_datagrams_at port) (bound_at h id (at given)) ≤ 1
+    one_datagrams given free port is =
+        subst (λ (n : ℕ). count_by (is_datagrams_at n) (bound_at h id (at given)) ≤ 1) (eqb-true given port is)
+        (one_more id (is_datagrams_at given) (role_after_bind (at given)) h.entries (count_none (is_datagrams_at given) h.entries (not_true _ free)))
 
-    one_stream : is_port_taken h local.port ≡ false → (port : ℕ) → at_port port ≡ true → count_by (is_alone_at port) changed ≤ 1
-    one_stream free port is =
-        subst (λ (n : ℕ). count_by (is_alone_at n) changed ≤ 1) (eqb-true local.port port is)
-        (one_more id (is_alone_at local.port) (role_after_bind local) h.entries (count_none (is_alone_at local.port) h.entries (untaken local.port h.entries free)))
-
-    one_datagrams : is_datagram_port_taken h local.port ≡ false → (port : ℕ) → at_port port ≡ true → count_by (is_datagrams_at port) changed ≤ 1
-    one_datagrams free port is =
-        subst (λ (n : ℕ). count_by (is_datagrams_at n) changed ≤ 1) (eqb-true local.port port is)
-        (one_more id (is_datagrams_at local.port) (role_after_bind local) h.entries (count_none (is_datagrams_at local.port) h.entries free))
-
-    by_role : (r : Option Role) → role_of h id ≡ r → IsOrdered (after_event h (Binds id local))
-    by_role None is = let refused : bind_refusal h id local ≡ Some EBADF = rw is in cc
-    by_role (Some (Idle buffers None)) is =
-        bound_by at_port no_port (Idle buffers None) is (record { ends = λ l p e live. cc; port = λ port other has. let bad : true ≡ false = sym has ∙ other in cc; datagrams = λ port e has. cc; own = λ lies. tt })
-        (one_stream (last_test _ _ (is_port_taken h local.port) EINVAL EADDRNOTAVAIL EADDRINUSE (rw is at allowed)))
+    by_role : (given : ℕ) → port_bound h id local ≡ Ok given → (r : Option Role) → role_of h id ≡ r → IsOrdered (record h { last_port = last_port_bound h local given; entries = bound_at h id (at given) })
+    by_role given gives None is = let refused : port_bound h id local ≡ Err EBADF = rw is in let bad : ◌≡◌ {A = Result ℕ Refusal} (Err EBADF) (Ok given) = sym refused ∙ gives in cc
+    by_role given gives (Some (Idle buffers None)) is =
+        let asked : port_bound h id local ≡ port_at h (is_unused_port h.entries) local = rw is in
+        let found = port-given h (is_unused_port h.entries) local given (sym asked ∙ gives) in
+        bound_ordered h id (at given) (last_port_bound h local given) (λ (port : ℕ). given == port) no_port (Idle buffers None) found.dynamic is
+        (record { ends = λ l p e live. cc; port = λ port other has. let bad : true ≡ false = sym has ∙ other in cc; datagrams = λ port e has. cc; own = λ lies. tt })
+        (one_stream given found.free)
+        (λ port e. cc) o
+    by_role given gives (Some (Idle buffers (Some l))) is = let refused : port_bound h id local ≡ Err EINVAL = rw is in let bad : ◌≡◌ {A = Result ℕ Refusal} (Err EINVAL) (Ok given) = sym refused ∙ gives in cc
+    by_role given gives (Some (Listener l b)) is = let refused : port_bound h id local ≡ Err EINVAL = rw is in let bad : ◌≡◌ {A = Result ℕ Refusal} (Err EINVAL) (Ok given) = sym refused ∙ gives in cc
+    by_role given gives (Some (Connected c l)) is = let refused : port_bound h id local ≡ Err EINVAL = rw is in let bad : ◌≡◌ {A = Result ℕ Refusal} (Err EINVAL) (Ok given) = sym refused ∙ gives in cc
+    by_role given gives (Some (Datagrams None queues)) is =
+        let asked : port_bound h id local ≡ port_at h (is_free_datagram_port h.entries) local = rw is in
+        let found = port-given h (is_free_datagram_port h.entries) local given (sym asked ∙ gives) in
+        bound_ordered h id (at given) (last_port_bound h local given) no_port (λ (port : ℕ). given == port) (Datagrams None queues) found.dynamic is
+        (record { ends = λ l p e live. cc; port = λ port e has. cc; datagrams = λ port other has. let bad : true ≡ false = sym has ∙ other in cc; own = λ lies. tt })
         (λ port e. cc)
-    by_role (Some (Idle buffers (Some l))) is = let refused : bind_refusal h id local ≡ Some EINVAL = rw is in cc
-    by_role (Some (Listener l b)) is = let refused : bind_refusal h id local ≡ Some EINVAL = rw is in cc
-    by_role (Some (Connected c l)) is = let refused : bind_refusal h id local ≡ Some EINVAL = rw is in cc
-    by_role (Some (Datagrams None queues)) is =
-        bound_by no_port at_port (Datagrams None queues) is (record { ends = λ l p e live. cc; port = λ port e has. cc; datagrams = λ port other has. let bad : true ≡ false = sym has ∙ other in cc; own = λ lies. tt })
-        (λ port e. cc)
-        (one_datagrams (last_test _ _ (is_datagram_port_taken h local.port) EINVAL EADDRNOTAVAIL EADDRINUSE (rw is at allowed)))
-    by_role (Some (Datagrams (Some l) queues)) is = let refused : bind_refusal h id local ≡ Some EINVAL = rw is in cc
+        (one_datagrams given found.free) o
+    by_role given gives (Some (Datagrams (Some l) queues)) is = let refused : port_bound h id local ≡ Err EINVAL = rw is in let bad : ◌≡◌ {A = Result ℕ Refusal} (Err EINVAL) (Ok given) = sym refused ∙ gives in cc
+
+    by_port : ((given : ℕ) × (port_bound h id local ≡ Ok given)) → IsOrdered (after_bind h id local)
+    by_port x = subst IsOrdered (sym (bind-given h id local x.0 x.1)) (by_role x.0 x.1 (role_of h id) refl)
 
 -- Connecting.
 
@@ -378,12 +388,17 @@ alone_ordered h isn source s none apart o = by_listener (find (is_listening_at s
 segment_ordered : (h : SocketsView) (now : Moment) (isn : ℕ) (source : Addr) (s : Segment) → same_addr source h.addr ≡ false → IsOrdered h → IsOrdered (after_arrival h (arrival h now isn source s))
 segment_ordered h now isn source s apart o = by_entry (find (is_between (local_end h s) (peer_end source s)) h.entries) refl
   where
-    settles : (r : Fate) → IsOrdered (record h { entries = entries_after_step r (is_between (local_end h s) (peer_end source s)) (role_after_segment (later_moment h now) s) h.entries })
-    settles r = settled_ordered h r (is_between (local_end h s) (peer_end source s)) (role_after_segment (later_moment h now) s) (λ x passes. arrived_keeps (later_moment h now) s (local_end h s) (peer_end source s) x.role passes) o
+    settles : (e : Entry) (r : Fate) → IsOrdered (record h {
+      entries = entries_after_step r (is_between (local_end h s) (peer_end source s)) (role_after_segment (later_moment h now) s) h.entries;
+      offered = offered_with (is_offered_by (later_moment h now) s e.role) e.id h.offered;
+    })
+    settles e r =
+        offered_ordered (record h { entries = entries_after_step r (is_between (local_end h s) (peer_end source s)) (role_after_segment (later_moment h now) s) h.entries }) _
+        (settled_ordered h r (is_between (local_end h s) (peer_end source s)) (role_after_segment (later_moment h now) s) (λ x passes. arrived_keeps (later_moment h now) s (local_end h s) (peer_end source s) x.role passes) o)
 
     by_fate : (e : Entry) → find (is_between (local_end h s) (peer_end source s)) h.entries ≡ Some e → (r : Fate) → fate_of s e.role ≡ r → IsOrdered (after_arrival h (arrival h now isn source s))
-    by_fate e found Stays is = rw (found, is) (settles Stays)
-    by_fate e found Removed is = rw (found, is) (settles Removed)
+    by_fate e found Stays is = rw (found, is) (settles e Stays)
+    by_fate e found Removed is = rw (found, is) (settles e Removed)
     by_fate e found Rejected is = rw (found, is) (answer_ordered h (Some (reset_at_ack s)) o)
 
     by_entry : (x : Option Entry) → find (is_between (local_end h s) (peer_end source s)) h.entries ≡ x → IsOrdered (after_arrival h (arrival h now isn source s))
@@ -445,12 +460,12 @@ sending_ordered h id None queues local change last next is given dynamic o =
     changed : List Entry
     changed = change_first (is_socket id) (with_role (on_datagrams (λ b. Some local) change)) h.entries
 
-    free : (p : Option ℕ) → first_port (is_free_datagram_port h.entries) h.last_port 0 16384 ≡ p → option_map (λ (port : ℕ). let e : Endpoint = record { addr = h.addr; port = port } in e) p ≡ Some local → is_datagram_port_taken h local.port ≡ false
+    free : (p : Option ℕ) → first_port (is_free_datagram_port h.entries) h.last_port 0 16384 ≡ p → option_map (λ (port : ℕ). let e : Endpoint = record { addr = h.addr; port = port } in e) p ≡ Some local → list_any (is_datagrams_at local.port) h.entries ≡ false
     free None found sends = cc
     free (Some port) found sends =
         let same : ◌≡◌ {A = Option ℕ} (Some port) (Some local.port) = ap (λ (x : Option Endpoint). option_map (λ (e : Endpoint). e.port) x) sends in
         let at_it : port ≡ local.port = cc in
-        subst (λ (n : ℕ). is_datagram_port_taken h n ≡ false) at_it (not_true _ (given_passes (is_free_datagram_port h.entries) h.last_port 0 16384 port found))
+        subst (λ (n : ℕ). list_any (is_datagrams_at n) h.entries ≡ false) at_it (not_true _ (given_passes (is_free_datagram_port h.entries) h.last_port 0 16384 port found))
 
 -- the port given last stays dynamic
 sent_dynamic : (h : SocketsView) (bound : Option Endpoint) (local : Endpoint) → sending_end h bound ≡ Some local → IsDynamic h.last_port → IsDynamic (last_port_after h bound local.port)
@@ -507,7 +522,7 @@ stays_ordered h (Makes buffers) allowed o = joined_ordered h (new_socket (record
 stays_ordered h MakesDatagrams allowed o = joined_ordered h (new_datagram_socket (record { 0 = h.last_id + 1 })) refl (λ l p live. cc) (λ port. refl) (λ port. refl) tt o
 stays_ordered h (Binds id local) allowed o = bind_ordered h id local allowed o
 stays_ordered h (Listens id backlog) allowed o = changed_ordered h (is_socket id) (role_after_listen backlog) (λ x passes. listening_keeps backlog x.role) o
-stays_ordered h (Accepts id) allowed o = changed_ordered h (is_offered_at id) role_after_accept (λ x passes. accepted_keeps x.role) o
+stays_ordered h (Accepts id) allowed o = offered_ordered _ _ (changed_ordered h (is_next_at h id) role_after_accept (λ x passes. accepted_keeps x.role) o)
 stays_ordered h (Connects isn id peer routed) allowed o = connect_ordered h isn id peer routed allowed o
 stays_ordered h (Sends id octets) allowed o = changed_ordered h (is_socket id) (role_after_send octets) (λ x passes. sent_keeps octets x.role) o
 stays_ordered h (Receives id len) allowed o = changed_ordered h (is_socket id) (role_after_recv len) (λ x passes. received_keeps len x.role) o

@@ -25,12 +25,12 @@ use Rattle.sockets.specs.declared.entry.SocketId.{SocketId}
 use Rattle.sockets.specs.declared.entry.Entry.{Entry}
 use Rattle.sockets.specs.declared.role.Role.{Role}
 use Rattle.sockets.specs.declared.role.Role.TheVariants.{Idle, Listener, Connected, Datagrams}
-use Rattle.sockets.specs.Entries.{is_socket, waits_at, is_between, is_live_between, is_listening_at, sends, is_offered_at, is_kept, entries_after_step, fate_of, role_after_segment, role_after_unreachable, unreachable_fate_of, role_after_tick, tick_fate_of, role_after_emission, emission_fate_of, role_after_abort, abort_fate_of, role_after_listener_close, listener_close_fate_of, role_after_close, close_fate_of, role_after_bind, role_after_listen, role_after_connect, role_after_accept, role_after_send, role_after_recv, role_after_shutdown, on_datagrams, is_datagrams_at, with_role}
+use Rattle.sockets.specs.Entries.{is_socket, waits_at, is_between, is_live_between, is_listening_at, sends, is_kept, entries_after_step, fate_of, role_after_segment, role_after_unreachable, unreachable_fate_of, role_after_tick, tick_fate_of, role_after_emission, emission_fate_of, role_after_abort, abort_fate_of, role_after_listener_close, listener_close_fate_of, role_after_close, close_fate_of, role_after_bind, role_after_listen, role_after_connect, role_after_accept, role_after_send, role_after_recv, role_after_shutdown, on_datagrams, is_datagrams_at, with_role}
 use Rattle.sockets.specs.SocketsView.{SocketsView, later_moment, role_of}
 use Rattle.sockets.specs.Lost.{role_after_giving_up, give_up_fate_of}
 use Rattle.sockets.specs.Emission.{after_segment_sent}
 use Rattle.sockets.specs.Unreachable.{after_unreachable as after_table_told}
-use Rattle.sockets.specs.Calls.{port_connected, after_connect, after_socket_closed}
+use Rattle.sockets.specs.Calls.{port_bound, after_bind, is_next_at, port_connected, after_connect, after_socket_closed}
 use Rattle.sockets.specs.Datagrams.{end_sent_from, after_sendto, reception, after_reception}
 use Rattle.sockets.specs.Arrival.{local_end, peer_end, is_opening as opens, has_no_place, arrival_with_reply, arrival, arrival_alone}
 use Rattle.sockets.specs.Replies.{reset_at_ack, answer_to, answer_at_listener}
@@ -238,6 +238,13 @@ datagram_left h source d all = by_reception (reception h d) refl
     by_reception NoRoom given = subst NoneIsOver (sym (no_room-same h source d given)) all
     by_reception NoSocket given = subst NoneIsOver (sym (no_socket-same h source d given)) all
 
+bind_left : (h : SocketsView) (id : SocketId) (local : Endpoint) → NoneIsOver h → NoneIsOver (after_bind h id local)
+bind_left h id local all = by_port (port_bound h id local) refl
+  where
+    by_port : (r : Result ℕ Refusal) → port_bound h id local ≡ r → NoneIsOver (after_bind h id local)
+    by_port (Err refusal) given = rw given all
+    by_port (Ok port) given = rw given (changed_left (is_socket id) (role_after_bind (record { addr = local.addr; port = port })) h.entries (bound_left (record { addr = local.addr; port = port })) all)
+
 connect_left : (h : SocketsView) (isn : ℕ) (id : SocketId) (peer : Endpoint) (routed : Bool) → NoneIsOver h → NoneIsOver (after_connect h isn id peer routed)
 connect_left h isn id peer routed all = by_port (port_connected h id peer routed) refl
   where
@@ -314,9 +321,9 @@ error_left h local peer number all = by_entry (find (is_between local peer) h.en
 pub none_over : (h : SocketsView) (e : Event) → NoneIsOver h → NoneIsOver (after_event h e)
 none_over h (Makes buffers) all = all_joined h.entries _ all (refl, tt)
 none_over h MakesDatagrams all = all_joined h.entries _ all (refl, tt)
-none_over h (Binds id local) all = changed_left (is_socket id) (role_after_bind local) h.entries (bound_left local) all
+none_over h (Binds id local) all = bind_left h id local all
 none_over h (Listens id backlog) all = changed_left (is_socket id) (role_after_listen backlog) h.entries (listening_left backlog) all
-none_over h (Accepts id) all = changed_left (is_offered_at id) role_after_accept h.entries accepted_left all
+none_over h (Accepts id) all = changed_left (is_next_at h id) role_after_accept h.entries accepted_left all
 none_over h (Connects isn id peer routed) all = connect_left h isn id peer routed all
 none_over h (Sends id octets) all = changed_left (is_socket id) (role_after_send octets) h.entries (sent_left octets) all
 none_over h (Receives id len) all = changed_left (is_socket id) (role_after_recv len) h.entries (received_left len) all

@@ -1,5 +1,5 @@
 -- What a segment that arrives from an address makes of the table, and what answers it (RFC 9293 section 3.10.7).
-use Rattle.std.specs.Prelude.{◌≡◌, ◌⊎◌, ℕ, ◌+◌, Bool, ◌&&◌, ◌||◌, not, nat_le, if◌then◌else◌, [], ◌∷◌, ◌++◌, count_by, Option, Some, None, find}
+use Rattle.std.specs.Prelude.{◌≡◌, ◌⊎◌, ℕ, ◌+◌, Bool, ◌==◌, ◌&&◌, ◌||◌, not, nat_le, if◌then◌else◌, List, [], ◌∷◌, ◌++◌, length, count_by, Option, Some, None, find}
 use Rattle.ipv4.specs.declared.addr.Addr.{Addr}
 use Rattle.ipv4.specs.declared.addr.Endpoint.{Endpoint}
 use Rattle.ipv4.specs.declared.addr.Pair.{Pair}
@@ -11,10 +11,12 @@ use Rattle.tcp_state.specs.declared.connection.Fate.{Fate}
 use Rattle.tcp_state.specs.declared.connection.Fate.TheVariants.{Rejected}
 use Rattle.clock.specs.declared.moment.Moment.{Moment}
 use Rattle.tcp_state.specs.Arrival.{opened_passively}
+use Rattle.sockets.specs.declared.table.TheConstants.{ENTRIES}
+use Rattle.sockets.specs.declared.entry.SocketId.{SocketId}
 use Rattle.sockets.specs.declared.entry.Entry.{Entry}
 use Rattle.sockets.specs.declared.taken.Taken.{Taken}
 use Rattle.sockets.specs.declared.taken.Taken.TheVariants as taken
-use Rattle.sockets.specs.Entries.{is_between, is_listening_at, is_waiting_at, backlog_of, role_after_segment, fate_of, new_waiting, entries_after_step}
+use Rattle.sockets.specs.Entries.{is_between, is_listening_at, is_waiting_at, backlog_of, role_after_segment, fate_of, is_offered_by, new_waiting, entries_after_step}
 use Rattle.sockets.specs.SocketsView.{SocketsView, later_moment}
 use Rattle.sockets.specs.Replies.{reset_at_ack, answer_to, answer_at_listener}
 use Rattle.sockets.specs.Calls.{is_table_full}
@@ -70,17 +72,24 @@ arrival_alone h isn source s = of_listener (find (is_listening_at s.destination)
     of_listener None = arrival_with_reply h (answer_to s)
     of_listener (Some listener) = arrival_at h isn source s listener
 
+-- Those offered: the id of a connection that is offered now stands behind the others. The list has as many places as the table.
+abbrev pub offered_with : Bool → SocketId → List SocketId → List SocketId
+offered_with is_offered id offered = if is_offered && not (length offered == ENTRIES) then offered ++ id ∷ [] else offered
+
 -- a segment for a connection: it takes it, at the later of the moment and the kept one, or refuses it, which is answered by a reset
-abbrev pub arrival_at_connection : SocketsView → Moment → Addr → Segment → Fate → Arrival
-arrival_at_connection h now source s Rejected = arrival_with_reply h (Some (reset_at_ack s))
-arrival_at_connection h now source s fate = Becomes (record h { entries = entries_after_step fate (is_between (local_end h s) (peer_end source s)) (role_after_segment (later_moment h now) s) h.entries })
+abbrev pub arrival_at_connection : SocketsView → Moment → Addr → Segment → Entry → Fate → Arrival
+arrival_at_connection h now source s e Rejected = arrival_with_reply h (Some (reset_at_ack s))
+arrival_at_connection h now source s e fate = Becomes (record h {
+  entries = entries_after_step fate (is_between (local_end h s) (peer_end source s)) (role_after_segment (later_moment h now) s) h.entries;
+  offered = offered_with (is_offered_by (later_moment h now) s e.role) e.id h.offered;
+})
 
 -- a segment goes to the connection of its two ends, in any state but CLOSED
 abbrev pub arrival : SocketsView → Moment → ℕ → Addr → Segment → Arrival
 arrival h now isn source s = of_entry (find (is_between (local_end h s) (peer_end source s)) h.entries)
   where
     of_entry : Option Entry → Arrival
-    of_entry (Some e) = arrival_at_connection h now source s (fate_of s e.role)
+    of_entry (Some e) = arrival_at_connection h now source s e (fate_of s e.role)
     of_entry None = arrival_alone h isn source s
 
 -- the pair that a segment leads to the opening of

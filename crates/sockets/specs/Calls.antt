@@ -1,7 +1,7 @@
 -- The call table: for each socket call its refusal, by the tests in their order, and what it makes of the table.
-use Rattle.std.specs.Prelude.{ℕ, ◌+◌, ◌^◌, ◌≡◌, Bool, ◌==◌, ◌&&◌, ◌||◌, not, if◌then◌else◌, List, [], ◌∷◌, ◌++◌, length, take, drop, Option, Some, None, find, Result, Ok, Err, is_some, option_map, option_and_then}
+use Rattle.std.specs.Prelude.{ℕ, ◌+◌, ◌^◌, ◌≡◌, Bool, false, ◌==◌, ◌&&◌, ◌||◌, not, nat_lt, if◌then◌else◌, List, [], ◌∷◌, ◌++◌, length, take, drop, filter, Option, Some, None, find, Result, Ok, Err, is_some, option_map, option_and_then}
 use Rattle.std.specs.List.{list_any}
-use Rattle.std.specs.Option.{ok_or}
+use Rattle.std.specs.Option.{ok_or, unwrap_or}
 use Rattle.std.specs.Result.{result_ok, result_err}
 use Rattle.ipv4.specs.declared.addr.Addr.{Addr}
 use Rattle.ipv4.specs.declared.addr.Endpoint.{Endpoint}
@@ -14,6 +14,8 @@ use Rattle.tcp_state.specs.declared.calls.Refusal as connection_refusal
 use Rattle.tcp_state.specs.declared.calls.Refusal.TheVariants as connection_variants
 use Rattle.tcp_state.specs.Calls as connection_calls
 use Rattle.tcp_state.specs.View.{is_opening}
+use Rattle.sockets.specs.declared.table.TheConstants.{ENTRIES}
+use Rattle.sockets.specs.declared.calls.TheConstants.{MOST_BACKLOG}
 use Rattle.sockets.specs.declared.entry.SocketId.{SocketId}
 use Rattle.sockets.specs.declared.entry.Kind.{Kind}
 use Rattle.sockets.specs.declared.entry.Kind.TheVariants.{Tcp, Udp}
@@ -23,10 +25,10 @@ use Rattle.sockets.specs.declared.role.Role.{Role}
 use Rattle.sockets.specs.declared.role.Role.TheVariants.{Idle, Listener, Connected, Datagrams}
 use Rattle.sockets.specs.declared.refusal.Refusal.{Refusal}
 use Rattle.sockets.specs.declared.refusal.Refusal.TheVariants.{EBADF, EINVAL, EADDRINUSE, EADDRNOTAVAIL, EISCONN, ENOTCONN, EALREADY, EAGAIN, ENETUNREACH, EOPNOTSUPP, ECONNREFUSED, ECONNRESET, EPIPE, EDESTADDRREQ}
-use Rattle.sockets.specs.Ports.{first_port, is_free_port}
-use Rattle.sockets.specs.Entries.{is_socket, has_port, is_datagrams_at, is_between, is_offered_at, offered_peer, shown_state, new_socket, new_datagram_socket, role_after_bind, role_after_listen, role_after_connect, role_after_accept, role_after_send, role_after_recv, role_after_shutdown, role_after_close, close_fate_of, role_after_listener_close, listener_close_fate_of, entries_after_step, entries_after_steps, with_role}
+use Rattle.sockets.specs.Ports.{first_port, is_free_port, is_unused_port, is_free_datagram_port}
+use Rattle.sockets.specs.Entries.{is_socket, has_port, is_datagrams_at, is_between, is_waiting_as, is_waiting_id, peer_of, shown_state, new_socket, new_datagram_socket, role_after_bind, role_after_listen, role_after_connect, role_after_accept, role_after_send, role_after_recv, role_after_shutdown, role_after_close, close_fate_of, role_after_listener_close, listener_close_fate_of, entries_after_step, entries_after_steps, with_role}
 use Rattle.sockets.specs.SocketsView.{SocketsView, role_of, with_socket}
-use Rattle.sockets.specs.Lists.{change_first}
+use Rattle.sockets.specs.Lists.{change_first, remove_first}
 
 -- what `of` says of a socket's role, and `none` where there is no such socket
 abbrev pub of_socket : {T : Type 0} → T → (Role → T) → Option Role → T
@@ -50,9 +52,9 @@ unless_refused (Some refusal) value = Err refusal
 abbrev pub any_addr : Addr
 any_addr = record { 0 = 0 ∷ 0 ∷ 0 ∷ 0 ∷ [] }
 
--- socket: no place in a table of 8, or the last id is given
+-- socket: no place in a table of 64, or the last id is given
 abbrev pub is_table_full : SocketsView → Bool
-is_table_full h = (length h.entries == 8) || (h.last_id + 1 == 2 ^ 64)
+is_table_full h = (length h.entries == ENTRIES) || (h.last_id + 1 == 2 ^ 64)
 
 -- a new idle socket at the end of the table
 abbrev pub after_socket : SocketsView → Buffers → SocketsView
@@ -78,41 +80,52 @@ abbrev pub IsMade : Kind → SocketsView → SocketsView → Type 0
 IsMade Tcp old new = (buffers : Buffers) × (new ≡ after_socket old buffers)
 IsMade Udp old new = new ≡ after_datagram_socket old
 
--- an entry over TCP has this local port
-abbrev pub is_port_taken : SocketsView → ℕ → Bool
-is_port_taken h port = list_any (has_port port) h.entries
+-- the port asked for where it is free, and in place of port 0 the first dynamic one that is, behind the last one given
+abbrev pub free_port : SocketsView → (ℕ → Bool) → ℕ → Option ℕ
+free_port h is_free port =
+    if port == 0 then first_port is_free h.last_port 0 16384
+    else if is_free port then Some port
+    else None
 
--- a UDP socket is bound to this port
-abbrev pub is_datagram_port_taken : SocketsView → ℕ → Bool
-is_datagram_port_taken h port = list_any (is_datagrams_at port) h.entries
+-- the port to which a socket that is not bound may be bound at this endpoint, by the test which ports are free for its kind, or why it may not
+abbrev pub port_at : SocketsView → (ℕ → Bool) → Endpoint → Result ℕ Refusal
+port_at h is_free local =
+    if not (same_addr local.addr h.addr) && not (same_addr local.addr any_addr) then Err EADDRNOTAVAIL
+    else ok_or (free_port h is_free local.port) EADDRINUSE
+
+-- the port that a bind gives the socket, or why it is refused: by what the socket is, by the address, by the ports
+abbrev pub port_bound : SocketsView → SocketId → Endpoint → Result ℕ Refusal
+port_bound h id local = answer_at h id of_role
+  where
+    of_role : Role → Result ℕ Refusal
+    of_role (Idle buffers None) = port_at h (is_unused_port h.entries) local
+    of_role (Idle buffers (Some bound)) = Err EINVAL
+    of_role (Datagrams None socket) = port_at h (is_free_datagram_port h.entries) local
+    of_role (Datagrams (Some bound) socket) = Err EINVAL
+    of_role (Listener bound backlog) = Err EINVAL
+    of_role (Connected c listener) = Err EINVAL
 
 abbrev pub bind_refusal : SocketsView → SocketId → Endpoint → Option Refusal
-bind_refusal h id local = refusal_at h id of_role
-  where
-    of_unbound : Bool → Option Refusal
-    of_unbound is_taken =
-        if local.port == 0 then Some EINVAL
-        else if not (same_addr local.addr h.addr) && not (same_addr local.addr any_addr) then Some EADDRNOTAVAIL
-        else if is_taken then Some EADDRINUSE
-        else None
+bind_refusal h id local = result_err (port_bound h id local)
 
-    of_role : Role → Option Refusal
-    of_role (Idle buffers None) = of_unbound (is_port_taken h local.port)
-    of_role (Idle buffers (Some bound)) = Some EINVAL
-    of_role (Datagrams None socket) = of_unbound (is_datagram_port_taken h local.port)
-    of_role (Datagrams (Some bound) socket) = Some EINVAL
-    of_role (Listener bound backlog) = Some EINVAL
-    of_role (Connected c listener) = Some EINVAL
+-- the dynamic port given last after a bind: one in place of port 0 counts, a port that was asked for does not
+abbrev pub last_port_bound : SocketsView → Endpoint → ℕ → ℕ
+last_port_bound h local port = if local.port == 0 then port else h.last_port
 
+-- the socket is bound to the address asked for, at the port that it is given
 abbrev pub after_bind : SocketsView → SocketId → Endpoint → SocketsView
-after_bind h id local = with_socket h id (role_after_bind local)
+after_bind h id local = of_port (port_bound h id local)
+  where
+    of_port : Result ℕ Refusal → SocketsView
+    of_port (Err refusal) = h
+    of_port (Ok port) = with_socket (record h { last_port = last_port_bound h local port }) id (role_after_bind (record { addr = local.addr; port = port }))
 
--- a backlog of 1 alone
+-- a backlog of 1 to 8
 abbrev pub listen_refusal : SocketsView → SocketId → ℕ → Option Refusal
 listen_refusal h id backlog = refusal_at h id of_role
   where
     of_backlog : Option Refusal → Option Refusal
-    of_backlog refusal = if backlog == 1 then refusal else Some EINVAL
+    of_backlog refusal = if (backlog == 0) || nat_lt MOST_BACKLOG backlog then Some EINVAL else refusal
 
     of_role : Role → Option Refusal
     of_role (Idle buffers None) = of_backlog (Some EDESTADDRREQ)
@@ -127,7 +140,32 @@ after_listen h id backlog = with_socket h id (role_after_listen backlog)
 abbrev pub state_answer : SocketsView → SocketId → Result SocketState Refusal
 state_answer h id = answer_at h id (λ role. Ok (shown_state role))
 
--- the connection that a listener accepts next, and its peer
+-- where a socket is bound, or the local end of its connection; 0.0.0.0 and port 0 where it is not bound
+abbrev pub own_end : Role → Endpoint
+own_end (Idle buffers bound) = unwrap_or bound (record { addr = any_addr; port = 0 })
+own_end (Listener local backlog) = local
+own_end (Connected c listener) = c.local
+own_end (Datagrams bound socket) = unwrap_or bound (record { addr = any_addr; port = 0 })
+
+abbrev pub sockname_answer : SocketsView → SocketId → Result Endpoint Refusal
+sockname_answer h id = answer_at h id (λ role. Ok (own_end role))
+
+-- the peer of the socket's connection, in any state
+abbrev pub peername_answer : SocketsView → SocketId → Result Endpoint Refusal
+peername_answer h id = answer_at h id (λ role. ok_or (peer_of role) ENOTCONN)
+
+-- what a listener accepts next: of the connections that are offered, the first that waits at it
+abbrev pub next_offered : SocketsView → SocketId → Option SocketId
+next_offered h listener = find (is_waiting_id h.entries listener) h.offered
+
+abbrev pub is_next_at : SocketsView → SocketId → Entry → Bool
+is_next_at h listener e = of_id (next_offered h listener)
+  where
+    of_id : Option SocketId → Bool
+    of_id None = false
+    of_id (Some id) = is_waiting_as listener id e
+
+-- its id and its peer
 abbrev pub accept_answer : SocketsView → SocketId → Result (SocketId × Endpoint) Refusal
 accept_answer h id = answer_at h id of_role
   where
@@ -137,17 +175,20 @@ accept_answer h id = answer_at h id of_role
 
     of_entry : Option Entry → Result (SocketId × Endpoint) Refusal
     of_entry None = Err EAGAIN
-    of_entry (Some e) = of_peer e.id (offered_peer id e.role)
+    of_entry (Some e) = of_peer e.id (peer_of e.role)
 
     of_role : Role → Result (SocketId × Endpoint) Refusal
-    of_role (Listener bound backlog) = of_entry (find (is_offered_at id) h.entries)
+    of_role (Listener bound backlog) = of_entry (find (is_next_at h id) h.entries)
     of_role (Idle buffers bound) = Err EINVAL
     of_role (Connected c listener) = Err EINVAL
     of_role (Datagrams bound socket) = Err EOPNOTSUPP
 
--- it waits no longer
+-- it waits no longer, and is no longer offered
 abbrev pub after_accept : SocketsView → SocketId → SocketsView
-after_accept h id = record h { entries = change_first (is_offered_at id) (with_role role_after_accept) h.entries }
+after_accept h id = record h {
+  entries = change_first (is_next_at h id) (with_role role_after_accept) h.entries;
+  offered = remove_first (is_waiting_id h.entries id) h.offered;
+}
 
 -- what a connection refuses is refused by the same name
 abbrev pub refusal_of : connection_refusal.Refusal → Refusal
@@ -221,11 +262,14 @@ close_refusal h id = refusal_at h id (λ role. None)
 abbrev pub after_socket_closed : SocketsView → SocketId → SocketsView
 after_socket_closed h id = of_socket h (λ role. record h { entries = entries_after_step (close_fate_of role) (is_socket id) (role_after_close h.kept) h.entries }) (role_of h id)
 
--- and each connection that waits at it, where it listens, is aborted
+-- and each connection that waits at it, where it listens, is aborted, and offered no longer
 abbrev pub after_close : SocketsView → SocketId → SocketsView
 after_close h id =
     let closed_socket = after_socket_closed h id in
-    record closed_socket { entries = entries_after_steps (listener_close_fate_of id) (role_after_listener_close h.kept id) closed_socket.entries }
+    record closed_socket {
+      entries = entries_after_steps (listener_close_fate_of id) (role_after_listener_close h.kept id) closed_socket.entries;
+      offered = filter (λ x. not (is_waiting_id closed_socket.entries id x)) closed_socket.offered;
+    }
 
 -- a connection from our port to the peer is in the table, in any state but CLOSED
 abbrev pub is_pair_held : SocketsView → ℕ → Endpoint → Bool

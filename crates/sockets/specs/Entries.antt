@@ -1,5 +1,5 @@
 -- The entries of the table: sockets, and connections that no socket names, not yet or no longer.
-use Rattle.std.specs.List.{retain_mut}
+use Rattle.std.specs.List.{retain_mut, list_any}
 use Rattle.std.specs.Prelude.{◌≡◌, ℕ, Bool, true, false, ◌&&◌, ◌||◌, not, ◌==◌, [], if◌then◌else◌, List, ◌++◌, drop, Option, Some, None, option_map, is_some, slice_get}
 use Rattle.ipv4.specs.declared.addr.Addr.{Addr}
 use Rattle.ipv4.specs.declared.addr.Endpoint.{Endpoint}
@@ -102,13 +102,13 @@ waits_at id (Listener local backlog) = false
 waits_at id (Idle buffers bound) = false
 waits_at id (Datagrams bound socket) = false
 
--- the peer of a connection that waits at this listener and has passed SYN-RECEIVED
-abbrev pub offered_peer : SocketId → Role → Option Endpoint
-offered_peer id (Connected c (Some listener)) = if (listener.0 == id.0) && not (is_syn_received c.state) then Some c.peer else None
-offered_peer id (Connected c None) = None
-offered_peer id (Listener local backlog) = None
-offered_peer id (Idle buffers bound) = None
-offered_peer id (Datagrams bound socket) = None
+-- a connection in SYN-RECEIVED
+abbrev pub is_in_syn_received : Role → Bool
+is_in_syn_received role = in_connection false (λ c. is_syn_received c.state) role
+
+-- the peer of a connection, in any state
+abbrev pub peer_of : Role → Option Endpoint
+peer_of role = in_connection None (λ c. Some c.peer) role
 
 -- the state that a socket shows: that of its connection (RFC 9293 section 3.3.2), or that it is a UDP socket
 abbrev pub shown_state : Role → SocketState
@@ -180,8 +180,12 @@ is_bound_at port e = has_socket e.role && uses_port port e.role
 abbrev pub is_waiting_at : SocketId → Entry → Bool
 is_waiting_at id e = waits_at id e.role
 
-abbrev pub is_offered_at : SocketId → Entry → Bool
-is_offered_at id e = is_some (offered_peer id e.role)
+-- the connection that this id names, where it waits at this listener
+abbrev pub is_waiting_as : SocketId → SocketId → Entry → Bool
+is_waiting_as listener id e = (e.id.0 == id.0) && waits_at listener e.role
+
+abbrev pub is_waiting_id : List Entry → SocketId → SocketId → Bool
+is_waiting_id entries listener id = list_any (is_waiting_as listener id) entries
 
 abbrev pub is_due : Entry → Bool
 is_due e = has_due e.role
@@ -265,6 +269,11 @@ role_after_recvfrom role = on_datagrams (λ bound. bound) after_read role
 
 -- What else happens to a role: what becomes of it, and of the entry's place.
 
+abbrev pub is_kept : Fate → Bool
+is_kept Removed = false
+is_kept Stays = true
+is_kept Rejected = true
+
 -- timers act
 abbrev pub role_after_tick : Moment → Role → Role
 role_after_tick now role = on_connection (λ c. after_tick c now) role
@@ -278,6 +287,10 @@ role_after_segment now s role = on_connection (λ c. after_segment_at c s now) r
 
 abbrev pub fate_of : Segment → Role → Fate
 fate_of s role = in_connection Stays (λ c. fate c s) role
+
+-- by it a connection that waits at a listener passes SYN-RECEIVED: from then on it is offered to the listener's caller
+abbrev pub is_offered_by : Moment → Segment → Role → Bool
+is_offered_by now s role = is_pending role && is_in_syn_received role && is_kept (fate_of s role) && not (is_in_syn_received (role_after_segment now s role))
 
 -- an error tells that the segment of this number can't be delivered
 abbrev pub role_after_unreachable : ℕ → Role → Role
@@ -370,11 +383,6 @@ abbrev pub with_role : (Role → Role) → Entry → Entry
 with_role change e = record e { role = change e.role }
 
 -- Steps of the table: what becomes of an entry's place goes with what becomes of its role.
-
-abbrev pub is_kept : Fate → Bool
-is_kept Removed = false
-is_kept Stays = true
-is_kept Rejected = true
 
 -- the first entry that passes the test takes a step: its role changes, or it is taken out
 abbrev pub entries_after_step : Fate → (Entry → Bool) → (Role → Role) → List Entry → List Entry

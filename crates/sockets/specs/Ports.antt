@@ -4,7 +4,7 @@ use Rattle.std.specs.List.{list_any}
 use Rattle.ipv4.specs.declared.addr.Addr.{Addr}
 use Rattle.ipv4.specs.declared.addr.Endpoint.{Endpoint}
 use Rattle.sockets.specs.declared.entry.Entry.{Entry}
-use Rattle.sockets.specs.Entries.{is_bound_at, is_between, is_datagrams_at}
+use Rattle.sockets.specs.Entries.{has_port, is_bound_at, is_between, is_datagrams_at}
 
 -- the dynamic port that comes so many steps behind the one next to the last given, 49152 behind 65535
 abbrev pub port_after : ℕ → ℕ → ℕ
@@ -32,6 +32,10 @@ pub record IsFirstBehind (test : ℕ → Bool) (last port : ℕ) : Type 0 where
 -- free for a connection to the peer: no TCP socket is bound to the port, and no connection goes from it to the peer
 abbrev pub is_free_port : List Entry → Addr → Endpoint → ℕ → Bool
 is_free_port entries addr peer port = not (list_any (is_bound_at port) entries) && not (list_any (is_between (record { addr = addr; port = port }) peer) entries)
+
+-- free for a TCP socket that is bound: no entry over TCP has the port
+abbrev pub is_unused_port : List Entry → ℕ → Bool
+is_unused_port entries port = not (list_any (has_port port) entries)
 
 -- free for a UDP socket: none is bound to the port
 abbrev pub is_free_datagram_port : List Entry → ℕ → Bool

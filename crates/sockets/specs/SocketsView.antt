@@ -10,7 +10,8 @@ use Rattle.sockets.specs.Lists.{change_first}
 use Rattle.sockets.specs.Entries.{is_socket, is_of_pair, with_role}
 
 -- its address, the kept moment, the dynamic port given last (65,535 before the first), the id given last (0 before the first), the
--- identification of the next datagram (RFC 791 section 3.2), and its entries in order of id
+-- identification of the next datagram (RFC 791 section 3.2), its entries in order of id, and the connections that wait to be accepted and have passed
+-- SYN-RECEIVED, in the order in which they did
 pub record SocketsView : Type 0 where
   pub addr : Addr
   pub kept : Moment
@@ -18,6 +19,7 @@ pub record SocketsView : Type 0 where
   pub last_id : ℕ
   pub identification : ℕ
   pub entries : List Entry
+  pub offered : List SocketId
 
 -- what the socket that the id names is
 abbrev pub role_of : SocketsView → SocketId → Option Role
@@ -40,6 +42,7 @@ new_sockets addr = record {
   last_id = 0;
   identification = 0;
   entries = [];
+  offered = [];
 }
 
 -- the entry with a connection of the pair, in any state but CLOSED

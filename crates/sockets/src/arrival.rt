@@ -41,10 +41,14 @@ impl Sockets {
         ensures { (isn : ℕ) → Meets (arrival self.old now isn source segment.now) self.old result self.new }
     {
         let now = self.later_moment(now);
-        match self.entries[place].segment(now, segment) {
+        let entry = &mut self.entries[place];
+        let id = entry.id;
+        let (fate, is_offered) = entry.segment(now, segment);
+        match fate {
             Fate::Rejected => Taken::Answer(replies::reset_at_ack(segment)),
             fate => {
                 table::settle(&mut self.entries, place, fate);
+                table::offer(&mut self.offered, id, is_offered);
                 Taken::Done
             }
         }

@@ -1,6 +1,6 @@
 //! The socket calls (POSIX.1-2017), each with its refusals in the order in which they are tested.
 
-ghost use Rattle.std.specs.Prelude.{◌≡◌, ◌^◌, ◌<◌, ◌≤◌, ◌↔◌, length, IfOk, IfErr, OnOk, OnErr, IfSome, IsTrue, ◌⊎◌, ◌+◌, find, position, None};
+ghost use Rattle.std.specs.Prelude.{◌≡◌, ◌^◌, ◌<◌, ◌≤◌, ◌↔◌, length, IfOk, IfErr, OnOk, OnErr, IfSome, IsTrue, Ok, Err, ◌⊎◌, ◌+◌, find, position, Some, None};
 ghost use Rattle.tcp_state.specs.declared.buffers.Buffers.{Buffers};
 ghost use Rattle.std.specs.Result.{result_err};
 ghost use Rattle.std.specs.Option.{ok_or};
@@ -22,14 +22,15 @@ use udp_socket::UdpSocket;
 /// The address that stands for every address of ours.
 const ANY: Addr = Addr([0; 4]);
 
-/// How many connections may wait at a listener.
-const BACKLOG: usize = 1;
+/// How many connections may wait at a listener at most.
+pub const MOST_BACKLOG: usize = 8;
 
 #[tactic(auto, using(crate::proofs::Firsts::firsts))]
 impl Sockets {
     ghost use Rattle.sockets.specs.SocketsView.{SocketsView, later_moment};
-    ghost use Rattle.sockets.specs.Entries.{is_socket};
-    ghost use Rattle.sockets.specs.Calls.{bind_refusal, after_bind, listen_refusal, after_listen, state_answer, is_table_full, IsMade, accept_answer, after_accept, send_answer, after_send, recv_answer, recv_front, after_recv, connect_refusal, after_connect, reach_refusal, port_for, last_port_after, pair_connected, shutdown_refusal, after_shutdown};
+    ghost use Rattle.sockets.specs.Entries.{is_socket, is_waiting_id};
+    ghost use Rattle.sockets.specs.Ports.{is_unused_port, is_free_datagram_port};
+    ghost use Rattle.sockets.specs.Calls.{bind_refusal, after_bind, port_at, port_bound, last_port_bound, sockname_answer, peername_answer, listen_refusal, after_listen, state_answer, is_table_full, IsMade, is_next_at, accept_answer, after_accept, send_answer, after_send, recv_answer, recv_front, after_recv, connect_refusal, after_connect, reach_refusal, port_for, last_port_after, pair_connected, shutdown_refusal, after_shutdown};
 
     /// Makes a socket, with the room for one connection, or with the two queues of a UDP socket. EMFILE where the table is full or the last id is given, ENOMEM.
     pub fn socket(&mut self, kind: Kind) -> Result<SocketId, Refusal>
@@ -50,48 +51,109 @@ impl Sockets {
         Ok(SocketId(id))
     }
 
-    /// Binds a socket to a local endpoint, at our address or 0.0.0.0, which stands for it.
+    /// Binds a socket to a local endpoint, at our address or 0.0.0.0, which stands for it. In place of port 0 it is given a dynamic port: the
+    /// first behind the last one given that no entry of its kind has.
     ///
-    /// EBADF; EINVAL where it is bound already or has had a connection, or the port is 0; EADDRNOTAVAIL at another
-    /// address; EADDRINUSE where an entry of its kind has the port.
+    /// EBADF; EINVAL where it is bound already or has had a connection; EADDRNOTAVAIL at another address; EADDRINUSE where an entry of its
+    /// kind has the port, or no dynamic port is free.
     pub fn bind(&mut self, id: SocketId, local: Endpoint) -> Result<(), Refusal>
         ensures refused { result_err result ≡ bind_refusal self.old id local }
         ensures ok { OnOk result (self.new ≡ after_bind self.old id local) }
         ensures err { OnErr result (self.new ≡ self.old) }
     {
-        let place = self.may_bind(id, local)?;
-        self.entries[place].bind(local);
+        let (place, port) = self.may_bind(id, local)?;
+        let addr = local.addr;
+        self.last_port = self.last_port_bound(local, port);
+        self.entries[place].bind(Endpoint { addr, port });
         Ok(())
     }
 
-    /// The place of the socket that may be bound.
-    fn may_bind(&self, id: SocketId, local: Endpoint) -> Result<usize, Refusal>
-        ensures refused { result_err result ≡ bind_refusal self.now id local }
-        ensures place { IfOk result (λ place. position (is_socket id) self.now.entries ≡ Some place) }
+    /// The dynamic port given last, once a socket is bound at `local` to this port: one that was given in place of port 0 counts.
+    fn last_port_bound(&self, local: Endpoint, port: u16) -> u16
+        requires { local.port ≡ 0 → 49152 ≤ port }
+        ensures value { result ≡ last_port_bound self.now local port }
+        ensures dynamic { 49152 ≤ result }
+    {
+        if local.port == 0 {
+            port
+        } else {
+            self.last_port
+        }
+    }
+
+    /// The place of the socket that may be bound, and the port that it is given.
+    fn may_bind(&self, id: SocketId, local: Endpoint) -> Result<(usize, u16), Refusal>
+        ensures dynamic { local.port ≡ 0 → IfOk result (λ given. 49152 ≤ given.1) }
+        ensures place { IfOk result (λ given. position (is_socket id) self.now.entries ≡ Some given.0) }
+        ensures port { IfOk result (λ given. port_bound self.now id local ≡ Ok given.1) }
+        ensures refused { IfErr result (λ refusal. port_bound self.now id local ≡ Err refusal) }
     {
         let place = self.socket_place(id)?;
-        let is_taken = match &self.entries[place].role {
-            Role::Idle { bound: None, .. } => table::is_port_taken(&self.entries, local.port),
-            Role::Datagrams { bound: None, .. } => {
-                table::is_datagram_port_taken(&self.entries, local.port)
-            }
+        let port = match &self.entries[place].role {
+            Role::Idle { bound: None, .. } => self.stream_port_at(local)?,
+            Role::Datagrams { bound: None, .. } => self.datagram_port_at(local)?,
             _ => return Err(Refusal::EINVAL),
         };
-        if local.port == 0 {
-            return Err(Refusal::EINVAL);
-        }
+        Ok((place, port))
+    }
+
+    /// The port to which a TCP socket may be bound at this endpoint.
+    fn stream_port_at(&self, local: Endpoint) -> Result<u16, Refusal>
+        ensures dynamic { local.port ≡ 0 → IfOk result (λ port. 49152 ≤ port) }
+        ensures value { result ≡ port_at self.now (is_unused_port self.now.entries) local }
+    {
         if local.addr != self.addr && local.addr != ANY {
             return Err(Refusal::EADDRNOTAVAIL);
         }
-        if is_taken {
+        if local.port == 0 {
+            return ports::first_unused(&self.entries, self.last_port).ok_or(Refusal::EADDRINUSE);
+        }
+        if table::is_port_taken(&self.entries, local.port) {
             return Err(Refusal::EADDRINUSE);
         }
-        Ok(place)
+        Ok(local.port)
+    }
+
+    /// The port to which a UDP socket may be bound at this endpoint.
+    fn datagram_port_at(&self, local: Endpoint) -> Result<u16, Refusal>
+        ensures dynamic { local.port ≡ 0 → IfOk result (λ port. 49152 ≤ port) }
+        ensures value { result ≡ port_at self.now (is_free_datagram_port self.now.entries) local }
+    {
+        if local.addr != self.addr && local.addr != ANY {
+            return Err(Refusal::EADDRNOTAVAIL);
+        }
+        if local.port == 0 {
+            return ports::first_free_for_datagrams(&self.entries, self.last_port).ok_or(
+                Refusal::EADDRINUSE,
+            );
+        }
+        if table::is_datagram_port_taken(&self.entries, local.port) {
+            return Err(Refusal::EADDRINUSE);
+        }
+        Ok(local.port)
+    }
+
+    /// Where a socket is: the local end of its connection, or the endpoint to which it is bound; 0.0.0.0 and port 0 where it is not bound. EBADF.
+    pub fn sockname(&self, id: SocketId) -> Result<Endpoint, Refusal>
+        ensures { result ≡ sockname_answer self.now id }
+    {
+        let place = self.socket_place(id)?;
+        Ok(self.entries[place].role.own_end())
+    }
+
+    /// The peer of a socket's connection, in any state.
+    ///
+    /// EBADF; ENOTCONN where the socket has had no connection, or is a UDP socket.
+    pub fn peername(&self, id: SocketId) -> Result<Endpoint, Refusal>
+        ensures { result ≡ peername_answer self.now id }
+    {
+        let place = self.socket_place(id)?;
+        self.entries[place].role.peer().ok_or(Refusal::ENOTCONN)
     }
 
     /// Lets a bound socket take connections, of which `backlog` may wait to be accepted.
     ///
-    /// EBADF; EOPNOTSUPP of a UDP socket; EINVAL where the backlog is not 1, or the socket listens already or has had a connection; EDESTADDRREQ
+    /// EBADF; EOPNOTSUPP of a UDP socket; EINVAL where the backlog is not 1 to 8, or the socket listens already or has had a connection; EDESTADDRREQ
     /// where it is not bound.
     pub fn listen(&mut self, id: SocketId, backlog: usize) -> Result<(), Refusal>
         ensures refused { result_err result ≡ listen_refusal self.old id backlog }
@@ -111,14 +173,14 @@ impl Sockets {
         let place = self.socket_place(id)?;
         match &self.entries[place].role {
             Role::Datagrams { .. } => Err(Refusal::EOPNOTSUPP),
-            _ if backlog != BACKLOG => Err(Refusal::EINVAL),
+            _ if backlog == 0 || backlog > MOST_BACKLOG => Err(Refusal::EINVAL),
             Role::Idle { bound: Some(_), .. } => Ok(place),
             Role::Idle { bound: None, .. } => Err(Refusal::EDESTADDRREQ),
             _ => Err(Refusal::EINVAL),
         }
     }
 
-    /// Takes the connection that first passed SYN-RECEIVED of those that wait at a listener: its id from now on, and its peer.
+    /// Takes the connection that first passed SYN-RECEIVED of those that wait at a listener, reset since or not: its id from now on, and its peer.
     ///
     /// EBADF; EOPNOTSUPP of a UDP socket; EINVAL where the socket does not listen; EAGAIN where no connection waits.
     pub fn accept(&mut self, id: SocketId) -> Result<(SocketId, Endpoint), Refusal>
@@ -132,11 +194,33 @@ impl Sockets {
             Role::Datagrams { .. } => return Err(Refusal::EOPNOTSUPP),
             _ => return Err(Refusal::EINVAL),
         }
-        let place = table::next_accepted(&self.entries, id).ok_or(Refusal::EAGAIN)?;
+        let Some((turn, place)) = self.next_accepted(id) else {
+            return Err(Refusal::EAGAIN);
+        };
         let entry = &mut self.entries[place];
-        let peer = entry.role.offered_peer(id).ok_or(Refusal::EAGAIN)?;
+        let accepted = entry.id;
+        let Some(peer) = entry.role.peer() else {
+            return Err(Refusal::EAGAIN);
+        };
         entry.accept();
-        Ok((entry.id, peer))
+        self.offered.remove(turn);
+        Ok((accepted, peer))
+    }
+
+    /// The connection that the listener `id` accepts next: its place among those offered, and in the table.
+    fn next_accepted(&self, id: SocketId) -> Option<(usize, usize)>
+        ensures none { result ≡ None → find (is_next_at self.now id) self.now.entries ≡ None }
+        ensures turn { IfSome result (λ at. position (is_waiting_id self.now.entries id) self.now.offered ≡ Some at.0) }
+        ensures place { IfSome result (λ at. position (is_next_at self.now id) self.now.entries ≡ Some at.1) }
+    {
+        let Some(turn) = table::next_offered(&self.offered, &self.entries, id) else {
+            return None;
+        };
+        let accepted = self.offered[turn];
+        let Some(place) = table::waiting_as(&self.entries, id, accepted) else {
+            return None;
+        };
+        Some((turn, place))
     }
 
     /// Opens a connection to `peer`, whose initial sequence number here is `isn` (RFC 9293 section 3.10.1).

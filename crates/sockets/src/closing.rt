@@ -23,6 +23,7 @@ impl Sockets {
         ensures err { OnErr result (self.new ≡ self.old) }
     {
         self.close_socket(id)?;
+        table::offer_no_more(&mut self.offered, &self.entries, id);
         table::forsake(&mut self.entries, self.kept, id);
         Ok(())
     }

@@ -26,7 +26,7 @@ pub enum Kind {
 }
 
 /// Names a socket of one table. Ids count from 1, and none is given twice.
-#[derive(Clone, Copy, PartialEq, Eq, PartialOrd, Ord, Debug)]
+#[derive(Clone, Copy, Default, PartialEq, Eq, PartialOrd, Ord, Debug)]
 pub struct SocketId(pub u64);
 
 /// An entry of the table: a socket, or a connection that no socket names, not yet or no longer.
@@ -133,7 +133,7 @@ impl Entry {
 
 /// What happens to the role of an entry; its id stays.
 impl Entry {
-    ghost use Rattle.sockets.specs.Entries.{role_after_bind, role_after_listen, role_after_connect, role_after_accept, role_after_send, role_after_recv, role_after_shutdown, role_after_segment, fate_of, role_after_unreachable, unreachable_fate_of, role_after_tick, tick_fate_of, role_after_emission, due_emitted, due_front, has_room_to_send, role_after_sendto, role_after_recvfrom, has_room_to_receive, role_after_reception, role_after_close, close_fate_of, role_after_listener_close, listener_close_fate_of};
+    ghost use Rattle.sockets.specs.Entries.{role_after_bind, role_after_listen, role_after_connect, role_after_accept, role_after_send, role_after_recv, role_after_shutdown, role_after_segment, fate_of, is_offered_by, role_after_unreachable, unreachable_fate_of, role_after_tick, tick_fate_of, role_after_emission, due_emitted, due_front, has_room_to_send, role_after_sendto, role_after_recvfrom, has_room_to_receive, role_after_reception, role_after_close, close_fate_of, role_after_listener_close, listener_close_fate_of};
     ghost use Rattle.sockets.specs.Calls.{role_send_answer, role_recv_answer, read_front};
     ghost use Rattle.sockets.specs.Datagrams.{role_recvfrom_answer, datagram_front};
 
@@ -239,12 +239,19 @@ impl Entry {
         is_kept(self.role.forsake(now, id))
     }
 
-    /// Hands a segment to the connection, and answers what becomes of the entry.
-    pub(crate) fn segment(&mut self, now: Moment, segment: &TcpView<'_>) -> Fate
-        ensures fate { result ≡ fate_of segment.now self.old.role }
+    /// Hands a segment to the connection, and answers what becomes of the entry, and whether the connection is offered to its listener's
+    /// caller from now on.
+    pub(crate) fn segment(&mut self, now: Moment, segment: &TcpView<'_>) -> (Fate, bool)
+        ensures fate { result.0 ≡ fate_of segment.now self.old.role }
+        ensures offered { result.1 ≡ is_offered_by now segment.now self.old.role }
         ensures after { self.new ≡ with_role (role_after_segment now segment.now) self.old }
     {
-        self.role.segment(now, segment)
+        let waits = self.role.is_pending() && self.role.is_in_syn_received();
+        let fate = self.role.segment(now, segment);
+        (
+            fate,
+            waits && is_kept(fate) && !self.role.is_in_syn_received(),
+        )
     }
 
     /// Tells the connection that the segment of this number can't be delivered, and answers what becomes of the entry.

@@ -19,6 +19,7 @@ mod table;
 mod taken;
 mod unreachable;
 
+pub use calls::MOST_BACKLOG;
 pub use datagrams::Reception;
 pub use emission::Emitted;
 pub use entry::{Entry, Kind, SocketId};
@@ -26,4 +27,5 @@ pub use refusal::Refusal;
 pub use role::RESET_WAIT;
 pub use sockets::Sockets;
 pub use state::SocketState;
+pub use table::ENTRIES;
 pub use taken::Taken;

@@ -1,7 +1,7 @@
 //! Dynamic ports (RFC 6335 section 6): 49152 to 65535, given in turn.
 
 ghost use Rattle.std.specs.Prelude.{◌≡◌, ◌+◌, ◌-◌, ◌<◌, ◌≤◌, IfSome};
-ghost use Rattle.sockets.specs.Ports.{port_after, first_port, is_free_port, is_free_datagram_port};
+ghost use Rattle.sockets.specs.Ports.{port_after, first_port, is_free_port, is_unused_port, is_free_datagram_port};
 
 use crate::entry::Entry;
 use crate::table;
@@ -42,6 +42,22 @@ pub(crate) fn first_free(entries: &[Entry], addr: Addr, last: u16, peer: Endpoin
     None
 }
 
+/// The first dynamic port after `last` that no entry over TCP has.
+#[tactic(auto, using(crate::proofs::Turns::turns))]
+pub(crate) fn first_unused(entries: &[Entry], last: u16) -> Option<u16>
+    requires { FIRST ≤ last }
+    ensures within { IfSome result (λ port. FIRST ≤ port) }
+    ensures first { result ≡ first_port (is_unused_port entries.now) last 0 COUNT }
+{
+    for steps in 0..COUNT {
+        let port = port_after(last, steps);
+        if is_unused(entries, port) {
+            return Some(port);
+        }
+    }
+    None
+}
+
 /// The first dynamic port after `last` to which no UDP socket is bound.
 #[tactic(auto, using(crate::proofs::Turns::turns))]
 pub(crate) fn first_free_for_datagrams(entries: &[Entry], last: u16) -> Option<u16>
@@ -64,6 +80,13 @@ fn is_free(entries: &[Entry], addr: Addr, port: u16, peer: Endpoint) -> bool
 {
     !table::is_port_bound(entries, port)
         && !table::is_pair_held(entries, Endpoint { addr, port }, peer)
+}
+
+/// Whether no entry over TCP has the port `port`.
+fn is_unused(entries: &[Entry], port: u16) -> bool
+    ensures { result ≡ is_unused_port entries.now port }
+{
+    !table::is_port_taken(entries, port)
 }
 
 /// Whether no UDP socket is bound to the port `port`.

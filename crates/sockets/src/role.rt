@@ -2,8 +2,9 @@
 
 ghost use Rattle.std.specs.Prelude.{◌≡◌, ◌≤◌, Bool, true, if◌then◌else◌, length, Some, OnOk, OnErr};
 ghost use Rattle.ipv4.specs.declared.addr.Addr.{Addr};
+ghost use Rattle.sockets.specs.Calls.{own_end};
 ghost use Rattle.sockets.specs.Emission.{IsWithin};
-ghost use Rattle.sockets.specs.Entries.{is_pending, is_left, has_socket, is_live_between, joins, uses_port, uses_datagram_port, waits_at, offered_peer, shown_state, deadline_of, has_due, due_peer, reset_wait, backlog_of, listens_at, is_kept, source_of};
+ghost use Rattle.sockets.specs.Entries.{is_pending, is_left, has_socket, is_live_between, joins, uses_port, uses_datagram_port, waits_at, is_in_syn_received, peer_of, shown_state, deadline_of, has_due, due_peer, reset_wait, backlog_of, listens_at, is_kept, source_of};
 
 use crate::emission::Emitted;
 use crate::entry::SocketId;
@@ -19,6 +20,12 @@ use udp_socket::{MOST_OCTETS, UdpSocket};
 
 /// How long the reset of an abort waits for a hop that isn't known before it is given up, in milliseconds. It is this stack's own.
 pub const RESET_WAIT: u64 = 3_000;
+
+/// Where a socket is that is not bound: at 0.0.0.0 and port 0.
+const UNBOUND: Endpoint = Endpoint {
+    addr: Addr([0; 4]),
+    port: 0,
+};
 
 /// What an entry is.
 #[derive(Drop)]
@@ -49,10 +56,7 @@ impl Default for Role {
     /// The role in a place of the table that is not in use: it holds no memory.
     fn default() -> Role {
         Role::Listener {
-            local: Endpoint {
-                addr: Addr([0; 4]),
-                port: 0,
-            },
+            local: UNBOUND,
             backlog: 0,
         }
     }
@@ -99,7 +103,7 @@ impl Role {
     }
 
     /// Whether this is a connection that is not accepted.
-    fn is_pending(&self) -> bool
+    pub(crate) fn is_pending(&self) -> bool
         ensures { result ≡ is_pending self.now }
     {
         matches!(
@@ -124,17 +128,33 @@ impl Role {
         }
     }
 
-    /// The peer of a connection that has passed SYN-RECEIVED and waits at `listener`.
-    pub(crate) fn offered_peer(&self, listener: SocketId) -> Option<Endpoint>
-        ensures { result ≡ offered_peer listener self.now }
+    /// Whether this is a connection in SYN-RECEIVED.
+    pub(crate) fn is_in_syn_received(&self) -> bool
+        ensures { result ≡ is_in_syn_received self.now }
     {
         match self {
-            Role::Connected {
-                connection,
-                listener: Some(id),
-            } if *id == listener && !matches!(connection.state(), State::SynReceived) => {
-                Some(connection.peer())
-            }
+            Role::Connected { connection, .. } => matches!(connection.state(), State::SynReceived),
+            _ => false,
+        }
+    }
+
+    /// The local end of a connection, or where a socket is bound; 0.0.0.0 and port 0 where it is not bound.
+    pub(crate) fn own_end(&self) -> Endpoint
+        ensures { result ≡ own_end self.now }
+    {
+        match self {
+            Role::Idle { bound, .. } | Role::Datagrams { bound, .. } => bound.unwrap_or(UNBOUND),
+            Role::Listener { local, .. } => *local,
+            Role::Connected { connection, .. } => connection.local(),
+        }
+    }
+
+    /// The peer of a connection, in any state.
+    pub(crate) fn peer(&self) -> Option<Endpoint>
+        ensures { result ≡ peer_of self.now }
+    {
+        match self {
+            Role::Connected { connection, .. } => Some(connection.peer()),
             _ => None,
         }
     }

@@ -21,6 +21,7 @@ pub struct Sockets {
     pub(crate) last_id: u64,
     pub(crate) identification: u16,
     pub(crate) entries: ArrayVec<Entry, ENTRIES>,
+    pub(crate) offered: ArrayVec<SocketId, ENTRIES>,
 }
 
 impl Model for Sockets {
@@ -36,6 +37,7 @@ impl Model for Sockets {
       last_id = h.last_id;
       identification = h.identification;
       entries = h.entries.items;
+      offered = h.offered.items;
     } };
 
     ghost invariant = { λ h. 49152 ≤ h.last_port };
@@ -62,6 +64,7 @@ impl Sockets {
             last_id: 0,
             identification: 0,
             entries: ArrayVec::new(),
+            offered: ArrayVec::new(),
         }
     }
 

@@ -1,8 +1,9 @@
 //! What is looked up in the table, which stands in order of id.
 
-ghost use Rattle.std.specs.Prelude.{◌≡◌, ◌<◌, Bool, if◌then◌else◌, length, remove, position, count_by, fold, None};
+ghost use Rattle.std.specs.Prelude.{◌≡◌, ◌<◌, Bool, not, if◌then◌else◌, length, filter, remove, position, count_by, fold, None};
 ghost use Rattle.std.specs.List.{list_any, AllByRecursion};
-ghost use Rattle.sockets.specs.Entries.{is_kept, entries_after_steps, tick_fate_of, role_after_listener_close, listener_close_fate_of, is_socket, is_between, is_of_pair, has_port, is_bound_at, is_datagrams_at, is_waiting_at, is_offered_at, is_listening_at, deadline_of, role_after_tick, with_role};
+ghost use Rattle.sockets.specs.Entries.{is_kept, entries_after_steps, tick_fate_of, role_after_listener_close, listener_close_fate_of, is_socket, is_between, is_of_pair, has_port, is_bound_at, is_datagrams_at, is_waiting_at, is_waiting_as, is_waiting_id, is_listening_at, deadline_of, role_after_tick, with_role};
+ghost use Rattle.sockets.specs.Arrival.{offered_with};
 ghost use Rattle.clock.specs.Moments.{sooner};
 ghost use Rattle.ipv4.specs.declared.addr.Addr.{Addr};
 ghost use Rattle.sockets.specs.Lost.{give_up_fate_of, role_after_giving_up};
@@ -15,8 +16,8 @@ use clock::{Moment, sooner};
 use ipv4::{Addr, Endpoint, Pair};
 use tcp_state::Fate;
 
-/// How many entries the table holds.
-pub(crate) const ENTRIES: usize = 8;
+/// How many entries the table holds: sockets, and connections that no socket names, not yet or no longer.
+pub const ENTRIES: usize = 64;
 
 /// The place of the socket `id`.
 pub(crate) fn socket_of(entries: &[Entry], id: SocketId) -> Option<usize>
@@ -103,13 +104,55 @@ pub(crate) fn waiting_at(entries: &[Entry], listener: SocketId) -> usize
         .count()
 }
 
-/// The place of the connection that `listener` accepts next.
-pub(crate) fn next_accepted(entries: &[Entry], listener: SocketId) -> Option<usize>
-    ensures { result ≡ position (is_offered_at listener) entries.now }
+/// The place of the connection that `id` names, where it waits at `listener`.
+pub(crate) fn waiting_as(entries: &[Entry], listener: SocketId, id: SocketId) -> Option<usize>
+    ensures { result ≡ position (is_waiting_as listener id) entries.now }
 {
     entries
         .iter()
-        .position(|entry| entry.role.offered_peer(listener).is_some())
+        .position(|entry| entry.id == id && entry.role.waits_at(listener))
+}
+
+/// Whether the connection that `id` names waits at `listener`.
+fn is_waiting_id(entries: &[Entry], listener: SocketId, id: SocketId) -> bool
+    ensures { result ≡ is_waiting_id entries.now listener id }
+{
+    entries
+        .iter()
+        .any(|entry| entry.id == id && entry.role.waits_at(listener))
+}
+
+/// The place among those offered of the connection that `listener` accepts next.
+pub(crate) fn next_offered(
+    offered: &[SocketId],
+    entries: &[Entry],
+    listener: SocketId,
+) -> Option<usize>
+    ensures { result ≡ position (is_waiting_id entries.now listener) offered.now }
+{
+    offered
+        .iter()
+        .position(|id| is_waiting_id(entries, listener, *id))
+}
+
+/// Puts the connection that `id` names behind those offered, where it is offered now.
+pub(crate) fn offer(offered: &mut ArrayVec<SocketId, ENTRIES>, id: SocketId, is_offered: bool)
+    ensures { offered.new.items ≡ offered_with is_offered id offered.old.items }
+{
+    if is_offered && !offered.is_full() {
+        offered.push(id);
+    }
+}
+
+/// Takes the connections that wait at `listener` out of those offered.
+pub(crate) fn offer_no_more(
+    offered: &mut ArrayVec<SocketId, ENTRIES>,
+    entries: &[Entry],
+    listener: SocketId,
+)
+    ensures { offered.new.items ≡ filter (λ id. not (is_waiting_id entries.now listener id)) offered.old.items }
+{
+    offered.retain(|id| !is_waiting_id(entries, listener, *id));
 }
 
 /// Lets the timers of every entry act whose moment has come, and takes out those whose connection is gone then.

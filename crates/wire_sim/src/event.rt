@@ -98,6 +98,10 @@ pub enum Call {
     State {
         id: SocketId,
     },
+    /// Asks where a socket is bound, or for the local end of its connection.
+    SockName(SocketId),
+    /// Asks for the peer of a socket's connection.
+    PeerName(SocketId),
 }
 
 /// One event: one call on one host.
@@ -134,6 +138,8 @@ pub enum Answer {
     EndOfStream,
     /// The state of a socket.
     State(SocketState),
+    /// An end of a socket: its own, or its peer.
+    Endpoint(Endpoint),
     /// A frame went into the bag: its index there, and its length in octets.
     Frame { index: usize, len: usize },
     /// No frame is due.
@@ -168,6 +174,7 @@ impl Answer {
             },
             Answer::EndOfStream => Answer::EndOfStream,
             Answer::State(state) => Answer::State(*state),
+            Answer::Endpoint(endpoint) => Answer::Endpoint(*endpoint),
             Answer::Frame { index, len } => Answer::Frame {
                 index: *index,
                 len: *len,

@@ -31,34 +31,6 @@ b deliver 7 0 -> taken
 b accept 1 -> id 3 10.0.0.1 49153
 ";
 
-/// The table of b is full. What is dropped draws no id, and a SYN that comes again later finds a place.
-const TABLE: &str = "b socket tcp -> id 1
-b bind 1 80 -> ok
-b listen 1 1 -> ok
-b socket tcp -> id 2
-b socket tcp -> id 3
-b socket tcp -> id 4
-b socket tcp -> id 5
-b socket tcp -> id 6
-b socket tcp -> id 7
-b socket tcp -> id 8
-a socket tcp -> id 1
-a connect 1 80 5 -> started
-pass 7 -> a 1 b 1
-a emit -> frame 2 60
-b deliver 2 7 -> drop F9
-b emit -> none
-a tick 1000 -> ok
-pass 7 -> a 1 b 0
-b close 8 -> ok
-b deliver 2 7 -> taken
-b emit -> frame 4 60
-a deliver 4 0 -> taken
-a emit -> frame 5 60
-b deliver 5 0 -> taken
-b accept 1 -> id 9 10.0.0.1 49152
-";
-
 /// Nobody listens at port 81.
 const NOBODY: &str = "a socket tcp -> id 1
 a connect 1 81 5 -> started
@@ -233,10 +205,9 @@ a deliver 1 9 -> taken
 b emit -> frame 11 60
 ";
 
-/// Connections find no room, nor does a seventeenth reply; the world refuses events.
+/// A second connection finds no room, nor does a seventeenth reply; the world refuses events.
 pub const TRANSCRIPTS: &[&[&str]] = &[
     &[BACKLOG],
-    &[TABLE],
     &[NOBODY, SIXTEEN_TAKEN, ONE_REPLY_GOES],
     &[
         OPENING,

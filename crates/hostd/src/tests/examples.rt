@@ -299,6 +299,98 @@ a send 2 hi -> E18 EDESTADDRREQ
 a connect 2 80 100 -> E17 EOPNOTSUPP
 ";
 
+/// examples/simultaneous_open.txt
+const SIMULTANEOUS_OPEN: &str = "# Both sides ask for the same connection, and neither listens.
+#
+# Each binds its socket to a port and connects it to the other's port. The last numbers are those at which their numbers begin.
+a socket tcp -> id 1
+a bind 1 4000 -> ok
+a connect 1 5000 100 -> started
+b socket tcp -> id 1
+b bind 1 5000 -> ok
+b connect 1 4000 200 -> started
+# a asks who has b's address (ARP). By that b learns where a is, and it answers.
+a emit -> frame 0 60
+b deliver 0 0 -> taken
+b emit -> frame 1 60
+a deliver 1 0 -> taken
+# The two SYNs are under way at once: each side hears a SYN where it waits for an answer to its own.
+a emit -> frame 2 60
+b emit -> frame 3 60
+b deliver 2 0 -> taken
+a deliver 3 0 -> taken
+a state 1 -> SYN-RECEIVED
+b state 1 -> SYN-RECEIVED
+# Nobody has acknowledged a's SYN yet, so a's caller can't send.
+a send 1 hello -> E8 EAGAIN
+# Each sends its SYN once more, now with an acknowledgement of the other's.
+a emit -> frame 4 60
+b emit -> frame 5 60
+b deliver 4 0 -> taken
+a deliver 5 0 -> taken
+# Neither takes a SYN twice. Each only says how far it has come, and so acknowledges the other's SYN.
+a emit -> frame 6 60
+b emit -> frame 7 60
+b deliver 6 0 -> taken
+a deliver 7 0 -> taken
+a state 1 -> ESTABLISHED
+b state 1 -> ESTABLISHED
+# That is one connection, and either side may send.
+b send 1 hello -> sent 5
+b emit -> frame 8 60
+a deliver 8 0 -> taken
+a recv 1 100 -> octets hello
+";
+
+/// examples/backlog.txt
+const BACKLOG: &str = "# Three connections are asked for at a listener where two may wait.
+b socket tcp -> id 1
+b bind 1 80 -> ok
+b listen 1 2 -> ok
+a socket tcp -> id 1
+a socket tcp -> id 2
+a socket tcp -> id 3
+a connect 1 80 100 -> started
+a connect 2 80 200 -> started
+a connect 3 80 300 -> started
+# By the first two frames a learns b's MAC (ARP).
+pass 300 -> a 1 b 1
+# The SYNs go out in order of id. At b there is no room for the third one, which is dropped.
+a emit -> frame 2 60
+a emit -> frame 3 60
+a emit -> frame 4 60
+b deliver 2 300 -> taken
+b deliver 3 300 -> taken
+b deliver 4 300 -> drop F9
+# b answers both. Its second answer arrives first, and is acknowledged first.
+b emit -> frame 5 60
+b emit -> frame 6 60
+a deliver 6 0 -> taken
+a emit -> frame 7 60
+b deliver 7 0 -> taken
+a deliver 5 0 -> taken
+a emit -> frame 8 60
+b deliver 8 0 -> taken
+# b accepts in the order in which its SYNs were acknowledged. The ids are in the order in which a's SYNs came.
+b accept 1 -> id 3 10.0.0.1 49153
+# One waits still. So there is room for a's third SYN, which comes again after a second.
+a tick 1000 -> ok
+a emit -> frame 9 60
+b deliver 9 300 -> taken
+b emit -> frame 10 60
+a deliver 10 0 -> taken
+a emit -> frame 11 60
+b deliver 11 0 -> taken
+b accept 1 -> id 2 10.0.0.1 49152
+# b gives its listener back. The connection that still waits there is reset, and those that were accepted go on.
+b close 1 -> ok
+b emit -> frame 12 60
+a deliver 12 0 -> taken
+a recv 3 100 -> E10 ECONNRESET
+b state 2 -> ESTABLISHED
+b state 3 -> ESTABLISHED
+";
+
 /// The examples, each alone.
 pub const TRANSCRIPTS: &[&[&str]] = &[
     &[HANDSHAKE],
@@ -307,4 +399,6 @@ pub const TRANSCRIPTS: &[&[&str]] = &[
     &[RESET],
     &[OLD_SEGMENT_REFUSED],
     &[DATAGRAMS],
+    &[SIMULTANEOUS_OPEN],
+    &[BACKLOG],
 ];

@@ -6,7 +6,7 @@ use super::{ACCEPTED, OPENING};
 const NO_SOCKET: &str = "a bind 1 5 -> E1 EBADF
 a bind 1 0 -> E1 EBADF
 a listen 1 1 -> E1 EBADF
-a listen 1 2 -> E1 EBADF
+a listen 1 9 -> E1 EBADF
 a accept 1 -> E1 EBADF
 a connect 1 80 5 -> E1 EBADF
 a connect 1 0 5 -> E1 EBADF
@@ -46,8 +46,10 @@ b state 2 -> ESTABLISHED
 /// A socket that was made, and then one that is bound.
 const IDLE: &str = "a socket tcp -> id 1
 a listen 1 0 -> E2 EINVAL
-a listen 1 2 -> E2 EINVAL
+a listen 1 9 -> E2 EINVAL
+a listen 1 18446744073709551615 -> E2 EINVAL
 a listen 1 1 -> E18 EDESTADDRREQ
+a listen 1 8 -> E18 EDESTADDRREQ
 a accept 1 -> E2 EINVAL
 a connect 1 0 5 -> E4 EADDRNOTAVAIL
 a send 1 x -> E6 ENOTCONN
@@ -57,11 +59,11 @@ a recv 1 1 -> E6 ENOTCONN
 a count 1 0 -> E2 EINVAL
 a count 1 1 -> E6 ENOTCONN
 a shutdown 1 -> E6 ENOTCONN
-a bind 1 0 -> E2 EINVAL
 a bind 1 5 -> ok
+a bind 1 0 -> E2 EINVAL
 a bind 1 6 -> E2 EINVAL
 a listen 1 0 -> E2 EINVAL
-a listen 1 2 -> E2 EINVAL
+a listen 1 9 -> E2 EINVAL
 a accept 1 -> E2 EINVAL
 a connect 1 0 5 -> E4 EADDRNOTAVAIL
 a send 1 x -> E6 ENOTCONN
@@ -77,9 +79,11 @@ a state 1 -> CLOSED
 const LISTENING: &str = "a socket tcp -> id 1
 a bind 1 5 -> ok
 a listen 1 1 -> ok
+a bind 1 0 -> E2 EINVAL
 a bind 1 6 -> E2 EINVAL
 a listen 1 1 -> E2 EINVAL
-a listen 1 2 -> E2 EINVAL
+a listen 1 8 -> E2 EINVAL
+a listen 1 9 -> E2 EINVAL
 a accept 1 -> E8 EAGAIN
 a connect 1 80 5 -> E17 EOPNOTSUPP
 a connect 1 0 5 -> E17 EOPNOTSUPP
@@ -99,6 +103,7 @@ a state 1 -> LISTEN
 
 const CONNECTING: &str = "a socket tcp -> id 1
 a connect 1 80 9 -> started
+a bind 1 0 -> E2 EINVAL
 a bind 1 6 -> E2 EINVAL
 a listen 1 1 -> E2 EINVAL
 a accept 1 -> E2 EINVAL
@@ -137,8 +142,8 @@ a fillto 1 0 65508 -> E13 EMSGSIZE
 a fillto 1 0 65507 -> E4 EADDRNOTAVAIL
 a fillto 1 80 65508 -> E13 EMSGSIZE
 a state 1 -> DATAGRAM
-a bind 1 0 -> E2 EINVAL
 a bind 1 5 -> ok
+a bind 1 0 -> E2 EINVAL
 a bind 1 6 -> E2 EINVAL
 a listen 1 1 -> E17 EOPNOTSUPP
 a connect 1 80 5 -> E17 EOPNOTSUPP
@@ -273,49 +278,7 @@ b tick 60000 -> ok
 b bind 3 80 -> ok
 ";
 
-const EIGHT_SOCKETS: &str = "a socket tcp -> id 1
-a socket tcp -> id 2
-a socket tcp -> id 3
-a socket tcp -> id 4
-a socket tcp -> id 5
-a socket tcp -> id 6
-a socket tcp -> id 7
-a socket tcp -> id 8
-a socket tcp -> E15 EMFILE
-a close 3 -> ok
-a socket tcp -> id 9
-a socket tcp -> E15 EMFILE
-";
-
-/// A connection has its place before it is accepted, and keeps it after its socket was given back.
-const EIGHT_ENTRIES: &str = "b socket tcp -> id 1
-b bind 1 80 -> ok
-b listen 1 1 -> ok
-b socket tcp -> id 2
-b socket tcp -> id 3
-b socket tcp -> id 4
-b socket tcp -> id 5
-b socket tcp -> id 6
-b socket tcp -> id 7
-a socket tcp -> id 1
-a connect 1 80 5 -> started
-pass 7 -> a 1 b 1
-pass 7 -> a 1 b 1
-b socket tcp -> E15 EMFILE
-pass 7 -> a 1 b 0
-b accept 1 -> id 8 10.0.0.1 49152
-b socket tcp -> E15 EMFILE
-b close 8 -> ok
-b socket tcp -> E15 EMFILE
-pass 0 -> a 0 b 1
-pass 0 -> a 1 b 0
-b tick 59999 -> ok
-b socket tcp -> E15 EMFILE
-b tick 60000 -> ok
-b socket tcp -> id 9
-";
-
-/// Ids name sockets; calls are refused by state; the errors of a connection stay; ports and places are taken.
+/// Ids name sockets; calls are refused by state; the errors of a connection stay; ports are taken.
 pub const TRANSCRIPTS: &[&[&str]] = &[
     &[NO_SOCKET, GIVEN_BACK, NO_SOCKET],
     &[OPENING, OTHER_IDS],
@@ -328,6 +291,4 @@ pub const TRANSCRIPTS: &[&[&str]] = &[
     &[TOLD_REFUSED],
     &[OPENING, ACCEPTED, TOLD_RESET],
     &[OPENING, ACCEPTED, PORT_IN_USE],
-    &[EIGHT_SOCKETS],
-    &[EIGHT_ENTRIES],
 ];

@@ -32,10 +32,9 @@ a recv 1 0 -> E2 EINVAL
 a send 1 x -> E6 ENOTCONN
 a shutdown 1 -> E6 ENOTCONN
 a listen 1 1 -> E18 EDESTADDRREQ
-a listen 1 2 -> E2 EINVAL
+a listen 1 9 -> E2 EINVAL
 a accept 1 -> E2 EINVAL
 a state 1 -> CLOSED
-a bind 1 0 -> E2 EINVAL
 a connect 1 0 1 -> E4 EADDRNOTAVAIL
 a emit -> none
 ";

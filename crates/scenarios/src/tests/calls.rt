@@ -2,22 +2,10 @@
 
 use super::octets::ABORT;
 use super::stations::Side::{A, B};
-use super::stations::Start::{Fresh, Listening};
+use super::stations::Start::Listening;
 use super::stations::{Act, CLIENT, ONE, PAIR, SERVER, Scenario, Step, THREE, TWO, Told, plays};
-use host::{Refusal, SocketId};
+use host::Refusal;
 use tcp_state::{Received, State};
-
-const NINE_SOCKETS: &[Step] = &[
-    (A, Act::Socket, Told::Id(ONE)),
-    (A, Act::Socket, Told::Id(TWO)),
-    (A, Act::Socket, Told::Id(THREE)),
-    (A, Act::Socket, Told::Id(SocketId(4))),
-    (A, Act::Socket, Told::Id(SocketId(5))),
-    (A, Act::Socket, Told::Id(SocketId(6))),
-    (A, Act::Socket, Told::Id(SocketId(7))),
-    (A, Act::Socket, Told::Id(SocketId(8))),
-    (A, Act::Socket, Told::Refused(Refusal::EMFILE)),
-];
 
 /// A calls and learns where B is, and the hands are shaken: each frame is the one that was due.
 const CONNECTED: &[Step] = &[
@@ -74,7 +62,6 @@ const LISTENER_CLOSED: &[Step] = &[
 ];
 
 const SCENARIOS: &[Scenario] = &[
-    ("the table has eight places", Fresh, &[NINE_SOCKETS]),
     ("both sides close", Listening, &[CONNECTED, CLOSED]),
     (
         "a closed listener aborts what waits",

@@ -88,6 +88,10 @@ pub(super) enum Act {
     Close(SocketId),
     /// The state of a socket.
     State(SocketId),
+    /// The local end of a socket.
+    SockName(SocketId),
+    /// The peer of a socket's connection.
+    PeerName(SocketId),
     /// The pair of a socket's connection.
     Pair(SocketId),
     /// The entry that holds a pair.
@@ -135,6 +139,8 @@ pub(super) enum Told {
     State(State),
     /// That of a UDP socket.
     Datagram,
+    /// An end of a socket.
+    End(Endpoint),
     /// The pair of a connection.
     Pair(Option<Pair>),
     /// The entry that holds a pair.
@@ -349,6 +355,14 @@ fn routed_by(rt: &impl Abort, routes: Routes) -> Config {
     Config::new(MAC_OF_B, B, routes).expect(rt, "a host's MAC and address")
 }
 
+/// What a call for an end of a socket tells.
+fn end(outcome: Result<Endpoint, Refusal>) -> Told {
+    match outcome {
+        Ok(end) => Told::End(end),
+        Err(refusal) => Told::Refused(refusal),
+    }
+}
+
 /// What a call without a value tells.
 fn done(outcome: Result<(), Refusal>) -> Told {
     match outcome {
@@ -426,6 +440,8 @@ fn act_at(station: &mut Station, other: &mut Station, act: Act) -> Told {
         Act::RecvFrom(id, want) => station.recv_from(id, want),
         Act::Close(id) => done(station.host.close(id)),
         Act::State(id) => station.state(id),
+        Act::SockName(id) => end(station.host.sockname(id)),
+        Act::PeerName(id) => end(station.host.peername(id)),
         Act::Pair(id) => Told::Pair(station.host.pair_of(id)),
         Act::Holder(pair) => Told::Holder(station.host.holds(pair)),
         Act::Tick(now) => station.tick(now),

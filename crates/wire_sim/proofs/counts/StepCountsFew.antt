@@ -114,6 +114,8 @@ called-grows side (call.RecvFrom id len) place i n answer routed new meets = kep
 called-grows side (call.Shutdown id) place i n answer routed new meets = kept-grows n side new i
 called-grows side (call.Close id) place i n answer routed new meets = kept-grows n side new i
 called-grows side (call.State id) place i n answer routed new meets = kept-grows n side new i
+called-grows side (call.SockName id) place i n answer routed new meets = kept-grows n side new i
+called-grows side (call.PeerName id) place i n answer routed new meets = kept-grows n side new i
 
 -- what a frame makes of them
 delivered-grows : (side : Side) (place i : ℕ) (o : Option Note) (n : NetworkView) (new : HostView) → count_at (after_delivery side place o n new) i ≤ count_at n i + 65535
@@ -140,6 +142,7 @@ emitted-grows side place i (reply.Octets octets) old new steps = absurd steps
 emitted-grows side place i (reply.Datagram octets from) old new steps = absurd steps
 emitted-grows side place i reply.EndOfStream old new steps = absurd steps
 emitted-grows side place i (reply.State state) old new steps = absurd steps
+emitted-grows side place i (reply.Endpoint x) old new steps = absurd steps
 emitted-grows side place i reply.Taken old new steps = absurd steps
 emitted-grows side place i (reply.Dropped cause) old new steps = absurd steps
 emitted-grows side place i (reply.Refused refusal) old new steps = absurd steps

@@ -1,7 +1,7 @@
 -- What a call makes of a table that keeps to what was accepted.
 use Rattle.std.proofs.Common.{◌≡◌, inl, inr, Bool, List, [], ◌++◌, length, append-nil, refl, sym, subst}
 use Rattle.ipv4.specs.declared.addr.Addr.{Addr}
-use Rattle.sockets.specs.Calls.{unless_refused, bind_refusal, after_bind, listen_refusal, after_listen, accept_answer, after_accept, connect_refusal, after_connect, send_answer, after_send, after_recv, shutdown_refusal, after_shutdown, close_refusal, after_close, state_answer}
+use Rattle.sockets.specs.Calls.{unless_refused, bind_refusal, after_bind, listen_refusal, after_listen, accept_answer, after_accept, connect_refusal, after_connect, send_answer, after_send, after_recv, shutdown_refusal, after_shutdown, close_refusal, after_close, state_answer, sockname_answer, peername_answer}
 use Rattle.sockets.specs.Datagrams.{sendto_answer, after_sendto, recvfrom_answer, after_recvfrom}
 use Rattle.sockets.specs.SocketsView.{SocketsView}
 use Rattle.datagram_law.specs.Accepted.{Accepted}
@@ -12,7 +12,7 @@ use Rattle.wire_sim.specs.declared.event.Answer.TheVariants as reply
 use Rattle.wire_sim.specs.Datagrams.{accepted_by_call}
 use Rattle.wire_sim.specs.Runs.{IsNumberedCall}
 use Rattle.wire_sim.specs.Steps.{MeetsCall, recv_len}
-use Rattle.wire_sim.proofs.tables.CallsOnTable.{outcome, not_refused}
+use Rattle.wire_sim.proofs.tables.CallsOnTable.{outcome}
 use Rattle.wire_sim.proofs.pairing.CallsAreMoves.{socket_outcome, recv_outcome, recvfrom_outcome}
 use Rattle.wire_sim.proofs.datagrams.TablesKeepToAccepted.{IsTableOf}
 use Rattle.wire_sim.proofs.datagrams.TablesOfCalls.{kept-made, kept-bind, kept-listen, kept-accept, kept-connect, kept-send, kept-recv, kept-shutdown, kept-close}
@@ -35,7 +35,7 @@ call-kept own other routed (call.Socket kind) old new answer width numbered m t 
     ]
 call-kept own other routed (call.Bind id local) old new answer width numbered m t =
     elim (outcome (unless_refused (bind_refusal old id local) (tt {0})) (λ _. reply.Done) (after_bind old id local) old answer new m) [
-      | inl x ↦ unadded own other (after_bind old id local) new (kept-bind own other old id local numbered.port (not_refused (bind_refusal old id local) x.0 x.1) t) x.3
+      | inl x ↦ unadded own other (after_bind old id local) new (kept-bind own other old id local numbered.port t) x.3
       | inr x ↦ unadded own other old new t x.3
     ]
 call-kept own other routed (call.Listen id backlog) old new answer width numbered m t =
@@ -93,6 +93,16 @@ call-kept own other routed (call.Close id) old new answer width numbered m t =
     ]
 call-kept own other routed (call.State id) old new answer width numbered m t =
     elim (outcome (state_answer old id) (λ s. reply.State s) old old answer new m) [
+      | inl x ↦ unadded own other old new t x.3
+      | inr x ↦ unadded own other old new t x.3
+    ]
+call-kept own other routed (call.SockName id) old new answer width numbered m t =
+    elim (outcome (sockname_answer old id) (λ e. reply.Endpoint e) old old answer new m) [
+      | inl x ↦ unadded own other old new t x.3
+      | inr x ↦ unadded own other old new t x.3
+    ]
+call-kept own other routed (call.PeerName id) old new answer width numbered m t =
+    elim (outcome (peername_answer old id) (λ e. reply.Endpoint e) old old answer new m) [
       | inl x ↦ unadded own other old new t x.3
       | inr x ↦ unadded own other old new t x.3
     ]

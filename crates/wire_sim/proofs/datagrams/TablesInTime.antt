@@ -10,6 +10,7 @@ use Rattle.tcp_state.specs.Arrival.{opened_passively}
 use Rattle.tcp_state.specs.declared.connection.Fate.{Fate}
 use Rattle.tcp_state.specs.declared.connection.Fate.TheVariants.{Stays, Removed, Rejected}
 use Rattle.sockets.specs.declared.entry.Entry.{Entry}
+use Rattle.sockets.specs.declared.entry.SocketId.{SocketId}
 use Rattle.sockets.specs.Arrival.{Arrival, Becomes, Opens, NoPlace, Answers, local_end, peer_end, is_opening, has_no_place, after_opening, arrival_with_reply, opening, arrival_at, arrival_alone, arrival_at_connection, arrival}
 use Rattle.sockets.specs.Entries.{sends, is_between, is_listening_at, new_waiting, fate_of, role_after_segment, role_after_unreachable, unreachable_fate_of, role_after_tick, tick_fate_of, role_after_emission, emission_fate_of, entries_after_step}
 use Rattle.sockets.specs.Emission.{after_segment_sent}
@@ -67,22 +68,26 @@ leads_to own other h now isn source s t = by_entry (find (is_between (local_end 
         let same : arrival_alone h isn source s ≡ arrival_at h isn source s listener = rw at in
         subst (LeadsTo own other) (sym same) (by_flags listener (is_opening s.flags))
 
-    settled : (fate : Fate) → IsTableOf own other (record h { entries = entries_after_step fate (is_between (local_end h s) (peer_end source s)) (role_after_segment (later_moment h now) s) h.entries })
-    settled fate = with_entries own other h _ t
-        (are-settled own other h.addr fate (role_after_segment (later_moment h now) s) (keeps-connection _) (is_between (local_end h s) (peer_end source s)) h.entries t.sockets)
+    settled : (fate : Fate) (offered : List SocketId)
+        → IsTableOf own other (record h { entries = entries_after_step fate (is_between (local_end h s) (peer_end source s)) (role_after_segment (later_moment h now) s) h.entries; offered = offered })
+    settled fate offered = record {
+      numbered = t.numbered;
+      in_turn = t.in_turn;
+      sockets = are-settled own other h.addr fate (role_after_segment (later_moment h now) s) (keeps-connection _) (is_between (local_end h s) (peer_end source s)) h.entries t.sockets;
+    }
 
-    by_fate : (fate : Fate) → LeadsTo own other (arrival_at_connection h now source s fate)
-    by_fate Stays = settled Stays
-    by_fate Removed = settled Removed
-    by_fate Rejected = tt
+    by_fate : (e : Entry) (fate : Fate) → LeadsTo own other (arrival_at_connection h now source s e fate)
+    by_fate e Stays = settled Stays _
+    by_fate e Removed = settled Removed _
+    by_fate e Rejected = tt
 
     by_entry : (o : Option Entry) → find (is_between (local_end h s) (peer_end source s)) h.entries ≡ o → LeadsTo own other (arrival h now isn source s)
     by_entry None at =
         let same : arrival h now isn source s ≡ arrival_alone h isn source s = rw at in
         subst (LeadsTo own other) (sym same) (by_listener (find (is_listening_at s.destination) h.entries) refl)
     by_entry (Some e) at =
-        let same : arrival h now isn source s ≡ arrival_at_connection h now source s (fate_of s e.role) = rw at in
-        subst (LeadsTo own other) (sym same) (by_fate (fate_of s e.role))
+        let same : arrival h now isn source s ≡ arrival_at_connection h now source s e (fate_of s e.role) = rw at in
+        subst (LeadsTo own other) (sym same) (by_fate e (fate_of s e.role))
 
 pub kept-segment : (own other : List Accepted) (h next : SocketsView) (now : Moment) (isn : ℕ) (source : Addr) (s : Segment) → arrival h now isn source s ≡ Becomes next
     → IsTableOf own other h → IsTableOf own other next

@@ -1,24 +1,29 @@
 -- A new table, and what the calls make of one that tell of no datagram.
-use Rattle.std.proofs.Common.{◌≡◌, ℕ, ◌+◌, ◌<◌, ◌^◌, Bool, List, [], ◌++◌, Option, Some, None, Result, Ok, Err, refl, sym, ◌∙◌, subst, append-nil, arith}
+use Rattle.std.proofs.Common.{◌≡◌, ℕ, ◌+◌, ◌<◌, ◌==◌, ◌&&◌, ◌^◌, not, Bool, true, false, cond, List, [], ◌++◌, Option, Some, None, Result, Ok, Err, refl, sym, ◌∙◌, subst, append-nil, arith}
 use Rattle.std.specs.List.{find}
 use Rattle.std.specs.Prelude.{option_and_then}
+use Rattle.std.specs.Option.{ok_or}
 use Rattle.ipv4.specs.declared.addr.Addr.{Addr}
 use Rattle.ipv4.specs.declared.addr.Endpoint.{Endpoint}
+use Rattle.ipv4.specs.Addresses.{same_addr}
 use Rattle.sockets.specs.declared.entry.Entry.{Entry}
 use Rattle.sockets.specs.declared.entry.Kind.{Kind}
 use Rattle.sockets.specs.declared.entry.Kind.TheVariants.{Tcp, Udp}
 use Rattle.sockets.specs.declared.entry.SocketId.{SocketId}
 use Rattle.sockets.specs.declared.refusal.Refusal.{Refusal}
-use Rattle.sockets.specs.declared.refusal.Refusal.TheVariants.{EINVAL}
+use Rattle.sockets.specs.declared.refusal.Refusal.TheVariants.{EINVAL, EADDRINUSE, EADDRNOTAVAIL}
 use Rattle.sockets.specs.declared.role.Role.{Role}
 use Rattle.sockets.specs.declared.role.Role.TheVariants.{Idle, Listener, Connected, Datagrams}
-use Rattle.sockets.specs.Calls.{of_socket, bound_of, last_port_after, IsMade, bind_refusal, after_bind, after_listen, after_accept, port_connected, after_connect, after_send, after_recv, after_shutdown, after_socket_closed, after_close}
-use Rattle.sockets.specs.Entries.{is_socket, is_offered_at, new_socket as new_entry, new_datagram_socket, with_role, role_after_bind, role_after_listen, role_after_connect, role_after_accept, role_after_close, role_after_listener_close, listener_close_fate_of, close_fate_of, entries_after_step}
+use Rattle.sockets.specs.Calls.{of_socket, bound_of, last_port_after, IsMade, any_addr, free_port, port_at, port_bound, last_port_bound, after_bind, after_listen, is_next_at, after_accept, port_connected, after_connect, after_send, after_recv, after_shutdown, after_socket_closed, after_close}
+use Rattle.sockets.specs.Entries.{is_socket, new_socket as new_entry, new_datagram_socket, with_role, role_after_bind, role_after_listen, role_after_connect, role_after_accept, role_after_close, role_after_listener_close, listener_close_fate_of, close_fate_of, entries_after_step}
+use Rattle.sockets.specs.Lists.{change_first}
+use Rattle.sockets.specs.Ports.{first_port, is_free_datagram_port}
 use Rattle.sockets.specs.SocketsView.{SocketsView, new_sockets, role_of, with_socket}
 use Rattle.datagram_law.specs.Accepted.{Accepted, AreInTurn}
 use Rattle.datagram_law.specs.Sockets.{IsSocketOf}
 use Rattle.datagram_law.proofs.Keeping.{new}
 use Rattle.wire_sim.proofs.lists.FoundAfterChange.{All-find, All-changed, All-added, change-none}
+use Rattle.wire_sim.proofs.tables.CallsOnTable.{first_port-below}
 use Rattle.wire_sim.proofs.datagrams.TablesKeepToAccepted.{IsEntryOf, AreEntriesOf, IsTableOf, Keeps, keeps-connection, keeps-listening, keeps-connecting, keeps-accepting, keeps-forsaking, are-more, are-changed, are-settled, are-stepped}
 
 -- nothing was accepted yet
@@ -76,7 +81,7 @@ pub kept-accept : (own other : List Accepted) (h : SocketsView) (id : SocketId) 
 kept-accept own other h id t = record {
   numbered = t.numbered;
   in_turn = t.in_turn;
-  sockets = are-changed own other h.addr role_after_accept keeps-accepting (is_offered_at id) h.entries t.sockets;
+  sockets = are-changed own other h.addr role_after_accept keeps-accepting (is_next_at h id) h.entries t.sockets;
 }
 
 -- a port is given, or nothing changes
@@ -95,30 +100,64 @@ kept-connect own other h isn id peer routed t = by_port (port_connected h id pee
         let there : IsTableOf own other given = record { numbered = t.numbered; in_turn = t.in_turn; sockets = t.sockets } in
         subst (IsTableOf own other) (sym same) (kept-changed own other given id (role_after_connect local peer isn) (keeps-connecting local peer isn) there)
 
+-- the port that is asked for, or a dynamic one
+port_at-below : (h : SocketsView) (is_free : ℕ → Bool) (local : Endpoint) (port : ℕ) → local.port < 2 ^ 16 → port_at h is_free local ≡ Ok port → port < 2 ^ 16
+port_at-below h is_free local port width = by_addr (not (same_addr local.addr h.addr) && not (same_addr local.addr any_addr))
+  where
+    given : (o : Option ℕ) → ((p : ℕ) → o ≡ Some p → p < 2 ^ 16) → ok_or o EADDRINUSE ≡ Ok port → port < 2 ^ 16
+    given None below e = cc
+    given (Some p) below e = let same : p ≡ port = cc in subst (λ (k : ℕ). k < 2 ^ 16) same (below p refl)
+
+    free : (none own : Bool) (p : ℕ) → cond none (first_port is_free h.last_port 0 16384) (cond own (Some local.port) None) ≡ Some p → p < 2 ^ 16
+    free true own p e = first_port-below is_free h.last_port 0 16384 p e
+    free false true p e = let same : local.port ≡ p = cc in subst (λ (k : ℕ). k < 2 ^ 16) same width
+    free false false p e = cc
+
+    by_addr : (other : Bool) → cond other (Err EADDRNOTAVAIL) (ok_or (free_port h is_free local.port) EADDRINUSE) ≡ Ok port → port < 2 ^ 16
+    by_addr true e = cc
+    by_addr false e = given (free_port h is_free local.port) (λ p is. free (local.port == 0) (is_free local.port) p is) e
+
+-- a UDP socket that may be bound is new, and its port is one
+bind-new : (own other : List Accepted) (h : SocketsView) (id : SocketId) (local : Endpoint) (port : ℕ) (e : Entry) → local.port < 2 ^ 16 → port_bound h id local ≡ Ok port → find (is_socket id) h.entries ≡ Some e
+    → IsEntryOf own other h.addr e.role → IsEntryOf own other h.addr (role_after_bind (record { addr = local.addr; port = port }) e.role)
+bind-new own other h id local port e width may at = by_role e.role refl
+  where
+    by_role : (r : Role) → e.role ≡ r → IsEntryOf own other h.addr r → IsEntryOf own other h.addr (role_after_bind (record { addr = local.addr; port = port }) r)
+    by_role (Idle buffers bound) is here = tt
+    by_role (Listener l b) is here = tt
+    by_role (Connected c l) is here = tt
+    by_role (Datagrams None s) is here =
+        let end : Endpoint = record { addr = h.addr; port = port } in
+        let given : port_bound h id local ≡ port_at h (is_free_datagram_port h.entries) local = rw (at, is) in
+        (port_at-below h (is_free_datagram_port h.entries) local port width (sym given ∙ may), subst (IsSocketOf own other end) (sym here) (new own other end))
+    by_role (Datagrams (Some bound) s) is here =
+        let refused : port_bound h id local ≡ Err EINVAL = rw (at, is) in
+        let bad : Err EINVAL ≡ Ok port = sym refused ∙ may in cc
+
 -- a UDP socket is bound while nothing waits in it
-pub kept-bind : (own other : List Accepted) (h : SocketsView) (id : SocketId) (local : Endpoint) → local.port < 2 ^ 16 → bind_refusal h id local ≡ None → IsTableOf own other h
-    → IsTableOf own other (after_bind h id local)
-kept-bind own other h id local width may t =
-    record { numbered = t.numbered; in_turn = t.in_turn; sockets = by_entry (find (is_socket id) h.entries) refl }
+pub kept-bind : (own other : List Accepted) (h : SocketsView) (id : SocketId) (local : Endpoint) → local.port < 2 ^ 16 → IsTableOf own other h → IsTableOf own other (after_bind h id local)
+kept-bind own other h id local width t = by_port (port_bound h id local) refl
   where
     P : Entry → Type 0
     P e = IsEntryOf own other h.addr e.role
 
-    by_role : (e : Entry) → find (is_socket id) h.entries ≡ Some e → (r : Role) → e.role ≡ r → IsEntryOf own other h.addr r → IsEntryOf own other h.addr (role_after_bind local r)
-    by_role e at (Idle buffers bound) is here = tt
-    by_role e at (Listener l b) is here = tt
-    by_role e at (Connected c l) is here = tt
-    by_role e at (Datagrams None s) is here =
-        let end : Endpoint = record { addr = h.addr; port = local.port } in
-        (width, subst (IsSocketOf own other end) (sym here) (new own other end))
-    by_role e at (Datagrams (Some bound) s) is here =
-        let refused : bind_refusal h id local ≡ Some EINVAL = rw (at, is) in
-        let bad : Some EINVAL ≡ None = sym refused ∙ may in cc
+    by_entry : (port : ℕ) → port_bound h id local ≡ Ok port → (o : Option Entry) → find (is_socket id) h.entries ≡ o
+        → AreEntriesOf own other h.addr (change_first (is_socket id) (with_role (role_after_bind (record { addr = local.addr; port = port }))) h.entries)
+    by_entry port may None at = subst (AreEntriesOf own other h.addr) (sym (change-none (is_socket id) (with_role (role_after_bind (record { addr = local.addr; port = port }))) h.entries at)) t.sockets
+    by_entry port may (Some e) at =
+        All-changed P (is_socket id) (with_role (role_after_bind (record { addr = local.addr; port = port }))) h.entries e at
+        (bind-new own other h id local port e width may at (All-find P (is_socket id) h.entries e t.sockets at)) t.sockets
 
-    by_entry : (o : Option Entry) → find (is_socket id) h.entries ≡ o → AreEntriesOf own other h.addr (after_bind h id local).entries
-    by_entry None at = subst (AreEntriesOf own other h.addr) (sym (change-none (is_socket id) (with_role (role_after_bind local)) h.entries at)) t.sockets
-    by_entry (Some e) at =
-        All-changed P (is_socket id) (with_role (role_after_bind local)) h.entries e at (by_role e at e.role refl (All-find P (is_socket id) h.entries e t.sockets at)) t.sockets
+    by_port : (r : Result ℕ Refusal) → port_bound h id local ≡ r → IsTableOf own other (after_bind h id local)
+    by_port (Err refusal) is =
+        let same : after_bind h id local ≡ h = rw is in
+        subst (IsTableOf own other) (sym same) t
+    by_port (Ok port) is =
+        let given : SocketsView = record h { last_port = last_port_bound h local port } in
+        let same : after_bind h id local ≡ with_socket given id (role_after_bind (record { addr = local.addr; port = port })) = rw is in
+        let there : IsTableOf own other (with_socket given id (role_after_bind (record { addr = local.addr; port = port }))) =
+        record { numbered = t.numbered; in_turn = t.in_turn; sockets = by_entry port is (find (is_socket id) h.entries) refl } in
+        subst (IsTableOf own other) (sym same) there
 
 -- A socket is closed.
 

@@ -1,5 +1,5 @@
 -- What is sent from, read of, and received by the UDP sockets of a table.
-use Rattle.std.proofs.Common.{◌≡◌, ℕ, zero, suc, ◌+◌, ◌<◌, ◌==◌, ◌^◌, min, nat_lt, Bool, true, false, ◌&&◌, cond, List, [], ◌∷◌, ◌++◌, length, take, Option, Some, None, option_map, Result, Ok, Err, refl, sym, ◌∙◌, ap, subst, length-append, arith, All}
+use Rattle.std.proofs.Common.{◌≡◌, ℕ, ◌+◌, ◌<◌, ◌==◌, ◌^◌, min, nat_lt, Bool, true, false, ◌&&◌, List, [], ◌∷◌, ◌++◌, length, take, Option, Some, None, option_map, Result, Ok, Err, refl, sym, ◌∙◌, ap, subst, length-append, arith, All}
 use Rattle.std.specs.List.{find}
 use Rattle.std.specs.Prelude.{option_and_then}
 use Rattle.std.proofs.lemmas.Bool.{eqb-true}
@@ -27,7 +27,7 @@ use Rattle.sockets.specs.Calls.{bound_of, last_port_after, reach_refusal}
 use Rattle.sockets.specs.Datagrams.{datagrams_bound, sending_end, end_sent_from, sendto_answer, next_identification, after_sendto, recvfrom_answer, after_recvfrom, reception, after_reception}
 use Rattle.sockets.specs.Entries.{sends, is_socket, is_datagrams_at, with_role, source_of, uses_datagram_port, has_socket, has_room_to_send, role_after_sendto, role_after_recvfrom, role_after_reception}
 use Rattle.sockets.specs.Lists.{change_first}
-use Rattle.sockets.specs.Ports.{port_after, first_port, first_port-step, first_port-zero, is_free_datagram_port}
+use Rattle.sockets.specs.Ports.{first_port, is_free_datagram_port}
 use Rattle.sockets.specs.SocketsView.{SocketsView, role_of, with_socket}
 use Rattle.datagram_law.specs.Accepted.{Accepted, CameFrom, IsInWidths}
 use Rattle.datagram_law.specs.Carried.{Carries, IsOfOne}
@@ -36,7 +36,7 @@ use Rattle.datagram_law.proofs.InTurn.{in_turn}
 use Rattle.datagram_law.proofs.Keeping.{new, sends as sends_accepted, receives, due_is_of_one}
 use Rattle.wire_sim.specs.Datagrams.{socket_end}
 use Rattle.wire_sim.specs.Steps.{first_waiting_on}
-use Rattle.wire_sim.proofs.tables.CallsOnTable.{found-itself}
+use Rattle.wire_sim.proofs.tables.CallsOnTable.{found-itself, first_port-below}
 use Rattle.wire_sim.proofs.lists.FoundAfterChange.{All-find, All-changed, change-none, find-passes}
 use Rattle.wire_sim.proofs.datagrams.TablesKeepToAccepted.{IsEntryOf, AreEntriesOf, IsTableOf, keeps-reading, are-changed}
 use Rattle.wire_sim.proofs.datagrams.TablesOfCalls.{are-own}
@@ -200,19 +200,6 @@ read-of_one own other h id len count from answered t = by_bound r.bound r.role
         )
 
 -- One is sent.
-
--- a dynamic port
-port_after-below : (last steps : ℕ) → port_after last steps < 2 ^ 16
-port_after-below last steps = omega arith
-
-first_port-below : (test : ℕ → Bool) (last steps n port : ℕ) → first_port test last steps n ≡ Some port → port < 2 ^ 16
-first_port-below test last steps zero port e = let bad : None ≡ Some port = sym (first_port-zero test last steps) ∙ e in cc
-first_port-below test last steps (suc n) port e =
-    step (test (port_after last steps)) (first_port-below test last (steps + 1) n port) (sym (first_port-step test last steps n) ∙ e)
-  where
-    step : (b : Bool) → (first_port test last (steps + 1) n ≡ Some port → port < 2 ^ 16) → cond b (Some (port_after last steps)) (first_port test last (steps + 1) n) ≡ Some port → port < 2 ^ 16
-    step true more e = let same : port_after last steps ≡ port = cc in subst (λ (k : ℕ). k < 2 ^ 16) same (port_after-below last steps)
-    step false more e = more e
 
 -- The socket is a UDP socket, and sends from this end.
 record SendsFrom (h : SocketsView) (id : SocketId) (peer : Endpoint) (octets : List ℕ) (routed : Bool) : Type 0 where

@@ -15,12 +15,12 @@ use Rattle.sockets.specs.declared.entry.Kind.TheVariants.{Tcp, Udp}
 use Rattle.sockets.specs.declared.entry.SocketId.{SocketId}
 use Rattle.sockets.specs.declared.entry.Entry.{Entry}
 use Rattle.sockets.specs.declared.role.Role.TheVariants.{Idle, Connected, Datagrams}
-use Rattle.sockets.specs.Calls.{unless_refused, IsMade, after_socket, after_datagram_socket, bind_refusal, after_bind, listen_refusal, after_listen, accept_answer, after_accept, connect_refusal, after_connect, send_answer, after_send, after_recv, shutdown_refusal, after_shutdown, close_refusal, after_close, after_socket_closed, state_answer}
+use Rattle.sockets.specs.Calls.{unless_refused, IsMade, after_socket, after_datagram_socket, port_bound, bind_refusal, after_bind, listen_refusal, after_listen, is_next_at, accept_answer, after_accept, connect_refusal, after_connect, send_answer, after_send, after_recv, shutdown_refusal, after_shutdown, close_refusal, after_close, after_socket_closed, state_answer, sockname_answer, peername_answer}
 use Rattle.sockets.specs.declared.refusal.Refusal.{Refusal}
 use Rattle.sockets.specs.Arrival.{local_end, peer_end}
 use Rattle.sockets.specs.Datagrams.{end_sent_from, sendto_answer, after_sendto, recvfrom_answer, after_recvfrom, after_reception}
 use Rattle.sockets.specs.Lists.{change_first}
-use Rattle.sockets.specs.Entries.{is_socket, is_between, with_role, role_after_sendto, role_after_recvfrom, role_after_segment, is_offered_at, is_of_pair, sends, role_after_bind, role_after_listen, role_after_accept, role_after_send, role_after_recv, role_after_shutdown, role_after_close, close_fate_of, role_after_listener_close, listener_close_fate_of, role_after_tick, tick_fate_of, role_after_emission, emission_fate_of, entries_after_step}
+use Rattle.sockets.specs.Entries.{is_socket, is_between, with_role, role_after_sendto, role_after_recvfrom, role_after_segment, is_of_pair, sends, role_after_bind, role_after_listen, role_after_accept, role_after_send, role_after_recv, role_after_shutdown, role_after_close, close_fate_of, role_after_listener_close, listener_close_fate_of, role_after_tick, tick_fate_of, role_after_emission, emission_fate_of, entries_after_step}
 use Rattle.sockets.specs.SocketsView.{SocketsView, holder_id, later_moment}
 use Rattle.sockets.specs.Ticks as table_ticks
 use Rattle.sockets.specs.Lost.{give_up_fate_of, role_after_giving_up, after_giving_up}
@@ -86,6 +86,17 @@ made-keeps Tcp own own' made =
 made-keeps Udp own own' made =
     keeps-next own (after_datagram_socket own) own' made (λ pair none. find-added_none (is_of_pair pair) own.entries (record { id = record { 0 = own.last_id + 1 }; role = Datagrams None new_socket }) refl ∙ none)
 
+-- nor does one that is bound
+bound-keeps : (own : SocketsView) (id : SocketId) (local : Endpoint) → KeepsPairs own (after_bind own id local)
+bound-keeps own id local pair none = by_port (port_bound own id local) refl
+  where
+    by_port : (r : Result ℕ Refusal) → port_bound own id local ≡ r → find (is_of_pair pair) (let w = after_bind own id local in w.entries) ≡ None
+    by_port (Err e) is = let same : after_bind own id local ≡ own = rw is in ap (λ (w : SocketsView). find (is_of_pair pair) w.entries) same ∙ none
+    by_port (Ok port) is =
+        let change = role_after_bind (record { addr = local.addr; port = port }) in
+        let same : (let w = after_bind own id local in w.entries) ≡ change_first (is_socket id) (with_role change) own.entries = rw is in
+        ap (find (is_of_pair pair)) same ∙ unheld-changed (is_socket id) change pair own.entries (unheld_bound_to _) none
+
 -- nor does one that sends a datagram
 sent_to-keeps : (own : SocketsView) (id : SocketId) (peer : Endpoint) (octets : List ℕ) (routed : Bool) → KeepsPairs own (after_sendto own id peer octets routed)
 sent_to-keeps own id peer octets routed pair none = by_end (end_sent_from own id peer octets routed) refl
@@ -105,7 +116,7 @@ call-keeps routed (call.Socket kind) answer own own' other m =
     ]
 call-keeps routed (call.Bind id local) answer own own' other m =
     elim (outcome (unless_refused (bind_refusal own id local) (tt {0})) (λ _. reply.Done) (after_bind own id local) own answer own' m) [
-      | inl x ↦ keeps-next own (after_bind own id local) own' x.3 (λ pair none. unheld-changed (is_socket id) (role_after_bind local) pair own.entries (unheld_bound_to local) none)
+      | inl x ↦ keeps-next own (after_bind own id local) own' x.3 (bound-keeps own id local)
       | inr x ↦ keeps-same own own' x.3
     ]
 call-keeps routed (call.Listen id backlog) answer own own' other m =
@@ -115,7 +126,7 @@ call-keeps routed (call.Listen id backlog) answer own own' other m =
     ]
 call-keeps routed (call.Accept id) answer own own' other m =
     elim (outcome (accept_answer own id) (λ p. reply.Accepted p.0 p.1) (after_accept own id) own answer own' m) [
-      | inl x ↦ keeps-next own (after_accept own id) own' x.3 (λ pair none. unheld-changed (is_offered_at id) role_after_accept pair own.entries unheld_accepted none)
+      | inl x ↦ keeps-next own (after_accept own id) own' x.3 (λ pair none. unheld-changed (is_next_at own id) role_after_accept pair own.entries unheld_accepted none)
       | inr x ↦ keeps-same own own' x.3
     ]
 call-keeps routed (call.Connect isn id peer) answer own own' other m = let bad : true ≡ false = other in cc
@@ -162,6 +173,16 @@ call-keeps routed (call.Close id) answer own own' other m =
     ]
 call-keeps routed (call.State id) answer own own' other m =
     elim (outcome (state_answer own id) (λ s. reply.State s) own own answer own' m) [
+      | inl x ↦ keeps-same own own' x.3
+      | inr x ↦ keeps-same own own' x.3
+    ]
+call-keeps routed (call.SockName id) answer own own' other m =
+    elim (outcome (sockname_answer own id) (λ e. reply.Endpoint e) own own answer own' m) [
+      | inl x ↦ keeps-same own own' x.3
+      | inr x ↦ keeps-same own own' x.3
+    ]
+call-keeps routed (call.PeerName id) answer own own' other m =
+    elim (outcome (peername_answer own id) (λ e. reply.Endpoint e) own own answer own' m) [
       | inl x ↦ keeps-same own own' x.3
       | inr x ↦ keeps-same own own' x.3
     ]
@@ -295,9 +316,9 @@ frame-noted limit hs ts old new index isn answer sound w fair step x y id free h
     of_arrival : (f : Frame) (note : Note) (local peer : Endpoint) (s : Segment) (opened : Option Pair) → f.note ≡ Some note → note.pair ≡ pair_of local peer → Arrived own moment isn.0 local peer s opened own'
         → new.network ≡ after_delivery hs (length old.trace) f.note old.network host' → Noted (event.Deliver hs index isn) old new hs pair id
     of_arrival f note local peer s opened noted names (Ignored same) becomes = absurd (holds-none own own' pair id (keeps-same own own' same) free held)
-    of_arrival f note local peer s opened noted names (Heard c l i found same) becomes =
+    of_arrival f note local peer s opened noted names (Heard c l i offered found same) becomes =
         let at = later_moment own moment in
-        let next : SocketsView = record own { entries = entries_after_step (fate c s) (is_between local peer) (role_after_segment at s) own.entries } in
+        let next : SocketsView = record own { entries = entries_after_step (fate c s) (is_between local peer) (role_after_segment at s) own.entries; offered = offered } in
         absurd (holds-none own own' pair id (keeps-next own next own' same (λ p none. unheld-heard (fate c s) local peer at s p own.entries none)) free held)
     of_arrival f note local peer s opened noted names (Began listener none opens foreseen same) becomes =
         let c = opened_passively local peer isn.0 s in

@@ -27,7 +27,7 @@ use Rattle.wire_sim.specs.declared.world.bag.Frame.{Frame}
 use Rattle.wire_sim.specs.declared.world.bag.Note.{Note}
 use Rattle.wire_sim.specs.Coverage.{IsListed, EveryConnectionIsListed, AtMostOne, EveryOpeningIsUnique, IsCovered, EveryOctetIsCovered}
 use Rattle.wire_sim.specs.Openings.{opened_by_connect, opened_by_frame}
-use Rattle.wire_sim.specs.Runs.{IsStep, IsReached}
+use Rattle.wire_sim.specs.Runs.{IsReached}
 use Rattle.wire_sim.specs.Runs as runs
 use Rattle.wire_sim.specs.Sides.{same_side, other_side}
 use Rattle.wire_sim.specs.Steps.{with_station, with_host, with_opening, after_call, after_delivery, station_after_tick, recv_len, MeetsCall, MeetsEmission, DeliversFrame, Steps}

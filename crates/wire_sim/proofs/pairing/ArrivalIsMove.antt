@@ -139,12 +139,12 @@ kept-role x q role = step (is_kept x)
     step false e = cc
 
 -- a segment that a connection hears
-projects-heard : (limit : ℕ) (hs ts : Side) (a b : Addr) (own own' other : SocketsView) (bag : Bag) (openings : List Opening) (trace : List Happening) (now : Moment) (place : ℕ) (local peer : Endpoint) (s : Segment) (c : View) (l : Option SocketId) (id : SocketId)
+projects-heard : (limit : ℕ) (hs ts : Side) (a b : Addr) (own own' other : SocketsView) (bag : Bag) (openings : List Opening) (trace : List Happening) (now : Moment) (place : ℕ) (local peer : Endpoint) (s : Segment) (c : View) (l : Option SocketId) (id : SocketId) (offered : List SocketId)
     → IsSoundTable own → Projects limit hs ts a b own other bag openings trace → MayCome limit hs ts own other bag openings trace (pair_of local peer) s
     → find (is_between local peer) own.entries ≡ Some (record { id = id; role = Connected c l })
-    → own' ≡ record own { entries = entries_after_step (fate c s) (is_between local peer) (role_after_segment now s) own.entries }
+    → own' ≡ record own { entries = entries_after_step (fate c s) (is_between local peer) (role_after_segment now s) own.entries; offered = offered }
     → Opens limit hs ts a b own' other bag openings (opened_by_frame openings hs place (pair_of local peer) own own') trace
-projects-heard limit hs ts a b own own' other bag openings trace now place local peer s c l id sound h may found becomes =
+projects-heard limit hs ts a b own own' other bag openings trace now place local peer s c l id offered sound h may found becomes =
     let test = is_between local peer in
     let x : Entry = record { id = id; role = Connected c l } in
     let before : role_at own.entries id.0 ≡ Some (Connected c l) = found-role test own.entries x h.own_table.sole found in
@@ -160,7 +160,7 @@ projects-heard limit hs ts a b own own' other bag openings trace now place local
     let account = told hs trace id in
     let ys = entries_after_step (fate c s) test (role_after_segment now s) own.entries in
     let z : Becomes own.entries ys id.0 (settle (fate c s) (role_after_segment now s) (Connected c l)) = becomes-settled (fate c s) test (role_after_segment now s) own.entries x h.own_table.sole found in
-    let next : SocketsView = record own { entries = ys } in
+    let next : SocketsView = record own { entries = ys; offered = offered } in
     let there = end_at ts openings other.entries (told ts trace) o.pair o.epoch in
     let was = pairing (end_with (Present c) account) there (bag.out o.pair o.epoch) (bag.arrived o.pair o.epoch) in
     let at_found : find (is_opening_of hs o.pair o.epoch) openings ≡ Some o = opening-found openings hs id o h.ledger noted.at in
@@ -263,7 +263,7 @@ pub projects-arrived : (limit : ℕ) (hs ts : Side) (a b : Addr) (own own' other
 projects-arrived limit hs ts a b own own' other bag openings trace now isn place local peer s opened sound small_isn h is_local is_apart may once (Ignored same) =
     OpensNone (held-still openings hs place (pair_of local peer) (holder_id own (pair_of local peer)) (holder_id own' (pair_of local peer)) (ap (λ w. holder_id w (pair_of local peer)) same))
     (subst (λ w. Projects limit hs ts a b w other bag openings trace) (sym same) h)
-projects-arrived limit hs ts a b own own' other bag openings trace now isn place local peer s opened sound small_isn h is_local is_apart may once (Heard c l id found becomes) =
-    projects-heard limit hs ts a b own own' other bag openings trace (later_moment own now) place local peer s c l id sound h may found becomes
+projects-arrived limit hs ts a b own own' other bag openings trace now isn place local peer s opened sound small_isn h is_local is_apart may once (Heard c l id offered found becomes) =
+    projects-heard limit hs ts a b own own' other bag openings trace (later_moment own now) place local peer s c l id offered sound h may found becomes
 projects-arrived limit hs ts a b own own' other bag openings trace now isn place local peer s opened sound small_isn h is_local is_apart may once (Began listener none opens foreseen becomes) =
     projects-began limit hs ts a b own own' other bag openings trace isn place local peer s listener small_isn h is_local is_apart may (once foreseen) none opens becomes

@@ -22,10 +22,10 @@ use Rattle.sockets.specs.declared.role.Role.{Role}
 use Rattle.sockets.specs.declared.role.Role.TheVariants.{Connected}
 use Rattle.sockets.specs.declared.refusal.Refusal.{Refusal}
 use Rattle.sockets.specs.declared.refusal.Refusal.TheVariants as refusal
-use Rattle.sockets.specs.Calls.{IsMade, send_answer, after_send, recv_answer, after_recv, shutdown_refusal, after_shutdown}
+use Rattle.sockets.specs.Calls.{IsMade, port_bound, last_port_bound, after_bind, is_next_at, after_accept, send_answer, after_send, recv_answer, after_recv, shutdown_refusal, after_shutdown}
 use Rattle.sockets.specs.Datagrams.{after_recvfrom}
-use Rattle.sockets.specs.Entries.{is_socket, role_after_send, role_after_recv as received_role, role_after_shutdown, with_role}
-use Rattle.sockets.specs.SocketsView.{SocketsView}
+use Rattle.sockets.specs.Entries.{is_socket, role_after_bind, role_after_accept, role_after_send, role_after_recv as received_role, role_after_shutdown, with_role}
+use Rattle.sockets.specs.SocketsView.{SocketsView, with_socket}
 use Rattle.sockets.specs.Lists.{change_first}
 use Rattle.stream_law.specs.Pairing.{Present, Meets, takes, closes, gives, ends}
 use Rattle.sockets.specs.Sound.{IsSoundConnection, IsSoundRole, IsSoundTable}
@@ -38,7 +38,7 @@ use Rattle.wire_sim.proofs.pairing.EndMoves.{pairing, EndGoes, moved, end-stays}
 use Rattle.wire_sim.proofs.lists.FoundAfterChange.{All-find, change-none}
 use Rattle.sockets.proofs.KeptEnds.{KeepsEnds, keeps-nothing, keeps-send, keeps-recv, keeps-shutdown}
 use Rattle.wire_sim.proofs.pairing.WorldAsPairings.{told, Bag, Projects, projects-turned}
-use Rattle.wire_sim.proofs.tables.UnseenRoles.{IsQuiet as IsQuietChange}
+use Rattle.wire_sim.proofs.tables.UnseenRoles.{IsQuiet as IsQuietChange, quiet_bound_to, quiet_accepted}
 use Rattle.wire_sim.proofs.tables.TableById.{Account, untold, role_at, found-role, Becomes, becomes-changed, presence_in, end_with, end_at, IsOpened, IsNoted, MayOpen, IsTable}
 use Rattle.wire_sim.proofs.told.TraceAndOneMore.{answered, IsQuiet}
 use Rattle.wire_sim.proofs.told.AccountAndOneMore.{told-quiet, told-other, sends-told, receives-told, closes-told, ends-told}
@@ -126,6 +126,7 @@ socket_outcome kind h (reply.Octets o) new m = absurd m
 socket_outcome kind h (reply.Datagram o f) new m = absurd m
 socket_outcome kind h reply.EndOfStream new m = absurd m
 socket_outcome kind h (reply.State s) new m = absurd m
+socket_outcome kind h (reply.Endpoint y) new m = absurd m
 socket_outcome kind h (reply.Frame i l) new m = absurd m
 socket_outcome kind h reply.NoFrame new m = absurd m
 socket_outcome kind h reply.Taken new m = absurd m
@@ -190,6 +191,7 @@ recv_outcome h id len answer new = by_outcome (recv_answer h id len) refl answer
     by_outcome (Ok (received.Octets count)) is reply.EndOfStream m = absurd m
     by_outcome (Ok (received.Octets count)) is (reply.Datagram o f) m = absurd m
     by_outcome (Ok (received.Octets count)) is (reply.State s) m = absurd m
+    by_outcome (Ok (received.Octets count)) is (reply.Endpoint y) m = absurd m
     by_outcome (Ok (received.Octets count)) is (reply.Frame i l) m = absurd m
     by_outcome (Ok (received.Octets count)) is reply.NoFrame m = absurd m
     by_outcome (Ok (received.Octets count)) is reply.Taken m = absurd m
@@ -204,6 +206,7 @@ recv_outcome h id len answer new = by_outcome (recv_answer h id len) refl answer
     by_outcome (Ok received.EndOfStream) is reply.EndOfStream m = let r = reads-on h id len received.EndOfStream is in inr (inl (record { c = r.c; l = r.l; found = r.found; some = r.some; told = r.told; is_answer = refl; becomes = m }))
     by_outcome (Ok received.EndOfStream) is (reply.Datagram o f) m = absurd m
     by_outcome (Ok received.EndOfStream) is (reply.State s) m = absurd m
+    by_outcome (Ok received.EndOfStream) is (reply.Endpoint y) m = absurd m
     by_outcome (Ok received.EndOfStream) is (reply.Frame i l) m = absurd m
     by_outcome (Ok received.EndOfStream) is reply.NoFrame m = absurd m
     by_outcome (Ok received.EndOfStream) is reply.Taken m = absurd m
@@ -218,6 +221,7 @@ recv_outcome h id len answer new = by_outcome (recv_answer h id len) refl answer
     by_outcome (Err x) is reply.EndOfStream m = absurd m
     by_outcome (Err x) is (reply.Datagram o f) m = absurd m
     by_outcome (Err x) is (reply.State s) m = absurd m
+    by_outcome (Err x) is (reply.Endpoint y) m = absurd m
     by_outcome (Err x) is (reply.Frame i l) m = absurd m
     by_outcome (Err x) is reply.NoFrame m = absurd m
     by_outcome (Err x) is reply.Taken m = absurd m
@@ -236,6 +240,7 @@ recvfrom_outcome h id (Ok (n, f)) (reply.Octets o) new m = absurd m
 recvfrom_outcome h id (Ok (n, f)) (reply.Datagram o g) new m = inl m.2
 recvfrom_outcome h id (Ok (n, f)) reply.EndOfStream new m = absurd m
 recvfrom_outcome h id (Ok (n, f)) (reply.State s) new m = absurd m
+recvfrom_outcome h id (Ok (n, f)) (reply.Endpoint y) new m = absurd m
 recvfrom_outcome h id (Ok (n, f)) (reply.Frame i l) new m = absurd m
 recvfrom_outcome h id (Ok (n, f)) reply.NoFrame new m = absurd m
 recvfrom_outcome h id (Ok (n, f)) reply.Taken new m = absurd m
@@ -250,6 +255,7 @@ recvfrom_outcome h id (Err x) (reply.Octets o) new m = absurd m
 recvfrom_outcome h id (Err x) (reply.Datagram o f) new m = absurd m
 recvfrom_outcome h id (Err x) reply.EndOfStream new m = absurd m
 recvfrom_outcome h id (Err x) (reply.State s) new m = absurd m
+recvfrom_outcome h id (Err x) (reply.Endpoint y) new m = absurd m
 recvfrom_outcome h id (Err x) (reply.Frame i l) new m = absurd m
 recvfrom_outcome h id (Err x) reply.NoFrame new m = absurd m
 recvfrom_outcome h id (Err x) reply.Taken new m = absurd m
@@ -268,6 +274,31 @@ pub changed : (limit : ℕ) (hs ts : Side) (a b : Addr) (own own' other : Socket
     → own' ≡ record own { entries = change_first test (with_role g) own.entries } → Projects limit hs ts a b own other bag openings trace → Projects limit hs ts a b own' other bag openings trace
 changed limit hs ts a b own own' other bag openings trace test g quiet becomes h =
     kept limit hs ts a b (record own { entries = change_first test (with_role g) own.entries }) own' other bag openings trace becomes (projects-quiet limit hs ts a b own other bag openings trace test g quiet h)
+
+-- a bind gives a port, or nothing changes
+pub projects-bound : (limit : ℕ) (hs ts : Side) (a b : Addr) (own other : SocketsView) (bag : Bag) (openings : List Opening) (trace : List Happening) (id : SocketId) (local : Endpoint)
+    → Projects limit hs ts a b own other bag openings trace → Projects limit hs ts a b (after_bind own id local) other bag openings trace
+projects-bound limit hs ts a b own other bag openings trace id local h = by_port (port_bound own id local) refl
+  where
+    next : SocketsView
+    next = after_bind own id local
+
+    by_port : (r : Result ℕ Refusal) → port_bound own id local ≡ r → Projects limit hs ts a b next other bag openings trace
+    by_port (Err e) is = let same : next ≡ own = rw is in kept limit hs ts a b own next other bag openings trace same h
+    by_port (Ok port) is =
+        let end : Endpoint = record { addr = local.addr; port = port } in
+        let given : SocketsView = record own { last_port = last_port_bound own local port } in
+        let same : next ≡ with_socket given id (role_after_bind end) = rw is in
+        changed limit hs ts a b given next other bag openings trace (is_socket id) (role_after_bind end) (quiet_bound_to end) same
+        (projects-alike limit hs ts a b own given other bag openings trace refl refl refl h)
+
+-- a connection that is accepted goes on as it was
+pub projects-accepted : (limit : ℕ) (hs ts : Side) (a b : Addr) (own other : SocketsView) (bag : Bag) (openings : List Opening) (trace : List Happening) (id : SocketId)
+    → Projects limit hs ts a b own other bag openings trace → Projects limit hs ts a b (after_accept own id) other bag openings trace
+projects-accepted limit hs ts a b own other bag openings trace id h =
+    let next : SocketsView = record own { entries = change_first (is_next_at own id) (with_role role_after_accept) own.entries } in
+    projects-alike limit hs ts a b next (after_accept own id) other bag openings trace refl refl refl
+    (projects-quiet limit hs ts a b own other bag openings trace (is_next_at own id) role_after_accept quiet_accepted h)
 
 -- Send, receive and close.
 

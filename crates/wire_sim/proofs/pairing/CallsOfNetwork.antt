@@ -6,9 +6,9 @@ use Rattle.ipv4.specs.declared.addr.Endpoint.{Endpoint}
 use Rattle.tcp_segment.specs.declared.seq.Seq.{Seq}
 use Rattle.interface.specs.Ways.{is_routed}
 use Rattle.sockets.specs.declared.entry.SocketId.{SocketId}
-use Rattle.sockets.specs.Calls.{unless_refused, bind_refusal, after_bind, listen_refusal, after_listen, accept_answer, after_accept, connect_refusal, after_connect, pair_connected, send_answer, after_send, after_recv, shutdown_refusal, after_shutdown, close_refusal, after_close, state_answer}
+use Rattle.sockets.specs.Calls.{unless_refused, bind_refusal, after_bind, listen_refusal, after_listen, accept_answer, after_accept, connect_refusal, after_connect, pair_connected, send_answer, after_send, after_recv, shutdown_refusal, after_shutdown, close_refusal, after_close, state_answer, sockname_answer, peername_answer}
 use Rattle.sockets.specs.Datagrams.{sendto_answer, after_sendto, recvfrom_answer, after_recvfrom}
-use Rattle.sockets.specs.Entries.{is_socket, is_offered_at, role_after_bind, role_after_listen, role_after_accept}
+use Rattle.sockets.specs.Entries.{is_socket, role_after_listen}
 use Rattle.sockets.specs.SocketsView.{SocketsView}
 use Rattle.sockets.specs.Sound.{IsSoundTable}
 use Rattle.host.specs.HostView.{HostView}
@@ -27,13 +27,13 @@ use Rattle.wire_sim.specs.Steps.{MeetsCall, recv_len, after_call, with_host, wit
 use Rattle.wire_sim.specs.Tallies.{counts_after}
 use Rattle.wire_sim.specs.WorldView.{NetworkView, host_of, table_of}
 use Rattle.wire_sim.proofs.tables.CallsOnTable.{outcome, not_refused}
-use Rattle.wire_sim.proofs.tables.UnseenRoles.{quiet_bound_to, quiet_listening, quiet_accepted}
+use Rattle.wire_sim.proofs.tables.UnseenRoles.{quiet_listening}
 use Rattle.wire_sim.proofs.pairing.WorldAsPairings.{Bag, Projects}
-use Rattle.wire_sim.proofs.pairing.CallsAreMoves.{socket_outcome, recv_outcome, recvfrom_outcome, kept, changed, projects-silent, call-sends, call-receives, call-ends, call-closes, taken-fit}
+use Rattle.wire_sim.proofs.pairing.CallsAreMoves.{socket_outcome, recv_outcome, recvfrom_outcome, kept, changed, projects-bound, projects-accepted, projects-silent, call-sends, call-receives, call-ends, call-closes, taken-fit}
 use Rattle.wire_sim.proofs.pairing.CloseIsMoves.{call-forsakes}
 use Rattle.wire_sim.proofs.pairing.ConnectIsMove.{IsFirst, projects-connects, projects-socket_made}
 use Rattle.wire_sim.proofs.pairing.DatagramsMoveNothing.{projects-sent_to, projects-received_from}
-use Rattle.wire_sim.proofs.told.TraceAndOneMore.{IsQuiet, answered, tallies, tallies-counted, tallies-quiet, tallies-opened, quiet-everywhere, quiet-socket, quiet-bind, quiet-listen, quiet-accept, quiet-connect, quiet-state, quiet-sendto, quiet-recvfrom, quiet-send_refused, quiet-recv_refused, quiet-shutdown_refused, quiet-close_refused}
+use Rattle.wire_sim.proofs.told.TraceAndOneMore.{IsQuiet, answered, tallies, tallies-counted, tallies-quiet, tallies-opened, quiet-everywhere, quiet-socket, quiet-bind, quiet-listen, quiet-accept, quiet-connect, quiet-state, quiet-sockname, quiet-peername, quiet-sendto, quiet-recvfrom, quiet-send_refused, quiet-recv_refused, quiet-shutdown_refused, quiet-close_refused}
 
 -- What a call made of the network: nothing beside its host, a count, or an opening.
 pub data CallGoes (limit : ℕ) (hs ts : Side) (a b : Addr) (host' : HostView) (other : SocketsView) (n : NetworkView) (bag : Bag) (c : Call) (answer : Answer) (place : ℕ) (trace : List Happening) : Type 0 where
@@ -90,7 +90,7 @@ projects-called limit hs ts a b host host' other n bag place trace (call.Socket 
 projects-called limit hs ts a b host host' other n bag place trace (call.Bind id local) answer sound opposite is_host is_other numbered fair m h =
     let own = host.sockets in
     elim (outcome (unless_refused (bind_refusal own id local) (tt {0})) (λ _. reply.Done) (after_bind own id local) own answer host'.sockets m) [
-      | inl x ↦ plain limit hs ts a b host' other n bag (call.Bind id local) answer place trace refl (λ i. quiet-bind hs id local answer i) (changed limit hs ts a b own host'.sockets other bag n.openings trace (is_socket id) (role_after_bind local) (quiet_bound_to local) x.3 h)
+      | inl x ↦ plain limit hs ts a b host' other n bag (call.Bind id local) answer place trace refl (λ i. quiet-bind hs id local answer i) (kept limit hs ts a b (after_bind own id local) host'.sockets other bag n.openings trace x.3 (projects-bound limit hs ts a b own other bag n.openings trace id local h))
       | inr x ↦ plain limit hs ts a b host' other n bag (call.Bind id local) answer place trace refl (λ i. quiet-bind hs id local answer i) (kept limit hs ts a b own host'.sockets other bag n.openings trace x.3 h)
     ]
 projects-called limit hs ts a b host host' other n bag place trace (call.Listen id backlog) answer sound opposite is_host is_other numbered fair m h =
@@ -102,7 +102,7 @@ projects-called limit hs ts a b host host' other n bag place trace (call.Listen 
 projects-called limit hs ts a b host host' other n bag place trace (call.Accept id) answer sound opposite is_host is_other numbered fair m h =
     let own = host.sockets in
     elim (outcome (accept_answer own id) (λ p. reply.Accepted p.0 p.1) (after_accept own id) own answer host'.sockets m) [
-      | inl x ↦ plain limit hs ts a b host' other n bag (call.Accept id) answer place trace refl (λ i. quiet-accept hs id answer i) (changed limit hs ts a b own host'.sockets other bag n.openings trace (is_offered_at id) role_after_accept quiet_accepted x.3 h)
+      | inl x ↦ plain limit hs ts a b host' other n bag (call.Accept id) answer place trace refl (λ i. quiet-accept hs id answer i) (kept limit hs ts a b (after_accept own id) host'.sockets other bag n.openings trace x.3 (projects-accepted limit hs ts a b own other bag n.openings trace id h))
       | inr x ↦ plain limit hs ts a b host' other n bag (call.Accept id) answer place trace refl (λ i. quiet-accept hs id answer i) (kept limit hs ts a b own host'.sockets other bag n.openings trace x.3 h)
     ]
 projects-called limit hs ts a b host host' other n bag place trace (call.Connect isn id peer) answer sound opposite is_host is_other numbered fair m h =
@@ -203,4 +203,16 @@ projects-called limit hs ts a b host host' other n bag place trace (call.State i
     elim (outcome (state_answer own id) (λ s. reply.State s) own own answer host'.sockets m) [
       | inl x ↦ plain limit hs ts a b host' other n bag (call.State id) answer place trace refl (λ i. quiet-state hs id answer i) (kept limit hs ts a b own host'.sockets other bag n.openings trace x.3 h)
       | inr x ↦ plain limit hs ts a b host' other n bag (call.State id) answer place trace refl (λ i. quiet-state hs id answer i) (kept limit hs ts a b own host'.sockets other bag n.openings trace x.3 h)
+    ]
+projects-called limit hs ts a b host host' other n bag place trace (call.SockName id) answer sound opposite is_host is_other numbered fair m h =
+    let own = host.sockets in
+    elim (outcome (sockname_answer own id) (λ e. reply.Endpoint e) own own answer host'.sockets m) [
+      | inl x ↦ plain limit hs ts a b host' other n bag (call.SockName id) answer place trace refl (λ i. quiet-sockname hs id answer i) (kept limit hs ts a b own host'.sockets other bag n.openings trace x.3 h)
+      | inr x ↦ plain limit hs ts a b host' other n bag (call.SockName id) answer place trace refl (λ i. quiet-sockname hs id answer i) (kept limit hs ts a b own host'.sockets other bag n.openings trace x.3 h)
+    ]
+projects-called limit hs ts a b host host' other n bag place trace (call.PeerName id) answer sound opposite is_host is_other numbered fair m h =
+    let own = host.sockets in
+    elim (outcome (peername_answer own id) (λ e. reply.Endpoint e) own own answer host'.sockets m) [
+      | inl x ↦ plain limit hs ts a b host' other n bag (call.PeerName id) answer place trace refl (λ i. quiet-peername hs id answer i) (kept limit hs ts a b own host'.sockets other bag n.openings trace x.3 h)
+      | inr x ↦ plain limit hs ts a b host' other n bag (call.PeerName id) answer place trace refl (λ i. quiet-peername hs id answer i) (kept limit hs ts a b own host'.sockets other bag n.openings trace x.3 h)
     ]

@@ -1,5 +1,5 @@
 -- What a call that was not refused tells of the host's table.
-use Rattle.std.proofs.Common.{◌≡◌, ℕ, zero, suc, ◌+◌, ◌==◌, ◌&&◌, ◌||◌, ◌⊎◌, inl, inr, not, Bool, true, false, cond, if◌then◌else◌, List, [], ◌∷◌, length, take, Option, Some, None, is_some, option_map, Result, Ok, Err, refl, sym, ◌∙◌, ap}
+use Rattle.std.proofs.Common.{◌≡◌, ℕ, zero, suc, ◌+◌, ◌<◌, ◌^◌, ◌==◌, ◌&&◌, ◌||◌, ◌⊎◌, inl, inr, not, Bool, true, false, cond, if◌then◌else◌, List, [], ◌∷◌, length, take, Option, Some, None, is_some, option_map, Result, Ok, Err, arith, refl, sym, ◌∙◌, ap, subst}
 use Rattle.std.specs.List.{find, list_any}
 use Rattle.std.specs.Option.{option_or}
 use Rattle.std.proofs.lemmas.Bool.{eqb-true}
@@ -222,6 +222,19 @@ first_port-passes test last steps (suc n) port e = step (test (port_after last s
         → cond b (Some (port_after last steps)) (first_port test last (steps + 1) n) ≡ Some port → test port ≡ true
     step true is more e = let same : port_after last steps ≡ port = cc in ap test (sym same) ∙ is
     step false is more e = more e
+
+-- nor is it above the last port there is
+port_after-below : (last steps : ℕ) → port_after last steps < 2 ^ 16
+port_after-below last steps = omega arith
+
+pub first_port-below : (test : ℕ → Bool) (last steps n port : ℕ) → first_port test last steps n ≡ Some port → port < 2 ^ 16
+first_port-below test last steps zero port e = let bad : None ≡ Some port = sym (first_port-zero test last steps) ∙ e in cc
+first_port-below test last steps (suc n) port e =
+    step (test (port_after last steps)) (first_port-below test last (steps + 1) n port) (sym (first_port-step test last steps n) ∙ e)
+  where
+    step : (b : Bool) → (first_port test last (steps + 1) n ≡ Some port → port < 2 ^ 16) → cond b (Some (port_after last steps)) (first_port test last (steps + 1) n) ≡ Some port → port < 2 ^ 16
+    step true more e = let same : port_after last steps ≡ port = cc in subst (λ (k : ℕ). k < 2 ^ 16) same (port_after-below last steps)
+    step false more e = more e
 
 -- The socket is idle, the peer's address is not our own, and no connection goes to it from the port that is given.
 pub record ConnectsOn (h : SocketsView) (id : SocketId) (peer : Endpoint) (routed : Bool) : Type 0 where

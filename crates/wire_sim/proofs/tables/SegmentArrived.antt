@@ -1,5 +1,5 @@
 -- What a segment that arrived makes of the table.
-use Rattle.std.proofs.Common.{◌≡◌, ℕ, ◌+◌, inl, inr, Bool, true, false, cond, [], ◌∷◌, ◌++◌, Option, Some, None, refl, sym, ◌∙◌, ap, subst}
+use Rattle.std.proofs.Common.{◌≡◌, ℕ, ◌+◌, inl, inr, Bool, true, false, cond, List, [], ◌∷◌, ◌++◌, Option, Some, None, refl, sym, ◌∙◌, ap, subst}
 use Rattle.std.specs.List.{find}
 use Rattle.ipv4.specs.declared.addr.Addr.{Addr}
 use Rattle.ipv4.specs.declared.addr.Endpoint.{Endpoint}
@@ -17,8 +17,8 @@ use Rattle.sockets.specs.declared.entry.Entry.{Entry}
 use Rattle.sockets.specs.declared.role.Role.{Role}
 use Rattle.sockets.specs.declared.role.Role.TheVariants.{Idle, Listener, Connected, Datagrams}
 use Rattle.sockets.specs.declared.taken.Taken.{Taken}
-use Rattle.sockets.specs.Arrival.{Opens, NoPlace, local_end, peer_end, is_opening, has_no_place, after_opening, arrival_with_reply, opening, arrival_at, arrival_alone, arrival_at_connection, arrival, pair_opened, Meets}
-use Rattle.sockets.specs.Entries.{is_live_between, is_between, is_listening_at, role_after_segment, fate_of, entries_after_step, new_waiting}
+use Rattle.sockets.specs.Arrival.{Opens, NoPlace, local_end, peer_end, is_opening, has_no_place, after_opening, arrival_with_reply, opening, arrival_at, arrival_alone, offered_with, arrival_at_connection, arrival, pair_opened, Meets}
+use Rattle.sockets.specs.Entries.{is_live_between, is_between, is_listening_at, role_after_segment, fate_of, is_offered_by, entries_after_step, new_waiting}
 use Rattle.sockets.specs.Replies.{reset_at_ack, answer_to, answer_at_listener}
 use Rattle.sockets.specs.SocketsView.{SocketsView, later_moment}
 use Rattle.wire_sim.proofs.lists.FoundAfterChange.{find-passes}
@@ -28,8 +28,8 @@ use Rattle.wire_sim.proofs.tables.TableById.{entry_with}
 -- there is none, as was foreseen.
 pub data Arrived (h : SocketsView) (now : Moment) (isn : ℕ) (local peer : Endpoint) (s : Segment) (opened : Option Pair) (new : SocketsView) : Type 0 where
   Ignored : new ≡ h → Arrived h now isn local peer s opened new
-  Heard : (c : View) (l : Option SocketId) (id : SocketId) → find (is_between local peer) h.entries ≡ Some (record { id = id; role = Connected c l })
-      → new ≡ record h { entries = entries_after_step (fate c s) (is_between local peer) (role_after_segment (later_moment h now) s) h.entries } → Arrived h now isn local peer s opened new
+  Heard : (c : View) (l : Option SocketId) (id : SocketId) (offered : List SocketId) → find (is_between local peer) h.entries ≡ Some (record { id = id; role = Connected c l })
+      → new ≡ record h { entries = entries_after_step (fate c s) (is_between local peer) (role_after_segment (later_moment h now) s) h.entries; offered = offered } → Arrived h now isn local peer s opened new
   Began : (listener : Entry) → find (is_between local peer) h.entries ≡ None → is_opening s.flags ≡ true → opened ≡ Some (pair_of local peer)
       → new ≡ record h { last_id = h.last_id + 1; entries = h.entries ++ new_waiting (record { 0 = h.last_id + 1 }) listener.id (opened_passively local peer isn s) ∷ [] } → Arrived h now isn local peer s opened new
 
@@ -56,15 +56,19 @@ segment-arrived h now isn source s opened said new seen = by_entry (find (is_bet
     by_reply None meets = Ignored meets.1
     by_reply (Some head) meets = Ignored meets.1
 
-    by_fate : (c : View) (l : Option SocketId) (id : SocketId) → find (is_between local peer) h.entries ≡ Some (record { id = id; role = Connected c l })
-        → (x : Fate) → fate c s ≡ x → Meets (arrival_at_connection h now source s x) h said new → Shown
-    by_fate c l id at Rejected is meets = by_reply (Some (reset_at_ack s)) meets
-    by_fate c l id at Stays is meets = Heard c l id at
-        (meets.1 ∙ ap (λ x. let w : SocketsView = record h { entries = entries_after_step x (is_between local peer) (role_after_segment (later_moment h now) s) h.entries } in w) (sym is))
-    by_fate c l id at Removed is meets = Heard c l id at
-        (meets.1 ∙ ap (λ x. let w : SocketsView = record h { entries = entries_after_step x (is_between local peer) (role_after_segment (later_moment h now) s) h.entries } in w) (sym is))
+    -- those offered once an entry has heard the segment
+    offered_then : Entry → List SocketId
+    offered_then e = offered_with (is_offered_by (later_moment h now) s e.role) e.id h.offered
 
-    heard : (e : Entry) → find (is_between local peer) h.entries ≡ Some e → Meets (arrival_at_connection h now source s (fate_of s e.role)) h said new → (r : Role) → e.role ≡ r → Shown
+    by_fate : (e : Entry) (c : View) (l : Option SocketId) (id : SocketId) → find (is_between local peer) h.entries ≡ Some (record { id = id; role = Connected c l })
+        → (x : Fate) → fate c s ≡ x → Meets (arrival_at_connection h now source s e x) h said new → Shown
+    by_fate e c l id at Rejected is meets = by_reply (Some (reset_at_ack s)) meets
+    by_fate e c l id at Stays is meets = Heard c l id (offered_then e) at
+        (meets.1 ∙ ap (λ x. let w : SocketsView = record h { entries = entries_after_step x (is_between local peer) (role_after_segment (later_moment h now) s) h.entries; offered = offered_then e } in w) (sym is))
+    by_fate e c l id at Removed is meets = Heard c l id (offered_then e) at
+        (meets.1 ∙ ap (λ x. let w : SocketsView = record h { entries = entries_after_step x (is_between local peer) (role_after_segment (later_moment h now) s) h.entries; offered = offered_then e } in w) (sym is))
+
+    heard : (e : Entry) → find (is_between local peer) h.entries ≡ Some e → Meets (arrival_at_connection h now source s e (fate_of s e.role)) h said new → (r : Role) → e.role ≡ r → Shown
     heard e at meets (Idle buffers bound) role =
         let bad : false ≡ true = sym (ap (is_live_between local peer) role) ∙ find-passes (is_between local peer) h.entries e at in
         cc
@@ -74,7 +78,7 @@ segment-arrived h now isn source s opened said new seen = by_entry (find (is_bet
     heard e at meets (Listener bound backlog) role =
         let bad : false ≡ true = sym (ap (is_live_between local peer) role) ∙ find-passes (is_between local peer) h.entries e at in
         cc
-    heard e at meets (Connected c l) role = by_fate c l e.id (at ∙ ap Some (entry_with e (Connected c l) role)) (fate c s) refl (subst (λ r. Meets (arrival_at_connection h now source s (fate_of s r)) h said new) role meets)
+    heard e at meets (Connected c l) role = by_fate e c l e.id (at ∙ ap Some (entry_with e (Connected c l) role)) (fate c s) refl (subst (λ r. Meets (arrival_at_connection h now source s e (fate_of s r)) h said new) role meets)
 
     of_opens : (listener : Entry) → find (is_between local peer) h.entries ≡ None → is_opening s.flags ≡ true → opened ≡ Some (pair_of local peer)
         → Meets (Opens (after_opening h isn listener source s)) h said new → Shown
@@ -102,5 +106,5 @@ segment-arrived h now isn source s opened said new seen = by_entry (find (is_bet
     by_entry : (o : Option Entry) → find (is_between local peer) h.entries ≡ o → Meets (arrival h now isn source s) h said new → Shown
     by_entry None at meets = by_listener at (find (is_listening_at s.destination) h.entries) refl (subst (λ a. Meets a h said new) (arrival-unfound h now isn source s at) meets)
     by_entry (Some e) at meets =
-        let found : arrival h now isn source s ≡ arrival_at_connection h now source s (fate_of s e.role) = rw at in
+        let found : arrival h now isn source s ≡ arrival_at_connection h now source s e (fate_of s e.role) = rw at in
         heard e at (subst (λ a. Meets a h said new) found meets) e.role refl

@@ -282,6 +282,14 @@ quiet-connect side isn id peer a i = (refl, refl, refl, refl)
 pub quiet-state : (side : Side) (id : SocketId) (a : Answer) (i : SocketId) → IsQuiet side i (answered side (call.State id) a)
 quiet-state side id a i = (refl, refl, refl, refl)
 
+-- for its own end, whatever is answered
+pub quiet-sockname : (side : Side) (id : SocketId) (a : Answer) (i : SocketId) → IsQuiet side i (answered side (call.SockName id) a)
+quiet-sockname side id a i = (refl, refl, refl, refl)
+
+-- for its peer, whatever is answered
+pub quiet-peername : (side : Side) (id : SocketId) (a : Answer) (i : SocketId) → IsQuiet side i (answered side (call.PeerName id) a)
+quiet-peername side id a i = (refl, refl, refl, refl)
+
 -- a datagram that is sent, whatever is answered
 pub quiet-sendto : (side : Side) (id : SocketId) (peer : Endpoint) (octets : Vec ℕ) (a : Answer) (i : SocketId) → IsQuiet side i (answered side (call.SendTo id peer octets) a)
 quiet-sendto side id peer octets a i = (refl, refl, refl, refl)

@@ -1,16 +1,23 @@
--- The write at the place is the change of the first connection that is offered.
-use Rattle.std.proofs.Common.{◌≡◌, ◌∙◌, List, Some, ap, sym}
-use Rattle.sockets.specs.declared.entry.Entry.{Entry}
-use Rattle.std.specs.List.{position}
-use Rattle.sockets.specs.Entries.{is_offered_at, role_after_accept, with_role}
+-- The write at the place is the change of the connection that is accepted, whose id is taken out of those offered.
+use Rattle.std.proofs.Common.{◌≡◌, ◌∙◌, List, ap, sym}
+use Rattle.std.specs.List.{remove}
+use Rattle.sockets.specs.declared.entry.SocketId.{SocketId}
+use Rattle.sockets.specs.Entries.{is_waiting_id, role_after_accept, with_role}
 use Rattle.sockets.specs.SocketsView.{SocketsView}
+use Rattle.sockets.specs.Calls.{is_next_at}
+use Rattle.sockets.specs.Lists.{change_first, remove_first}
+use Rattle.sockets.proofs.Firsts.{remove_first-position}
 use Rattle.sockets.proofs.Written.{entry_written}
 use Rattle.sockets.proofs.sockets.Sockets.accept.Goals as goal
 
 pub returns-clause-ok : goal.returns-clause-ok
 returns-clause-ok c =
-    let entries = ap (λ (h : SocketsView). h.entries) c.self.view_is in
-    let place : position (is_offered_at c.args.id) c.args.self.now.entries ≡ Some c.in_ok-place.place =
-    ap (λ (es : List Entry). position (is_offered_at c.args.id) es) (sym entries ∙ sym c.deref-2.ensures.0) ∙ sym c.next_accepted.ensures ∙ c.in_ok-place.ensures.ok_part
+    let h : SocketsView = c.args.self.now in
+    let left : c.remove.new.self.items ≡ remove_first (is_waiting_id h.entries c.args.id) h.offered =
+    c.remove.ensures.items
+    ∙ ap (λ (w : SocketsView). remove w.offered c.in-Some.turn) c.self.view_is
+    ∙ sym (remove_first-position (is_waiting_id h.entries c.args.id) h.offered c.in-Some.turn c.remove.result c.in-Some.ensures.turn)
     in
-    entry_written _ _ (is_offered_at c.args.id) (with_role role_after_accept) _ _ _ _ c.self.view_is place c.deref_mut.ensures.value c.index-deref_mut-place.is c.accept.ensures
+    ap (λ (w : SocketsView). let r : SocketsView = record w { offered = c.remove.new.self.items } in r)
+    (entry_written _ _ (is_next_at h c.args.id) (with_role role_after_accept) _ _ _ _ c.self.view_is c.in-Some.ensures.place c.deref_mut.ensures.value c.index-deref_mut-place.is c.accept.ensures)
+    ∙ ap (λ (ids : List SocketId). let r : SocketsView = record h { entries = change_first (is_next_at h c.args.id) (with_role role_after_accept) h.entries; offered = ids } in r) left

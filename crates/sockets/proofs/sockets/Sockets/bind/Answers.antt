@@ -1,8 +1,20 @@
--- The write at the socket's place is the change of the first entry that the id names.
+-- The write at the socket's place is the change of the first entry that the id names, at the port that is given.
+use Rattle.std.proofs.Common.{◌≡◌, ◌∙◌, ℕ, ap, sym}
 use Rattle.sockets.specs.Entries.{is_socket, role_after_bind, with_role}
+use Rattle.sockets.specs.SocketsView.{SocketsView}
+use Rattle.sockets.specs.Calls.{last_port_bound}
+use Rattle.sockets.proofs.Bound.{bind-given}
 use Rattle.sockets.proofs.Written.{entry_written}
 use Rattle.sockets.proofs.sockets.Sockets.bind.Goals as goal
 
 pub returns-clause-ok : goal.returns-clause-ok
 returns-clause-ok c =
-    entry_written _ _ (is_socket c.args.id) (with_role (role_after_bind c.args.local)) _ _ _ _ c.self.view_is c.in_ok-place.ensures.place c.deref_mut.ensures.value c.index-deref_mut-place.is c.bind.ensures
+    let h : SocketsView = c.args.self.now in
+    let port : ℕ = c.in_ok-place.port in
+    let counted : c.last_port_bound-self-inside.result ≡ last_port_bound h c.args.local port = c.last_port_bound-self-inside.ensures.value in
+    let moved =
+    ap (λ (w : SocketsView). let r : SocketsView = record w { last_port = c.last_port_bound-self-inside.result } in r) c.self.view_is
+    ∙ ap (λ (p : ℕ). let r : SocketsView = record h { last_port = p } in r) counted
+    in
+    entry_written _ _ (is_socket c.args.id) (with_role (role_after_bind (record { addr = c.args.local.addr; port = port }))) _ _ _ _ moved c.in_ok-place.ensures.place c.deref_mut.ensures.value c.index-deref_mut-place.is c.bind.ensures
+    ∙ sym (bind-given h c.args.id c.args.local port c.in_ok-place.ensures.port)

@@ -1,14 +1,16 @@
--- The write at the place is the change, or the removal, of the segment's connection; a segment that is refused changes nothing.
+-- The write at the place is the change, or the removal, of the segment's connection, and those offered; a segment that is refused changes nothing.
 use Rattle.std.proofs.Common.{◌≡◌, ◌∙◌, List, get_or, Bool, Some, ap, sym}
 use Rattle.std.specs.List.{find}
 use Rattle.tcp_segment.specs.Segment.{Segment}
+use Rattle.tcp_state.specs.declared.connection.Fate.{Fate}
 use Rattle.tcp_state.specs.declared.connection.Fate.TheVariants.{Rejected}
 use Rattle.clock.specs.declared.moment.Moment.{Moment}
+use Rattle.sockets.specs.declared.entry.SocketId.{SocketId}
 use Rattle.sockets.specs.declared.entry.Entry.{Entry}
-use Rattle.sockets.specs.Arrival.{local_end, peer_end}
+use Rattle.sockets.specs.Arrival.{local_end, peer_end, offered_with}
 use Rattle.sockets.specs.Replies.{reset_at_ack}
-use Rattle.sockets.specs.Entries.{is_between, fate_of, entries_after_step, role_after_segment}
-use Rattle.sockets.specs.SocketsView.{SocketsView}
+use Rattle.sockets.specs.Entries.{is_between, fate_of, is_offered_by, entries_after_step, role_after_segment}
+use Rattle.sockets.specs.SocketsView.{SocketsView, later_moment}
 use Rattle.sockets.proofs.Arrived.{entry_settled, meets_becomes, meets_answered, refusal-answered, taken}
 use Rattle.sockets.proofs.Refused.{entry_refused_segment}
 use Rattle.sockets.proofs.Written.{entry_kept}
@@ -26,9 +28,9 @@ returns-in-Rejected c isn =
     c.index-deref_mut-place.is ∙ ap (λ (es : List Entry). get_or es c.args.place x) (c.deref_mut.ensures.value ∙ entries)
     in
     let found : find test h.entries ≡ Some x = find-position test h.entries c.args.place x c.requires at in
-    let fates : fate_of s x.role ≡ Rejected = ap (λ (e : Entry). fate_of s e.role) c.index-deref_mut-place.is ∙ sym c.segment.ensures.fate ∙ c.in-Rejected.is in
-    let same : c.segment.new.self ≡ get_or c.deref_mut.result.now c.args.place x =
-    c.segment.ensures.after ∙ entry_refused_segment _ s c.later_moment-now.result (sym c.segment.ensures.fate ∙ c.in-Rejected.is)
+    let fates : fate_of s x.role ≡ Rejected = ap (λ (e : Entry). fate_of s e.role) c.index-deref_mut-place.is ∙ sym c.segment-fate.ensures.fate ∙ c.in-Rejected.is in
+    let same : c.segment-fate.new.self ≡ get_or c.deref_mut.result.now c.args.place x =
+    c.segment-fate.ensures.after ∙ entry_refused_segment _ s c.later_moment-now.result (sym c.segment-fate.ensures.fate ∙ c.in-Rejected.is)
     in
     meets_answered _ h _ (reset_at_ack s) _ (refusal-answered h c.args.now isn c.args.source s x found fates) c.reset_at_ack.ensures (entry_kept _ h _ _ _ _ c.self.view_is c.deref_mut.ensures.value c.index-deref_mut-place.is same)
 
@@ -43,9 +45,21 @@ returns-in_default c isn =
     c.index-deref_mut-place.is ∙ ap (λ (es : List Entry). get_or es c.args.place x) (c.deref_mut.ensures.value ∙ entries)
     in
     let found : find test h.entries ≡ Some x = find-position test h.entries c.args.place x c.requires at in
-    let fates : fate_of s x.role ≡ c.segment.result = ap (λ (e : Entry). fate_of s e.role) c.index-deref_mut-place.is ∙ sym c.segment.ensures.fate in
-    meets_becomes _ _ _ _ (taken h c.args.now isn c.args.source s x c.segment.result found fates c.in_default.not-Rejected)
+    let fate : Fate = c.segment-fate.result.0 in
+    let fates : fate_of s x.role ≡ fate = ap (λ (e : Entry). fate_of s e.role) c.index-deref_mut-place.is ∙ sym c.segment-fate.ensures.fate in
+    let now : Moment = c.later_moment-now.result in
+    let there : Entry = get_or c.deref_mut.result.now c.args.place x in
+    let offers : c.offer.new.offered.items ≡ offered_with (is_offered_by (later_moment h c.args.now) s x.role) x.id h.offered =
+    c.offer.ensures
+    ∙ ap (λ (b : Bool). offered_with b there.id c.self.inside.offered.items) c.segment-fate.ensures.offered
+    ∙ ap (λ (e : Entry). offered_with (is_offered_by now s e.role) e.id c.self.inside.offered.items) (sym c.index-deref_mut-place.is)
+    ∙ ap (λ (m : Moment). offered_with (is_offered_by m s x.role) x.id c.self.inside.offered.items) c.later_moment-now.ensures
+    ∙ ap (λ (w : SocketsView). offered_with (is_offered_by (later_moment h c.args.now) s x.role) x.id w.offered) c.self.view_is
+    in
+    meets_becomes _ _ _ _ (taken h c.args.now isn c.args.source s x fate found fates c.in_default.not-Rejected)
     (
-    entry_settled _ _ test (role_after_segment c.later_moment-now.result s) _ _ _ _ _ c.segment.result c.self.view_is c.requires c.deref_mut.ensures.value c.index-deref_mut-place.is c.segment.ensures.after c.settle.ensures
-    ∙ ap (λ (m : Moment). let w : SocketsView = record h { entries = entries_after_step c.segment.result test (role_after_segment m s) h.entries } in w) c.later_moment-now.ensures
+    ap (λ (w : SocketsView). let r : SocketsView = record w { offered = c.offer.new.offered.items } in r)
+    (entry_settled _ _ test (role_after_segment now s) _ _ _ _ _ fate c.self.view_is c.requires c.deref_mut.ensures.value c.index-deref_mut-place.is c.segment-fate.ensures.after c.settle.ensures
+    ∙ ap (λ (m : Moment). let w : SocketsView = record h { entries = entries_after_step fate test (role_after_segment m s) h.entries } in w) c.later_moment-now.ensures)
+    ∙ ap (λ (ids : List SocketId). let r : SocketsView = record h { entries = entries_after_step fate test (role_after_segment (later_moment h c.args.now) s) h.entries; offered = ids } in r) offers
     )

@@ -1,0 +1,9 @@
+-- What is left is what the closure keeps.
+use Rattle.std.proofs.Common.{not, rules}
+use Rattle.arrayvec.proofs.ArrayVecLemmas.{filter-from_retain}
+use Rattle.sockets.specs.declared.entry.SocketId.{SocketId}
+use Rattle.sockets.specs.Entries.{is_waiting_id}
+use Rattle.sockets.proofs.table.offer_no_more.Goals as goal
+
+pub returns : goal.returns
+returns c = filter-from_retain _ (λ (id : SocketId). not (is_waiting_id c.args.entries.now c.args.listener id)) _ (λ x b f' y called. search rules) _ _ c.retain.ensures.filtered
