@@ -1,0 +1,4 @@
+pub mod Pointer
+pub mod Apart
+pub mod Held
+pub mod Left

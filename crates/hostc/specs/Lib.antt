@@ -1,0 +1,5 @@
+pub mod Held
+pub mod Numbers
+pub mod Types
+pub mod Calls
+pub mod Setup

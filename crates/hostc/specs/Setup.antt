@@ -1,0 +1,33 @@
+-- How a host is set up by what is passed.
+use Rattle.std.specs.Prelude.{◌≡◌, ◌⊎◌, ℕ, ℤ, pos, List, map, Option, Some, None}
+use Rattle.ether.specs.declared.mac.Mac.{Mac}
+use Rattle.ipv4.specs.declared.addr.Addr.{Addr}
+use Rattle.routes.specs.declared.route.Hop.{Hop}
+use Rattle.routes.specs.declared.route.Route.{Route}
+use Rattle.sockets.specs.declared.refusal.Refusal.TheVariants.{EINVAL, ENOMEM}
+use Rattle.host.specs.HostView.{HostView, new_host}
+use Rattle.hostc.specs.Numbers.{refused}
+use Rattle.hostc.specs.Types.{addr_of, hop_of}
+use Rattle.hostc.specs.declared.types.HostRoute.{HostRoute}
+
+-- what a route says: its prefix, and the hop
+abbrev pub said : Route → Addr × ℕ × Hop
+said route = (route.prefix.addr, route.prefix.length, route.hop)
+
+abbrev pub said_by : HostRoute → Addr × ℕ × Hop
+said_by route = (addr_of route.prefix, route.length, hop_of route.gateway)
+
+-- the routes that were passed, in their order
+abbrev pub IsTold : List HostRoute → List Route → Type 0
+IsTold given table = map said table ≡ map said_by given
+
+-- a host with this set-up, on which nothing happened
+abbrev pub IsNew : Mac → ℕ → List HostRoute → HostView → Type 0
+IsNew mac addr given h = (table : List Route) × IsTold given table × (h ≡ new_host (record { mac = mac; addr = addr_of addr; routes = table }))
+
+-- A handle that holds a host keeps it: EINVAL. Another one holds the new host, or stays as it was: EINVAL or ENOMEM.
+abbrev pub Setup : Mac → ℕ → List HostRoute → Option HostView → ℤ → Option HostView → Type 0
+Setup mac addr given (Some h) answer new = (answer ≡ refused EINVAL) × (new ≡ Some h)
+Setup mac addr given None answer new =
+    ((answer ≡ pos 0) × ((h : HostView) × IsNew mac addr given h × (new ≡ Some h)))
+    ⊎ (((answer ≡ refused EINVAL) ⊎ (answer ≡ refused ENOMEM)) × (new ≡ None))

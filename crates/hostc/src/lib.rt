@@ -1,0 +1,16 @@
+//! The host for programs in C: each call of `host::Host` as a function on a handle, and nothing else. A handle is one pointer, which holds
+//! a host or none. It is used by one thread at a time.
+#![tactic(auto)]
+
+mod calls;
+mod convert;
+mod datagrams;
+mod handle;
+mod link;
+mod parts;
+mod questions;
+mod setup;
+mod types;
+
+pub use handle::Handle;
+pub use types::{End, HostRoute};

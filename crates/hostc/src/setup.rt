@@ -1,0 +1,72 @@
+//! The making of a host, and its end.
+
+ghost use Rattle.std.specs.Prelude.{◌≡◌, ◌⊎◌, None, IfOk, IfErr};
+ghost use Rattle.hostc.specs.Setup.{IsNew, IsTold, Setup};
+
+use crate::convert::{addr_of, hop_of, refused};
+use crate::handle::Handle;
+use crate::types::HostRoute;
+use ether::Mac;
+use host::{Config, Host, Refusal};
+use ipv4::Prefix;
+use routes::Routes;
+use std::alloc::Global;
+
+/// Makes a host with this MAC, address and routes, and has the handle hold it. Answers 0.
+///
+/// EINVAL where the handle holds a host already, a route's prefix is none, two have one prefix, there are over 32 of them, the address is no
+/// single host's (RFC 1122 section 3.2.1.3) or the MAC is that of a group; ENOMEM. The handle stays as it was then.
+#[unsafe(no_mangle)]
+pub extern "C" fn host_new(
+    alloc: Global,
+    handle: &mut Handle,
+    mac: &[u8; 6],
+    addr: u32,
+    routes: &[HostRoute],
+) -> i64
+    ensures { Setup (record { 0 = mac.now }) addr routes.now handle.old.host result handle.new.host }
+{
+    if let Some(host) = handle.take(alloc) {
+        handle.put(alloc, host);
+        return refused(Refusal::EINVAL);
+    }
+    let host = match made(alloc, Mac(*mac), addr, routes) {
+        Ok(host) => host,
+        Err(refusal) => return refused(refusal),
+    };
+    handle.put(alloc, host);
+    0
+}
+
+/// Ends the host that the handle holds, and gives its memory back. The handle holds none then. Does nothing where it held none.
+#[unsafe(no_mangle)]
+pub extern "C" fn host_free(alloc: Global, handle: &mut Handle)
+    ensures { handle.new.host ≡ None }
+{
+    let _ = handle.take(alloc);
+}
+
+/// A host with these routes, on the heap.
+fn made(alloc: Global, mac: Mac, addr: u32, routes: &[HostRoute]) -> Result<Box<Host>, Refusal>
+    ensures ok { IfOk result (λ host. IsNew mac addr routes.now host.value) }
+    ensures refusal { IfErr result (λ refusal. (refusal ≡ Refusal.EINVAL) ⊎ (refusal ≡ Refusal.ENOMEM)) }
+{
+    let config = Config::new(mac, addr_of(addr), table(routes)?)?;
+    let host = Host::new(alloc, config)?;
+    Box::new(alloc, host).map_err(|_| Refusal::ENOMEM)
+}
+
+/// The table of these routes.
+fn table(given: &[HostRoute]) -> Result<Routes, Refusal>
+    ensures told { IfOk result (λ table. IsTold given.now table) }
+    ensures refusal { IfErr result (λ refusal. refusal ≡ Refusal.EINVAL) }
+{
+    let mut routes = Routes::new();
+    for route in given {
+        let prefix = Prefix::new(addr_of(route.prefix), route.length).map_err(|_| Refusal::EINVAL)?;
+        routes
+            .add(prefix, hop_of(route.gateway))
+            .map_err(|_| Refusal::EINVAL)?;
+    }
+    Ok(routes)
+}

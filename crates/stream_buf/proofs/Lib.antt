@@ -1,0 +1,4 @@
+pub mod Laying
+pub mod Counting
+pub mod Inserting
+pub mod Taking

@@ -1,0 +1,73 @@
+-- The octets that came: those in order, which the caller can read, and those ahead of a gap, which are kept until it is filled
+-- (RFC 9293 sections 3.3.1 and 3.10.7.4).
+use Rattle.std.specs.Prelude.{◌≡◌, ℕ, suc, ◌+◌, ◌≤◌, ◌==◌, ◌||◌, nat_le, min, Bool, true, false, if◌then◌else◌, List, [], ◌∷◌, ◌++◌, length, take, drop, map, replicate, Option, Some, None}
+use Rattle.stream_buf.specs.declared.receive.TheConstants.{MOST_RANGES}
+
+-- A receive buffer: what is readable, what is kept ahead of it, by its distance from RCV.NXT, with a place for each octet that
+-- may still come, and how many octets it may hold.
+pub record ReceiveView : Type 0 where
+  pub readable : List ℕ
+  pub kept : List (Option ℕ)
+  pub capacity : ℕ
+
+-- nothing came
+abbrev pub nothing_received : ℕ → ReceiveView
+nothing_received capacity = record { readable = []; kept = replicate capacity None; capacity = capacity }
+
+-- the octets that stand without a gap from the first place on
+abbrev pub front : List (Option ℕ) → List ℕ
+front [] = []
+front (None ∷ places) = []
+front (Some octet ∷ places) = octet ∷ front places
+
+-- the places behind those
+abbrev pub behind_front : List (Option ℕ) → List (Option ℕ)
+behind_front places = drop (length (front places)) places
+
+-- how many ranges begin in these places, where the place before the first keeps an octet or doesn't
+abbrev pub ranges_after : Bool → List (Option ℕ) → ℕ
+ranges_after before [] = 0
+ranges_after before (None ∷ places) = ranges_after false places
+ranges_after true (Some octet ∷ places) = ranges_after true places
+ranges_after false (Some octet ∷ places) = suc (ranges_after true places)
+
+-- how many ranges there are: longest runs of kept octets without a gap
+abbrev pub ranges : List (Option ℕ) → ℕ
+ranges places = ranges_after false places
+
+-- these octets stand at the places from a distance on, over what stood there
+abbrev pub laid : List (Option ℕ) → ℕ → List ℕ → List (Option ℕ)
+laid places distance octets = take distance places ++ map (λ octet. Some octet) octets ++ drop (distance + length octets) places
+
+-- octets at a distance are taken: they begin at RCV.NXT, or what would be kept then has no more than the most ranges
+abbrev pub is_taken : ReceiveView → ℕ → List ℕ → Bool
+is_taken b distance octets = distance == 0 || nat_le (ranges (behind_front (laid b.kept distance octets))) MOST_RANGES
+
+-- the octets that join what is readable: all that stand without a gap from RCV.NXT on
+abbrev pub joined : ReceiveView → ℕ → List ℕ → List ℕ
+joined b distance octets = if is_taken b distance octets then front (laid b.kept distance octets) else []
+
+-- octets came at a distance from RCV.NXT
+abbrev pub after_insert : ReceiveView → ℕ → List ℕ → ReceiveView
+after_insert b distance octets =
+    if is_taken b distance octets
+    then record b { readable = b.readable ++ front (laid b.kept distance octets); kept = behind_front (laid b.kept distance octets) }
+    else b
+
+-- how many octets a read of so many takes
+abbrev pub read_count : ReceiveView → ℕ → ℕ
+read_count b len = min len (length b.readable)
+
+-- the caller read so many octets at most: the first ones are gone, and as many octets more may come
+abbrev pub after_read : ReceiveView → ℕ → ReceiveView
+after_read b len = record b {
+  readable = drop (read_count b len) b.readable;
+  kept = b.kept ++ replicate (read_count b len) None;
+}
+
+-- what holds of each receive buffer: there is a place for each octet that may still come, none is kept at RCV.NXT, and there are
+-- no more than the most ranges
+pub record IsReceiving (b : ReceiveView) : Type 0 where
+  pub places : length b.readable + length b.kept ≡ b.capacity
+  pub gap : front b.kept ≡ []
+  pub few : ranges b.kept ≤ MOST_RANGES

@@ -1,0 +1,10 @@
+//! The buffers of a byte stream (RFC 9293 section 3.3.1): what was written and is not acknowledged, and what came, in order or
+//! ahead of a gap.
+#![tactic(auto)]
+
+mod places;
+mod receive;
+mod send;
+
+pub use receive::{MOST_RANGES, RecvBuf};
+pub use send::SendBuf;

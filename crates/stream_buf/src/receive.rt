@@ -1,0 +1,155 @@
+//! The octets that came.
+
+ghost use Rattle.std.specs.Prelude.{◌≡◌, ℕ, ◌+◌, ◌<◌, ◌≤◌, ◌++◌, List, length, take, drop, IfOk};
+ghost use Rattle.stream_buf.specs.Receiving.{nothing_received, ranges, laid, is_taken, joined, after_insert, read_count, after_read, IsReceiving};
+
+use crate::places::{copy_front, lay, ranges_in};
+use std::alloc::{AllocError, Global};
+use std::marker::Model;
+
+/// The ranges of octets ahead of a gap that a buffer keeps at most: longest runs without a gap of their own.
+pub const MOST_RANGES: usize = 32;
+
+/// The octets that came and are not read: those in order, and those ahead of a gap, by their distance from RCV.NXT. Only the making
+/// takes memory.
+#[derive(Drop)]
+pub struct RecvBuf {
+    readable: Vec<u8>,
+    kept: Vec<Option<u8>>,
+    capacity: usize,
+}
+
+impl Model for RecvBuf {
+    ghost use Rattle.std.specs.Prelude.{◌≤◌};
+    ghost use Rattle.std.specs.Vec.{vec_capacity};
+    ghost use Rattle.stream_buf.specs.Receiving.{ReceiveView, IsReceiving};
+
+    ghost Value = { ReceiveView };
+
+    ghost view = { λ b. record { readable = b.readable.items; kept = b.kept.items; capacity = b.capacity } };
+
+    ghost invariant = { λ b. IsReceiving (record { readable = b.readable.items; kept = b.kept.items; capacity = b.capacity }) × (b.capacity ≤ vec_capacity b.readable) × (b.capacity ≤ vec_capacity b.kept) };
+}
+
+impl RecvBuf {
+    /// A buffer for so many octets, to which nothing came. It takes its whole memory here, and fails only where that is refused.
+    pub fn with_capacity(alloc: Global, capacity: usize) -> Result<RecvBuf, AllocError>
+        ensures { IfOk result (λ buffer. buffer ≡ nothing_received capacity) }
+    {
+        let readable = Vec::with_capacity(alloc, capacity)?;
+        let mut kept = Vec::with_capacity(alloc, capacity)?;
+        kept.resize(capacity, None)?;
+        Ok(RecvBuf {
+            readable,
+            kept,
+            capacity,
+        })
+    }
+
+    /// Takes octets that came at a distance from RCV.NXT, for which there is room, and says how many octets joined what is readable: all
+    /// that then stand without a gap from RCV.NXT on. The others are kept by their distance. Where a 33rd range would have to be kept,
+    /// nothing changes. Of two octets for one place the later stands (RFC 9293 section 3.10.7.4).
+    pub fn insert_at(&mut self, distance: usize, octets: &[u8]) -> usize
+        requires { distance + length octets.now ≤ length self.old.kept }
+        ensures count { result ≡ length (joined self.old distance octets.now) }
+        ensures after { self.new ≡ after_insert self.old distance octets.now }
+    {
+        if !self.takes(distance, octets) {
+            return 0;
+        }
+        lay(&mut self.kept, distance, octets);
+        let count = copy_front(&self.kept, &mut self.readable);
+        self.kept.drain(..count);
+        count
+    }
+
+    /// Whether octets at a distance from RCV.NXT, for which there is room, are taken: no 33rd range would have to be kept.
+    pub fn takes(&self, distance: usize, octets: &[u8]) -> bool
+        requires { distance + length octets.now ≤ length self.now.kept }
+        ensures { result ≡ is_taken self.now distance octets.now }
+    {
+        distance == 0 || self.ranges_with(distance, octets.len()) <= MOST_RANGES
+    }
+
+    /// Moves as many readable octets into `out` as it has room for, from the first on, and says how many. What is kept stays at its
+    /// places in the stream.
+    pub fn read(&mut self, out: &mut [u8]) -> usize
+        ensures count { result ≡ read_count self.old (length out.old) }
+        ensures out { out.new ≡ take result self.old.readable ++ drop result out.old }
+        ensures after { self.new ≡ after_read self.old (length out.old) }
+    {
+        let count = out.len().min(self.readable.len());
+        out[..count].copy_from_slice(&self.readable[..count]);
+        self.readable.drain(..count);
+        self.kept.resize(self.kept.len() + count, None).unwrap();
+        count
+    }
+
+    /// How many octets may still come: the distance from RCV.NXT that an octet stays below.
+    pub fn room(&self) -> usize
+        ensures room { result ≡ length self.now.kept }
+        ensures limits { IsReceiving self.now }
+    {
+        self.kept.len()
+    }
+
+    /// How many octets can be read.
+    pub fn readable_len(&self) -> usize
+        ensures { result ≡ length self.now.readable }
+    {
+        self.readable.len()
+    }
+
+    /// How many ranges of octets are kept ahead of a gap.
+    pub fn ranges(&self) -> usize
+        ensures { result ≡ ranges self.now.kept }
+    {
+        ranges_in(false, &self.kept).0
+    }
+
+    /// How many octets it holds at most.
+    pub fn capacity(&self) -> usize
+        ensures { result ≡ self.now.capacity }
+    {
+        self.capacity
+    }
+
+    /// How many ranges there would be with so many octets at a distance.
+    fn ranges_with(&self, distance: usize, count: usize) -> usize
+        requires { distance + count ≤ length self.now.kept }
+        ensures ranges { (octets : List ℕ) → length octets ≡ count → result ≡ ranges (laid self.now.kept distance octets) }
+        ensures limits { IsReceiving self.now }
+    {
+        if count == 0 {
+            return ranges_in(false, &self.kept).0;
+        }
+        let (below, is_kept) = ranges_in(false, &self.kept[..distance]);
+        let (above, _) = ranges_in(true, &self.kept[distance + count..]);
+        below + usize::from(!is_kept) + above
+    }
+}
+
+#[cfg(test)]
+mod tests {
+    use super::*;
+
+    /// Octets ahead of a gap are kept in 32 ranges at most.
+    #[test]
+    fn keeps_most_ranges(rt: HostRuntime) {
+        let Ok(mut buffer) = RecvBuf::with_capacity(rt.alloc(), 100) else {
+            return;
+        };
+        for i in 0..32 {
+            assert_eq!(rt; buffer.insert_at(2 * i + 1, b"x"), 0);
+            assert_eq!(rt; buffer.ranges(), i + 1);
+        }
+        assert_eq!(rt; buffer.insert_at(65, b"x"), 0);
+        assert_eq!(rt; buffer.ranges(), 32);
+        assert_eq!(rt; buffer.insert_at(2, b"x"), 0);
+        assert_eq!(rt; buffer.ranges(), 31);
+        assert_eq!(rt; buffer.insert_at(65, b"x"), 0);
+        assert_eq!(rt; buffer.ranges(), 32);
+        assert_eq!(rt; buffer.insert_at(0, b"x"), 4);
+        assert_eq!(rt; buffer.readable_len(), 4);
+    }
+}

@@ -1,0 +1,120 @@
+/* One connection of the host to a peer: standard input goes to the peer, and what comes of it to standard output. */
+#include "tap.h"
+
+#include <errno.h>
+#include <string.h>
+#include <unistd.h>
+
+enum { LINGER = 500 };        /* milliseconds in TIME-WAIT in which a FIN that comes again is still answered */
+
+static struct joint joint;
+static bool is_joined;        /* both ways ended, and only the ends are to be acknowledged */
+static uint64_t lingers;      /* when the run may end, or 0 */
+
+static void begin(struct tap *tap)
+{
+    const struct host_endpoint peer = tap->options.peer;
+    const int64_t id = host_socket(&tap->host, HOST_KIND_TCP);
+    const int64_t done = id < 0 ? id : host_connect(&tap->host, tap->now, fresh_isn(), (uint64_t)id, peer.addr, peer.port);
+    if (done < 0) {
+        fail(tap, "connect", host_refusal_name(done));
+        return;
+    }
+    joint_begin(&joint, (uint64_t)id, STDIN_FILENO, STDOUT_FILENO, tap->now);
+}
+
+static int64_t state(struct tap *tap)
+{
+    return host_state(&tap->host, joint.id);
+}
+
+static bool is_opening(struct tap *tap)
+{
+    const int64_t now = state(tap);
+    return now == HOST_STATE_SYN_SENT || now == HOST_STATE_SYN_RECEIVED;
+}
+
+static size_t wants(struct tap *tap, struct pollfd *polled)
+{
+    if (is_opening(tap) || is_joined) {
+        joint.from_place = joint.to_place = 0;
+        return 0;
+    }
+    return joint_wants(&joint, polled, 0);
+}
+
+static void give_up(struct tap *tap, const char *what, const char *why)
+{
+    host_close(&tap->host, joint.id);
+    fail(tap, what, why);
+}
+
+/* Whether something of ours waits for the peer: an opening, octets, or an end. */
+static bool waits_for_peer(struct tap *tap)
+{
+    return is_opening(tap) || joint.up.from < joint.up.to || is_joined;
+}
+
+/* Both sides are closed: the run ends once the peer has said so, and a little later in TIME-WAIT. */
+static void ending_step(struct tap *tap)
+{
+    const int64_t now = state(tap);
+    if (now == HOST_STATE_TIME_WAIT && lingers == 0) {
+        lingers = later(tap->now, LINGER);
+    }
+    if (now == HOST_STATE_CLOSED || (lingers != 0 && lingers <= tap->now)) {
+        const int64_t last = host_shutdown_write(&tap->host, joint.id);
+        if (last == HOST_ECONNRESET) {
+            fail(tap, "connection", host_refusal_name(last));
+        } else {
+            tap->status = 0;
+        }
+    }
+}
+
+static void joint_steps(struct tap *tap)
+{
+    joint_answer(&joint, tap->polled);
+    switch (joint_step(&joint, tap)) {
+    case JOINT_HOST_FAILED:
+        give_up(tap, "connection", host_refusal_name(joint.refusal));
+        break;
+    case JOINT_SYSTEM_FAILED:
+        give_up(tap, "standard input or output", strerror(joint.error));
+        break;
+    case JOINT_ENDED:
+        is_joined = true;
+        joint.moved = tap->now;
+        ending_step(tap);
+        break;
+    case JOINT_GOES_ON:
+        break;
+    }
+}
+
+static void step(struct tap *tap)
+{
+    if (is_joined) {
+        ending_step(tap);
+    } else if (!is_opening(tap)) {
+        joint_steps(tap);
+    }
+    if (tap->status < 0 && waits_for_peer(tap) && later(joint.moved, tap->options.patience) <= tap->now) {
+        give_up(tap, "connection", "the peer is silent");
+    }
+}
+
+static uint64_t deadline(struct tap *tap)
+{
+    if (lingers != 0) {
+        return lingers;
+    }
+    return waits_for_peer(tap) ? later(joint.moved, tap->options.patience) : NEVER;
+}
+
+static void end(struct tap *tap)
+{
+    (void)tap;
+}
+
+const struct work connecting = {begin, wants, step, deadline, end};

@@ -1,0 +1,145 @@
+/* Connections of the host joined to sockets of the system: each that is accepted at a port, to one to an address of the system's. */
+#include "tap.h"
+
+#include <arpa/inet.h>
+#include <errno.h>
+#include <string.h>
+#include <sys/socket.h>
+#include <unistd.h>
+
+static uint64_t listeners[FORWARDS];
+static struct joint joints[CONNECTIONS];      /* id 0: none */
+
+static void begin(struct tap *tap)
+{
+    for (size_t i = 0; i < tap->options.forward_count && tap->status < 0; i++) {
+        listeners[i] = listen_at(tap, tap->options.forwards[i].port);
+    }
+}
+
+static size_t wants(struct tap *tap, struct pollfd *polled)
+{
+    size_t count = 0;
+    (void)tap;
+    for (size_t i = 0; i < CONNECTIONS; i++) {
+        if (joints[i].id != 0) {
+            count = joint_wants(&joints[i], polled, count);
+        }
+    }
+    return count;
+}
+
+/* A socket of the system that opens a connection there: its descriptor, or -1 and errno. */
+static int open_there(struct host_endpoint there)
+{
+    const struct sockaddr_in to = {.sin_family = AF_INET, .sin_port = htons(there.port), .sin_addr = {htonl(there.addr)}};
+    const int opened = socket(AF_INET, SOCK_STREAM | SOCK_NONBLOCK | SOCK_CLOEXEC, 0);
+    if (opened < 0) {
+        return -1;
+    }
+    if (connect(opened, (const struct sockaddr *)&to, sizeof to) != 0 && errno != EINPROGRESS) {
+        const int error = errno;
+        close(opened);
+        errno = error;
+        return -1;
+    }
+    return opened;
+}
+
+static struct joint *free_place(void)
+{
+    for (size_t i = 0; i < CONNECTIONS; i++) {
+        if (joints[i].id == 0) {
+            return &joints[i];
+        }
+    }
+    return NULL;
+}
+
+static bool accept_step(struct tap *tap, size_t i)
+{
+    struct host_endpoint peer;
+    struct joint *place = free_place();
+    const int64_t id = place == NULL ? HOST_EAGAIN : host_accept(&tap->host, listeners[i], &peer);
+    if (id < 0) {
+        return false;
+    }
+    const int opened = open_there(tap->options.forwards[i].to);
+    if (opened < 0) {
+        tell(tap, "refused", (uint64_t)id, strerror(errno));
+        host_close(&tap->host, (uint64_t)id);
+        return true;
+    }
+    tell(tap, "accepted", (uint64_t)id, "");
+    joint_begin(place, (uint64_t)id, opened, opened, tap->now);
+    place->connects = true;
+    return true;
+}
+
+/* The system's side ends by a reset where the host's did so. */
+static void joint_end(struct joint *joint, struct tap *tap, bool resets, const char *why)
+{
+    const struct linger at_once = {1, 0};
+    if (resets) {
+        setsockopt(joint->from, SOL_SOCKET, SO_LINGER, &at_once, sizeof at_once);
+    }
+    close(joint->from);
+    tell(tap, "ended", joint->id, why);
+    host_close(&tap->host, joint->id);
+    joint->id = 0;
+}
+
+static void one_step(struct joint *joint, struct tap *tap)
+{
+    switch (joint_step(joint, tap)) {
+    case JOINT_HOST_FAILED:
+        joint_end(joint, tap, true, host_refusal_name(joint->refusal));
+        break;
+    case JOINT_SYSTEM_FAILED:
+        joint_end(joint, tap, true, strerror(joint->error));
+        break;
+    case JOINT_ENDED:
+        joint_end(joint, tap, false, "");
+        break;
+    case JOINT_GOES_ON:
+        if (later(joint->moved, tap->options.idle) <= tap->now) {
+            joint_end(joint, tap, true, "idle");
+        }
+        break;
+    }
+}
+
+static void step(struct tap *tap)
+{
+    for (size_t i = 0; i < CONNECTIONS; i++) {
+        if (joints[i].id != 0) {
+            joint_answer(&joints[i], tap->polled);
+            one_step(&joints[i], tap);
+        }
+    }
+    for (size_t i = 0; i < tap->options.forward_count; i++) {
+        while (accept_step(tap, i)) {
+        }
+    }
+}
+
+static uint64_t deadline(struct tap *tap)
+{
+    uint64_t least = NEVER;
+    for (size_t i = 0; i < CONNECTIONS; i++) {
+        const uint64_t due = joints[i].id == 0 ? NEVER : later(joints[i].moved, tap->options.idle);
+        least = due < least ? due : least;
+    }
+    return least;
+}
+
+static void end(struct tap *tap)
+{
+    for (size_t i = 0; i < CONNECTIONS; i++) {
+        if (joints[i].id != 0) {
+            joint_end(&joints[i], tap, true, "the program ends");
+        }
+    }
+}
+
+const struct work forwarding = {begin, wants, step, deadline, end};

@@ -1,0 +1,362 @@
+/*
+ * An IPv4 host with TCP and UDP sockets, as a library. Frames, socket calls and moments go in; frames, answers and deadlines come out.
+ *
+ * The library opens no device, reads no clock, has no threads and waits for nothing: each call returns at once. The program has the link,
+ * the clock and the source of initial numbers. docs/EMBEDDING.md has the loop of a host on a link, the limits, and how to build and link;
+ * docs/SOCKETS.md has the socket calls at length, docs/CODES.md the refusals and drops.
+ *
+ * One turn of a program:
+ *
+ *     wait until a frame arrives, there is a call to make, or the moment of host_next_deadline comes; read the clock: now
+ *     host_tick(&host, now)
+ *     host_deliver(&host, now, isn, frame, len) for a frame that arrived, with a fresh isn
+ *     the socket calls of the program
+ *     while ((len = host_next_frame(&host, now, frame)) > 0) send these len octets on the link
+ *
+ * ANSWERS. An int64_t that is not negative is a call's answer. A negative one is a refusal (HOST_EBADF ..), and that of host_deliver a drop
+ * (HOST_DROP_SHORT ..). Each call's refusals stand below in the order in which they are tested. A refused call changes nothing: neither
+ * the host, nor what its pointers lead to.
+ *
+ * UNITS. Moments are milliseconds from an origin of your choice, in 64 bits, of a clock that never goes back. Lengths are octets. A frame is
+ * a whole Ethernet II frame, without the frame check sequence. An address is a plain number with its first octet highest
+ * (HOST_ADDR), and a port a plain number: neither wants htonl or htons.
+ *
+ * POINTERS. What a pointer leads to is yours. The library reads or writes it in the call alone and keeps none. No pointer is NULL, also where
+ * its length is 0; there it may lead to anything. No two of a call overlap. A length is at most INT64_MAX.
+ *
+ * THREADS. A handle is used by one thread at a time, and a host stays on the thread that made it. Handles share nothing, so each may have a
+ * thread of its own. Make no call in a signal handler, nor in the forked child of a process with threads.
+ *
+ * MEMORY. The library takes memory of malloc and realloc and gives it back by free: in host_new (some 550 kB), in host_socket and in a
+ * host_deliver that opens a connection (two buffers of 65,535 octets each). No other call takes any. Where memory is refused the call is
+ * refused (HOST_ENOMEM, HOST_DROP_NO_ROOM), and the program goes on. host_free gives all of it back. Of the C library the calls use these
+ * three and memcpy, memmove, memset and memcmp, and no variable of their own outlives a call.
+ */
+#ifndef HOST_H
+#define HOST_H
+
+#include <errno.h>
+#include <stddef.h>
+#include <stdint.h>
+
+#ifdef __cplusplus
+extern "C" {
+#endif
+
+/* The most octets of a frame that goes out, and of one that arrives; those of one that goes out are 60 at least. */
+#define HOST_FRAME_SIZE 1514
+/* The most octets of a datagram's data. */
+#define HOST_DATAGRAM_SIZE 65507
+/* The most routes of a host, the most of its sockets and connections, and the largest backlog. */
+#define HOST_ROUTES 32
+#define HOST_ENTRIES 64
+#define HOST_BACKLOG 8
+
+/* The address a.b.c.d, as in HOST_ADDR(10, 0, 0, 1), and the address 0.0.0.0. */
+#define HOST_ADDR(a, b, c, d) ((uint32_t)(a) << 24 | (uint32_t)(b) << 16 | (uint32_t)(c) << 8 | (uint32_t)(d))
+#define HOST_ADDR_ANY ((uint32_t)0)
+
+/* Kinds of sockets. */
+#define HOST_KIND_TCP 1
+#define HOST_KIND_UDP 2
+
+/* States of a socket: those of RFC 9293 section 3.3.2, and that of every UDP socket. */
+#define HOST_STATE_CLOSED 0
+#define HOST_STATE_LISTEN 1
+#define HOST_STATE_SYN_SENT 2
+#define HOST_STATE_SYN_RECEIVED 3
+#define HOST_STATE_ESTABLISHED 4
+#define HOST_STATE_FIN_WAIT_1 5
+#define HOST_STATE_FIN_WAIT_2 6
+#define HOST_STATE_CLOSE_WAIT 7
+#define HOST_STATE_CLOSING 8
+#define HOST_STATE_LAST_ACK 9
+#define HOST_STATE_TIME_WAIT 10
+#define HOST_STATE_DATAGRAM 11
+
+/* Refusals, with the names of POSIX.1-2017. They are not the system's numbers: host_errno gives those. */
+#define HOST_EBADF (-1)         /* the id names no socket, or the handle holds no host */
+#define HOST_EINVAL (-2)        /* the arguments or the socket's state don't allow the call */
+#define HOST_EADDRINUSE (-3)    /* the port or the pair of endpoints is in use, or no dynamic port is free */
+#define HOST_EADDRNOTAVAIL (-4) /* the address is not ours to bind to, or none that a peer may have */
+#define HOST_EISCONN (-5)       /* the socket has had a connection */
+#define HOST_ENOTCONN (-6)      /* the socket has no connection, or none yet whose side could be closed */
+#define HOST_EALREADY (-7)      /* the socket's connection is opening */
+#define HOST_EAGAIN (-8)        /* nothing to do now; the same call may succeed later */
+#define HOST_ECONNREFUSED (-9)  /* the peer refused the connection, or an error told that its SYN can't be delivered */
+#define HOST_ECONNRESET (-10)   /* the peer reset the connection */
+#define HOST_ETIMEDOUT (-11)    /* not given out yet */
+#define HOST_EPIPE (-12)        /* our side of the connection is closed */
+#define HOST_EMSGSIZE (-13)     /* a datagram of more than HOST_DATAGRAM_SIZE octets */
+#define HOST_ENETUNREACH (-14)  /* no route leads to the address */
+#define HOST_EMFILE (-15)       /* the table of sockets is full, or the last id is given */
+#define HOST_ENOMEM (-16)       /* memory ran out */
+#define HOST_EOPNOTSUPP (-17)   /* the socket is listening, or the call is not one of its kind */
+#define HOST_EDESTADDRREQ (-18) /* the socket is not bound; host_send on a UDP socket, which has no peer */
+
+/* Why host_deliver drops a frame. They are tested in the order in which they stand here, but that of an ARP packet the header comes before
+ * the address. */
+#define HOST_DROP_SHORT (-1)         /* fewer than 14 octets, or more than HOST_FRAME_SIZE */
+#define HOST_DROP_OTHER_MAC (-2)     /* the destination is not our MAC; broadcast is ours for ARP alone */
+#define HOST_DROP_OTHER_TYPE (-3)    /* neither IPv4 nor ARP */
+#define HOST_DROP_IP_HEADER (-4)     /* the IPv4 header has not the form of one */
+#define HOST_DROP_IP_SUM (-5)        /* the checksum of the IPv4 header is wrong */
+#define HOST_DROP_OTHER_ADDRESS (-6) /* not for our address, or from ours or no single host's; of an ARP packet the sender alone */
+#define HOST_DROP_FRAGMENT (-10)     /* a fragment of another protocol than UDP */
+#define HOST_DROP_UPPER_HEADER (-7)  /* a malformed ARP packet or header of ICMP, UDP or TCP */
+#define HOST_DROP_UPPER_SUM (-8)     /* the checksum of ICMP, UDP or TCP is wrong */
+#define HOST_DROP_NO_ROOM (-9)       /* no place in a table or queue, no memory, no id, or no route to the source of a SYN */
+#define HOST_DROP_NO_HOST (-11)      /* the handle holds no host */
+
+/* A handle: the host on one link that it holds, or no host where it is all zero (`struct host host = {0};`). `at` is the library's own: never
+ * change it. A handle may be moved, but of two copies only one may be used on. On a handle that holds no host host_free and host_tick do
+ * nothing, host_deliver answers HOST_DROP_NO_HOST, and all other calls answer HOST_EBADF. */
+struct host {
+    void *at;
+};
+
+/* Where one end of a connection is, or where a datagram is from. */
+struct host_endpoint {
+    uint32_t addr;
+    uint16_t port;
+};
+
+/* A route: to the addresses that share the first `length` bits of `prefix`, whose other bits are 0. `gateway` is the address on the link that
+ * passes datagrams on, or 0 where the prefix is on the link itself. The longest prefix that an address has counts. */
+struct host_route {
+    uint32_t prefix;
+    uint32_t gateway;
+    uint8_t length;
+};
+
+/* ---- A host ---------------------------------------------------------------------------------------------------------------------------- */
+
+/* Makes a host at `addr`, whose interface has this MAC, with `count` routes, and puts it into `host`, which held none. It answers 0, and then
+ * host_free is owed. Where it is refused the handle stays as it was.
+ *
+ * HOST_EINVAL: the handle holds a host, the address is no single host's (its first octet is 1 to 223 other than 127), the MAC is one of a group
+ * (the low bit of its first octet is set), a prefix is longer than 32 bits or has bits set past its length, two routes have the same prefix,
+ * or there are more than HOST_ROUTES. HOST_ENOMEM. */
+int64_t host_new(struct host *host, const uint8_t mac[6], uint32_t addr, const struct host_route *routes, size_t count);
+
+/* Ends a host, with all its sockets and connections, and gives its memory back. Nothing goes out: a peer learns of it as of a host that was
+ * switched off. The handle is all zero then. Of a handle that holds no host: nothing. */
+void host_free(struct host *host);
+
+/* ---- Socket calls ---------------------------------------------------------------------------------------------------------------------- *
+ * `id` is what host_socket or host_accept answered. Ids count from 1 and are never used again. */
+
+/* Makes a socket, of TCP (HOST_KIND_TCP) or UDP (HOST_KIND_UDP), and answers its id.
+ *
+ * HOST_EINVAL: another kind. HOST_EMFILE: there are HOST_ENTRIES sockets and connections. HOST_ENOMEM. */
+int64_t host_socket(struct host *host, uint32_t kind);
+
+/* Binds a socket to a local port, at our address or at HOST_ADDR_ANY, which stands for it; port 0 takes a dynamic port, which host_sockname
+ * tells. It answers 0.
+ *
+ * HOST_EBADF. HOST_EINVAL: it is bound already or has had a connection. HOST_EADDRNOTAVAIL: another address. HOST_EADDRINUSE: a socket or
+ * connection of the same kind has this local port, or no dynamic port is free. */
+int64_t host_bind(struct host *host, uint64_t id, uint32_t addr, uint16_t port);
+
+/* Lets a bound TCP socket take connections, of which `backlog` may wait to be accepted. It answers 0.
+ *
+ * HOST_EBADF. HOST_EOPNOTSUPP: a UDP socket. HOST_EINVAL: a backlog of 0 or over HOST_BACKLOG, or the socket listens already or has had
+ * a connection. HOST_EDESTADDRREQ: it isn't bound. */
+int64_t host_listen(struct host *host, uint64_t id, size_t backlog);
+
+/* Takes the connection that was the first to be open of those that wait at a listener: answers its id, and writes its other end to `peer`.
+ * One that its peer has reset since is taken too, and tells HOST_ECONNRESET.
+ *
+ * HOST_EBADF. HOST_EOPNOTSUPP: a UDP socket. HOST_EINVAL: the socket doesn't listen. HOST_EAGAIN: none waits. */
+int64_t host_accept(struct host *host, uint64_t id, struct host_endpoint *peer);
+
+/* Begins to open a connection to `port` of `addr`: answers 0 at once. `isn` is its initial number (docs/EMBEDDING.md says what it should be).
+ * It is open once host_state is HOST_STATE_ESTABLISHED; until then host_send and host_recv are HOST_EAGAIN. A socket that isn't bound gets a
+ * dynamic port, from 49152 on. Once the peer has refused or reset the connection, this call, host_send, host_recv and host_shutdown_write
+ * tell HOST_ECONNREFUSED or HOST_ECONNRESET, whatever is unread, until host_close.
+ *
+ * HOST_EBADF. HOST_EOPNOTSUPP: UDP, or listening. HOST_ECONNREFUSED, HOST_ECONNRESET. HOST_EALREADY: it is opening one. HOST_EISCONN: it has
+ * had one. HOST_EADDRNOTAVAIL: port 0, no single host's address, or our own. HOST_ENETUNREACH: no route leads there. HOST_EADDRINUSE: there is
+ * a connection between these two ends, or no dynamic port is free. */
+int64_t host_connect(struct host *host, uint64_t now, uint32_t isn, uint64_t id, uint32_t addr, uint16_t port);
+
+/* Gives octets to a connection: answers how many it took, the first that find room. They go out in order behind those before them.
+ *
+ * HOST_EBADF. HOST_EDESTADDRREQ: UDP. HOST_EOPNOTSUPP: listening. HOST_ECONNREFUSED, HOST_ECONNRESET. HOST_ENOTCONN. HOST_EAGAIN: opening.
+ * HOST_EPIPE: our side is closed. HOST_EAGAIN: no room, and octets are given. */
+int64_t host_send(struct host *host, uint64_t id, const uint8_t *octets, size_t len);
+
+/* Reads octets of a connection, in order: answers how many of them are at the front of `buffer` now, at most `len`. 0 is the end of the stream:
+ * all octets were read, and the peer has closed its side.
+ *
+ * HOST_EBADF. HOST_EOPNOTSUPP: UDP, or listening. HOST_EINVAL: `len` is 0. HOST_ECONNREFUSED, HOST_ECONNRESET. HOST_ENOTCONN. HOST_EAGAIN:
+ * opening, or nothing to read yet. */
+int64_t host_recv(struct host *host, uint64_t id, uint8_t *buffer, size_t len);
+
+/* Closes our side of a connection: the peer reads its end behind all octets that were given. What the peer sends is read on. It answers 0, and
+ * again 0.
+ *
+ * HOST_EBADF. HOST_EOPNOTSUPP: UDP, or listening. HOST_ECONNREFUSED, HOST_ECONNRESET. HOST_ENOTCONN: no connection, or it is opening. */
+int64_t host_shutdown_write(struct host *host, uint64_t id);
+
+/* Takes the socket away: its id is HOST_EBADF from now on. What was given to a connection still goes out, and its end behind it; one with
+ * octets that nobody read is reset. What waits at a listener is reset, and what waits in a UDP socket is gone. It answers 0.
+ *
+ * HOST_EBADF. */
+int64_t host_close(struct host *host, uint64_t id);
+
+/* Gives a datagram to a UDP socket, for `port` of `addr`: answers `len`. It may be lost on its way, come twice, and come before an earlier one. A
+ * socket that isn't bound is bound to a dynamic port.
+ *
+ * HOST_EBADF. HOST_EOPNOTSUPP: TCP. HOST_EMSGSIZE: over HOST_DATAGRAM_SIZE. HOST_EADDRNOTAVAIL: port 0, no single host's address, or our own.
+ * HOST_ENETUNREACH: no route leads there. HOST_EADDRINUSE: no dynamic port is free. HOST_EAGAIN: no room. */
+int64_t host_sendto(struct host *host, uint64_t id, uint32_t addr, uint16_t port, const uint8_t *octets, size_t len);
+
+/* Reads the first datagram that came to a UDP socket: answers how many of its octets are at the front of `buffer` now, at most `len`, and writes
+ * to `from` where it is from. What is left of a longer one is lost. A datagram may have 0 octets.
+ *
+ * HOST_EBADF. HOST_EOPNOTSUPP: TCP. HOST_EINVAL: `len` is 0. HOST_EAGAIN: none came. */
+int64_t host_recvfrom(struct host *host, uint64_t id, uint8_t *buffer, size_t len, struct host_endpoint *from);
+
+/* Answers the state of a socket: HOST_STATE_CLOSED .. HOST_STATE_DATAGRAM; CLOSED where it has no connection, or one that is over.
+ *
+ * HOST_EBADF. */
+int64_t host_state(struct host *host, uint64_t id);
+
+/* Writes to `end` where a socket is: our end of its connection, else where it is bound, else address 0 and port 0. It answers 0.
+ *
+ * HOST_EBADF. */
+int64_t host_sockname(struct host *host, uint64_t id, struct host_endpoint *end);
+
+/* Writes to `end` the other end of a socket's connection, also of one that is over. It answers 0.
+ *
+ * HOST_EBADF. HOST_ENOTCONN: it has had none. */
+int64_t host_peername(struct host *host, uint64_t id, struct host_endpoint *end);
+
+/* ---- Time and frames ------------------------------------------------------------------------------------------------------------------- */
+
+/* Lets time pass: each timer acts whose moment has come. Call it at the start of each turn, and at the latest at the moment of
+ * host_next_deadline. A moment before that of an earlier tick counts as that one. */
+void host_tick(struct host *host, uint64_t now);
+
+/* Answers 1 and writes to `moment` when host_tick is wanted next, at the latest; or 0, and writes nothing, where nothing waits for a moment. Any
+ * call, frame or emission may move it. */
+int64_t host_next_deadline(struct host *host, uint64_t *moment);
+
+/* Hands a frame that arrived to the host. `isn` is used where the frame opens a connection: hand in a fresh one each time. It answers 0 for a
+ * frame that was taken, though it may have changed nothing, and else the first cause to drop it, HOST_DROP_SHORT .. A dropped frame changes at
+ * most what the host knows of its neighbours' MACs: count it and go on. */
+int64_t host_deliver(struct host *host, uint64_t now, uint32_t isn, const uint8_t *frame, size_t len);
+
+/* Writes the next frame that is due to the front of `out` and answers its length, 60 to HOST_FRAME_SIZE; or answers 0, and writes nothing, where
+ * none is due. The host counts it as sent. Call it until it answers 0, after each tick, frame and call. */
+int64_t host_next_frame(struct host *host, uint64_t now, uint8_t out[HOST_FRAME_SIZE]);
+
+/* ---- Questions that change nothing ----------------------------------------------------------------------------------------------------- */
+
+/* Answers 1 and writes both ends of the connection that host_connect would open now to `pair`, the one with the lesser address first (of equal
+ * ones that with the lesser port), so that an initial number can be made from them; or answers 0, and writes nothing, where it would be refused.
+ * Which of them is ours its address tells; the dynamic port of a socket that isn't bound stands there already. */
+int64_t host_would_connect(struct host *host, uint64_t id, uint32_t addr, uint16_t port, struct host_endpoint pair[2]);
+
+/* The same of the connection that host_deliver would open by this frame; 0 where it would open none, and any number will do for `isn`. */
+int64_t host_would_open(struct host *host, const uint8_t *frame, size_t len, struct host_endpoint pair[2]);
+
+/* ---- Numbers and names ----------------------------------------------------------------------------------------------------------------- */
+
+/* The system's own number (errno.h) of a refusal; 0 of an answer that is none, and EINVAL of a number that no call answers. */
+static inline int host_errno(int64_t answer)
+{
+    switch (answer) {
+    case HOST_EBADF: return EBADF;
+    case HOST_EINVAL: return EINVAL;
+    case HOST_EADDRINUSE: return EADDRINUSE;
+    case HOST_EADDRNOTAVAIL: return EADDRNOTAVAIL;
+    case HOST_EISCONN: return EISCONN;
+    case HOST_ENOTCONN: return ENOTCONN;
+    case HOST_EALREADY: return EALREADY;
+    case HOST_EAGAIN: return EAGAIN;
+    case HOST_ECONNREFUSED: return ECONNREFUSED;
+    case HOST_ECONNRESET: return ECONNRESET;
+    case HOST_ETIMEDOUT: return ETIMEDOUT;
+    case HOST_EPIPE: return EPIPE;
+    case HOST_EMSGSIZE: return EMSGSIZE;
+    case HOST_ENETUNREACH: return ENETUNREACH;
+    case HOST_EMFILE: return EMFILE;
+    case HOST_ENOMEM: return ENOMEM;
+    case HOST_EOPNOTSUPP: return EOPNOTSUPP;
+    case HOST_EDESTADDRREQ: return EDESTADDRREQ;
+    default: return answer < 0 ? EINVAL : 0;
+    }
+}
+
+/* The name of a refusal, as "EAGAIN"; "?" of any other number. */
+static inline const char *host_refusal_name(int64_t answer)
+{
+    switch (answer) {
+    case HOST_EBADF: return "EBADF";
+    case HOST_EINVAL: return "EINVAL";
+    case HOST_EADDRINUSE: return "EADDRINUSE";
+    case HOST_EADDRNOTAVAIL: return "EADDRNOTAVAIL";
+    case HOST_EISCONN: return "EISCONN";
+    case HOST_ENOTCONN: return "ENOTCONN";
+    case HOST_EALREADY: return "EALREADY";
+    case HOST_EAGAIN: return "EAGAIN";
+    case HOST_ECONNREFUSED: return "ECONNREFUSED";
+    case HOST_ECONNRESET: return "ECONNRESET";
+    case HOST_ETIMEDOUT: return "ETIMEDOUT";
+    case HOST_EPIPE: return "EPIPE";
+    case HOST_EMSGSIZE: return "EMSGSIZE";
+    case HOST_ENETUNREACH: return "ENETUNREACH";
+    case HOST_EMFILE: return "EMFILE";
+    case HOST_ENOMEM: return "ENOMEM";
+    case HOST_EOPNOTSUPP: return "EOPNOTSUPP";
+    case HOST_EDESTADDRREQ: return "EDESTADDRREQ";
+    default: return "?";
+    }
+}
+
+/* The name of a drop, as "OtherMac"; "?" of any other number. */
+static inline const char *host_drop_name(int64_t answer)
+{
+    switch (answer) {
+    case HOST_DROP_SHORT: return "Short";
+    case HOST_DROP_OTHER_MAC: return "OtherMac";
+    case HOST_DROP_OTHER_TYPE: return "OtherType";
+    case HOST_DROP_IP_HEADER: return "IpHeader";
+    case HOST_DROP_IP_SUM: return "IpSum";
+    case HOST_DROP_OTHER_ADDRESS: return "OtherAddress";
+    case HOST_DROP_UPPER_HEADER: return "UpperHeader";
+    case HOST_DROP_UPPER_SUM: return "UpperSum";
+    case HOST_DROP_NO_ROOM: return "NoRoom";
+    case HOST_DROP_FRAGMENT: return "Fragment";
+    case HOST_DROP_NO_HOST: return "NoHost";
+    default: return "?";
+    }
+}
+
+/* The name of a state, as "ESTABLISHED", with "DATAGRAM" for a UDP socket; "?" of any other number. */
+static inline const char *host_state_name(int64_t answer)
+{
+    switch (answer) {
+    case HOST_STATE_CLOSED: return "CLOSED";
+    case HOST_STATE_LISTEN: return "LISTEN";
+    case HOST_STATE_SYN_SENT: return "SYN-SENT";
+    case HOST_STATE_SYN_RECEIVED: return "SYN-RECEIVED";
+    case HOST_STATE_ESTABLISHED: return "ESTABLISHED";
+    case HOST_STATE_FIN_WAIT_1: return "FIN-WAIT-1";
+    case HOST_STATE_FIN_WAIT_2: return "FIN-WAIT-2";
+    case HOST_STATE_CLOSE_WAIT: return "CLOSE-WAIT";
+    case HOST_STATE_CLOSING: return "CLOSING";
+    case HOST_STATE_LAST_ACK: return "LAST-ACK";
+    case HOST_STATE_TIME_WAIT: return "TIME-WAIT";
+    case HOST_STATE_DATAGRAM: return "DATAGRAM";
+    default: return "?";
+    }
+}
+
+#ifdef __cplusplus
+}
+#endif
+
+#endif

@@ -1,0 +1,293 @@
+"""An IPv4 host with TCP and UDP sockets, by ctypes over the C library of this folder (`host.h` has each call at length).
+
+Frames, socket calls and moments go in; frames, answers and deadlines come out. The library opens no device, reads no clock and waits for
+nothing: each call returns at once, and a test can hold the network and the clock in its hand.
+
+Addresses are text (`"10.0.0.1"`) or numbers with the first octet highest, and come back as text. An endpoint is a tuple of address and port,
+as in Python's own `socket`. Moments are milliseconds, frames and data are `bytes`. A refused call changes nothing, and raises OSError with the
+system's number, in the class that Python has for it: BlockingIOError for EAGAIN, ConnectionRefusedError, ConnectionResetError, BrokenPipeError.
+
+Use a host on one thread. `free` it, or leave that to `with` or to Python.
+
+The library is `libhostc.so`: the file that the variable HOST_LIBRARY of the environment names, or the one beside this file or in its
+folder `out`, or the one that the system's loader finds. `embed/build` makes it of `libhostc.a`.
+"""
+
+import ctypes
+import enum
+import errno
+import ipaddress
+import os
+
+__all__ = ["Drop", "Host", "Kind", "State"]
+
+FRAME_SIZE = 1514
+DATAGRAM_SIZE = 65507
+
+
+class Kind(enum.IntEnum):
+    """What a socket is of."""
+
+    TCP = 1
+    UDP = 2
+
+
+State = enum.Enum(
+    "State",
+    "CLOSED LISTEN SYN_SENT SYN_RECEIVED ESTABLISHED FIN_WAIT_1 FIN_WAIT_2 CLOSE_WAIT CLOSING LAST_ACK TIME_WAIT DATAGRAM",
+    start=0,
+)
+State.__doc__ = "The state of a socket: those of RFC 9293 section 3.3.2, and DATAGRAM of every UDP socket."
+
+Drop = enum.Enum(
+    "Drop", "SHORT OTHER_MAC OTHER_TYPE IP_HEADER IP_SUM OTHER_ADDRESS UPPER_HEADER UPPER_SUM NO_ROOM FRAGMENT NO_HOST"
+)
+Drop.__doc__ = "Why a frame was dropped, by the numbers of docs/CODES.md."
+
+# The system's number of each refusal, from number 1 on.
+_ERRNO = [
+    getattr(errno, name)
+    for name in (
+        "EBADF EINVAL EADDRINUSE EADDRNOTAVAIL EISCONN ENOTCONN EALREADY EAGAIN ECONNREFUSED ECONNRESET ETIMEDOUT EPIPE EMSGSIZE "
+        "ENETUNREACH EMFILE ENOMEM EOPNOTSUPP EDESTADDRREQ"
+    ).split()
+]
+
+
+class _Handle(ctypes.Structure):
+    _fields_ = [("at", ctypes.c_void_p)]
+
+
+class _Endpoint(ctypes.Structure):
+    _fields_ = [("addr", ctypes.c_uint32), ("port", ctypes.c_uint16)]
+
+    def __iter__(self):
+        return iter((str(ipaddress.IPv4Address(self.addr)), self.port))
+
+
+class _Route(ctypes.Structure):
+    _fields_ = [("prefix", ctypes.c_uint32), ("gateway", ctypes.c_uint32), ("length", ctypes.c_uint8)]
+
+
+_HANDLE = ctypes.POINTER(_Handle)
+_ENDPOINT = ctypes.POINTER(_Endpoint)
+_U16, _U32, _U64, _SIZE, _OCTETS = ctypes.c_uint16, ctypes.c_uint32, ctypes.c_uint64, ctypes.c_size_t, ctypes.c_char_p
+
+# The arguments of each call behind the handle. Each answers an int64_t, but the two of _SILENT, which answer nothing.
+_CALLS = {
+    "host_new": [_OCTETS, _U32, ctypes.POINTER(_Route), _SIZE],
+    "host_free": [],
+    "host_socket": [_U32],
+    "host_bind": [_U64, _U32, _U16],
+    "host_listen": [_U64, _SIZE],
+    "host_accept": [_U64, _ENDPOINT],
+    "host_connect": [_U64, _U32, _U64, _U32, _U16],
+    "host_send": [_U64, _OCTETS, _SIZE],
+    "host_recv": [_U64, _OCTETS, _SIZE],
+    "host_shutdown_write": [_U64],
+    "host_close": [_U64],
+    "host_sendto": [_U64, _U32, _U16, _OCTETS, _SIZE],
+    "host_recvfrom": [_U64, _OCTETS, _SIZE, _ENDPOINT],
+    "host_state": [_U64],
+    "host_sockname": [_U64, _ENDPOINT],
+    "host_peername": [_U64, _ENDPOINT],
+    "host_would_connect": [_U64, _U32, _U16, _ENDPOINT],
+    "host_would_open": [_OCTETS, _SIZE, _ENDPOINT],
+    "host_tick": [_U64],
+    "host_next_deadline": [ctypes.POINTER(_U64)],
+    "host_deliver": [_U64, _U32, _OCTETS, _SIZE],
+    "host_next_frame": [_U64, _OCTETS],
+}
+_SILENT = ("host_free", "host_tick")
+
+
+def _load():
+    """The library, with the types of its calls. PyDLL keeps the interpreter's lock in a call, so no two calls ever overlap."""
+    here = os.path.dirname(os.path.abspath(__file__))
+    paths = [os.environ.get("HOST_LIBRARY"), os.path.join(here, "libhostc.so"), os.path.join(here, "out", "libhostc.so")]
+    found = [path for path in paths if path and (os.path.exists(path) or path == paths[0])]
+    library = ctypes.PyDLL(found[0] if found else "libhostc.so")
+    for name, arguments in _CALLS.items():
+        call = getattr(library, name)
+        call.argtypes = [_HANDLE, *arguments]
+        call.restype = None if name in _SILENT else ctypes.c_int64
+    return library
+
+
+_LIBRARY = _load()
+
+
+def _addr(addr):
+    return int(ipaddress.IPv4Address(addr))
+
+
+def _number(value, bits, what):
+    """`value`, where it is a number of so many bits: ctypes would cut it to them in silence."""
+    if not 0 <= value < 1 << bits:
+        raise OverflowError(f"{what} must be 0 to {(1 << bits) - 1}, not {value}")
+    return value
+
+
+def _answer(number):
+    """What a call answered, where it isn't refused."""
+    if number >= 0:
+        return number
+    code = _ERRNO[-number - 1]
+    raise OSError(code, os.strerror(code))
+
+
+class Host:
+    """A host at `addr` (`"10.0.0.1"`), whose interface has the MAC `mac` (`"02:00:00:00:00:01"`, or six octets).
+
+    `routes` has for each prefix (`"10.0.0.0/24"`) the gateway, or None where the prefix is on the link. A host is freed by `free`, at the
+    end of a `with`, or when nothing names it any more.
+    """
+
+    def __init__(self, mac, addr, routes):
+        self._handle = _Handle()
+        if isinstance(mac, str):
+            mac = bytes.fromhex(mac.replace(":", ""))
+        if len(mac) != 6:
+            raise ValueError("a MAC has six octets")
+        rows = (_Route * max(len(routes), 1))()
+        for row, (prefix, gateway) in zip(rows, routes.items()):
+            network = ipaddress.IPv4Network(prefix)
+            row.prefix, row.length = int(network.network_address), network.prefixlen
+            row.gateway = 0 if gateway is None else _addr(gateway)
+        self._call("host_new", bytes(mac), _addr(addr), rows, len(routes))
+
+    def _call(self, name, *arguments):
+        return _answer(getattr(_LIBRARY, name)(self._handle, *arguments))
+
+    def free(self):
+        """Ends the host and gives its memory back; again: nothing. Every later call raises EBADF, and `deliver` answers NO_HOST."""
+        _LIBRARY.host_free(self._handle)
+
+    def __enter__(self):
+        return self
+
+    def __exit__(self, *_raised):
+        self.free()
+
+    def __del__(self):
+        if _LIBRARY is not None and hasattr(self, "_handle"):
+            self.free()
+
+    # Socket calls.
+
+    def socket(self, kind=Kind.TCP):
+        """A new socket's id."""
+        return self._call("host_socket", _number(kind, 32, "a kind"))
+
+    def bind(self, id, local):
+        """Binds a socket to a local endpoint, at our address or at "0.0.0.0", which stands for it; port 0 takes a dynamic port."""
+        self._call("host_bind", _id(id), *_ends(local))
+
+    def listen(self, id, backlog=1):
+        """Lets a bound socket take connections, of which `backlog` may wait to be accepted."""
+        self._call("host_listen", _id(id), _number(backlog, 64, "a backlog"))
+
+    def accept(self, id):
+        """The id of the connection that was open first of those that wait at a listener, and its peer."""
+        peer = _Endpoint()
+        accepted = self._call("host_accept", _id(id), peer)
+        return accepted, tuple(peer)
+
+    def connect(self, now, isn, id, peer):
+        """Begins to open a connection, with the initial number `isn`."""
+        self._call("host_connect", _moment(now), _isn(isn), _id(id), *_ends(peer))
+
+    def send(self, id, octets):
+        """Gives octets to a connection: how many it took, the first that find room."""
+        return self._call("host_send", _id(id), bytes(octets), len(octets))
+
+    def recv(self, id, size):
+        """The next octets of a connection, at most `size`; b"" is the end of the stream."""
+        buffer = ctypes.create_string_buffer(size)
+        length = self._call("host_recv", _id(id), buffer, size)
+        return buffer.raw[:length]
+
+    def shutdown_write(self, id):
+        """Closes our side of a connection, behind all octets that were given."""
+        self._call("host_shutdown_write", _id(id))
+
+    def close(self, id):
+        """Takes a socket away. (`free` ends the host.)"""
+        self._call("host_close", _id(id))
+
+    def sendto(self, id, peer, octets):
+        """Gives a datagram to a UDP socket: its length."""
+        return self._call("host_sendto", _id(id), *_ends(peer), bytes(octets), len(octets))
+
+    def recvfrom(self, id, size=DATAGRAM_SIZE):
+        """The first datagram that came, cut to `size` octets, and the endpoint that it is from."""
+        buffer, source = ctypes.create_string_buffer(size), _Endpoint()
+        length = self._call("host_recvfrom", _id(id), buffer, size, source)
+        return buffer.raw[:length], tuple(source)
+
+    def state(self, id):
+        """The State of a socket."""
+        return State(self._call("host_state", _id(id)))
+
+    def sockname(self, id):
+        """Where a socket is: our end of its connection, else where it is bound; ("0.0.0.0", 0) where it isn't."""
+        end = _Endpoint()
+        self._call("host_sockname", _id(id), end)
+        return tuple(end)
+
+    def peername(self, id):
+        """The other end of a socket's connection, also of one that is over."""
+        end = _Endpoint()
+        self._call("host_peername", _id(id), end)
+        return tuple(end)
+
+    # Questions that change nothing.
+
+    def would_connect(self, id, peer):
+        """The two endpoints of the connection that `connect` would open now, the lesser first; None where it would be refused."""
+        pair = (_Endpoint * 2)()
+        return tuple(map(tuple, pair)) if self._call("host_would_connect", _id(id), *_ends(peer), pair) else None
+
+    def would_open(self, frame):
+        """The two endpoints of the connection that delivering this frame would open; None where it would open none."""
+        pair = (_Endpoint * 2)()
+        return tuple(map(tuple, pair)) if self._call("host_would_open", bytes(frame), len(frame), pair) else None
+
+    # Time and frames.
+
+    def tick(self, now):
+        """Lets time pass: each timer acts whose moment has come."""
+        _LIBRARY.host_tick(self._handle, _moment(now))
+
+    def next_deadline(self):
+        """The moment at which `tick` is wanted at the latest, or None."""
+        moment = _U64()
+        return moment.value if self._call("host_next_deadline", moment) else None
+
+    def deliver(self, now, isn, frame):
+        """Hands a frame that arrived to the host: None where it was taken, else the Drop. `isn` is used where it opens a connection."""
+        answer = _LIBRARY.host_deliver(self._handle, _moment(now), _isn(isn), bytes(frame), len(frame))
+        return None if answer == 0 else Drop(-answer)
+
+    def next_frame(self, now):
+        """The next frame that is due, or None."""
+        out = ctypes.create_string_buffer(FRAME_SIZE)
+        length = self._call("host_next_frame", _moment(now), out)
+        return out.raw[:length] or None
+
+
+def _id(id):
+    return _number(id, 64, "an id")
+
+
+def _moment(now):
+    return _number(now, 64, "a moment")
+
+
+def _isn(isn):
+    return _number(isn, 32, "an initial number")
+
+
+def _ends(endpoint):
+    addr, port = endpoint
+    return _addr(addr), _number(port, 16, "a port")

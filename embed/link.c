@@ -1,0 +1,185 @@
+/* The TAP device of a run, with the faults of a trial on either side. */
+#include "tap.h"
+
+#include <errno.h>
+#include <fcntl.h>
+#include <linux/if.h>
+#include <linux/if_tun.h>
+#include <stdlib.h>
+#include <string.h>
+#include <sys/ioctl.h>
+#include <sys/socket.h>
+#include <time.h>
+#include <unistd.h>
+
+enum { READ_MOST = 64 };      /* frames that one turn takes from the device */
+
+struct waiting {
+    struct waiting *next;
+    uint64_t due;
+    size_t len;
+    uint8_t frame[];
+};
+
+/* Whether a device that is up has no carrier yet: Linux gives it one a moment after the program has it, and loses frames till then. */
+static bool is_coming_up(int control, struct ifreq *request)
+{
+    return ioctl(control, SIOCGIFFLAGS, request) == 0 && (request->ifr_flags & IFF_UP) != 0 && (request->ifr_flags & IFF_RUNNING) == 0;
+}
+
+static void await_carrier(struct ifreq *request)
+{
+    const struct timespec moment = {0, 5000000};
+    const int control = socket(AF_INET, SOCK_DGRAM | SOCK_CLOEXEC, 0);
+    for (int i = 0; i < 200 && control >= 0 && is_coming_up(control, request); i++) {
+        nanosleep(&moment, NULL);
+    }
+    if (control >= 0) {
+        close(control);
+    }
+}
+
+int link_open(struct link *link, const char *name)
+{
+    struct ifreq request;
+    memset(&request, 0, sizeof request);
+    request.ifr_flags = IFF_TAP | IFF_NO_PI;
+    if (strlen(name) >= sizeof request.ifr_name) {
+        errno = ENAMETOOLONG;
+        return -1;
+    }
+    memcpy(request.ifr_name, name, strlen(name));
+    link->device = open("/dev/net/tun", O_RDWR | O_NONBLOCK | O_CLOEXEC);
+    if (link->device < 0) {
+        return -1;
+    }
+    if (ioctl(link->device, TUNSETIFF, &request) != 0) {
+        return -1;
+    }
+    await_carrier(&request);
+    return 0;
+}
+
+static void queue_free(struct side *side)
+{
+    while (side->first != NULL) {
+        struct waiting *next = side->first->next;
+        free(side->first);
+        side->first = next;
+    }
+}
+
+void link_close(struct link *link)
+{
+    queue_free(&link->in);
+    queue_free(&link->out);
+    if (link->device >= 0) {
+        close(link->device);
+    }
+}
+
+/* Where memory is refused the frame is lost, as links may do. */
+static void queue_put(struct side *side, uint64_t due, const uint8_t *frame, size_t len)
+{
+    struct waiting *last = malloc(sizeof *last + len);
+    if (last == NULL) {
+        return;
+    }
+    last->next = NULL;
+    last->due = due;
+    last->len = len;
+    memcpy(last->frame, frame, len);
+    if (side->first == NULL) {
+        side->first = last;
+    } else {
+        side->last->next = last;
+    }
+    side->last = last;
+}
+
+static size_t queue_take(struct side *side, uint64_t now, uint8_t frame[FRAME_MOST])
+{
+    struct waiting *first = side->first;
+    if (first == NULL || first->due > now) {
+        return 0;
+    }
+    const size_t len = first->len;
+    memcpy(frame, first->frame, len);
+    side->first = first->next;
+    free(first);
+    return len;
+}
+
+static bool is_nth(uint64_t count, uint64_t n)
+{
+    return n != 0 && count % n == 0;
+}
+
+/* A frame enters a side: its faults decide what becomes of it. */
+static void side_put(struct side *side, uint64_t now, const uint8_t *frame, size_t len)
+{
+    const uint64_t due = later(now, side->faults.delay);
+    side->frames++;
+    if (is_nth(side->frames, side->faults.lose)) {
+        return;
+    }
+    queue_put(side, due, frame, len);
+    if (is_nth(side->frames, side->faults.repeat)) {
+        queue_put(side, due, frame, len);
+    }
+}
+
+static void record(const struct link *link, const uint8_t *frame, size_t len)
+{
+    if (link->capture != NULL) {
+        pcap_add(link->capture, frame, len);
+    }
+}
+
+bool link_read(struct link *link, uint64_t now)
+{
+    uint8_t frame[FRAME_MOST];
+    for (int i = 0; i < READ_MOST; i++) {
+        const ssize_t len = read(link->device, frame, sizeof frame);
+        if (len <= 0) {
+            return len == 0 || errno == EAGAIN || errno == EINTR;
+        }
+        record(link, frame, (size_t)len);
+        side_put(&link->in, now, frame, (size_t)len);
+    }
+    return true;
+}
+
+size_t link_recv(struct link *link, uint64_t now, uint8_t frame[FRAME_MOST])
+{
+    return queue_take(&link->in, now, frame);
+}
+
+/* What the device doesn't take is lost; whoever misses it sends again. */
+void link_flush(struct link *link, uint64_t now)
+{
+    uint8_t frame[FRAME_MOST];
+    size_t len;
+    while ((len = queue_take(&link->out, now, frame)) != 0) {
+        if (write(link->device, frame, len) == (ssize_t)len) {
+            record(link, frame, len);
+        }
+    }
+}
+
+void link_send(struct link *link, uint64_t now, const uint8_t *frame, size_t len)
+{
+    side_put(&link->out, now, frame, len);
+    link_flush(link, now);
+}
+
+static uint64_t side_deadline(const struct side *side)
+{
+    return side->first == NULL ? NEVER : side->first->due;
+}
+
+uint64_t link_deadline(const struct link *link)
+{
+    const uint64_t in = side_deadline(&link->in), out = side_deadline(&link->out);
+    return in < out ? in : out;
+}

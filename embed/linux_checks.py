@@ -1,0 +1,517 @@
+"""The checks of embed/try-linux: Linux's sockets and programs converse with embed/tap. They run in the namespace that try-linux made.
+
+linux_checks.py TAP DEVICE FOLDER WORD: the program, its device, where captures go, and a word that the names of the checks must have, or ''.
+"""
+
+import fcntl
+import os
+import random
+import re
+import signal
+import socket
+import struct
+import subprocess
+import sys
+import tempfile
+import termios
+import threading
+import time
+
+OURS = "10.0.0.2"  # the host's address
+LINUX = "10.0.0.1"  # Linux's
+FAR = "10.1.0.1"  # another of Linux's, off the link
+MEGABYTE = 1 << 20
+WINDOWS = (
+    "(1) A later stage brings windows: today one segment is outstanding; Linux holds its acknowledgement back for 40 ms while it sends too, "
+    "and a lost one goes again after 1,000 ms."
+)
+GAPS = (
+    "(2) A later stage keeps octets ahead of a gap: today Linux sends again all that lay behind a loss, measures no round trip, and its "
+    "timeout doubles each time. So this is how far it came in 20 s. With one segment in flight it goes on."
+)
+NO_ABORT = (
+    "(3) No call of a host resets a connection whose octets are all read, so the program can only close it, and what the client sends then "
+    "is answered by a reset."
+)
+
+program, device, folder, word = sys.argv[1:]
+rows = []
+captures = []
+
+
+class Wrong(Exception):
+    """A check that doesn't hold."""
+
+
+def want(holds, what):
+    if not holds:
+        raise Wrong(what)
+
+
+def octets(count):
+    return random.Random(count).randbytes(count)
+
+
+# ---- The program
+
+
+def command(*words):
+    capture = os.path.join(folder, f"{len(captures):02}.pcap")
+    captures.append(capture)
+    return [program, "--tap", device, "--addr", OURS + "/24", "--pcap", capture, *map(str, words)]
+
+
+def read_about_device(name):
+    with open(f"/sys/class/net/{device}/{name}") as file:
+        return file.read().strip()
+
+
+def await_carrier():
+    """The program has the device once that has a carrier, and Linux sends once it calls it up."""
+    for _ in range(500):
+        if [read_about_device(name) for name in ("carrier", "operstate")] == ["1", "up"]:
+            return
+        time.sleep(0.01)
+    raise Wrong("the program doesn't take the device")
+
+
+class Tap:
+    """The program, in a `with`: it runs with these words until the block ends."""
+
+    def __init__(self, *words, **streams):
+        self.words, self.streams = words, streams
+
+    def __enter__(self):
+        self.process = subprocess.Popen(command(*self.words), stderr=subprocess.PIPE, **self.streams)
+        try:
+            await_carrier()
+        except Wrong:
+            self.process.kill()
+            raise Wrong(self.process.communicate()[1].decode().strip() or "the program doesn't take the device") from None
+        return self
+
+    def __exit__(self, *_):
+        self.process.terminate()
+        try:
+            self.process.communicate(timeout=5)
+        except subprocess.TimeoutExpired:
+            self.process.kill()
+            self.process.communicate()
+
+    def result(self, seconds):
+        """Its status and its words on standard error, once it has ended by itself."""
+        try:
+            _, errors = self.process.communicate(timeout=seconds)
+        except subprocess.TimeoutExpired:
+            raise Wrong(f"the program goes on after {seconds} s") from None
+        return self.process.returncode, errors.decode().strip()
+
+
+# ---- Linux's sockets
+
+
+def connected(port):
+    return socket.create_connection((OURS, port), timeout=20)
+
+
+def listener():
+    return socket.create_server((LINUX, 0))
+
+
+def accepted(server):
+    server.settimeout(20)
+    connection, peer = server.accept()
+    want(peer[0] == OURS, f"a connection from {peer}")
+    connection.settimeout(20)
+    return connection
+
+
+def read_to_end(connection):
+    parts = []
+    while part := connection.recv(65536):
+        parts.append(part)
+    return b"".join(parts)
+
+
+def reset(connection):
+    connection.setsockopt(socket.SOL_SOCKET, socket.SO_LINGER, struct.pack("ii", 1, 0))
+    connection.close()
+
+
+def await_state(connection, wanted, seconds=10):
+    """TCP_INFO begins with the state: 1 is ESTABLISHED, 7 CLOSE."""
+    for _ in range(seconds * 100):
+        if connection.getsockopt(socket.IPPROTO_TCP, socket.TCP_INFO, 1)[0] == wanted:
+            return
+        time.sleep(0.01)
+    raise Wrong("Linux's connection doesn't come to its end")
+
+
+def expect_error(error, call, *arguments):
+    try:
+        call(*arguments)
+    except error:
+        return
+    raise Wrong(f"no {error.__name__}")
+
+
+# ---- The checks
+
+
+def ping(size):
+    with Tap():
+        done = subprocess.run(["ping", "-q", "-c", "100", "-i", "0.01", "-W", "2", "-s", str(size), OURS], capture_output=True, text=True, timeout=30)
+    counts = re.search(r"(\d+) packets transmitted, (\d+) received", done.stdout)
+    want(counts and counts.groups() == ("100", "100"), done.stdout + done.stderr)
+    return "100 of 100 answered"
+
+
+def udp_echo(size):
+    with Tap(), socket.socket(socket.AF_INET, socket.SOCK_DGRAM) as client:
+        client.settimeout(5)
+        client.connect((OURS, 7))
+        for turn in range(10):
+            data = octets(size + turn)[:size]
+            client.send(data)
+            want(client.recv(65536) == data, f"another datagram comes back, turn {turn}")
+    return "10 came back equal"
+
+
+def udp_refused():
+    with Tap(), socket.socket(socket.AF_INET, socket.SOCK_DGRAM) as client:
+        client.settimeout(5)
+        client.connect((OURS, 9999))
+        client.send(b"nobody")
+        expect_error(ConnectionRefusedError, client.recv, 1)
+    return "ECONNREFUSED"
+
+
+def tcp_refused():
+    with Tap():
+        expect_error(ConnectionRefusedError, connected, 9999)
+    return "ECONNREFUSED"
+
+
+def linux_opens_and_closes():
+    with Tap():
+        for turn in range(12):
+            with connected(7) as client:
+                client.sendall(octets(1000 + turn))
+                client.shutdown(socket.SHUT_WR)
+                want(read_to_end(client) == octets(1000 + turn), "other octets come back")
+                await_state(client, 7)
+    return "12 in turn, echoed; both sides closed"
+
+
+def linux_opens_host_closes():
+    with Tap("--source", 5000), connected(19) as client:
+        want(read_to_end(client) == bytes(i % 251 for i in range(5000)), "other octets come")
+        client.shutdown(socket.SHUT_WR)
+        await_state(client, 7)
+    return "5,000 octets of the source, then its end"
+
+
+def host_opens_and_closes():
+    with listener() as server, Tap("--connect", LINUX, server.getsockname()[1], stdin=subprocess.DEVNULL, stdout=subprocess.PIPE) as tap:
+        with accepted(server) as connection:
+            want(read_to_end(connection) == b"", "octets of an empty input")
+            connection.sendall(b"bye")
+        output = tap.process.stdout.read()
+        status = tap.result(10)
+    want(status == (0, "") and output == b"bye", f"{status}, {output}")
+    return "half-closed, and read to its end"
+
+
+def host_opens_past_gateway():
+    with socket.create_server((FAR, 0)) as server:
+        words = ["--gateway", LINUX, "--connect", FAR, server.getsockname()[1]]
+        with Tap(*words, stdin=subprocess.DEVNULL, stdout=subprocess.PIPE) as tap:
+            with accepted(server) as connection:
+                connection.sendall(b"from afar")
+            output = tap.process.stdout.read()
+            status = tap.result(10)
+    want(status == (0, "") and output == b"from afar", f"{status}, {output}")
+    return "9 octets of an address past the gateway"
+
+
+def host_opens_linux_closes():
+    with listener() as server, Tap("--connect", LINUX, server.getsockname()[1], stdin=subprocess.PIPE, stdout=subprocess.PIPE) as tap:
+        with accepted(server) as connection:
+            connection.sendall(b"hello")
+            connection.shutdown(socket.SHUT_WR)
+            output = tap.process.stdout.read(5)
+            time.sleep(0.2)
+            tap.process.stdin.write(b"late")
+            tap.process.stdin.close()
+            tap.process.stdin = None
+            want(read_to_end(connection) == b"late", "other octets come")
+            await_state(connection, 7)
+        status = tap.result(10)
+    want(status == (0, "") and output == b"hello", f"{status}, {output}")
+    return "octets went on the other way after it"
+
+
+def linux_resets_what_it_opened():
+    with Tap():
+        for _ in range(12):
+            client = connected(7)
+            client.sendall(b"echo")
+            want(client.recv(4) == b"echo", "other octets come back")
+            reset(client)
+        with connected(7) as client:
+            client.sendall(b"after")
+            want(client.recv(5) == b"after", "other octets come back")
+    return "12 in turn, then a thirteenth serves"
+
+
+def linux_resets_what_the_host_opened():
+    with listener() as server, Tap("--connect", LINUX, server.getsockname()[1], stdin=subprocess.PIPE, stdout=subprocess.DEVNULL) as tap:
+        connection = accepted(server)
+        tap.process.stdin.write(b"x")
+        tap.process.stdin.flush()
+        want(connection.recv(1) == b"x", "another octet comes")
+        reset(connection)
+        status = tap.result(10)
+    want(status == (1, "tap: connection: ECONNRESET"), f"{status}")
+    return "ECONNRESET"
+
+
+def host_resets_what_it_opened():
+    with listener() as server, Tap("--connect", LINUX, server.getsockname()[1], stdin=subprocess.PIPE, stdout=subprocess.PIPE) as tap:
+        with accepted(server) as connection:
+            tap.process.stdout.close()
+            tap.process.stdout = None
+            expect_error(ConnectionResetError, connection.sendall, octets(16 * MEGABYTE))
+        status = tap.result(10)
+    want(status[0] == 1, f"{status}")
+    return "ECONNRESET told to Linux"
+
+
+def linux_refuses():
+    done = subprocess.run(command("--connect", LINUX, 9999), stdin=subprocess.DEVNULL, capture_output=True, timeout=10)
+    status = (done.returncode, done.stderr.decode().strip())
+    want(status == (1, "tap: connection: ECONNREFUSED"), f"{status}")
+    return "ECONNREFUSED"
+
+
+def echo(size, *words):
+    data = octets(size)
+    with Tap(*words), connected(7) as client:
+        client.settimeout(60)
+        sender = threading.Thread(target=lambda: (client.sendall(data), client.shutdown(socket.SHUT_WR)), daemon=True)
+        sender.start()
+        want(read_to_end(client) == data, "other octets come back")
+        sender.join()
+        await_state(client, 7)
+    return "equal"
+
+
+def send_in_turn(connection, data):
+    """A segment goes only once the one before is acknowledged."""
+    for at in range(0, len(data), 1460):
+        connection.sendall(data[at:at + 1460])
+        while struct.unpack("i", fcntl.ioctl(connection, termios.TIOCOUTQ, b"four"))[0]:
+            time.sleep(0.0005)
+
+
+def to_host(size, *words, send=socket.socket.sendall):
+    data = octets(size)
+    with listener() as server, tempfile.TemporaryFile() as output:
+        with Tap("--connect", LINUX, server.getsockname()[1], *words, stdin=subprocess.DEVNULL, stdout=output) as tap:
+            with accepted(server) as connection:
+                connection.settimeout(120)
+                send(connection, data)
+                connection.shutdown(socket.SHUT_WR)
+                want(read_to_end(connection) == b"", "octets of an empty input")
+            status = tap.result(20)
+        output.seek(0)
+        want(status == (0, "") and output.read() == data, f"other octets come, or {status}")
+    return "equal"
+
+
+def to_host_in_turn(size, *words):
+    return to_host(size, *words, send=send_in_turn)
+
+
+def to_host_for_a_while(size, *words):
+    """What came until the time was over begins what was sent."""
+    data = octets(size)
+    with listener() as server, tempfile.TemporaryFile() as output:
+        with Tap("--connect", LINUX, server.getsockname()[1], *words, stdin=subprocess.DEVNULL, stdout=output):
+            with accepted(server) as connection:
+                connection.settimeout(20)
+                try:
+                    connection.sendall(data)
+                except TimeoutError:
+                    pass
+        output.seek(0)
+        came = output.read()
+        want(came and data.startswith(came), "other octets come")
+    return f"{len(came):,} octets, equal so far"
+
+
+def from_host(size, *words):
+    data = octets(size)
+    with listener() as server, tempfile.TemporaryFile() as given:
+        given.write(data)
+        given.seek(0)
+        with Tap("--connect", LINUX, server.getsockname()[1], *words, stdin=given, stdout=subprocess.DEVNULL) as tap:
+            with accepted(server) as connection:
+                came = read_to_end(connection)
+            status = tap.result(20)
+    want(status == (0, "") and came == data, f"{len(came)} octets come, or others, or {status}")
+    return "equal"
+
+
+def page():
+    """curl, Linux, the host and the program, and python's server on Linux's own loopback."""
+    data = octets(300000)
+    with tempfile.TemporaryDirectory() as pages:
+        with open(os.path.join(pages, "page.html"), "wb") as file:
+            file.write(data)
+        words = [sys.executable, "-m", "http.server", "--bind", "127.0.0.1", "--directory", pages, "8000"]
+        server = subprocess.Popen(words, stdout=subprocess.DEVNULL, stderr=subprocess.DEVNULL)
+        try:
+            await_server(8000)
+            with Tap("--forward", 80, "127.0.0.1:8000"):
+                for _ in range(3):
+                    done = subprocess.run(["curl", "-sS", "--max-time", "100", f"http://{OURS}/page.html"], capture_output=True, timeout=120)
+                    want(done.returncode == 0, done.stderr.decode())
+                    want(done.stdout == data, "another page comes")
+        finally:
+            server.kill()
+            server.wait()
+    return "300,000 octets, equal, 3 times"
+
+
+def await_server(port):
+    for _ in range(500):
+        try:
+            socket.create_connection(("127.0.0.1", port), timeout=1).close()
+            return
+        except OSError:
+            time.sleep(0.02)
+    raise Wrong("python's server doesn't come up")
+
+
+def forward_refused():
+    with Tap("--forward", 80, "127.0.0.1:9999"), connected(80) as client:
+        want(client.recv(1) == b"", "an octet comes")
+    return "accepted, and closed at once"
+
+
+def forward_reset():
+    """A reset of the client is passed on to the server."""
+    with socket.create_server(("127.0.0.1", 0)) as server:
+        with Tap("--forward", 80, f"127.0.0.1:{server.getsockname()[1]}"):
+            client = connected(80)
+            client.sendall(b"x")
+            server.settimeout(10)
+            with server.accept()[0] as connection:
+                connection.settimeout(10)
+                want(connection.recv(1) == b"x", "another octet comes")
+                reset(client)
+                expect_error(ConnectionResetError, connection.recv, 1)
+    return "ECONNRESET told to the server"
+
+
+def forward_server_reset():
+    with socket.create_server(("127.0.0.1", 0)) as server:
+        with Tap("--forward", 80, f"127.0.0.1:{server.getsockname()[1]}"), connected(80) as client:
+            client.sendall(b"x")
+            server.settimeout(10)
+            connection = server.accept()[0]
+            want(connection.recv(1) == b"x", "another octet comes")
+            reset(connection)
+            want(client.recv(1) == b"", "an octet comes")
+            client.sendall(b"y")
+            await_state(client, 7)
+    return "an end for the client, then a reset"
+
+
+BAD = re.compile(rb"\(incorrect|bad cksum|bad udp cksum|bad icmp|wrong icmp cksum|\[\|")
+
+
+def captures_read():
+    frames = 0
+    for capture in captures:
+        done = subprocess.run(["tcpdump", "-nn", "-vv", "-r", capture], capture_output=True, timeout=120)
+        want(done.returncode == 0, done.stderr.decode())
+        bad = BAD.search(done.stdout)
+        want(not bad, f"{capture}: {bad and done.stdout[bad.start() - 300:bad.end() + 100]}")
+        counted = subprocess.run(["tcpdump", "-nn", "--count", "-r", capture], capture_output=True, text=True, timeout=120)
+        frames += int((re.search(r"(\d+) packet", counted.stdout) or re.search(r"(\d+)", "0")).group(1))
+    return f"{len(captures)} captures, {frames:,} frames, no bad checksum"
+
+
+CHECKS = [
+    *[(f"ping, {size:,} octets", ping, (size,), "") for size in (0, 56, 1472)],
+    *[(f"UDP echo, {size:,} octets", udp_echo, (size,), "") for size in (1, 1472, 1473, 8000, 65507)],
+    ("UDP to a port without a socket", udp_refused, (), ""),
+    ("TCP to a port without a listener", tcp_refused, (), ""),
+    ("TCP: Linux opens, Linux closes first", linux_opens_and_closes, (), ""),
+    ("TCP: Linux opens, the host closes first", linux_opens_host_closes, (), ""),
+    ("TCP: the host opens, the host closes first", host_opens_and_closes, (), ""),
+    ("TCP: the host opens, Linux closes first", host_opens_linux_closes, (), ""),
+    ("TCP: the host opens past its gateway", host_opens_past_gateway, (), ""),
+    ("TCP: the host opens, Linux refuses", linux_refuses, (), ""),
+    ("TCP: Linux opens, Linux resets", linux_resets_what_it_opened, (), ""),
+    ("TCP: the host opens, Linux resets", linux_resets_what_the_host_opened, (), ""),
+    ("TCP: the host opens, the host resets", host_resets_what_it_opened, (), ""),
+    ("1 MB to the host", to_host, (MEGABYTE,), ""),
+    ("1 MB from the host", from_host, (MEGABYTE,), WINDOWS),
+    ("1 MB echoed, both ways at once", echo, (MEGABYTE,), WINDOWS),
+    ("100 kB echoed, every 5th frame twice", echo, (100000, "--repeat", 5), ""),
+    ("100 kB echoed, 5 ms late each way", echo, (100000, "--delay", 5), ""),
+    ("1 MB to the host, every 11th frame out lost", to_host, (MEGABYTE, "--lose", "out:11"), ""),
+    ("1 MB to the host, one in flight, every 11th frame in lost", to_host_in_turn, (MEGABYTE, "--lose", "in:11"), ""),
+    ("1 MB to the host, many in flight, every 11th frame in lost", to_host_for_a_while, (MEGABYTE, "--lose", "in:11"), GAPS),
+    ("1 MB from the host, every 11th frame in lost", from_host, (MEGABYTE, "--lose", "in:11"), WINDOWS),
+    ("1 MB from the host, every 11th frame out lost", from_host, (MEGABYTE, "--lose", "out:11"), WINDOWS),
+    ("a page by curl through --forward", page, (), ""),
+    ("--forward to a port without a listener", forward_refused, (), ""),
+    ("--forward, the client resets", forward_reset, (), ""),
+    ("--forward, the server resets", forward_server_reset, (), NO_ABORT),
+    ("tcpdump reads the captures", captures_read, (), ""),
+]
+
+
+def on_alarm(*_):
+    raise Wrong("it takes over 300 s")
+
+
+def check(name, body, arguments, remark):
+    began = time.monotonic()
+    signal.alarm(300)
+    try:
+        holds, result = True, body(*arguments)
+    except (Wrong, OSError, subprocess.SubprocessError) as fault:
+        holds, result = False, f"{type(fault).__name__}: {fault}"
+    signal.alarm(0)
+    seconds = time.monotonic() - began
+    rows.append((holds, name, result, seconds, remark))
+    print(f"{'ok   ' if holds else 'WRONG'} {seconds:6.1f} s  {name}: {result}", flush=True)
+
+
+def print_table():
+    print("\n| Check | Result | Seconds |\n|---|---|---|")
+    for holds, name, result, seconds, remark in rows:
+        shown = result if holds else "WRONG: " + " ".join(result.split())
+        print(f"| {name}{' ' + remark[:3] if remark else ''} | {shown} | {seconds:.1f} |")
+    for remark in sorted({row[4] for row in rows} - {""}):
+        print("\n" + remark)
+
+
+def main():
+    signal.signal(signal.SIGALRM, on_alarm)
+    signal.signal(signal.SIGTERM, lambda *_: sys.exit(1))
+    for name, body, arguments, remark in CHECKS:
+        if word in name:
+            check(name, body, arguments, remark)
+    print_table()
+    held = sum(row[0] for row in rows)
+    print(f"\n{held} of {len(rows)} checks hold")
+    return 0 if held == len(rows) and rows else 1
+
+
+sys.exit(main())

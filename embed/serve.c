@@ -1,0 +1,200 @@
+/* The services of a host: echo (port 7, TCP and UDP), discard (9), and a source of a given length (19). */
+#include "tap.h"
+
+#include <string.h>
+
+enum { ECHO_PORT = 7, DISCARD_PORT = 9, SOURCE_PORT = 19, ROUNDS = 16 };
+
+enum service { ECHO, DISCARD, SOURCE, SERVICES };
+
+/* A connection that is served; id 0: none. The octets from `from` up to `to` are to be sent. */
+struct served {
+    uint64_t id;
+    enum service service;
+    uint8_t octets[8192];
+    size_t from, to;
+    uint64_t given;       /* octets that the source made */
+    bool ended, shut;     /* the peer's side, and ours */
+    uint64_t moved;
+};
+
+static struct {
+    uint64_t listeners[SERVICES], datagrams;
+    struct served all[CONNECTIONS];
+    uint8_t datagram[HOST_DATAGRAM_SIZE];
+    size_t waits;                       /* octets of a datagram that goes back later */
+    bool is_waiting;
+    struct host_endpoint from;
+} at;
+
+static void begin(struct tap *tap)
+{
+    at.listeners[ECHO] = listen_at(tap, ECHO_PORT);
+    at.listeners[DISCARD] = listen_at(tap, DISCARD_PORT);
+    at.listeners[SOURCE] = tap->options.source == 0 ? 0 : listen_at(tap, SOURCE_PORT);
+    const int64_t id = host_socket(&tap->host, HOST_KIND_UDP);
+    const int64_t done = id < 0 ? id : host_bind(&tap->host, (uint64_t)id, 0, ECHO_PORT);
+    if (done < 0) {
+        fail(tap, "UDP port 7", host_refusal_name(done));
+    }
+    at.datagrams = (uint64_t)id;
+}
+
+static size_t wants(struct tap *tap, struct pollfd *polled)
+{
+    (void)tap;
+    (void)polled;
+    return 0;
+}
+
+/* Sends a datagram back to where it came from; one that finds no room waits. */
+static bool datagram_step(struct tap *tap)
+{
+    if (!at.is_waiting) {
+        const int64_t len = host_recvfrom(&tap->host, at.datagrams, at.datagram, sizeof at.datagram, &at.from);
+        if (len < 0) {
+            return false;
+        }
+        at.waits = (size_t)len;
+    }
+    at.is_waiting = host_sendto(&tap->host, at.datagrams, at.from.addr, at.from.port, at.datagram, at.waits) == HOST_EAGAIN;
+    return !at.is_waiting;
+}
+
+/* The octet of the source behind `count` others. */
+static uint8_t source_octet(uint64_t count)
+{
+    return (uint8_t)(count % 251);
+}
+
+static void fill(struct served *served, uint64_t length)
+{
+    served->from = served->to = 0;
+    while (served->to < sizeof served->octets && served->given < length) {
+        served->octets[served->to++] = source_octet(served->given++);
+    }
+}
+
+/* Takes what came: how many octets, HOST_EAGAIN, or another refusal. */
+static int64_t take(struct served *served, struct tap *tap)
+{
+    static uint8_t thrown[8192];
+    uint8_t *room = served->service == ECHO ? served->octets : thrown;
+    if (served->ended || (served->service == ECHO && served->from < served->to)) {
+        return HOST_EAGAIN;
+    }
+    const int64_t len = host_recv(&tap->host, served->id, room, sizeof thrown);
+    served->ended = len == 0;
+    if (len >= 0 && served->service == ECHO) {
+        served->from = 0;
+        served->to = (size_t)len;
+    }
+    return len;
+}
+
+/* Gives what waits, and then the end, as `take`. */
+static int64_t give(struct served *served, struct tap *tap)
+{
+    if (served->service == SOURCE && served->from == served->to) {
+        fill(served, tap->options.source);
+    }
+    if (served->from < served->to) {
+        const int64_t len = host_send(&tap->host, served->id, served->octets + served->from, served->to - served->from);
+        served->from += len > 0 ? (size_t)len : 0;
+        return len;
+    }
+    if (!served->shut && (served->ended || served->service == SOURCE)) {
+        served->shut = true;
+        return host_shutdown_write(&tap->host, served->id);
+    }
+    return HOST_EAGAIN;
+}
+
+static void end_one(struct served *served, struct tap *tap, const char *why)
+{
+    tell(tap, "ended", served->id, why);
+    host_close(&tap->host, served->id);
+    served->id = 0;
+}
+
+static void served_step(struct served *served, struct tap *tap)
+{
+    for (int round = 0; round < ROUNDS; round++) {
+        const int64_t taken = take(served, tap);
+        const int64_t given = taken < 0 && taken != HOST_EAGAIN ? taken : give(served, tap);
+        if (given < 0 && given != HOST_EAGAIN) {
+            end_one(served, tap, host_refusal_name(given));
+            return;
+        }
+        if (served->ended && served->shut) {
+            end_one(served, tap, "");
+            return;
+        }
+        if (taken < 0 && given < 0) {
+            break;
+        }
+        served->moved = tap->now;
+    }
+    if (later(served->moved, tap->options.idle) <= tap->now) {
+        end_one(served, tap, "idle");
+    }
+}
+
+static struct served *free_place(void)
+{
+    for (size_t i = 0; i < CONNECTIONS; i++) {
+        if (at.all[i].id == 0) {
+            return &at.all[i];
+        }
+    }
+    return NULL;
+}
+
+static bool accept_step(struct tap *tap, enum service service)
+{
+    static const char *const names[SERVICES] = {"echo", "discard", "source"};
+    struct host_endpoint peer;
+    struct served *place = free_place();
+    const int64_t id = at.listeners[service] == 0 || place == NULL ? HOST_EAGAIN : host_accept(&tap->host, at.listeners[service], &peer);
+    if (id < 0) {
+        return false;
+    }
+    memset(place, 0, sizeof *place);
+    place->id = (uint64_t)id;
+    place->service = service;
+    place->moved = tap->now;
+    tell(tap, "accepted", place->id, names[service]);
+    return true;
+}
+
+static void step(struct tap *tap)
+{
+    for (int round = 0; round < ROUNDS && datagram_step(tap); round++) {
+    }
+    for (int service = 0; service < SERVICES; service++) {
+        for (int round = 0; round < ROUNDS && accept_step(tap, (enum service)service); round++) {
+        }
+    }
+    for (size_t i = 0; i < CONNECTIONS; i++) {
+        if (at.all[i].id != 0) {
+            served_step(&at.all[i], tap);
+        }
+    }
+}
+
+static uint64_t deadline(struct tap *tap)
+{
+    uint64_t least = NEVER;
+    for (size_t i = 0; i < CONNECTIONS; i++) {
+        const uint64_t due = at.all[i].id == 0 ? NEVER : later(at.all[i].moved, tap->options.idle);
+        least = due < least ? due : least;
+    }
+    return least;
+}
+
+static void end(struct tap *tap)
+{
+    (void)tap;
+}
+
+const struct work serving = {begin, wants, step, deadline, end};

@@ -1,0 +1,279 @@
+/* One host of the stack on a TAP device: docs/EMBEDDING.md has the loop, and `tap --help` what it can be asked for. */
+#include "tap.h"
+
+#include <errno.h>
+#include <inttypes.h>
+#include <signal.h>
+#include <stdlib.h>
+#include <string.h>
+#include <sys/random.h>
+#include <time.h>
+
+enum { SENT_MOST = 256, BACKLOG = 8 };        /* frames that one drain sends; connections that wait at a listener */
+
+static volatile sig_atomic_t is_asked_to_end;
+
+uint64_t later(uint64_t since, uint64_t wait)
+{
+    return since > NEVER - wait ? NEVER : since + wait;
+}
+
+uint32_t fresh_isn(void)
+{
+    uint32_t isn;
+    if (getrandom(&isn, sizeof isn, 0) != (ssize_t)sizeof isn) {
+        perror("tap: getrandom");
+        exit(1);
+    }
+    return isn;
+}
+
+void fail(struct tap *tap, const char *what, const char *why)
+{
+    if (tap->status < 0) {
+        fprintf(stderr, "tap: %s: %s\n", what, why);
+    }
+    tap->status = 1;
+}
+
+void tell(const struct tap *tap, const char *what, uint64_t id, const char *more)
+{
+    if (tap->options.verbose) {
+        fprintf(stderr, "tap: %s %" PRIu64 "%s%s\n", what, id, *more == '\0' ? "" : " ", more);
+    }
+}
+
+/* Where the host takes no backlog of so many, it takes one of 1. */
+static int64_t listen_of(struct tap *tap, uint64_t id)
+{
+    const int64_t done = host_listen(&tap->host, id, BACKLOG);
+    return done == HOST_EINVAL ? host_listen(&tap->host, id, 1) : done;
+}
+
+uint64_t listen_at(struct tap *tap, uint16_t port)
+{
+    const int64_t id = host_socket(&tap->host, HOST_KIND_TCP);
+    int64_t done = id < 0 ? id : host_bind(&tap->host, (uint64_t)id, 0, port);
+    if (done >= 0) {
+        done = listen_of(tap, (uint64_t)id);
+    }
+    if (done < 0) {
+        fail(tap, "listen", host_refusal_name(done));
+        return 0;
+    }
+    return (uint64_t)id;
+}
+
+static uint64_t clock_now(void)
+{
+    struct timespec at;
+    clock_gettime(CLOCK_MONOTONIC, &at);
+    return (uint64_t)at.tv_sec * 1000 + (uint64_t)at.tv_nsec / 1000000;
+}
+
+static void heed(int signal)
+{
+    (void)signal;
+    is_asked_to_end = 1;
+}
+
+/* SIGINT and SIGTERM are let in only where the program waits: `waiting` is the mask for that. */
+static void heed_signals(sigset_t *waiting)
+{
+    struct sigaction action = {.sa_handler = heed};
+    sigset_t blocked;
+    sigemptyset(&blocked);
+    sigaddset(&blocked, SIGINT);
+    sigaddset(&blocked, SIGTERM);
+    sigprocmask(SIG_BLOCK, &blocked, waiting);
+    sigdelset(waiting, SIGINT);
+    sigdelset(waiting, SIGTERM);
+    sigaction(SIGINT, &action, NULL);
+    sigaction(SIGTERM, &action, NULL);
+    action.sa_handler = SIG_IGN;
+    sigaction(SIGPIPE, &action, NULL);
+}
+
+static uint32_t mask_of(uint8_t length)
+{
+    return length == 0 ? 0 : UINT32_MAX << (32 - length);
+}
+
+static bool open_host(struct tap *tap)
+{
+    const struct options *options = &tap->options;
+    const struct host_route routes[2] = {{options->addr & mask_of(options->length), 0, options->length}, {0, options->gateway, 0}};
+    const int64_t done = host_new(&tap->host, options->mac, options->addr, routes, options->gateway == 0 ? 1 : 2);
+    if (done < 0) {
+        fail(tap, "the host", host_refusal_name(done));
+    }
+    return done >= 0;
+}
+
+static bool open_link(struct tap *tap)
+{
+    tap->link.in.faults = tap->options.in;
+    tap->link.out.faults = tap->options.out;
+    if (tap->options.capture != NULL) {
+        tap->link.capture = pcap_begin(tap->options.capture);
+        if (tap->link.capture == NULL) {
+            fail(tap, tap->options.capture, strerror(errno));
+            return false;
+        }
+    }
+    if (link_open(&tap->link, tap->options.device) != 0) {
+        fail(tap, tap->options.device, strerror(errno));
+        return false;
+    }
+    return true;
+}
+
+/* Sends what is due: false where more may be. */
+static bool drain(struct tap *tap)
+{
+    uint8_t frame[HOST_FRAME_SIZE];
+    for (int sent = 0; sent < SENT_MOST; sent++) {
+        const int64_t len = host_next_frame(&tap->host, tap->now, frame);
+        if (len <= 0) {
+            return true;
+        }
+        tap->went++;
+        link_send(&tap->link, tap->now, frame, (size_t)len);
+    }
+    return false;
+}
+
+static void count(struct tap *tap, int64_t answer)
+{
+    tap->came++;
+    if (answer < 0 && answer > -12) {
+        tap->dropped[-answer]++;
+    }
+}
+
+/* The work's calls, and what they make due. */
+static bool act(struct tap *tap, const struct work *work)
+{
+    work->step(tap);
+    return drain(tap);
+}
+
+/* Each frame that came is delivered alone, so that what it draws goes out before the next one needs the room. */
+static bool hear(struct tap *tap, const struct work *work)
+{
+    uint8_t frame[FRAME_MOST];
+    bool all = true;
+    size_t len;
+    if (!link_read(&tap->link, tap->now)) {
+        fail(tap, tap->options.device, strerror(errno));
+    }
+    while (tap->status < 0 && (len = link_recv(&tap->link, tap->now, frame)) != 0) {
+        count(tap, host_deliver(&tap->host, tap->now, fresh_isn(), frame, len));
+        all = act(tap, work) && all;
+    }
+    return all;
+}
+
+static bool turn(struct tap *tap, const struct work *work)
+{
+    tap->now = clock_now();
+    host_tick(&tap->host, tap->now);
+    link_flush(&tap->link, tap->now);
+    const bool heard = hear(tap, work);
+    const bool acted = act(tap, work);
+    return heard && acted;
+}
+
+static uint64_t least(uint64_t a, uint64_t b)
+{
+    return a < b ? a : b;
+}
+
+static uint64_t next_moment(struct tap *tap, const struct work *work)
+{
+    uint64_t moment = NEVER;
+    if (host_next_deadline(&tap->host, &moment) != 1) {
+        moment = NEVER;
+    }
+    return least(moment, least(link_deadline(&tap->link), work->deadline(tap)));
+}
+
+/* Waits until a frame comes, something of the work's is ready, or the moment. */
+static void wait_until(struct tap *tap, struct pollfd *polled, size_t count, uint64_t moment, const sigset_t *waiting)
+{
+    const uint64_t now = clock_now();
+    const uint64_t wait = moment <= now ? 0 : moment - now;
+    const struct timespec time = {(time_t)(wait / 1000), (long)(wait % 1000) * 1000000};
+    if (tap->link.capture != NULL) {
+        fflush(tap->link.capture);
+    }
+    if (ppoll(polled, count, moment == NEVER ? NULL : &time, waiting) < 0) {
+        for (size_t i = 0; i < count; i++) {
+            polled[i].revents = 0;
+        }
+    }
+}
+
+static void run(struct tap *tap, const struct work *work, const sigset_t *waiting)
+{
+    struct pollfd polled[1 + POLLED];
+    tap->polled = polled + 1;
+    bool is_drained = act(tap, work);
+    while (tap->status < 0) {
+        polled[0] = (struct pollfd){.fd = tap->link.device, .events = POLLIN};
+        const size_t count = 1 + work->wants(tap, tap->polled);
+        wait_until(tap, polled, count, is_drained ? next_moment(tap, work) : 0, waiting);
+        if (is_asked_to_end) {
+            tap->status = tap->options.connects ? 1 : 0;
+            return;
+        }
+        is_drained = turn(tap, work);
+    }
+}
+
+static void print_counts(const struct tap *tap)
+{
+    fprintf(stderr, "tap: %" PRIu64 " frames in, %" PRIu64 " out; dropped:", tap->came, tap->went);
+    for (int cause = 1; cause <= 10; cause++) {
+        if (tap->dropped[cause] != 0) {
+            fprintf(stderr, " %s %" PRIu64, host_drop_name(-cause), tap->dropped[cause]);
+        }
+    }
+    fputc('\n', stderr);
+}
+
+static void close_capture(struct tap *tap)
+{
+    FILE *capture = tap->link.capture;
+    if (capture == NULL) {
+        return;
+    }
+    const bool is_whole = ferror(capture) == 0;
+    if (fclose(capture) != 0 || !is_whole) {
+        fail(tap, tap->options.capture, "the capture isn't whole");
+    }
+}
+
+int main(int argc, char **argv)
+{
+    static struct tap tap = {.status = -1, .link = {.device = -1}};
+    sigset_t waiting;
+    options_read(&tap.options, argc, argv);
+    const struct work *work = tap.options.connects ? &connecting : tap.options.forward_count != 0 ? &forwarding : &serving;
+    heed_signals(&waiting);
+    if (open_host(&tap) && open_link(&tap)) {
+        tap.now = clock_now();
+        host_tick(&tap.host, tap.now);
+        work->begin(&tap);
+        run(&tap, work, &waiting);
+        work->end(&tap);
+        drain(&tap);
+    }
+    if (tap.options.verbose) {
+        print_counts(&tap);
+    }
+    close_capture(&tap);
+    link_close(&tap.link);
+    host_free(&tap.host);
+    return tap.status;
+}

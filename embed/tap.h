@@ -1,0 +1,156 @@
+/* What the parts of `tap` share: the program's state, the link, and what a kind of work is. */
+#ifndef TAP_H
+#define TAP_H
+
+#define _GNU_SOURCE 1
+
+#include "host.h"
+
+#include <poll.h>
+#include <stdbool.h>
+#include <stddef.h>
+#include <stdint.h>
+#include <stdio.h>
+
+enum {
+    FRAME_MOST = 2048,    /* room for a frame of the device; the host drops one of more than 1,514 octets */
+    FORWARDS = 4,         /* how many --forward there may be */
+    CONNECTIONS = 64,     /* how many connections are served at once */
+    POLLED = CONNECTIONS + 2
+};
+
+#define NEVER UINT64_MAX
+
+/* What is done to the frames of one side for a trial: every lose-th is lost and every repeat-th goes on twice (0: none), and each
+   waits for delay milliseconds. */
+struct faults {
+    uint64_t lose, repeat, delay;
+};
+
+/* A frame that waits for its moment. */
+struct waiting;
+
+/* One direction of the link. The counts are of frames before any fault. */
+struct side {
+    struct faults faults;
+    uint64_t frames;
+    struct waiting *first, *last;
+};
+
+/* A TAP device, with faults on either side of it, and the capture of what crosses it, if any. */
+struct link {
+    int device;
+    FILE *capture;
+    struct side in, out;
+};
+
+/* Opens the TAP device of this name: 0, or -1 and errno. Faults and capture are the caller's to set. */
+int link_open(struct link *link, const char *name);
+void link_close(struct link *link);
+/* Takes what waits at the device, a bounded number of frames: false once the device fails. */
+bool link_read(struct link *link, uint64_t now);
+/* A frame that the host is to hear now: its length, or 0 where there is none yet. */
+size_t link_recv(struct link *link, uint64_t now, uint8_t frame[FRAME_MOST]);
+/* A frame of the host: it goes out now, or later, or is lost. */
+void link_send(struct link *link, uint64_t now, const uint8_t *frame, size_t len);
+/* Sends what has waited for its time. */
+void link_flush(struct link *link, uint64_t now);
+/* When the first of the frames that wait is due, or NEVER. */
+uint64_t link_deadline(const struct link *link);
+
+/* Begins a capture in a file of this name: NULL, and errno, where it can't. */
+FILE *pcap_begin(const char *path);
+/* Adds a frame with the present moment. A failure shows when the file is closed. */
+void pcap_add(FILE *capture, const uint8_t *frame, size_t len);
+
+/* A port of the host, and the endpoint of the system's to which its connections are joined. */
+struct forward {
+    uint16_t port;
+    struct host_endpoint to;
+};
+
+struct options {
+    const char *device, *capture;
+    uint8_t mac[6];
+    bool has_mac, verbose;
+    uint32_t addr, gateway;
+    uint8_t length;
+    struct faults in, out;
+    uint64_t source;              /* octets of the service on port 19; 0: there is none */
+    uint64_t idle, patience;      /* milliseconds */
+    bool connects;
+    struct host_endpoint peer;
+    struct forward forwards[FORWARDS];
+    size_t forward_count;
+};
+
+/* The words of the command line. A fault ends the program with status 2, --help with 0. */
+void options_read(struct options *options, int argc, char **argv);
+
+/* All of a run. `status` is what the program ends with, -1 while it goes on. */
+struct tap {
+    struct options options;
+    struct host host;
+    struct link link;
+    uint64_t now;
+    int status;
+    struct pollfd *polled;        /* what the work waits for, after the device's own place */
+    uint64_t came, went, dropped[12];
+};
+
+/* A kind of work: its sockets are made, then in each turn it names what it waits for, and makes its calls once something came. */
+struct work {
+    void (*begin)(struct tap *tap);
+    size_t (*wants)(struct tap *tap, struct pollfd *polled);
+    void (*step)(struct tap *tap);
+    uint64_t (*deadline)(struct tap *tap);
+    void (*end)(struct tap *tap);
+};
+
+extern const struct work serving, connecting, forwarding;
+
+/* A fresh initial sequence number, of the system's random source. */
+uint32_t fresh_isn(void);
+/* Ends the run with status 1, and a line on standard error. */
+void fail(struct tap *tap, const char *what, const char *why);
+/* A line on standard error, where --verbose asks for it. */
+void tell(const struct tap *tap, const char *what, uint64_t id, const char *more);
+/* A listener of the host at this port: its id; 0 after `fail`. */
+uint64_t listen_at(struct tap *tap, uint16_t port);
+/* The moment `wait` after `since`, or NEVER where there is none. */
+uint64_t later(uint64_t since, uint64_t wait);
+
+/* Octets on their way from one side to the other: those from `from` up to `to` wait. */
+struct passage {
+    uint8_t octets[16384];
+    size_t from, to;
+    bool ended;                   /* nothing more comes from its source */
+    bool told;                    /* the end was passed on */
+};
+
+/* What a joint has come to. */
+enum joint_state { JOINT_GOES_ON, JOINT_ENDED, JOINT_HOST_FAILED, JOINT_SYSTEM_FAILED };
+
+/* A connection of the host joined to descriptors of the system (one, where it is a socket). */
+struct joint {
+    uint64_t id;
+    int from, to;
+    bool is_socket, connects;
+    struct passage up, down;      /* to the host's peer, and from it */
+    short from_events, to_events; /* what poll answered, until it is used */
+    size_t from_place, to_place;  /* where they stand in what is polled, from 1; 0: nowhere */
+    uint64_t moved;               /* when octets moved last */
+    int64_t refusal;              /* of JOINT_HOST_FAILED */
+    int error;                    /* of JOINT_SYSTEM_FAILED: errno */
+};
+
+/* `id` is open or opening. */
+void joint_begin(struct joint *joint, uint64_t id, int from, int to, uint64_t now);
+/* Puts what it waits for behind the `count` others: how many there are then. */
+size_t joint_wants(struct joint *joint, struct pollfd *polled, size_t count);
+/* Takes what poll answered, so that it is acted upon once. */
+void joint_answer(struct joint *joint, struct pollfd *polled);
+/* Moves what can be moved now. */
+enum joint_state joint_step(struct joint *joint, struct tap *tap);
+
+#endif

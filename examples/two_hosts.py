@@ -1,0 +1,40 @@
+"""A network of two hosts that loses every tenth frame: 200,000 octets go from one to the other, and come out equal. The clock is a number.
+
+Run it by `python3 examples/two_hosts.py`, once `embed/build` has made the library."""
+
+import os, random, sys
+
+sys.path.insert(0, os.path.join(os.path.dirname(os.path.abspath(__file__)), "..", "embed"))
+from host import Host
+
+dice, frames, now = random.Random(1), 0, 0
+octets = dice.randbytes(200_000)
+link = {"10.0.0.0/24": None}
+with Host("02:00:00:00:00:01", "10.0.0.1", link) as a, Host("02:00:00:00:00:02", "10.0.0.2", link) as b:
+    listener = b.socket()
+    b.bind(listener, ("0.0.0.0", 80))
+    b.listen(listener, 1)
+    caller = a.socket()
+    a.connect(now, dice.getrandbits(32), caller, ("10.0.0.2", 80))
+    left, read, accepted, last = octets, b"", None, None
+    while last != b"":
+        for one, other in (a, b), (b, a):
+            one.tick(now)
+            while frame := one.next_frame(now):
+                frames += 1
+                if frames % 10 != 0:
+                    other.deliver(now, dice.getrandbits(32), frame)
+        try:
+            left = left[a.send(caller, left) :]
+            if not left:
+                a.shutdown_write(caller)
+        except (BlockingIOError, BrokenPipeError):
+            pass  # there is no room, or all is given
+        try:
+            accepted = accepted or b.accept(listener)[0]
+            last = b.recv(accepted, 65_536)
+            read += last
+        except BlockingIOError:  # nothing to read: time goes on to where a timer acts
+            now = min((d for d in (a.next_deadline(), b.next_deadline()) if d is not None), default=now)
+    assert read == octets
+    print(f"{len(read)} octets came out equal; of {frames} frames {frames // 10} were lost, and {now} ms went by")
