@@ -2,3 +2,4 @@ pub mod Pointer
 pub mod Apart
 pub mod Held
 pub mod Left
+pub mod Tables

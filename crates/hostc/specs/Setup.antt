@@ -2,10 +2,13 @@
 use Rattle.std.specs.Prelude.{◌≡◌, ◌⊎◌, ℕ, ℤ, pos, List, map, Option, Some, None}
 use Rattle.ether.specs.declared.mac.Mac.{Mac}
 use Rattle.ipv4.specs.declared.addr.Addr.{Addr}
+use Rattle.ipv4.specs.Addresses.{IsSingleHost}
 use Rattle.routes.specs.declared.route.Hop.{Hop}
 use Rattle.routes.specs.declared.route.Route.{Route}
+use Rattle.routes.specs.Routes.{IsTable}
 use Rattle.sockets.specs.declared.refusal.Refusal.TheVariants.{EINVAL, ENOMEM}
 use Rattle.host.specs.HostView.{HostView, new_host}
+use Rattle.host.specs.ConfigView.{IsOfOne}
 use Rattle.hostc.specs.Numbers.{refused}
 use Rattle.hostc.specs.Types.{addr_of, hop_of}
 use Rattle.hostc.specs.declared.types.HostRoute.{HostRoute}
@@ -25,9 +28,20 @@ IsTold given table = map said table ≡ map said_by given
 abbrev pub IsNew : Mac → ℕ → List HostRoute → HostView → Type 0
 IsNew mac addr given h = (table : List Route) × IsTold given table × (h ≡ new_host (record { mac = mac; addr = addr_of addr; routes = table }))
 
--- A handle that holds a host keeps it: EINVAL. Another one holds the new host, or stays as it was: EINVAL or ENOMEM.
+-- routes that make a table: each prefix is one, no two routes have one prefix, and there are 32 at most
+abbrev pub IsValidTable : List HostRoute → Type 0
+IsValidTable given = (table : List Route) × IsTable table × IsTold given table
+
+-- one interface's MAC, one host's address, and routes that make a table
+pub record IsValidSetup (mac : Mac) (addr : ℕ) (given : List HostRoute) : Type 0 where
+  pub one_interface : IsOfOne mac
+  pub one_host : IsSingleHost (addr_of addr)
+  pub table : IsValidTable given
+
+-- A handle that holds a host keeps it: EINVAL. Another one stays as it was where the set-up isn't valid, EINVAL, and else where memory runs
+-- out, ENOMEM, or holds the new host.
 abbrev pub Setup : Mac → ℕ → List HostRoute → Option HostView → ℤ → Option HostView → Type 0
 Setup mac addr given (Some h) answer new = (answer ≡ refused EINVAL) × (new ≡ Some h)
 Setup mac addr given None answer new =
-    ((answer ≡ pos 0) × ((h : HostView) × IsNew mac addr given h × (new ≡ Some h)))
-    ⊎ (((answer ≡ refused EINVAL) ⊎ (answer ≡ refused ENOMEM)) × (new ≡ None))
+    ((answer ≡ refused EINVAL) × ¬ IsValidSetup mac addr given × (new ≡ None))
+    ⊎ (IsValidSetup mac addr given × (((answer ≡ refused ENOMEM) × (new ≡ None)) ⊎ ((answer ≡ pos 0) × ((h : HostView) × IsNew mac addr given h × (new ≡ Some h)))))

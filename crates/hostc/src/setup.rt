@@ -1,7 +1,7 @@
 //! The making of a host, and its end.
 
-ghost use Rattle.std.specs.Prelude.{◌≡◌, ◌⊎◌, None, IfOk, IfErr};
-ghost use Rattle.hostc.specs.Setup.{IsNew, IsTold, Setup};
+ghost use Rattle.std.specs.Prelude.{◌≡◌, ◌⊎◌, ◌↔◌, None, IfOk, IfErr, IsOk};
+ghost use Rattle.hostc.specs.Setup.{IsNew, IsTold, IsValidSetup, IsValidTable, Setup};
 
 use crate::convert::{addr_of, hop_of, refused};
 use crate::handle::Handle;
@@ -46,27 +46,31 @@ pub extern "C" fn host_free(alloc: Global, handle: &mut Handle)
     let _ = handle.take(alloc);
 }
 
-/// A host with these routes, on the heap.
+/// A host with these routes, on the heap. EINVAL, ENOMEM.
 fn made(alloc: Global, mac: Mac, addr: u32, routes: &[HostRoute]) -> Result<Box<Host>, Refusal>
-    ensures ok { IfOk result (λ host. IsNew mac addr routes.now host.value) }
-    ensures refusal { IfErr result (λ refusal. (refusal ≡ Refusal.EINVAL) ⊎ (refusal ≡ Refusal.ENOMEM)) }
+    ensures ok { IfOk result (λ host. IsValidSetup mac addr routes.now × IsNew mac addr routes.now host.value) }
+    ensures refusal { IfErr result (λ refusal. ((refusal ≡ Refusal.EINVAL) × ¬ IsValidSetup mac addr routes.now) ⊎ ((refusal ≡ Refusal.ENOMEM) × IsValidSetup mac addr routes.now)) }
 {
-    let config = Config::new(mac, addr_of(addr), table(routes)?)?;
+    let table = table(routes)?;
+    let config = Config::new(mac, addr_of(addr), table)?;
     let host = Host::new(alloc, config)?;
     Box::new(alloc, host).map_err(|_| Refusal::ENOMEM)
 }
 
-/// The table of these routes.
+/// The table of these routes. EINVAL where they make none.
 fn table(given: &[HostRoute]) -> Result<Routes, Refusal>
+    ensures valid { IsOk result ↔ IsValidTable given.now }
     ensures told { IfOk result (λ table. IsTold given.now table) }
     ensures refusal { IfErr result (λ refusal. refusal ≡ Refusal.EINVAL) }
 {
     let mut routes = Routes::new();
     for route in given {
-        let prefix = Prefix::new(addr_of(route.prefix), route.length).map_err(|_| Refusal::EINVAL)?;
-        routes
-            .add(prefix, hop_of(route.gateway))
-            .map_err(|_| Refusal::EINVAL)?;
+        let Ok(prefix) = Prefix::new(addr_of(route.prefix), route.length) else {
+            return Err(Refusal::EINVAL);
+        };
+        let Ok(()) = routes.add(prefix, hop_of(route.gateway)) else {
+            return Err(Refusal::EINVAL);
+        };
     }
     Ok(routes)
 }

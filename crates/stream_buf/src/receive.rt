@@ -133,6 +133,15 @@ impl RecvBuf {
 mod tests {
     use super::*;
 
+    /// How many octets join what is readable when one octet comes at a distance; None where it has no room.
+    fn insert(buffer: &mut RecvBuf, distance: usize) -> Option<usize> {
+        if distance < buffer.room() {
+            Some(buffer.insert_at(distance, b"x"))
+        } else {
+            None
+        }
+    }
+
     /// Octets ahead of a gap are kept in 32 ranges at most.
     #[test]
     fn keeps_most_ranges(rt: HostRuntime) {
@@ -140,16 +149,13 @@ mod tests {
             return;
         };
         for i in 0..32 {
-            assert_eq!(rt; buffer.insert_at(2 * i + 1, b"x"), 0);
+            assert_eq!(rt; insert(&mut buffer, 2 * i + 1), Some(0));
             assert_eq!(rt; buffer.ranges(), i + 1);
         }
-        assert_eq!(rt; buffer.insert_at(65, b"x"), 0);
-        assert_eq!(rt; buffer.ranges(), 32);
-        assert_eq!(rt; buffer.insert_at(2, b"x"), 0);
-        assert_eq!(rt; buffer.ranges(), 31);
-        assert_eq!(rt; buffer.insert_at(65, b"x"), 0);
-        assert_eq!(rt; buffer.ranges(), 32);
-        assert_eq!(rt; buffer.insert_at(0, b"x"), 4);
+        for (distance, joined, ranges) in [(65, 0, 32), (2, 0, 31), (65, 0, 32), (0, 4, 31)] {
+            assert_eq!(rt; insert(&mut buffer, distance), Some(joined));
+            assert_eq!(rt; buffer.ranges(), ranges);
+        }
         assert_eq!(rt; buffer.readable_len(), 4);
     }
 }
