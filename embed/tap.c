@@ -9,7 +9,7 @@
 #include <sys/random.h>
 #include <time.h>
 
-enum { SENT_MOST = 256, BACKLOG = 8 };        /* frames that one drain sends; connections that wait at a listener */
+enum { SENT_MOST = 256 };        /* frames that one drain sends */
 
 static volatile sig_atomic_t is_asked_to_end;
 
@@ -43,19 +43,12 @@ void tell(const struct tap *tap, const char *what, uint64_t id, const char *more
     }
 }
 
-/* Where the host takes no backlog of so many, it takes one of 1. */
-static int64_t listen_of(struct tap *tap, uint64_t id)
-{
-    const int64_t done = host_listen(&tap->host, id, BACKLOG);
-    return done == HOST_EINVAL ? host_listen(&tap->host, id, 1) : done;
-}
-
 uint64_t listen_at(struct tap *tap, uint16_t port)
 {
     const int64_t id = host_socket(&tap->host, HOST_KIND_TCP);
     int64_t done = id < 0 ? id : host_bind(&tap->host, (uint64_t)id, 0, port);
     if (done >= 0) {
-        done = listen_of(tap, (uint64_t)id);
+        done = host_listen(&tap->host, (uint64_t)id, HOST_BACKLOG);
     }
     if (done < 0) {
         fail(tap, "listen", host_refusal_name(done));
