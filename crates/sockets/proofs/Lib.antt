@@ -1,4 +1,5 @@
 pub mod Firsts
+pub mod Ascending
 pub mod Written
 pub mod Refused
 pub mod Turns

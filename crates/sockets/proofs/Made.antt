@@ -1,5 +1,5 @@
 -- What the making of a socket makes of the table.
-use Rattle.std.proofs.Common.{◌≡◌, ◌+◌, [], ◌∷◌, ◌++◌, ◌∙◌, ap}
+use Rattle.std.proofs.Common.{◌≡◌, ℕ, ◌+◌, [], ◌∷◌, ◌++◌, ◌∙◌, ap}
 use Rattle.sockets.specs.declared.entry.Entry.{Entry}
 use Rattle.sockets.specs.declared.entry.Kind.{Kind}
 use Rattle.sockets.specs.declared.entry.Kind.TheVariants.{Tcp, Udp}
@@ -9,3 +9,8 @@ use Rattle.sockets.specs.Calls.{IsNewSocket, IsMade}
 pub made : (kind : Kind) (h w : SocketsView) (e : Entry) → IsNewSocket kind (record { 0 = h.last_id + 1 }) e → w ≡ record h { last_id = h.last_id + 1; entries = h.entries ++ e ∷ [] } → IsMade kind h w
 made Tcp h w e new is = (new.0, is ∙ ap (λ (x : Entry). let v : SocketsView = record h { last_id = h.last_id + 1; entries = h.entries ++ x ∷ [] } in v) new.1)
 made Udp h w e new is = is ∙ ap (λ (x : Entry). let v : SocketsView = record h { last_id = h.last_id + 1; entries = h.entries ++ x ∷ [] } in v) new
+
+-- a new socket has the id that was drawn
+pub new_id : (kind : Kind) (id : ℕ) (e : Entry) → IsNewSocket kind (record { 0 = id }) e → e.id.0 ≡ id
+new_id Tcp id e new = ap (λ (x : Entry). x.id.0) new.1
+new_id Udp id e new = ap (λ (x : Entry). x.id.0) new

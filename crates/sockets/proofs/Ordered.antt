@@ -39,6 +39,7 @@ use Rattle.sockets.specs.Lists.{change_first}
 use Rattle.sockets.specs.Ports.{IsDynamic, first_port, is_free_port, is_unused_port, is_free_datagram_port}
 use Rattle.sockets.specs.Causes.{Event, Makes, MakesDatagrams, Binds, Listens, Accepts, Connects, Sends, Receives, Shuts, Closes, Ticks, Hears, Emits, GivesUp, Unreachable, SendsTo, ReceivesFrom, HearsDatagram, after_arrival, after_event}
 use Rattle.sockets.specs.Order.{has_for_itself, is_alone_at, LiesAt, IsOrdered, IsAllowed}
+use Rattle.sockets.proofs.Ascending.{ascends_joined}
 use Rattle.sockets.proofs.Caused.{settled_followed, some_same}
 use Rattle.sockets.proofs.Bound.{port-allowed, port-given, bind-given}
 use Rattle.sockets.proofs.Connected.{after_connect-given}
@@ -49,7 +50,7 @@ use Rattle.sockets.proofs.Ends.{same_end-true}
 use Rattle.sockets.proofs.FirstPorts.{given_passes, given_dynamic}
 use Rattle.sockets.proofs.Followed.{IsNothing, by_test, first_changed, each_followed}
 use Rattle.sockets.proofs.KeptEnds.{keeps-nothing, keeps-send, keeps-recv, keeps-shutdown, keeps-tick, keeps-abort, keeps-close, keeps-emitted, keeps-segment, keeps-unreachable}
-use Rattle.sockets.proofs.Ordering.{IsBound, Keeps, KeepsRole, keeps_role, keeps_connection, keeps_queues, nowhere, no_port, ordered_by, ordered_still, ascends_joined, count_changed, count_joined, count_unfound, count_none}
+use Rattle.sockets.proofs.Ordering.{IsBound, Keeps, KeepsRole, keeps_role, keeps_connection, keeps_queues, nowhere, no_port, ordered_by, ordered_still, count_changed, count_joined, count_unfound, count_none}
 
 pub fresh_ordered : (addr : Addr) → IsOrdered (new_sockets addr)
 fresh_ordered addr = record { ids = omega arith; ends = λ local peer. omega arith; ports = λ port. omega arith; datagram_ports = λ port. omega arith; own = tt; last_port = record { from_first = omega arith; to_last = omega arith } }

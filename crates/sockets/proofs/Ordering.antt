@@ -18,7 +18,9 @@ use Rattle.sockets.specs.SocketsView.{SocketsView}
 use Rattle.sockets.specs.Lists.{change_first}
 use Rattle.sockets.specs.Causes.{Follows}
 use Rattle.sockets.specs.Ports.{IsDynamic}
-use Rattle.sockets.specs.Order.{AreAscending, has_for_itself, is_alone_at, LiesAt, IsOrdered}
+use Rattle.sockets.specs.Ids.{AreAscending}
+use Rattle.sockets.specs.Order.{has_for_itself, is_alone_at, LiesAt, IsOrdered}
+use Rattle.sockets.proofs.Ascending.{ascends_lower}
 use Rattle.sockets.proofs.KeptEnds.{KeepsEnds}
 use Rattle.sockets.proofs.Followed.{IsNothing, by_test}
 
@@ -35,18 +37,6 @@ Keeps at_ends at_port at_datagrams own x None = Unit {0}
 Keeps at_ends at_port at_datagrams own x (Some y) = (y.id ≡ x.id) × IsBound at_ends at_port at_datagrams own x.role y.role
 
 -- Ids.
-
-ascends_lower : (a b last : ℕ) (xs : List Entry) → b ≤ a → AreAscending a last xs → AreAscending b last xs
-ascends_lower a b last [] less ascends = omega arith
-ascends_lower a b last (x ∷ xs) less ascends = (let first : a < x.id.0 = ascends.0 in omega arith, ascends.1)
-
-ascends_most : (a last : ℕ) (xs : List Entry) → AreAscending a last xs → a ≤ last
-ascends_most a last [] ascends = ascends
-ascends_most a last (x ∷ xs) ascends = let first : a < x.id.0 = ascends.0 in let rest : x.id.0 ≤ last = ascends_most x.id.0 last xs ascends.1 in omega arith
-
-pub ascends_joined : (a last : ℕ) (xs : List Entry) (x : Entry) → x.id.0 ≡ last + 1 → AreAscending a last xs → AreAscending a (last + 1) (xs ++ x ∷ [])
-ascends_joined a last [] x id ascends = (omega arith, omega arith)
-ascends_joined a last (y ∷ ys) x id ascends = (ascends.0, ascends_joined y.id.0 last ys x id ascends.1)
 
 count_cons : (test : Entry → Bool) (x : Entry) (xs : List Entry) → count_by test (x ∷ xs) ≡ cond (test x) 1 0 + count_by test xs
 count_cons test x xs = sum_by-cons (λ (e : Entry). cond (test e) 1 0) x xs

@@ -1,6 +1,7 @@
 pub mod Lists
 pub mod Replies
 pub mod Entries
+pub mod Ids
 pub mod SocketsView
 pub mod Ticks
 pub mod Lost

@@ -1,5 +1,5 @@
 -- The order of the table: its ids, its ports, and the ends of its connections (RFC 9293 section 3.4.1: a connection is defined by a pair of sockets).
-use Rattle.std.specs.Prelude.{◌≡◌, ◌≤◌, ◌<◌, ◌==◌, ℕ, Bool, true, false, List, [], ◌∷◌, count_by, is_ok, Some, None}
+use Rattle.std.specs.Prelude.{◌≡◌, ◌≤◌, ◌==◌, ℕ, Bool, true, false, count_by, is_ok, Some, None}
 use Rattle.std.specs.List.{AllByRecursion}
 use Rattle.ipv4.specs.declared.addr.Addr.{Addr}
 use Rattle.ipv4.specs.declared.addr.Endpoint.{Endpoint}
@@ -8,16 +8,12 @@ use Rattle.sockets.specs.declared.entry.Entry.{Entry}
 use Rattle.sockets.specs.declared.role.Role.{Role}
 use Rattle.sockets.specs.declared.role.Role.TheVariants.{Idle, Listener, Connected, Datagrams}
 use Rattle.sockets.specs.Entries.{is_between, is_datagrams_at}
+use Rattle.sockets.specs.Ids.{AreAscending}
 use Rattle.sockets.specs.SocketsView.{SocketsView}
 use Rattle.sockets.specs.Ports.{IsDynamic}
 use Rattle.sockets.specs.Calls.{is_table_full, bind_refusal, listen_refusal, accept_answer, connect_refusal, send_answer, recv_answer, shutdown_refusal, close_refusal}
 use Rattle.sockets.specs.Datagrams.{sendto_answer, recvfrom_answer}
 use Rattle.sockets.specs.Causes.{Event, Makes, MakesDatagrams, Binds, Listens, Accepts, Connects, Sends, Receives, Shuts, Closes, Ticks, Hears, Emits, GivesUp, Unreachable, SendsTo, ReceivesFrom, HearsDatagram}
-
--- each id is above the one before it, the first above this number, and none above the last one given
-abbrev pub AreAscending : ℕ → ℕ → List Entry → Type 0
-AreAscending before last [] = before ≤ last
-AreAscending before last (e ∷ rest) = (before < e.id.0) × AreAscending e.id.0 last rest
 
 -- bound to the port over TCP without a connection, or a listener at it
 abbrev pub has_for_itself : ℕ → Role → Bool

@@ -2,7 +2,7 @@
 
 ghost use Rattle.std.specs.Prelude.{◌≡◌, ◌≤◌, Bool, length, true, if◌then◌else◌, Some, OnOk, OnErr};
 ghost use Rattle.ipv4.specs.declared.addr.Addr.{Addr};
-ghost use Rattle.sockets.specs.Entries.{is_kept, is_socket, has_due, due_peer, deadline_of, with_role};
+ghost use Rattle.sockets.specs.Entries.{is_kept, has_due, due_peer, deadline_of, with_role};
 ghost use Rattle.sockets.specs.Lost.{give_up_at, give_up_fate_of, role_after_giving_up};
 ghost use Rattle.sockets.specs.Emission.{IsWithin};
 
@@ -88,13 +88,6 @@ impl Entry {
                 listener: Some(listener),
             },
         }
-    }
-
-    /// Whether this is the socket that `id` names.
-    pub(crate) fn is_socket(&self, id: SocketId) -> bool
-        ensures { result ≡ is_socket id self.now }
-    {
-        self.id == id && self.role.has_socket()
     }
 }
 
@@ -273,6 +266,7 @@ impl Entry {
     /// Gives up what has waited too long for a lost address, and answers whether the entry keeps its place.
     pub(crate) fn give_up<F: Fn(Addr) -> bool>(&mut self, now: Moment, lost: &F) -> bool
         requires { F.IsAlwaysCallable lost.now }
+        ensures id { self.new.id ≡ self.old.id }
         ensures kept { (test : Addr → Bool) → ((addr : Addr) (answer : Bool) → F.post lost.now addr answer → answer ≡ test addr) → result ≡ is_kept (give_up_fate_of test now self.old.role) }
         ensures after { (test : Addr → Bool) → ((addr : Addr) (answer : Bool) → F.post lost.now addr answer → answer ≡ test addr) → self.new ≡ with_role (role_after_giving_up test now) self.old }
     {

@@ -40,7 +40,9 @@ impl Model for Sockets {
       offered = h.offered.items;
     } };
 
-    ghost invariant = { λ h. 49152 ≤ h.last_port };
+    ghost use Rattle.sockets.specs.Ids.{AreAscending};
+
+    ghost invariant = { λ h. (49152 ≤ h.last_port) × AreAscending 0 h.last_id h.entries.items };
 }
 
 #[tactic(auto, using(crate::proofs::Firsts::firsts))]

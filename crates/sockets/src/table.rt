@@ -1,6 +1,6 @@
 //! What is looked up in the table, which stands in order of id.
 
-ghost use Rattle.std.specs.Prelude.{◌≡◌, ◌<◌, Bool, not, if◌then◌else◌, length, filter, remove, position, count_by, fold, None};
+ghost use Rattle.std.specs.Prelude.{◌≡◌, ◌<◌, ℕ, Bool, not, if◌then◌else◌, length, filter, remove, position, count_by, fold, None};
 ghost use Rattle.std.specs.List.{list_any, AllByRecursion};
 ghost use Rattle.sockets.specs.Entries.{is_kept, entries_after_steps, tick_fate_of, role_after_listener_close, listener_close_fate_of, is_socket, is_between, is_of_pair, has_port, is_bound_at, is_datagrams_at, is_waiting_at, is_waiting_as, is_waiting_id, is_listening_at, deadline_of, role_after_tick, with_role};
 ghost use Rattle.sockets.specs.Arrival.{offered_with};
@@ -8,6 +8,7 @@ ghost use Rattle.clock.specs.Moments.{sooner};
 ghost use Rattle.ipv4.specs.declared.addr.Addr.{Addr};
 ghost use Rattle.sockets.specs.Lost.{give_up_fate_of, role_after_giving_up};
 ghost use Rattle.sockets.specs.Sound.{IsSoundRole};
+ghost use Rattle.sockets.specs.Ids.{AreAscending, AreInOrder, has_id};
 
 use crate::entry::{Entry, SocketId};
 use crate::role::is_kept;
@@ -19,11 +20,21 @@ use tcp_state::Fate;
 /// How many entries the table holds: sockets, and connections that no socket names, not yet or no longer.
 pub const ENTRIES: usize = 64;
 
+/// The place of the entry of this id, which halves find: the entries stand in order of id.
+fn place_of(entries: &[Entry], id: SocketId) -> Option<usize>
+    requires { AreInOrder entries.now }
+    ensures { result ≡ position (has_id id) entries.now }
+{
+    entries.binary_search_by_key(&id.0, |entry| entry.id.0).ok()
+}
+
 /// The place of the socket `id`.
 pub(crate) fn socket_of(entries: &[Entry], id: SocketId) -> Option<usize>
+    requires { AreInOrder entries.now }
     ensures { result ≡ position (is_socket id) entries.now }
 {
-    entries.iter().position(|entry| entry.is_socket(id))
+    let place = place_of(entries, id)?;
+    entries[place].role.has_socket().then_some(place)
 }
 
 /// The place of the connection from `local` to `peer`, in any state but CLOSED.
@@ -106,20 +117,19 @@ pub(crate) fn waiting_at(entries: &[Entry], listener: SocketId) -> usize
 
 /// The place of the connection that `id` names, where it waits at `listener`.
 pub(crate) fn waiting_as(entries: &[Entry], listener: SocketId, id: SocketId) -> Option<usize>
+    requires { AreInOrder entries.now }
     ensures { result ≡ position (is_waiting_as listener id) entries.now }
 {
-    entries
-        .iter()
-        .position(|entry| entry.id == id && entry.role.waits_at(listener))
+    let place = place_of(entries, id)?;
+    entries[place].role.waits_at(listener).then_some(place)
 }
 
 /// Whether the connection that `id` names waits at `listener`.
 fn is_waiting_id(entries: &[Entry], listener: SocketId, id: SocketId) -> bool
+    requires { AreInOrder entries.now }
     ensures { result ≡ is_waiting_id entries.now listener id }
 {
-    entries
-        .iter()
-        .any(|entry| entry.id == id && entry.role.waits_at(listener))
+    waiting_as(entries, listener, id).is_some()
 }
 
 /// The place among those offered of the connection that `listener` accepts next.
@@ -128,6 +138,7 @@ pub(crate) fn next_offered(
     entries: &[Entry],
     listener: SocketId,
 ) -> Option<usize>
+    requires { AreInOrder entries.now }
     ensures { result ≡ position (is_waiting_id entries.now listener) offered.now }
 {
     offered
@@ -150,6 +161,7 @@ pub(crate) fn offer_no_more(
     entries: &[Entry],
     listener: SocketId,
 )
+    requires { AreInOrder entries.now }
     ensures { offered.new.items ≡ filter (λ id. not (is_waiting_id entries.now listener id)) offered.old.items }
 {
     offered.retain(|id| !is_waiting_id(entries, listener, *id));
@@ -176,7 +188,8 @@ pub(crate) fn give_up<F: Fn(Addr) -> bool>(
     lost: &F,
 )
     requires { F.IsAlwaysCallable lost.now }
-    ensures { (test : Addr → Bool) → ((addr : Addr) (answer : Bool) → F.post lost.now addr answer → answer ≡ test addr) → entries.new.items ≡ entries_after_steps (give_up_fate_of test now) (role_after_giving_up test now) entries.old.items }
+    ensures ids { (last : ℕ) → AreAscending 0 last entries.old.items → AreAscending 0 last entries.new.items }
+    ensures left { (test : Addr → Bool) → ((addr : Addr) (answer : Bool) → F.post lost.now addr answer → answer ≡ test addr) → entries.new.items ≡ entries_after_steps (give_up_fate_of test now) (role_after_giving_up test now) entries.old.items }
 {
     entries.retain(|entry| entry.give_up(now, lost));
 }

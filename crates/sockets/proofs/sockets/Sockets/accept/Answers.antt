@@ -8,6 +8,8 @@ use Rattle.sockets.specs.Calls.{is_next_at}
 use Rattle.sockets.specs.Lists.{change_first, remove_first}
 use Rattle.sockets.proofs.Firsts.{remove_first-position}
 use Rattle.sockets.proofs.Written.{entry_written}
+use Rattle.sockets.specs.declared.entry.Entry.{Entry}
+use Rattle.sockets.proofs.Ascending.{ascends_written}
 use Rattle.sockets.proofs.sockets.Sockets.accept.Goals as goal
 
 pub returns-clause-ok : goal.returns-clause-ok
@@ -21,3 +23,7 @@ returns-clause-ok c =
     ap (λ (w : SocketsView). let r : SocketsView = record w { offered = c.remove.new.self.items } in r)
     (entry_written _ _ (is_next_at h c.args.id) (with_role role_after_accept) _ _ _ _ c.self.view_is c.in-Some.ensures.place c.deref_mut.ensures.value c.index-deref_mut-place.is c.accept.ensures)
     ∙ ap (λ (ids : List SocketId). let r : SocketsView = record h { entries = change_first (is_next_at h c.args.id) (with_role role_after_accept) h.entries; offered = ids } in r) left
+
+-- the entry keeps its id
+pub invariant_of-self-2 : goal.invariant_of-self-2
+invariant_of-self-2 c = (c.self.invariant.0, ascends_written _ _ _ _ _ c.index-deref_mut-place.result c.self.invariant.1 c.deref_mut.ensures.value (ap (λ (e : Entry). e.id) c.accept.ensures))

@@ -5,6 +5,8 @@ use Rattle.sockets.specs.SocketsView.{SocketsView}
 use Rattle.sockets.specs.Calls.{last_port_bound}
 use Rattle.sockets.proofs.Bound.{bind-given}
 use Rattle.sockets.proofs.Written.{entry_written}
+use Rattle.sockets.specs.declared.entry.Entry.{Entry}
+use Rattle.sockets.proofs.Ascending.{ascends_written}
 use Rattle.sockets.proofs.sockets.Sockets.bind.Goals as goal
 
 pub returns-clause-ok : goal.returns-clause-ok
@@ -18,3 +20,7 @@ returns-clause-ok c =
     in
     entry_written _ _ (is_socket c.args.id) (with_role (role_after_bind (record { addr = c.args.local.addr; port = port }))) _ _ _ _ moved c.in_ok-place.ensures.place c.deref_mut.ensures.value c.index-deref_mut-place.is c.bind.ensures
     ∙ sym (bind-given h c.args.id c.args.local port c.in_ok-place.ensures.port)
+
+-- the entry keeps its id
+pub invariant_of-self : goal.invariant_of-self
+invariant_of-self c = (c.last_port_bound-self-inside.ensures.dynamic, ascends_written _ _ _ _ _ c.index-deref_mut-place.result c.self.invariant.1 c.deref_mut.ensures.value (ap (λ (e : Entry). e.id) c.bind.ensures))

@@ -9,6 +9,7 @@ use Rattle.sockets.specs.SocketsView.{SocketsView}
 use Rattle.sockets.proofs.Arrived.{entry_settled}
 use Rattle.sockets.proofs.Closed.{closed-found, close-allowed}
 use Rattle.sockets.proofs.Firsts.{find-position, found_by_place}
+use Rattle.sockets.proofs.Ascending.{ascends_written, ascends_settled}
 use Rattle.sockets.proofs.sockets.Sockets.close_socket.Goals as goal
 
 pub returns-clause-ok : goal.returns-clause-ok
@@ -31,3 +32,7 @@ pub returns-clause-refused : goal.returns-clause-refused
 returns-clause-refused c =
     let found = found_by_place (is_socket c.args.id) c.args.self.now.entries c.in_ok-place.place c.in_ok-place.ensures.place in
     sym (close-allowed c.args.self.now c.args.id found.0 found.1)
+
+-- the entry keeps its id, or is taken out
+pub invariant_of-self : goal.invariant_of-self
+invariant_of-self c = (c.self.invariant.0, ascends_settled _ c.close-fate.result _ _ _ (ascends_written _ _ _ _ _ c.index-deref_mut-place.result c.self.invariant.1 c.deref_mut.ensures.value (ap (λ (e : Entry). e.id) c.close-fate.ensures.after)) c.settle.ensures)

@@ -9,6 +9,7 @@ use Rattle.sockets.specs.Calls.{open_answer, reach_refusal, port_for, last_port_
 use Rattle.sockets.proofs.Connected.{after_connect-accepted, some_from_ok}
 use Rattle.sockets.proofs.Firsts.{find-position}
 use Rattle.sockets.proofs.Written.{entry_written}
+use Rattle.sockets.proofs.Ascending.{ascends_written}
 use Rattle.sockets.proofs.sockets.Sockets.connect.Goals as goal
 
 pub returns-clause-ok : goal.returns-clause-ok
@@ -33,3 +34,7 @@ returns-clause-ok c =
     entry_written _ _ (is_socket c.args.id) (with_role (role_after_connect (record { addr = c.self.inside.addr; port = c.in_ok-port.port }) c.args.peer c.args.isn.0)) _ _ _ _ moved place c.deref_mut.ensures.value c.index-deref_mut-place.is c.connect.ensures
     ∙ ap (λ (a : Addr). with_socket (record h { last_port = last_port_after h c.in_ok-bound.bound c.in_ok-port.port }) c.args.id (role_after_connect (record { addr = a; port = c.in_ok-port.port }) c.args.peer c.args.isn.0)) addr
     ∙ sym (after_connect-accepted h c.args.isn.0 c.args.id c.args.peer c.args.is_routed x c.in_ok-bound.bound c.in_ok-port.port found opens reached given)
+
+-- the entry keeps its id
+pub invariant_of-self : goal.invariant_of-self
+invariant_of-self c = (c.last_port_after-self-inside.ensures.dynamic, ascends_written _ _ _ _ _ c.index-deref_mut-place.result c.self.invariant.1 c.deref_mut.ensures.value (ap (λ (e : Entry). e.id) c.connect.ensures))

@@ -9,6 +9,7 @@ use Rattle.sockets.specs.SocketsView.{SocketsView, later_moment}
 use Rattle.sockets.proofs.Arrived.{entry_settled}
 use Rattle.sockets.proofs.Emitting.{segment_sent-found}
 use Rattle.sockets.proofs.Firsts.{find-position}
+use Rattle.sockets.proofs.Ascending.{ascends_written, ascends_settled}
 use Rattle.sockets.proofs.sockets.Sockets.emit_at.Goals as goal
 
 pub returns-clause-after : goal.returns-clause-after
@@ -28,3 +29,7 @@ returns-clause-after c = λ goes place.
     entry_settled _ _ test (role_after_emission now) _ _ _ _ _ c.emission_fate_of-fate.result c.self.view_is place c.deref_mut.ensures.value c.index-deref_mut-place.is (sent ∙ ap (λ (e : Entry). with_role (role_after_emission now) e) c.index-deref_mut-place.is) c.settle.ensures
     ∙ ap (λ (r : Fate). let w : SocketsView = record h { entries = entries_after_step r test (role_after_emission now) h.entries } in w) (c.emission_fate_of-fate.ensures ∙ ap (λ (e : Entry). emission_fate_of e.role) sent)
     ∙ sym (segment_sent-found h goes c.args.now x found)
+
+-- the entry keeps its id, or is taken out
+pub invariant_of-self : goal.invariant_of-self
+invariant_of-self c = (c.self.invariant.0, ascends_settled _ c.emission_fate_of-fate.result _ _ _ (ascends_written _ _ _ _ _ c.index-deref_mut-place.result c.self.invariant.1 c.deref_mut.ensures.value (ap (λ (e : Entry). e.id) c.emit-emitted.ensures.after)) c.settle.ensures)

@@ -1,12 +1,13 @@
 -- The write at the place is the change of the first UDP socket at the port, or none where it has no room.
-use Rattle.std.proofs.Common.{◌≡◌, ◌∙◌, ℕ, List, Some, ap, sym}
+use Rattle.std.proofs.Common.{◌≡◌, ◌∙◌, ℕ, List, get_or, Some, ap, sym}
 use Rattle.std.specs.List.{position}
 use Rattle.ipv4.specs.declared.addr.Endpoint.{Endpoint}
 use Rattle.udp.specs.Datagram.{UserDatagram}
 use Rattle.sockets.specs.declared.entry.Entry.{Entry}
-use Rattle.sockets.specs.Entries.{is_datagrams_at}
+use Rattle.sockets.specs.Entries.{is_datagrams_at, role_after_reception}
 use Rattle.sockets.specs.SocketsView.{SocketsView}
 use Rattle.sockets.proofs.Queues.{received}
+use Rattle.sockets.proofs.Ascending.{ascends_written, same_id}
 use Rattle.sockets.proofs.sockets.Sockets.receive.Goals as goal
 
 pub returns-clause-after : goal.returns-clause-after
@@ -22,3 +23,10 @@ returns-clause-after c =
     in
     let from = ap (λ (port : ℕ). let e : Endpoint = record { addr = c.args.source; port = port } in e) c.source.ensures in
     received _ h c.args.source d _ _ _ _ _ _ _ c.self.view_is place c.deref_mut.ensures.value c.index-deref_mut-place.is from c.payload.ensures.octets c.receive.ensures.room c.receive.ensures.after
+
+-- the entry keeps its id
+pub invariant_of-self : goal.invariant_of-self
+invariant_of-self c =
+    let from : Endpoint = record { addr = c.args.source; port = c.source.result } in
+    let x : Entry = c.index-deref_mut-place.result in
+    (c.self.invariant.0, ascends_written _ _ _ _ _ x c.self.invariant.1 c.deref_mut.ensures.value (same_id c.receive.result (role_after_reception from c.payload.result.now) (get_or c.deref_mut.result.now c.in-Some.place x) _ c.receive.ensures.after))

@@ -2,9 +2,14 @@
 use Rattle.std.proofs.Common.{◌≡◌, get_or}
 use Rattle.sockets.specs.Entries.{is_socket, role_after_recvfrom, with_role}
 use Rattle.sockets.proofs.Written.{entry_written, ok_from}
+use Rattle.sockets.proofs.Ascending.{ascends_written, same_id_read}
 use Rattle.sockets.proofs.sockets.Sockets.recvfrom.Goals as goal
 
 pub returns-clause-ok : goal.returns-clause-ok
 returns-clause-ok c =
     ok_from c.recv_from.result (c.recv_from.new.self ≡ with_role role_after_recvfrom (get_or c.deref_mut.result.now c.in_ok-place.place c.index-deref_mut-place.result)) _
     (λ changed. entry_written _ _ (is_socket c.args.id) (with_role role_after_recvfrom) _ _ _ _ c.self.view_is c.in_ok-place.ensures.place c.deref_mut.ensures.value c.index-deref_mut-place.is changed) c.recv_from.ensures.ok
+
+-- the entry keeps its id
+pub invariant_of-self : goal.invariant_of-self
+invariant_of-self c = (c.self.invariant.0, ascends_written _ _ _ _ _ c.index-deref_mut-place.result c.self.invariant.1 c.deref_mut.ensures.value (same_id_read c.recv_from.result role_after_recvfrom _ _ c.recv_from.ensures.ok c.recv_from.ensures.err))

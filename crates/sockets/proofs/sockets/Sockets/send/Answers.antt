@@ -1,8 +1,10 @@
 -- The write at the socket's place is the change of the first entry that the id names; a refused send writes what was there.
-use Rattle.std.proofs.Common.{◌∙◌, sym}
+use Rattle.std.proofs.Common.{◌∙◌, sym, ap}
 use Rattle.sockets.specs.Entries.{is_socket, role_after_send, with_role}
 use Rattle.sockets.proofs.Written.{entry_written, entry_kept, on_ok, on_err}
 use Rattle.sockets.proofs.Refused.{entry_refused}
+use Rattle.sockets.specs.declared.entry.Entry.{Entry}
+use Rattle.sockets.proofs.Ascending.{ascends_written}
 use Rattle.sockets.proofs.sockets.Sockets.send.Goals as goal
 
 pub returns-clause-ok : goal.returns-clause-ok
@@ -12,3 +14,7 @@ returns-clause-ok c =
 pub returns-clause-err : goal.returns-clause-err
 returns-clause-err c =
     on_err _ _ (λ e refused. entry_kept _ _ _ _ _ _ c.self.view_is c.deref_mut.ensures.value c.index-deref_mut-place.is (c.send.ensures.after ∙ entry_refused _ c.args.octets.now e (sym c.send.ensures.answer ∙ refused)))
+
+-- the entry keeps its id
+pub invariant_of-self : goal.invariant_of-self
+invariant_of-self c = (c.self.invariant.0, ascends_written _ _ _ _ _ c.index-deref_mut-place.result c.self.invariant.1 c.deref_mut.ensures.value (ap (λ (e : Entry). e.id) c.send.ensures.after))

@@ -15,6 +15,7 @@ use Rattle.sockets.proofs.Connected.{some_from_ok}
 use Rattle.sockets.proofs.Firsts.{find-position}
 use Rattle.sockets.proofs.Queues.{end_given, bound_found, sendto-given}
 use Rattle.sockets.proofs.Written.{entry_written}
+use Rattle.sockets.proofs.Ascending.{ascends_written, same_id}
 use Rattle.sockets.proofs.sockets.Sockets.sendto.Goals as goal
 
 pub returns-clause-ok : goal.returns-clause-ok
@@ -54,3 +55,10 @@ returns-clause-ok c =
     ∙ ap (λ (w : SocketsView). with_socket (record h { last_port = last_port_after h bound local.port; identification = next_identification h.identification }) c.args.id (role_after_sendto local w.kept c.args.peer w.identification octets)) c.self.view_is
     ∙ ap (λ (b : Option Endpoint). with_socket (record h { last_port = last_port_after h b local.port; identification = next_identification h.identification }) c.args.id (role_after_sendto local h.kept c.args.peer h.identification octets)) (sym (bound_found h c.args.id x bound found bound_is))
     ∙ sym (sendto-given h c.args.id c.args.peer octets c.args.is_routed local given)
+
+-- the entry keeps its id
+pub invariant_of-self-2 : goal.invariant_of-self-2
+invariant_of-self-2 c =
+    let change : Role → Role = role_after_sendto c.in_ok-local.local c.self.inside.kept c.args.peer c.self.inside.identification c.args.octets.now in
+    let x : Entry = c.index-deref_mut-place.result in
+    (c.last_port_after-last_port.ensures.dynamic, ascends_written _ _ _ _ _ x c.self.invariant.1 c.deref_mut.ensures.value (same_id c.send_to.result change (get_or c.deref_mut.result.now c.in_ok-place.place x) _ c.send_to.ensures.after))

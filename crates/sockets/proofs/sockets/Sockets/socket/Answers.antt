@@ -5,6 +5,8 @@ use Rattle.sockets.specs.Calls.{IsNewSocket}
 use Rattle.sockets.specs.declared.entry.Entry.{Entry}
 use Rattle.sockets.specs.SocketsView.{SocketsView}
 use Rattle.sockets.proofs.Made.{made}
+use Rattle.sockets.proofs.Ascending.{ascends_pushed}
+use Rattle.sockets.proofs.Made.{new_id}
 use Rattle.sockets.proofs.sockets.Sockets.socket.Goals as goal
 
 pub returns-clause-ok : goal.returns-clause-ok
@@ -13,3 +15,9 @@ returns-clause-ok c =
     let entry : Entry = c.in_ok-entry.entry in
     let next : c.in-Some.id ≡ h.last_id + 1 = grind (arith, common_steps) in
     (next, made c.args.kind h _ entry (subst (λ (n : ℕ). IsNewSocket c.args.kind (record { 0 = n }) entry) next c.in_ok-entry.ensures.ok) (grind (arith, common_steps)))
+
+-- the next id joins the others
+pub invariant_of-self : goal.invariant_of-self
+invariant_of-self c =
+    let next : c.in-Some.id ≡ c.self.inside.last_id + 1 = grind (arith, common_steps) in
+    (c.self.invariant.0, ascends_pushed _ _ _ _ c.in_ok-entry.entry next (new_id c.args.kind _ c.in_ok-entry.entry c.in_ok-entry.ensures.ok) c.push.ensures.items c.self.invariant.1)

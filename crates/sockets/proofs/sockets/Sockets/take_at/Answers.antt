@@ -15,6 +15,7 @@ use Rattle.sockets.proofs.Arrived.{entry_settled, meets_becomes, meets_answered,
 use Rattle.sockets.proofs.Refused.{entry_refused_segment}
 use Rattle.sockets.proofs.Written.{entry_kept}
 use Rattle.sockets.proofs.Firsts.{find-position}
+use Rattle.sockets.proofs.Ascending.{ascends_written, ascends_settled}
 use Rattle.sockets.proofs.sockets.Sockets.take_at.Goals as goal
 
 pub returns-in-Rejected : goal.returns-in-Rejected
@@ -63,3 +64,11 @@ returns-in_default c isn =
     ∙ ap (λ (m : Moment). let w : SocketsView = record h { entries = entries_after_step fate test (role_after_segment m s) h.entries } in w) c.later_moment-now.ensures)
     ∙ ap (λ (ids : List SocketId). let r : SocketsView = record h { entries = entries_after_step fate test (role_after_segment (later_moment h c.args.now) s) h.entries; offered = ids } in r) offers
     )
+
+-- the entry keeps its id, or is taken out
+pub invariant_of-self-in_default : goal.invariant_of-self-in_default
+invariant_of-self-in_default c = (c.self.invariant.0, ascends_settled _ c.segment-fate.result.0 _ _ _ (ascends_written _ _ _ _ _ c.index-deref_mut-place.result c.self.invariant.1 c.deref_mut.ensures.value (ap (λ (e : Entry). e.id) c.segment-fate.ensures.after)) c.settle.ensures)
+
+-- or it stays
+pub invariant_of-self : goal.invariant_of-self
+invariant_of-self c = (c.self.invariant.0, ascends_written _ _ _ _ _ c.index-deref_mut-place.result c.self.invariant.1 c.deref_mut.ensures.value (ap (λ (e : Entry). e.id) c.segment-fate.ensures.after))

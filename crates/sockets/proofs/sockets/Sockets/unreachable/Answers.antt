@@ -8,6 +8,7 @@ use Rattle.sockets.specs.SocketsView.{SocketsView}
 use Rattle.sockets.proofs.Arrived.{entry_settled}
 use Rattle.sockets.proofs.Firsts.{find-position}
 use Rattle.sockets.proofs.Told.{told-found}
+use Rattle.sockets.proofs.Ascending.{ascends_written, ascends_settled}
 use Rattle.sockets.proofs.sockets.Sockets.unreachable.Goals as goal
 
 pub returns-in-Some : goal.returns-in-Some
@@ -27,3 +28,7 @@ returns-in-Some c =
     entry_settled _ _ test (role_after_unreachable number) _ _ _ _ _ c.unreachable-fate.result c.self.view_is place c.deref_mut.ensures.value c.index-deref_mut-place.is c.unreachable-fate.ensures.after c.settle.ensures
     ∙ ap (λ (r : Fate). let w : SocketsView = record h { entries = entries_after_step r test (role_after_unreachable number) h.entries } in w) (c.unreachable-fate.ensures.fate ∙ ap (λ (e : Entry). unreachable_fate_of number e.role) (sym c.index-deref_mut-place.is))
     ∙ sym (told-found h c.args.local c.args.peer number x found)
+
+-- the entry keeps its id, or is taken out
+pub invariant_of-self : goal.invariant_of-self
+invariant_of-self c = (c.self.invariant.0, ascends_settled _ c.unreachable-fate.result _ _ _ (ascends_written _ _ _ _ _ c.index-deref_mut-place.result c.self.invariant.1 c.deref_mut.ensures.value (ap (λ (e : Entry). e.id) c.unreachable-fate.ensures.after)) c.settle.ensures)
