@@ -20,6 +20,7 @@ use Rattle.sockets.specs.declared.role.Role.{Role}
 use Rattle.sockets.specs.Entries.{is_kept, with_role}
 use Rattle.sockets.specs.Ids.{has_id, AreAscending, AreInOrder}
 use Rattle.sockets.proofs.Firsts.{refill_set, position-from_fails, position-none_passes, find-position_none}
+use Rattle.sockets.proofs.Followed.{by_test}
 
 -- What keeps the order.
 
@@ -132,11 +133,6 @@ in_order a last (x ∷ xs) ascends (suc i) (suc j) d before within = in_order x.
 pub lent_in_order : (last : ℕ) (xs zs : List Entry) → zs ≡ xs → AreAscending 0 last xs → AreInOrder zs
 lent_in_order last xs zs lent ascends = let P : List Entry → Type 0 = λ ws. AreInOrder ws in subst P (sym lent) (in_order 0 last xs ascends)
 
--- by the two answers of a test
-by_answer : {P : Type 0} (b : Bool) → (b ≡ true → P) → (b ≡ false → P) → P
-by_answer true yes_part no_part = yes_part refl
-by_answer false yes_part no_part = no_part refl
-
 module _ (xs : List Entry) (sorted : AreInOrder xs) (id : SocketId) where
   -- the comparisons with an id rise along the table, as a binary search asks
   comparisons_rise : IsNonDecreasingBy (λ (e : Entry). ordering_index (nat_cmp e.id.0 id.0)) xs
@@ -184,7 +180,7 @@ module _ (xs : List Entry) (sorted : AreInOrder xs) (id : SocketId) where
     fails_there : test x.role ≡ false → position (λ (e : Entry). has_id id e && test e.role) xs ≡ None
     fails_there fails =
         position-none_passes (λ (e : Entry). has_id id e && test e.role) xs
-        (λ k d low inside. by_answer (k == i)
+        (λ k d low inside. by_test (k == i)
         (λ same. ap (λ n. has_id id (get_or xs n d) && test (get_or xs n d).role) (eqb-true k i same) ∙ ap (λ (e : Entry). has_id id e && test e.role) (here d) ∙ ap (λ b. has_id id x && b) fails ∙ never (has_id id x))
         (λ other. others_fail k d inside (eqb-false k i other)))
       where
@@ -193,7 +189,7 @@ module _ (xs : List Entry) (sorted : AreInOrder xs) (id : SocketId) where
         never false = refl
 
     pub place_of_id : position (λ (e : Entry). has_id id e && test e.role) xs ≡ then_some (test x.role) i
-    place_of_id = by_answer (test x.role) (λ passes. rw passes (passes_there passes)) (λ fails. rw fails (fails_there fails))
+    place_of_id = by_test (test x.role) (λ passes. rw passes (passes_there passes)) (λ fails. rw fails (fails_there fails))
 
 -- what a binary search by id answers
 pub searched : (xs : List Entry) → AreInOrder xs → (id : SocketId) (r : Result ℕ ℕ) → IsSearchInRange r (length xs) → IsBinarySearchResult (λ (e : Entry). nat_cmp e.id.0 id.0) xs r → result_ok r ≡ position (has_id id) xs
@@ -213,8 +209,8 @@ none_of_id test id xs none = position-none_passes (λ (e : Entry). has_id id e &
   where
     none_passes : (ys : List Entry) → find (has_id id) ys ≡ None → (k : ℕ) (d : Entry) → k < length ys → has_id id (get_or ys k d) ≡ false
     none_passes [] missed k d inside = absurd (omega arith)
-    none_passes (y ∷ ys) missed zero d inside = by_answer (has_id id y) (λ passes. let some = (rw passes at missed) in cc) (λ fails. fails)
-    none_passes (y ∷ ys) missed (suc k) d inside = by_answer (has_id id y) (λ passes. let some = (rw passes at missed) in cc) (λ fails. none_passes ys (rw fails at missed) k d (omega arith))
+    none_passes (y ∷ ys) missed zero d inside = by_test (has_id id y) (λ passes. let some = (rw passes at missed) in cc) (λ fails. fails)
+    none_passes (y ∷ ys) missed (suc k) d inside = by_test (has_id id y) (λ passes. let some = (rw passes at missed) in cc) (λ fails. none_passes ys (rw fails at missed) k d (omega arith))
 
 -- there is a place exactly where one passes
 pub is_some-position : {X : Type 0} (p : X → Bool) (xs : List X) (o : Option ℕ) → o ≡ position p xs → is_some o ≡ list_any p xs
@@ -223,5 +219,5 @@ is_some-position {X = X} p (x ∷ xs) None is = sym (nothing (x ∷ xs) (find-po
   where
     nothing : (ys : List X) → find p ys ≡ None → list_any p ys ≡ false
     nothing [] missed = refl
-    nothing (y ∷ ys) missed = by_answer (p y) (λ passes. let some = (rw passes at missed) in cc) (λ fails. rw fails (nothing ys (rw fails at missed)))
+    nothing (y ∷ ys) missed = by_test (p y) (λ passes. let some = (rw passes at missed) in cc) (λ fails. rw fails (nothing ys (rw fails at missed)))
 is_some-position {X = X} p (x ∷ xs) (Some i) is = let found = position-Some p (x ∷ xs) i x (sym is) in sym (list_any_at p (x ∷ xs) i x found.0 found.1)
