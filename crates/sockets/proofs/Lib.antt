@@ -30,3 +30,10 @@ pub mod Held
 pub mod Numbered
 pub mod Answered
 pub mod GivenUp
+pub mod OfferCounts
+pub mod OfferRoles
+pub mod OfferHeard
+pub mod OfferSteps
+pub mod OfferHeld
+pub mod OfferOrder
+pub mod OfferTurns

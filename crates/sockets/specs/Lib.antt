@@ -17,3 +17,4 @@ pub mod Causes
 pub mod Order
 pub mod Traffic
 pub mod Names
+pub mod Offered

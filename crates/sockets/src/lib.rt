@@ -9,6 +9,7 @@ mod datagrams;
 mod emission;
 mod entry;
 pub mod laws;
+pub mod offered_laws;
 mod ports;
 mod refusal;
 mod replies;
