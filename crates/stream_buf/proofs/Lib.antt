@@ -2,3 +2,8 @@ pub mod Laying
 pub mod Counting
 pub mod Inserting
 pub mod Taking
+pub mod Unacknowledged
+pub mod Standing
+pub mod Touching
+pub mod Beginnings
+pub mod Receptions

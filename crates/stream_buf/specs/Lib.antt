@@ -1,3 +1,5 @@
 pub mod Sending
 pub mod Receiving
 pub mod Counting
+pub mod Written
+pub mod Received

@@ -2,6 +2,7 @@
 //! ahead of a gap.
 #![tactic(auto)]
 
+pub mod laws;
 mod places;
 mod receive;
 mod send;
