@@ -1,0 +1,3 @@
+pub mod Capture
+pub mod Reading
+pub mod Cutting

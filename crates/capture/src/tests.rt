@@ -1,0 +1,1 @@
+//! Captures as tcpdump writes them.
