@@ -1,3 +1,6 @@
 pub mod Numbers
 pub mod Steps
 pub mod Runs
+pub mod Beginnings
+pub mod Spelled
+pub mod Ours

@@ -1,5 +1,5 @@
 -- Numbers in either order, and what stands behind them.
-use Rattle.std.proofs.Common.{◌≡◌, ℕ, ◌+◌, ◌<◌, ◌^◌, List, [], ◌∷◌, ◌++◌, length, take, drop, slice_index, arith, refl, sym, ◌∙◌, ap}
+use Rattle.std.proofs.Common.{◌≡◌, ℕ, ◌+◌, ◌<◌, ◌^◌, List, ◌++◌, length, drop, slice_index, sym, ◌∙◌, ap}
 use Rattle.std.proofs.lemmas.List.{drop-drop, drop_at}
 use Rattle.byteorder.specs.Numbers.{big_number-reads_back, little_number-reads_back, length-bytes_high_first, length-bytes_low_first, big_from-lt, little_from-lt}
 use Rattle.capture.specs.declared.format.Order.{Order}

@@ -1,13 +1,12 @@
 -- One record: what is read of its octets, whole or cut.
-use Rattle.std.proofs.Common.{◌≡◌, ℕ, ◌+◌, ◌-◌, ◌<◌, ◌≤◌, ◌^◌, ◌==◌, Bool, true, false, nat_lt, cond, List, [], ◌∷◌, ◌++◌, length, take, drop, Option, Some, None, Result, Ok, Err, arith, refl, sym, ◌∙◌, ap, append_assoc, length-append}
+use Rattle.std.proofs.Common.{◌≡◌, ℕ, ◌+◌, ◌-◌, ◌<◌, ◌≤◌, ◌^◌, ◌==◌, Bool, true, false, nat_lt, cond, List, ◌++◌, length, take, drop, Some, None, Ok, Err, arith, refl, ◌∙◌, ap, append_assoc, length-append}
 use Rattle.std.proofs.lemmas.Bool.Decides.{nat_tests}
 use Rattle.std.proofs.lemmas.List.{take_at, drop_at}
-use Rattle.capture.specs.declared.fault.RecordFault.{RecordFault}
-use Rattle.capture.specs.declared.fault.RecordFault.TheVariants.{CutHead, CutOctets, TooLong}
+use Rattle.capture.specs.declared.fault.RecordFault.TheVariants.{CutHead, CutOctets}
 use Rattle.capture.specs.declared.format.Order.{Order}
 use Rattle.capture.specs.declared.header.Header.{Header}
 use Rattle.capture.specs.Capture.{Entry, IsEntry, entry_head, entry_octets, number_in, number_octets}
-use Rattle.capture.specs.Reading.{Record, answer_in, entry_in, included_in, number_at, read_as, rest_behind, rest_in}
+use Rattle.capture.specs.Reading.{answer_in, entry_in, included_in, number_at, read_as, rest_behind, rest_in}
 use Rattle.capture.proofs.Numbers.{behind, length-number, number_back}
 
 -- a test that failed, and one that didn't

@@ -3,7 +3,6 @@ use Rattle.std.specs.Prelude.{ℕ, ◌*◌, ◌/◌, ◌%◌, ◌<◌, ◌≤◌
 use Rattle.std.specs.List.{flat_map}
 use Rattle.byteorder.specs.Endian.{big_bytes, big_number, little_bytes, little_number}
 use Rattle.clock.specs.declared.moment.Moment.{Moment}
-use Rattle.capture.specs.declared.format.Format.{Format}
 use Rattle.capture.specs.declared.format.Fraction.{Fraction}
 use Rattle.capture.specs.declared.format.Fraction.TheVariants.{Microseconds, Nanoseconds}
 use Rattle.capture.specs.declared.format.Order.{Order}
@@ -87,3 +86,8 @@ our_header_octets = header_octets our_header 0 0
 -- the capture of frames that went out in this order
 abbrev pub capture_of : List Frame → List ℕ
 capture_of frames = spelling our_header 0 0 (map entry_of frames)
+
+-- a frame whose record says all of it: its second has 32 bits, and it is no longer than a record may be
+pub record IsToldWhole (f : Frame) : Type 0 where
+  pub moment : f.moment.0 < 1000 * 2 ^ 32
+  pub octets : length f.octets ≤ 262144

@@ -1,5 +1,5 @@
 -- What is read of a capture, from left to right.
-use Rattle.std.specs.Prelude.{◌≡◌, ℕ, ◌+◌, ◌-◌, ◌*◌, ◌/◌, ◌==◌, nat_lt, nat_le, ◌||◌, ◌&&◌, if◌then◌else◌, min, List, [], ◌∷◌, length, take, drop, Option, Some, None, Result, Ok, Err}
+use Rattle.std.specs.Prelude.{◌≡◌, ℕ, ◌+◌, ◌-◌, ◌*◌, ◌/◌, ◌%◌, ◌==◌, nat_lt, ◌||◌, ◌&&◌, if◌then◌else◌, List, [], ◌∷◌, length, take, drop, Option, Some, None, Result, Ok, Err}
 use Rattle.clock.specs.declared.moment.Moment.{Moment}
 use Rattle.capture.specs.declared.fault.HeaderFault.{HeaderFault}
 use Rattle.capture.specs.declared.fault.HeaderFault.TheVariants.{LinkType, NotACapture, Short, Version}
@@ -11,7 +11,7 @@ use Rattle.capture.specs.declared.format.Fraction.TheVariants.{Microseconds, Nan
 use Rattle.capture.specs.declared.format.Order.{Order}
 use Rattle.capture.specs.declared.format.Order.TheVariants.{Big, Little}
 use Rattle.capture.specs.declared.header.Header.{Header}
-use Rattle.capture.specs.Capture.{Entry, number_in}
+use Rattle.capture.specs.Capture.{Entry, Frame, number_in}
 
 -- the format that the first four octets tell, as a number whose lowest octet stands first
 abbrev pub format_of : ℕ → Option Format
@@ -127,3 +127,12 @@ abbrev pub AreRead : Header → List ℕ → List Record → Option RecordFault 
 AreRead header octets [] None = answer_in header octets ≡ None
 AreRead header octets [] (Some fault) = answer_in header octets ≡ Some (Err fault)
 AreRead header octets (r ∷ rs) end = (answer_in header octets ≡ Some (Ok r)) × AreRead header (rest_in header octets) rs end
+
+-- what is read of a frame's record in a capture of ours
+abbrev pub record_of : Frame → Record
+record_of f = record {
+  seconds = f.moment.0 / 1000;
+  nanoseconds = f.moment.0 % 1000 * 1000000;
+  original = length f.octets;
+  octets = f.octets;
+}

@@ -1,14 +1,42 @@
 //! Laws of the definitions that the contracts of this crate cite: each is the contract of a function that does nothing.
 
-ghost use Rattle.std.specs.Prelude.{◌≡◌, ℕ, List, take, map, All, Option, None};
+ghost use Rattle.std.specs.Prelude.{◌≡◌, ℕ, ◌-◌, ◌<◌, ◌^◌, List, [], ◌∷◌, ◌++◌, take, map, All, Option, Some, None, Result, Ok, Err};
 ghost use Rattle.std.specs.List.{flat_map};
+ghost use Rattle.capture.specs.declared.fault.HeaderFault.TheVariants.{Short};
 ghost use Rattle.capture.specs.declared.fault.RecordFault.{RecordFault};
+ghost use Rattle.capture.specs.declared.format.Order.TheVariants.{Little};
 ghost use Rattle.capture.specs.declared.header.Header.{Header};
 ghost use Rattle.capture.specs.declared.header.TheConstants.{HEADER_LEN};
 ghost use Rattle.capture.specs.declared.record.TheConstants.{MOST_OCTETS, RECORD_HEAD_LEN};
-ghost use Rattle.capture.specs.Capture.{Entry, IsEntry, entry_octets};
+ghost use Rattle.capture.specs.Capture.{Entry, Frame, IsEntry, IsToldWhole, capture_of, entry_head, entry_octets, entry_of, header_octets, our_header, our_header_octets};
 ghost use Rattle.capture.specs.Cutting.{lack_in, whole_in};
-ghost use Rattle.capture.specs.Reading.{AreRead, Record, read_as};
+ghost use Rattle.capture.specs.Reading.{AreRead, Record, answer_in, moment_of, opened, read_as, record_of, rest_in};
+
+/// A capture is written in turn: the header, and then for each frame what stands before its octets, and these.
+pub fn written_in_turn()
+    ensures none { capture_of [] ≡ our_header_octets }
+    ensures more { (frames : List Frame) (frame : Frame)
+        → capture_of (frames ++ frame ∷ []) ≡ capture_of frames ++ (entry_head Little (entry_of frame) ++ frame.octets) }
+{}
+
+/// A capture that was written is read as its frames, in order, and then the end: each with its moment and all of its octets, where
+/// the moment lies below 2^32 seconds, and the frame has 262,144 octets at most.
+pub fn written_is_read()
+    ensures opened { (frames : List Frame)
+        → opened (capture_of frames) ≡ Ok (record { header = our_header; octets = flat_map (entry_octets Little) (map entry_of frames) }) }
+    ensures read { (frames : List Frame) → All IsToldWhole frames
+        → AreRead our_header (flat_map (entry_octets Little) (map entry_of frames)) (map record_of frames) None }
+    ensures moment { (frame : Frame) → moment_of (record_of frame) ≡ frame.moment }
+{}
+
+/// A header is read as it is spelled, in either order and with either kind of fractions, and what stands behind it is left. Cut,
+/// it is told how many octets are missing.
+pub fn header_is_read()
+    ensures whole { (header : Header) (zone accuracy : ℕ) (behind : List ℕ) → header.snaplen < 2 ^ 32
+        → opened (header_octets header zone accuracy ++ behind) ≡ Ok (record { header = header; octets = behind }) }
+    ensures cut { (header : Header) (zone accuracy : ℕ) (behind : List ℕ) (n : ℕ) → header.snaplen < 2 ^ 32 → n < 24
+        → opened (take n (header_octets header zone accuracy ++ behind)) ≡ Err (Short (24 - n)) }
+{}
 
 /// All octets are read in one way: records, and then the end of the capture, or a fault.
 pub fn one_reading()
@@ -25,6 +53,20 @@ pub fn records_are_read()
         → AreRead header (flat_map (entry_octets header.format.order) entries) (map (read_as header) entries) None }
     ensures cut { (header : Header) (entries : List Entry) (n : ℕ) → All IsEntry entries
         → AreRead header (take n (flat_map (entry_octets header.format.order) entries)) (map (read_as header) (whole_in n entries)) (lack_in n entries) }
+{}
+
+/// The same records read the same in either order of octets, whole or cut after any number of octets.
+pub fn either_order()
+    ensures { (first second : Header) (entries : List Entry) (n : ℕ) (rs : List Record) (end : Option RecordFault)
+        → first.format.fraction ≡ second.format.fraction → first.snaplen ≡ second.snaplen → All IsEntry entries
+        → AreRead first (take n (flat_map (entry_octets first.format.order) entries)) rs end
+        → AreRead second (take n (flat_map (entry_octets second.format.order) entries)) rs end }
+{}
+
+/// What is read as a record is spelled so: nothing is read of octets that spell none.
+pub fn read_is_spelled()
+    ensures { (header : Header) (octets : List ℕ) (r : Record) → All (λ octet. octet < 256) octets → answer_in header octets ≡ Some (Ok r)
+        → (e : Entry) × IsEntry e × (octets ≡ entry_octets header.format.order e ++ rest_in header octets) × (r ≡ read_as header e) }
 {}
 
 /// What the public constants are: the lengths of both heads, and libpcap's greatest snapshot length, in octets.
