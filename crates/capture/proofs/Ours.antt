@@ -1,17 +1,19 @@
 -- The captures that are written.
-use Rattle.std.proofs.Common.{◌≡◌, ℕ, ◌+◌, ◌*◌, ◌/◌, ◌%◌, ◌^◌, List, [], ◌∷◌, ◌++◌, length, take, map, All, Option, None, Ok, arith, refl, sym, ◌∙◌, ap, subst}
+use Rattle.std.proofs.Common.{◌≡◌, ◌<◌, ◌-◌, Err, ℕ, ◌+◌, ◌*◌, ◌/◌, ◌%◌, ◌^◌, List, [], ◌∷◌, ◌++◌, length, take, map, All, Option, None, Ok, arith, refl, sym, ◌∙◌, ap, subst}
 use Rattle.std.specs.List.{flat_map}
-use Rattle.std.proofs.lemmas.List.{map-append, flat_map_more, take_all}
-use Rattle.std.proofs.lemmas.List.Elements.{All-cons, All-head, All-nil, All-tail}
+use Rattle.std.proofs.lemmas.List.{map-append, flat_map_more, take-map, take_all}
+use Rattle.std.proofs.lemmas.List.Elements.{All-cons, All-head, All-nil, All-tail, All-take}
+use Rattle.std.proofs.Math.Seq.{take-append-add}
 use Rattle.clock.specs.declared.moment.Moment.{Moment}
 use Rattle.capture.specs.declared.format.Fraction.{Fraction}
 use Rattle.capture.specs.declared.format.Order.TheVariants.{Little}
 use Rattle.capture.specs.declared.header.Header.{Header}
+use Rattle.capture.specs.declared.fault.HeaderFault.TheVariants.{Short}
 use Rattle.capture.specs.declared.fault.RecordFault.{RecordFault}
 use Rattle.capture.specs.Capture.{Entry, Frame, IsEntry, IsToldWhole, capture_of, entry_head, entry_octets, entry_of, our_header, our_header_octets}
-use Rattle.capture.specs.Cutting.{lack_in, whole_in}
+use Rattle.capture.specs.Cutting.{lack_in, whole_count}
 use Rattle.capture.specs.Reading.{AreRead, Record, moment_of, opened, read_as, record_of}
-use Rattle.capture.proofs.Beginnings.{opened_whole}
+use Rattle.capture.proofs.Beginnings.{opened_cut, opened_whole}
 use Rattle.capture.proofs.Runs.{all_read, cut_read, one_reading}
 
 -- a capture of no frame is a header
@@ -89,7 +91,29 @@ pub orders_alike : (first second : Header) (entries : List Entry) (n : ℕ) (rs 
     → AreRead second (take n (flat_map (entry_octets second.format.order) entries)) rs end
 orders_alike first second entries n rs end same_fraction same_snaplen each are =
     let octets : List ℕ = take n (flat_map (entry_octets second.format.order) entries) in
-    let same = one_reading first (take n (flat_map (entry_octets first.format.order) entries)) (map (read_as first) (whole_in n entries)) rs (lack_in n entries) end (cut_read first entries n each) are in
+    let same = one_reading first (take n (flat_map (entry_octets first.format.order) entries)) (map (read_as first) (take (whole_count n entries) entries)) rs (lack_in n entries) end (cut_read first entries n each) are in
     let read : read_as second ≡ read_as first = ap (λ f. told_as f second.snaplen) (sym same_fraction) ∙ ap (told_as first.format.fraction) (sym same_snaplen) in
-    let records : map (read_as second) (whole_in n entries) ≡ rs = ap (λ f. map f (whole_in n entries)) read ∙ same.0 in
+    let records : map (read_as second) (take (whole_count n entries) entries) ≡ rs = ap (λ f. map f (take (whole_count n entries) entries)) read ∙ same.0 in
     subst (λ e. AreRead second octets rs e) same.1 (subst (λ ss. AreRead second octets ss (lack_in n entries)) records (cut_read second entries n each))
+
+-- the octets behind the header of a capture
+abbrev behind_ours : List Frame → List ℕ
+behind_ours frames = flat_map (entry_octets Little) (map entry_of frames)
+
+-- a capture that was cut within its header, or behind it
+pub ours_cut : (frames : List Frame) (n : ℕ) → n < 24 → opened (take n (capture_of frames)) ≡ Err (Short (24 - n))
+ours_cut frames n fewer = opened_cut our_header 0 0 (behind_ours frames) n (omega arith) fewer
+
+pub ours_opened : (frames : List Frame) (n : ℕ)
+    → opened (take (24 + n) (capture_of frames)) ≡ Ok (record { header = our_header; octets = take n (flat_map (entry_octets Little) (map entry_of frames)) })
+ours_opened frames n =
+    ap opened (take-append-add our_header_octets (behind_ours frames) n) ∙ opened_whole our_header 0 0 (take n (behind_ours frames)) (omega arith)
+
+-- .. is read as the frames whose records it has whole
+pub ours_cut_read : (frames : List Frame) (n : ℕ) → All IsToldWhole frames
+    → AreRead our_header (take n (flat_map (entry_octets Little) (map entry_of frames))) (map record_of (take (whole_count n (map entry_of frames)) frames)) (lack_in n (map entry_of frames))
+ours_cut_read frames n each =
+    let k : ℕ = whole_count n (map entry_of frames) in
+    let same : map (read_as our_header) (take k (map entry_of frames)) ≡ map record_of (take k frames) =
+    ap (map (read_as our_header)) (take-map entry_of k frames) ∙ all_back (take k frames) (All-take IsToldWhole k frames each) in
+    subst (λ rs. AreRead our_header (take n (behind_ours frames)) rs (lack_in n (map entry_of frames))) same (cut_read our_header (map entry_of frames) n (all_told frames each))

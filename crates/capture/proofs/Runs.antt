@@ -11,7 +11,7 @@ use Rattle.capture.specs.declared.fault.RecordFault.TheVariants.{CutHead, CutOct
 use Rattle.capture.specs.declared.format.Order.{Order}
 use Rattle.capture.specs.declared.header.Header.{Header}
 use Rattle.capture.specs.Capture.{Entry, IsEntry, entry_head, entry_octets}
-use Rattle.capture.specs.Cutting.{lack_in, whole_in}
+use Rattle.capture.specs.Cutting.{lack_in, whole_count}
 use Rattle.capture.specs.Reading.{AreRead, Record, answer_in, included_in, read_as, rest_behind, rest_in}
 use Rattle.capture.proofs.Numbers.{length-number}
 use Rattle.capture.proofs.Steps.{IsStep, cut_behind_head, cut_in_head, ended, passed, step, stopped}
@@ -57,8 +57,8 @@ from : (n m : ℕ) → m ≤ n → nat_lt n m ≡ false
 from n m most = grind (arith, nat_tests, most)
 
 -- no record stands whole where the first is cut
-none_whole : (h : Header) (e : Entry) (es : List Entry) (n : ℕ) → n < 16 + length e.octets → map (read_as h) (whole_in n (e ∷ es)) ≡ []
-none_whole h e es n fewer = ap (map (read_as h)) (stopped _ _ _ (below n (16 + length e.octets) fewer))
+none_whole : (h : Header) (e : Entry) (es : List Entry) (n : ℕ) → n < 16 + length e.octets → map (read_as h) (take (whole_count n (e ∷ es)) (e ∷ es)) ≡ []
+none_whole h e es n fewer = ap (λ k. map (read_as h) (take k (e ∷ es))) (stopped _ _ _ (below n (16 + length e.octets) fewer))
 
 -- the front of the first record, where that is all there is
 front_of : (o : Order) (e : Entry) (back : List ℕ) (n : ℕ) → 16 ≤ n → n < 16 + length e.octets
@@ -71,9 +71,9 @@ taken : (n : ℕ) (xs : List ℕ) → n ≤ length xs → length (take n xs) ≡
 taken n xs enough = omega (arith, length-take n xs, enough)
 
 cut_at_end : (h : Header) (e : Entry) (es : List Entry) (octets : List ℕ) → length octets ≡ 0
-    → AreRead h octets (map (read_as h) (whole_in 0 (e ∷ es))) (lack_in 0 (e ∷ es))
+    → AreRead h octets (map (read_as h) (take (whole_count 0 (e ∷ es)) (e ∷ es))) (lack_in 0 (e ∷ es))
 cut_at_end h e es octets none =
-    along h octets octets (map (read_as h) (whole_in 0 (e ∷ es))) [] (lack_in 0 (e ∷ es)) None refl (none_whole h e es 0 (omega arith)) refl (ended h octets none)
+    along h octets octets (map (read_as h) (take (whole_count 0 (e ∷ es)) (e ∷ es))) [] (lack_in 0 (e ∷ es)) None refl (none_whole h e es 0 (omega arith)) refl (ended h octets none)
 
 lack_in_head : (e : Entry) (es : List Entry) (n : ℕ) → 0 < n → n < 16 → lack_in n (e ∷ es) ≡ Some (CutHead (16 - n))
 lack_in_head e es n some few =
@@ -81,9 +81,9 @@ lack_in_head e es n some few =
     passed _ _ _ t0 ∙ stopped _ _ _ (below n 16 few)
 
 cut_within_head : (h : Header) (e : Entry) (es : List Entry) (n : ℕ) (octets : List ℕ) → length octets ≡ n → 0 < n → n < 16
-    → AreRead h octets (map (read_as h) (whole_in n (e ∷ es))) (lack_in n (e ∷ es))
+    → AreRead h octets (map (read_as h) (take (whole_count n (e ∷ es)) (e ∷ es))) (lack_in n (e ∷ es))
 cut_within_head h e es n octets is some few =
-    along h octets octets (map (read_as h) (whole_in n (e ∷ es))) [] (lack_in n (e ∷ es)) (Some (CutHead (16 - n))) refl
+    along h octets octets (map (read_as h) (take (whole_count n (e ∷ es)) (e ∷ es))) [] (lack_in n (e ∷ es)) (Some (CutHead (16 - n))) refl
     (none_whole h e es n (omega (arith, few))) (lack_in_head e es n some few) (cut_in_head h octets n is some few)
 
 lack_in_octets : (e : Entry) (es : List Entry) (n : ℕ) → 16 ≤ n → n < 16 + length e.octets → lack_in n (e ∷ es) ≡ Some (CutOctets (16 + length e.octets - n))
@@ -92,11 +92,11 @@ lack_in_octets e es n head fewer =
     passed _ _ _ t0 ∙ (passed _ _ _ (from n 16 head) ∙ stopped _ _ _ (below n (16 + length e.octets) fewer))
 
 cut_within_octets : (h : Header) (e : Entry) (es : List Entry) (n : ℕ) (back : List ℕ) → IsEntry e → 16 ≤ n → n < 16 + length e.octets
-    → AreRead h (take n (entry_octets h.format.order e ++ back)) (map (read_as h) (whole_in n (e ∷ es))) (lack_in n (e ∷ es))
+    → AreRead h (take n (entry_octets h.format.order e ++ back)) (map (read_as h) (take (whole_count n (e ∷ es)) (e ∷ es))) (lack_in n (e ∷ es))
 cut_within_octets h e es n back is head fewer =
     let body : List ℕ = take (n - 16) (e.octets ++ back) in
     let len : length body ≡ n - 16 = taken (n - 16) (e.octets ++ back) (omega (arith, length-append e.octets back, fewer)) in
-    along h (take n (entry_octets h.format.order e ++ back)) (entry_head h.format.order e ++ body) (map (read_as h) (whole_in n (e ∷ es))) [] (lack_in n (e ∷ es)) (Some (CutOctets (16 + length e.octets - n)))
+    along h (take n (entry_octets h.format.order e ++ back)) (entry_head h.format.order e ++ body) (map (read_as h) (take (whole_count n (e ∷ es)) (e ∷ es))) [] (lack_in n (e ∷ es)) (Some (CutOctets (16 + length e.octets - n)))
     (front_of h.format.order e back n head fewer) (none_whole h e es n fewer) (lack_in_octets e es n head fewer)
     (cut_behind_head h e body n is (omega (arith, len, head)) (omega (arith, len, head, fewer)))
 
@@ -106,19 +106,19 @@ lack_behind e es n whole =
     passed _ _ _ t0 ∙ (passed _ _ _ (from n 16 (omega (arith, whole))) ∙ passed _ _ _ (from n (16 + length e.octets) whole))
 
 cut_behind : (h : Header) (e : Entry) (es : List Entry) (n : ℕ) (back : List ℕ) → IsEntry e → 16 + length e.octets ≤ n
-    → AreRead h (take (n - (16 + length e.octets)) back) (map (read_as h) (whole_in (n - (16 + length e.octets)) es)) (lack_in (n - (16 + length e.octets)) es)
-    → AreRead h (take n (entry_octets h.format.order e ++ back)) (map (read_as h) (whole_in n (e ∷ es))) (lack_in n (e ∷ es))
+    → AreRead h (take (n - (16 + length e.octets)) back) (map (read_as h) (take (whole_count (n - (16 + length e.octets)) es) es)) (lack_in (n - (16 + length e.octets)) es)
+    → AreRead h (take n (entry_octets h.format.order e ++ back)) (map (read_as h) (take (whole_count n (e ∷ es)) (e ∷ es))) (lack_in n (e ∷ es))
 cut_behind h e es n back is whole are =
     let m : ℕ = n - (16 + length e.octets) in
-    along h (take n (entry_octets h.format.order e ++ back)) (entry_octets h.format.order e ++ take m back) (map (read_as h) (whole_in n (e ∷ es))) (read_as h e ∷ map (read_as h) (whole_in m es)) (lack_in n (e ∷ es)) (lack_in m es)
+    along h (take n (entry_octets h.format.order e ++ back)) (entry_octets h.format.order e ++ take m back) (map (read_as h) (take (whole_count n (e ∷ es)) (e ∷ es))) (read_as h e ∷ map (read_as h) (take (whole_count m es) es)) (lack_in n (e ∷ es)) (lack_in m es)
     (past n (16 + length e.octets) (entry_octets h.format.order e) back (length-entry h.format.order e) whole)
-    (ap (map (read_as h)) (passed _ _ _ (from n (16 + length e.octets) whole)))
+    (ap (λ k. map (read_as h) (take k (e ∷ es))) (passed _ _ _ (from n (16 + length e.octets) whole)))
     (lack_behind e es n whole)
-    (first_read h e (take m back) (map (read_as h) (whole_in m es)) (lack_in m es) is are)
+    (first_read h e (take m back) (map (read_as h) (take (whole_count m es) es)) (lack_in m es) is are)
 
 -- the same where the first record is cut
 cut_first : (h : Header) (e : Entry) (es : List Entry) (n : ℕ) (back : List ℕ) → IsEntry e → n < 16 + length e.octets
-    → AreRead h (take n (entry_octets h.format.order e ++ back)) (map (read_as h) (whole_in n (e ∷ es))) (lack_in n (e ∷ es))
+    → AreRead h (take n (entry_octets h.format.order e ++ back)) (map (read_as h) (take (whole_count n (e ∷ es)) (e ∷ es))) (lack_in n (e ∷ es))
 cut_first h e es zero back is fewer = cut_at_end h e es (take zero (entry_octets h.format.order e ++ back)) (omega (arith, length-take zero (entry_octets h.format.order e ++ back)))
 cut_first h e es (suc m) back is fewer =
     let n : ℕ = suc m in
@@ -128,7 +128,7 @@ cut_first h e es (suc m) back is fewer =
 
 -- records that were cut are read up to the last whole one
 pub cut_read : (h : Header) (entries : List Entry) (n : ℕ) → All IsEntry entries
-    → AreRead h (take n (flat_map (entry_octets h.format.order) entries)) (map (read_as h) (whole_in n entries)) (lack_in n entries)
+    → AreRead h (take n (flat_map (entry_octets h.format.order) entries)) (map (read_as h) (take (whole_count n entries) entries)) (lack_in n entries)
 cut_read h [] n each = ended h (take n []) (omega (arith, length-take {A = ℕ} n []))
 cut_read h (e ∷ es) n each =
     let is : IsEntry e = All-head IsEntry e es each in

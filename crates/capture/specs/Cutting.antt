@@ -1,13 +1,14 @@
 -- What is read of a capture that was cut.
-use Rattle.std.specs.Prelude.{ℕ, ◌+◌, ◌-◌, ◌==◌, nat_lt, if◌then◌else◌, List, [], ◌∷◌, length, Option, Some, None}
+use Rattle.std.specs.Prelude.{ℕ, suc, ◌+◌, ◌-◌, ◌==◌, nat_lt, if◌then◌else◌, List, [], ◌∷◌, length, Option, Some, None}
 use Rattle.capture.specs.declared.fault.RecordFault.{RecordFault}
 use Rattle.capture.specs.declared.fault.RecordFault.TheVariants.{CutHead, CutOctets}
 use Rattle.capture.specs.Capture.{Entry}
 
--- the records that stand whole in the first so many octets
-abbrev pub whole_in : ℕ → List Entry → List Entry
-whole_in n [] = []
-whole_in n (e ∷ es) = if nat_lt n (16 + length e.octets) then [] else e ∷ whole_in (n - (16 + length e.octets)) es
+-- how many records stand whole in the first so many octets
+abbrev pub whole_count : ℕ → List Entry → ℕ
+whole_count n [] = 0
+whole_count n (e ∷ es) =
+    if nat_lt n (16 + length e.octets) then 0 else suc (whole_count (n - (16 + length e.octets)) es)
 
 -- what the next record lacks in so many octets: nothing where they end with the record before, or with the last
 abbrev pub lack_in : ℕ → List Entry → Option RecordFault

@@ -1,6 +1,6 @@
 //! Laws of the definitions that the contracts of this crate cite: each is the contract of a function that does nothing.
 
-ghost use Rattle.std.specs.Prelude.{◌≡◌, ℕ, ◌-◌, ◌<◌, ◌^◌, List, [], ◌∷◌, ◌++◌, take, map, All, Option, Some, None, Result, Ok, Err};
+ghost use Rattle.std.specs.Prelude.{◌≡◌, ℕ, ◌+◌, ◌-◌, ◌<◌, ◌^◌, List, [], ◌∷◌, ◌++◌, take, map, All, Option, Some, None, Result, Ok, Err};
 ghost use Rattle.std.specs.List.{flat_map};
 ghost use Rattle.capture.specs.declared.fault.HeaderFault.TheVariants.{Short};
 ghost use Rattle.capture.specs.declared.fault.RecordFault.{RecordFault};
@@ -9,7 +9,7 @@ ghost use Rattle.capture.specs.declared.header.Header.{Header};
 ghost use Rattle.capture.specs.declared.header.TheConstants.{HEADER_LEN};
 ghost use Rattle.capture.specs.declared.record.TheConstants.{MOST_OCTETS, RECORD_HEAD_LEN};
 ghost use Rattle.capture.specs.Capture.{Entry, Frame, IsEntry, IsToldWhole, capture_of, entry_head, entry_octets, entry_of, header_octets, our_header, our_header_octets};
-ghost use Rattle.capture.specs.Cutting.{lack_in, whole_in};
+ghost use Rattle.capture.specs.Cutting.{lack_in, whole_count};
 ghost use Rattle.capture.specs.Reading.{AreRead, Record, answer_in, moment_of, opened, read_as, record_of, rest_in};
 
 /// A capture is written in turn: the header, and then for each frame what stands before its octets, and these.
@@ -27,6 +27,18 @@ pub fn written_is_read()
     ensures read { (frames : List Frame) → All IsToldWhole frames
         → AreRead our_header (flat_map (entry_octets Little) (map entry_of frames)) (map record_of frames) None }
     ensures moment { (frame : Frame) → moment_of (record_of frame) ≡ frame.moment }
+{}
+
+/// A capture that was written and then cut after any number of octets is read up to the last frame whose record it has whole, and
+/// then it is told what the next record lacks, or the end, where it is cut between two records. Cut within its header, it is told
+/// how many octets of that are missing.
+pub fn cut_is_read()
+    ensures header { (frames : List Frame) (n : ℕ) → n < 24 → opened (take n (capture_of frames)) ≡ Err (Short (24 - n)) }
+    ensures opened { (frames : List Frame) (n : ℕ) → opened (take (24 + n) (capture_of frames))
+        ≡ Ok (record { header = our_header; octets = take n (flat_map (entry_octets Little) (map entry_of frames)) }) }
+    ensures read { (frames : List Frame) (n : ℕ) → All IsToldWhole frames
+        → AreRead our_header (take n (flat_map (entry_octets Little) (map entry_of frames)))
+        (map record_of (take (whole_count n (map entry_of frames)) frames)) (lack_in n (map entry_of frames)) }
 {}
 
 /// A header is read as it is spelled, in either order and with either kind of fractions, and what stands behind it is left. Cut,
@@ -52,7 +64,7 @@ pub fn records_are_read()
     ensures whole { (header : Header) (entries : List Entry) → All IsEntry entries
         → AreRead header (flat_map (entry_octets header.format.order) entries) (map (read_as header) entries) None }
     ensures cut { (header : Header) (entries : List Entry) (n : ℕ) → All IsEntry entries
-        → AreRead header (take n (flat_map (entry_octets header.format.order) entries)) (map (read_as header) (whole_in n entries)) (lack_in n entries) }
+        → AreRead header (take n (flat_map (entry_octets header.format.order) entries)) (map (read_as header) (take (whole_count n entries) entries)) (lack_in n entries) }
 {}
 
 /// The same records read the same in either order of octets, whole or cut after any number of octets.
