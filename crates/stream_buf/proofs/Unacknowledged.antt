@@ -2,7 +2,7 @@
 use Rattle.std.proofs.Common.{◌≡◌, ℕ, ◌+◌, ◌-◌, ◌≤◌, List, [], ◌∷◌, ◌++◌, length, take, drop, fold, refl, sym, ◌∙◌, ap, length-append, arith}
 use Rattle.std.specs.List.{slice_range}
 use Rattle.std.proofs.lemmas.List.{length-drop, length-take, drop-drop, drop-append-le}
-use Rattle.stream_buf.specs.Sending.{send_room, written_count}
+use Rattle.stream_buf.specs.Sending.{send_room, written_count, copied}
 use Rattle.stream_buf.specs.Written.{SendEvent, Written, nothing_written, after_send_event, written, IsHeld, AreHeldFrom, AreSendCalls}
 use Rattle.stream_buf.specs.Written.SendEvent.{Writes, Acks}
 
@@ -52,9 +52,9 @@ pub room_right : (capacity : ℕ) (w : Written) → IsRight capacity w → lengt
 room_right capacity w right = omega (arith, right.most, right.size)
 
 -- a part of what is held is the part of what was taken that lies behind what was acknowledged
-pub copied : (capacity offset len : ℕ) (w : Written) → IsRight capacity w
-    → slice_range w.buffer.held offset (offset + len) ≡ slice_range w.taken (w.acknowledged + offset) (w.acknowledged + offset + len)
-copied capacity offset len w right =
+pub copied_right : (capacity offset len : ℕ) (w : Written) → IsRight capacity w
+    → copied w.buffer offset len ≡ slice_range w.taken (w.acknowledged + offset) (w.acknowledged + offset + len)
+copied_right capacity offset len w right =
     let count : offset + len - offset ≡ w.acknowledged + offset + len - (w.acknowledged + offset) = omega arith in
     ap (λ (n : ℕ). take n (drop offset w.buffer.held)) count
     ∙ ap (λ (xs : List ℕ). take (w.acknowledged + offset + len - (w.acknowledged + offset)) xs)

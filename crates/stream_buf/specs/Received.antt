@@ -1,7 +1,7 @@
 -- A receive buffer over every list of calls, and the stream of octets that comes out of it (RFC 9293 section 3.4). Only laws speak of
 -- it.
-use Rattle.std.specs.Prelude.{◌≡◌, ℕ, zero, suc, ◌+◌, ◌<◌, ◌≤◌, Bool, ◌&&◌, if◌then◌else◌, List, [], ◌∷◌, ◌++◌, length, take, map, fold, Option, Some, None, is_some, is_none, IsSome, slice_index, slice_index_or, EachIndex}
-use Rattle.stream_buf.specs.Receiving.{ReceiveView, nothing_received, joined, after_insert, read_count, after_read}
+use Rattle.std.specs.Prelude.{◌≡◌, ℕ, zero, suc, ◌+◌, ◌<◌, ◌≤◌, Bool, ◌&&◌, if◌then◌else◌, List, [], ◌∷◌, ◌++◌, length, map, fold, Option, Some, None, is_some, is_none, IsSome, slice_index, slice_index_or, EachIndex}
+use Rattle.stream_buf.specs.Receiving.{ReceiveView, nothing_received, joined, after_insert, read_octets, after_read}
 
 -- what happens to a receive buffer
 pub data ReceiveEvent : Type 0 where
@@ -26,7 +26,7 @@ after_receive_event r (Inserts distance octets) = record r {
   buffer = after_insert r.buffer distance octets;
   next = r.next + length (joined r.buffer distance octets);
 }
-after_receive_event r (Reads len) = record r { buffer = after_read r.buffer len; read = r.read ++ take (read_count r.buffer len) r.buffer.readable }
+after_receive_event r (Reads len) = record r { buffer = after_read r.buffer len; read = r.read ++ read_octets r.buffer len }
 
 -- after these events, the first one first, from a new buffer for so many octets on
 abbrev pub received : ℕ → List ReceiveEvent → Received

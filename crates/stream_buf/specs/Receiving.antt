@@ -58,6 +58,10 @@ after_insert b distance octets =
 abbrev pub read_count : ReceiveView → ℕ → ℕ
 read_count b len = min len (length b.readable)
 
+-- those octets: the first ones
+abbrev pub read_octets : ReceiveView → ℕ → List ℕ
+read_octets b len = take (read_count b len) b.readable
+
 -- the caller read so many octets at most: the first ones are gone, and as many octets more may come
 abbrev pub after_read : ReceiveView → ℕ → ReceiveView
 after_read b len = record b {

@@ -1,6 +1,6 @@
 -- A send buffer over every list of calls, and the stream of octets that it took. Only laws speak of it.
 use Rattle.std.specs.Prelude.{ℕ, ◌+◌, ◌≤◌, List, [], ◌∷◌, ◌++◌, length, take, fold}
-use Rattle.stream_buf.specs.Sending.{SendView, written_count, after_write, after_acked}
+use Rattle.stream_buf.specs.Sending.{SendView, nothing_held, written_count, after_write, after_acked}
 
 -- what happens to a send buffer
 pub data SendEvent : Type 0 where
@@ -17,7 +17,7 @@ pub record Written : Type 0 where
 
 -- nothing was written
 abbrev pub nothing_written : ℕ → Written
-nothing_written capacity = record { buffer = record { held = []; capacity = capacity }; taken = []; acknowledged = 0 }
+nothing_written capacity = record { buffer = nothing_held capacity; taken = []; acknowledged = 0 }
 
 -- a write takes as many of its octets as it tells
 abbrev pub after_send_event : Written → SendEvent → Written

@@ -2,7 +2,7 @@
 //! does nothing.
 
 ghost use Rattle.std.specs.Prelude.{◌≡◌, ℕ, ◌+◌, ◌<◌, ◌≤◌, ◌++◌, List, length, take, drop, Option, Some, None, EachIndex, slice_index, slice_index_or, slice_range};
-ghost use Rattle.stream_buf.specs.Sending.{SendView, send_room, written_count};
+ghost use Rattle.stream_buf.specs.Sending.{SendView, send_room, written_count, copied};
 ghost use Rattle.stream_buf.specs.Receiving.{ReceiveView, ranges, read_count};
 ghost use Rattle.stream_buf.specs.Written.{SendEvent, written, AreSendCalls};
 ghost use Rattle.stream_buf.specs.Received.{ReceiveEvent, after_receive_event, received, in_order, by_place, AreReceiveCalls, Carry, IsInserted, Touches, beginnings};
@@ -30,7 +30,7 @@ pub fn writes_fill()
 pub fn copies_are_what_was_taken()
     ensures { (capacity : ℕ) (events : List SendEvent) (offset len : ℕ) → AreSendCalls capacity events
         → let w = written capacity events in offset + len ≤ length w.buffer.held
-        → slice_range w.buffer.held offset (offset + len) ≡ slice_range w.taken (w.acknowledged + offset) (w.acknowledged + offset + len) }
+        → copied w.buffer offset len ≡ slice_range w.taken (w.acknowledged + offset) (w.acknowledged + offset + len) }
 {}
 
 /// Where each insertion carries octets of one stream, at their places, what became readable are the first octets of that stream, as

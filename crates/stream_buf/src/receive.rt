@@ -1,7 +1,7 @@
 //! The octets that came.
 
-ghost use Rattle.std.specs.Prelude.{◌≡◌, ℕ, ◌+◌, ◌<◌, ◌≤◌, ◌++◌, List, length, take, drop, IfOk};
-ghost use Rattle.stream_buf.specs.Receiving.{nothing_received, ranges, laid, is_taken, joined, after_insert, read_count, after_read, IsReceiving};
+ghost use Rattle.std.specs.Prelude.{◌≡◌, ℕ, ◌+◌, ◌<◌, ◌≤◌, ◌++◌, List, length, drop, IfOk};
+ghost use Rattle.stream_buf.specs.Receiving.{nothing_received, ranges, laid, is_taken, joined, after_insert, read_count, read_octets, after_read, IsReceiving};
 
 use crate::places::{copy_front, lay, ranges_in};
 use std::alloc::{AllocError, Global};
@@ -75,7 +75,7 @@ impl RecvBuf {
     /// places in the stream.
     pub fn read(&mut self, out: &mut [u8]) -> usize
         ensures count { result ≡ read_count self.old (length out.old) }
-        ensures out { out.new ≡ take result self.old.readable ++ drop result out.old }
+        ensures out { out.new ≡ read_octets self.old (length out.old) ++ drop result out.old }
         ensures after { self.new ≡ after_read self.old (length out.old) }
     {
         let count = out.len().min(self.readable.len());
@@ -133,10 +133,10 @@ impl RecvBuf {
 mod tests {
     use super::*;
 
-    /// How many octets join what is readable when one octet comes at a distance; None where it has no room.
-    fn insert(buffer: &mut RecvBuf, distance: usize) -> Option<usize> {
-        if distance < buffer.room() {
-            Some(buffer.insert_at(distance, b"x"))
+    /// How many octets join what is readable when octets come at a distance; None where they have no room.
+    fn insert(buffer: &mut RecvBuf, distance: usize, octets: &[u8]) -> Option<usize> {
+        if distance <= buffer.room() && octets.len() <= buffer.room() - distance {
+            Some(buffer.insert_at(distance, octets))
         } else {
             None
         }
@@ -144,18 +144,36 @@ mod tests {
 
     /// Octets ahead of a gap are kept in 32 ranges at most.
     #[test]
-    fn keeps_most_ranges(rt: HostRuntime) {
-        let Ok(mut buffer) = RecvBuf::with_capacity(rt.alloc(), 100) else {
-            return;
-        };
+    fn keeps_most_ranges(rt: HostRuntime) -> Result<(), AllocError> {
+        let mut buffer = RecvBuf::with_capacity(rt.alloc(), 100)?;
         for i in 0..32 {
-            assert_eq!(rt; insert(&mut buffer, 2 * i + 1), Some(0));
+            assert_eq!(rt; insert(&mut buffer, 2 * i + 1, b"x"), Some(0));
             assert_eq!(rt; buffer.ranges(), i + 1);
         }
         for (distance, joined, ranges) in [(65, 0, 32), (2, 0, 31), (65, 0, 32), (0, 4, 31)] {
-            assert_eq!(rt; insert(&mut buffer, distance), Some(joined));
+            assert_eq!(rt; insert(&mut buffer, distance, b"x"), Some(joined));
             assert_eq!(rt; buffer.ranges(), ranges);
         }
         assert_eq!(rt; buffer.readable_len(), 4);
+        Ok(())
+    }
+
+    /// Octets that came in another order are read in theirs, and make room as they are read.
+    #[test]
+    fn reads_in_order(rt: HostRuntime) -> Result<(), AllocError> {
+        let mut buffer = RecvBuf::with_capacity(rt.alloc(), 6)?;
+        assert_eq!(rt; insert(&mut buffer, 4, b"ef"), Some(0));
+        assert_eq!(rt; insert(&mut buffer, 1, b"bc"), Some(0));
+        assert_eq!(rt; insert(&mut buffer, 0, b"a"), Some(3));
+        let mut out = [b'.'; 2];
+        assert_eq!(rt; buffer.read(&mut out), 2);
+        assert_eq!(rt; out, *b"ab");
+        assert_eq!(rt; buffer.room(), 5);
+        assert_eq!(rt; insert(&mut buffer, 0, b"d"), Some(3));
+        let mut rest = [b'.'; 5];
+        assert_eq!(rt; buffer.read(&mut rest), 4);
+        assert_eq!(rt; rest, *b"cdef.");
+        assert_eq!(rt; buffer.room(), buffer.capacity());
+        Ok(())
     }
 }

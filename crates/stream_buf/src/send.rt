@@ -1,7 +1,7 @@
 //! The octets on their way out.
 
-ghost use Rattle.std.specs.Prelude.{◌≡◌, ◌+◌, ◌≤◌, ◌==◌, [], length, IfOk, slice_range};
-ghost use Rattle.stream_buf.specs.Sending.{send_room, written_count, after_write, after_acked};
+ghost use Rattle.std.specs.Prelude.{◌≡◌, ◌+◌, ◌≤◌, ◌==◌, length, IfOk};
+ghost use Rattle.stream_buf.specs.Sending.{nothing_held, send_room, written_count, after_write, after_acked, copied};
 
 use std::alloc::{AllocError, Global};
 use std::marker::Model;
@@ -28,7 +28,7 @@ impl Model for SendBuf {
 impl SendBuf {
     /// An empty buffer for so many octets. It takes its whole memory here, and fails only where that is refused.
     pub fn with_capacity(alloc: Global, capacity: usize) -> Result<SendBuf, AllocError>
-        ensures { IfOk result (λ buffer. buffer ≡ record { held = []; capacity = capacity }) }
+        ensures { IfOk result (λ buffer. buffer ≡ nothing_held capacity) }
     {
         let held = Vec::with_capacity(alloc, capacity)?;
         Ok(SendBuf { held, capacity })
@@ -55,7 +55,7 @@ impl SendBuf {
     /// Fills `out` with the octets that are held from the place `offset` on. They stay.
     pub fn copy_at(&self, offset: usize, out: &mut [u8])
         requires { offset + length out.old ≤ length self.now.held }
-        ensures { out.new ≡ slice_range self.now.held offset (offset + length out.old) }
+        ensures { out.new ≡ copied self.now offset (length out.old) }
     {
         out.copy_from_slice(&self.held[offset..offset + out.len()]);
     }
@@ -87,5 +87,38 @@ impl SendBuf {
         ensures { result ≡ self.now.capacity }
     {
         self.capacity
+    }
+}
+
+#[cfg(test)]
+mod tests {
+    use super::*;
+
+    /// The two octets that are held from a place on; None where there are fewer.
+    fn two_at(buffer: &SendBuf, offset: usize) -> Option<[u8; 2]> {
+        let mut out = [b'.'; 2];
+        if buffer.len() < 2 || offset > buffer.len() - 2 {
+            return None;
+        }
+        buffer.copy_at(offset, &mut out);
+        Some(out)
+    }
+
+    /// Octets wait in order until they are acknowledged, which makes room for more.
+    #[test]
+    fn holds_until_acknowledged(rt: HostRuntime) -> Result<(), AllocError> {
+        let mut buffer = SendBuf::with_capacity(rt.alloc(), 4)?;
+        assert!(rt; buffer.is_empty());
+        assert_eq!(rt; buffer.write(b"abcde"), 4);
+        assert_eq!(rt; two_at(&buffer, 2), Some(*b"cd"));
+        if buffer.len() >= 3 {
+            buffer.acked(3);
+        }
+        assert_eq!(rt; buffer.room(), 3);
+        assert_eq!(rt; buffer.write(b"e"), 1);
+        assert_eq!(rt; two_at(&buffer, 0), Some(*b"de"));
+        assert_eq!(rt; two_at(&buffer, 1), None);
+        assert_eq!(rt; buffer.capacity(), 4);
+        Ok(())
     }
 }
