@@ -4,3 +4,4 @@ pub mod Runs
 pub mod Beginnings
 pub mod Spelled
 pub mod Ours
+pub mod Opening

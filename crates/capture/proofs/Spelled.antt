@@ -35,17 +35,17 @@ big_cells x0 x1 x2 x3 rest b0 b1 b2 b3 =
     let e3 : x3 ≡ byte_at 0 (number_in Big 4 octets) = omega arith in
     cc
 
-number_spelled : (o : Order) (xs : List ℕ) → AreOctets xs → 4 ≤ length xs → xs ≡ number_octets o 4 (number_in o 4 xs) ++ drop 4 xs
+pub number_spelled : (o : Order) (xs : List ℕ) → AreOctets xs → 4 ≤ length xs → xs ≡ number_octets o 4 (number_in o 4 xs) ++ drop 4 xs
 number_spelled Little (x0 ∷ x1 ∷ x2 ∷ x3 ∷ rest) each least = little_cells x0 x1 x2 x3 rest (each 0) (each 1) (each 2) (each 3)
 number_spelled Big (x0 ∷ x1 ∷ x2 ∷ x3 ∷ rest) each least = big_cells x0 x1 x2 x3 rest (each 0) (each 1) (each 2) (each 3)
 number_spelled o xs each least = absurd (omega (arith, least))
 
 -- octets behind octets
-octets_behind : (n : ℕ) (xs : List ℕ) → AreOctets xs → AreOctets (drop n xs)
+pub octets_behind : (n : ℕ) (xs : List ℕ) → AreOctets xs → AreOctets (drop n xs)
 octets_behind n xs each i = omega (arith, get_or-drop n xs i 0, each (n + i))
 
 -- the number at a place
-number_at_place : (o : Order) (n : ℕ) (xs : List ℕ) → AreOctets xs → n + 4 ≤ length xs → drop n xs ≡ number_octets o 4 (number_at o 4 n xs) ++ drop (n + 4) xs
+pub number_at_place : (o : Order) (n : ℕ) (xs : List ℕ) → AreOctets xs → n + 4 ≤ length xs → drop n xs ≡ number_octets o 4 (number_at o 4 n xs) ++ drop (n + 4) xs
 number_at_place o n xs each least =
     number_spelled o (drop n xs) (octets_behind n xs each) (omega (arith, length-drop n xs, least))
     ∙ ap (λ ys. number_octets o 4 (number_at o 4 n xs) ++ ys) (drop-drop 4 n xs)

@@ -10,7 +10,7 @@ ghost use Rattle.capture.specs.declared.header.TheConstants.{HEADER_LEN};
 ghost use Rattle.capture.specs.declared.record.TheConstants.{MOST_OCTETS, RECORD_HEAD_LEN};
 ghost use Rattle.capture.specs.Capture.{Entry, Frame, IsEntry, IsToldWhole, capture_of, entry_head, entry_octets, entry_of, header_octets, our_header, our_header_octets};
 ghost use Rattle.capture.specs.Cutting.{lack_in, whole_count};
-ghost use Rattle.capture.specs.Reading.{AreRead, Record, answer_in, moment_of, opened, read_as, record_of, rest_in};
+ghost use Rattle.capture.specs.Reading.{AreRead, Record, Unread, answer_in, moment_of, opened, read_as, record_of, rest_in};
 
 /// A capture is written in turn: the header, and then for each frame what stands before its octets, and these.
 pub fn written_in_turn()
@@ -75,9 +75,11 @@ pub fn either_order()
         → AreRead second (take n (flat_map (entry_octets second.format.order) entries)) rs end }
 {}
 
-/// What is read as a record is spelled so: nothing is read of octets that spell none.
+/// What is read as a header, or as a record, is spelled so: nothing is read of octets that spell none.
 pub fn read_is_spelled()
-    ensures { (header : Header) (octets : List ℕ) (r : Record) → All (λ octet. octet < 256) octets → answer_in header octets ≡ Some (Ok r)
+    ensures header { (octets : List ℕ) (u : Unread) → All (λ octet. octet < 256) octets → opened octets ≡ Ok u
+        → (zone : ℕ) × (accuracy : ℕ) × (octets ≡ header_octets u.header zone accuracy ++ u.octets) }
+    ensures one_record { (header : Header) (octets : List ℕ) (r : Record) → All (λ octet. octet < 256) octets → answer_in header octets ≡ Some (Ok r)
         → (e : Entry) × IsEntry e × (octets ≡ entry_octets header.format.order e ++ rest_in header octets) × (r ≡ read_as header e) }
 {}
 
