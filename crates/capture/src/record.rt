@@ -61,7 +61,7 @@ impl<'a> RecordView<'a> {
         self.seconds
     }
 
-    /// The nanoseconds of that second, a million and more of them where the capture's fraction is past a second.
+    /// The nanoseconds of that second, 10^9 or more where the capture's fraction is past a second.
     pub fn nanoseconds(&self) -> u64
         ensures { result ≡ self.now.nanoseconds }
     {
