@@ -18,7 +18,8 @@ use Rattle.sockets.specs.Arrival.{offered_with}
 use Rattle.sockets.specs.Lists.{change_first, remove_first}
 use Rattle.sockets.specs.Causes.{Event, Follows, after_event}
 use Rattle.sockets.specs.Traffic.{after_events}
-use Rattle.sockets.specs.Order.{AreAscending, IsOrdered, IsAllowed}
+use Rattle.sockets.specs.Order.{IsOrdered, IsAllowed}
+use Rattle.sockets.specs.Ids.{AreAscending}
 use Rattle.sockets.specs.Offered.{AreAllowed, IsReached, is_ready, is_ready_as, is_id, KeepsBacklogs, OffersReady}
 use Rattle.sockets.proofs.Ends.{eqb-same}
 use Rattle.sockets.proofs.Followed.{IsNothing, by_test, steps_joined}
