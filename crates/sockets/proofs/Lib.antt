@@ -37,3 +37,4 @@ pub mod OfferSteps
 pub mod OfferHeld
 pub mod OfferOrder
 pub mod OfferTurns
+pub mod OfferAccepted

@@ -14,6 +14,7 @@ use Rattle.sockets.specs.declared.role.Role.TheVariants.{Idle, Listener, Connect
 use Rattle.ipv4.specs.declared.addr.Addr.{Addr}
 use Rattle.sockets.specs.Entries.{is_pending, is_in_syn_received, is_left, waits_at, is_waiting_at, is_waiting_as, is_waiting_id, backlog_of, role_after_accept, with_role}
 use Rattle.sockets.specs.SocketsView.{SocketsView, new_sockets}
+use Rattle.sockets.specs.Calls.{next_offered}
 use Rattle.sockets.specs.Arrival.{offered_with}
 use Rattle.sockets.specs.Lists.{change_first, remove_first}
 use Rattle.sockets.specs.Causes.{Event, Follows, after_event}
@@ -291,43 +292,59 @@ passed-holds h w holds ordered p = carried-over h w holds ordered p.last p.follo
 
 -- One is accepted.
 
-taken-holds : (h w : SocketsView) → Holds h → IsOrdered w → IsTaken h w → Holds w
-taken-holds h w holds ordered t = carried-over h w holds ordered t.last t.follows each
+-- what a listener accepts next is the entry of an id that is offered, and ready
+pub record IsNext (h : SocketsView) (listener id : SocketId) : Type 0 where
+  pub e : Entry
+  pub found : find (is_waiting_as listener id) h.entries ≡ Some e
+  pub same : e.id ≡ id
+  pub ready : is_ready e.role ≡ true
+
+pub next-ready : (h : SocketsView) → Holds h → (listener id : SocketId) → next_offered h listener ≡ Some id → IsNext h listener id
+next-ready h holds listener id next = record { e = there.0; found = there.1; same = id-is; ready = ready-it }
   where
     waits : SocketId → Bool
-    waits = is_waiting_id h.entries t.listener
+    waits = is_waiting_id h.entries listener
 
-    there : (e : Entry) × (find (is_waiting_as t.listener t.id) h.entries ≡ Some e)
-    there = any-found (is_waiting_as t.listener t.id) h.entries (count-any (is_waiting_as t.listener t.id) h.entries (passes-found waits h.offered t.id t.next))
+    there : (e : Entry) × (find (is_waiting_as listener id) h.entries ≡ Some e)
+    there = any-found (is_waiting_as listener id) h.entries (count-any (is_waiting_as listener id) h.entries (passes-found waits h.offered id next))
 
-    id-is : (let e : Entry = there.0 in e.id) ≡ t.id
-    id-is = same-id _ t.id (and_parts _ _ (passes-found (is_waiting_as t.listener t.id) h.entries there.0 there.1)).0
+    id-is : (let e : Entry = there.0 in e.id) ≡ id
+    id-is = same-id _ id (and_parts _ _ (passes-found (is_waiting_as listener id) h.entries there.0 there.1)).0
 
     ready-it : is_ready (let e : Entry = there.0 in e.role) ≡ true
     ready-it =
         let e : Entry = there.0 in
         by_test (is_ready e.role) (λ r. r)
         (λ unready.
-        let stands : 1 ≤ count_by (is_id t.id) h.offered = count-found waits (is_id t.id) h.offered t.id t.next (eqb-same t.id.0) in
-        let same : count_by (is_id t.id) h.offered ≡ count_by (is_ready_as t.id) h.entries = holds.each t.id in
-        let id_passes : has_id t.id e ≡ true = ap (λ (k : SocketId). k.0 == t.id.0) id-is ∙ eqb-same t.id.0 in
-        let it : 1 ≤ count_by (λ (y : Entry). has_id t.id y && not (is_ready y.role)) h.entries =
-        count-found (is_waiting_as t.listener t.id) (λ (y : Entry). has_id t.id y && not (is_ready y.role)) h.entries e there.1 (and_from _ _ id_passes (of_false _ unready)) in
-        let both : count_by (is_ready_as t.id) h.entries + count_by (λ (y : Entry). has_id t.id y && not (is_ready y.role)) h.entries ≤ count_by (has_id t.id) h.entries =
-        count-apart (is_ready_as t.id) (λ (y : Entry). has_id t.id y && not (is_ready y.role)) (has_id t.id) h.entries (λ y. apart (has_id t.id y) (is_ready y.role)) in
-        let once : count_by (has_id t.id) h.entries ≤ 1 = ids-once 0 h.last_id h.entries t.id holds.ordered.ids in
+        let stands : 1 ≤ count_by (is_id id) h.offered = count-found waits (is_id id) h.offered id next (eqb-same id.0) in
+        let same : count_by (is_id id) h.offered ≡ count_by (is_ready_as id) h.entries = holds.each id in
+        let id_passes : has_id id e ≡ true = ap (λ (k : SocketId). k.0 == id.0) id-is ∙ eqb-same id.0 in
+        let it : 1 ≤ count_by (λ (y : Entry). has_id id y && not (is_ready y.role)) h.entries =
+        count-found (is_waiting_as listener id) (λ (y : Entry). has_id id y && not (is_ready y.role)) h.entries e there.1 (and_from _ _ id_passes (of_false _ unready)) in
+        let both : count_by (is_ready_as id) h.entries + count_by (λ (y : Entry). has_id id y && not (is_ready y.role)) h.entries ≤ count_by (has_id id) h.entries =
+        count-apart (is_ready_as id) (λ (y : Entry). has_id id y && not (is_ready y.role)) (has_id id) h.entries (λ y. apart (has_id id y) (is_ready y.role)) in
+        let once : count_by (has_id id) h.entries ≤ 1 = ids-once 0 h.last_id h.entries id holds.ordered.ids in
         absurd (omega arith))
+
+taken-holds : (h w : SocketsView) → Holds h → IsOrdered w → IsTaken h w → Holds w
+taken-holds h w holds ordered t = carried-over h w holds ordered t.last t.follows each
+  where
+    waits : SocketId → Bool
+    waits = is_waiting_id h.entries t.listener
+
+    n : IsNext h t.listener t.id
+    n = next-ready h holds t.listener t.id t.next
 
     each : (i : SocketId) → count_by (is_id i) w.offered ≡ count_by (is_ready_as i) w.entries
     each i =
-        let e : Entry = there.0 in
+        let e : Entry = n.e in
         let list : count_by (is_id i) w.offered ≡ count_by (is_id i) (remove_first waits h.offered) = ap (λ (ids : List SocketId). count_by (is_id i) ids) t.offered in
         let removed : count_by (is_id i) h.offered ≡ count_by (is_id i) (remove_first waits h.offered) + one (is_id i t.id) = count-removed (is_id i) waits h.offered t.id t.next in
         let before : count_by (is_id i) h.offered ≡ count_by (is_ready_as i) h.entries = holds.each i in
         let next : List Entry = change_first (is_waiting_as t.listener t.id) (with_role role_after_accept) h.entries in
         let table : count_by (is_ready_as i) w.entries ≡ count_by (is_ready_as i) next = ap (λ (es : List Entry). count_by (is_ready_as i) es) t.entries in
-        let changed : count_by (is_ready_as i) next + one (is_ready_as i e) ≡ count_by (is_ready_as i) h.entries + one (is_ready_as i (with_role role_after_accept e)) = count-changed (is_ready_as i) (is_waiting_as t.listener t.id) (with_role role_after_accept) h.entries e there.1 in
-        let ready : one (is_ready_as i e) ≡ one (is_id i t.id) = ready-is i e ready-it ∙ ap (λ (k : SocketId). one (is_id i k)) id-is in
+        let changed : count_by (is_ready_as i) next + one (is_ready_as i e) ≡ count_by (is_ready_as i) h.entries + one (is_ready_as i (with_role role_after_accept e)) = count-changed (is_ready_as i) (is_waiting_as t.listener t.id) (with_role role_after_accept) h.entries e n.found in
+        let ready : one (is_ready_as i e) ≡ one (is_id i t.id) = ready-is i e n.ready ∙ ap (λ (k : SocketId). one (is_id i k)) n.same in
         let unready : one (is_ready_as i (with_role role_after_accept e)) ≡ 0 = one-false _ (and-false (e.id.0 == i.0) (is_ready (role_after_accept e.role)) (accepted-unready e.role)) in
         omega arith
 

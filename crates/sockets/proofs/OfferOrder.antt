@@ -227,7 +227,7 @@ first_id : Result (SocketId × Endpoint) Refusal → SocketId → SocketId
 first_id (Ok v) other = v.0
 first_id (Err refusal) other = other
 
-accepted-next : (w : SocketsView) (l y : SocketId) (peer : Endpoint) → accept_answer w l ≡ Ok (y, peer) → next_offered w l ≡ Some y
+pub accepted-next : (w : SocketsView) (l y : SocketId) (peer : Endpoint) → accept_answer w l ≡ Ok (y, peer) → next_offered w l ≡ Some y
 unfolding first_id
 accepted-next w l y peer answers = by_role (role_of w l) refl
   where

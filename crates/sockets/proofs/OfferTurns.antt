@@ -12,7 +12,7 @@ use Rattle.sockets.specs.Order.{IsAllowed}
 use Rattle.sockets.specs.Offered.{IsReached, is_ready, is_ready_as, is_ready_id, is_id}
 use Rattle.sockets.proofs.Ends.{eqb-same}
 use Rattle.sockets.proofs.Followed.{by_test}
-use Rattle.sockets.proofs.OfferCounts.{one, one-true, count-cons, count-joined, count-found, count-any, count-no, count-removed, removed-less, filtered-less, count-apart, one-false, filtered-kept, filtered-gone, some-same}
+use Rattle.sockets.proofs.OfferCounts.{one, one-true, count-cons, count-joined, count-found, count-any, count-no, count-removed, removed-less, filtered-less, count-apart, filtered-kept, filtered-gone, some-same}
 use Rattle.sockets.proofs.OfferSteps.{IsPassed, Outcome, Still, Joined, Passed, Taken, Left, outcome}
 use Rattle.sockets.proofs.OfferRoles.{is_waking}
 use Rattle.sockets.proofs.OfferHeld.{has_id, Holds, same-id, ids-once, once-offered, both-apart, not-both, passed-offered, event-holds, reached-holds}

@@ -1,10 +1,11 @@
 //! Laws over those that wait to be accepted: functions with nothing to do, whose contracts are the laws.
 
-ghost use Rattle.std.specs.Prelude.{◌≡◌, Bool, true, false, List, [], ◌∷◌, ◌++◌, filter, Ok};
+ghost use Rattle.std.specs.Prelude.{◌≡◌, ℕ, true, false, List, [], ◌∷◌, ◌++◌, filter, Some, Ok, is_ok};
 ghost use Rattle.std.specs.List.{list_any};
 ghost use Rattle.ipv4.specs.declared.addr.Endpoint.{Endpoint};
 ghost use Rattle.sockets.specs.declared.entry.SocketId.{SocketId};
-ghost use Rattle.sockets.specs.SocketsView.{SocketsView};
+ghost use Rattle.sockets.specs.declared.role.Role.TheVariants.{Listener};
+ghost use Rattle.sockets.specs.SocketsView.{SocketsView, role_of};
 ghost use Rattle.sockets.specs.Calls.{accept_answer};
 ghost use Rattle.sockets.specs.Causes.{Event, after_event};
 ghost use Rattle.sockets.specs.Traffic.{after_events};
@@ -34,4 +35,10 @@ pub fn offers_join_at_the_end()
 pub fn first_ready_is_accepted_first()
     ensures { (h : SocketsView) (events : List Event) (listener x y : SocketId) (peer : Endpoint) → IsReached h → AreAllowed h events → is_ready_id h.entries x ≡ true → is_ready_id h.entries y ≡ false
         → let later = after_events h events in accept_answer later listener ≡ Ok (y, peer) → list_any (is_ready_at listener x) later.entries ≡ false }
+{}
+
+/// `accept` answers a connection wherever one is ready that waits at the listener, and none but such a one: nobody is forgotten.
+pub fn accept_answers_the_ready()
+    ensures some { (h : SocketsView) (listener x : SocketId) (bound : Endpoint) (backlog : ℕ) → IsReached h → role_of h listener ≡ Some (Listener bound backlog) → list_any (is_ready_at listener x) h.entries ≡ true → is_ok (accept_answer h listener) ≡ true }
+    ensures ready { (h : SocketsView) (listener y : SocketId) (peer : Endpoint) → IsReached h → accept_answer h listener ≡ Ok (y, peer) → list_any (is_ready_at listener y) h.entries ≡ true }
 {}
