@@ -1,6 +1,5 @@
 pub mod Sides
 pub mod Tallies
-pub mod Filing
 pub mod Openings
 pub mod Fairness
 pub mod WorldView
