@@ -44,14 +44,23 @@ fn run<W: Sink>(alloc: Global, script: &Script<'_>, out: &mut W) -> Result<(), T
     ensures printed { TakesPrinted result script.now.limit script.now.commands.items (W.taken out.old) (W.taken out.new) }
 {
     let mut world = new_world(alloc, script.limit)?;
+    run_in(alloc, script, &mut world, out)
+}
+
+/// Runs a script's commands in a world in which nothing happened yet, and hands on what they print, also where a fault ends the run.
+fn run_in<W: Sink>(
+    alloc: Global,
+    script: &Script<'_>,
+    world: &mut World,
+    out: &mut W,
+) -> Result<(), TextFault>
+    requires { IsFirst script.now.limit world.old.seen }
+    ensures written { W.failures out.new ≡ counted (write_fails_in result) (W.failures out.old) }
+    ensures faults { IfErr result (λ fault. is_before_run fault ≡ false) }
+    ensures printed { TakesPrinted result script.now.limit script.now.commands.items (W.taken out.old) (W.taken out.new) }
+{
     let mut lines = first_lines(alloc, script.limit)?;
-    let outcome = play(
-        alloc,
-        script.commands.as_slice(),
-        &mut world,
-        &mut lines,
-        out,
-    );
+    let outcome = play(alloc, script.commands.as_slice(), world, &mut lines, out);
     if is_write_fault(&outcome) {
         return outcome;
     }

@@ -6,6 +6,7 @@ pub mod pairing
 pub mod carried
 pub mod told
 pub mod counts
+pub mod filing
 pub mod fairness
 pub mod runs
 pub mod datagrams

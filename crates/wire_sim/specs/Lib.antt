@@ -1,5 +1,6 @@
 pub mod Sides
 pub mod Tallies
+pub mod Filing
 pub mod Openings
 pub mod Fairness
 pub mod WorldView

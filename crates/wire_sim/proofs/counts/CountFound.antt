@@ -1,36 +1,34 @@
--- The count beside an opening, found from the front.
-use Rattle.std.proofs.Common.{◌≡◌, ℕ, zero, suc, ◌<◌, ◌≤◌, min, true, false, List, [], ◌∷◌, length, get_or, drop, refl, arith, add-one}
+-- The count beside an opening, found from the back.
+use Rattle.std.proofs.Common.{◌≡◌, ℕ, zero, suc, ◌<◌, true, false, List, [], ◌∷◌, length, get_or, take, refl, arith}
+use Rattle.std.specs.Prelude.{if◌then◌else◌}
 use Rattle.ipv4.specs.declared.addr.Pair.{Pair}
 use Rattle.wire_sim.specs.declared.event.Side.{Side}
 use Rattle.wire_sim.specs.declared.event.Opening.{Opening}
 use Rattle.wire_sim.specs.Tallies.{is_opening_of, written_by}
 
--- the opening at hand is the one
-pub written_by_here : (os : List Opening) (ws : List ℕ) (side : Side) (pair : Pair) (epoch i : ℕ) (o : Opening) (w : ℕ) → i < length os → i < length ws → is_opening_of side pair epoch (get_or os i o) ≡ true → written_by (drop i os) (drop i ws) side pair epoch ≡ get_or ws i w
-written_by_here [] ws side pair epoch i o w a b here = absurd (omega arith)
-written_by_here (p ∷ os) [] side pair epoch i o w a b here = absurd (omega arith)
-written_by_here (p ∷ os) (v ∷ ws) side pair epoch zero o w a b here = rw here
-written_by_here (p ∷ os) (v ∷ ws) side pair epoch (suc i) o w a b here = written_by_here os ws side pair epoch i o w (omega arith) (omega arith) here
+-- the count beside the first opening that is the one, and `count` where none is
+abbrev pub written_or : List Opening → List ℕ → Side → Pair → ℕ → ℕ → ℕ
+written_or [] ws side pair epoch count = count
+written_or (o ∷ os) [] side pair epoch count = count
+written_or (o ∷ os) (w ∷ ws) side pair epoch count = if is_opening_of side pair epoch o then w else written_or os ws side pair epoch count
+
+-- all openings are to be looked at
+pub written-all : (os : List Opening) (ws : List ℕ) (side : Side) (pair : Pair) (epoch : ℕ) → written_by os ws side pair epoch ≡ written_or (take (length os) os) ws side pair epoch 0
+written-all [] ws side pair epoch = refl
+written-all (o ∷ os) [] side pair epoch = refl
+written-all (o ∷ os) (w ∷ ws) side pair epoch = rw (written-all os ws side pair epoch)
+
+-- the last opening to be looked at is the one
+pub written-here : (os : List Opening) (ws : List ℕ) (side : Side) (pair : Pair) (epoch i count : ℕ) (o : Opening) → i < length os → i < length ws → is_opening_of side pair epoch (get_or os i o) ≡ true → written_or (take (suc i) os) ws side pair epoch count ≡ written_or (take i os) ws side pair epoch (get_or ws i 0)
+written-here [] ws side pair epoch i count o a b here = absurd (omega arith)
+written-here (p ∷ os) [] side pair epoch i count o a b here = absurd (omega arith)
+written-here (p ∷ os) (v ∷ ws) side pair epoch zero count o a b here = rw here
+written-here (p ∷ os) (v ∷ ws) side pair epoch (suc i) count o a b here = rw (written-here os ws side pair epoch i count o (omega arith) (omega arith) here)
 
 -- it is not
-pub written_by_next : (os : List Opening) (ws : List ℕ) (side : Side) (pair : Pair) (epoch i : ℕ) (o : Opening) → i < length os → i < length ws → is_opening_of side pair epoch (get_or os i o) ≡ false → written_by (drop i os) (drop i ws) side pair epoch ≡ written_by (drop (suc i) os) (drop (suc i) ws) side pair epoch
-written_by_next [] ws side pair epoch i o a b other = absurd (omega arith)
-written_by_next (p ∷ os) [] side pair epoch i o a b other = absurd (omega arith)
-written_by_next (p ∷ os) (v ∷ ws) side pair epoch zero o a b other = rw other
-written_by_next (p ∷ os) (v ∷ ws) side pair epoch (suc i) o a b other = written_by_next os ws side pair epoch i o (omega arith) (omega arith) other
-
--- there are no counts
-written_by_nothing : (os : List Opening) (side : Side) (pair : Pair) (epoch : ℕ) → written_by os [] side pair epoch ≡ 0
-written_by_nothing [] side pair epoch = refl
-written_by_nothing (o ∷ os) side pair epoch = refl
-
--- none is left
-pub written_by_end : (os : List Opening) (ws : List ℕ) (side : Side) (pair : Pair) (epoch i : ℕ) → min (length os) (length ws) ≤ i → written_by (drop i os) (drop i ws) side pair epoch ≡ 0
-written_by_end [] ws side pair epoch zero past = refl
-written_by_end [] ws side pair epoch (suc i) past = refl
-written_by_end (p ∷ os) [] side pair epoch zero past = refl
-written_by_end (p ∷ os) [] side pair epoch (suc i) past = written_by_nothing (drop i os) side pair epoch
-written_by_end (p ∷ os) (v ∷ ws) side pair epoch zero past = absurd (omega arith)
-written_by_end (p ∷ os) (v ∷ ws) side pair epoch (suc i) past = written_by_end os ws side pair epoch i (omega arith)
-
-pub ruleset counts = (written_by_here, written_by_next, written_by_end, add-one)
+pub written-next : (os : List Opening) (ws : List ℕ) (side : Side) (pair : Pair) (epoch count i : ℕ) (o : Opening) → i < length os → is_opening_of side pair epoch (get_or os i o) ≡ false → written_or (take (suc i) os) ws side pair epoch count ≡ written_or (take i os) ws side pair epoch count
+written-next [] ws side pair epoch count i o a other = absurd (omega arith)
+written-next (p ∷ os) [] side pair epoch count zero o a other = refl
+written-next (p ∷ os) [] side pair epoch count (suc i) o a other = refl
+written-next (p ∷ os) (v ∷ ws) side pair epoch count zero o a other = rw other
+written-next (p ∷ os) (v ∷ ws) side pair epoch count (suc i) o a other = rw (written-next os ws side pair epoch count i o (omega arith) other)

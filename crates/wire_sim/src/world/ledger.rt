@@ -1,22 +1,40 @@
 //! The openings so far, and how many octets each took from its caller.
 
-ghost use Rattle.std.specs.Prelude.{◌≡◌, ℕ, ◌+◌, ◌<◌, ◌≤◌, ◌^◌, [], ◌∷◌, ◌++◌, vec_len, vec_capacity, slice_index_or, IsOk, OnOk};
+ghost use Rattle.std.specs.Prelude.{◌≡◌, ℕ, ◌+◌, ◌<◌, ◌≤◌, ◌^◌, [], ◌∷◌, ◌++◌, length, vec_len, vec_capacity, slice_index_or, IsOk, OnOk};
 ghost use Rattle.ipv4.specs.declared.addr.Pair.{Pair};
 ghost use Rattle.std.specs.List.{list_any};
 ghost use Rattle.wire_sim.specs.Tallies.{is_opening_of, written_by, counts_after};
 ghost use Rattle.wire_sim.specs.Openings.{epoch_of};
+ghost use Rattle.wire_sim.specs.Filing.{IsFiled, by_pair, by_epoch, by_socket, end_number, pair_number, epoch_number};
+
+mod chains;
 
 use crate::event::{Opening, Side};
+use chains::Chains;
 use host::SocketId;
-use ipv4::Pair;
+use ipv4::{Endpoint, Pair};
 use std::alloc::{AllocError, Global};
 
-/// The openings in order, and beside each the octets that `send` accepted on its id.
+/// How many openings there is room for once there is one.
+const FIRST_OPENINGS: usize = 64;
+
+/// The openings in order, and beside each the octets that `send` accepted on its id. They are found by their pair, by their pair in an epoch,
+/// and by their id.
 #[derive(Drop)]
 pub(super) struct Ledger {
     openings: Vec<Opening>,
     written: Vec<u128>,
+    pairs: Chains,
+    connections: Chains,
+    sockets: Chains,
     ghost epochs: { (pair : Pair) → epoch_of openings.items pair ≤ vec_len openings },
+    ghost counted: { vec_len written ≡ vec_len openings },
+    ghost pairs_filed: { IsFiled by_pair openings.items pairs.numbers.items },
+    ghost connections_filed: { IsFiled by_epoch openings.items connections.numbers.items },
+    ghost sockets_filed: { IsFiled by_socket openings.items sockets.numbers.items },
+    ghost pairs_room: { vec_capacity openings ≤ vec_capacity pairs.numbers },
+    ghost connections_room: { vec_capacity openings ≤ vec_capacity connections.numbers },
+    ghost sockets_room: { vec_capacity openings ≤ vec_capacity sockets.numbers },
 }
 
 impl Ledger {
@@ -28,6 +46,9 @@ impl Ledger {
         Ledger {
             openings: Vec::new(alloc),
             written: Vec::new(alloc),
+            pairs: Chains::new(alloc),
+            connections: Chains::new(alloc),
+            sockets: Chains::new(alloc),
         }
     }
 
@@ -41,8 +62,26 @@ impl Ledger {
         ensures openings_kept { vec_capacity self.old.openings ≤ vec_capacity self.new.openings }
         ensures written_kept { vec_capacity self.old.written ≤ vec_capacity self.new.written }
     {
-        self.openings.reserve(1)?;
+        if self.openings.len() == self.openings.capacity() {
+            self.grow()?;
+        }
         self.written.reserve(1)
+    }
+
+    /// Makes room for about twice as many openings, and before that for what they are filed under.
+    fn grow(&mut self) -> Result<(), AllocError>
+        ensures room { OnOk result (vec_len self.new.openings < vec_capacity self.new.openings) }
+        ensures kept { vec_capacity self.old.openings ≤ vec_capacity self.new.openings }
+        ensures openings { self.new.openings.items ≡ self.old.openings.items }
+        ensures written { self.new.written ≡ self.old.written }
+    {
+        let len = self.openings.len();
+        let more = len.max(FIRST_OPENINGS);
+        let room = len.checked_add(more).ok_or(AllocError)?;
+        self.pairs.reserve(room)?;
+        self.connections.reserve(room)?;
+        self.sockets.reserve(room)?;
+        self.openings.reserve_exact(more)
     }
 
     /// The openings, in order.
@@ -62,6 +101,10 @@ impl Ledger {
         ensures openings_room { vec_capacity self.new.openings ≡ vec_capacity self.old.openings }
         ensures written_room { vec_capacity self.new.written ≡ vec_capacity self.old.written }
     {
+        self.pairs.push(pair_number(opening.pair));
+        self.connections
+            .push(connection_number(opening.pair, opening.epoch));
+        self.sockets.push(opening.id.0);
         self.openings.push_reserved(opening);
         self.written.push_reserved(0);
     }
@@ -71,23 +114,29 @@ impl Ledger {
         ensures epoch { result ≡ epoch_of self.now.openings.items pair }
         ensures bound { result ≤ vec_len self.now.openings }
     {
-        self.openings.iter().fold(
-            0,
-            |epoch, opening| if opening.pair == pair {
-                opening.epoch
-            } else {
-                epoch
-            },
-        )
+        let mut front = self.pairs.front(pair_number(pair));
+        while front > 0 {
+            let opening = &self.openings[front - 1];
+            if opening.pair == pair {
+                return opening.epoch;
+            }
+            front = self.pairs.before(front - 1);
+        }
+        0
     }
 
     /// Whether a side's host opened the pair in this epoch.
     pub(super) fn has(&self, side: Side, pair: Pair, epoch: u64) -> bool
         ensures { result ≡ list_any (is_opening_of side pair epoch) self.now.openings.items }
     {
-        self.openings
-            .iter()
-            .any(|opening| opening.is_of(side, pair, epoch))
+        let mut front = self.connections.front(connection_number(pair, epoch));
+        while front > 0 {
+            if self.openings[front - 1].is_of(side, pair, epoch) {
+                return true;
+            }
+            front = self.connections.before(front - 1);
+        }
+        false
     }
 
     /// Counts octets that a side's host took from the caller of `id`.
@@ -100,6 +149,7 @@ impl Ledger {
     {
         count(
             self.openings.as_slice(),
+            &self.sockets,
             self.written.as_mut_slice(),
             side,
             id,
@@ -111,38 +161,40 @@ impl Ledger {
     pub(super) fn written(&self, side: Side, pair: Pair, epoch: u64) -> u128
         ensures { result ≡ written_by self.now.openings.items self.now.written.items side pair epoch }
     {
-        written_by(
-            self.openings.as_slice(),
-            self.written.as_slice(),
-            side,
-            pair,
-            epoch,
-        )
-    }
-}
-
-/// The count beside the opening by which the host of `side` came to hold `pair` in `epoch`; 0 where there is none.
-#[tactic(auto, using(crate::proofs::counts::CountFound::counts))]
-fn written_by(openings: &[Opening], written: &[u128], side: Side, pair: Pair, epoch: u64) -> u128
-    ensures { result ≡ written_by openings.now written.now side pair epoch }
-{
-    for place in 0..openings.len().min(written.len()) {
-        if openings[place].is_of(side, pair, epoch) {
-            return written[place];
+        let mut octets = 0;
+        let mut front = self.connections.front(connection_number(pair, epoch));
+        while front > 0 {
+            // Of several openings the first one counts, which comes last here.
+            if self.openings[front - 1].is_of(side, pair, epoch) {
+                octets = self.written[front - 1];
+            }
+            front = self.connections.before(front - 1);
         }
+        octets
     }
-    0
 }
 
 /// Counts octets beside each opening by which the host of `side` made the entry `id`.
-fn count(openings: &[Opening], written: &mut [u128], side: Side, id: SocketId, octets: usize)
-    requires { (i : ℕ) → slice_index_or written.old i 0 < 2 ^ 127 }
+fn count(
+    openings: &[Opening],
+    sockets: &Chains,
+    written: &mut [u128],
+    side: Side,
+    id: SocketId,
+    octets: usize,
+)
+    requires filed { IsFiled by_socket openings.now sockets.now.numbers.items }
+    requires counted { length written.old ≡ length openings.now }
+    requires below { (i : ℕ) → slice_index_or written.old i 0 < 2 ^ 127 }
     ensures { written.new ≡ counts_after openings.now written.old side id octets }
 {
-    for place in 0..openings.len().min(written.len()) {
+    let mut front = sockets.front(id.0);
+    while front > 0 {
+        let place = front - 1;
         if openings[place].is_at(side, id) {
             written[place] = grown(written[place], octets);
         }
+        front = sockets.before(place);
     }
 }
 
@@ -152,4 +204,31 @@ fn grown(count: u128, octets: usize) -> u128
     ensures { result ≡ count + octets }
 {
     count + octets as u128
+}
+
+/// What a connection is filed under: its pair and its epoch.
+fn connection_number(pair: Pair, epoch: u64) -> u64
+    ensures { result ≡ epoch_number pair epoch }
+{
+    pair_number(pair).wrapping_add(epoch)
+}
+
+/// What a pair is filed under.
+fn pair_number(pair: Pair) -> u64
+    ensures value { result ≡ pair_number pair }
+{
+    end_number(pair.first) + 28_629_151 * end_number(pair.second)
+}
+
+/// What an end of a pair is filed under, by its octets and its port.
+fn end_number(end: Endpoint) -> u64
+    ensures value { result ≡ end_number end }
+    ensures bound { result < 2 ^ 36 }
+{
+    let [a, b, c, d] = end.addr.0;
+    u64::from(a)
+        + 31 * u64::from(b)
+        + 961 * u64::from(c)
+        + 29_791 * u64::from(d)
+        + 923_521 * u64::from(end.port)
 }
