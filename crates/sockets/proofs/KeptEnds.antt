@@ -108,9 +108,9 @@ keeps-emitted v Ack now = record { local = refl; peer = refl; live = λ e. e }
 
 -- A segment comes.
 
-record SameEnds (v w : View) : Type 0 where
-  local : w.local ≡ v.local
-  peer : w.peer ≡ v.peer
+pub record SameEnds (v w : View) : Type 0 where
+  pub local : w.local ≡ v.local
+  pub peer : w.peer ≡ v.peer
 
 same : (v : View) → SameEnds v v
 same v = record { local = refl; peer = refl }
@@ -173,7 +173,7 @@ same-segment v s =
     (same-either v (is_simultaneous_syn v s) (after_simultaneous_syn v s) (after_syn_ack v s) (record { local = refl; peer = refl }) (same-syn_ack v s))
     (same-either v (is_acceptable_to v s) (after_acceptable_segment v s) (owing_ack v) (same-accepted v s) (record { local = refl; peer = refl }))))
 
-same-heard : (v : View) (s : Segment) → SameEnds v (after_heard v s)
+pub same-heard : (v : View) (s : Segment) → SameEnds v (after_heard v s)
 same-heard v s =
     let acked = after_ack v s.acknowledgement in
     let told = after_window acked s in

@@ -38,3 +38,5 @@ pub mod OfferHeld
 pub mod OfferOrder
 pub mod OfferTurns
 pub mod OfferAccepted
+pub mod Filed
+pub mod KeptFiled

@@ -2,6 +2,7 @@ pub mod Lists
 pub mod Replies
 pub mod Entries
 pub mod Ids
+pub mod Index
 pub mod SocketsView
 pub mod Ticks
 pub mod Lost

@@ -6,10 +6,10 @@ ghost use Rattle.sockets.specs.Entries.{is_between, is_listening_at};
 ghost use Rattle.sockets.specs.SocketsView.{SocketsView};
 
 use crate::entry::{Entry, SocketId};
-use crate::replies;
 use crate::sockets::Sockets;
 use crate::table::{self, ENTRIES};
 use crate::taken::Taken;
+use crate::{index, replies};
 use clock::Moment;
 use ipv4::{Addr, Endpoint, Pair};
 use std::alloc::AllocError;
@@ -29,7 +29,7 @@ impl Sockets {
         ensures { Meets (arrival self.old now isn.0 source segment.now) self.old result self.new }
     {
         let (local, peer) = self.ends(source, segment);
-        match table::connection_between(&self.entries, local, peer) {
+        match index::connection_between(&self.entries, &self.ends, local, peer) {
             Some(place) => self.take_at(now, place, source, segment),
             None => self.take_alone(isn, source, segment),
         }
@@ -47,7 +47,7 @@ impl Sockets {
         match fate {
             Fate::Rejected => Taken::Answer(replies::reset_at_ack(segment)),
             fate => {
-                table::settle(&mut self.entries, place, fate);
+                table::settle(&mut self.entries, &mut self.ends, place, fate);
                 table::offer(&mut self.offered, id, is_offered);
                 Taken::Done
             }
@@ -100,7 +100,9 @@ impl Sockets {
         let (local, peer) = self.ends(source, syn);
         let connection = Connection::passive(buffers, local, peer, isn, syn);
         self.last_id += 1;
-        self.entries.push(Entry::passive(SocketId(self.last_id), listener, connection));
+        let id = SocketId(self.last_id);
+        index::file(&mut self.ends, id, local, peer);
+        self.entries.push(Entry::passive(id, listener, connection));
         Taken::Done
     }
 
@@ -110,7 +112,7 @@ impl Sockets {
         ensures { result ≡ pair_opened self.now source segment.now }
     {
         let (local, peer) = self.ends(source, segment);
-        match table::connection_between(&self.entries, local, peer) {
+        match index::connection_between(&self.entries, &self.ends, local, peer) {
             Some(_) => None,
             None if is_opening(segment) => self.pair_at_listener(source, segment),
             None => None,

@@ -11,7 +11,7 @@ use crate::refusal::Refusal;
 use crate::role::Role;
 use crate::sockets::Sockets;
 use crate::state::SocketState;
-use crate::{ports, table};
+use crate::{index, ports, table};
 use clock::Moment;
 use ipv4::{Addr, Endpoint, Pair};
 use std::alloc::Global;
@@ -247,7 +247,9 @@ impl Sockets {
         let port = self.local_port(bound, peer)?;
         let addr = self.addr;
         self.last_port = self.last_port_after(bound, port);
-        self.entries[place].connect(Endpoint { addr, port }, peer, isn);
+        let local = Endpoint { addr, port };
+        index::file(&mut self.ends, id, local, peer);
+        self.entries[place].connect(local, peer, isn);
         Ok(())
     }
 

@@ -24,7 +24,7 @@ impl Sockets {
     {
         self.close_socket(id)?;
         table::offer_no_more(&mut self.offered, &self.entries, id);
-        table::forsake(&mut self.entries, self.kept, id);
+        table::forsake(&mut self.entries, &mut self.ends, self.kept, id);
         Ok(())
     }
 
@@ -37,7 +37,7 @@ impl Sockets {
         let place = self.socket_place(id)?;
         let kept = self.kept;
         let fate = self.entries[place].close(kept);
-        table::settle(&mut self.entries, place, fate);
+        table::settle(&mut self.entries, &mut self.ends, place, fate);
         Ok(())
     }
 }

@@ -40,7 +40,7 @@ impl Sockets {
         let entry = &mut self.entries[place];
         let emitted = entry.emit(own, now, out);
         let fate = entry.role.emission_fate_of();
-        table::settle(&mut self.entries, place, fate);
+        table::settle(&mut self.entries, &mut self.ends, place, fate);
         emitted
     }
 }

@@ -5,6 +5,7 @@ ghost use Rattle.ipv4.specs.declared.addr.Addr.{Addr};
 ghost use Rattle.sockets.specs.Entries.{is_kept, has_due, due_peer, deadline_of, with_role};
 ghost use Rattle.sockets.specs.Lost.{give_up_at, give_up_fate_of, role_after_giving_up};
 ghost use Rattle.sockets.specs.Emission.{IsWithin};
+ghost use Rattle.sockets.specs.Index.{filed};
 
 use crate::emission::Emitted;
 use crate::refusal::Refusal;
@@ -267,6 +268,7 @@ impl Entry {
     pub(crate) fn give_up<F: Fn(Addr) -> bool>(&mut self, now: Moment, lost: &F) -> bool
         requires { F.IsAlwaysCallable lost.now }
         ensures id { self.new.id ≡ self.old.id }
+        ensures filed { filed self.new ≡ filed self.old }
         ensures kept { (test : Addr → Bool) → ((addr : Addr) (answer : Bool) → F.post lost.now addr answer → answer ≡ test addr) → result ≡ is_kept (give_up_fate_of test now self.old.role) }
         ensures after { (test : Addr → Bool) → ((addr : Addr) (answer : Bool) → F.post lost.now addr answer → answer ≡ test addr) → self.new ≡ with_role (role_after_giving_up test now) self.old }
     {

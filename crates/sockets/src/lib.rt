@@ -8,6 +8,7 @@ mod closing;
 mod datagrams;
 mod emission;
 mod entry;
+mod index;
 pub mod laws;
 pub mod offered_laws;
 mod ports;

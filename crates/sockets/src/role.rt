@@ -328,6 +328,7 @@ impl Role {
 
 /// What the calls, a segment, an error, the clock and an emission make of a role. Each names the role that it is for, and leaves any other.
 impl Role {
+    ghost use Rattle.sockets.specs.Index.{filed_as};
     ghost use Rattle.sockets.specs.Entries.{role_after_bind, role_after_listen, role_after_connect, role_after_accept, role_after_send, role_after_recv, role_after_shutdown, role_after_segment, fate_of, role_after_unreachable, unreachable_fate_of, role_after_tick, tick_fate_of, role_after_emission, emission_fate_of, due_emitted, due_front, has_room_to_send, role_after_sendto, role_after_recvfrom, has_room_to_receive, role_after_reception, role_after_close, close_fate_of, role_after_abort, abort_fate_of, role_after_listener_close, listener_close_fate_of};
     ghost use Rattle.sockets.specs.Calls.{role_send_answer, role_recv_answer, read_front};
     ghost use Rattle.sockets.specs.Datagrams.{role_recvfrom_answer, datagram_front};
@@ -544,6 +545,7 @@ impl Role {
         requires { F.IsAlwaysCallable lost.now }
         ensures fate { (test : Addr → Bool) → ((addr : Addr) (answer : Bool) → F.post lost.now addr answer → answer ≡ test addr) → result ≡ give_up_fate_of test now self.old }
         ensures after { (test : Addr → Bool) → ((addr : Addr) (answer : Bool) → F.post lost.now addr answer → answer ≡ test addr) → self.new ≡ role_after_giving_up test now self.old }
+        ensures filed { (id : SocketId) → filed_as id self.new ≡ filed_as id self.old }
     {
         if let Role::Datagrams { socket, .. } = self {
             socket.give_up(now, lost);

@@ -3,6 +3,7 @@
 ghost use Rattle.std.specs.Prelude.{◌≡◌, ◌≤◌, Some, None, Bool};
 
 use crate::entry::{Entry, SocketId};
+use crate::index::Filed;
 use crate::table::ENTRIES;
 use crate::{ports, table};
 use arrayvec::ArrayVec;
@@ -21,11 +22,12 @@ pub struct Sockets {
     pub(crate) last_id: u64,
     pub(crate) identification: u16,
     pub(crate) entries: ArrayVec<Entry, ENTRIES>,
+    pub(crate) ends: ArrayVec<Filed, ENTRIES>,
     pub(crate) offered: ArrayVec<SocketId, ENTRIES>,
 }
 
 impl Model for Sockets {
-    ghost use Rattle.std.specs.Prelude.{◌≤◌};
+    ghost use Rattle.std.specs.Prelude.{◌≡◌, ◌≤◌};
     ghost use Rattle.sockets.specs.SocketsView.{SocketsView};
 
     ghost Value = { SocketsView };
@@ -41,8 +43,9 @@ impl Model for Sockets {
     } };
 
     ghost use Rattle.sockets.specs.Ids.{AreAscending};
+    ghost use Rattle.sockets.specs.Index.{index_of};
 
-    ghost invariant = { λ h. (49152 ≤ h.last_port) × AreAscending 0 h.last_id h.entries.items };
+    ghost invariant = { λ h. (49152 ≤ h.last_port) × AreAscending 0 h.last_id h.entries.items × (h.ends.items ≡ index_of h.entries.items) };
 }
 
 #[tactic(auto, using(crate::proofs::Firsts::firsts))]
@@ -66,6 +69,7 @@ impl Sockets {
             last_id: 0,
             identification: 0,
             entries: ArrayVec::new(),
+            ends: ArrayVec::new(),
             offered: ArrayVec::new(),
         }
     }
@@ -98,7 +102,7 @@ impl Sockets {
     {
         let now = self.later_moment(now);
         self.kept = now;
-        table::tick(&mut self.entries, now);
+        table::tick(&mut self.entries, &mut self.ends, now);
     }
 
     /// The least moment at which a tick does something.
@@ -132,7 +136,7 @@ impl Sockets {
         ensures { (test : Addr → Bool) → ((addr : Addr) (answer : Bool) → F.post lost addr answer → answer ≡ test addr) → self.new ≡ after_giving_up self.old test now }
     {
         let now = self.later_moment(now);
-        table::give_up(&mut self.entries, now, &lost);
+        table::give_up(&mut self.entries, &mut self.ends, now, &lost);
     }
 
     /// What each connection keeps of itself, for the contracts above; it changes nothing.

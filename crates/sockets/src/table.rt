@@ -9,8 +9,10 @@ ghost use Rattle.ipv4.specs.declared.addr.Addr.{Addr};
 ghost use Rattle.sockets.specs.Lost.{give_up_fate_of, role_after_giving_up};
 ghost use Rattle.sockets.specs.Sound.{IsSoundRole};
 ghost use Rattle.sockets.specs.Ids.{AreAscending, AreInOrder, has_id};
+ghost use Rattle.sockets.specs.Index.{index_of};
 
 use crate::entry::{Entry, SocketId};
+use crate::index::{self, Filed};
 use crate::role::is_kept;
 use arrayvec::ArrayVec;
 use clock::{Moment, sooner};
@@ -21,11 +23,19 @@ use tcp_state::Fate;
 pub const ENTRIES: usize = 64;
 
 /// The place of the entry of this id, which halves find: the entries stand in order of id.
-fn place_of(entries: &[Entry], id: SocketId) -> Option<usize>
+pub(crate) fn place_of(entries: &[Entry], id: SocketId) -> Option<usize>
     requires { AreInOrder entries.now }
     ensures { result ≡ position (has_id id) entries.now }
 {
     entries.binary_search_by_key(&id.0, |entry| entry.id.0).ok()
+}
+
+/// Whether an entry has this id.
+pub(crate) fn is_there(entries: &[Entry], id: SocketId) -> bool
+    requires { AreInOrder entries.now }
+    ensures { result ≡ list_any (has_id id) entries.now }
+{
+    place_of(entries, id).is_some()
 }
 
 /// The place of the socket `id`.
@@ -35,19 +45,6 @@ pub(crate) fn socket_of(entries: &[Entry], id: SocketId) -> Option<usize>
 {
     let place = place_of(entries, id)?;
     entries[place].role.has_socket().then_some(place)
-}
-
-/// The place of the connection from `local` to `peer`, in any state but CLOSED.
-pub(crate) fn connection_between(
-    entries: &[Entry],
-    local: Endpoint,
-    peer: Endpoint,
-) -> Option<usize>
-    ensures { result ≡ position (is_between local peer) entries.now }
-{
-    entries
-        .iter()
-        .position(|entry| entry.role.is_live_between(local, peer))
 }
 
 /// The place of the connection of `pair`, in any state but CLOSED.
@@ -168,30 +165,55 @@ pub(crate) fn offer_no_more(
 }
 
 /// Lets the timers of every entry act whose moment has come, and takes out those whose connection is gone then.
-pub(crate) fn tick(entries: &mut ArrayVec<Entry, ENTRIES>, now: Moment)
-    ensures { entries.new.items ≡ entries_after_steps (tick_fate_of now) (role_after_tick now) entries.old.items }
+pub(crate) fn tick(
+    entries: &mut ArrayVec<Entry, ENTRIES>,
+    ends: &mut ArrayVec<Filed, ENTRIES>,
+    now: Moment,
+)
+    requires order { (last : ℕ) × AreAscending 0 last entries.old.items }
+    requires index { ends.old.items ≡ index_of entries.old.items }
+    ensures entries { entries.new.items ≡ entries_after_steps (tick_fate_of now) (role_after_tick now) entries.old.items }
+    ensures index { ends.new.items ≡ index_of entries.new.items }
 {
+    let held = entries.len();
     entries.retain(|entry| entry.tick(now));
+    index::forget(ends, entries, held);
 }
 
 /// Aborts the connections that wait at the listener `id`, which is closed, and takes out those that are CLOSED already.
-pub(crate) fn forsake(entries: &mut ArrayVec<Entry, ENTRIES>, now: Moment, id: SocketId)
-    ensures { entries.new.items ≡ entries_after_steps (listener_close_fate_of id) (role_after_listener_close now id) entries.old.items }
+pub(crate) fn forsake(
+    entries: &mut ArrayVec<Entry, ENTRIES>,
+    ends: &mut ArrayVec<Filed, ENTRIES>,
+    now: Moment,
+    id: SocketId,
+)
+    requires order { (last : ℕ) × AreAscending 0 last entries.old.items }
+    requires index { ends.old.items ≡ index_of entries.old.items }
+    ensures entries { entries.new.items ≡ entries_after_steps (listener_close_fate_of id) (role_after_listener_close now id) entries.old.items }
+    ensures index { ends.new.items ≡ index_of entries.new.items }
 {
+    let held = entries.len();
     entries.retain(|entry| entry.forsake(now, id));
+    index::forget(ends, entries, held);
 }
 
 /// Lets every entry give up what has waited too long for a lost address, and takes out the connections whose reset is given up.
 pub(crate) fn give_up<F: Fn(Addr) -> bool>(
     entries: &mut ArrayVec<Entry, ENTRIES>,
+    ends: &mut ArrayVec<Filed, ENTRIES>,
     now: Moment,
     lost: &F,
 )
-    requires { F.IsAlwaysCallable lost.now }
+    requires lost { F.IsAlwaysCallable lost.now }
+    requires order { (last : ℕ) × AreAscending 0 last entries.old.items }
+    requires index { ends.old.items ≡ index_of entries.old.items }
+    ensures index { ends.new.items ≡ index_of entries.new.items }
     ensures ids { (last : ℕ) → AreAscending 0 last entries.old.items → AreAscending 0 last entries.new.items }
     ensures left { (test : Addr → Bool) → ((addr : Addr) (answer : Bool) → F.post lost.now addr answer → answer ≡ test addr) → entries.new.items ≡ entries_after_steps (give_up_fate_of test now) (role_after_giving_up test now) entries.old.items }
 {
+    let held = entries.len();
     entries.retain(|entry| entry.give_up(now, lost));
+    index::forget(ends, entries, held);
 }
 
 /// The least deadline of the entries.
@@ -213,11 +235,21 @@ pub(crate) fn sound(entries: &[Entry])
 }
 
 /// Takes an entry out of the table where its connection is gone.
-pub(crate) fn settle(entries: &mut ArrayVec<Entry, ENTRIES>, place: usize, fate: Fate)
-    requires { place < length entries.old.items }
-    ensures { entries.new.items ≡ (if is_kept fate then entries.old.items else remove entries.old.items place) }
+pub(crate) fn settle(
+    entries: &mut ArrayVec<Entry, ENTRIES>,
+    ends: &mut ArrayVec<Filed, ENTRIES>,
+    place: usize,
+    fate: Fate,
+)
+    requires place { place < length entries.old.items }
+    requires order { (last : ℕ) × AreAscending 0 last entries.old.items }
+    requires index { ends.old.items ≡ index_of entries.old.items }
+    ensures entries { entries.new.items ≡ (if is_kept fate then entries.old.items else remove entries.old.items place) }
+    ensures index { ends.new.items ≡ index_of entries.new.items }
 {
     if !is_kept(fate) {
+        let held = entries.len();
         entries.remove(place);
+        index::forget(ends, entries, held);
     }
 }

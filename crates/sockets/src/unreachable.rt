@@ -3,7 +3,7 @@
 ghost use Rattle.std.specs.Prelude.{◌≡◌};
 
 use crate::sockets::Sockets;
-use crate::table;
+use crate::{index, table};
 use ipv4::Endpoint;
 use tcp_segment::Seq;
 
@@ -16,9 +16,9 @@ impl Sockets {
     pub fn unreachable(&mut self, local: Endpoint, peer: Endpoint, number: Seq)
         ensures { self.new ≡ after_unreachable self.old local peer number.0 }
     {
-        if let Some(place) = table::connection_between(&self.entries, local, peer) {
+        if let Some(place) = index::connection_between(&self.entries, &self.ends, local, peer) {
             let fate = self.entries[place].unreachable(number);
-            table::settle(&mut self.entries, place, fate);
+            table::settle(&mut self.entries, &mut self.ends, place, fate);
         }
     }
 }

@@ -10,6 +10,8 @@ use Rattle.sockets.proofs.Firsts.{remove_first-position}
 use Rattle.sockets.proofs.Written.{entry_written}
 use Rattle.sockets.specs.declared.entry.Entry.{Entry}
 use Rattle.sockets.proofs.Ascending.{ascends_written}
+use Rattle.sockets.proofs.Filed.{index_written}
+use Rattle.sockets.proofs.KeptFiled.{filed_after, filed-accept}
 use Rattle.sockets.proofs.sockets.Sockets.accept.Goals as goal
 
 pub returns-clause-ok : goal.returns-clause-ok
@@ -26,4 +28,8 @@ returns-clause-ok c =
 
 -- the entry keeps its id
 pub invariant_of-self-2 : goal.invariant_of-self-2
-invariant_of-self-2 c = (c.self.invariant.0, ascends_written _ _ _ _ _ c.index-deref_mut-place.result c.self.invariant.1 c.deref_mut.ensures.value (ap (λ (e : Entry). e.id) c.accept.ensures))
+invariant_of-self-2 c = (
+  c.self.invariant.0,
+  ascends_written _ _ _ _ _ c.index-deref_mut-place.result c.self.invariant.1 c.deref_mut.ensures.value (ap (λ (e : Entry). e.id) c.accept.ensures),
+  index_written _ _ _ _ _ c.index-deref_mut-place.result c.self.invariant.2 c.deref_mut.ensures.value (filed_after (role_after_accept) _ _ (filed-accept _) c.accept.ensures),
+)

@@ -7,6 +7,8 @@ use Rattle.sockets.proofs.Bound.{bind-given}
 use Rattle.sockets.proofs.Written.{entry_written}
 use Rattle.sockets.specs.declared.entry.Entry.{Entry}
 use Rattle.sockets.proofs.Ascending.{ascends_written}
+use Rattle.sockets.proofs.Filed.{index_written}
+use Rattle.sockets.proofs.KeptFiled.{filed_after, filed-bind}
 use Rattle.sockets.proofs.sockets.Sockets.bind.Goals as goal
 
 pub returns-clause-ok : goal.returns-clause-ok
@@ -23,4 +25,8 @@ returns-clause-ok c =
 
 -- the entry keeps its id
 pub invariant_of-self : goal.invariant_of-self
-invariant_of-self c = (c.last_port_bound-self-inside.ensures.dynamic, ascends_written _ _ _ _ _ c.index-deref_mut-place.result c.self.invariant.1 c.deref_mut.ensures.value (ap (λ (e : Entry). e.id) c.bind.ensures))
+invariant_of-self c = (
+  c.last_port_bound-self-inside.ensures.dynamic,
+  ascends_written _ _ _ _ _ c.index-deref_mut-place.result c.self.invariant.1 c.deref_mut.ensures.value (ap (λ (e : Entry). e.id) c.bind.ensures),
+  index_written _ _ _ _ _ c.index-deref_mut-place.result c.self.invariant.2 c.deref_mut.ensures.value (filed_after (role_after_bind (record { addr = c.args.local.addr; port = c.in_ok-place.port })) _ _ (filed-bind _ _) c.bind.ensures),
+)

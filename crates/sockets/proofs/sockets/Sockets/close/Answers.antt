@@ -9,4 +9,10 @@ pub offer_no_more-requires : goal.offer_no_more-requires
 offer_no_more-requires c = lent_in_order _ _ _ c.deref.ensures.0 c.self.invariant.1
 
 pub invariant_of-self : goal.invariant_of-self
-invariant_of-self c = (c.self.invariant.0, ascends_stepped _ (λ (e : Entry). is_kept (listener_close_fate_of c.args.id e.role)) (with_role (role_after_listener_close c.self.inside.kept c.args.id)) _ _ (λ e. refl) c.self.invariant.1 c.forsake.ensures)
+invariant_of-self c = (c.self.invariant.0, ascends_stepped _ (λ (e : Entry). is_kept (listener_close_fate_of c.args.id e.role)) (with_role (role_after_listener_close c.self.inside.kept c.args.id)) _ _ (λ e. refl) c.self.invariant.1 c.forsake.ensures.entries, c.forsake.ensures.index)
+
+pub forsake-requires-clause-order : goal.forsake-requires-clause-order
+forsake-requires-clause-order c = (c.self.inside.last_id, c.self.invariant.1)
+
+pub forsake-requires-clause-index : goal.forsake-requires-clause-index
+forsake-requires-clause-index c = c.self.invariant.2

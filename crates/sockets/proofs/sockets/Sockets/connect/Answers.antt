@@ -1,11 +1,15 @@
 -- The write at the socket's place is the change of the first entry that the id names, from the port that is given.
-use Rattle.std.proofs.Common.{◌≡◌, ◌∙◌, ℕ, List, get_or, Some, None, Ok, ap, sym}
-use Rattle.std.specs.List.{find}
+use Rattle.std.proofs.Common.{◌≡◌, ◌∙◌, ◌<◌, ℕ, List, length, get_or, Some, None, Ok, ap, sym, subst, arith}
+use Rattle.std.specs.List.{find, position}
 use Rattle.ipv4.specs.declared.addr.Addr.{Addr}
+use Rattle.ipv4.specs.declared.addr.Endpoint.{Endpoint}
 use Rattle.sockets.specs.declared.entry.Entry.{Entry}
 use Rattle.sockets.specs.Entries.{is_socket, role_after_connect, with_role}
 use Rattle.sockets.specs.SocketsView.{SocketsView, with_socket}
 use Rattle.sockets.specs.Calls.{open_answer, reach_refusal, port_for, last_port_after}
+use Rattle.sockets.specs.Index.{AreSorted, index_of}
+use Rattle.sockets.proofs.Filed.{sorted_index}
+use Rattle.sockets.proofs.KeptFiled.{room_connected, index_after_connect}
 use Rattle.sockets.proofs.Connected.{after_connect-accepted, some_from_ok}
 use Rattle.sockets.proofs.Firsts.{find-position}
 use Rattle.sockets.proofs.Written.{entry_written}
@@ -35,6 +39,26 @@ returns-clause-ok c =
     ∙ ap (λ (a : Addr). with_socket (record h { last_port = last_port_after h c.in_ok-bound.bound c.in_ok-port.port }) c.args.id (role_after_connect (record { addr = a; port = c.in_ok-port.port }) c.args.peer c.args.isn.0)) addr
     ∙ sym (after_connect-accepted h c.args.isn.0 c.args.id c.args.peer c.args.is_routed x c.in_ok-bound.bound c.in_ok-port.port found opens reached given)
 
--- the entry keeps its id
+-- the entry keeps its id, and its connection is filed
 pub invariant_of-self : goal.invariant_of-self
-invariant_of-self c = (c.last_port_after-self-inside.ensures.dynamic, ascends_written _ _ _ _ _ c.index-deref_mut-place.result c.self.invariant.1 c.deref_mut.ensures.value (ap (λ (e : Entry). e.id) c.connect.ensures))
+invariant_of-self c =
+    let local : Endpoint = record { addr = c.self.inside.addr; port = c.in_ok-port.port } in
+    let entries : c.self.inside.entries.items ≡ c.args.self.now.entries = ap (λ (w : SocketsView). w.entries) c.self.view_is in (
+      c.last_port_after-self-inside.ensures.dynamic,
+      ascends_written _ _ _ _ _ c.index-deref_mut-place.result c.self.invariant.1 c.deref_mut.ensures.value (ap (λ (e : Entry). e.id) c.connect.ensures),
+      index_after_connect c.self.inside.entries.items c.deref.result.now c.in_ok-place.place c.index-deref-place.result c.args.id c.in_ok-bound.bound (ap (λ (es : List Entry). position (is_socket c.args.id) es) entries ∙ c.in_ok-place.ensures.place) c.deref.ensures.0 (sym c.in_ok-bound.ensures)
+          _ _ _ c.index-deref_mut-place.result _ local c.args.peer c.args.isn.0 c.self.invariant.2 c.file.ensures c.deref_mut.ensures.value c.connect.ensures,
+    )
+
+pub file-requires-clause-sorted : goal.file-requires-clause-sorted
+file-requires-clause-sorted c = subst AreSorted (sym c.self.invariant.2) (sorted_index c.self.inside.entries.items)
+
+pub file-requires-clause-room : goal.file-requires-clause-room
+file-requires-clause-room c =
+    let entries : c.self.inside.entries.items ≡ c.args.self.now.entries = ap (λ (w : SocketsView). w.entries) c.self.view_is in
+    let room : length (index_of c.self.inside.entries.items) < length c.self.inside.entries.items =
+    room_connected c.self.inside.entries.items c.deref.result.now c.in_ok-place.place c.index-deref-place.result c.args.id c.in_ok-bound.bound (ap (λ (es : List Entry). position (is_socket c.args.id) es) entries ∙ c.in_ok-place.ensures.place) c.deref.ensures.0 (sym c.in_ok-bound.ensures)
+    in
+    let filed : length c.self.inside.ends.items ≡ length (index_of c.self.inside.entries.items) = ap length c.self.invariant.2 in
+    let lent : length c.deref.result.now ≡ length c.self.inside.entries.items = ap length c.deref.ensures.0 in
+    omega (arith, c.deref.ensures.1)

@@ -10,6 +10,8 @@ use Rattle.sockets.proofs.Arrived.{entry_settled}
 use Rattle.sockets.proofs.Emitting.{segment_sent-found}
 use Rattle.sockets.proofs.Firsts.{find-position}
 use Rattle.sockets.proofs.Ascending.{ascends_written, ascends_settled}
+use Rattle.sockets.proofs.Filed.{index_written}
+use Rattle.sockets.proofs.KeptFiled.{filed_after, filed-emission}
 use Rattle.sockets.proofs.sockets.Sockets.emit_at.Goals as goal
 
 pub returns-clause-after : goal.returns-clause-after
@@ -26,10 +28,17 @@ returns-clause-after c = λ goes place.
     let sent : c.emit-emitted.new.self ≡ with_role (role_after_emission now) x =
     c.emit-emitted.ensures.after ∙ ap (λ (m : Moment). with_role (role_after_emission m) (get_or c.deref_mut.result.now c.args.place x)) c.later_moment-now.ensures ∙ ap (λ (e : Entry). with_role (role_after_emission now) e) (sym c.index-deref_mut-place.is)
     in
-    entry_settled _ _ test (role_after_emission now) _ _ _ _ _ c.emission_fate_of-fate.result c.self.view_is place c.deref_mut.ensures.value c.index-deref_mut-place.is (sent ∙ ap (λ (e : Entry). with_role (role_after_emission now) e) c.index-deref_mut-place.is) c.settle.ensures
+    entry_settled _ _ test (role_after_emission now) _ _ _ _ _ c.emission_fate_of-fate.result c.self.view_is place c.deref_mut.ensures.value c.index-deref_mut-place.is (sent ∙ ap (λ (e : Entry). with_role (role_after_emission now) e) c.index-deref_mut-place.is) c.settle.ensures.entries
     ∙ ap (λ (r : Fate). let w : SocketsView = record h { entries = entries_after_step r test (role_after_emission now) h.entries } in w) (c.emission_fate_of-fate.ensures ∙ ap (λ (e : Entry). emission_fate_of e.role) sent)
     ∙ sym (segment_sent-found h goes c.args.now x found)
 
 -- the entry keeps its id, or is taken out
 pub invariant_of-self : goal.invariant_of-self
-invariant_of-self c = (c.self.invariant.0, ascends_settled _ c.emission_fate_of-fate.result _ _ _ (ascends_written _ _ _ _ _ c.index-deref_mut-place.result c.self.invariant.1 c.deref_mut.ensures.value (ap (λ (e : Entry). e.id) c.emit-emitted.ensures.after)) c.settle.ensures)
+invariant_of-self c = (c.self.invariant.0, ascends_settled _ c.emission_fate_of-fate.result _ _ _ (ascends_written _ _ _ _ _ c.index-deref_mut-place.result c.self.invariant.1 c.deref_mut.ensures.value (ap (λ (e : Entry). e.id) c.emit-emitted.ensures.after)) c.settle.ensures.entries, c.settle.ensures.index)
+
+-- its connection stays filed by its ends
+pub settle-requires-clause-order : goal.settle-requires-clause-order
+settle-requires-clause-order c = (c.self.inside.last_id, ascends_written _ _ _ _ _ c.index-deref_mut-place.result c.self.invariant.1 c.deref_mut.ensures.value (ap (λ (e : Entry). e.id) c.emit-emitted.ensures.after))
+
+pub settle-requires-clause-index : goal.settle-requires-clause-index
+settle-requires-clause-index c = index_written _ _ _ _ _ c.index-deref_mut-place.result c.self.invariant.2 c.deref_mut.ensures.value (filed_after (role_after_emission c.later_moment-now.result) _ _ (filed-emission _ _) c.emit-emitted.ensures.after)

@@ -17,4 +17,7 @@ returns g c = λ test computes.
 
 -- each entry keeps its id, or is taken out
 pub invariant_of-self : goal.invariant_of-self
-invariant_of-self g c = (c.self.invariant.0, c.give_up.ensures.ids _ c.self.invariant.1)
+invariant_of-self g c = (c.self.invariant.0, c.give_up.ensures.ids _ c.self.invariant.1, c.give_up.ensures.index)
+
+pub give_up-requires-clause-order : goal.give_up-requires-clause-order
+give_up-requires-clause-order g c = (c.self.inside.last_id, c.self.invariant.1)

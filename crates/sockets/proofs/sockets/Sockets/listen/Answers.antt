@@ -4,6 +4,8 @@ use Rattle.sockets.proofs.Written.{entry_written}
 use Rattle.std.proofs.Common.{ap}
 use Rattle.sockets.specs.declared.entry.Entry.{Entry}
 use Rattle.sockets.proofs.Ascending.{ascends_written}
+use Rattle.sockets.proofs.Filed.{index_written}
+use Rattle.sockets.proofs.KeptFiled.{filed_after, filed-listen}
 use Rattle.sockets.proofs.sockets.Sockets.listen.Goals as goal
 
 pub returns-clause-ok : goal.returns-clause-ok
@@ -12,4 +14,8 @@ returns-clause-ok c =
 
 -- the entry keeps its id
 pub invariant_of-self : goal.invariant_of-self
-invariant_of-self c = (c.self.invariant.0, ascends_written _ _ _ _ _ c.index-deref_mut-place.result c.self.invariant.1 c.deref_mut.ensures.value (ap (λ (e : Entry). e.id) c.listen.ensures))
+invariant_of-self c = (
+  c.self.invariant.0,
+  ascends_written _ _ _ _ _ c.index-deref_mut-place.result c.self.invariant.1 c.deref_mut.ensures.value (ap (λ (e : Entry). e.id) c.listen.ensures),
+  index_written _ _ _ _ _ c.index-deref_mut-place.result c.self.invariant.2 c.deref_mut.ensures.value (filed_after (role_after_listen c.args.backlog) _ _ (filed-listen _ _) c.listen.ensures),
+)

@@ -1,8 +1,30 @@
-use Rattle.std.proofs.Common.{refl, ap}
+use Rattle.std.proofs.Common.{◌≡◌, ◌∙◌, ◌≤◌, ◌+◌, Some, length, refl, ap, sym, subst, arith}
+use Rattle.tcp_state.specs.View.{View}
 use Rattle.sockets.specs.declared.entry.Entry.{Entry}
+use Rattle.sockets.specs.declared.entry.SocketId.{SocketId}
+use Rattle.sockets.specs.SocketsView.{SocketsView}
+use Rattle.sockets.specs.Index.{filed_at, filed, AreSorted, index_of}
 use Rattle.sockets.proofs.Ascending.{ascends_pushed}
+use Rattle.sockets.proofs.Filed.{index_pushed, sorted_index, length_index}
 use Rattle.sockets.proofs.sockets.Sockets.open_with.Goals as goal
 
--- the next id joins the others
+-- the next id joins the others, and its connection is filed
 pub invariant_of-self : goal.invariant_of-self
-invariant_of-self c = (c.self.invariant.0, ascends_pushed _ _ _ _ c.passive.result refl (ap (λ (e : Entry). e.id.0) c.passive.ensures) c.push.ensures.items c.self.invariant.1)
+invariant_of-self c =
+    let id : SocketId = record { 0 = c.self.inside.last_id + 1 } in (
+      c.self.invariant.0,
+      ascends_pushed _ _ _ _ c.passive.result refl (ap (λ (e : Entry). e.id.0) c.passive.ensures) c.push.ensures.items c.self.invariant.1,
+      index_pushed _ _ _ _ c.passive.result _ c.self.invariant.2 c.push.ensures.items
+          (ap (λ (e : Entry). filed e) c.passive.ensures ∙ ap (λ (v : View). Some (filed_at id v.local v.peer)) c.passive-connection.ensures) c.file.ensures,
+    )
+
+-- there is room to file it
+pub file-requires-clause-sorted : goal.file-requires-clause-sorted
+file-requires-clause-sorted c = subst AreSorted (sym c.self.invariant.2) (sorted_index c.self.inside.entries.items)
+
+pub file-requires-clause-room : goal.file-requires-clause-room
+file-requires-clause-room c =
+    let most : length (index_of c.self.inside.entries.items) ≤ length c.self.inside.entries.items = length_index c.self.inside.entries.items in
+    let filed : length c.self.inside.ends.items ≡ length (index_of c.self.inside.entries.items) = ap length c.self.invariant.2 in
+    let entries : length c.self.inside.entries.items ≡ length c.args.self.now.entries = ap (λ (w : SocketsView). length w.entries) c.self.view_is in
+    omega (arith, c.requires.place)

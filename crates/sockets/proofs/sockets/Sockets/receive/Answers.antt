@@ -8,6 +8,8 @@ use Rattle.sockets.specs.Entries.{is_datagrams_at, role_after_reception}
 use Rattle.sockets.specs.SocketsView.{SocketsView}
 use Rattle.sockets.proofs.Queues.{received}
 use Rattle.sockets.proofs.Ascending.{ascends_written, same_id}
+use Rattle.sockets.proofs.Filed.{index_written}
+use Rattle.sockets.proofs.KeptFiled.{filed_or_not, filed-reception}
 use Rattle.sockets.proofs.sockets.Sockets.receive.Goals as goal
 
 pub returns-clause-after : goal.returns-clause-after
@@ -28,5 +30,8 @@ returns-clause-after c =
 pub invariant_of-self : goal.invariant_of-self
 invariant_of-self c =
     let from : Endpoint = record { addr = c.args.source; port = c.source.result } in
-    let x : Entry = c.index-deref_mut-place.result in
-    (c.self.invariant.0, ascends_written _ _ _ _ _ x c.self.invariant.1 c.deref_mut.ensures.value (same_id c.receive.result (role_after_reception from c.payload.result.now) (get_or c.deref_mut.result.now c.in-Some.place x) _ c.receive.ensures.after))
+    let x : Entry = c.index-deref_mut-place.result in (
+      c.self.invariant.0,
+      ascends_written _ _ _ _ _ x c.self.invariant.1 c.deref_mut.ensures.value (same_id c.receive.result (role_after_reception from c.payload.result.now) (get_or c.deref_mut.result.now c.in-Some.place x) _ c.receive.ensures.after),
+      index_written _ _ _ _ _ x c.self.invariant.2 c.deref_mut.ensures.value (filed_or_not c.receive.result (role_after_reception from c.payload.result.now) (get_or c.deref_mut.result.now c.in-Some.place x) _ (filed-reception _ _ _) c.receive.ensures.after),
+    )

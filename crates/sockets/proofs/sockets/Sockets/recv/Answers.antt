@@ -4,6 +4,8 @@ use Rattle.sockets.specs.Entries.{is_socket, role_after_recv, with_role}
 use Rattle.sockets.proofs.Written.{entry_written, on_ok}
 use Rattle.sockets.specs.declared.entry.Entry.{Entry}
 use Rattle.sockets.proofs.Ascending.{ascends_written}
+use Rattle.sockets.proofs.Filed.{index_written}
+use Rattle.sockets.proofs.KeptFiled.{filed_after, filed-recv}
 use Rattle.sockets.proofs.sockets.Sockets.recv.Goals as goal
 
 pub returns-clause-ok : goal.returns-clause-ok
@@ -12,4 +14,8 @@ returns-clause-ok c =
 
 -- the entry keeps its id
 pub invariant_of-self : goal.invariant_of-self
-invariant_of-self c = (c.self.invariant.0, ascends_written _ _ _ _ _ c.index-deref_mut-place.result c.self.invariant.1 c.deref_mut.ensures.value (ap (λ (e : Entry). e.id) c.recv.ensures.after))
+invariant_of-self c = (
+  c.self.invariant.0,
+  ascends_written _ _ _ _ _ c.index-deref_mut-place.result c.self.invariant.1 c.deref_mut.ensures.value (ap (λ (e : Entry). e.id) c.recv.ensures.after),
+  index_written _ _ _ _ _ c.index-deref_mut-place.result c.self.invariant.2 c.deref_mut.ensures.value (filed_after (role_after_recv (length c.args.buffer.now)) _ _ (filed-recv _ _) c.recv.ensures.after),
+)

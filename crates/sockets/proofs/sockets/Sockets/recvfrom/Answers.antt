@@ -3,6 +3,8 @@ use Rattle.std.proofs.Common.{◌≡◌, get_or}
 use Rattle.sockets.specs.Entries.{is_socket, role_after_recvfrom, with_role}
 use Rattle.sockets.proofs.Written.{entry_written, ok_from}
 use Rattle.sockets.proofs.Ascending.{ascends_written, same_id_read}
+use Rattle.sockets.proofs.Filed.{index_written}
+use Rattle.sockets.proofs.KeptFiled.{filed_read, filed-recvfrom}
 use Rattle.sockets.proofs.sockets.Sockets.recvfrom.Goals as goal
 
 pub returns-clause-ok : goal.returns-clause-ok
@@ -12,4 +14,8 @@ returns-clause-ok c =
 
 -- the entry keeps its id
 pub invariant_of-self : goal.invariant_of-self
-invariant_of-self c = (c.self.invariant.0, ascends_written _ _ _ _ _ c.index-deref_mut-place.result c.self.invariant.1 c.deref_mut.ensures.value (same_id_read c.recv_from.result role_after_recvfrom _ _ c.recv_from.ensures.ok c.recv_from.ensures.err))
+invariant_of-self c = (
+  c.self.invariant.0,
+  ascends_written _ _ _ _ _ c.index-deref_mut-place.result c.self.invariant.1 c.deref_mut.ensures.value (same_id_read c.recv_from.result role_after_recvfrom _ _ c.recv_from.ensures.ok c.recv_from.ensures.err),
+  index_written _ _ _ _ _ c.index-deref_mut-place.result c.self.invariant.2 c.deref_mut.ensures.value (filed_read c.recv_from.result role_after_recvfrom _ _ (filed-recvfrom _) c.recv_from.ensures.ok c.recv_from.ensures.err),
+)

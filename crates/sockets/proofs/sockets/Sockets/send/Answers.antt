@@ -5,6 +5,8 @@ use Rattle.sockets.proofs.Written.{entry_written, entry_kept, on_ok, on_err}
 use Rattle.sockets.proofs.Refused.{entry_refused}
 use Rattle.sockets.specs.declared.entry.Entry.{Entry}
 use Rattle.sockets.proofs.Ascending.{ascends_written}
+use Rattle.sockets.proofs.Filed.{index_written}
+use Rattle.sockets.proofs.KeptFiled.{filed_after, filed-send}
 use Rattle.sockets.proofs.sockets.Sockets.send.Goals as goal
 
 pub returns-clause-ok : goal.returns-clause-ok
@@ -17,4 +19,8 @@ returns-clause-err c =
 
 -- the entry keeps its id
 pub invariant_of-self : goal.invariant_of-self
-invariant_of-self c = (c.self.invariant.0, ascends_written _ _ _ _ _ c.index-deref_mut-place.result c.self.invariant.1 c.deref_mut.ensures.value (ap (λ (e : Entry). e.id) c.send.ensures.after))
+invariant_of-self c = (
+  c.self.invariant.0,
+  ascends_written _ _ _ _ _ c.index-deref_mut-place.result c.self.invariant.1 c.deref_mut.ensures.value (ap (λ (e : Entry). e.id) c.send.ensures.after),
+  index_written _ _ _ _ _ c.index-deref_mut-place.result c.self.invariant.2 c.deref_mut.ensures.value (filed_after (role_after_send c.args.octets.now) _ _ (filed-send _ _) c.send.ensures.after),
+)

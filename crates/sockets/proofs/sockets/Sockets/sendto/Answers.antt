@@ -16,6 +16,8 @@ use Rattle.sockets.proofs.Firsts.{find-position}
 use Rattle.sockets.proofs.Queues.{end_given, bound_found, sendto-given}
 use Rattle.sockets.proofs.Written.{entry_written}
 use Rattle.sockets.proofs.Ascending.{ascends_written, same_id}
+use Rattle.sockets.proofs.Filed.{index_written}
+use Rattle.sockets.proofs.KeptFiled.{filed_or_not, filed-sendto}
 use Rattle.sockets.proofs.sockets.Sockets.sendto.Goals as goal
 
 pub returns-clause-ok : goal.returns-clause-ok
@@ -60,5 +62,8 @@ returns-clause-ok c =
 pub invariant_of-self-2 : goal.invariant_of-self-2
 invariant_of-self-2 c =
     let change : Role → Role = role_after_sendto c.in_ok-local.local c.self.inside.kept c.args.peer c.self.inside.identification c.args.octets.now in
-    let x : Entry = c.index-deref_mut-place.result in
-    (c.last_port_after-last_port.ensures.dynamic, ascends_written _ _ _ _ _ x c.self.invariant.1 c.deref_mut.ensures.value (same_id c.send_to.result change (get_or c.deref_mut.result.now c.in_ok-place.place x) _ c.send_to.ensures.after))
+    let x : Entry = c.index-deref_mut-place.result in (
+      c.last_port_after-last_port.ensures.dynamic,
+      ascends_written _ _ _ _ _ x c.self.invariant.1 c.deref_mut.ensures.value (same_id c.send_to.result change (get_or c.deref_mut.result.now c.in_ok-place.place x) _ c.send_to.ensures.after),
+      index_written _ _ _ _ _ x c.self.invariant.2 c.deref_mut.ensures.value (filed_or_not c.send_to.result change (get_or c.deref_mut.result.now c.in_ok-place.place x) _ (filed-sendto _ _ _ _ _ _) c.send_to.ensures.after),
+    )

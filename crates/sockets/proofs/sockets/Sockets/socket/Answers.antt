@@ -7,6 +7,8 @@ use Rattle.sockets.specs.SocketsView.{SocketsView}
 use Rattle.sockets.proofs.Made.{made}
 use Rattle.sockets.proofs.Ascending.{ascends_pushed}
 use Rattle.sockets.proofs.Made.{new_id}
+use Rattle.sockets.proofs.Filed.{index_pushed_none}
+use Rattle.sockets.proofs.Made.{new_filed}
 use Rattle.sockets.proofs.sockets.Sockets.socket.Goals as goal
 
 pub returns-clause-ok : goal.returns-clause-ok
@@ -19,5 +21,8 @@ returns-clause-ok c =
 -- the next id joins the others
 pub invariant_of-self : goal.invariant_of-self
 invariant_of-self c =
-    let next : c.in-Some.id ≡ c.self.inside.last_id + 1 = grind (arith, common_steps) in
-    (c.self.invariant.0, ascends_pushed _ _ _ _ c.in_ok-entry.entry next (new_id c.args.kind _ c.in_ok-entry.entry c.in_ok-entry.ensures.ok) c.push.ensures.items c.self.invariant.1)
+    let next : c.in-Some.id ≡ c.self.inside.last_id + 1 = grind (arith, common_steps) in (
+      c.self.invariant.0,
+      ascends_pushed _ _ _ _ c.in_ok-entry.entry next (new_id c.args.kind _ c.in_ok-entry.entry c.in_ok-entry.ensures.ok) c.push.ensures.items c.self.invariant.1,
+      index_pushed_none _ _ _ c.in_ok-entry.entry c.self.invariant.2 c.push.ensures.items (new_filed c.args.kind _ c.in_ok-entry.entry c.in_ok-entry.ensures.ok),
+    )

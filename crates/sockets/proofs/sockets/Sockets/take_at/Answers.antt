@@ -16,6 +16,8 @@ use Rattle.sockets.proofs.Refused.{entry_refused_segment}
 use Rattle.sockets.proofs.Written.{entry_kept}
 use Rattle.sockets.proofs.Firsts.{find-position}
 use Rattle.sockets.proofs.Ascending.{ascends_written, ascends_settled}
+use Rattle.sockets.proofs.Filed.{index_written}
+use Rattle.sockets.proofs.KeptFiled.{filed_after, filed-segment}
 use Rattle.sockets.proofs.sockets.Sockets.take_at.Goals as goal
 
 pub returns-in-Rejected : goal.returns-in-Rejected
@@ -60,15 +62,26 @@ returns-in_default c isn =
     meets_becomes _ _ _ _ (taken h c.args.now isn c.args.source s x fate found fates c.in_default.not-Rejected)
     (
     ap (λ (w : SocketsView). let r : SocketsView = record w { offered = c.offer.new.offered.items } in r)
-    (entry_settled _ _ test (role_after_segment now s) _ _ _ _ _ fate c.self.view_is c.requires c.deref_mut.ensures.value c.index-deref_mut-place.is c.segment-fate.ensures.after c.settle.ensures
+    (entry_settled _ _ test (role_after_segment now s) _ _ _ _ _ fate c.self.view_is c.requires c.deref_mut.ensures.value c.index-deref_mut-place.is c.segment-fate.ensures.after c.settle.ensures.entries
     ∙ ap (λ (m : Moment). let w : SocketsView = record h { entries = entries_after_step fate test (role_after_segment m s) h.entries } in w) c.later_moment-now.ensures)
     ∙ ap (λ (ids : List SocketId). let r : SocketsView = record h { entries = entries_after_step fate test (role_after_segment (later_moment h c.args.now) s) h.entries; offered = ids } in r) offers
     )
 
 -- the entry keeps its id, or is taken out
 pub invariant_of-self-in_default : goal.invariant_of-self-in_default
-invariant_of-self-in_default c = (c.self.invariant.0, ascends_settled _ c.segment-fate.result.0 _ _ _ (ascends_written _ _ _ _ _ c.index-deref_mut-place.result c.self.invariant.1 c.deref_mut.ensures.value (ap (λ (e : Entry). e.id) c.segment-fate.ensures.after)) c.settle.ensures)
+invariant_of-self-in_default c = (c.self.invariant.0, ascends_settled _ c.segment-fate.result.0 _ _ _ (ascends_written _ _ _ _ _ c.index-deref_mut-place.result c.self.invariant.1 c.deref_mut.ensures.value (ap (λ (e : Entry). e.id) c.segment-fate.ensures.after)) c.settle.ensures.entries, c.settle.ensures.index)
 
 -- or it stays
 pub invariant_of-self : goal.invariant_of-self
-invariant_of-self c = (c.self.invariant.0, ascends_written _ _ _ _ _ c.index-deref_mut-place.result c.self.invariant.1 c.deref_mut.ensures.value (ap (λ (e : Entry). e.id) c.segment-fate.ensures.after))
+invariant_of-self c = (
+  c.self.invariant.0,
+  ascends_written _ _ _ _ _ c.index-deref_mut-place.result c.self.invariant.1 c.deref_mut.ensures.value (ap (λ (e : Entry). e.id) c.segment-fate.ensures.after),
+  index_written _ _ _ _ _ c.index-deref_mut-place.result c.self.invariant.2 c.deref_mut.ensures.value (filed_after (role_after_segment c.later_moment-now.result c.args.segment.now) _ _ (filed-segment c.later_moment-now.result c.args.segment.now _) c.segment-fate.ensures.after),
+)
+
+-- its connection stays filed by its ends
+pub settle-requires-clause-order : goal.settle-requires-clause-order
+settle-requires-clause-order c = (c.self.inside.last_id, ascends_written _ _ _ _ _ c.index-deref_mut-place.result c.self.invariant.1 c.deref_mut.ensures.value (ap (λ (e : Entry). e.id) c.segment-fate.ensures.after))
+
+pub settle-requires-clause-index : goal.settle-requires-clause-index
+settle-requires-clause-index c = index_written _ _ _ _ _ c.index-deref_mut-place.result c.self.invariant.2 c.deref_mut.ensures.value (filed_after (role_after_segment c.later_moment-now.result c.args.segment.now) _ _ (filed-segment c.later_moment-now.result c.args.segment.now _) c.segment-fate.ensures.after)

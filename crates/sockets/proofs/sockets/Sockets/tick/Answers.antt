@@ -8,4 +8,7 @@ use Rattle.sockets.proofs.sockets.Sockets.tick.Goals as goal
 pub invariant_of-self : goal.invariant_of-self
 invariant_of-self c =
     let now = c.later_moment-now.result in
-    (c.self.invariant.0, ascends_stepped _ (λ (e : Entry). is_kept (tick_fate_of now e.role)) (with_role (role_after_tick now)) _ _ (λ e. refl) c.self.invariant.1 c.tick.ensures)
+    (c.self.invariant.0, ascends_stepped _ (λ (e : Entry). is_kept (tick_fate_of now e.role)) (with_role (role_after_tick now)) _ _ (λ e. refl) c.self.invariant.1 c.tick.ensures.entries, c.tick.ensures.index)
+
+pub tick-requires-clause-order : goal.tick-requires-clause-order
+tick-requires-clause-order c = (c.self.inside.last_id, c.self.invariant.1)

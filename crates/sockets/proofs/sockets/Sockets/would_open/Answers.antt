@@ -8,6 +8,7 @@ use Rattle.sockets.specs.declared.entry.Entry.{Entry}
 use Rattle.sockets.specs.Arrival.{peer_end}
 use Rattle.sockets.specs.Entries.{is_between}
 use Rattle.sockets.specs.SocketsView.{SocketsView}
+use Rattle.sockets.proofs.Ascending.{lent_in_order}
 use Rattle.sockets.proofs.Foreseen.{none-found}
 use Rattle.sockets.proofs.sockets.Sockets.would_open.Goals as goal
 
@@ -22,3 +23,7 @@ returns-in-Some c =
     ∙ ap (λ (e : Endpoint). position (is_between c.ends.result.0 e) h.entries) (sym c.ends.ensures.peer)
     ∙ ap (λ (es : List Entry). position (is_between c.ends.result.0 c.ends.result.1) es) (sym entries ∙ sym c.deref.ensures.0)
     ∙ (sym c.connection_between.ensures ∙ c.in-Some.is))
+
+-- the entries that are lent stand in order
+pub connection_between-requires-clause-order : goal.connection_between-requires-clause-order
+connection_between-requires-clause-order c = lent_in_order _ _ _ c.deref.ensures.0 c.self.invariant.1

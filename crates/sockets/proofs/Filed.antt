@@ -1,0 +1,486 @@
+-- How the connections stay filed by their ends, and what a search by the ends finds.
+use Rattle.std.proofs.Common.{◌≡◌, inl, inr, ◌⊎◌, ℕ, zero, suc, ◌+◌, ◌<◌, ◌≤◌, ◌&&◌, not, Bool, true, false, true≢false, if◌then◌else◌, cond, List, [], ◌∷◌, ◌++◌, length, get_or, set, Option, Some, None, refl, sym, ◌∙◌, ap, subst, arith}
+use Rattle.std.specs.Prelude.{filter, nat_lt, insert}
+use Rattle.std.specs.List.Sorted.{IsPartitionPoint, IsPartitionedBy}
+use Rattle.std.specs.List.{list_any, position, remove, refill, AllByRecursion, AllWithin}
+use Rattle.std.specs.List.Retain.{RetainsInTurn}
+use Rattle.std.proofs.lemmas.Bool.{eqb-true, eq-eqb, ne_eqb, and_parts}
+use Rattle.std.proofs.lemmas.Bool.Decides.{nat_tests}
+use Rattle.std.proofs.lemmas.List.{get_or_default}
+use Rattle.std.proofs.lemmas.List.Elements.{All-from_recursion, recursion_from_All}
+use Rattle.std.proofs.lemmas.List.Folds.{list_any_at}
+use Rattle.std.proofs.lemmas.List.Quantifiers.{position-Some}
+use Rattle.ipv4.specs.declared.addr.Endpoint.{Endpoint}
+use Rattle.ipv4.specs.Addresses.{same_end}
+use Rattle.tcp_state.specs.View.{is_closed}
+use Rattle.sockets.specs.declared.entry.SocketId.{SocketId}
+use Rattle.sockets.specs.declared.entry.Entry.{Entry}
+use Rattle.sockets.specs.declared.index.Filed.{Filed}
+use Rattle.sockets.specs.declared.role.Role.{Role}
+use Rattle.sockets.specs.declared.role.Role.TheVariants.{Idle, Listener, Connected, Datagrams}
+use Rattle.sockets.specs.Causes.{Follows}
+use Rattle.sockets.specs.Entries.{is_between, is_live_between}
+use Rattle.sockets.specs.Ids.{has_id, AreAscending, AreInOrder}
+use Rattle.sockets.specs.Index.{key_of, filed_at, filed_as, filed, is_before, AreSorted, inserted, with_filed, index_of, is_live_as}
+use Rattle.sockets.proofs.Ascending.{ascends_lower, is_some-position, lent_in_order}
+use Rattle.sockets.proofs.Ends.{same_end-true}
+use Rattle.sockets.proofs.Firsts.{refill_set, position-from_fails, position-none_passes}
+use Rattle.sockets.proofs.Followed.{by_test, IsNothing, goes, as_it_was}
+
+-- The order.
+
+-- what the test of two tells
+before_tells : (a b : Filed) → ((is_before a b ≡ true) × ((a.key < b.key) ⊎ ((a.key ≡ b.key) × (a.id.0 < b.id.0)))) ⊎ ((is_before a b ≡ false) × ((b.key < a.key) ⊎ ((a.key ≡ b.key) × (b.id.0 ≤ a.id.0))))
+before_tells a b = grind (arith, nat_tests)
+
+-- it is one way alone
+one_way : (a b : Filed) → is_before a b ≡ true → is_before b a ≡ false
+one_way a b first = grind (arith, nat_tests)
+
+before_then : (a b c : Filed) → is_before a b ≡ true → is_before b c ≡ true → is_before a c ≡ true
+before_then a b c first second = grind (arith, nat_tests)
+
+not_before_then : (a b c : Filed) → is_before b a ≡ false → is_before c b ≡ false → is_before c a ≡ false
+not_before_then a b c first second = grind (arith, nat_tests)
+
+-- Insertions.
+
+-- two go to their places in either order
+inserted-earlier : (x y : Filed) → is_before x y ≡ true → (l : List Filed) → inserted x (inserted y l) ≡ inserted y (inserted x l)
+inserted-earlier x y first [] = rw (one_way x y first, first) refl
+inserted-earlier x y first (z ∷ zs) =
+    by_test (is_before z y)
+    (λ below. by_test (is_before z x)
+    (λ lower. rw (below, lower, below) (ap (λ ws. z ∷ ws) (inserted-earlier x y first zs)))
+    (λ higher. rw (below, higher, first, below) refl))
+    (λ above. let higher : is_before z x ≡ false = by_test (is_before z x) (λ lower. let bad : true ≡ false = sym (before_then z x y lower first) ∙ above in cc) (λ no. no) in
+    rw (above, one_way x y first, higher, first, above) refl)
+
+-- one of two stands before the other, or they are the same
+compared : (x y : Filed) → (is_before x y ≡ true) ⊎ ((is_before y x ≡ true) ⊎ (x ≡ y))
+compared x y =
+    by_test (is_before x y) (λ yes. inl yes)
+    (λ no. by_test (is_before y x) (λ yes. inr (inl yes))
+    (λ neither.
+    let key : x.key ≡ y.key = grind (arith, nat_tests) in
+    let id : x.id.0 ≡ y.id.0 = grind (arith, nat_tests) in
+    inr (inr (λ i. record { key = key i; id = record { 0 = id i } }))))
+
+inserted-twice : (x y : Filed) (l : List Filed) → inserted x (inserted y l) ≡ inserted y (inserted x l)
+inserted-twice x y l = elim (compared x y) [
+  | inl first ↦ inserted-earlier x y first l
+  | inr (inl second) ↦ sym (inserted-earlier y x second l)
+  | inr (inr same) ↦ ap (λ z. inserted z (inserted y l)) same ∙ ap (λ z. inserted y (inserted z l)) (sym same)
+]
+
+twice-filed : (o p : Option Filed) (l : List Filed) → with_filed o (with_filed p l) ≡ with_filed p (with_filed o l)
+twice-filed None p l = refl
+twice-filed (Some x) None l = refl
+twice-filed (Some x) (Some y) l = inserted-twice x y l
+
+-- what holds of all holds of a further one and of the rest
+module _ (P : Filed → Type 0) where
+  all_with : (x : Filed) (l : List Filed) → P x → AllByRecursion P l → AllByRecursion P (inserted x l)
+  all_with x [] p all = (p, tt)
+  all_with x (y ∷ ys) p all = by_place (is_before y x) (all_with x ys p all.1)
+    where
+      by_place : (b : Bool) → AllByRecursion P (inserted x ys) → AllByRecursion P (cond b (y ∷ inserted x ys) (x ∷ y ∷ ys))
+      by_place true rest = (all.0, rest)
+      by_place false rest = (p, all)
+
+  all_without : (x : Filed) (l : List Filed) → AllByRecursion P (inserted x l) → P x × AllByRecursion P l
+  all_without x [] all = (all.0, tt)
+  all_without x (y ∷ ys) all = by_place (is_before y x) (λ every. all_without x ys every) all
+    where
+      by_place : (b : Bool) → (AllByRecursion P (inserted x ys) → P x × AllByRecursion P ys) → AllByRecursion P (cond b (y ∷ inserted x ys) (x ∷ y ∷ ys)) → P x × AllByRecursion P (y ∷ ys)
+      by_place true without every = let rest = without every.1 in (rest.0, (every.0, rest.1))
+      by_place false without every = every
+
+  all_weaker : (Q : Filed → Type 0) → ((x : Filed) → P x → Q x) → (l : List Filed) → AllByRecursion P l → AllByRecursion Q l
+  all_weaker Q follows [] all = tt
+  all_weaker Q follows (x ∷ xs) all = (follows x all.0, all_weaker Q follows xs all.1)
+
+  all_filtered : (k : Filed → Bool) (l : List Filed) → AllByRecursion P l → AllByRecursion P (filter k l)
+  all_filtered k [] all = tt
+  all_filtered k (x ∷ xs) all = by_answer (k x) (all_filtered k xs all.1)
+    where
+      by_answer : (b : Bool) → AllByRecursion P (filter k xs) → AllByRecursion P (cond b (x ∷ filter k xs) (filter k xs))
+      by_answer true rest = (all.0, rest)
+      by_answer false rest = rest
+
+  -- and so of each that the entries name
+  all_beside : (o : Option Filed) (l : List Filed) → AllByRecursion P (with_filed o l) → AllByRecursion P l
+  all_beside None l all = all
+  all_beside (Some x) l all = (all_without x l all).1
+
+  first_filed : (o : Option Filed) (l : List Filed) (x : Filed) → AllByRecursion P (with_filed o l) → o ≡ Some x → P x
+  first_filed None l x all is = cc
+  first_filed (Some y) l x all is = let same : y ≡ x = cc in subst P same (all_without y l all).0
+
+  pub all_filed : (xs : List Entry) → AllByRecursion P (index_of xs) → (i : ℕ) (d : Entry) → i < length xs → (x : Filed) → filed (get_or xs i d) ≡ Some x → P x
+  all_filed [] all i d within x is = absurd (omega arith)
+  all_filed (e ∷ rest) all zero d within x is = first_filed (filed e) (index_of rest) x all is
+  all_filed (e ∷ rest) all (suc i) d within x is = all_filed rest (all_beside (filed e) (index_of rest) all) i d (omega arith) x is
+
+sorted-inserted : (x : Filed) (l : List Filed) → AreSorted l → AreSorted (inserted x l)
+sorted-inserted x [] sorted = (tt, tt)
+sorted-inserted x (y ∷ ys) sorted = by_place (is_before y x) refl (sorted-inserted x ys sorted.1)
+  where
+    by_place : (b : Bool) → is_before y x ≡ b → AreSorted (inserted x ys) → AreSorted (cond b (y ∷ inserted x ys) (x ∷ y ∷ ys))
+    by_place true below rest = (all_with (λ z. is_before z y ≡ false) x ys (one_way y x below) sorted.0, rest)
+    by_place false above rest = ((above, all_weaker (λ z. is_before z y ≡ false) (λ z. is_before z x ≡ false) (λ z later. not_before_then x y z above later) ys sorted.0), sorted)
+
+-- What is filed of a table.
+
+pub sorted_index : (xs : List Entry) → AreSorted (index_of xs)
+sorted_index [] = tt
+sorted_index (e ∷ rest) = by_entry (filed e) (sorted_index rest)
+  where
+    by_entry : (o : Option Filed) → AreSorted (index_of rest) → AreSorted (with_filed o (index_of rest))
+    by_entry None sorted = sorted
+    by_entry (Some x) sorted = sorted-inserted x (index_of rest) sorted
+
+length-inserted : (x : Filed) (l : List Filed) → length (inserted x l) ≡ length l + 1
+length-inserted x [] = refl
+length-inserted x (y ∷ ys) = by_place (is_before y x) (length-inserted x ys)
+  where
+    by_place : (b : Bool) → length (inserted x ys) ≡ length ys + 1 → length (cond b (y ∷ inserted x ys) (x ∷ y ∷ ys)) ≡ length (y ∷ ys) + 1
+    by_place true rest = omega arith
+    by_place false rest = omega arith
+
+length-with : (o : Option Filed) (l : List Filed) → length (with_filed o l) ≤ length l + 1
+length-with None l = omega arith
+length-with (Some x) l = let one : length (inserted x l) ≡ length l + 1 = length-inserted x l in omega arith
+
+pub length_index : (xs : List Entry) → length (index_of xs) ≤ length xs
+length_index [] = omega arith
+length_index (e ∷ rest) =
+    let more : length (with_filed (filed e) (index_of rest)) ≤ length (index_of rest) + 1 = length-with (filed e) (index_of rest) in
+    let less : length (index_of rest) ≤ length rest = length_index rest in
+    omega arith
+
+-- an entry that is none leaves room
+pub room_index : (xs : List Entry) (i : ℕ) (d : Entry) → i < length xs → filed (get_or xs i d) ≡ None → length (index_of xs) < length xs
+room_index [] i d within none = absurd (omega arith)
+room_index (e ∷ rest) zero d within none =
+    let same : length (with_filed (filed e) (index_of rest)) ≡ length (index_of rest) = ap (λ (o : Option Filed). length (with_filed o (index_of rest))) none in
+    let less : length (index_of rest) ≤ length rest = length_index rest in
+    omega arith
+room_index (e ∷ rest) (suc i) d within none =
+    let more : length (with_filed (filed e) (index_of rest)) ≤ length (index_of rest) + 1 = length-with (filed e) (index_of rest) in
+    let less : length (index_of rest) < length rest = room_index rest i d (omega arith) none in
+    omega arith
+
+-- an entry joins
+pub index_joined : (xs : List Entry) (x : Entry) → index_of (xs ++ x ∷ []) ≡ with_filed (filed x) (index_of xs)
+index_joined [] x = refl
+index_joined (e ∷ rest) x = ap (λ (l : List Filed). with_filed (filed e) l) (index_joined rest x) ∙ twice-filed (filed e) (filed x) (index_of rest)
+
+-- an entry is written that is filed as the one before it
+index_set : (xs : List Entry) (i : ℕ) (y d : Entry) → filed y ≡ filed (get_or xs i d) → index_of (set xs i y) ≡ index_of xs
+index_set [] i y d same = refl
+index_set (x ∷ xs) zero y d same = ap (λ (o : Option Filed). with_filed o (index_of xs)) same
+index_set (x ∷ xs) (suc i) y d same = ap (λ (l : List Filed). with_filed (filed x) l) (index_set xs i y d same)
+
+-- and where that one was none
+index_set_new : (xs : List Entry) (i : ℕ) (y d : Entry) → i < length xs → filed (get_or xs i d) ≡ None → index_of (set xs i y) ≡ with_filed (filed y) (index_of xs)
+index_set_new [] i y d within none = absurd (omega arith)
+index_set_new (x ∷ xs) zero y d within none = ap (λ (o : Option Filed). with_filed (filed y) (with_filed o (index_of xs))) (sym none)
+index_set_new (x ∷ xs) (suc i) y d within none = ap (λ (l : List Filed). with_filed (filed x) l) (index_set_new xs i y d (omega arith) none) ∙ twice-filed (filed x) (filed y) (index_of xs)
+
+-- the same of entries that were lent as a slice
+pub index_written : (index : List Filed) (xs zs : List Entry) (i : ℕ) (y d : Entry) → index ≡ index_of xs → zs ≡ xs → filed y ≡ filed (get_or zs i d) → index ≡ index_of (refill (length xs) xs (set zs i y))
+index_written index xs zs i y d is lent same =
+    is ∙ sym (index_set xs i y d (same ∙ ap (λ (ws : List Entry). filed (get_or ws i d)) lent)) ∙ ap index_of (sym (refill_set xs zs i y lent))
+
+pub index_connected : (old index : List Filed) (xs zs : List Entry) (i : ℕ) (y d : Entry) (x : Filed) → old ≡ index_of xs → index ≡ inserted x old → zs ≡ xs → i < length xs → filed (get_or zs i d) ≡ None → filed y ≡ Some x → index ≡ index_of (refill (length xs) xs (set zs i y))
+index_connected old index xs zs i y d x was is lent within none now =
+    is ∙ ap (λ (l : List Filed). inserted x l) was ∙ ap (λ (o : Option Filed). with_filed o (index_of xs)) (sym now)
+    ∙ sym (index_set_new xs i y d within (ap (λ (ws : List Entry). filed (get_or ws i d)) (sym lent) ∙ none)) ∙ ap index_of (sym (refill_set xs zs i y lent))
+
+-- Entries that leave.
+
+kept-inserted : (k : Filed → Bool) (x : Filed) (l : List Filed) → k x ≡ true → AreSorted l → filter k (inserted x l) ≡ inserted x (filter k l)
+kept-inserted k x [] kept sorted = rw kept refl
+kept-inserted k x (y ∷ ys) kept sorted =
+    by_test (is_before y x)
+    (λ below. by_test (k y)
+    (λ stays. rw (below, stays, below) (ap (λ ws. y ∷ ws) (kept-inserted k x ys kept sorted.1)))
+    (λ leaves. rw (below, leaves) (kept-inserted k x ys kept sorted.1)))
+    (λ above. rw (above, kept) (sym (in_front (filter k (y ∷ ys)) (all_filtered (λ z. is_before z x ≡ false) k (y ∷ ys) (above, all_weaker (λ z. is_before z y ≡ false) (λ z. is_before z x ≡ false) (λ z later. not_before_then x y z above later) ys sorted.0)))))
+  where
+    in_front : (l : List Filed) → AllByRecursion (λ z. is_before z x ≡ false) l → inserted x l ≡ x ∷ l
+    in_front [] all = refl
+    in_front (z ∷ zs) all = rw all.0 refl
+
+gone-inserted : (k : Filed → Bool) (x : Filed) (l : List Filed) → k x ≡ false → filter k (inserted x l) ≡ filter k l
+gone-inserted k x [] gone = rw gone refl
+gone-inserted k x (y ∷ ys) gone =
+    by_test (is_before y x)
+    (λ below. by_test (k y)
+    (λ stays. rw (below, stays) (ap (λ ws. y ∷ ws) (gone-inserted k x ys gone)))
+    (λ leaves. rw (below, leaves) (gone-inserted k x ys gone)))
+    (λ above. rw (above, gone) refl)
+
+kept-with : (k : Filed → Bool) (o : Option Filed) (l : List Filed) → ((x : Filed) → o ≡ Some x → k x ≡ true) → AreSorted l → filter k (with_filed o l) ≡ with_filed o (filter k l)
+kept-with k None l keeps sorted = refl
+kept-with k (Some x) l keeps sorted = kept-inserted k x l (keeps x refl) sorted
+
+gone-with : (k : Filed → Bool) (o : Option Filed) (l : List Filed) → ((x : Filed) → o ≡ Some x → k x ≡ false) → filter k (with_filed o l) ≡ filter k l
+gone-with k None l leaves = refl
+gone-with k (Some x) l leaves = gone-inserted k x l (leaves x refl)
+
+-- a connection is filed by its own id
+filed-id : (id : SocketId) (role : Role) (x : Filed) → filed_as id role ≡ Some x → x.id ≡ id
+filed-id id (Connected c listener) x is = let same : filed_at id c.local c.peer ≡ x = cc in ap (λ (z : Filed). z.id) (sym same)
+filed-id id (Listener local backlog) x is = cc
+filed-id id (Idle buffers bound) x is = cc
+filed-id id (Datagrams bound socket) x is = cc
+
+-- an entry that stays keeps its id, and is filed as before
+abbrev pub StaysFiled : Entry → Option Entry → Type 0
+StaysFiled x None = Unit {0}
+StaysFiled x (Some y) = (y.id ≡ x.id) × (filed y ≡ filed x)
+
+-- no entry has an id below the first
+none_below : (a last : ℕ) (ys : List Entry) (id : SocketId) → id.0 ≤ a → AreAscending a last ys → list_any (has_id id) ys ≡ false
+none_below a last [] id low ascends = refl
+none_below a last (y ∷ ys) id low ascends =
+    let first : a < y.id.0 = ascends.0 in
+    rw (ne_eqb y.id.0 id.0 (λ same. omega arith)) (none_below y.id.0 last ys id (omega arith) ascends.1)
+
+-- the ids of what is left ascend
+ascends_left : (a last : ℕ) (xs ys : List Entry) → Follows StaysFiled IsNothing xs ys → AreAscending a last xs → AreAscending a last ys
+ascends_left a last [] ys f ascends = subst (λ (ws : List Entry). AreAscending a last ws) (sym f) ascends
+ascends_left a last (x ∷ xs) [] f ascends =
+    ascends_left a last xs [] f.1 (ascends_lower x.id.0 a last xs (let first : a < x.id.0 = ascends.0 in omega arith) ascends.1)
+ascends_left a last (x ∷ xs) (y ∷ ys) (inl f) ascends =
+    let P : SocketId → Type 0 = λ i. (a < i.0) × AreAscending i.0 last ys in
+    subst P (sym f.0.0) (ascends.0, ascends_left x.id.0 last xs ys f.1 ascends.1)
+ascends_left a last (x ∷ xs) (y ∷ ys) (inr f) ascends =
+    ascends_left a last xs (y ∷ ys) f.1 (ascends_lower x.id.0 a last xs (let first : a < x.id.0 = ascends.0 in omega arith) ascends.1)
+
+-- where a test of what is filed passes exactly those whose id is left, it leaves what is filed of the entries that are left
+index_kept : (k : Filed → Bool) (a last : ℕ) (xs ys : List Entry) → ((x : Filed) → a < x.id.0 → k x ≡ list_any (has_id x.id) ys) → Follows StaysFiled IsNothing xs ys → AreAscending a last xs → filter k (index_of xs) ≡ index_of ys
+index_kept k a last [] ys says f ascends = ap index_of (sym f)
+index_kept k a last (x ∷ xs) [] says f ascends =
+    let above : a < x.id.0 = ascends.0 in
+    gone-with k (filed x) (index_of xs) (λ z is. says z (subst (λ (i : SocketId). a < i.0) (sym (filed-id x.id x.role z is)) above))
+    ∙ index_kept k x.id.0 last xs [] (λ z later. says z (omega arith)) f.1 ascends.1
+index_kept k a last (x ∷ xs) (y ∷ ys) says (inl f) ascends =
+    let above : a < x.id.0 = ascends.0 in
+    let here : (z : Filed) → filed x ≡ Some z → k z ≡ true =
+    λ z is. let id : z.id ≡ x.id = filed-id x.id x.role z is in
+    says z (subst (λ (i : SocketId). a < i.0) (sym id) above) ∙ rw (eq-eqb y.id.0 z.id.0 (ap (λ (i : SocketId). i.0) (f.0.0 ∙ sym id))) refl
+    in
+    let later : (z : Filed) → x.id.0 < z.id.0 → k z ≡ list_any (has_id z.id) ys =
+    λ z after. let id : y.id.0 ≡ x.id.0 = ap (λ (i : SocketId). i.0) f.0.0 in
+    says z (omega arith) ∙ rw (ne_eqb y.id.0 z.id.0 (λ same. omega arith)) refl
+    in
+    kept-with k (filed x) (index_of xs) here (sorted_index xs)
+    ∙ ap (λ (l : List Filed). with_filed (filed x) l) (index_kept k x.id.0 last xs ys later f.1 ascends.1)
+    ∙ ap (λ (o : Option Filed). with_filed o (index_of ys)) (sym f.0.1)
+index_kept k a last (x ∷ xs) (y ∷ ys) says (inr f) ascends =
+    let above : a < x.id.0 = ascends.0 in
+    let left : AreAscending x.id.0 last (y ∷ ys) = ascends_left x.id.0 last xs (y ∷ ys) f.1 ascends.1 in
+    gone-with k (filed x) (index_of xs)
+    (λ z is. let id : z.id ≡ x.id = filed-id x.id x.role z is in
+    says z (subst (λ (i : SocketId). a < i.0) (sym id) above)
+    ∙ none_below x.id.0 last (y ∷ ys) z.id (subst (λ (i : SocketId). i.0 ≤ x.id.0) (sym id) (omega arith)) left)
+    ∙ index_kept k x.id.0 last xs (y ∷ ys) (λ z after. says z (omega arith)) f.1 ascends.1
+
+-- what is filed of the entries that are left
+pub index_left : (last : ℕ) (index : List Filed) (xs ys : List Entry) → index ≡ index_of xs → AreAscending 0 last xs → Follows StaysFiled IsNothing xs ys → filter (λ (x : Filed). list_any (has_id x.id) ys) index ≡ index_of ys
+index_left last index xs ys is ascends f =
+    ap (λ (l : List Filed). filter (λ (x : Filed). list_any (has_id x.id) ys) l) is
+    ∙ index_kept (λ (x : Filed). list_any (has_id x.id) ys) 0 last xs ys (λ x above. refl) f ascends
+
+-- no more entries are left than there were
+length_left : (xs ys : List Entry) → Follows StaysFiled IsNothing xs ys → length ys ≤ length xs
+length_left [] ys f = subst (λ (ws : List Entry). length ws ≤ 0) (sym f) (omega arith)
+length_left (x ∷ xs) [] f = omega arith
+length_left (x ∷ xs) (y ∷ ys) (inl f) = let less : length ys ≤ length xs = length_left xs ys f.1 in omega arith
+length_left (x ∷ xs) (y ∷ ys) (inr f) = let less : length (y ∷ ys) ≤ length xs = length_left xs (y ∷ ys) f.1 in omega arith
+
+-- and where as many are, the same is filed
+index_unless_left : (xs ys : List Entry) → Follows StaysFiled IsNothing xs ys → length xs ≤ length ys → index_of ys ≡ index_of xs
+index_unless_left [] ys f all = ap index_of f
+index_unless_left (x ∷ xs) [] f all = absurd (omega arith)
+index_unless_left (x ∷ xs) (y ∷ ys) (inl f) all = ap (λ (o : Option Filed). with_filed o (index_of ys)) f.0.1 ∙ ap (λ (l : List Filed). with_filed (filed x) l) (index_unless_left xs ys f.1 (omega arith))
+index_unless_left (x ∷ xs) (y ∷ ys) (inr f) all = let less : length (y ∷ ys) ≤ length xs = length_left xs (y ∷ ys) f.1 in absurd (omega arith)
+
+-- an entry is taken out
+pub left_by_removal : (xs : List Entry) (i : ℕ) → Follows StaysFiled IsNothing xs (remove xs i)
+left_by_removal [] zero = refl
+left_by_removal [] (suc i) = refl
+left_by_removal (x ∷ xs) zero = goes StaysFiled IsNothing x xs xs tt (as_it_was StaysFiled IsNothing refl (λ e. (refl, refl)) xs)
+left_by_removal (x ∷ xs) (suc i) = inl ((refl, refl), left_by_removal xs i)
+
+-- each entry keeps its id and its ends, or is taken out, where no call changes a capture
+pub left_in_turn : {F : Type 0} (R : F → Entry → Bool → F → Entry → Type 0) (f : F) → ((x : Entry) (b : Bool) (f' : F) (y : Entry) → R f x b f' y → (f' ≡ f) × (y.id ≡ x.id) × (filed y ≡ filed x))
+    → (xs ys : List Entry) → RetainsInTurn R f xs ys → Follows StaysFiled IsNothing xs ys
+left_in_turn R f says [] ys h = h
+left_in_turn R f says (x ∷ xs) ys h =
+    let said = says x h.0 h.1 h.2 h.3 in
+    let later = subst (λ g. RetainsInTurn R g xs h.4) said.0 h.5 in
+    let rest = left_in_turn R f says xs h.4 later in
+    subst (λ (ws : List Entry). Follows StaysFiled IsNothing (x ∷ xs) ws) (sym h.6) (by_answer h.0 h.2 h.4 (said.1, said.2) rest)
+  where
+    by_answer : (b : Bool) (y : Entry) (zs : List Entry) → (y.id ≡ x.id) × (filed y ≡ filed x) → Follows StaysFiled IsNothing xs zs → Follows StaysFiled IsNothing (x ∷ xs) (cond b (y ∷ zs) zs)
+    by_answer true y zs same rest = inl (same, rest)
+    by_answer false y zs same rest = goes StaysFiled IsNothing x xs zs tt rest
+
+-- What a search by the ends finds.
+
+-- a connection between these ends is filed by them
+filed_between : (local peer : Endpoint) (e : Entry) → is_between local peer e ≡ true → filed e ≡ Some (filed_at e.id local peer)
+filed_between local peer e live = by_role e.role live
+  where
+    by_role : (role : Role) → is_live_between local peer role ≡ true → filed_as e.id role ≡ Some (filed_at e.id local peer)
+    by_role (Connected c listener) passes =
+        let parts = and_parts (same_end c.local local) (same_end c.peer peer) (and_parts (not (is_closed c.state)) (same_end c.local local && same_end c.peer peer) passes).1 in
+        ap (λ (l : Endpoint). Some (filed_at e.id l c.peer)) (same_end-true c.local local parts.0) ∙ ap (λ (p : Endpoint). Some (filed_at e.id local p)) (same_end-true c.peer peer parts.1)
+    by_role (Listener l b) passes = cc
+    by_role (Idle buffers bound) passes = cc
+    by_role (Datagrams bound socket) passes = cc
+
+-- no element passes where there is no place
+nowhere_passes : (test : Entry → Bool) (xs : List Entry) → position test xs ≡ None → (i : ℕ) (d : Entry) → i < length xs → test (get_or xs i d) ≡ true → ⊥
+nowhere_passes test xs none i d within passes =
+    let any : list_any test xs ≡ true = list_any_at test xs i d within passes in
+    let no : false ≡ list_any test xs = is_some-position test xs None (sym none) in
+    true≢false (sym any ∙ sym no)
+
+-- where it is filed by these ends, its entry is no live connection between them
+abbrev pub IsPassed : List Entry → Endpoint → Endpoint → Filed → Type 0
+IsPassed xs local peer x = x.key ≡ key_of local peer → position (is_live_as x.id local peer) xs ≡ None
+
+module _ (xs : List Entry) (sorted : AreInOrder xs) (local peer : Endpoint) where
+  -- the entry in this place is none, as it would be found
+  passed : (i : ℕ) (d : Entry) → i < length xs → position (is_live_as (get_or xs i d).id local peer) xs ≡ None → is_between local peer (get_or xs i d) ≡ false
+  passed i d within none =
+      let e : Entry = get_or xs i d in
+      by_test (is_between local peer e)
+      (λ passes. absurd (nowhere_passes (is_live_as e.id local peer) xs none i d within (rw (eq-eqb e.id.0 e.id.0 refl) passes)))
+      (λ fails. fails)
+
+  pub found_none : AllByRecursion (IsPassed xs local peer) (index_of xs) → position (is_between local peer) xs ≡ None
+  found_none all = position-none_passes (is_between local peer) xs
+      (λ i d low within. let e : Entry = get_or xs i d in by_test (is_between local peer e)
+      (λ passes. passed i d within (all_filed (IsPassed xs local peer) xs all i d within (filed_at e.id local peer) (filed_between local peer e passes) refl))
+      (λ fails. fails))
+
+  -- the first of the ends that is one
+  pub found_some : (place : ℕ) (id : SocketId) → position (is_live_as id local peer) xs ≡ Some place → AllByRecursion (λ (x : Filed). x.id.0 < id.0 → IsPassed xs local peer x) (index_of xs) → position (is_between local peer) xs ≡ Some place
+  found_some place id at all = by_list xs refl
+    where
+      by_list : (ys : List Entry) → ys ≡ xs → position (is_between local peer) xs ≡ Some place
+      by_list [] same = let bad : None ≡ Some place = ap (λ (ws : List Entry). position (is_live_as id local peer) ws) same ∙ at in cc
+      by_list (y ∷ ys) same =
+          let there = position-Some (is_live_as id local peer) xs place y at in
+          let e : Entry = get_or xs place y in
+          let parts = and_parts (has_id id e) (is_between local peer e) there.1 in
+          let its_id : e.id.0 ≡ id.0 = eqb-true e.id.0 id.0 parts.0 in
+          position-from_fails (is_between local peer) xs place e there.0
+          (λ i d low below. let w : Entry = get_or xs i d in by_test (is_between local peer w)
+          (λ passes.
+          let within : i < length xs = omega (arith, there.0) in
+          let lower : w.id.0 < (get_or xs place d).id.0 = sorted i place d below there.0 in
+          let there_too : (get_or xs place d).id.0 ≡ e.id.0 = ap (λ (z : Entry). z.id.0) (get_or_default xs place d y there.0) in
+          passed i d within (all_filed (λ (x : Filed). x.id.0 < id.0 → IsPassed xs local peer x) xs all i d within (filed_at w.id local peer) (filed_between local peer w passes) (omega arith) refl))
+          (λ fails. fails))
+          (get_or_default xs place y e there.0) parts.1
+
+-- Searches by halves.
+
+-- none stands before one in front of it, or before itself
+sorted_from : (l : List Filed) → AreSorted l → (i j : ℕ) (d : Filed) → i ≤ j → j < length l → is_before (get_or l j d) (get_or l i d) ≡ false
+sorted_from [] sorted i j d low within = absurd (omega arith)
+sorted_from (x ∷ xs) sorted zero zero d low within = grind (arith, nat_tests)
+sorted_from (x ∷ xs) sorted (suc i) zero d low within = absurd (omega arith)
+sorted_from (x ∷ xs) sorted zero (suc j) d low within = All-from_recursion (λ y. is_before y x ≡ false) xs sorted.0 j d (omega arith)
+sorted_from (x ∷ xs) sorted (suc i) (suc j) d low within = sorted_from xs sorted.1 i j d (omega arith) (omega arith)
+
+-- what stands before x comes first
+pub parted_by_place : (x : Filed) (l : List Filed) → AreSorted l → IsPartitionedBy (λ y. is_before y x) l
+parted_by_place x l sorted i j d low within first = front (get_or l i d) (get_or l j d) (sorted_from l sorted i j d low within) first
+  where
+    front : (a b : Filed) → is_before b a ≡ false → is_before b x ≡ true → is_before a x ≡ true
+    front a b behind below = grind (arith, nat_tests)
+
+-- and what has a lower key
+pub parted_by_key : (key : ℕ) (l : List Filed) → AreSorted l → IsPartitionedBy (λ y. nat_lt y.key key) l
+parted_by_key key l sorted i j d low within first = front (get_or l i d) (get_or l j d) (sorted_from l sorted i j d low within) first
+  where
+    front : (a b : Filed) → is_before b a ≡ false → nat_lt b.key key ≡ true → nat_lt a.key key ≡ true
+    front a b behind below = grind (arith, nat_tests)
+
+-- the place behind what stands before x is that of x
+pub inserted_there : (x : Filed) (l : List Filed) (i : ℕ) → i ≤ length l → IsPartitionPoint (λ y. is_before y x ≡ true) (λ y. is_before y x ≡ false) l i → insert l i x ≡ inserted x l
+inserted_there x [] zero within parts = refl
+inserted_there x [] (suc i) within parts = absurd (omega arith)
+inserted_there x (y ∷ ys) zero within parts = rw (parts.1 0 y (omega arith) (omega arith)) refl
+inserted_there x (y ∷ ys) (suc i) within parts =
+    rw (parts.0 0 y (omega arith) (omega arith))
+    (ap (λ ws. y ∷ ws) (inserted_there x ys i (omega arith) ((λ k d low below. parts.0 (suc k) d (omega arith) (omega arith)), (λ k d low below. parts.1 (suc k) d (omega arith) (omega arith)))))
+
+-- what stands in front of the first of a key is passed
+pub passed_below : (xs : List Entry) (local peer : Endpoint) (key : ℕ) (l : List Filed) (i : ℕ) → key ≡ key_of local peer → AllWithin (λ y. nat_lt y.key key ≡ true) l 0 i → AllWithin (IsPassed xs local peer) l 0 i
+passed_below xs local peer key l i is below k d low within same = let lower : nat_lt (get_or l k d).key key ≡ true = below k d low within in absurd (grind (arith, nat_tests))
+
+-- where all in front of one are passed
+module _ (xs : List Entry) (local peer : Endpoint) (l : List Filed) (sorted : AreSorted l) (at : ℕ) (here : Filed) (is_here : here ≡ get_or l at here) (within : at < length l) (before : AllWithin (IsPassed xs local peer) l 0 at) where
+  later : (k : ℕ) (d : Filed) → at ≤ k → k < length l → is_before (get_or l k d) here ≡ false
+  later k d high inside = ap (λ (z : Filed). is_before (get_or l k d) z) (is_here ∙ get_or_default l at here d within) ∙ sorted_from l sorted at k d high inside
+
+  -- all are, where its key is a higher one
+  pub all_passed : key_of local peer < here.key → AllByRecursion (IsPassed xs local peer) l
+  all_passed higher = recursion_from_All (IsPassed xs local peer) l (λ k d inside. by_test (nat_lt k at)
+      (λ low. before k d (omega arith) (grind (arith, nat_tests)))
+      (λ high same. absurd (apart (get_or l k d) (later k d (grind (arith, nat_tests)) inside) same)))
+    where
+      apart : (z : Filed) → is_before z here ≡ false → z.key ≡ key_of local peer → ⊥
+      apart z behind same = grind (arith, nat_tests)
+
+  -- all of a lower id are, where it is the key
+  pub all_lower : here.key ≡ key_of local peer → AllByRecursion (λ (z : Filed). z.id.0 < here.id.0 → IsPassed xs local peer z) l
+  all_lower key = recursion_from_All (λ (z : Filed). z.id.0 < here.id.0 → IsPassed xs local peer z) l (λ k d inside. by_test (nat_lt k at)
+      (λ low less. before k d (omega arith) (grind (arith, nat_tests)))
+      (λ high less same. absurd (apart (get_or l k d) (later k d (grind (arith, nat_tests)) inside) less same)))
+    where
+      apart : (z : Filed) → is_before z here ≡ false → z.id.0 < here.id.0 → z.key ≡ key_of local peer → ⊥
+      apart z behind less same = grind (arith, nat_tests)
+
+-- What a function of the table leaves filed.
+
+pub order_settled : (xs ys zs : List Entry) → (last : ℕ) × AreAscending 0 last xs → Follows StaysFiled IsNothing xs ys → zs ≡ ys → AreInOrder zs
+order_settled xs ys zs order f lent = lent_in_order order.0 ys zs lent (ascends_left 0 order.0 xs ys f order.1)
+
+pub index_settled : (index new : List Filed) (xs ys zs : List Entry) (held : ℕ) → (last : ℕ) × AreAscending 0 last xs → index ≡ index_of xs → Follows StaysFiled IsNothing xs ys → zs ≡ ys → held ≡ length xs
+    → new ≡ (if nat_lt (length zs) held then filter (λ (x : Filed). list_any (has_id x.id) zs) index else index) → new ≡ index_of ys
+index_settled index new xs ys zs held order is f lent all left =
+    by_test (nat_lt (length zs) held)
+    (λ fewer. left ∙ rw fewer (ap (λ (ws : List Entry). filter (λ (x : Filed). list_any (has_id x.id) ws) index) lent ∙ index_left order.0 index xs ys is order.1 f))
+    (λ as_many.
+    let same : length zs ≡ length ys = ap length lent in
+    let most : length xs ≤ length ys = grind (arith, nat_tests) in
+    left ∙ rw as_many (is ∙ sym (index_unless_left xs ys f most)))
+
+-- what was looked for in a slice that was lent
+pub filed_there : (x : Filed) (l ws : List Filed) (i : ℕ) → AreSorted l → ws ≡ l → i ≤ length ws
+    → (IsPartitionedBy (λ y. is_before y x) ws → IsPartitionPoint (λ y. is_before y x ≡ true) (λ y. is_before y x ≡ false) ws i) → insert l i x ≡ inserted x l
+filed_there x l ws i sorted lent within parts =
+    let at : (vs : List Filed) → vs ≡ l → (IsPartitionedBy (λ y. is_before y x) vs → IsPartitionPoint (λ y. is_before y x ≡ true) (λ y. is_before y x ≡ false) vs i) → IsPartitionPoint (λ y. is_before y x ≡ true) (λ y. is_before y x ≡ false) l i =
+    λ vs same. subst (λ (us : List Filed). (IsPartitionedBy (λ y. is_before y x) us → IsPartitionPoint (λ y. is_before y x ≡ true) (λ y. is_before y x ≡ false) us i) → IsPartitionPoint (λ y. is_before y x ≡ true) (λ y. is_before y x ≡ false) l i) (sym same)
+    (λ says. says (parted_by_place x l sorted))
+    in
+    inserted_there x l i (subst (λ (us : List Filed). i ≤ length us) lent within) (at ws lent parts)
+
+-- an entry joined that was filed, or that is no connection
+pub index_pushed : (old index : List Filed) (xs ys : List Entry) (e : Entry) (x : Filed) → old ≡ index_of xs → ys ≡ xs ++ e ∷ [] → filed e ≡ Some x → index ≡ inserted x old → index ≡ index_of ys
+index_pushed old index xs ys e x was joined now is =
+    is ∙ ap (λ (l : List Filed). inserted x l) was ∙ ap (λ (o : Option Filed). with_filed o (index_of xs)) (sym now) ∙ sym (index_joined xs e) ∙ ap index_of (sym joined)
+
+pub index_pushed_none : (index : List Filed) (xs ys : List Entry) (e : Entry) → index ≡ index_of xs → ys ≡ xs ++ e ∷ [] → filed e ≡ None → index ≡ index_of ys
+index_pushed_none index xs ys e was joined none =
+    was ∙ ap (λ (o : Option Filed). with_filed o (index_of xs)) (sym none) ∙ sym (index_joined xs e) ∙ ap index_of (sym joined)

@@ -1,0 +1,104 @@
+//! The connections of the table by their two ends, so that a segment finds its own by halves.
+
+ghost use Rattle.std.specs.Prelude.{◌≡◌, ◌<◌, nat_lt, if◌then◌else◌, length, position, filter};
+ghost use Rattle.std.specs.List.{list_any};
+ghost use Rattle.sockets.specs.Entries.{is_between};
+ghost use Rattle.sockets.specs.Ids.{AreInOrder, has_id};
+ghost use Rattle.sockets.specs.Index.{key_of, filed_at, is_before, AreSorted, inserted, index_of, is_live_as};
+
+use crate::entry::{Entry, SocketId};
+use crate::table::{ENTRIES, is_there, place_of};
+use arrayvec::ArrayVec;
+use ipv4::Endpoint;
+
+/// How many ports a host has.
+const PORTS: u64 = 65_536;
+
+/// A connection of the table, in any state: the number of its two ends, by which it is found, and the id of its entry.
+#[derive(Clone, Copy, Default, PartialEq, Eq, Debug)]
+pub struct Filed {
+    pub(crate) key: u64,
+    pub(crate) id: SocketId,
+}
+
+impl Filed {
+    /// Whether this one stands before another: by the ends, and at the same ends by the id.
+    fn is_before(&self, other: Filed) -> bool
+        ensures { result ≡ is_before self.now other }
+    {
+        self.key < other.key || (self.key == other.key && self.id.0 < other.id.0)
+    }
+}
+
+/// The two ends of a connection as one number, which halves compare. The local address is that of the table, so it has no part in it.
+fn key_of(local: Endpoint, peer: Endpoint) -> u64
+    ensures { result ≡ key_of local peer }
+{
+    let host = u64::from(u32::from_be_bytes(peer.addr.0));
+    (host * PORTS + u64::from(peer.port)) * PORTS + u64::from(local.port)
+}
+
+/// Files a further connection, which the id names.
+pub(crate) fn file(
+    index: &mut ArrayVec<Filed, ENTRIES>,
+    id: SocketId,
+    local: Endpoint,
+    peer: Endpoint,
+)
+    requires sorted { AreSorted index.old.items }
+    requires room { length index.old.items < ENTRIES }
+    ensures { index.new.items ≡ inserted (filed_at id local peer) index.old.items }
+{
+    let key = key_of(local, peer);
+    let filed = Filed { key, id };
+    let place = index.partition_point(|other| other.is_before(filed));
+    index.insert(place, filed);
+}
+
+/// Takes out the connections that left the table, which held so many entries before.
+pub(crate) fn forget(index: &mut ArrayVec<Filed, ENTRIES>, entries: &[Entry], held: usize)
+    requires { AreInOrder entries.now }
+    ensures { index.new.items ≡ (if nat_lt (length entries.now) held then filter (λ filed. list_any (has_id filed.id) entries.now) index.old.items else index.old.items) }
+{
+    if entries.len() < held {
+        index.retain(|filed| is_there(entries, filed.id));
+    }
+}
+
+/// The place of the connection from `local` to `peer`, in any state but CLOSED: halves find the first that is filed by the two ends, and of those
+/// that are, it is the first that is not CLOSED.
+pub(crate) fn connection_between(
+    entries: &[Entry],
+    index: &[Filed],
+    local: Endpoint,
+    peer: Endpoint,
+) -> Option<usize>
+    requires order { AreInOrder entries.now }
+    requires index { index.now ≡ index_of entries.now }
+    ensures { result ≡ position (is_between local peer) entries.now }
+{
+    let key = key_of(local, peer);
+    let first = index.partition_point(|filed| filed.key < key);
+    for at in first..index.len() {
+        let filed = &index[at];
+        if filed.key != key {
+            return None;
+        }
+        if let Some(place) = live_as(entries, filed.id, local, peer) {
+            return Some(place);
+        }
+    }
+    None
+}
+
+/// The place of the entry that `id` names, where it is a connection from `local` to `peer`, in any state but CLOSED.
+fn live_as(entries: &[Entry], id: SocketId, local: Endpoint, peer: Endpoint) -> Option<usize>
+    requires { AreInOrder entries.now }
+    ensures { result ≡ position (is_live_as id local peer) entries.now }
+{
+    let place = place_of(entries, id)?;
+    entries[place]
+        .role
+        .is_live_between(local, peer)
+        .then_some(place)
+}
