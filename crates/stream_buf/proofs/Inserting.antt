@@ -70,7 +70,8 @@ fewer_behind_front before (None ∷ places) = omega arith
 fewer_behind_front true (Some x ∷ places) = fewer_behind_front true places
 fewer_behind_front false (Some x ∷ places) = let rest = fewer_behind_front true places in omega (arith, rest)
 
-behind_octets : (octets : List ℕ) (places : List (Option ℕ)) → behind_front (map some octets ++ places) ≡ behind_front places
+-- octets in front are none of what lies behind the front
+pub behind_octets : (octets : List ℕ) (places : List (Option ℕ)) → behind_front (map some octets ++ places) ≡ behind_front places
 behind_octets [] places = refl
 behind_octets (x ∷ octets) places = behind_octets octets places
 
@@ -124,7 +125,7 @@ front_more [] (suc count) gap = refl
 front_more (None ∷ places) count gap = refl
 front_more (Some x ∷ places) count gap = absurd (cc)
 
-none_begins : (before : Bool) (count : ℕ) → ranges_after before (replicate count None) ≡ 0
+pub none_begins : (before : Bool) (count : ℕ) → ranges_after before (replicate count None) ≡ 0
 none_begins before zero = refl
 none_begins before (suc count) = none_begins false count
 

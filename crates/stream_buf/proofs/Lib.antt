@@ -4,6 +4,7 @@ pub mod Inserting
 pub mod Taking
 pub mod Unacknowledged
 pub mod Standing
+pub mod Gapless
 pub mod Touching
 pub mod Beginnings
 pub mod Receptions

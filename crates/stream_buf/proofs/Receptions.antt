@@ -2,13 +2,15 @@
 use Rattle.std.proofs.Common.{◌≡◌, ℕ, ◌+◌, ◌-◌, ◌<◌, ◌≤◌, Bool, true, false, if◌then◌else◌, inl, inr, ◌⊎◌, List, [], ◌∷◌, ◌++◌, length, get_or, map, take, drop, replicate, fold, Option, Some, None, refl, sym, ◌∙◌, ap, subst, length-append, arith}
 use Rattle.std.proofs.lemmas.Bool.{cases_Bool, cases_lt}
 use Rattle.std.proofs.lemmas.List.{append_assoc, append-nil, map-append, length-map, take-append-drop, take_at, get_or_append_left, get_or-map}
+use Rattle.std.proofs.lemmas.List.Elements.{All-head, All-tail}
 use Rattle.std.proofs.lemmas.List.Sums.{fold-append}
 use Rattle.stream_buf.specs.Receiving.{front, behind_front, laid, is_taken, read_count, IsReceiving}
-use Rattle.stream_buf.specs.Received.{ReceiveEvent, Received, nothing_yet, after_receive_event, received, in_order, by_place, HasRoom, IsOf, EachFrom, AreReceiveCalls, Carry, IsInserted}
-use Rattle.stream_buf.specs.Received.ReceiveEvent.{Inserts, Reads}
+use Rattle.stream_buf.specs.Received.{ReceiveEvent, Received, nothing_yet, after_receive_event, received, in_order, by_place, HasRoom, IsOf, EachFrom, AreReceiveCalls, Carry, ForgetNothing, IsInserted}
+use Rattle.stream_buf.specs.Received.ReceiveEvent.{Inserts, Reads, Forgets}
 use Rattle.stream_buf.proofs.Inserting.{some, receives_nothing, receives_read, receives_laid, laid_none}
 use Rattle.stream_buf.proofs.Taking.{taken_first, few_left}
-use Rattle.stream_buf.proofs.Standing.{front_split, front_octets, at_same, at_behind, laid_own, laid_before, laid_behind, at_more}
+use Rattle.stream_buf.proofs.Standing.{front_split, front_octets, at_same, at_behind, laid_own, laid_before, laid_behind, at_more, stands_first}
+use Rattle.stream_buf.proofs.Gapless.{receives_forgotten}
 
 -- what octets leave that are taken
 abbrev pub with_octets : Received → ℕ → List ℕ → Received
@@ -104,6 +106,7 @@ event_counts capacity r (Reads len) can was = record {
   size = was.size;
   counted = ap (λ (xs : List ℕ). length xs) (in_order_stays r len) ∙ was.counted;
 }
+event_counts capacity r Forgets can was = record { sound = receives_forgotten r.buffer was.sound; size = was.size; counted = was.counted }
 
 first_counted : (capacity : ℕ) → IsCounted capacity (nothing_yet capacity)
 first_counted capacity = record { sound = receives_nothing capacity; size = refl; counted = refl }
@@ -184,6 +187,12 @@ read_stays r len place =
     ap (λ (xs : List ℕ). get_or (map some xs ++ (r.buffer.kept ++ free)) place None) (in_order_stays r len)
     ∙ ap (λ (ps : List (Option ℕ)). get_or ps place None) (sym (append_assoc (map some (in_order r)) r.buffer.kept free)) ∙ at_more (by_place r) n place
 
+-- what stands once what is kept is forgotten stood there before
+stood : (r : Received) (place octet : ℕ) → get_or (by_place (after_receive_event r Forgets)) place None ≡ Some octet → get_or (by_place r) place None ≡ Some octet
+stood r place octet stands =
+    let first : List (Option ℕ) = map some (in_order r) in
+    stands_first first r.buffer.kept place octet (sym (at_more first (length r.buffer.kept) place) ∙ stands)
+
 -- each octet that came is that of the stream at its place
 pub record IsOfStream (stream : ℕ → ℕ) (capacity : ℕ) (r : Received) : Type 0 where
   pub counts : IsCounted capacity r
@@ -225,6 +234,10 @@ event_of stream capacity r (Reads len) can was = record {
   counts = event_counts capacity r (Reads len) can.0 was.counts;
   of = λ place octet stands. was.of place octet (sym (read_stays r len place) ∙ stands);
 }
+event_of stream capacity r Forgets can was = record {
+  counts = event_counts capacity r Forgets can.0 was.counts;
+  of = λ place octet stands. was.of place octet (stood r place octet stands);
+}
 
 none_free : (count place octet : ℕ) → get_or (replicate count None) place None ≡ Some octet → ⊥
 none_free count place octet stands = let none = at_more [] count place in cc (none, stands)
@@ -259,33 +272,43 @@ record HasOctet (stream : ℕ → ℕ) (capacity place octet : ℕ) (r : Receive
   right : IsOfStream stream capacity r
   stands : get_or (by_place r) place None ≡ Some octet
 
-event_holds : (stream : ℕ → ℕ) (capacity place octet : ℕ) (r : Received) (event : ReceiveEvent) → IsPart stream r event → HasOctet stream capacity place octet r
+-- such an event that forgets nothing
+abbrev IsKeptPart : (ℕ → ℕ) → Received → ReceiveEvent → Type 0
+IsKeptPart stream r event = IsPart stream r event × ¬ (event ≡ Forgets)
+
+event_holds : (stream : ℕ → ℕ) (capacity place octet : ℕ) (r : Received) (event : ReceiveEvent) → IsKeptPart stream r event → HasOctet stream capacity place octet r
     → HasOctet stream capacity place octet (after_receive_event r event)
 event_holds stream capacity place octet r (Inserts distance octets) can was =
     let right = was.right in
     record {
-      right = event_of stream capacity r (Inserts distance octets) can right;
+      right = event_of stream capacity r (Inserts distance octets) can.0 right;
       stands = after_insertion (λ s. get_or (by_place s) place None ≡ Some octet) r distance octets (λ taken.
-          elim (at_place stream r distance octets can.1 (inserted capacity r distance octets right.counts can.0) place) [
+          elim (at_place stream r distance octets can.0.1 (inserted capacity r distance octets right.counts can.0.0) place) [
             | inl own ↦ own ∙ ap (λ (x : ℕ). Some x) (sym (right.of place octet was.stands))
             | inr same ↦ same ∙ was.stands
           ]) was.stands;
     }
 event_holds stream capacity place octet r (Reads len) can was = record {
-  right = event_of stream capacity r (Reads len) can was.right;
+  right = event_of stream capacity r (Reads len) can.0 was.right;
   stands = read_stays r len place ∙ was.stands;
 }
+event_holds stream capacity place octet r Forgets can was = absurd (can.1 refl)
+
+none_forgets : (events : List ReceiveEvent) (r : Received) → ForgetNothing events → EachFrom (λ s event. ¬ (event ≡ Forgets)) r events
+none_forgets [] r none = tt
+none_forgets (event ∷ events) r none =
+    (All-head (λ (e : ReceiveEvent). ¬ (e ≡ Forgets)) event events none, none_forgets events (after_receive_event r event) (All-tail (λ (e : ReceiveEvent). ¬ (e ≡ Forgets)) event events none))
 
 pub nothing_lost : (stream : ℕ → ℕ) (capacity : ℕ) (events more : List ReceiveEvent) → AreReceiveCalls capacity (events ++ more) → Carry stream capacity (events ++ more)
-    → (place octet : ℕ) → get_or (by_place (received capacity events)) place None ≡ Some octet
+    → ForgetNothing more → (place octet : ℕ) → get_or (by_place (received capacity events)) place None ≡ Some octet
     → get_or (by_place (received capacity (events ++ more))) place None ≡ Some octet
-nothing_lost stream capacity events more can carry place octet stands =
+nothing_lost stream capacity events more can carry keep place octet stands =
     let begun : Received = nothing_yet capacity in
     let calls = parts_hold HasRoom events more begun can in
     let parts = parts_hold (IsOf stream) events more begun carry in
     let now : Received = received capacity events in
-    let later = each_keeps (IsPart stream) (HasOctet stream capacity place octet) (event_holds stream capacity place octet) more now
-    (both_hold HasRoom (IsOf stream) more now calls.1 parts.1) (record { right = received_of stream capacity events calls.0 parts.0; stands = stands }) in
+    let later = each_keeps (IsKeptPart stream) (HasOctet stream capacity place octet) (event_holds stream capacity place octet) more now
+    (both_hold (IsPart stream) (λ s event. ¬ (event ≡ Forgets)) more now (both_hold HasRoom (IsOf stream) more now calls.1 parts.1) (none_forgets more now keep)) (record { right = received_of stream capacity events calls.0 parts.0; stands = stands }) in
     ap (λ (s : Received). get_or (by_place s) place None) (fold-append after_receive_event begun events more) ∙ later.stands
 
 -- what is in order goes on, and RCV.NXT with it
@@ -309,6 +332,7 @@ with_octets_go old r distance octets was =
 event_goes : (old r : Received) (event : ReceiveEvent) → GoesOn old r → GoesOn old (after_receive_event r event)
 event_goes old r (Inserts distance octets) was = after_insertion (GoesOn old) r distance octets (λ taken. with_octets_go old r distance octets was) was
 event_goes old r (Reads len) was = record { tail = was.tail; grown = in_order_stays r len ∙ was.grown; forward = was.forward }
+event_goes old r Forgets was = record { tail = was.tail; grown = was.grown; forward = was.forward }
 
 events_go : (capacity : ℕ) (events more : List ReceiveEvent) → GoesOn (received capacity events) (received capacity (events ++ more))
 events_go capacity events more =
@@ -324,6 +348,23 @@ stays capacity events more =
 
 pub forward : (capacity : ℕ) (events more : List ReceiveEvent) → (received capacity events).next ≤ (received capacity (events ++ more)).next
 forward capacity events more = let go = events_go capacity events more in go.forward
+
+-- what is in order stays at its place
+pub readable_stays : (capacity : ℕ) (events more : List ReceiveEvent) (place : ℕ) → place < length (in_order (received capacity events))
+    → get_or (by_place (received capacity (events ++ more))) place None ≡ get_or (by_place (received capacity events)) place None
+readable_stays capacity events more place below =
+    let now : Received = received capacity events in
+    let later : Received = received capacity (events ++ more) in
+    let first : List (Option ℕ) = map some (in_order now) in
+    let go = events_go capacity events more in
+    let rest : List (Option ℕ) = map some go.tail ++ later.buffer.kept in
+    let within : place < length first = omega (arith, below, length-map (in_order now) some) in
+    let split : by_place later ≡ first ++ rest =
+    ap (λ (xs : List ℕ). map some xs ++ later.buffer.kept) go.grown
+    ∙ ap (λ (ps : List (Option ℕ)). ps ++ later.buffer.kept) (map-append some (in_order now) go.tail)
+    ∙ append_assoc first (map some go.tail) later.buffer.kept in
+    ap (λ (ps : List (Option ℕ)). get_or ps place None) split ∙ get_or_append_left first rest None place within
+    ∙ sym (get_or_append_left first now.buffer.kept None place within)
 
 -- octets at RCV.NXT are readable at once
 pub reaches : (r : Received) (octets : List ℕ) → r.next + length octets ≤ (after_receive_event r (Inserts 0 octets)).next

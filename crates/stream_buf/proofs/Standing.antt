@@ -70,3 +70,9 @@ at_more [] (suc count) zero = refl
 at_more [] (suc count) (suc i) = at_more [] count i
 at_more (place ∷ places) count zero = refl
 at_more (place ∷ places) count (suc i) = at_more places count i
+
+-- an octet among the first places stands there, whatever comes behind them
+pub stands_first : (first places : List (Option ℕ)) (i octet : ℕ) → get_or first i None ≡ Some octet → get_or (first ++ places) i None ≡ Some octet
+stands_first [] places i octet stands = absurd (cc)
+stands_first (place ∷ first) places zero octet stands = stands
+stands_first (place ∷ first) places (suc i) octet stands = stands_first first places i octet stands

@@ -1,7 +1,7 @@
 -- A receive buffer over every list of calls, and the stream of octets that comes out of it (RFC 9293 section 3.4). Only laws speak of
 -- it.
-use Rattle.std.specs.Prelude.{◌≡◌, ℕ, zero, suc, ◌+◌, ◌<◌, ◌≤◌, Bool, ◌&&◌, if◌then◌else◌, List, [], ◌∷◌, ◌++◌, length, map, fold, Option, Some, None, is_some, is_none, IsSome, slice_index, slice_index_or, EachIndex}
-use Rattle.stream_buf.specs.Receiving.{ReceiveView, nothing_received, joined, after_insert, read_octets, after_read}
+use Rattle.std.specs.Prelude.{◌≡◌, ℕ, zero, suc, ◌+◌, ◌<◌, ◌≤◌, Bool, ◌&&◌, if◌then◌else◌, List, [], ◌∷◌, ◌++◌, length, map, fold, Option, Some, None, is_some, is_none, IsSome, slice_index, slice_index_or, EachIndex, All}
+use Rattle.stream_buf.specs.Receiving.{ReceiveView, nothing_received, joined, after_insert, read_octets, after_read, after_forgetting}
 
 -- what happens to a receive buffer
 pub data ReceiveEvent : Type 0 where
@@ -9,6 +9,8 @@ pub data ReceiveEvent : Type 0 where
   Inserts : ℕ → List ℕ → ReceiveEvent
   -- so many octets are read at most
   Reads : ℕ → ReceiveEvent
+  -- what is kept ahead of a gap is forgotten: nothing more comes
+  Forgets : ReceiveEvent
 
 -- A receive buffer, all the octets that were read since it was made, in order, and RCV.NXT, which counts from the first octet of the
 -- stream on: it moves by as many octets as each insertion tells.
@@ -27,6 +29,7 @@ after_receive_event r (Inserts distance octets) = record r {
   next = r.next + length (joined r.buffer distance octets);
 }
 after_receive_event r (Reads len) = record r { buffer = after_read r.buffer len; read = r.read ++ read_octets r.buffer len }
+after_receive_event r Forgets = record r { buffer = after_forgetting r.buffer }
 
 -- after these events, the first one first, from a new buffer for so many octets on
 abbrev pub received : ℕ → List ReceiveEvent → Received
@@ -44,11 +47,13 @@ by_place r = map (λ octet. Some octet) (in_order r) ++ r.buffer.kept
 abbrev pub HasRoom : Received → ReceiveEvent → Type 0
 HasRoom r (Inserts distance octets) = distance + length octets ≤ length r.buffer.kept
 HasRoom r (Reads len) = Unit {0}
+HasRoom r Forgets = Unit {0}
 
 -- what is inserted is of a stream, at its place there
 abbrev pub IsOf : (ℕ → ℕ) → Received → ReceiveEvent → Type 0
 IsOf stream r (Inserts distance octets) = EachIndex octets (λ k. slice_index octets k ≡ stream (r.next + distance + k))
 IsOf stream r (Reads len) = Unit {0}
+IsOf stream r Forgets = Unit {0}
 
 -- this holds of each of these events, after those before it
 abbrev pub EachFrom : (Received → ReceiveEvent → Type 0) → Received → List ReceiveEvent → Type 0
@@ -62,6 +67,10 @@ AreReceiveCalls capacity events = EachFrom HasRoom (nothing_yet capacity) events
 -- they carry octets of one stream
 abbrev pub Carry : (ℕ → ℕ) → ℕ → List ReceiveEvent → Type 0
 Carry stream capacity events = EachFrom (IsOf stream) (nothing_yet capacity) events
+
+-- none of these events forgets what is kept
+abbrev pub ForgetNothing : List ReceiveEvent → Type 0
+ForgetNothing events = All (λ event. ¬ (event ≡ Forgets)) events
 
 -- The octets of an insertion stand at their places in the stream, and every other place is as it was.
 pub record IsInserted (old : Received) (distance : ℕ) (octets : List ℕ) (new : Received) : Type 0 where

@@ -69,6 +69,14 @@ after_read b len = record b {
   kept = b.kept ++ replicate (read_count b len) None;
 }
 
+-- none of these places keeps an octet any longer
+abbrev pub forgotten : List (Option ℕ) → List (Option ℕ)
+forgotten places = replicate (length places) None
+
+-- nothing more comes: what is kept ahead of a gap is forgotten
+abbrev pub after_forgetting : ReceiveView → ReceiveView
+after_forgetting b = record b { kept = forgotten b.kept }
+
 -- what holds of each receive buffer: there is a place for each octet that may still come, none is kept at RCV.NXT, and there are
 -- no more than the most ranges
 pub record IsReceiving (b : ReceiveView) : Type 0 where

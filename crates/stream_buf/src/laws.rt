@@ -5,8 +5,8 @@ ghost use Rattle.std.specs.Prelude.{◌≡◌, ℕ, ◌+◌, ◌<◌, ◌≤◌,
 ghost use Rattle.stream_buf.specs.Sending.{SendView, send_room, written_count, copied};
 ghost use Rattle.stream_buf.specs.Receiving.{ReceiveView, ranges, read_count};
 ghost use Rattle.stream_buf.specs.Written.{SendEvent, written, AreSendCalls};
-ghost use Rattle.stream_buf.specs.Received.{ReceiveEvent, after_receive_event, received, in_order, by_place, AreReceiveCalls, Carry, IsInserted, Touches, beginnings};
-ghost use Rattle.stream_buf.specs.Received.ReceiveEvent.{Inserts, Reads};
+ghost use Rattle.stream_buf.specs.Received.{ReceiveEvent, Received, after_receive_event, received, in_order, by_place, AreReceiveCalls, Carry, ForgetNothing, IsInserted, Touches, beginnings};
+ghost use Rattle.stream_buf.specs.Received.ReceiveEvent.{Inserts, Reads, Forgets};
 
 /// What a send buffer holds is what it took without what was acknowledged, in order; and this with its room is its capacity, always
 /// (RFC 9293 section 3.3.1).
@@ -44,7 +44,7 @@ pub fn every_octet_is_of_the_stream()
         → let r = received capacity events in (distance octet : ℕ) → slice_index_or r.buffer.kept distance None ≡ Some octet → octet ≡ stream (r.next + distance) }
 {}
 
-/// What became readable stays so, and in its order: RCV.NXT never goes back.
+/// What became readable stays so, and in its order: RCV.NXT never goes back, also where what is kept is forgotten.
 pub fn readable_octets_stay()
     ensures stays { (capacity : ℕ) (events more : List ReceiveEvent)
         → let r = received capacity events in take (length (in_order r)) (in_order (received capacity (events ++ more))) ≡ in_order r }
@@ -52,11 +52,24 @@ pub fn readable_octets_stay()
         → let r = received capacity events in let later = received capacity (events ++ more) in r.next ≤ later.next }
 {}
 
-/// What came for a place of the stream stays there, kept or readable, where each insertion carries octets of one stream.
+/// What came for a place of the stream stays there, kept or readable, where each insertion carries octets of one stream, until what is
+/// kept is forgotten. What is in order stays at its place even then, whatever the insertions carry.
 pub fn nothing_is_lost()
-    ensures { (stream : ℕ → ℕ) (capacity : ℕ) (events more : List ReceiveEvent) → AreReceiveCalls capacity (events ++ more) → Carry stream capacity (events ++ more)
-        → (place octet : ℕ) → slice_index_or (by_place (received capacity events)) place None ≡ Some octet
+    ensures kept { (stream : ℕ → ℕ) (capacity : ℕ) (events more : List ReceiveEvent) → AreReceiveCalls capacity (events ++ more) → Carry stream capacity (events ++ more)
+        → ForgetNothing more → (place octet : ℕ) → slice_index_or (by_place (received capacity events)) place None ≡ Some octet
         → slice_index_or (by_place (received capacity (events ++ more))) place None ≡ Some octet }
+    ensures readable { (capacity : ℕ) (events more : List ReceiveEvent) (place : ℕ) → place < length (in_order (received capacity events))
+        → slice_index_or (by_place (received capacity (events ++ more))) place None ≡ slice_index_or (by_place (received capacity events)) place None }
+{}
+
+/// Once what is kept is forgotten, no place keeps an octet, and RCV.NXT, what was read, what is readable and the room are as before.
+pub fn nothing_is_kept_once_forgotten()
+    ensures kept { (r : Received) (place : ℕ) → slice_index_or (after_receive_event r Forgets).buffer.kept place None ≡ None }
+    ensures ranges { (r : Received) → ranges (after_receive_event r Forgets).buffer.kept ≡ 0 }
+    ensures room { (r : Received) → length (after_receive_event r Forgets).buffer.kept ≡ length r.buffer.kept }
+    ensures readable { (r : Received) → (after_receive_event r Forgets).buffer.readable ≡ r.buffer.readable }
+    ensures read { (r : Received) → (after_receive_event r Forgets).read ≡ r.read }
+    ensures next { (r : Received) → (after_receive_event r Forgets).next ≡ r.next }
 {}
 
 /// RCV.NXT is the first place for which no octet came: nothing is kept there, since it would be readable.

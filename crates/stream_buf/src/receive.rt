@@ -1,7 +1,7 @@
 //! The octets that came.
 
-ghost use Rattle.std.specs.Prelude.{◌≡◌, ℕ, ◌+◌, ◌<◌, ◌≤◌, ◌++◌, List, length, drop, IfOk};
-ghost use Rattle.stream_buf.specs.Receiving.{nothing_received, ranges, laid, is_taken, joined, after_insert, read_count, read_octets, after_read, IsReceiving};
+ghost use Rattle.std.specs.Prelude.{◌≡◌, ℕ, ◌+◌, ◌<◌, ◌≤◌, ◌++◌, true, List, length, drop, IfOk};
+ghost use Rattle.stream_buf.specs.Receiving.{nothing_received, ranges, laid, is_taken, joined, after_insert, read_count, read_octets, after_read, forgotten, after_forgetting, IsReceiving};
 
 use crate::places::{copy_front, lay, ranges_in};
 use std::alloc::{AllocError, Global};
@@ -17,18 +17,20 @@ pub struct RecvBuf {
     readable: Vec<u8>,
     kept: Vec<Option<u8>>,
     capacity: usize,
+    // Where this is set, no place keeps an octet.
+    is_gapless: bool,
 }
 
 impl Model for RecvBuf {
-    ghost use Rattle.std.specs.Prelude.{◌≤◌};
+    ghost use Rattle.std.specs.Prelude.{◌≡◌, ◌≤◌, true};
     ghost use Rattle.std.specs.Vec.{vec_capacity};
-    ghost use Rattle.stream_buf.specs.Receiving.{ReceiveView, IsReceiving};
+    ghost use Rattle.stream_buf.specs.Receiving.{ReceiveView, forgotten, IsReceiving};
 
     ghost Value = { ReceiveView };
 
     ghost view = { λ b. record { readable = b.readable.items; kept = b.kept.items; capacity = b.capacity } };
 
-    ghost invariant = { λ b. IsReceiving (record { readable = b.readable.items; kept = b.kept.items; capacity = b.capacity }) × (b.capacity ≤ vec_capacity b.readable) × (b.capacity ≤ vec_capacity b.kept) };
+    ghost invariant = { λ b. IsReceiving (record { readable = b.readable.items; kept = b.kept.items; capacity = b.capacity }) × (b.capacity ≤ vec_capacity b.readable) × (b.capacity ≤ vec_capacity b.kept) × (b.is_gapless ≡ true → b.kept.items ≡ forgotten b.kept.items) };
 }
 
 impl RecvBuf {
@@ -43,6 +45,7 @@ impl RecvBuf {
             readable,
             kept,
             capacity,
+            is_gapless: true,
         })
     }
 
@@ -54,13 +57,13 @@ impl RecvBuf {
         ensures count { result ≡ length (joined self.old distance octets.now) }
         ensures after { self.new ≡ after_insert self.old distance octets.now }
     {
+        if distance == 0 && self.is_gapless {
+            return self.append(octets);
+        }
         if !self.takes(distance, octets) {
             return 0;
         }
-        lay(&mut self.kept, distance, octets);
-        let count = copy_front(&self.kept, &mut self.readable);
-        self.kept.drain(..count);
-        count
+        self.insert_among(distance, octets)
     }
 
     /// Whether octets at a distance from RCV.NXT, for which there is room, are taken: no 33rd range would have to be kept.
@@ -83,6 +86,16 @@ impl RecvBuf {
         self.readable.drain(..count);
         self.kept.resize(self.kept.len() + count, None).unwrap();
         count
+    }
+
+    /// Keeps nothing any longer: the peer's FIN came, so no octet stands behind what is readable.
+    pub fn forget_kept(&mut self)
+        ensures { self.new ≡ after_forgetting self.old }
+    {
+        if !self.is_gapless {
+            self.kept.fill(None);
+            self.is_gapless = true;
+        }
     }
 
     /// How many octets may still come: the distance from RCV.NXT that an octet stays below.
@@ -112,6 +125,32 @@ impl RecvBuf {
         ensures { result ≡ self.now.capacity }
     {
         self.capacity
+    }
+
+    /// Takes octets at RCV.NXT where nothing is kept: they alone join what is readable. No place moves, since all are alike.
+    fn append(&mut self, octets: &[u8]) -> usize
+        requires within { length octets.now ≤ length self.old.kept }
+        requires gapless { self.old.kept ≡ forgotten self.old.kept }
+        ensures count { result ≡ length (joined self.old 0 octets.now) }
+        ensures after { self.new ≡ after_insert self.old 0 octets.now }
+    {
+        self.readable.extend_from_slice(octets).unwrap();
+        self.kept.truncate(self.kept.len() - octets.len());
+        octets.len()
+    }
+
+    /// Takes octets that are laid among those that may be kept.
+    fn insert_among(&mut self, distance: usize, octets: &[u8]) -> usize
+        requires within { distance + length octets.now ≤ length self.old.kept }
+        requires taken { is_taken self.old distance octets.now ≡ true }
+        ensures count { result ≡ length (joined self.old distance octets.now) }
+        ensures after { self.new ≡ after_insert self.old distance octets.now }
+    {
+        lay(&mut self.kept, distance, octets);
+        let count = copy_front(&self.kept, &mut self.readable);
+        self.kept.drain(..count);
+        self.is_gapless = count > 0 && ranges_in(false, &self.kept).0 == 0;
+        count
     }
 
     /// How many ranges there would be with so many octets at a distance.
@@ -173,6 +212,30 @@ mod tests {
         let mut rest = [b'.'; 5];
         assert_eq!(rt; buffer.read(&mut rest), 4);
         assert_eq!(rt; rest, *b"cdef.");
+        assert_eq!(rt; buffer.room(), buffer.capacity());
+        Ok(())
+    }
+
+    /// Octets in order, ahead of a gap and into it, by turns: what is kept joins what is readable, until it is forgotten.
+    #[test]
+    fn forgets_what_is_kept(rt: HostRuntime) -> Result<(), AllocError> {
+        let mut buffer = RecvBuf::with_capacity(rt.alloc(), 8)?;
+        for (distance, octets, joined, ranges) in [
+            (0, &b"ab"[..], 2, 0),
+            (1, &b"d"[..], 0, 1),
+            (0, &b"c"[..], 2, 0),
+            (0, &b"e"[..], 1, 0),
+            (1, &b"gh"[..], 0, 1),
+        ] {
+            assert_eq!(rt; insert(&mut buffer, distance, octets), Some(joined));
+            assert_eq!(rt; buffer.ranges(), ranges);
+        }
+        buffer.forget_kept();
+        assert_eq!(rt; buffer.ranges(), 0);
+        assert_eq!(rt; insert(&mut buffer, 0, b"f"), Some(1));
+        let mut out = [b'.'; 8];
+        assert_eq!(rt; buffer.read(&mut out), 6);
+        assert_eq!(rt; out, *b"abcdef..");
         assert_eq!(rt; buffer.room(), buffer.capacity());
         Ok(())
     }

@@ -1,7 +1,8 @@
 use Rattle.std.proofs.Common.{rules, ◌≡◌, ℕ, ◌+◌, ◌-◌, ◌++◌, List, length, vec_len, take, drop, Option, None, replicate, sym, ◌∙◌, ap, subst, arith}
 use Rattle.std.proofs.lemmas.List.{take_all}
-use Rattle.stream_buf.specs.Receiving.{ReceiveView, IsReceiving}
+use Rattle.stream_buf.specs.Receiving.{ReceiveView, forgotten, IsReceiving}
 use Rattle.stream_buf.proofs.Inserting.{receives_read}
+use Rattle.stream_buf.proofs.Gapless.{more_free}
 use Rattle.stream_buf.proofs.receive.RecvBuf.read.Goals as goal
 
 pub invariant_of-self : goal.invariant_of-self
@@ -21,4 +22,5 @@ invariant_of-self c =
           (receives_read b n (omega (arith, c.min-count.ensures, c.len.ensures)) c.self.invariant.0)),
       search rules,
       search rules,
+      λ set. subst (λ (ps : List (Option ℕ)). ps ≡ forgotten ps) (sym kept) (more_free n b.kept (c.self.invariant.3 set)),
     )

@@ -1,6 +1,7 @@
 use Rattle.std.proofs.Common.{rules, ◌≡◌, ℕ, List, [], Option, None, replicate, sym, subst}
-use Rattle.stream_buf.specs.Receiving.{IsReceiving}
+use Rattle.stream_buf.specs.Receiving.{forgotten, IsReceiving}
 use Rattle.stream_buf.proofs.Inserting.{receives_nothing}
+use Rattle.stream_buf.proofs.Gapless.{all_free}
 use Rattle.stream_buf.proofs.receive.RecvBuf.with_capacity.Goals as goal
 
 pub invariant_of-result : goal.invariant_of-result
@@ -12,4 +13,5 @@ invariant_of-result c =
           (subst (λ (xs : List ℕ). IsReceiving (record { readable = xs; kept = replicate n None; capacity = n })) (sym readable) (receives_nothing n)),
       search rules,
       search rules,
+      λ set. subst (λ (ps : List (Option ℕ)). ps ≡ forgotten ps) (sym kept) (all_free n),
     )

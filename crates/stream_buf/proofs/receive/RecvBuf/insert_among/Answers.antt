@@ -1,9 +1,12 @@
 use Rattle.std.proofs.Common.{rules, ◌≡◌, ℕ, ◌+◌, ◌≤◌, ◌++◌, true, List, length, take, drop, Option, sym, ◌∙◌, ap, subst, arith}
+use Rattle.std.proofs.lemmas.Bool.{eqb-true, ltb-true}
 use Rattle.std.proofs.lemmas.List.{take_at}
-use Rattle.stream_buf.specs.Receiving.{ReceiveView, IsReceiving, front, behind_front, laid, is_taken}
+use Rattle.stream_buf.specs.Receiving.{ReceiveView, IsReceiving, front, behind_front, ranges, laid, is_taken}
 use Rattle.stream_buf.proofs.Inserting.{receives_laid, length-laid}
 use Rattle.stream_buf.proofs.Taking.{few_left}
-use Rattle.stream_buf.proofs.receive.RecvBuf.insert_at.Goals as goal
+use Rattle.stream_buf.proofs.Gapless.{free_without_ranges}
+use Rattle.stream_buf.proofs.receive.RecvBuf.insert_among.Goals as goal
+use Rattle.stream_buf.proofs.receive.RecvBuf.insert_among.Goals.{then-count-gt0, else-count-gt0}
 
 pub invariant_of-self : goal.invariant_of-self
 invariant_of-self c =
@@ -11,8 +14,8 @@ invariant_of-self c =
     let at : ℕ = c.args.distance in
     let octets : List ℕ = c.args.octets.now in
     let places : List (Option ℕ) = laid b.kept at octets in
-    let within : at + length octets ≤ length b.kept = subst (λ (v : ReceiveView). at + length octets ≤ length v.kept) (sym c.self.view_is) c.requires in
-    let taken : is_taken b at octets ≡ true = ap (λ (v : ReceiveView). is_taken v at octets) c.self.view_is ∙ sym c.takes.ensures ∙ c.if-not-takes.false in
+    let within : at + length octets ≤ length b.kept = subst (λ (v : ReceiveView). at + length octets ≤ length v.kept) (sym c.self.view_is) c.requires.within in
+    let taken : is_taken b at octets ≡ true = ap (λ (v : ReceiveView). is_taken v at octets) c.self.view_is ∙ c.requires.taken in
     let room : ℕ = c.self.inside.kept.len in
     let len : room ≡ length b.kept = search rules in
     let size = length-laid b.kept at octets within in
@@ -31,4 +34,12 @@ invariant_of-self c =
           (receives_laid b at octets within (few_left b at octets c.self.invariant.0 taken) c.self.invariant.0)),
       search rules,
       search rules,
+      λ set. elim c.if-count-gt0.branch [
+        | then-count-gt0 w ↦
+            let none : w.ranges_in.result.0 ≡ 0 = eqb-true w.ranges_in.result.0 0 (sym w.self-is ∙ set) in
+            let counted : w.ranges_in.result.0 ≡ ranges c.drop-drain.new.self.0.items =
+            w.ranges_in.ensures.count ∙ ap (λ (ps : List (Option ℕ)). ranges ps) w.deref-then-count-gt0.ensures.value in
+            free_without_ranges c.drop-drain.new.self.0.items (sym counted ∙ none)
+        | else-count-gt0 w ↦ absurd (omega (arith, ltb-true 0 c.copy_front-count.result (sym w.self-is ∙ set), w.if-count-gt0.false))
+      ],
     )
