@@ -28,9 +28,10 @@
  * thread of its own. Make no call in a signal handler, nor in the forked child of a process with threads.
  *
  * MEMORY. The library takes memory of malloc and realloc and gives it back by free: in host_new (some 550 kB), in host_socket and in a
- * host_deliver that opens a connection (two buffers of 65,535 octets each). No other call takes any. Where memory is refused the call is
- * refused (HOST_ENOMEM, HOST_DROP_NO_ROOM), and the program goes on. host_free gives all of it back. Of the C library the calls use these
- * three and memcpy, memmove, memset and memcmp, and no variable of their own outlives a call.
+ * host_deliver that opens a connection (two buffers of 65,535 octets each, and 131,070 octets for those that may come ahead of a gap). No
+ * other call takes any. Where memory is refused the call is refused (HOST_ENOMEM, HOST_DROP_NO_ROOM), and the program goes on. host_free
+ * gives all of it back. Of the C library the calls use these three and memcpy, memmove, memset and memcmp, and no variable of their own
+ * outlives a call.
  */
 #ifndef HOST_H
 #define HOST_H

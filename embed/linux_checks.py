@@ -25,12 +25,8 @@ WINDOWS = (
     "(1) A later stage brings windows: today one segment is outstanding; Linux holds its acknowledgement back for 40 ms while it sends too, "
     "and a lost one goes again after 1,000 ms."
 )
-GAPS = (
-    "(2) A later stage keeps octets ahead of a gap: today Linux sends again all that lay behind a loss, measures no round trip, and its "
-    "timeout doubles each time. So this is how far it came in 20 s. With one segment in flight it goes on."
-)
 NO_ABORT = (
-    "(3) No call of a host resets a connection whose octets are all read, so the program can only close it, and what the client sends then "
+    "(2) No call of a host resets a connection whose octets are all read, so the program can only close it, and what the client sends then "
     "is answered by a reset."
 )
 
@@ -333,23 +329,6 @@ def to_host_in_turn(size, *words):
     return to_host(size, *words, send=send_in_turn)
 
 
-def to_host_for_a_while(size, *words):
-    """What came until the time was over begins what was sent."""
-    data = octets(size)
-    with listener() as server, tempfile.TemporaryFile() as output:
-        with Tap("--connect", LINUX, server.getsockname()[1], *words, stdin=subprocess.DEVNULL, stdout=output):
-            with accepted(server) as connection:
-                connection.settimeout(20)
-                try:
-                    connection.sendall(data)
-                except TimeoutError:
-                    pass
-        output.seek(0)
-        came = output.read()
-        want(came and data.startswith(came), "other octets come")
-    return f"{len(came):,} octets, equal so far"
-
-
 def from_host(size, *words):
     data = octets(size)
     with listener() as server, tempfile.TemporaryFile() as given:
@@ -465,7 +444,8 @@ CHECKS = [
     ("100 kB echoed, 5 ms late each way", echo, (100000, "--delay", 5), ""),
     ("1 MB to the host, every 11th frame out lost", to_host, (MEGABYTE, "--lose", "out:11"), ""),
     ("1 MB to the host, one in flight, every 11th frame in lost", to_host_in_turn, (MEGABYTE, "--lose", "in:11"), ""),
-    ("1 MB to the host, many in flight, every 11th frame in lost", to_host_for_a_while, (MEGABYTE, "--lose", "in:11"), GAPS),
+    ("1 MB to the host, many in flight, every 11th frame in lost", to_host, (MEGABYTE, "--lose", "in:11"), ""),
+    ("10 MB to the host, every 101st frame in lost", to_host, (10 * MEGABYTE, "--lose", "in:101"), ""),
     ("1 MB from the host, every 11th frame in lost", from_host, (MEGABYTE, "--lose", "in:11"), WINDOWS),
     ("1 MB from the host, every 11th frame out lost", from_host, (MEGABYTE, "--lose", "out:11"), WINDOWS),
     ("a page by curl through --forward", page, (), ""),

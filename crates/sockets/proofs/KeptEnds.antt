@@ -137,7 +137,9 @@ same-text : (v : View) (s : Segment) → SameEnds v (after_text v s)
 same-text v s = same-either v ((length s.octets == 0) || not (is_receiving v.state)) v _ (same v) (record { local = refl; peer = refl })
 
 same-fin : (v : View) (s : Segment) → SameEnds v (after_fin v s)
-same-fin v s = same-either v (counts_fin v s) _ v (record { local = refl; peer = refl }) (same v)
+same-fin v s =
+    same-either v (counts_fin v s) _ _ (record { local = refl; peer = refl })
+    (same-either v (s.flags.fin && is_receiving v.state) (owing_ack v) v (record { local = refl; peer = refl }) (same v))
 
 same-window : (v : View) (s : Segment) → SameEnds v (after_window v s)
 same-window v s = record { local = refl; peer = refl }

@@ -80,7 +80,9 @@ heard-text : (v : View) (s : Segment) → Heard v (after_text v s)
 heard-text v s = either v ((length s.octets == 0) || not (is_receiving v.state)) v _ (same v) (record { released = refl; owes = refl; sent = λ e. e; received = λ e. e })
 
 heard-fin : (v : View) (s : Segment) → Heard v (after_fin v s)
-heard-fin v s = either v (counts_fin v s) _ v (record { released = refl; owes = refl; sent = end-sent v.state; received = end-received v.state }) (same v)
+heard-fin v s =
+    either v (counts_fin v s) _ _ (record { released = refl; owes = refl; sent = end-sent v.state; received = end-received v.state })
+    (either v (s.flags.fin && is_receiving v.state) (owing_ack v) v (record { released = refl; owes = refl; sent = λ e. e; received = λ e. e }) (same v))
 
 heard-acknowledging : (v : View) (s : Segment) → Heard v (after_acknowledging_segment v s)
 heard-acknowledging v s =

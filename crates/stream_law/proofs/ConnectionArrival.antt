@@ -1,5 +1,5 @@
 -- An arriving segment is steps of the two channels of the connection that takes it.
-use Rattle.std.proofs.Common.{◌≡◌, ℕ, ◌+◌, ◌<◌, ◌≤◌, ◌^◌, ◌%◌, ◌||◌, ◌&&◌, ◌==◌, min, not, if◌then◌else◌, Bool, true, false, List, length, arith, refl, sym, ◌∙◌, ap, subst}
+use Rattle.std.proofs.Common.{◌≡◌, ℕ, ◌+◌, ◌<◌, ◌≤◌, ◌^◌, ◌%◌, ◌||◌, ◌&&◌, ◌==◌, min, not, if◌then◌else◌, Bool, true, false, List, length, Option, arith, refl, sym, ◌∙◌, ap, subst}
 use Rattle.std.proofs.lemmas.Bool.{eqb-true}
 use Rattle.tcp_segment.specs.Segment.{Segment}
 use Rattle.tcp_state.specs.declared.state.State.{State}
@@ -7,13 +7,14 @@ use Rattle.tcp_state.specs.declared.state.State.TheVariants.{SynSent, SynReceive
 use Rattle.tcp_state.specs.Numbers.{is_before}
 use Rattle.tcp_state.specs.View.{View, IsSound, is_opening, is_syn_sent, is_syn_received, is_closed, is_write_closed, is_read_closed, is_write_finished, awaits_fin_ack, is_fin_next}
 use Rattle.tcp_state.specs.Halves.{Receiving as ReceivingHalf}
-use Rattle.tcp_state.specs.Stream.{outstanding, is_new_ack, after_acknowledged, after_octets, stands_next, after_end}
+use Rattle.tcp_state.specs.Stream.{outstanding, is_new_ack, after_acknowledged, receive_window, after_octets, stands_next, after_end}
 use Rattle.tcp_state.specs.Windows.{updates_window}
 use Rattle.tcp_state.specs.Arrival.{after_segment, is_simultaneous_syn, after_simultaneous_syn, after_syn_ack, is_right_syn_ack, is_acceptable_to, after_acceptable_segment, after_acknowledging_segment, after_ack, is_read_on, after_window, after_text, owing_ack, after_establishment, ends_by_syn, fin_acknowledged, after_new_ack, beyond_fin, beyond_end, is_receiving, counts_fin, after_fin}
 use Rattle.stream_law.specs.Channel.{Channel, Sending, Open, Receiving, Waiting, Synchronised, IsAmong, IsRecent}
 use Rattle.stream_law.specs.ChannelSteps.{Step, nothing_kept}
-use Rattle.stream_law.specs.ChannelViews.{frame_of, Leads, stays, goes, sender_of, receiving_of, SendsInto, ReceivesFrom, Follows, IsOfWidth, CameFrom}
-use Rattle.stream_law.proofs.ConnectionHears.{hears-octets, hears-fin, hears-ack, hears-fin_ack, hears-syn_ack, hears-syn}
+use Rattle.stream_law.specs.ChannelViews.{frame_of, Leads, stays, goes, sender_of, kept_at, receiver_of, receiving_of, SendsInto, ReceivesFrom, Follows, IsOfWidth, CameFrom}
+use Rattle.stream_law.proofs.Kept.{unkept}
+use Rattle.stream_law.proofs.ConnectionHears.{HasRoom, hears-octets, hears-fin, hears-ack, hears-fin_ack, hears-syn_ack, hears-syn}
 
 one_step : (cap limit : ℕ) (c d : Channel) → Step cap limit c d → Leads cap limit c d
 one_step cap limit c d step = goes c d d step (stays d)
@@ -124,6 +125,21 @@ opened_held v sound opened =
     at_most true n e = omega (arith, e)
     at_most false n e = e
 
+-- no window is advertised in SYN-SENT, so that nothing is kept
+unheard_keeps : (v : View) → IsSound v → is_syn_sent v.state ≡ true → kept_at v.receiving.kept ≡ nothing_kept
+unheard_keeps v sound waiting =
+    let shut : receive_window v.receiving ≡ 0 = eqb-true (receive_window v.receiving) 0 (not_not (receive_window v.receiving == 0) (sym (ap (λ b. b && not (receive_window v.receiving == 0)) waiting) ∙ sound.unheard)) in
+    unkept v.receiving.kept (λ i o e. let below = sound.kept i o e in omega (arith, shut, below))
+  where
+    not_not : (b : Bool) → not b ≡ false → b ≡ true
+    not_not true e = refl
+    not_not false e = cc
+
+-- the peer's SYN with this number finds nothing kept
+at_syn : (v : View) (number : ℕ) → IsSound v → is_syn_sent v.state ≡ true
+    → Synchronised (record { rnext = (number + 1) % 2 ^ 32; kept = nothing_kept }) ≡ Synchronised (record { rnext = (number + 1) % 2 ^ 32; kept = kept_at v.receiving.kept })
+at_syn v number sound waiting = ap (λ (kept : ℕ → Option ℕ). Synchronised (record { rnext = (number + 1) % 2 ^ 32; kept = kept })) (sym (unheard_keeps v sound waiting))
+
 -- a SYN that acknowledges ours, in SYN-SENT
 arrives-syn_ack : (cap limit : ℕ) (v : View) (s : Segment) (c d : Channel) → IsSound v → IsOfWidth s → is_syn_sent v.state ≡ true → SendsInto v c → ReceivesFrom v d → CameFrom limit s c d
     → Follows cap limit (after_syn_ack v s) c d
@@ -145,14 +161,14 @@ arrives-syn_ack cap limit v s c d sound fits waiting into from came =
       leads_from = one_step cap limit d (record d { receiving = Synchronised (record { rnext = (s.number + 1) % 2 ^ 32; kept = nothing_kept }) })
           (hears-syn cap limit v d s came.sent_at waiting syn from came.frame);
       sends = record { sending = refl; closed = into.closed ∙ (opening_plain v.state opening).0 };
-      receives = record { receiving = refl; readable = from.readable; end_seen = from.end_seen ∙ (opening_plain v.state opening).1 };
+      receives = record { receiving = at_syn v s.number sound waiting; readable = from.readable; end_seen = from.end_seen ∙ (opening_plain v.state opening).1 };
     })
     (λ wrong. nothing cap limit v v c d refl refl refl refl into from)
 
 -- the SYN of a peer that opens at the same time, in SYN-SENT: our own SYN stays as it was, sent or not, and waits to be acknowledged
-arrives-simultaneous_syn : (cap limit : ℕ) (v : View) (s : Segment) (c d : Channel) → is_syn_sent v.state ≡ true → s.flags.syn ≡ true → SendsInto v c → ReceivesFrom v d → CameFrom limit s c d
+arrives-simultaneous_syn : (cap limit : ℕ) (v : View) (s : Segment) (c d : Channel) → IsSound v → is_syn_sent v.state ≡ true → s.flags.syn ≡ true → SendsInto v c → ReceivesFrom v d → CameFrom limit s c d
     → Follows cap limit (after_simultaneous_syn v s) c d
-arrives-simultaneous_syn cap limit v s c d waiting syn into from came =
+arrives-simultaneous_syn cap limit v s c d sound waiting syn into from came =
     let opening = syn_sent_opens v.state waiting in
     record {
       into = c.sending;
@@ -167,7 +183,7 @@ arrives-simultaneous_syn cap limit v s c d waiting syn into from came =
             ∙ (ap (λ b. Open (record (sender_of v) { syn_acked = not b })) opening ∙ ap (λ b. Open (record (sender_of v) { syn_acked = false; fin_acked = b })) (opening_unfinished v.state opening));
         closed = into.closed ∙ (opening_plain v.state opening).0;
       };
-      receives = record { receiving = refl; readable = from.readable; end_seen = from.end_seen ∙ (opening_plain v.state opening).1 };
+      receives = record { receiving = at_syn v s.number sound waiting; readable = from.readable; end_seen = from.end_seen ∙ (opening_plain v.state opening).1 };
     }
 
 -- the sending side of a connection after an acknowledgement
@@ -248,8 +264,8 @@ record Heard (cap limit : ℕ) (v w : View) (d : Channel) : Type 0 where
   pub closed : is_write_closed w.state ≡ is_write_closed v.state
   pub synchronised : is_syn_sent w.state ≡ false
 
-receiving_past : (v : View) → is_syn_sent v.state ≡ false → receiving_of v ≡ Synchronised (record { rnext = v.receiving.rnext; kept = nothing_kept })
-receiving_past v past_syn = ap (λ b. if b then Waiting else Synchronised (record { rnext = v.receiving.rnext; kept = nothing_kept })) past_syn
+receiving_past : (v : View) → is_syn_sent v.state ≡ false → receiving_of v ≡ Synchronised (receiver_of v.receiving)
+receiving_past v past_syn = ap (λ b. if b then Waiting else Synchronised (receiver_of v.receiving)) past_syn
 
 unheard : (cap limit : ℕ) (v : View) (d : Channel) → is_syn_sent v.state ≡ false → ReceivesFrom v d → Heard cap limit v v d
 unheard cap limit v d past_syn from = record {
@@ -263,9 +279,9 @@ unheard cap limit v d past_syn from = record {
   synchronised = past_syn;
 }
 
-arrives-text : (cap limit : ℕ) (v : View) (s : Segment) (c d : Channel) → v.receiving.rnext < 2 ^ 32 → IsOfWidth s → is_syn_sent v.state ≡ false → ReceivesFrom v d → CameFrom limit s c d
+arrives-text : (cap limit : ℕ) (v : View) (s : Segment) (c d : Channel) → v.receiving.rnext < 2 ^ 32 → HasRoom v.receiving → IsOfWidth s → is_syn_sent v.state ≡ false → ReceivesFrom v d → CameFrom limit s c d
     → Heard cap limit v (after_text v s) d
-arrives-text cap limit v s c d rnext fits past_syn from came =
+arrives-text cap limit v s c d rnext room fits past_syn from came =
     let heard = after_octets v.receiving s.number s.octets in
     let w = record v { receiving = heard; owes_ack = true } in
     either (λ w. Heard cap limit v w d) ((length s.octets == 0) || not (is_receiving v.state)) v w
@@ -273,9 +289,9 @@ arrives-text cap limit v s c d rnext fits past_syn from came =
     (λ some. record {
       readable = heard.readable;
       end_seen = d.end_seen;
-      from = Synchronised (record { rnext = heard.rnext; kept = nothing_kept });
-      leads = one_step cap limit d (record d { readable = heard.readable; receiving = Synchronised (record { rnext = heard.rnext; kept = nothing_kept }) })
-          (hears-octets cap limit v d s came.sent_at past_syn (omega (arith, fits.octets)) fits.number rnext from came.frame came.frame_recent);
+      from = Synchronised (receiver_of heard);
+      leads = one_step cap limit d (record d { readable = heard.readable; receiving = Synchronised (receiver_of heard) })
+          (hears-octets cap limit v d s came.sent_at past_syn (omega (arith, fits.octets)) fits.number rnext room from came.frame came.frame_recent);
       receives = record { receiving = sym (receiving_past w past_syn); readable = refl; end_seen = from.end_seen };
       sender = refl;
       closed = refl;
@@ -286,7 +302,7 @@ arrives-fin : (cap limit : ℕ) (v : View) (s : Segment) (d : Channel) (sent_at 
     → IsAmong (frame_of s sent_at) d.frames → IsRecent limit d.written sent_at → Heard cap limit v (after_fin v s) d
 arrives-fin cap limit v s d sent_at rnext fits past_syn from among recent =
     let w = record v { state = beyond_end v.state; receiving = after_end v.receiving; owes_ack = true } in
-    either (λ w. Heard cap limit v w d) (counts_fin v s) w v
+    either (λ w. Heard cap limit v w d) (counts_fin v s) w _
     (λ counts.
     let first = and_left (s.flags.fin && is_receiving v.state) (stands_next v.receiving ((s.number + length s.octets) % 2 ^ 32)) counts in
     let next = and_right (s.flags.fin && is_receiving v.state) (stands_next v.receiving ((s.number + length s.octets) % 2 ^ 32)) counts in
@@ -297,25 +313,39 @@ arrives-fin cap limit v s d sent_at rnext fits past_syn from among recent =
     record {
       readable = d.readable;
       end_seen = true;
-      from = Synchronised (record { rnext = (v.receiving.rnext + 1) % 2 ^ 32; kept = nothing_kept });
-      leads = one_step cap limit d (record d { end_seen = true; receiving = Synchronised (record { rnext = (v.receiving.rnext + 1) % 2 ^ 32; kept = nothing_kept }) })
+      from = Synchronised (receiver_of (after_end v.receiving));
+      leads = one_step cap limit d (record d { end_seen = true; receiving = Synchronised (receiver_of (after_end v.receiving)) })
           (hears-fin cap limit v d s sent_at past_syn fin next fits.number rnext (from.end_seen ∙ closes.2) from among recent);
       receives = record { receiving = sym (receiving_past w closes.3); readable = from.readable; end_seen = sym closes.1 };
       sender = ap (λ b. record (sender_of v) { syn_acked = not b; fin_acked = is_write_finished (beyond_end v.state) }) acked.1 ∙ ap (λ b. record (sender_of v) { fin_acked = b }) acked.0;
       closed = closes.0;
       synchronised = closes.3;
     })
-    (λ none. unheard cap limit v d past_syn from)
+    (λ none. either (λ w. Heard cap limit v w d) (s.flags.fin && is_receiving v.state) (owing_ack v) v
+    (λ ahead. owing (unheard cap limit v d past_syn from))
+    (λ none. unheard cap limit v d past_syn from))
+  where
+    owing : Heard cap limit v v d → Heard cap limit v (owing_ack v) d
+    owing h = record {
+      readable = h.readable;
+      end_seen = h.end_seen;
+      from = h.from;
+      leads = h.leads;
+      receives = record { receiving = h.receives.receiving; readable = h.receives.readable; end_seen = h.receives.end_seen };
+      sender = h.sender;
+      closed = h.closed;
+      synchronised = h.synchronised;
+    }
 
 leads_on : (cap limit : ℕ) (c d e : Channel) → Leads cap limit c d → Leads cap limit d e → Leads cap limit c e
 leads_on cap limit _ _ e (stays c) more = more
 leads_on cap limit _ _ e (goes c b d step first) more = goes c b e step (leads_on cap limit b d e first more)
 
 -- the octets, and then the FIN
-arrives-stream : (cap limit : ℕ) (v : View) (s : Segment) (c d : Channel) → v.receiving.rnext < 2 ^ 32 → IsOfWidth s → is_syn_sent v.state ≡ false → ReceivesFrom v d → CameFrom limit s c d
+arrives-stream : (cap limit : ℕ) (v : View) (s : Segment) (c d : Channel) → v.receiving.rnext < 2 ^ 32 → HasRoom v.receiving → IsOfWidth s → is_syn_sent v.state ≡ false → ReceivesFrom v d → CameFrom limit s c d
     → Heard cap limit v (after_fin (after_text v s) s) d
-arrives-stream cap limit v s c d rnext fits past_syn from came =
-    let t = arrives-text cap limit v s c d rnext fits past_syn from came in
+arrives-stream cap limit v s c d rnext room fits past_syn from came =
+    let t = arrives-text cap limit v s c d rnext room fits past_syn from came in
     let e = record d { readable = t.readable; end_seen = t.end_seen; receiving = t.from } in
     let f = arrives-fin cap limit (after_text v s) s e came.sent_at (text_fits ((length s.octets == 0) || not (is_receiving v.state))) fits t.synchronised t.receives came.frame came.frame_recent in
     record {
@@ -341,6 +371,13 @@ window_told v s = told (updates_window v.sending s.number s.acknowledgement)
     told true = refl
     told false = refl
 
+-- the window advertised lies in the room of the buffer
+room_of : (v : View) → IsSound v → HasRoom v.receiving
+room_of v sound =
+    let window : length v.receiving.readable + receive_window v.receiving ≤ 65535 = sound.window in
+    let places : length v.receiving.readable + length v.receiving.kept ≡ 65535 = sound.buffer.places in
+    record { window = omega (arith, window); places = omega (arith, window, places) }
+
 -- an acceptable segment with ACK and without SYN
 arrives-acceptable : (cap limit : ℕ) (v : View) (s : Segment) (c d : Channel) → IsSound v → IsOfWidth s → is_syn_sent v.state ≡ false → s.flags.ack ≡ true → SendsInto v c → ReceivesFrom v d
     → CameFrom limit s c d → Follows cap limit (after_acknowledging_segment v s) c d
@@ -349,12 +386,13 @@ arrives-acceptable cap limit v s c d sound fits past_syn ack into from came =
     let acked = after_ack v s.acknowledgement in
     let told = after_window acked s in
     let same_receiving : receiving_of acked ≡ receiving_of v =
-    receiving_past acked a.synchronised ∙ (ap (λ (y : ReceivingHalf). Synchronised (record { rnext = y.rnext; kept = nothing_kept })) a.receiving ∙ sym (receiving_past v past_syn)) in
+    receiving_past acked a.synchronised ∙ (ap (λ (y : ReceivingHalf). Synchronised (receiver_of y)) a.receiving ∙ sym (receiving_past v past_syn)) in
     let same_readable : acked.receiving.readable ≡ v.receiving.readable = ap (λ (y : ReceivingHalf). y.readable) a.receiving in
     let from' : ReceivesFrom told d = record { receiving = from.receiving ∙ sym same_receiving; readable = from.readable ∙ sym same_readable; end_seen = from.end_seen ∙ sym a.end_seen } in
     let rnext : told.receiving.rnext < 2 ^ 32 = subst (λ (y : ReceivingHalf). y.rnext < 2 ^ 32) (sym a.receiving) sound.rnext in
+    let room : HasRoom told.receiving = subst HasRoom (sym a.receiving) (room_of v sound) in
     either (λ w. Follows cap limit w c d) (is_read_on v s.acknowledgement) (after_fin (after_text told s) s) acked
-    (λ on. let t = arrives-stream cap limit told s c d rnext fits a.synchronised from' came in record {
+    (λ on. let t = arrives-stream cap limit told s c d rnext room fits a.synchronised from' came in record {
       into = a.into;
       readable = t.readable;
       end_seen = t.end_seen;
@@ -387,7 +425,7 @@ arrives cap limit v s c d sound fits unreset into from came =
     (λ rst. let bad : true ≡ false = sym rst ∙ unreset in absurd (true_is_not_false bad))
     (λ no_rst. either P (is_syn_sent v.state) _ _
     (λ waiting. either P (is_simultaneous_syn v s) (after_simultaneous_syn v s) (after_syn_ack v s)
-    (λ opens. arrives-simultaneous_syn cap limit v s c d waiting (and_left s.flags.syn (not s.flags.ack) opens) into from came)
+    (λ opens. arrives-simultaneous_syn cap limit v s c d sound waiting (and_left s.flags.syn (not s.flags.ack) opens) into from came)
     (λ other. arrives-syn_ack cap limit v s c d sound fits waiting into from came))
     (λ past_syn. either P (is_acceptable_to v s) (after_acceptable_segment v s) (owing_ack v)
     (λ accepted. either P s.flags.syn _ _

@@ -1,82 +1,145 @@
 -- What a connection hears, and what its caller reads, is a step of each of its two channels.
 use Rattle.std.proofs.Common.{◌≡◌, ℕ, zero, suc, ◌+◌, ◌-◌, ◌<◌, ◌≤◌, ◌^◌, ◌%◌, ◌||◌, ◌&&◌, ◌==◌, nat_lt, nat_le, if◌then◌else◌, not, Bool, true, false, List, [], ◌∷◌, ◌++◌, length, take, drop, Option, Some, None, inl, inr, arith, refl, sym, ◌∙◌, ap, subst, append-nil}
 use Rattle.std.specs.List.{slice_get}
-use Rattle.std.proofs.lemmas.List.{take-append-drop}
+use Rattle.std.proofs.lemmas.List.{take-append-drop, length-take}
 use Rattle.std.proofs.lemmas.Option.{slice_get_within}
 use Rattle.std.proofs.lemmas.Bool.{leb-true, eqb-true}
 use Rattle.std.proofs.lemmas.Bool.Decides.{leb_tells}
+use Rattle.stream_buf.specs.Receiving.{ReceiveView, front, behind_front, laid, is_taken}
 use Rattle.tcp_segment.specs.Wire.{past}
 use Rattle.tcp_segment.specs.Segment.{Segment}
 use Rattle.tcp_state.specs.Numbers.{is_before}
 use Rattle.tcp_state.specs.View.{View, is_opening, is_syn_sent, is_write_finished}
 use Rattle.tcp_state.specs.Halves.{Sending as SendingHalf, Receiving as ReceivingHalf}
-use Rattle.tcp_state.specs.Stream.{outstanding, is_new_ack, after_acknowledged, octets_gained, after_octets, receive_window, stands_next}
+use Rattle.tcp_state.specs.Stream.{outstanding, is_new_ack, after_acknowledged, buffer_of, distance_of, octets_within, octets_gained, after_octets, after_end, receive_window, stands_next}
 use Rattle.tcp_state.specs.Calls.{recv_count}
-use Rattle.stream_law.specs.Channel.{Receiver, Open, Waiting, Synchronised, Channel, IsAmong, number_of, IsKnown, IsRecent}
+use Rattle.stream_law.specs.Channel.{Open, Waiting, Synchronised, Channel, IsAmong, number_of, IsKnown, IsRecent}
 use Rattle.stream_law.specs.ChannelSteps.{Step, synchronises, delivers, acknowledges, octets_up_to, reads, nothing_kept}
-use Rattle.stream_law.specs.ChannelViews.{sender_of, SendsInto, ReceivesFrom, frame_of, ack_of}
+use Rattle.stream_law.specs.ChannelViews.{sender_of, kept_at, receiver_of, SendsInto, ReceivesFrom, frame_of, ack_of}
+use Rattle.stream_law.proofs.Kept.{front_stands, behind_stands, laid_within, at_free}
 
 -- a place of what is cut out of a list
-slice_get-take_drop : (n k : ℕ) (xs : List ℕ) (i o : ℕ) → slice_get (take n (drop k xs)) i ≡ Some o → slice_get xs (k + i) ≡ Some o
-slice_get-take_drop n k xs i o e = slice_get-drop k xs i o (slice_get-take n (drop k xs) i o e)
-  where
-    slice_get-take : (n : ℕ) (xs : List ℕ) (i o : ℕ) → slice_get (take n xs) i ≡ Some o → slice_get xs i ≡ Some o
-    slice_get-take zero xs i o e = let bad : slice_get [] i ≡ Some o = e in cc
-    slice_get-take (suc n) [] i o e = e
-    slice_get-take (suc n) (x ∷ xs) zero o e = e
-    slice_get-take (suc n) (x ∷ xs) (suc i) o e = slice_get-take n xs i o e
+slice_get-take : (n : ℕ) (xs : List ℕ) (i o : ℕ) → slice_get (take n xs) i ≡ Some o → slice_get xs i ≡ Some o
+slice_get-take zero xs i o e = let bad : slice_get [] i ≡ Some o = e in cc
+slice_get-take (suc n) [] i o e = e
+slice_get-take (suc n) (x ∷ xs) zero o e = e
+slice_get-take (suc n) (x ∷ xs) (suc i) o e = slice_get-take n xs i o e
 
-    slice_get-drop : (k : ℕ) (xs : List ℕ) (i o : ℕ) → slice_get (drop k xs) i ≡ Some o → slice_get xs (k + i) ≡ Some o
-    slice_get-drop zero xs i o e = subst (λ j. slice_get xs j ≡ Some o) (omega arith) e
-    slice_get-drop (suc k) [] i o e = let bad : slice_get [] i ≡ Some o = e in cc
-    slice_get-drop (suc k) (x ∷ xs) i o e =
-        let place : suc (k + i) ≡ suc k + i = omega arith in
-        subst (λ j. slice_get (x ∷ xs) j ≡ Some o) place (slice_get-drop k xs i o e)
+slice_get-drop : (k : ℕ) (xs : List ℕ) (i o : ℕ) → slice_get (drop k xs) i ≡ Some o → slice_get xs (k + i) ≡ Some o
+slice_get-drop zero xs i o e = subst (λ j. slice_get xs j ≡ Some o) (omega arith) e
+slice_get-drop (suc k) [] i o e = let bad : slice_get [] i ≡ Some o = e in cc
+slice_get-drop (suc k) (x ∷ xs) i o e =
+    let place : suc (k + i) ≡ suc k + i = omega arith in
+    subst (λ j. slice_get (x ∷ xs) j ≡ Some o) place (slice_get-drop k xs i o e)
 
--- what a segment adds is known at its distances
-gained_known : (y : ReceivingHalf) (s : Segment) (written_at : ℕ) → length s.octets < 2 ^ 31 → s.number < 2 ^ 32 → y.rnext < 2 ^ 32
-    → (i o : ℕ) → slice_get (octets_gained y s.number s.octets) i ≡ Some o → IsKnown (record { rnext = y.rnext; kept = nothing_kept }) (frame_of s written_at) i o
-gained_known y s written_at short number rnext i o e = of (is_before y.rnext s.number) e
+-- the segment has this octet, at this distance past RCV.NXT
+abbrev IsOfFrame : ReceivingHalf → Segment → ℕ → ℕ → Type 0
+IsOfFrame y s distance octet = (j : ℕ) × (slice_get s.octets j ≡ Some octet) × (past (s.number + j) y.rnext ≡ distance) × (distance < 2 ^ 31)
+
+-- those of its octets that lie in the window stand there one after another
+within_known : (y : ReceivingHalf) (s : Segment) → length s.octets < 2 ^ 31 → s.number < 2 ^ 32 → y.rnext < 2 ^ 32 → receive_window y ≤ 65535
+    → (k o : ℕ) → slice_get (octets_within y s.number s.octets) k ≡ Some o → IsOfFrame y s (distance_of y s.number + k) o
+within_known y s short number rnext window k o e = of (is_before y.rnext s.number) e
   where
-    of : (ahead : Bool) → slice_get (if ahead then [] else take (receive_window y) (drop (past y.rnext s.number) s.octets)) i ≡ Some o
-        → IsKnown (record { rnext = y.rnext; kept = nothing_kept }) (frame_of s written_at) i o
-    of true e = let bad : slice_get [] i ≡ Some o = e in cc
+    of : (ahead : Bool)
+        → slice_get (if ahead then take (receive_window y - past s.number y.rnext) s.octets else take (receive_window y) (drop (past y.rnext s.number) s.octets)) k ≡ Some o
+        → IsOfFrame y s ((if ahead then past s.number y.rnext else 0) + k) o
+    of true e =
+        let cut = slice_get_within (take (receive_window y - past s.number y.rnext) s.octets) k o e in
+        let size = length-take (receive_window y - past s.number y.rnext) s.octets in
+        let below : past s.number y.rnext + k < 2 ^ 31 = omega (arith, cut, size, window) in
+        (k, slice_get-take (receive_window y - past s.number y.rnext) s.octets k o e, omega (arith, below, number, rnext), below)
     of false e =
-        let there = slice_get-take_drop (receive_window y) (past y.rnext s.number) s.octets i o e in
-        let within = slice_get_within s.octets (past y.rnext s.number + i) o there in
-        inr (past y.rnext s.number + i, there, omega (arith, number, rnext, within, short), omega (arith, within, short))
+        let there = slice_get-drop (past y.rnext s.number) s.octets k o (slice_get-take (receive_window y) (drop (past y.rnext s.number) s.octets) k o e) in
+        let within = slice_get_within s.octets (past y.rnext s.number + k) o there in
+        (past y.rnext s.number + k, there, omega (arith, number, rnext, within, short), omega (arith, within, short))
+
+-- what lies in the window has a place
+within_places : (y : ReceivingHalf) (s : Segment) → receive_window y ≤ length y.kept → 0 < length (octets_within y s.number s.octets)
+    → distance_of y s.number + length (octets_within y s.number s.octets) ≤ length y.kept
+within_places y s room some = of (is_before y.rnext s.number) some
+  where
+    of : (ahead : Bool)
+        → 0 < length (if ahead then take (receive_window y - past s.number y.rnext) s.octets else take (receive_window y) (drop (past y.rnext s.number) s.octets))
+        → (if ahead then past s.number y.rnext else 0) + length (if ahead then take (receive_window y - past s.number y.rnext) s.octets else take (receive_window y) (drop (past y.rnext s.number) s.octets)) ≤ length y.kept
+    of true some = omega (arith, some, length-take (receive_window y - past s.number y.rnext) s.octets, room)
+    of false some = omega (arith, some, length-take (receive_window y) (drop (past y.rnext s.number) s.octets), room)
+
+-- the window advertised is no longer than a buffer, and each octet that it has room for has a place
+pub record HasRoom (y : ReceivingHalf) : Type 0 where
+  pub window : receive_window y ≤ 65535
+  pub places : receive_window y ≤ length y.kept
+
+-- the places once the octets of a segment are laid over what is kept
+abbrev laid_by : ReceivingHalf → Segment → List (Option ℕ)
+laid_by y s = laid y.kept (distance_of y s.number) (octets_within y s.number s.octets)
+
+-- an octet there is known, by what was kept or by the frame
+laid_known : (y : ReceivingHalf) (s : Segment) (written_at : ℕ) → length s.octets < 2 ^ 31 → s.number < 2 ^ 32 → y.rnext < 2 ^ 32 → HasRoom y
+    → (i o : ℕ) → kept_at (laid_by y s) i ≡ Some o → IsKnown (receiver_of y) (frame_of s written_at) i o
+laid_known y s written_at short number rnext room i o e = elim (laid_within y.kept (distance_of y s.number) (octets_within y s.number s.octets) i o (within_places y s room.places) e) [
+  | inl t ↦ inl t
+  | inr t ↦
+      let f = within_known y s short number rnext room.window t.0 o t.1 in
+      inr (f.0, f.1, f.2 ∙ t.2, subst (λ (d : ℕ). d < 2 ^ 31) t.2 f.3)
+]
+
+-- what octets that arrive make of the receiving half: what becomes readable is known, and so is what is kept behind it
+record Brought (y : ReceivingHalf) (s : Segment) (written_at : ℕ) : Type 0 where
+  pub gained : (i o : ℕ) → slice_get (octets_gained y s.number s.octets) i ≡ Some o → IsKnown (receiver_of y) (frame_of s written_at) i o
+  pub kept : (i o : ℕ) → kept_at (after_octets y s.number s.octets).kept i ≡ Some o → IsKnown (receiver_of y) (frame_of s written_at) (length (octets_gained y s.number s.octets) + number_of false + i) o
+  pub readable : y.readable ++ octets_gained y s.number s.octets ≡ (after_octets y s.number s.octets).readable
+
+brought : (y : ReceivingHalf) (s : Segment) (written_at : ℕ) → length s.octets < 2 ^ 31 → s.number < 2 ^ 32 → y.rnext < 2 ^ 32 → HasRoom y → Brought y s written_at
+brought y s written_at short number rnext room =
+    let taken = is_taken (buffer_of y) (distance_of y s.number) (octets_within y s.number s.octets) in
+    record { gained = gained_known taken; kept = kept_known taken; readable = readable taken }
+  where
+    Known : ℕ → ℕ → Type 0
+    Known i o = IsKnown (receiver_of y) (frame_of s written_at) i o
+
+    buffer : Bool → ReceiveView
+    buffer taken = if taken then record (buffer_of y) { readable = y.readable ++ front (laid_by y s); kept = behind_front (laid_by y s) } else buffer_of y
+
+    known : (i o : ℕ) → kept_at (laid_by y s) i ≡ Some o → Known i o
+    known = laid_known y s written_at short number rnext room
+
+    gained_known : (taken : Bool) (i o : ℕ) → slice_get (if taken then front (laid_by y s) else []) i ≡ Some o → Known i o
+    gained_known true i o e = known i o (front_stands (laid_by y s) i o e)
+    gained_known false i o e = let bad : slice_get [] i ≡ Some o = e in cc
+
+    kept_known : (taken : Bool) (i o : ℕ) → kept_at (buffer taken).kept i ≡ Some o → Known (length (if taken then front (laid_by y s) else []) + number_of false + i) o
+    kept_known true i o e =
+        let place : length (front (laid_by y s)) + i ≡ length (front (laid_by y s)) + number_of false + i = omega arith in
+        known (length (front (laid_by y s)) + number_of false + i) o (ap (kept_at (laid_by y s)) (sym place) ∙ (sym (behind_stands (laid_by y s) i) ∙ e))
+    kept_known false i o e =
+        let place : 0 + number_of false + i ≡ i = omega arith in
+        inl (ap (kept_at y.kept) place ∙ e)
+
+    readable : (taken : Bool) → y.readable ++ (if taken then front (laid_by y s) else []) ≡ (buffer taken).readable
+    readable true = refl
+    readable false = append-nil y.readable
 
 -- octets that arrive in a synchronised connection
 pub hears-octets : (cap limit : ℕ) (v : View) (d : Channel) (s : Segment) (written_at : ℕ) → is_syn_sent v.state ≡ false → length s.octets < 2 ^ 31 → s.number < 2 ^ 32 → v.receiving.rnext < 2 ^ 32
-    → ReceivesFrom v d → IsAmong (frame_of s written_at) d.frames → IsRecent limit d.written written_at
+    → HasRoom v.receiving → ReceivesFrom v d → IsAmong (frame_of s written_at) d.frames → IsRecent limit d.written written_at
     → Step cap limit d (record d {
       readable = (after_octets v.receiving s.number s.octets).readable;
-      receiving = Synchronised (record { rnext = (after_octets v.receiving s.number s.octets).rnext; kept = nothing_kept });
+      receiving = Synchronised (receiver_of (after_octets v.receiving s.number s.octets));
     })
-hears-octets cap limit v d s written_at synchronised short number rnext shows among recent =
-    let y : Receiver = record { rnext = v.receiving.rnext; kept = nothing_kept } in
+hears-octets cap limit v d s written_at synchronised short number rnext room shows among recent =
+    let y = receiver_of v.receiving in
     let new = octets_gained v.receiving s.number s.octets in
+    let kept = kept_at (after_octets v.receiving s.number s.octets).kept in
+    let b = brought v.receiving s written_at short number rnext room in
     let is : d.receiving ≡ Synchronised y = shows.receiving ∙ ap (λ b. if b then Waiting else Synchronised y) synchronised in
-    let same_readable : d.readable ++ new ≡ v.receiving.readable ++ new = ap (λ l. l ++ new) shows.readable in
+    let same_readable : d.readable ++ new ≡ (after_octets v.receiving s.number s.octets).readable = ap (λ l. l ++ new) shows.readable ∙ b.readable in
     let same_end : (d.end_seen || false) ≡ d.end_seen = or-false d.end_seen in
     let same_next : (y.rnext + (length new + number_of false)) % 2 ^ 32 ≡ (v.receiving.rnext + length new) % 2 ^ 32 = ap (λ n. (y.rnext + n) % 2 ^ 32) (omega arith) in
-    let step = delivers d y (frame_of s written_at) new nothing_kept false is among recent (gained_known v.receiving s written_at short number rnext)
-    (λ i o e. let none : Option ℕ = None in let bad : none ≡ Some o = e in cc)
-    (λ e. let bad : false ≡ true = e in cc) in
-    subst (λ l. Step cap limit d (record d {
-      readable = l;
-      receiving = Synchronised (record { rnext = (v.receiving.rnext + length new) % 2 ^ 32; kept = nothing_kept });
-    })) same_readable
-    (subst (λ b. Step cap limit d (record d {
-      readable = d.readable ++ new;
-      end_seen = b;
-      receiving = Synchronised (record { rnext = (v.receiving.rnext + length new) % 2 ^ 32; kept = nothing_kept });
-    })) same_end
-    (subst (λ n. Step cap limit d (record d {
-      readable = d.readable ++ new;
-      end_seen = d.end_seen || false;
-      receiving = Synchronised (record { rnext = n; kept = nothing_kept });
-    })) same_next step))
+    let step = delivers d y (frame_of s written_at) new kept false is among recent b.gained b.kept (λ e. let bad : false ≡ true = e in cc) in
+    subst (λ l. Step cap limit d (record d { readable = l; receiving = Synchronised (record { rnext = (v.receiving.rnext + length new) % 2 ^ 32; kept = kept }) })) same_readable
+    (subst (λ e. Step cap limit d (record d { readable = d.readable ++ new; end_seen = e; receiving = Synchronised (record { rnext = (v.receiving.rnext + length new) % 2 ^ 32; kept = kept }) })) same_end
+    (subst (λ n. Step cap limit d (record d { readable = d.readable ++ new; end_seen = d.end_seen || false; receiving = Synchronised (record { rnext = n; kept = kept }) })) same_next step))
   where
     or-false : (b : Bool) → (b || false) ≡ b
     or-false true = refl
@@ -97,20 +160,21 @@ is_past a b lt = elim (leb_tells (suc a) b) [ inl t ↦ t.0 | inr t ↦ absurd (
 pub hears-fin : (cap limit : ℕ) (v : View) (d : Channel) (s : Segment) (written_at : ℕ) → is_syn_sent v.state ≡ false → s.flags.fin ≡ true → stands_next v.receiving ((s.number + length s.octets) % 2 ^ 32) ≡ true
     → s.number < 2 ^ 32 → v.receiving.rnext < 2 ^ 32 → d.end_seen ≡ false
     → ReceivesFrom v d → IsAmong (frame_of s written_at) d.frames → IsRecent limit d.written written_at
-    → Step cap limit d (record d { end_seen = true; receiving = Synchronised (record { rnext = (v.receiving.rnext + 1) % 2 ^ 32; kept = nothing_kept }) })
+    → Step cap limit d (record d { end_seen = true; receiving = Synchronised (receiver_of (after_end v.receiving)) })
 hears-fin cap limit v d s written_at synchronised fin next number rnext unseen shows among recent =
-    let y : Receiver = record { rnext = v.receiving.rnext; kept = nothing_kept } in
+    let y = receiver_of v.receiving in
     let none : List ℕ = [] in
+    let kept = kept_at (after_end v.receiving).kept in
     let is : d.receiving ≡ Synchronised y = shows.receiving ∙ ap (λ b. if b then Waiting else Synchronised y) synchronised in
     let place : (s.number + length s.octets) % 2 ^ 32 ≡ v.receiving.rnext = eqb-true ((s.number + length s.octets) % 2 ^ 32) v.receiving.rnext (first_of ((s.number + length s.octets) % 2 ^ 32 == v.receiving.rnext) (nat_lt 0 (receive_window v.receiving)) next) in
     let reach : past (s.number + length s.octets) y.rnext ≡ 0 = at_hand s.number (length s.octets) v.receiving.rnext place rnext in
     let same_end : (d.end_seen || true) ≡ true = or_true d.end_seen refl in
-    let step = delivers d y (frame_of s written_at) none nothing_kept true is among recent
+    let step = delivers d y (frame_of s written_at) none kept true is among recent
     (λ i o e. let bad : slice_get none i ≡ Some o = e in cc)
-    (λ i o e. let nothing : Option ℕ = None in let bad : nothing ≡ Some o = e in cc)
+    (λ i o e. let nothing : Option ℕ = None in let bad : nothing ≡ Some o = sym (at_free (length v.receiving.kept) i) ∙ e in cc)
     (λ e. (fin, unseen, reach)) in
-    subst (λ l. Step cap limit d (record d { readable = l; end_seen = true; receiving = Synchronised (record { rnext = (v.receiving.rnext + 1) % 2 ^ 32; kept = nothing_kept }) })) (append-nil d.readable)
-    (subst (λ b. Step cap limit d (record d { readable = d.readable ++ none; end_seen = b; receiving = Synchronised (record { rnext = (v.receiving.rnext + 1) % 2 ^ 32; kept = nothing_kept }) })) same_end step)
+    subst (λ l. Step cap limit d (record d { readable = l; end_seen = true; receiving = Synchronised (record { rnext = (v.receiving.rnext + 1) % 2 ^ 32; kept = kept }) })) (append-nil d.readable)
+    (subst (λ b. Step cap limit d (record d { readable = d.readable ++ none; end_seen = b; receiving = Synchronised (record { rnext = (v.receiving.rnext + 1) % 2 ^ 32; kept = kept }) })) same_end step)
   where
     first_of : (a b : Bool) → (a && b) ≡ true → a ≡ true
     first_of true b e = refl
@@ -186,7 +250,7 @@ hears-syn_ack cap limit v c s written_at opening unfinished flight una nxt ack_f
 pub hears-syn : (cap limit : ℕ) (v : View) (d : Channel) (s : Segment) (written_at : ℕ) → is_syn_sent v.state ≡ true → s.flags.syn ≡ true → ReceivesFrom v d → IsAmong (frame_of s written_at) d.frames
     → Step cap limit d (record d { receiving = Synchronised (record { rnext = (s.number + 1) % 2 ^ 32; kept = nothing_kept }) })
 hears-syn cap limit v d s written_at waiting syn shows among =
-    synchronises d (frame_of s written_at) (shows.receiving ∙ ap (λ b. if b then Waiting else Synchronised (record { rnext = v.receiving.rnext; kept = nothing_kept })) waiting) among syn
+    synchronises d (frame_of s written_at) (shows.receiving ∙ ap (λ b. if b then Waiting else Synchronised (receiver_of v.receiving)) waiting) among syn
 
 -- the caller reads the first octets of what is readable
 pub hands-over : (cap limit : ℕ) (v : View) (d : Channel) (len : ℕ) → d.readable ≡ v.receiving.readable

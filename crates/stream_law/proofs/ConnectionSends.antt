@@ -11,8 +11,8 @@ use Rattle.tcp_state.specs.Stream.{outstanding}
 use Rattle.tcp_state.specs.Calls.{send_count, after_send}
 use Rattle.tcp_state.specs.Due.{head_of, octets_of, after_emitted, after_ack_paid, after_numbers}
 use Rattle.stream_law.specs.Channel.{Open, Waiting, Synchronised, Channel}
-use Rattle.stream_law.specs.ChannelSteps.{Step, writes, emits_syn, emits_text, emits_ack, span, nothing_kept}
-use Rattle.stream_law.specs.ChannelViews.{sender_of, SendsInto, ReceivesFrom, frame_of}
+use Rattle.stream_law.specs.ChannelSteps.{Step, writes, emits_syn, emits_text, emits_ack, span}
+use Rattle.stream_law.specs.ChannelViews.{sender_of, receiver_of, SendsInto, ReceivesFrom, frame_of}
 use Rattle.stream_law.proofs.KeepingText.{chosen}
 
 -- octets that the caller gives are written
@@ -107,4 +107,4 @@ emits-fin cap limit v c now opened unfinished closed empty una shows =
 pub emits-ack : (cap limit : ℕ) (v : View) (d : Channel) → is_syn_sent v.state ≡ false → ReceivesFrom v d
     → Step cap limit d (record d { acks = record { number = v.receiving.rnext; written_at = length d.written } ∷ d.acks })
 emits-ack cap limit v d synchronised shows =
-    emits_ack d (record { rnext = v.receiving.rnext; kept = nothing_kept }) (shows.receiving ∙ ap (λ b. if b then Waiting else Synchronised (record { rnext = v.receiving.rnext; kept = nothing_kept })) synchronised)
+    emits_ack d (receiver_of v.receiving) (shows.receiving ∙ ap (λ b. if b then Waiting else Synchronised (receiver_of v.receiving)) synchronised)

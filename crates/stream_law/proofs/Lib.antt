@@ -5,6 +5,7 @@ pub mod KeepingText
 pub mod KeepingArrival
 pub mod KeepingOctets
 pub mod ChannelLaw
+pub mod Kept
 pub mod ConnectionSends
 pub mod ConnectionHears
 pub mod ConnectionArrival

@@ -1,5 +1,5 @@
 -- A segment that arrives is steps of the two channels; where all is closed it is none.
-use Rattle.std.proofs.Common.{◌≡◌, ℕ, ◌+◌, ◌<◌, ◌||◌, ◌==◌, not, Bool, true, false, length, refl, sym, ◌∙◌, subst}
+use Rattle.std.proofs.Common.{◌≡◌, ℕ, ◌+◌, ◌<◌, ◌||◌, ◌&&◌, ◌==◌, not, Bool, true, false, length, refl, sym, ◌∙◌, subst}
 use Rattle.tcp_segment.specs.Segment.{Segment}
 use Rattle.tcp_state.specs.declared.state.State.{State}
 use Rattle.tcp_state.specs.declared.state.State.TheVariants.{Established, FinWait1, FinWait2, Closing, LastAck}
@@ -55,7 +55,8 @@ unlistening v s l unreset =
     with_end w e =
         let P : View → Type 0 = λ w. is_listening w.state ≡ false in
         let texted : P (after_text w s) = either P ((length s.octets == 0) || not (is_receiving w.state)) w _ (λ none. e) (λ some. e) in
-        either P (counts_fin (after_text w s) s) _ (after_text w s) (λ counts. past_end (after_text w s).state texted) (λ none. texted)
+        either P (counts_fin (after_text w s) s) _ _ (λ counts. past_end (after_text w s).state texted)
+        (λ none. either P (s.flags.fin && is_receiving (after_text w s).state) (owing_ack (after_text w s)) (after_text w s) (λ ahead. texted) (λ no_fin. texted))
 
     acceptable : is_listening (after_acknowledging_segment v s).state ≡ false
     acceptable =

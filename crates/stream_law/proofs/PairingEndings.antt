@@ -1,5 +1,5 @@
 -- What ends a connection is no step of a channel, but that its caller may close its side: a reset, the clock, an abort, an error of the network, leaving the host's table.
-use Rattle.std.proofs.Common.{◌≡◌, ℕ, ◌&&◌, ◌||◌, not, if◌then◌else◌, Bool, true, false, Some, is_some, refl, sym, ◌∙◌, ap, subst}
+use Rattle.std.proofs.Common.{◌≡◌, ℕ, ◌&&◌, ◌||◌, not, if◌then◌else◌, Bool, true, false, List, Option, Some, is_some, refl, sym, ◌∙◌, ap, subst, ap₂}
 use Rattle.tcp_segment.specs.Segment.{Segment}
 use Rattle.tcp_state.specs.declared.state.State.{State}
 use Rattle.clock.specs.declared.moment.Moment.{Moment}
@@ -10,15 +10,15 @@ use Rattle.tcp_state.specs.Stream.{is_new_ack, is_in_window}
 use Rattle.tcp_state.specs.declared.calls.Refusal.TheVariants.{ECONNREFUSED}
 use Rattle.tcp_state.specs.Unreachable.{is_unreachable, after_unreachable}
 use Rattle.tcp_state.specs.Arrival.{after_segment, after_rst_in_syn_sent, after_rst, after_reset, reset_error, owing_ack, fate, is_acting_reset, ends_by_reset}
-use Rattle.stream_law.specs.Channel.{Channel, Open}
+use Rattle.stream_law.specs.Channel.{Channel, Receiver, Open, Waiting, Synchronised}
 use Rattle.stream_law.specs.ChannelSteps.{closes}
-use Rattle.stream_law.specs.ChannelViews.{Leads, stays, goes, sender_of, receiving_of, is_telling, SameStream, Stops}
+use Rattle.stream_law.specs.ChannelViews.{Leads, stays, goes, sender_of, kept_at, receiver_of, receiving_of, is_telling, SameStream, Stops}
 use Rattle.stream_law.specs.Pairing.{Presence, Present, Departed, Pairing, remains}
 use Rattle.stream_law.proofs.ConnectionArrival.{either}
 use Rattle.stream_law.proofs.PairingInvariant.{Connected, ConnectionFits, Shown, runs_on, other_stays, connected, open_tells, remains-fits}
 
 same-owing : (v : View) → SameStream v (owing_ack v)
-same-owing v = record { state = refl; held = refl; una = refl; nxt = refl; readable = refl; rnext = refl; pending_error = refl; released = λ e. e }
+same-owing v = record { state = refl; held = refl; una = refl; nxt = refl; readable = refl; kept = refl; rnext = refl; pending_error = refl; released = λ e. e }
 
 -- nothing of the stream changed
 pub rests-fits : (v w : View) (into from : Channel) → SameStream v w → Connected v into from → Connected w into from
@@ -43,8 +43,11 @@ rests-fits v w into from same k =
     same_sender : sender_of v ≡ sender_of w
     same_sender = let a = same.state in let b = same.held in let c = same.una in let d = same.nxt in cc
 
+    same_receiver : receiver_of v.receiving ≡ receiver_of w.receiving
+    same_receiver = ap₂ (λ (n : ℕ) (places : List (Option ℕ)). record { rnext = n; kept = kept_at places }) (sym same.rnext) (sym same.kept)
+
     same_receiving : receiving_of v ≡ receiving_of w
-    same_receiving = let a = same.state in let b = same.rnext in cc
+    same_receiving = ap₂ (λ (t : State) (r : Receiver). if is_syn_sent t then Waiting else Synchronised r) (sym same.state) same_receiver
 
 closed_plain : (t : State) → is_closed t ≡ true → (is_listening t ≡ false) × (is_read_closed t ≡ true)
 closed_plain Closed e = (refl, refl)

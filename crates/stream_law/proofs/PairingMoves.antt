@@ -9,14 +9,16 @@ use Rattle.tcp_state.specs.declared.calls.Received.{Received}
 use Rattle.tcp_state.specs.declared.calls.Received.TheVariants.{Octets, EndOfStream}
 use Rattle.tcp_state.specs.declared.state.State.{State}
 use Rattle.tcp_state.specs.declared.state.State.TheVariants.{Closed, Listen, SynSent, SynReceived, Established, FinWait1, FinWait2, CloseWait, Closing, LastAck, TimeWait}
+use Rattle.tcp_state.specs.declared.buffers.TheConstants.{CAPACITY}
 use Rattle.tcp_state.specs.View.{View, IsSound, is_opening, is_syn_sent, is_closed, is_listening, is_write_closed, is_read_closed, is_write_finished, opened_actively, after_resend}
 use Rattle.tcp_state.specs.Stream.{after_read, receive_window}
 use Rattle.tcp_state.specs.Calls.{send_count, unless_pending, after_send, recv_count, recv_answer, after_recv, beyond_shutdown, after_shutdown}
 use Rattle.tcp_state.specs.Arrival.{opened_passively}
 use Rattle.stream_law.specs.Channel.{Channel, Open, Waiting, Synchronised, IsAmong}
 use Rattle.stream_law.specs.ChannelSteps.{steps, opens, reads_end, synchronises, nothing_kept}
-use Rattle.stream_law.specs.ChannelViews.{sender_of, SameStream, is_telling, frame_of}
+use Rattle.stream_law.specs.ChannelViews.{sender_of, receiver_of, receiving_of, SameStream, is_telling, frame_of}
 use Rattle.stream_law.specs.Pairing.{Absent, Present, Emission, Pairing, with_connection}
+use Rattle.stream_law.proofs.Kept.{keeps_nothing, keeps_same}
 use Rattle.stream_law.proofs.ConnectionSends.{sends}
 use Rattle.stream_law.proofs.ConnectionHears.{hands-over}
 use Rattle.stream_law.proofs.ConnectionArrival.{opened_held}
@@ -61,6 +63,7 @@ moves-accepts cap limit p local peer isn e none fits among syn h =
     let v = opened_passively local peer isn e.segment in
     let into' : Channel = record h.into { sending = Open (sender_of v) } in
     let from' : Channel = record h.from { receiving = Synchronised (record { rnext = (e.segment.number + 1) % 2 ^ 32; kept = nothing_kept }) } in
+    let opened : from'.receiving ≡ receiving_of v = ap (λ (kept : ℕ → Option ℕ). Synchronised (record { rnext = (e.segment.number + 1) % 2 ^ 32; kept = kept })) (sym (keeps_nothing CAPACITY)) in
     record {
       into = into';
       from = from';
@@ -71,7 +74,7 @@ moves-accepts cap limit p local peer isn e none fits among syn h =
         closed = h.own.closed;
         read = h.own.read;
         ended = h.own.ended;
-        connection = living v into' from' refl (record { sending = refl; closed = k.unclosed }) (record { receiving = refl; readable = k.readable; end_seen = k.unended });
+        connection = living v into' from' refl (record { sending = refl; closed = k.unclosed }) (record { receiving = opened; readable = k.readable; end_seen = k.unended });
       };
       other = record {
         written = h.other.written;
@@ -85,7 +88,7 @@ moves-accepts cap limit p local peer isn e none fits among syn h =
     }
 
 pub same-resend : (v : View) (now : Moment) → SameStream v (after_resend v now)
-same-resend v now = record { state = refl; held = refl; una = refl; nxt = refl; readable = refl; rnext = refl; pending_error = refl; released = λ e. e }
+same-resend v now = record { state = refl; held = refl; una = refl; nxt = refl; readable = refl; kept = refl; rnext = refl; pending_error = refl; released = λ e. e }
 
 -- the clock is no part of a channel
 pub moves-rests : (cap limit : ℕ) (p : Pairing) (v w : View) → p.own.connection ≡ Present v → SameStream v w → Shown cap limit p → Shown cap limit (with_connection p w)
@@ -154,7 +157,7 @@ moves-closes cap limit p v is sound opened h =
         sending = s.sending ∙ ap (λ b. Open (record (sender_of v) { syn_acked = not b })) (sym t.0) ∙ ap (λ b. Open (record (sender_of v) { syn_acked = not (is_opening (beyond_shutdown v.state)); fin_acked = b })) (sym t.1);
         closed = sym t.2;
       };
-      receiving = λ e. k.receiving (sym same_closed ∙ e) ∙ ap (λ b. if b then Waiting else Synchronised (record { rnext = v.receiving.rnext; kept = nothing_kept })) (sym t.3);
+      receiving = λ e. k.receiving (sym same_closed ∙ e) ∙ ap (λ b. if b then Waiting else Synchronised (receiver_of v.receiving)) (sym t.3);
       readable = λ e. k.readable (sym tells ∙ e);
       end_seen = λ e. k.end_seen (sym tells ∙ e) ∙ sym t.4;
     })
@@ -276,7 +279,7 @@ moves-gives cap limit p v len is untold kept opened h =
     still false e k = record {
       unlistening = k.unlistening;
       sends = λ e. let s = k.sends e in record { sending = s.sending; closed = s.closed };
-      receiving = k.receiving;
+      receiving = λ e. k.receiving e ∙ ap (λ (kept : ℕ → Option ℕ). if is_syn_sent v.state then Waiting else Synchronised (record { rnext = v.receiving.rnext; kept = kept })) (sym (keeps_same v.receiving.kept (recv_count v len)));
       readable = λ t. refl;
       end_seen = k.end_seen;
     }

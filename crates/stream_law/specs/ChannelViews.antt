@@ -1,9 +1,10 @@
 -- What a connection shows of the two channels that it is an end of: it sends into one and receives from the other.
-use Rattle.std.specs.Prelude.{◌≡◌, ℕ, ◌<◌, ◌^◌, ◌&&◌, ◌||◌, Bool, true, false, not, if◌then◌else◌, List, length, is_some}
+use Rattle.std.specs.Prelude.{◌≡◌, ℕ, ◌<◌, ◌^◌, ◌&&◌, ◌||◌, Bool, true, false, not, if◌then◌else◌, List, length, Option, None, slice_index_or, is_some}
 use Rattle.tcp_segment.specs.Segment.{Segment}
+use Rattle.tcp_state.specs.Halves.{Receiving as ReceivingHalf}
 use Rattle.tcp_state.specs.View.{View, is_opening, is_syn_sent, is_closed, is_write_finished, is_write_closed, is_read_closed}
-use Rattle.stream_law.specs.Channel.{Frame, Ack, Sender, Sending, Open, Receiving, Waiting, Synchronised, Channel, IsAmong, IsRecent}
-use Rattle.stream_law.specs.ChannelSteps.{Step, nothing_kept}
+use Rattle.stream_law.specs.Channel.{Frame, Ack, Sender, Receiver, Sending, Open, Receiving, Waiting, Synchronised, Channel, IsAmong, IsRecent}
+use Rattle.stream_law.specs.ChannelSteps.{Step}
 
 -- any number of steps
 pub data Leads (cap limit : ℕ) : Channel → Channel → Type 0 where
@@ -20,9 +21,16 @@ sender_of v = record {
   fin_acked = is_write_finished v.state;
 }
 
+-- what is kept at a distance past RCV.NXT
+abbrev pub kept_at : List (Option ℕ) → ℕ → Option ℕ
+kept_at places distance = slice_index_or places distance None
+
+abbrev pub receiver_of : ReceivingHalf → Receiver
+receiver_of r = record { rnext = r.rnext; kept = kept_at r.kept }
+
 -- the receiving half: it waits for the peer's SYN in SYN-SENT alone
 abbrev pub receiving_of : View → Receiving
-receiving_of v = if is_syn_sent v.state then Waiting else Synchronised (record { rnext = v.receiving.rnext; kept = nothing_kept })
+receiving_of v = if is_syn_sent v.state then Waiting else Synchronised (receiver_of v.receiving)
 
 -- the connection is the sending end of this channel
 pub record SendsInto (v : View) (c : Channel) : Type 0 where
@@ -42,6 +50,7 @@ pub record SameStream (v w : View) : Type 0 where
   pub una : w.sending.una ≡ v.sending.una
   pub nxt : w.sending.nxt ≡ v.sending.nxt
   pub readable : w.receiving.readable ≡ v.receiving.readable
+  pub kept : w.receiving.kept ≡ v.receiving.kept
   pub rnext : w.receiving.rnext ≡ v.receiving.rnext
   pub pending_error : w.pending_error ≡ v.pending_error
   pub released : w.released ≡ false → v.released ≡ false

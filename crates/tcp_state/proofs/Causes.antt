@@ -12,11 +12,11 @@ use Rattle.tcp_state.specs.Numbers.{is_before}
 use Rattle.tcp_state.specs.Stream.{is_new_ack, is_in_window}
 use Rattle.tcp_state.specs.View.{View, is_opening, is_syn_sent, is_syn_received, is_closed, is_over, awaits_fin_ack, is_write_closed, is_at_end, after_stop, after_resend, is_fin_next}
 use Rattle.tcp_state.specs.Calls.{after_send, after_recv, beyond_shutdown, shutdown_refusal, after_shutdown, aborted_at, after_release, is_removed_by_close, is_aborted_by_close}
-use Rattle.tcp_state.specs.Arrival.{owing_ack, after_establishment, is_receiving, beyond_fin, beyond_end, fin_acknowledged, after_new_ack, after_ack, is_read_on, is_read, after_window, after_text, counts_fin, after_fin, after_acknowledging_segment, after_acceptable_segment, ends_by_syn, ends_by_reset, ends_opening, is_acting_reset, is_acceptable_to, after_reset, reset_error, after_rst_in_syn_sent, after_rst, is_right_syn_ack, after_syn_ack, is_simultaneous_syn, after_simultaneous_syn, after_segment, is_lost, after_lost, after_heard, is_rejected}
+use Rattle.tcp_state.specs.Arrival.{owing_ack, after_establishment, is_receiving, beyond_fin, beyond_end, fin_acknowledged, after_new_ack, after_ack, is_read_on, is_read, after_window, after_text, after_fin, after_acknowledging_segment, after_acceptable_segment, ends_by_syn, ends_by_reset, ends_opening, is_acting_reset, is_acceptable_to, after_reset, reset_error, after_rst_in_syn_sent, after_rst, is_right_syn_ack, after_syn_ack, is_simultaneous_syn, after_simultaneous_syn, after_segment, is_lost, after_lost, after_heard, is_rejected}
 use Rattle.tcp_state.specs.Due.{first_due, after_ack_paid, after_numbers}
 use Rattle.tcp_state.specs.Unreachable.{is_unreachable, after_unreachable, unreachable_fate}
 use Rattle.tcp_state.specs.Edges.{Event, Hears, Ticks, Emits, Sends, Receives, Shuts, Closes, Aborts, Unreachable, after_first, fate_by, is_removed, is_reset_by, is_last_ack, ends_by_ack, is_cause, ends_by}
-use Rattle.tcp_state.proofs.Edges.{either, and_left, and_right, emitted-state}
+use Rattle.tcp_state.proofs.Edges.{either, by_fin, and_left, and_right, emitted-state}
 
 pub both : (a b : Bool) → a ≡ true → b ≡ true → (a && b) ≡ true
 both true b e f = f
@@ -53,10 +53,10 @@ end_closes_none _ e = cc
 
 closed_before_fin : (w : View) (s : Segment) → is_closed (after_fin w s).state ≡ true → is_closed w.state ≡ true
 closed_before_fin w s =
-    either View (λ x. is_closed x.state ≡ true → is_closed w.state ≡ true) (counts_fin w s) _ w
+    by_fin (λ x. is_closed x.state ≡ true → is_closed w.state ≡ true) w s
     (λ counts closed. let none = end_closes_none w.state (and_right s.flags.fin (is_receiving w.state) (and_left (s.flags.fin && is_receiving w.state) _ counts)) in
     let bad : true ≡ false = sym closed ∙ none in cc)
-    (λ none closed. closed)
+    (λ closed. closed) (λ closed. closed)
 
 closed_before_text : (w : View) (s : Segment) → is_closed (after_text w s).state ≡ true → is_closed w.state ≡ true
 closed_before_text w s =

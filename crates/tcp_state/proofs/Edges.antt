@@ -8,7 +8,7 @@ use Rattle.tcp_state.specs.declared.emission.Due.TheVariants.{Rst, Syn, Text, Fi
 use Rattle.tcp_state.specs.declared.state.State.{State}
 use Rattle.tcp_state.specs.declared.state.State.TheVariants.{Closed, Listen, SynSent, SynReceived, Established, FinWait1, FinWait2, CloseWait, Closing, LastAck}
 use Rattle.tcp_state.specs.Numbers.{is_before}
-use Rattle.tcp_state.specs.Stream.{is_new_ack, is_in_window}
+use Rattle.tcp_state.specs.Stream.{is_new_ack, is_in_window, after_end}
 use Rattle.tcp_state.specs.View.{View, is_opening, is_syn_sent, is_syn_received, is_closed, awaits_fin_ack, is_write_closed, is_at_end, after_stop, after_resend, is_fin_next}
 use Rattle.tcp_state.specs.Calls.{beyond_shutdown, shutdown_refusal, after_shutdown, aborted_at, after_release, is_removed_by_close, is_aborted_by_close}
 use Rattle.tcp_state.specs.Arrival.{owing_ack, after_establishment, is_receiving, beyond_fin, beyond_end, fin_acknowledged, after_new_ack, after_ack, is_read_on, after_window, after_text, counts_fin, after_fin, after_acknowledging_segment, after_acceptable_segment, ends_by_syn, ends_by_reset, is_acting_reset, is_acceptable_to, after_reset, reset_error, after_rst_in_syn_sent, after_rst, is_right_syn_ack, after_syn_ack, is_simultaneous_syn, after_simultaneous_syn, after_segment, is_lost, after_lost, after_heard}
@@ -20,6 +20,12 @@ use Rattle.tcp_state.specs.Edges.{IsEdge, Event, Hears, Ticks, Emits, Sends, Rec
 pub either : (A : Type 0) (P : A → Type 0) (test : Bool) (v w : A) → (test ≡ true → P v) → (test ≡ false → P w) → P (if test then v else w)
 either A P true v w if_true if_false = if_true refl
 either A P false v w if_true if_false = if_false refl
+
+-- what a FIN makes of a connection: it counts, or draws an acknowledgement, or there is none
+pub by_fin : (P : View → Type 0) (w : View) (s : Segment) → (counts_fin w s ≡ true → P (record w { state = beyond_end w.state; receiving = after_end w.receiving; owes_ack = true }))
+    → P (owing_ack w) → P w → P (after_fin w s)
+by_fin P w s counted drawn none =
+    either View P (counts_fin w s) _ _ counted (λ not_counted. either View P (s.flags.fin && is_receiving w.state) (owing_ack w) w (λ fin. drawn) (λ no_fin. none))
 
 pub and_left : (a b : Bool) → (a && b) ≡ true → a ≡ true
 and_left true b e = refl
@@ -99,9 +105,9 @@ texted t w s r =
 
 finned : (t : State) (w : View) (s : Segment) → Reaches t w → IsEdge t (after_fin w s).state
 finned t w s r =
-    either View (λ x. IsEdge t x.state) (counts_fin w s) _ w
+    by_fin (λ x. IsEdge t x.state) w s
     (λ counts. r.beyond (and_right s.flags.fin (is_receiving w.state) (and_left (s.flags.fin && is_receiving w.state) _ counts)))
-    (λ none. r.here)
+    r.here r.here
 
 acceptable-edge : (v : View) (s : Segment) → IsEdge v.state (after_acknowledging_segment v s).state
 acceptable-edge v s =

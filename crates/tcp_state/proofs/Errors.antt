@@ -12,11 +12,11 @@ use Rattle.tcp_state.specs.Numbers.{is_before}
 use Rattle.tcp_state.specs.Stream.{outstanding, is_new_ack, is_in_window}
 use Rattle.tcp_state.specs.View.{View, IsSound, is_opening, is_syn_sent, is_syn_received, is_closed, is_write_closed, is_at_end, after_stop, after_resend, is_fin_next}
 use Rattle.tcp_state.specs.Calls.{shutdown_refusal, after_shutdown, aborted_at, after_release, is_removed_by_close, is_aborted_by_close}
-use Rattle.tcp_state.specs.Arrival.{owing_ack, after_establishment, is_receiving, fin_acknowledged, after_new_ack, after_ack, is_read_on, after_window, after_text, counts_fin, after_fin, after_acknowledging_segment, after_acceptable_segment, ends_by_syn, ends_by_reset, is_acting_reset, is_acceptable_to, after_reset, reset_error, after_rst_in_syn_sent, after_rst, is_right_syn_ack, after_syn_ack, is_simultaneous_syn, after_simultaneous_syn, after_segment, is_lost, after_lost, after_heard}
+use Rattle.tcp_state.specs.Arrival.{owing_ack, after_establishment, is_receiving, fin_acknowledged, after_new_ack, after_ack, is_read_on, after_window, after_text, after_fin, after_acknowledging_segment, after_acceptable_segment, ends_by_syn, ends_by_reset, is_acting_reset, is_acceptable_to, after_reset, reset_error, after_rst_in_syn_sent, after_rst, is_right_syn_ack, after_syn_ack, is_simultaneous_syn, after_simultaneous_syn, after_segment, is_lost, after_lost, after_heard}
 use Rattle.tcp_state.specs.Due.{first_due, after_ack_paid, after_numbers}
 use Rattle.tcp_state.specs.Unreachable.{is_unreachable}
 use Rattle.tcp_state.specs.Edges.{Event, Hears, Ticks, Emits, Sends, Receives, Shuts, Closes, Aborts, Unreachable, after_first, after_event, is_reset_by, is_error_of, may_raise}
-use Rattle.tcp_state.proofs.Edges.{either, and_left}
+use Rattle.tcp_state.proofs.Edges.{either, by_fin, and_left}
 use Rattle.tcp_state.proofs.Causes.{both, of_false, then_chosen, else_chosen}
 
 -- What is no reset tells nothing.
@@ -34,7 +34,7 @@ told_by_text : (w : View) (s : Segment) → (after_text w s).pending_error ≡ w
 told_by_text w s = either View (λ x. x.pending_error ≡ w.pending_error) ((length s.octets == 0) || not (is_receiving w.state)) w _ (λ none. refl) (λ some. refl)
 
 told_by_fin : (w : View) (s : Segment) → (after_fin w s).pending_error ≡ w.pending_error
-told_by_fin w s = either View (λ x. x.pending_error ≡ w.pending_error) (counts_fin w s) _ w (λ counts. refl) (λ none. refl)
+told_by_fin w s = by_fin (λ x. x.pending_error ≡ w.pending_error) w s (λ counts. refl) refl refl
 
 told_by_acceptable : (v : View) (s : Segment) → (after_acknowledging_segment v s).pending_error ≡ v.pending_error
 told_by_acceptable v s =

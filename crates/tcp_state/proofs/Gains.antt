@@ -1,115 +1,120 @@
--- Why the octets that are gained are those of the segment that lie in the window, from RCV.NXT on.
-use Rattle.std.proofs.Common.{◌≡◌, ℕ, zero, suc, ◌+◌, ◌-◌, ◌^◌, ◌<◌, ◌≤◌, ◌==◌, ◌||◌, ◌&&◌, ◌⊎◌, not, nat_lt, if◌then◌else◌, true, false, List, [], ◌∷◌, ◌++◌, length, take, drop, None, inl, inr, arith, refl, sym, ◌∙◌, ap}
-use Rattle.std.specs.List.{slice_get}
-use Rattle.std.proofs.lemmas.Option.{slice_get_past}
-use Rattle.std.proofs.lemmas.List.{length-take, drop_all, append-nil}
-use Rattle.std.proofs.Math.Seq.{take-nil}
-use Rattle.std.proofs.lemmas.Bool.{lt-leb, le-leb, eqb-true}
-use Rattle.std.proofs.lemmas.Bool.Decides.{leb_tells}
-use Rattle.tcp_segment.specs.Wire.{wire, past}
+-- Why a segment makes nothing readable and keeps nothing but its octets in the window, and all of them where it is read.
+use Rattle.std.proofs.Common.{◌≡◌, ℕ, ◌-◌, ◌==◌, ◌||◌, ◌&&◌, ◌⊎◌, not, true, false, List, ◌++◌, length, get_or, take, drop, Option, None, inl, inr, arith, refl, sym, ◌∙◌, ap}
+use Rattle.std.proofs.lemmas.List.{length-take, length-drop}
+use Rattle.std.proofs.lemmas.Bool.{eqb-true}
 use Rattle.tcp_segment.specs.Segment.{Segment}
+use Rattle.tcp_segment.specs.Wire.{past}
 use Rattle.clock.specs.declared.moment.Moment.{Moment}
 use Rattle.tcp_state.specs.declared.state.State.{State}
 use Rattle.tcp_state.specs.declared.state.State.TheVariants.{Established, FinWait1, FinWait2}
 use Rattle.tcp_state.specs.Numbers.{is_before}
 use Rattle.tcp_state.specs.Halves.{Receiving}
-use Rattle.tcp_state.specs.Stream.{is_new_ack, receive_window, is_in_window, octets_gained}
-use Rattle.tcp_state.specs.View.{View, is_syn_sent, is_syn_received, is_closed, is_fin_next}
-use Rattle.tcp_state.specs.Arrival.{owing_ack, after_establishment, is_receiving, beyond_fin, fin_acknowledged, after_new_ack, after_ack, is_read_on, is_read, after_window, after_text, after_acknowledging_segment, after_acceptable_segment, ends_by_syn, ends_by_reset, is_acting_reset, is_acceptable_to, after_reset, reset_error, after_rst_in_syn_sent, after_rst, is_right_syn_ack, after_syn_ack, is_simultaneous_syn, after_simultaneous_syn, after_segment, is_lost, after_lost, after_segment_at}
-use Rattle.tcp_state.specs.Positions.{ReceivesAt}
-use Rattle.tcp_state.proofs.Edges.{either, and_left, and_right}
+use Rattle.tcp_state.specs.Stream.{buffer_of, receive_window, distance_of, octets_within, is_new_ack, is_in_window, octets_gained, after_octets}
+use Rattle.tcp_state.specs.View.{View, IsSound, is_syn_sent, is_syn_received, is_closed, is_fin_next}
+use Rattle.tcp_state.specs.Arrival.{owing_ack, after_establishment, is_receiving, beyond_fin, fin_acknowledged, after_new_ack, after_ack, is_read_on, is_read, after_window, after_text, after_fin, after_acknowledging_segment, after_acceptable_segment, ends_by_syn, ends_by_reset, is_acting_reset, is_acceptable_to, after_reset, reset_error, after_rst_in_syn_sent, after_rst, is_right_syn_ack, after_syn_ack, is_simultaneous_syn, after_simultaneous_syn, after_segment, is_lost, after_lost, after_segment_at}
+use Rattle.tcp_state.specs.Positions.{AreFree}
+use Rattle.tcp_state.proofs.Edges.{either, by_fin, and_left, and_right}
 use Rattle.tcp_state.proofs.Causes.{or_else, not_true}
+use Rattle.tcp_state.proofs.Keeping.{IsKeeping, sound_keeping, none_within, at_none, inserted_readable}
 use Rattle.tcp_state.proofs.Unchanged.{clash}
 use Rattle.tcp_state.proofs.Released.{unheard, readable_by_fin}
 use Rattle.tcp_state.proofs.Resets.{read_is_no_rst, read_is_accepted}
-use Rattle.tcp_state.proofs.Positions.{window_at}
 
-slice_get-take : {A : Type 0} (n : ℕ) (xs : List A) (i : ℕ) → i < n → slice_get (take n xs) i ≡ slice_get xs i
-slice_get-take zero xs i h = absurd (omega (arith, h))
-slice_get-take (suc n) [] i h = refl
-slice_get-take (suc n) (x ∷ xs) zero h = refl
-slice_get-take (suc n) (x ∷ xs) (suc i) h = slice_get-take n xs i (omega (arith, h))
+-- behind a FIN that counts nothing is kept, and else it leaves what is kept
+abbrev Ends : List (Option ℕ) → Segment → View → Type 0
+Ends kept s w = (w.receiving.kept ≡ kept) ⊎ ((s.flags.fin ≡ true) × AreFree w.receiving.kept)
 
-slice_get-drop : {A : Type 0} (n : ℕ) (xs : List A) (i : ℕ) → slice_get (drop n xs) i ≡ slice_get xs (n + i)
-slice_get-drop zero xs i = let e : i ≡ 0 + i = omega arith in ap (slice_get xs) e
-slice_get-drop (suc n) [] i = slice_get_past [] i (omega arith) ∙ sym (slice_get_past [] (suc n + i) (omega arith))
-slice_get-drop (suc n) (x ∷ xs) i = let e : suc (n + i) ≡ suc n + i = omega arith in slice_get-drop n xs i ∙ ap (slice_get (x ∷ xs)) e
+kept_by_fin : (w : View) (s : Segment) → Ends w.receiving.kept s (after_fin w s)
+kept_by_fin w s =
+    by_fin (λ x. Ends w.receiving.kept s x) w s
+    (λ counts. inr (and_left s.flags.fin (is_receiving w.state) (and_left (s.flags.fin && is_receiving w.state) _ counts), at_none (length w.receiving.kept)))
+    (inl refl) (inl refl)
 
--- where the segment begins at RCV.NXT or before it
-in_order : (initial next edge first : ℕ) (r : Receiving) (octets : List ℕ) → ReceivesAt initial next edge r → first ≤ next → next < first + 2 ^ 31
-    → octets_gained r (wire initial first) octets ≡ take (edge - next) (drop (next - first) octets)
-in_order initial next edge first r octets at begins near =
-    let number = wire initial first in
-    let known : past r.rnext number ≡ next - first = omega (arith, at.next_number, begins, near) in
-    let behind : is_before r.rnext number ≡ false = lt-leb (2 ^ 31) (past r.rnext number) (omega (arith, known, near)) in
-    ap (λ b. if b then [] else take (receive_window r) (drop (past r.rnext number) octets)) behind
-    ∙ (ap (λ n. take n (drop (past r.rnext number) octets)) (window_at initial next edge r at) ∙ ap (λ n. take (edge - next) (drop n octets)) known)
-
-pub gained_each : (initial next edge first position : ℕ) (r : Receiving) (octets : List ℕ) → ReceivesAt initial next edge r → first ≤ next → next < first + 2 ^ 31 → next ≤ position
-    → slice_get (octets_gained r (wire initial first) octets) (position - next) ≡ (if nat_lt position edge then slice_get octets (position - first) else None)
-gained_each initial next edge first position r octets at begins near reached =
-    let i = position - next in
-    let new = drop (next - first) octets in
-    let wanted = slice_get octets (position - first) in
-    ap (λ l. slice_get l i) (in_order initial next edge first r octets at begins near)
-    ∙ elim (leb_tells (suc position) edge) [
-      | inl t ↦
-          let place : (next - first) + i ≡ position - first = omega (arith, begins, reached) in
-          slice_get-take (edge - next) new i (omega (arith, t.1, reached)) ∙ (slice_get-drop (next - first) octets i ∙ (ap (slice_get octets) place ∙ sym (ap (λ b. if b then wanted else None) t.0)))
-      | inr t ↦ slice_get_past (take (edge - next) new) i (omega (arith, t.1, length-take (edge - next) new)) ∙ sym (ap (λ b. if b then wanted else None) t.0)
-    ]
-
-pub gained_none : (initial next edge first : ℕ) (r : Receiving) (octets : List ℕ) → ReceivesAt initial next edge r → next < first → first < next + 2 ^ 31 → octets_gained r (wire initial first) octets ≡ []
-gained_none initial next edge first r octets at ahead near =
-    let number = wire initial first in
-    let before : is_before r.rnext number ≡ true = le-leb (2 ^ 31) (past r.rnext number) (omega (arith, at.next_number, ahead, near)) in
-    ap (λ b. if b then [] else take (receive_window r) (drop (past r.rnext number) octets)) before
-
--- What a segment leaves to be read.
+-- What a segment leaves to be read, and what it keeps.
 
 abbrev Gains : View → Segment → View → Type 0
 Gains v s w = (w.receiving.readable ≡ v.receiving.readable) ⊎ (w.receiving.readable ≡ v.receiving.readable ++ octets_gained v.receiving s.number s.octets)
 
-text_gains : (v w : View) (s : Segment) → w.receiving ≡ v.receiving → Gains v s (after_text w s)
-text_gains v w s same =
-    either View (λ x. Gains v s x) ((length s.octets == 0) || not (is_receiving w.state)) w _
-    (λ none. inl (ap (λ (r : Receiving). r.readable) same))
-    (λ some. inr (ap (λ (r : Receiving). r.readable ++ octets_gained r s.number s.octets) same))
+abbrev Keeps : View → Segment → View → Type 0
+Keeps v s w = (w.receiving.kept ≡ v.receiving.kept) ⊎ ((w.receiving.kept ≡ (after_octets v.receiving s.number s.octets).kept) ⊎ ((s.flags.fin ≡ true) × AreFree w.receiving.kept))
 
-acceptable_gains : (v : View) (s : Segment) → Gains v s (after_acknowledging_segment v s)
-acceptable_gains v s =
+abbrev Takes : View → Segment → View → Type 0
+Takes v s w = Gains v s w × Keeps v s w
+
+grown : (r : Receiving) (number : ℕ) (octets : List ℕ) → (after_octets r number octets).readable ≡ r.readable ++ octets_gained r number octets
+grown r number octets = inserted_readable (buffer_of r) (distance_of r number) (octets_within r number octets)
+
+as_was : (v w : View) (s : Segment) → w.receiving ≡ v.receiving → Takes v s w
+as_was v w s same = (inl (ap (λ (r : Receiving). r.readable) same), inl (ap (λ (r : Receiving). r.kept) same))
+
+text_takes : (v w : View) (s : Segment) → w.receiving ≡ v.receiving → Takes v s (after_text w s)
+text_takes v w s same =
+    either View (λ x. Takes v s x) ((length s.octets == 0) || not (is_receiving w.state)) w _
+    (λ none. as_was v w s same)
+    (λ some. (
+      inr (ap (λ (r : Receiving). (after_octets r s.number s.octets).readable) same ∙ grown v.receiving s.number s.octets),
+      inr (inl (ap (λ (r : Receiving). (after_octets r s.number s.octets).kept) same)),
+    ))
+
+fin_takes : (v w : View) (s : Segment) → Takes v s w → Takes v s (after_fin w s)
+fin_takes v w s was = (
+  elim was.0 [ inl none ↦ inl (readable_by_fin w s ∙ none) | inr some ↦ inr (readable_by_fin w s ∙ some) ],
+  elim (kept_by_fin w s) [
+    | inl stays ↦ elim was.1 [
+      | inl none ↦ inl (stays ∙ none)
+      | inr more ↦ elim more [ inl some ↦ inr (inl (stays ∙ some)) | inr ends ↦ inr (inr (ends.0, λ distance. ap (λ (ps : List (Option ℕ)). get_or ps distance None) stays ∙ ends.1 distance)) ]
+    ]
+    | inr ends ↦ inr (inr ends)
+  ],
+)
+
+acceptable_takes : (v : View) (s : Segment) → Takes v s (after_acknowledging_segment v s)
+acceptable_takes v s =
     let acked = after_ack v s.acknowledgement in
     let told = after_window acked s in
     let same : told.receiving ≡ v.receiving = unheard v s.acknowledgement in
-    either View (λ w. Gains v s w) (is_read_on v s.acknowledgement) _ acked
-    (λ on. elim (text_gains v told s same) [ inl none ↦ inl (readable_by_fin (after_text told s) s ∙ none) | inr some ↦ inr (readable_by_fin (after_text told s) s ∙ some) ])
-    (λ off. inl (ap (λ (r : Receiving). r.readable) same))
+    either View (λ w. Takes v s w) (is_read_on v s.acknowledgement) _ acked
+    (λ on. fin_takes v (after_text told s) s (text_takes v told s same))
+    (λ off. as_was v acked s same)
 
-segment_gains : (v : View) (s : Segment) → Gains v s (after_segment v s)
-segment_gains v s =
-    let P : View → Type 0 = λ w. Gains v s w in
+segment_takes : (v : View) (s : Segment) → Takes v s (after_segment v s)
+segment_takes v s =
+    let P : View → Type 0 = λ w. Takes v s w in
+    let none : Takes v s v = as_was v v s refl in
+    let owing : P (owing_ack v) = (inl refl, inl refl) in
+    let reset : P (after_reset v (reset_error v.state)) = (inl refl, inl refl) in
     either View P (is_closed v.state) v _
-    (λ closed. inl refl)
+    (λ closed. none)
     (λ lives. either View P s.flags.rst _ _
     (λ rst. either View P (is_syn_sent v.state) (after_rst_in_syn_sent v s) (after_rst v s)
-    (λ waits. either View P (s.flags.ack && is_new_ack v.sending s.acknowledgement) (after_reset v (reset_error v.state)) v (λ acts. inl refl) (λ dropped. inl refl))
+    (λ waits. either View P (s.flags.ack && is_new_ack v.sending s.acknowledgement) (after_reset v (reset_error v.state)) v (λ acts. reset) (λ dropped. none))
     (λ past_opening. either View P (is_acting_reset v s) _ _
-    (λ acts. either View P (ends_by_reset v s) v (after_reset v (reset_error v.state)) (λ removed. inl refl) (λ reset. inl refl))
-    (λ elsewhere. either View P (is_in_window v.receiving s.number) (owing_ack v) v (λ drawn. inl refl) (λ dropped. inl refl))))
+    (λ acts. either View P (ends_by_reset v s) v (after_reset v (reset_error v.state)) (λ removed. none) (λ ends. reset))
+    (λ elsewhere. either View P (is_in_window v.receiving s.number) (owing_ack v) v (λ drawn. owing) (λ dropped. none))))
     (λ no_rst. either View P (is_syn_sent v.state) _ _
-    (λ waits. either View P (is_simultaneous_syn v s) (after_simultaneous_syn v s) (after_syn_ack v s) (λ simultaneous. inl refl)
-    (λ answers. either View P (is_right_syn_ack v s) _ v (λ right. inl refl) (λ wrong. inl refl)))
+    (λ waits. either View P (is_simultaneous_syn v s) (after_simultaneous_syn v s) (after_syn_ack v s) (λ simultaneous. (inl refl, inl refl))
+    (λ answers. either View P (is_right_syn_ack v s) _ v (λ right. (inl refl, inl refl)) (λ wrong. none)))
     (λ past_opening. either View P (is_acceptable_to v s) (after_acceptable_segment v s) (owing_ack v)
     (λ accepted. either View P s.flags.syn _ _
-    (λ syn. either View P (ends_by_syn v s) v (owing_ack v) (λ removed. inl refl) (λ drawn. inl refl))
-    (λ no_syn. either View P s.flags.ack (after_acknowledging_segment v s) v (λ ack. acceptable_gains v s) (λ no_ack. inl refl)))
-    (λ refused. inl refl))))
+    (λ syn. either View P (ends_by_syn v s) v (owing_ack v) (λ removed. none) (λ drawn. owing))
+    (λ no_syn. either View P s.flags.ack (after_acknowledging_segment v s) v (λ ack. acceptable_takes v s) (λ no_ack. none)))
+    (λ refused. owing))))
+
+takes_alone : (v : View) (s : Segment) (now : Moment) → Takes v s (after_segment_at v s now)
+takes_alone v s now =
+    either View (λ w. Takes v s w) (is_lost v s) (after_lost v s) (after_segment v s)
+    (λ lost. as_was v (after_lost v s) s (unheard v s.acknowledgement)) (λ stays. segment_takes v s)
 
 pub gains_alone : (v : View) (s : Segment) (now : Moment)
     → ((after_segment_at v s now).receiving.readable ≡ v.receiving.readable) ⊎ ((after_segment_at v s now).receiving.readable ≡ v.receiving.readable ++ octets_gained v.receiving s.number s.octets)
-gains_alone v s now =
-    either View (λ w. Gains v s w) (is_lost v s) (after_lost v s) (after_segment v s)
-    (λ lost. inl (ap (λ (r : Receiving). r.readable) (unheard v s.acknowledgement))) (λ kept. segment_gains v s)
+gains_alone v s now = (takes_alone v s now).0
+
+pub keeps_alone : (v : View) (s : Segment) (now : Moment)
+    → ((after_segment_at v s now).receiving.kept ≡ v.receiving.kept)
+    ⊎ (((after_segment_at v s now).receiving.kept ≡ (after_octets v.receiving s.number s.octets).kept) ⊎ ((s.flags.fin ≡ true) × AreFree (after_segment_at v s now).receiving.kept))
+keeps_alone v s now = (takes_alone v s now).1
+
+-- A segment that is read.
 
 receiving_lives : (t : State) → is_receiving t ≡ true → (is_closed t ≡ false) × (is_syn_sent t ≡ false)
 receiving_lives Established e = (refl, refl)
@@ -132,34 +137,51 @@ receiving_after v ack receiving =
     (λ new. either View P (is_fin_next v) (fin_acknowledged (after_new_ack v ack)) (after_new_ack v ack) (λ fin. receiving_beyond v.state receiving) (λ octets. receiving))
     (λ old. either View P (is_before v.sending.nxt ack) (owing_ack v) v (λ beyond. receiving) (λ within. receiving)))
 
-gained_of_none : (r : Receiving) (number : ℕ) (octets : List ℕ) → (length octets == 0) ≡ true → octets_gained r number octets ≡ []
-gained_of_none r number octets empty =
+-- no octets are none in the window
+none_of_none : (r : Receiving) (number : ℕ) (octets : List ℕ) → IsKeeping r → (length octets == 0) ≡ true → after_octets r number octets ≡ r
+none_of_none r number octets is empty =
     let none : length octets ≡ 0 = eqb-true (length octets) 0 empty in
-    either (List ℕ) (λ l. l ≡ []) (is_before r.rnext number) [] (take (receive_window r) (drop (past r.rnext number) octets))
-    (λ ahead. refl)
-    (λ behind. ap (take (receive_window r)) (drop_all (past r.rnext number) octets (omega (arith, none))) ∙ take-nil (receive_window r))
+    let window : ℕ = receive_window r in
+    none_within r number octets is
+    (either (List ℕ) (λ l. length l ≡ 0) (is_before r.rnext number) (take (window - past number r.rnext) octets) (take window (drop (past r.rnext number) octets))
+    (λ ahead. omega (arith, length-take (window - past number r.rnext) octets, none))
+    (λ behind. omega (arith, length-take window (drop (past r.rnext number) octets), length-drop (past r.rnext number) octets, none)))
 
-text_takes : (v w : View) (s : Segment) → is_receiving w.state ≡ true → w.receiving ≡ v.receiving → (after_text w s).receiving.readable ≡ v.receiving.readable ++ octets_gained v.receiving s.number s.octets
-text_takes v w s receiving same =
-    either View (λ x. x.receiving.readable ≡ v.receiving.readable ++ octets_gained v.receiving s.number s.octets) ((length s.octets == 0) || not (is_receiving w.state)) w _
+-- all its octets in the window, and behind its FIN nothing
+abbrev TakesAll : View → Segment → View → Type 0
+TakesAll v s w = (w.receiving.readable ≡ v.receiving.readable ++ octets_gained v.receiving s.number s.octets) × Ends (after_octets v.receiving s.number s.octets).kept s w
+
+all_text : (v w : View) (s : Segment) → IsKeeping v.receiving → is_receiving w.state ≡ true → w.receiving ≡ v.receiving
+    → ((after_text w s).receiving.readable ≡ v.receiving.readable ++ octets_gained v.receiving s.number s.octets) × ((after_text w s).receiving.kept ≡ (after_octets v.receiving s.number s.octets).kept)
+all_text v w s is receiving same =
+    let r : Receiving = v.receiving in
+    let P : View → Type 0 = λ x. (x.receiving.readable ≡ r.readable ++ octets_gained r s.number s.octets) × (x.receiving.kept ≡ (after_octets r s.number s.octets).kept) in
+    either View P ((length s.octets == 0) || not (is_receiving w.state)) w _
     (λ none. elim (or_else (length s.octets == 0) (not (is_receiving w.state)) none) [
-      | inl empty ↦ ap (λ (r : Receiving). r.readable) same
-          ∙ (sym (append-nil v.receiving.readable) ∙ ap (λ l. v.receiving.readable ++ l) (sym (gained_of_none v.receiving s.number s.octets empty)))
+      | inl empty ↦ let whole : w.receiving ≡ after_octets r s.number s.octets = same ∙ sym (none_of_none r s.number s.octets is empty) in
+          (ap (λ (t : Receiving). t.readable) whole ∙ grown r s.number s.octets, ap (λ (t : Receiving). t.kept) whole)
       | inr deaf ↦ clash (is_receiving w.state) receiving (not_true (is_receiving w.state) deaf)
     ])
-    (λ some. ap (λ (r : Receiving). r.readable ++ octets_gained r s.number s.octets) same)
+    (λ some. (
+      ap (λ (t : Receiving). (after_octets t s.number s.octets).readable) same ∙ grown r s.number s.octets,
+      ap (λ (t : Receiving). (after_octets t s.number s.octets).kept) same,
+    ))
 
-acceptable_takes : (v : View) (s : Segment) → is_receiving v.state ≡ true → is_read_on v s.acknowledgement ≡ true → (after_acknowledging_segment v s).receiving.readable ≡ v.receiving.readable ++ octets_gained v.receiving s.number s.octets
-acceptable_takes v s receiving on =
+all_acceptable : (v : View) (s : Segment) → IsKeeping v.receiving → is_receiving v.state ≡ true → is_read_on v s.acknowledgement ≡ true → TakesAll v s (after_acknowledging_segment v s)
+all_acceptable v s is receiving on =
     let acked = after_ack v s.acknowledgement in
     let told = after_window acked s in
-    either View (λ w. w.receiving.readable ≡ v.receiving.readable ++ octets_gained v.receiving s.number s.octets) (is_read_on v s.acknowledgement) _ acked
-    (λ reads. readable_by_fin (after_text told s) s ∙ text_takes v told s (receiving_after v s.acknowledgement receiving) (unheard v s.acknowledgement))
+    either View (λ w. TakesAll v s w) (is_read_on v s.acknowledgement) _ acked
+    (λ reads.
+    let text = all_text v told s is (receiving_after v s.acknowledgement receiving) (unheard v s.acknowledgement) in (
+      readable_by_fin (after_text told s) s ∙ text.0,
+      elim (kept_by_fin (after_text told s) s) [ inl stays ↦ inl (stays ∙ text.1) | inr ends ↦ inr ends ],
+    ))
     (λ off. clash (is_read_on v s.acknowledgement) on off)
 
-segment_takes : (v : View) (s : Segment) → is_receiving v.state ≡ true → is_read v s ≡ true → (after_segment v s).receiving.readable ≡ v.receiving.readable ++ octets_gained v.receiving s.number s.octets
-segment_takes v s receiving read =
-    let P : View → Type 0 = λ w. w.receiving.readable ≡ v.receiving.readable ++ octets_gained v.receiving s.number s.octets in
+all_segment : (v : View) (s : Segment) → IsKeeping v.receiving → is_receiving v.state ≡ true → is_read v s ≡ true → TakesAll v s (after_segment v s)
+all_segment v s is receiving read =
+    let P : View → Type 0 = λ w. TakesAll v s w in
     let lives = receiving_lives v.state receiving in
     let acks = and_left (not s.flags.rst && is_acceptable_to v s && not s.flags.syn && s.flags.ack) _ read in
     let plain = and_left (not s.flags.rst && is_acceptable_to v s && not s.flags.syn) s.flags.ack acks in
@@ -173,13 +195,20 @@ segment_takes v s receiving read =
     (λ accepted. either View P s.flags.syn _ _
     (λ syn. clash s.flags.syn syn (not_true s.flags.syn (and_right (not s.flags.rst && is_acceptable_to v s) (not s.flags.syn) plain)))
     (λ no_syn. either View P s.flags.ack (after_acknowledging_segment v s) v
-    (λ ack. acceptable_takes v s receiving (and_right (not s.flags.rst && is_acceptable_to v s && not s.flags.syn && s.flags.ack) _ read))
+    (λ ack. all_acceptable v s is receiving (and_right (not s.flags.rst && is_acceptable_to v s && not s.flags.syn && s.flags.ack) _ read))
     (λ no_ack. clash s.flags.ack (and_right (not s.flags.rst && is_acceptable_to v s && not s.flags.syn) s.flags.ack acks) no_ack)))
     (λ refused. clash (is_acceptable_to v s) (read_is_accepted v s read) refused))))
 
-pub gains_where_read : (v : View) (s : Segment) (now : Moment) → v.released ≡ false → is_receiving v.state ≡ true → is_read v s ≡ true
-    → (after_segment_at v s now).receiving.readable ≡ v.receiving.readable ++ octets_gained v.receiving s.number s.octets
-gains_where_read v s now kept receiving read =
-    either View (λ w. w.receiving.readable ≡ v.receiving.readable ++ octets_gained v.receiving s.number s.octets) (is_lost v s) (after_lost v s) (after_segment v s)
+all_where_read : (v : View) (s : Segment) (now : Moment) → IsSound v → v.released ≡ false → is_receiving v.state ≡ true → is_read v s ≡ true → TakesAll v s (after_segment_at v s now)
+all_where_read v s now sound kept receiving read =
+    either View (λ w. TakesAll v s w) (is_lost v s) (after_lost v s) (after_segment v s)
     (λ lost. clash v.released (and_left v.released (is_receiving v.state) (and_left (v.released && is_receiving v.state) (is_read v s) (and_left (v.released && is_receiving v.state && is_read v s) _ lost))) kept)
-    (λ stays. segment_takes v s receiving read)
+    (λ stays. all_segment v s (sound_keeping v sound) receiving read)
+
+pub gains_where_read : (v : View) (s : Segment) (now : Moment) → IsSound v → v.released ≡ false → is_receiving v.state ≡ true → is_read v s ≡ true
+    → (after_segment_at v s now).receiving.readable ≡ v.receiving.readable ++ octets_gained v.receiving s.number s.octets
+gains_where_read v s now sound kept receiving read = (all_where_read v s now sound kept receiving read).0
+
+pub keeps_where_read : (v : View) (s : Segment) (now : Moment) → IsSound v → v.released ≡ false → is_receiving v.state ≡ true → is_read v s ≡ true
+    → ((after_segment_at v s now).receiving.kept ≡ (after_octets v.receiving s.number s.octets).kept) ⊎ ((s.flags.fin ≡ true) × AreFree (after_segment_at v s now).receiving.kept)
+keeps_where_read v s now sound kept receiving read = (all_where_read v s now sound kept receiving read).1

@@ -1,6 +1,7 @@
 pub mod Framing
 pub mod GoesOut
 pub mod Edges
+pub mod Keeping
 pub mod Causes
 pub mod Errors
 pub mod Unchanged
@@ -11,6 +12,7 @@ pub mod Resets
 pub mod Windows
 pub mod Onward
 pub mod Waiting
+pub mod Placing
 pub mod Gains
 pub mod ResetAges
 pub mod Unreachable

@@ -1,7 +1,6 @@
 -- Why no number of a connection goes back.
-use Rattle.std.proofs.Common.{◌≡◌, ℕ, ◌+◌, ◌-◌, ◌%◌, ◌^◌, ◌<◌, ◌≤◌, ◌==◌, ◌||◌, ◌&&◌, not, min, nat_lt, nat_le, if◌then◌else◌, Bool, true, false, List, [], length, take, drop, Option, Some, None, arith, refl, sym, ◌∙◌, ap, subst, is_some}
+use Rattle.std.proofs.Common.{◌≡◌, ℕ, ◌+◌, ◌-◌, ◌%◌, ◌^◌, ◌<◌, ◌≤◌, ◌==◌, ◌||◌, ◌&&◌, not, min, nat_lt, nat_le, if◌then◌else◌, Bool, true, false, List, length, Option, Some, None, arith, refl, sym, ◌∙◌, ap, subst, is_some}
 use Rattle.std.proofs.lemmas.Bool.{ltb-true, leb-true}
-use Rattle.std.proofs.lemmas.List.{length-take}
 use Rattle.tcp_segment.specs.Wire.{past}
 use Rattle.tcp_segment.specs.Segment.{Segment}
 use Rattle.clock.specs.declared.moment.Moment.{Moment}
@@ -14,12 +13,13 @@ use Rattle.tcp_state.specs.Windows.{updates_window, after_window_update, sendabl
 use Rattle.tcp_state.specs.View.{View, IsSound, is_opening, is_syn_sent, is_syn_received, is_closed, is_write_closed, is_at_end, after_stop, after_resend, is_due, is_fin_next}
 use Rattle.tcp_state.specs.Calls.{shutdown_refusal, after_shutdown, aborted_at, after_release, is_removed_by_close, is_aborted_by_close}
 use Rattle.tcp_state.specs.declared.calls.Refusal.TheVariants.{ECONNREFUSED}
-use Rattle.tcp_state.specs.Arrival.{owing_ack, after_establishment, is_receiving, fin_acknowledged, after_new_ack, after_ack, is_read_on, after_window, after_text, counts_fin, after_fin, after_acknowledging_segment, after_acceptable_segment, ends_by_syn, ends_by_reset, is_acting_reset, is_acceptable_to, after_reset, reset_error, after_rst_in_syn_sent, after_rst, is_right_syn_ack, after_syn_ack, is_simultaneous_syn, after_simultaneous_syn, after_segment, is_lost, after_lost, after_heard}
+use Rattle.tcp_state.specs.Arrival.{owing_ack, after_establishment, is_receiving, fin_acknowledged, after_new_ack, after_ack, is_read_on, after_window, after_text, after_fin, after_acknowledging_segment, after_acceptable_segment, ends_by_syn, ends_by_reset, is_acting_reset, is_acceptable_to, after_reset, reset_error, after_rst_in_syn_sent, after_rst, is_right_syn_ack, after_syn_ack, is_simultaneous_syn, after_simultaneous_syn, after_segment, is_lost, after_lost, after_heard}
 use Rattle.tcp_state.specs.Due.{first_due, again, ack_due, after_ack_paid, after_numbers}
 use Rattle.tcp_state.specs.Unreachable.{is_unreachable}
 use Rattle.tcp_state.specs.Edges.{Event, Hears, Ticks, Emits, Sends, Receives, Shuts, Closes, Aborts, Unreachable, after_first, after_event}
 use Rattle.tcp_state.specs.Positions.{GoesOn, NeverBack, HasNumber}
-use Rattle.tcp_state.proofs.Edges.{either, and_right}
+use Rattle.tcp_state.proofs.Edges.{either, by_fin, and_right}
+use Rattle.tcp_state.proofs.Keeping.{IsKeeping, sound_keeping, gained_fits}
 use Rattle.tcp_state.proofs.Released.{unheard}
 use Rattle.tcp_state.proofs.Unchanged.{clash}
 
@@ -106,14 +106,8 @@ record Advances (r t : Receiving) : Type 0 where
 waits : (r : Receiving) → r.rnext < 2 ^ 32 → Advances r r
 waits r small = record { by = 0; within = omega arith; rnext = omega (arith, small); edge = refl }
 
-gained_fits : (r : Receiving) (number : ℕ) (octets : List ℕ) → length (octets_gained r number octets) ≤ receive_window r
-gained_fits r number octets =
-    either (List ℕ) (λ l. length l ≤ receive_window r) (is_before r.rnext number) [] (take (receive_window r) (drop (past r.rnext number) octets))
-    (λ ahead. omega arith)
-    (λ behind. omega (arith, length-take (receive_window r) (drop (past r.rnext number) octets)))
-
-takes : (r : Receiving) (number : ℕ) (octets : List ℕ) → Advances r (after_octets r number octets)
-takes r number octets = record { by = length (octets_gained r number octets); within = gained_fits r number octets; rnext = refl; edge = refl }
+takes : (r : Receiving) (number : ℕ) (octets : List ℕ) → IsKeeping r → Advances r (after_octets r number octets)
+takes r number octets is = record { by = length (octets_gained r number octets); within = gained_fits r number octets is; rnext = refl; edge = refl }
 
 -- over the number of a FIN too
 ends : (r t : Receiving) → r.rnext < 2 ^ 32 → Advances r t → 0 < receive_window t → Advances r (after_end t)
@@ -125,26 +119,26 @@ ends r t small a room =
     one_more : (rnext edge by : ℕ) → rnext < 2 ^ 32 → by ≤ past edge rnext → 0 < past edge ((rnext + by) % 2 ^ 32) → by + 1 ≤ past edge rnext
     one_more rnext edge by small within space = omega (arith, small, within, space)
 
-advanced_text : (r : Receiving) (w : View) (s : Segment) → Advances r w.receiving → w.receiving ≡ r → Advances r (after_text w s).receiving
-advanced_text r w s a same =
+advanced_text : (r : Receiving) (w : View) (s : Segment) → IsKeeping r → Advances r w.receiving → w.receiving ≡ r → Advances r (after_text w s).receiving
+advanced_text r w s is a same =
     either View (λ x. Advances r x.receiving) ((length s.octets == 0) || not (is_receiving w.state)) w _
-    (λ none. a) (λ some. subst (λ t. Advances r (after_octets t s.number s.octets)) (sym same) (takes r s.number s.octets))
+    (λ none. a) (λ some. subst (λ t. Advances r (after_octets t s.number s.octets)) (sym same) (takes r s.number s.octets is))
 
 advanced_fin : (r : Receiving) (w : View) (s : Segment) → r.rnext < 2 ^ 32 → Advances r w.receiving → Advances r (after_fin w s).receiving
 advanced_fin r w s small a =
-    either View (λ x. Advances r x.receiving) (counts_fin w s) _ w
+    by_fin (λ x. Advances r x.receiving) w s
     (λ counts.
     let stands = and_right (s.flags.fin && is_receiving w.state) (stands_next w.receiving ((s.number + length s.octets) % 2 ^ 32)) counts in
     let room = ltb-true 0 (receive_window w.receiving) (and_right ((s.number + length s.octets) % 2 ^ 32 == w.receiving.rnext) _ stands) in
     ends r w.receiving small a room)
-    (λ none. a)
+    a a
 
 -- octets and a FIN leave the sending half
 pub text_sends : (w : View) (s : Segment) → (after_text w s).sending ≡ w.sending
 text_sends w s = either View (λ x. x.sending ≡ w.sending) ((length s.octets == 0) || not (is_receiving w.state)) w _ (λ none. refl) (λ some. refl)
 
 pub fin_sends : (w : View) (s : Segment) → (after_fin w s).sending ≡ w.sending
-fin_sends w s = either View (λ x. x.sending ≡ w.sending) (counts_fin w s) _ w (λ counts. refl) (λ none. refl)
+fin_sends w s = by_fin (λ x. x.sending ≡ w.sending) w s (λ counts. refl) refl refl
 
 heard : (v w : View) → IsSound v → GoesOn v.sending.una w.sending.una → w.sending.nxt ≡ v.sending.nxt → Advances v.receiving w.receiving → NeverBack v w
 heard v w sound una nxt a = record {
@@ -170,7 +164,7 @@ by_acceptable v s sound fits =
     heard v (after_fin (after_text told s) s) sound
     (subst (λ n. GoesOn v.sending.una n) (sym (ap (λ (x : Sending). x.una) sending ∙ una)) on)
     (ap (λ (x : Sending). x.nxt) sending ∙ (later ∙ nxt))
-    (advanced_fin v.receiving (after_text told s) s sound.rnext (advanced_text v.receiving told s (subst (λ r. Advances v.receiving r) (sym same_told) (waits v.receiving sound.rnext)) same_told)))
+    (advanced_fin v.receiving (after_text told s) s sound.rnext (advanced_text v.receiving told s (sound_keeping v sound) (subst (λ r. Advances v.receiving r) (sym same_told) (waits v.receiving sound.rnext)) same_told)))
     (λ dropped. heard v acked sound on nxt (subst (λ r. Advances v.receiving r) (sym same) (waits v.receiving sound.rnext)))
 
 by_syn_ack : (v : View) (s : Segment) → IsSound v → is_syn_sent v.state ≡ true → NeverBack v (after_syn_ack v s)

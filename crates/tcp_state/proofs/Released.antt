@@ -1,7 +1,7 @@
 -- Why a connection that its caller closed takes no octets.
-use Rattle.std.proofs.Common.{◌≡◌, ℕ, ◌+◌, ◌%◌, ◌^◌, ◌<◌, ◌≤◌, ◌==◌, ◌||◌, ◌&&◌, not, nat_le, Bool, true, false, List, [], ◌++◌, length, take, drop, inl, inr, arith, refl, ◌∙◌, ap}
-use Rattle.std.proofs.lemmas.List.{drop_all, append-nil}
-use Rattle.std.proofs.Math.Seq.{take-nil}
+use Rattle.std.proofs.Common.{◌≡◌, ℕ, ◌+◌, ◌-◌, ◌%◌, ◌^◌, ◌<◌, ◌≤◌, ◌==◌, ◌||◌, ◌&&◌, not, nat_le, Bool, true, false, List, length, take, drop, inl, inr, arith, refl, ◌∙◌, ap}
+use Rattle.std.proofs.lemmas.List.{length-take, length-drop}
+use Rattle.std.proofs.lemmas.Bool.{leb-true}
 use Rattle.std.proofs.lemmas.Bool.Decides.{leb_tells}
 use Rattle.tcp_segment.specs.Wire.{past}
 use Rattle.tcp_segment.specs.Segment.{Segment}
@@ -10,10 +10,11 @@ use Rattle.tcp_state.specs.declared.state.State.{State}
 use Rattle.tcp_state.specs.declared.state.State.TheVariants.{FinWait1, Closing, LastAck, SynReceived}
 use Rattle.tcp_state.specs.Numbers.{is_before}
 use Rattle.tcp_state.specs.Halves.{Receiving}
-use Rattle.tcp_state.specs.Stream.{is_new_ack, octets_gained, after_octets, receive_window, is_in_window}
+use Rattle.tcp_state.specs.Stream.{is_new_ack, octets_within, after_octets, receive_window, is_in_window}
 use Rattle.tcp_state.specs.View.{View, IsSound, is_syn_sent, is_syn_received, is_closed, is_write_closed, is_fin_next}
-use Rattle.tcp_state.specs.Arrival.{owing_ack, after_establishment, is_receiving, beyond_fin, fin_acknowledged, after_new_ack, after_ack, is_read_on, is_read, brings_more, after_window, after_text, counts_fin, after_fin, after_acknowledging_segment, after_acceptable_segment, ends_by_syn, ends_by_reset, is_acting_reset, is_acceptable_to, after_reset, reset_error, after_rst_in_syn_sent, after_rst, is_right_syn_ack, after_syn_ack, is_simultaneous_syn, after_simultaneous_syn, after_segment, is_lost, after_lost, after_segment_at}
-use Rattle.tcp_state.proofs.Edges.{either}
+use Rattle.tcp_state.specs.Arrival.{owing_ack, after_establishment, is_receiving, beyond_fin, fin_acknowledged, after_new_ack, after_ack, is_read_on, is_read, brings_more, after_window, after_text, after_fin, after_acknowledging_segment, after_acceptable_segment, ends_by_syn, ends_by_reset, is_acting_reset, is_acceptable_to, after_reset, reset_error, after_rst_in_syn_sent, after_rst, is_right_syn_ack, after_syn_ack, is_simultaneous_syn, after_simultaneous_syn, after_segment, is_lost, after_lost, after_segment_at}
+use Rattle.tcp_state.proofs.Edges.{either, by_fin}
+use Rattle.tcp_state.proofs.Keeping.{IsKeeping, sound_keeping, none_within}
 use Rattle.tcp_state.proofs.Causes.{both, of_false}
 use Rattle.tcp_state.proofs.Unchanged.{clash}
 
@@ -50,17 +51,25 @@ receiving_before v ack closed =
 not_before : (a b : ℕ) → is_before a b ≡ false → past a b < 2 ^ 31
 not_before a b e = elim (leb_tells (2 ^ 31) (past a b)) [ inl t ↦ clash (nat_le (2 ^ 31) (past a b)) t.0 e | inr t ↦ t.1 ]
 
--- octets that end at RCV.NXT or before it add nothing
+-- octets that end at RCV.NXT or before it add nothing, nor do those that lie so far on that they end there again
 known : (rnext number len : ℕ) → rnext < 2 ^ 32 → number < 2 ^ 32 → len < 2 ^ 16 → past rnext number < 2 ^ 31 → past rnext ((number + len) % 2 ^ 32) < 2 ^ 31 → len ≤ past rnext number
 known rnext number len a b c d e = omega (arith, a, b, c, d, e)
 
-none_gained : (r : Receiving) (number : ℕ) (octets : List ℕ) → r.rnext < 2 ^ 32 → number < 2 ^ 32 → length octets < 2 ^ 16 → is_before r.rnext ((number + length octets) % 2 ^ 32) ≡ false → octets_gained r number octets ≡ []
-none_gained r number octets small fits short ends =
-    either (List ℕ) (λ l. l ≡ []) (is_before r.rnext number) [] (take (receive_window r) (drop (past r.rnext number) octets))
-    (λ ahead. refl)
+far : (rnext number len : ℕ) → rnext < 2 ^ 32 → number < 2 ^ 32 → len < 2 ^ 16 → 2 ^ 31 ≤ past rnext number → past rnext ((number + len) % 2 ^ 32) < 2 ^ 31 → 65536 ≤ past number rnext
+far rnext number len a b c d e = omega (arith, a, b, c, d, e)
+
+none_new : (r : Receiving) (number : ℕ) (octets : List ℕ) → IsKeeping r → number < 2 ^ 32 → length octets < 2 ^ 16 → is_before r.rnext ((number + length octets) % 2 ^ 32) ≡ false
+    → length (octets_within r number octets) ≡ 0
+none_new r number octets is fits short ends =
+    let ended = not_before r.rnext ((number + length octets) % 2 ^ 32) ends in
+    let ahead_of : ℕ = receive_window r - past number r.rnext in
+    either (List ℕ) (λ l. length l ≡ 0) (is_before r.rnext number) (take ahead_of octets) (take (receive_window r) (drop (past r.rnext number) octets))
+    (λ ahead.
+    let away = far r.rnext number (length octets) is.small fits short (leb-true (2 ^ 31) (past r.rnext number) ahead) ended in
+    omega (arith, length-take ahead_of octets, away, is.fits))
     (λ behind.
-    let all : length octets ≤ past r.rnext number = known r.rnext number (length octets) small fits short (not_before r.rnext number behind) (not_before r.rnext ((number + length octets) % 2 ^ 32) ends) in
-    ap (take (receive_window r)) (drop_all (past r.rnext number) octets all) ∙ take-nil (receive_window r))
+    let all : length octets ≤ past r.rnext number = known r.rnext number (length octets) is.small fits short (not_before r.rnext number behind) ended in
+    omega (arith, length-take (receive_window r) (drop (past r.rnext number) octets), length-drop (past r.rnext number) octets, all))
 
 -- a segment of which no octets are lost, though it is read, ends before RCV.NXT or has none
 all_known : (v : View) (s : Segment) → v.released ≡ true → is_receiving v.state ≡ true → is_read v s ≡ true → is_lost v s ≡ false → (length s.octets == 0) ≡ false
@@ -79,11 +88,11 @@ or_false false true e = (refl, refl)
 or_false false false e = cc
 
 pub readable_by_fin : (w : View) (s : Segment) → (after_fin w s).receiving.readable ≡ w.receiving.readable
-readable_by_fin w s = either View (λ x. x.receiving.readable ≡ w.receiving.readable) (counts_fin w s) _ w (λ counts. refl) (λ none. refl)
+readable_by_fin w s = by_fin (λ x. x.receiving.readable ≡ w.receiving.readable) w s (λ counts. refl) refl refl
 
 -- what a segment has to be for its octets to matter
 record IsKept (v : View) (s : Segment) : Type 0 where
-  pub small : v.receiving.rnext < 2 ^ 32
+  pub keeping : IsKeeping v.receiving
   pub fits : s.number < 2 ^ 32
   pub short : length s.octets < 2 ^ 16
   pub released : v.released ≡ true
@@ -102,7 +111,7 @@ readable_by_acceptable v s k read =
     let tests = or_false (length s.octets == 0) (is_receiving told.state) some in
     let ends = all_known v s k.released (receiving_before v s.acknowledgement k.closed tests.1) (read on) k.kept tests.0 in
     ap (λ (r : Receiving). (after_octets r s.number s.octets).readable) same
-    ∙ (ap (λ l. v.receiving.readable ++ l) (none_gained v.receiving s.number s.octets k.small k.fits k.short ends) ∙ append-nil v.receiving.readable)))
+    ∙ ap (λ (r : Receiving). r.readable) (none_within v.receiving s.number s.octets k.keeping (none_new v.receiving s.number s.octets k.keeping k.fits k.short ends))))
     (λ off. ap (λ (r : Receiving). r.readable) same)
 
 readable_by_segment : (v : View) (s : Segment) → IsKept v s → (after_segment v s).receiving.readable ≡ v.receiving.readable
@@ -141,7 +150,7 @@ released_takes_none v s now sound released fits short =
     either View (λ w. w.receiving.readable ≡ v.receiving.readable) (is_lost v s) (after_lost v s) (after_segment v s)
     (λ lost. ap (λ (r : Receiving). r.readable) (unheard v s.acknowledgement))
     (λ kept. readable_by_segment v s (record {
-      small = sound.rnext;
+      keeping = sound_keeping v sound;
       fits = fits;
       short = short;
       released = released;

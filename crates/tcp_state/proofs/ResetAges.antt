@@ -10,12 +10,12 @@ use Rattle.tcp_state.specs.Numbers.{is_before}
 use Rattle.tcp_state.specs.Stream.{is_new_ack, is_in_window}
 use Rattle.tcp_state.specs.View.{View, IsSound, is_opening, is_syn_sent, is_syn_received, is_closed, is_time_wait, is_write_closed, is_fin_next, is_at_end, after_stop, after_resend, reset_since}
 use Rattle.tcp_state.specs.declared.calls.Refusal.TheVariants.{ECONNREFUSED}
-use Rattle.tcp_state.specs.Arrival.{owing_ack, after_reset, reset_error, after_rst_in_syn_sent, after_rst, is_acting_reset, ends_by_reset, ends_by_syn, is_right_syn_ack, after_syn_ack, is_simultaneous_syn, after_simultaneous_syn, is_acceptable_to, after_acceptable_segment, after_acknowledging_segment, after_establishment, fin_acknowledged, after_new_ack, after_ack, after_window, is_read_on, is_receiving, after_text, counts_fin, after_fin, after_segment, is_read, brings_more, is_lost, after_lost, begins_wait, starts_clock, repeats_fin, timed}
+use Rattle.tcp_state.specs.Arrival.{owing_ack, after_reset, reset_error, after_rst_in_syn_sent, after_rst, is_acting_reset, ends_by_reset, ends_by_syn, is_right_syn_ack, after_syn_ack, is_simultaneous_syn, after_simultaneous_syn, is_acceptable_to, after_acceptable_segment, after_acknowledging_segment, after_establishment, fin_acknowledged, after_new_ack, after_ack, after_window, is_read_on, is_receiving, after_text, after_fin, after_segment, is_read, brings_more, is_lost, after_lost, begins_wait, starts_clock, repeats_fin, timed}
 use Rattle.tcp_state.specs.Calls.{aborted_at, after_release, is_removed_by_close, is_aborted_by_close, shutdown_refusal, after_shutdown}
 use Rattle.tcp_state.specs.Due.{first_due, after_ack_paid, after_numbers}
 use Rattle.tcp_state.specs.Unreachable.{is_unreachable}
 use Rattle.tcp_state.specs.Edges.{Event, Hears, Ticks, Emits, Sends, Receives, Shuts, Closes, Aborts, Unreachable, after_first, after_event, moment_of}
-use Rattle.tcp_state.proofs.Edges.{either, and_left, and_right}
+use Rattle.tcp_state.proofs.Edges.{either, by_fin, and_left, and_right}
 use Rattle.tcp_state.proofs.Causes.{by, or_left, or_right, of_false}
 use Rattle.tcp_state.proofs.Unchanged.{clash, starts_none}
 
@@ -49,7 +49,7 @@ owed_by_text : (w : View) (s : Segment) → (after_text w s).owes_reset ≡ w.ow
 owed_by_text w s = either View (λ x. x.owes_reset ≡ w.owes_reset) ((length s.octets == 0) || not (is_receiving w.state)) w _ (λ none. refl) (λ some. refl)
 
 owed_by_fin : (w : View) (s : Segment) → (after_fin w s).owes_reset ≡ w.owes_reset
-owed_by_fin w s = either View (λ x. x.owes_reset ≡ w.owes_reset) (counts_fin w s) _ w (λ counts. refl) (λ none. refl)
+owed_by_fin w s = by_fin (λ x. x.owes_reset ≡ w.owes_reset) w s (λ counts. refl) refl refl
 
 owed_by_acknowledging : (v : View) (s : Segment) → (after_acknowledging_segment v s).owes_reset ≡ v.owes_reset
 owed_by_acknowledging v s =

@@ -14,7 +14,7 @@ use Rattle.tcp_state.specs.declared.emission.Due.TheVariants.{Syn, Ack}
 use Rattle.tcp_state.specs.declared.state.State.TheVariants.{SynReceived, Established}
 use Rattle.tcp_state.specs.Numbers.{is_before, later_number}
 use Rattle.tcp_state.specs.Halves.{Receiving}
-use Rattle.tcp_state.specs.Stream.{sending_from, receive_window, is_in_window, is_acceptable}
+use Rattle.tcp_state.specs.Stream.{sending_from, receiving_nothing, receive_window, is_in_window, is_acceptable}
 use Rattle.tcp_state.specs.Windows.{updates_window}
 use Rattle.tcp_state.specs.View.{View, opened_actively}
 use Rattle.tcp_state.specs.Arrival.{owing_ack, after_establishment, after_window, after_text, after_fin, after_acceptable_segment, timed}
@@ -33,7 +33,7 @@ waiting here there isn again = record (opened_actively here there isn) { sending
 
 -- it has both SYNs
 abbrev receives : ℕ → Receiving
-receives other = record { readable = []; rnext = wire other 1; edge = (wire other 1 + 65535) % 2 ^ 32 }
+receives other = record { readable = []; kept = receiving_nothing.kept; rnext = wire other 1; edge = (wire other 1 + 65535) % 2 ^ 32 }
 
 abbrev answering : Endpoint → Endpoint → ℕ → ℕ → Bool → Resend → View
 answering here there isn other owes when = record (opened_actively here there isn) {

@@ -150,13 +150,14 @@ is_receiving FinWait1 = true
 is_receiving FinWait2 = true
 is_receiving _ = false
 
--- the octets (section 3.10.7.4, seventh); those ahead of a gap are not kept yet
+-- The octets (section 3.10.7.4, seventh): those in order can be read, and those ahead of a gap are kept. Whatever they are, an acknowledgement tells the peer at
+-- once how far they are in order.
 abbrev pub after_text : View → Segment → View
 after_text v s =
     if (length s.octets == 0) || not (is_receiving v.state) then v
     else record v { receiving = after_octets v.receiving s.number s.octets; owes_ack = true }
 
--- the FIN (section 3.10.7.4, eighth) counts where every octet before it is in place and it was not cut
+-- The FIN (section 3.10.7.4, eighth) counts where every octet before it is in place and it was not cut. One that doesn't count isn't kept: the peer sends it again.
 abbrev pub counts_fin : View → Segment → Bool
 counts_fin v s = s.flags.fin && is_receiving v.state && stands_next v.receiving ((s.number + length s.octets) % 2 ^ 32)
 
@@ -166,9 +167,11 @@ beyond_end FinWait1 = Closing
 beyond_end FinWait2 = TimeWait
 beyond_end state = state
 
+-- it draws an acknowledgement, whether it counts or stands ahead of a gap
 abbrev pub after_fin : View → Segment → View
 after_fin v s =
     if counts_fin v s then record v { state = beyond_end v.state; receiving = after_end v.receiving; owes_ack = true }
+    else if s.flags.fin && is_receiving v.state then owing_ack v
     else v
 
 -- an acceptable segment with ACK and without SYN

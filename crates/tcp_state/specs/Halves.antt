@@ -1,5 +1,5 @@
 -- The two halves of a connection (RFC 9293 section 3.3.1).
-use Rattle.std.specs.Prelude.{ℕ, List}
+use Rattle.std.specs.Prelude.{ℕ, List, Option}
 
 -- the sending half: the octets taken from the caller and not acknowledged, SND.UNA, SND.NXT (the number after the
 -- highest sent), SND.WND, SND.WL1, SND.WL2, and the size of the segments that the peer takes
@@ -12,10 +12,11 @@ pub record Sending : Type 0 where
   pub wl2 : ℕ
   pub smss : ℕ
 
--- the receiving half: the octets in order that the caller has not read, RCV.NXT, and the number after the last that
--- a window advertised has room for
+-- the receiving half: the octets in order that the caller has not read, those kept ahead of a gap, by their distance from RCV.NXT, with a place for each
+-- octet that may still come, RCV.NXT, and the number after the last that a window advertised has room for
 pub record Receiving : Type 0 where
   pub readable : List ℕ
+  pub kept : List (Option ℕ)
   pub rnext : ℕ
   pub edge : ℕ
 

@@ -10,5 +10,6 @@ pub mod Due
 pub mod Unreachable
 pub mod Edges
 pub mod Positions
+pub mod Received
 pub mod Inside
 pub mod Simultaneous

@@ -1,10 +1,12 @@
 -- The halves of a connection by positions in their streams (RFC 9293 sections 3.4, 3.8.6 and 3.10.7.4): what the tests by sequence number stand
 -- for. A position is a whole number without bound, and `wire initial position` is its sequence number.
-use Rattle.std.specs.Prelude.{◌≡◌, ℕ, ◌+◌, ◌<◌, ◌≤◌, ◌^◌, ◌⊎◌, Bool, false, true, length, Option, Some, ⊤}
+use Rattle.std.specs.Prelude.{◌≡◌, ℕ, ◌+◌, ◌-◌, ◌<◌, ◌≤◌, ◌^◌, ◌⊎◌, ◌&&◌, nat_le, nat_lt, Bool, false, true, if◌then◌else◌, List, ◌++◌, length, map, slice_get, slice_index_or, Option, Some, None, ⊤}
+use Rattle.stream_buf.specs.Receiving.{laid, is_taken}
 use Rattle.tcp_segment.specs.Wire.{wire}
 use Rattle.tcp_state.specs.declared.emission.Due.{Due}
 use Rattle.tcp_state.specs.declared.emission.Due.TheVariants.{Syn, Text, Fin}
 use Rattle.tcp_state.specs.Halves.{Receiving}
+use Rattle.tcp_state.specs.Stream.{buffer_of, distance_of, octets_within, octets_gained, after_octets}
 use Rattle.tcp_state.specs.View.{View, is_opening, is_syn_sent, awaits_fin_ack}
 use Rattle.tcp_state.specs.Edges.{Event, Hears}
 
@@ -30,6 +32,30 @@ pub record MeetsWindow (next edge first len : ℕ) : Type 0 where
 pub record AreNear (p q : ℕ) : Type 0 where
   pub one : p < q + 2 ^ 31
   pub other : q < p + 2 ^ 31
+
+-- those of a segment's octets that lie below the edge, by position, where the segment's first has this one
+abbrev pub brought : ℕ → ℕ → List ℕ → ℕ → Option ℕ
+brought first edge octets position = if nat_le first position && nat_lt position edge then slice_get octets (position - first) else None
+
+-- what such places have for a position, the first of them for RCV.NXT
+abbrev pub known_at : ℕ → List (Option ℕ) → ℕ → Option ℕ
+known_at next places position = slice_index_or places (position - next) None
+
+-- after the octets of a segment, what came from the old RCV.NXT on: what became readable, and behind it what is kept
+abbrev pub places_after : Receiving → ℕ → List ℕ → List (Option ℕ)
+places_after r number octets = map (λ octet. Some octet) (octets_gained r number octets) ++ (after_octets r number octets).kept
+
+-- the octets of a segment come into the buffer
+abbrev pub takes_octets : Receiving → ℕ → List ℕ → Bool
+takes_octets r number octets = is_taken (buffer_of r) (distance_of r number) (octets_within r number octets)
+
+-- what would have to be kept with the octets of a segment, or read
+abbrev pub kept_with : Receiving → ℕ → List ℕ → List (Option ℕ)
+kept_with r number octets = laid r.kept (distance_of r number) (octets_within r number octets)
+
+-- none of these places keeps an octet
+abbrev pub AreFree : List (Option ℕ) → Type 0
+AreFree places = (distance : ℕ) → slice_index_or places distance None ≡ None
 
 -- at whatever position the one number stands, the other stands there or less than 2^31 further on
 abbrev pub GoesOn : ℕ → ℕ → Type 0

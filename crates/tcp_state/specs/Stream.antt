@@ -1,6 +1,7 @@
 -- The stream part: what octets taken, sent, acknowledged, arrived and read make of the two halves. Nothing here knows of timers, of how
 -- much the peer takes, or of what goes out first; later rules for those leave this page as it is.
-use Rattle.std.specs.Prelude.{ℕ, zero, suc, ◌+◌, ◌-◌, ◌%◌, ◌^◌, ◌≤◌, ◌==◌, ◌&&◌, ◌||◌, nat_lt, nat_le, Bool, if◌then◌else◌, List, [], ◌++◌, length, take, drop}
+use Rattle.std.specs.Prelude.{◌≡◌, ℕ, zero, suc, ◌+◌, ◌-◌, ◌%◌, ◌^◌, ◌<◌, ◌≤◌, ◌==◌, ◌&&◌, ◌||◌, nat_lt, nat_le, Bool, if◌then◌else◌, List, [], ◌++◌, length, take, drop, replicate, None, Some, slice_index_or}
+use Rattle.stream_buf.specs.Receiving.{ReceiveView, joined, after_insert, forgotten}
 use Rattle.tcp_segment.specs.declared.TheConstants.{DEFAULT_MSS}
 use Rattle.tcp_segment.specs.Wire.{past}
 use Rattle.tcp_state.specs.Numbers.{is_before, later_number}
@@ -9,11 +10,19 @@ use Rattle.tcp_state.specs.Halves.{Sending, Receiving}
 
 -- nothing has come, and no window is advertised
 abbrev pub receiving_nothing : Receiving
-receiving_nothing = record { readable = []; rnext = 0; edge = 0 }
+receiving_nothing = record { readable = []; kept = replicate CAPACITY None; rnext = 0; edge = 0 }
+
+-- the buffer of the receiving half
+abbrev pub buffer_of : Receiving → ReceiveView
+buffer_of r = record { readable = r.readable; kept = r.kept; capacity = CAPACITY }
 
 -- the octets that are readable and those that the window advertised has room for never pass the buffer
 abbrev pub ReceivingFits : Receiving → Type 0
 ReceivingFits r = length r.readable + past r.edge r.rnext ≤ CAPACITY
+
+-- what is kept lies in the window advertised
+abbrev pub KeptInWindow : Receiving → Type 0
+KeptInWindow r = (distance octet : ℕ) → slice_index_or r.kept distance None ≡ Some octet → distance < past r.edge r.rnext
 
 -- how many octets can still be taken from the caller
 abbrev pub send_room : Sending → ℕ
@@ -60,21 +69,34 @@ is_acceptable r number (suc more) = is_in_window r number || is_in_window r ((nu
 abbrev pub after_syn : Receiving → ℕ → ℕ → Receiving
 after_syn r number advertised = let rnext = (number + 1) % 2 ^ 32 in record r { rnext = rnext; edge = (rnext + advertised) % 2 ^ 32 }
 
--- the octets of a segment that stand next in order: what lies before RCV.NXT and past the window advertised is cut
-abbrev pub octets_gained : Receiving → ℕ → List ℕ → List ℕ
-octets_gained r number octets = if is_before r.rnext number then [] else take (receive_window r) (drop (past r.rnext number) octets)
+-- how far past RCV.NXT the octets of a segment begin that are new: what lies before it is cut
+abbrev pub distance_of : Receiving → ℕ → ℕ
+distance_of r number = if is_before r.rnext number then past number r.rnext else 0
 
+-- those of a segment's octets that lie in the window: what lies before RCV.NXT and past the edge is cut
+abbrev pub octets_within : Receiving → ℕ → List ℕ → List ℕ
+octets_within r number octets =
+    if is_before r.rnext number then take (receive_window r - past number r.rnext) octets
+    else take (receive_window r) (drop (past r.rnext number) octets)
+
+-- the octets that become readable by a segment's: from RCV.NXT on, with all that is kept and follows without a gap
+abbrev pub octets_gained : Receiving → ℕ → List ℕ → List ℕ
+octets_gained r number octets = joined (buffer_of r) (distance_of r number) (octets_within r number octets)
+
+-- those of a segment's octets that lie in the window come into the buffer, and RCV.NXT moves over what becomes readable
 abbrev pub after_octets : Receiving → ℕ → List ℕ → Receiving
-after_octets r number octets = let new = octets_gained r number octets in record r { readable = r.readable ++ new; rnext = (r.rnext + length new) % 2 ^ 32 }
+after_octets r number octets =
+    let buffer = after_insert (buffer_of r) (distance_of r number) (octets_within r number octets) in
+    record r { readable = buffer.readable; kept = buffer.kept; rnext = (r.rnext + length (octets_gained r number octets)) % 2 ^ 32 }
 
 -- the number of a FIN stands next in order, and the window advertised has room for it
 abbrev pub stands_next : Receiving → ℕ → Bool
 stands_next r number = (number == r.rnext) && nat_lt 0 (receive_window r)
 
--- RCV.NXT moves over the peer's FIN
+-- RCV.NXT moves over the peer's FIN; no octet stands behind it, so nothing is kept any longer
 abbrev pub after_end : Receiving → Receiving
-after_end r = record r { rnext = (r.rnext + 1) % 2 ^ 32 }
+after_end r = record r { kept = forgotten r.kept; rnext = (r.rnext + 1) % 2 ^ 32 }
 
--- the caller read so many octets
+-- the caller read so many octets, and as many more may come
 abbrev pub after_read : Receiving → ℕ → Receiving
-after_read r count = record r { readable = drop count r.readable }
+after_read r count = record r { readable = drop count r.readable; kept = r.kept ++ replicate count None }

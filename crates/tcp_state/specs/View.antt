@@ -14,7 +14,8 @@ use Rattle.tcp_state.specs.declared.connection.Fate.TheVariants.{Stays, Removed}
 use Rattle.tcp_state.specs.declared.connection.Resend.{Resend}
 use Rattle.tcp_state.specs.declared.connection.Resend.TheVariants.{Idle, At, Due}
 use Rattle.tcp_state.specs.Halves.{Sending, Receiving}
-use Rattle.tcp_state.specs.Stream.{outstanding, sending_from, receiving_nothing, ReceivingFits}
+use Rattle.stream_buf.specs.Receiving.{IsReceiving}
+use Rattle.tcp_state.specs.Stream.{outstanding, sending_from, receiving_nothing, receive_window, buffer_of, ReceivingFits, KeptInWindow}
 
 pub record View : Type 0 where
   pub local : Endpoint
@@ -179,7 +180,7 @@ abbrev pub most_outstanding : View → ℕ
 most_outstanding v =
     if is_opening v.state || is_fin_next v then 1 else min (length v.sending.held) MSS
 
--- What holds of every connection. While it opens, nothing is held or readable, and nothing is held once our FIN is acknowledged or all is closed. At most
+-- What holds of every connection. While it opens, nothing is held or readable, and before the peer's SYN came no window is advertised; nothing is held once our FIN is acknowledged or all is closed. At most
 -- one segment is outstanding; its timer runs exactly while it is. A segment may have `LEAST_MSS` octets at least, so that what is held can always go out. An acknowledgement is owed once a SYN came, and none when all is closed.
 -- An error is pending, and a reset owed, only where all is closed; what its caller closed is closed on our side.
 pub record IsSound (v : View) : Type 0 where
@@ -189,6 +190,9 @@ pub record IsSound (v : View) : Type 0 where
   pub held : length v.sending.held ≤ (if is_opening v.state || is_write_finished v.state then 0 else CAPACITY)
   pub readable : length v.receiving.readable ≤ (if is_opening v.state then 0 else CAPACITY)
   pub window : ReceivingFits v.receiving
+  pub unheard : (is_syn_sent v.state && not (receive_window v.receiving == 0)) ≡ false
+  pub buffer : IsReceiving (buffer_of v.receiving)
+  pub kept : KeptInWindow v.receiving
   pub flight : outstanding v.sending ≤ most_outstanding v
   pub timer : is_idle v.resend ≡ (outstanding v.sending == 0)
   pub connection : is_listening v.state ≡ false

@@ -3,6 +3,7 @@
 ghost use Rattle.std.specs.Prelude.{◌≡◌, true, false, ◌&&◌, ◌||◌, not, if◌then◌else◌, IsTrue, ◌==◌};
 ghost use Rattle.tcp_state.specs.View.{is_opening, is_syn_sent, is_syn_received, is_closed, is_fin_next};
 ghost use Rattle.tcp_state.specs.Arrival.{after_segment, after_syn_ack, owing_ack, after_establishment, after_ack, is_read_on, after_window, after_text, after_acknowledging_segment, after_acceptable_segment, ends_by_syn, is_acceptable_to, fin_acknowledged, after_new_ack, after_fin, after_reset, reset_error, after_rst_in_syn_sent, after_rst, is_acting_reset, ends_by_reset, is_right_syn_ack, is_simultaneous_syn, after_simultaneous_syn, fate, after_segment_at, after_heard, is_lost, is_read, brings_more, after_lost, repeats_fin, is_rejected, ends_opening};
+ghost use Rattle.tcp_state.specs.declared.state.State.{State};
 ghost use Rattle.tcp_segment.specs.Segment.{smss_of};
 ghost use Rattle.tcp_state.specs.Stream.{is_new_ack, after_syn};
 ghost use Rattle.tcp_state.specs.Windows.{after_syn_heard};
@@ -241,16 +242,16 @@ impl Connection {
         let was_sent = self.sender.outstanding() != 0;
         self.take_syn(segment, if was_sent { CAPACITY as u16 } else { 0 });
         self.resend = if was_sent { Resend::Due } else { Resend::Idle };
-        self.state = State::SynReceived;
     }
 
-    /// Takes what the peer's SYN says. Our SYN advertised a window of so many octets to it.
+    /// Takes what the peer's SYN says, which leads to SYN-RECEIVED. Our SYN advertised a window of so many octets to it.
     fn take_syn(&mut self, syn: &TcpView<'_>, advertised: u16)
         requires { is_syn_sent self.old.state ≡ true }
-        ensures { self.new ≡ record self.old { sending = after_syn_heard self.old.sending syn.now.number syn.now.window (smss_of syn.now); receiving = after_syn self.old.receiving syn.now.number advertised } }
+        ensures { self.new ≡ record self.old { state = State.SynReceived; sending = after_syn_heard self.old.sending syn.now.number syn.now.window (smss_of syn.now); receiving = after_syn self.old.receiving syn.now.number advertised } }
     {
         self.sender.hear_syn(syn.number(), syn.window(), syn.smss());
         self.receiver.hear_syn(syn.number(), advertised);
+        self.state = State::SynReceived;
     }
 
     /// The peer's SYN acknowledges ours.
@@ -329,7 +330,7 @@ impl Connection {
         self.resend = Resend::Idle;
     }
 
-    /// Takes the octets that stand next, and owes an ACK for any.
+    /// Takes the octets, those ahead of a gap to be kept, and owes an ACK for any.
     fn hear_octets(&mut self, segment: &TcpView<'_>)
         requires { is_opening self.old.state ≡ false }
         ensures { self.new ≡ after_text self.old segment.now }
@@ -342,20 +343,19 @@ impl Connection {
         self.receiver.take(segment.number(), octets);
     }
 
-    /// Takes a FIN that stands next behind the octets in place, and owes an ACK for it.
+    /// Takes a FIN that stands next behind the octets in place, and owes an ACK for it, and for one ahead of a gap too.
     fn hear_fin(&mut self, segment: &TcpView<'_>)
         requires { is_opening self.old.state ≡ false }
         ensures { self.new ≡ after_fin self.old segment.now }
     {
-        let number = segment.number() + segment.payload().len() as u32;
-        if !segment.flags().fin
-            || !self.state.is_receiving()
-            || !self.receiver.stands_next(number)
-        {
+        if !segment.flags().fin || !self.state.is_receiving() {
             return;
         }
-        self.receiver.hear_end();
-        self.state = self.state.beyond_end();
         self.owes_ack = true;
+        let number = segment.number() + segment.payload().len() as u32;
+        if self.receiver.stands_next(number) {
+            self.receiver.hear_end();
+            self.state = self.state.beyond_end();
+        }
     }
 }

@@ -5,6 +5,7 @@ ghost use Rattle.tcp_state.specs.declared.buffers.TheConstants.{CAPACITY};
 
 use std::alloc::{AllocError, Global};
 use std::marker::Model;
+use stream_buf::RecvBuf;
 
 /// The octets that each of a connection's two buffers holds at most.
 pub const CAPACITY: usize = 65_535;
@@ -15,20 +16,21 @@ pub const CAPACITY: usize = 65_535;
 #[derive(Drop)]
 pub struct Buffers {
     pub(crate) send: Vec<u8>,
-    pub(crate) receive: Vec<u8>,
+    pub(crate) receive: RecvBuf,
 }
 
 impl Model for Buffers {
     ghost use Rattle.std.specs.Prelude.{◌≡◌, ◌≤◌, []};
     ghost use Rattle.std.specs.Vec.{vec_capacity};
+    ghost use Rattle.stream_buf.specs.Receiving.{nothing_received};
     ghost use Rattle.tcp_state.specs.declared.buffers.TheConstants.{CAPACITY};
     ghost use Rattle.tcp_state.specs.Halves.{Room};
 
     ghost Value = { Room };
 
-    ghost view = { λ b. record { send = vec_capacity b.send; receive = vec_capacity b.receive } };
+    ghost view = { λ b. record { send = vec_capacity b.send; receive = b.receive.capacity } };
 
-    ghost invariant = { λ b. (b.send.items ≡ []) × (CAPACITY ≤ vec_capacity b.send) × (b.receive.items ≡ []) × (CAPACITY ≤ vec_capacity b.receive) };
+    ghost invariant = { λ b. (b.send.items ≡ []) × (CAPACITY ≤ vec_capacity b.send) × (b.receive ≡ nothing_received CAPACITY) };
 }
 
 impl Buffers {
@@ -38,7 +40,7 @@ impl Buffers {
         ensures receive { IfOk result (λ buffers. buffers.receive ≡ CAPACITY) }
     {
         let send = Vec::with_capacity(alloc, CAPACITY)?;
-        let receive = Vec::with_capacity(alloc, CAPACITY)?;
+        let receive = RecvBuf::with_capacity(alloc, CAPACITY)?;
         Ok(Buffers { send, receive })
     }
 }

@@ -1,7 +1,7 @@
 //! What is due, and how it goes out (RFC 9293 section 3.8).
 
 ghost use Rattle.std.specs.Prelude.{◌≡◌, ◌+◌, ◌<◌, ◌≤◌, ◌++◌, length, drop, IfSome, MatchOption, option_map, min, if◌then◌else◌, true, false, Some};
-ghost use Rattle.tcp_state.specs.View.{is_opening, is_due, most_outstanding};
+ghost use Rattle.tcp_state.specs.View.{is_opening, is_syn_sent, is_due, most_outstanding};
 ghost use Rattle.tcp_state.specs.Due.{MayGoOut, first_due, again, flags_of, number_of, octets_of, window_of, head_of, segment_octets, emitted_len, after_emitted, after_ack_paid, after_numbers};
 
 use crate::connection::{Connection, Resend};
@@ -210,6 +210,7 @@ impl Connection {
 
     /// An acknowledgement went out, and advertised the whole room.
     fn pay_ack(&mut self)
+        requires { is_syn_sent self.old.state ≡ false }
         ensures { self.new ≡ after_ack_paid self.old }
     {
         self.receiver.advertise();

@@ -1,6 +1,6 @@
 //! Laws over the definitions alone: functions with nothing to do, whose contracts are the laws.
 
-ghost use Rattle.std.specs.Prelude.{◌≡◌, ℕ, ◌+◌, ◌-◌, ◌<◌, ◌≤◌, ◌==◌, ◌≢◌, nat_lt, ◌^◌, ◌⊎◌, ◌↔◌, ◌||◌, List, [], ◌++◌, slice_get, length, true, false, if◌then◌else◌, Some, None, is_some};
+ghost use Rattle.std.specs.Prelude.{◌≡◌, ℕ, ◌+◌, ◌-◌, ◌<◌, ◌≤◌, ◌==◌, ◌≢◌, nat_lt, ◌^◌, ◌⊎◌, ◌↔◌, ◌||◌, List, ◌++◌, slice_index_or, length, true, false, if◌then◌else◌, Some, None, is_some};
 ghost use Rattle.ipv4.specs.declared.addr.Endpoint.{Endpoint};
 ghost use Rattle.tcp_segment.specs.Segment.{Segment, span_of};
 ghost use Rattle.tcp_state.specs.declared.calls.Refusal.{Refusal};
@@ -13,9 +13,11 @@ ghost use Rattle.tcp_state.specs.View.{View, IsSound, is_closed, is_syn_sent, is
 ghost use Rattle.tcp_segment.specs.Wire.{wire, IsBefore};
 ghost use Rattle.tcp_state.specs.Numbers.{is_before};
 ghost use Rattle.tcp_state.specs.Halves.{Sending, Receiving};
-ghost use Rattle.tcp_state.specs.Stream.{octets_gained};
+ghost use Rattle.std.specs.Option.{option_or};
+ghost use Rattle.stream_buf.specs.Receiving.{ranges, IsReceiving};
+ghost use Rattle.tcp_state.specs.Stream.{buffer_of, octets_gained, after_octets};
 ghost use Rattle.tcp_state.specs.Windows.{updates_window};
-ghost use Rattle.tcp_state.specs.Positions.{ReceivesAt, IsNear, MeetsWindow, AreNear, NeverBack, HasNumber, HasToSend, takes_numbers};
+ghost use Rattle.tcp_state.specs.Positions.{ReceivesAt, IsNear, MeetsWindow, AreNear, brought, known_at, places_after, takes_octets, kept_with, AreFree, NeverBack, HasNumber, HasToSend, takes_numbers};
 ghost use Rattle.tcp_state.specs.Arrival.{fate, is_acceptable_to, is_receiving, is_read, after_ack, after_segment_at};
 ghost use Rattle.tcp_state.specs.Due.{first_due};
 ghost use Rattle.tcp_state.specs.Unreachable.{IsRefused};
@@ -97,17 +99,29 @@ pub fn acceptable_segments_meet_the_window()
         → after_segment_at v s now ≡ record v { owes_ack = (after_segment_at v s now).owes_ack; since = (after_segment_at v s now).since } }
 {}
 
-/// Which octets are gained, by positions (RFC 9293 section 3.10.7.4, seventh): where a segment begins at RCV.NXT or before it, its octets at RCV.NXT or past it
-/// and before the edge, each in its place, and else none. Nothing else of a segment can be read, and all of that where the segment is read to its octets.
-pub fn octets_in_the_window_are_gained()
-    ensures each { (initial next edge first position : ℕ) (r : Receiving) (octets : List ℕ) → ReceivesAt initial next edge r → first ≤ next → next < first + 2 ^ 31 → next ≤ position
-        → slice_get (octets_gained r (wire initial first) octets) (position - next) ≡ (if nat_lt position edge then slice_get octets (position - first) else None) }
-    ensures gap { (initial next edge first : ℕ) (r : Receiving) (octets : List ℕ) → ReceivesAt initial next edge r → next < first → first < next + 2 ^ 31
-        → octets_gained r (wire initial first) octets ≡ [] }
+/// What the octets of a segment make known, by positions (RFC 9293 section 3.10.7.4, seventh): of each position from RCV.NXT on the segment's octet, where it has one that lies before the
+/// edge, and else what was kept for it. What is known without a gap can be read, so that RCV.NXT is the first position of which nothing is known. A segment that begins at RCV.NXT or before it is
+/// always taken; one that isn't would need a 33rd range, and changes nothing. No segment makes anything else readable or kept; one that is read to its octets makes all of that so, but behind a
+/// FIN that counts nothing is kept.
+pub fn octets_in_the_window_are_taken()
+    ensures each { (initial next edge first position : ℕ) (r : Receiving) (octets : List ℕ) → ReceivesAt initial next edge r → edge ≤ next + length r.kept → AreNear first next
+        → takes_octets r (wire initial first) octets ≡ true → next ≤ position
+        → known_at next (places_after r (wire initial first) octets) position ≡ option_or (brought first edge octets position) (known_at next r.kept position) }
+    ensures gap { (r : Receiving) (number : ℕ) (octets : List ℕ) → IsReceiving (buffer_of r) → slice_index_or (after_octets r number octets).kept 0 None ≡ None }
+    ensures first { (initial next edge first : ℕ) (r : Receiving) (octets : List ℕ) → ReceivesAt initial next edge r → first ≤ next → next < first + 2 ^ 31
+        → takes_octets r (wire initial first) octets ≡ true }
+    ensures refused { (r : Receiving) (number : ℕ) (octets : List ℕ) → r.rnext < 2 ^ 32 → takes_octets r number octets ≡ false
+        → (after_octets r number octets ≡ r) × (32 < ranges (kept_with r number octets)) }
     ensures alone { (v : View) (s : Segment) (now : Moment) → ((after_segment_at v s now).receiving.readable ≡ v.receiving.readable)
         ⊎ ((after_segment_at v s now).receiving.readable ≡ v.receiving.readable ++ octets_gained v.receiving s.number s.octets) }
-    ensures all { (v : View) (s : Segment) (now : Moment) → v.released ≡ false → is_receiving v.state ≡ true → is_read v s ≡ true
+    ensures all { (v : View) (s : Segment) (now : Moment) → IsSound v → v.released ≡ false → is_receiving v.state ≡ true → is_read v s ≡ true
         → (after_segment_at v s now).receiving.readable ≡ v.receiving.readable ++ octets_gained v.receiving s.number s.octets }
+    ensures kept_alone { (v : View) (s : Segment) (now : Moment) → ((after_segment_at v s now).receiving.kept ≡ v.receiving.kept)
+        ⊎ (((after_segment_at v s now).receiving.kept ≡ (after_octets v.receiving s.number s.octets).kept)
+        ⊎ ((s.flags.fin ≡ true) × AreFree (after_segment_at v s now).receiving.kept)) }
+    ensures kept_all { (v : View) (s : Segment) (now : Moment) → IsSound v → v.released ≡ false → is_receiving v.state ≡ true → is_read v s ≡ true
+        → ((after_segment_at v s now).receiving.kept ≡ (after_octets v.receiving s.number s.octets).kept)
+        ⊎ ((s.flags.fin ≡ true) × AreFree (after_segment_at v s now).receiving.kept) }
 {}
 
 /// A reset acts only in SYN-SENT where it acknowledges all that was sent, and later only at RCV.NXT exactly, where one without octets always acts; any

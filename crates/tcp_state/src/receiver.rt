@@ -1,47 +1,50 @@
-//! The receiving half: what came in order and the caller has not read (RFC 9293 section 3.3.1).
+//! The receiving half: what came in order and the caller has not read, and what came ahead of a gap (RFC 9293 section 3.3.1).
 
-ghost use Rattle.std.specs.Prelude.{◌≡◌, ◌+◌, ◌-◌, ◌≤◌, ◌<◌, ◌^◌, ◌++◌, ◌==◌, [], length, take, drop, min};
-ghost use Rattle.std.specs.Vec.{vec_capacity};
+ghost use Rattle.std.specs.Prelude.{◌≡◌, ◌+◌, ◌≤◌, ◌<◌, ◌++◌, ◌==◌, length, take, drop, min};
+ghost use Rattle.stream_buf.specs.Receiving.{nothing_received, IsReceiving};
 ghost use Rattle.tcp_state.specs.Halves.{Receiving};
-ghost use Rattle.tcp_state.specs.Stream.{receive_window, is_in_window, is_acceptable, receiving_nothing, after_syn, after_octets, after_read, stands_next, after_end, ReceivingFits};
+ghost use Rattle.tcp_state.specs.Stream.{receive_window, is_in_window, is_acceptable, receiving_nothing, buffer_of, after_syn, distance_of, octets_within, after_octets, after_read, stands_next, after_end, ReceivingFits, KeptInWindow};
 ghost use Rattle.tcp_state.specs.Windows.{receive_room, after_advertisement};
 
 use crate::buffers::CAPACITY;
 use std::marker::Model;
+use stream_buf::RecvBuf;
 use tcp_segment::Seq;
 
 /// The receiving half of a connection.
 #[derive(Drop)]
 pub(crate) struct Receiver {
-    readable: Vec<u8>,
+    buffer: RecvBuf,
     rnext: Seq,
     edge: Seq,
 }
 
 impl Model for Receiver {
-    ghost use Rattle.std.specs.Prelude.{◌≤◌};
-    ghost use Rattle.std.specs.Vec.{vec_capacity};
+    ghost use Rattle.std.specs.Prelude.{◌≡◌};
+    ghost use Rattle.stream_buf.specs.Receiving.{IsReceiving};
     ghost use Rattle.tcp_state.specs.Halves.{Receiving};
-    ghost use Rattle.tcp_state.specs.Stream.{ReceivingFits};
+    ghost use Rattle.tcp_state.specs.Received.{received_by};
+    ghost use Rattle.tcp_state.specs.Stream.{buffer_of, ReceivingFits, KeptInWindow};
     ghost use Rattle.tcp_state.specs.declared.buffers.TheConstants.{CAPACITY};
 
     ghost Value = { Receiving };
 
-    ghost view = { λ r. record { readable = r.readable.items; rnext = r.rnext.0; edge = r.edge.0 } };
+    ghost view = { received_by };
 
-    ghost invariant = { λ r. ReceivingFits (record { readable = r.readable.items; rnext = r.rnext.0; edge = r.edge.0 }) × (CAPACITY ≤ vec_capacity r.readable) };
+    ghost invariant = { λ r. (r.buffer.capacity ≡ CAPACITY) × ReceivingFits (received_by r) × IsReceiving (buffer_of (received_by r)) × KeptInWindow (received_by r) };
 }
 
 impl Receiver {
     /// Nothing has come, and no window is advertised.
-    pub(crate) fn new(buffer: Vec<u8>) -> Receiver
-        requires empty { buffer.items ≡ [] }
-        requires room { CAPACITY ≤ vec_capacity buffer }
+    pub(crate) fn new(buffer: RecvBuf) -> Receiver
+        requires { buffer ≡ nothing_received CAPACITY }
         ensures value { result ≡ receiving_nothing }
         ensures fits { ReceivingFits result }
+        ensures buffer { IsReceiving (buffer_of result) }
+        ensures kept { KeptInWindow result }
     {
         Receiver {
-            readable: buffer,
+            buffer,
             rnext: Seq(0),
             edge: Seq(0),
         }
@@ -51,7 +54,7 @@ impl Receiver {
     pub(crate) fn is_empty(&self) -> bool
         ensures { result ≡ (length self.now.readable == 0) }
     {
-        self.readable.is_empty()
+        self.buffer.readable_len() == 0
     }
 
     /// RCV.NXT, the number that is expected next.
@@ -65,7 +68,7 @@ impl Receiver {
     pub(crate) fn room(&self) -> u16
         ensures { result ≡ receive_room self.now }
     {
-        (CAPACITY - self.readable.len()) as u16
+        self.buffer.room() as u16
     }
 
     /// RCV.WND, the window that is advertised and not used up.
@@ -75,11 +78,14 @@ impl Receiver {
         self.edge.past(self.rnext)
     }
 
-    /// The peer's SYN has this number. `advertised` is the window that it knows.
+    /// The peer's SYN has this number. `advertised` is the window that it knows; none was advertised before.
     pub(crate) fn hear_syn(&mut self, number: Seq, advertised: u16)
-        requires { length self.old.readable + advertised ≤ CAPACITY }
+        requires room { length self.old.readable + advertised ≤ CAPACITY }
+        requires first { receive_window self.old ≡ 0 }
         ensures after { self.new ≡ after_syn self.old number.0 advertised }
         ensures fits { ReceivingFits self.new }
+        ensures buffer { IsReceiving (buffer_of self.new) }
+        ensures kept { KeptInWindow self.new }
     {
         self.rnext = number + 1;
         self.edge = self.rnext + u32::from(advertised);
@@ -106,20 +112,46 @@ impl Receiver {
         }
     }
 
-    /// Takes the octets that stand next in order, within the window that is advertised.
+    /// Takes those octets that lie in the window that is advertised. Those in order can be read, with all that was kept and follows them
+    /// without a gap, and those ahead of a gap are kept.
     pub(crate) fn take(&mut self, number: Seq, octets: &[u8])
-        requires { length octets.now < 2 ^ 31 }
         ensures after { self.new ≡ after_octets self.old number.0 octets.now }
         ensures fits { ReceivingFits self.new }
+        ensures buffer { IsReceiving (buffer_of self.new) }
+        ensures kept { KeptInWindow self.new }
+    {
+        let distance = self.distance(number);
+        let within = self.within(number, octets);
+        if within.is_empty() {
+            return;
+        }
+        let count = self.buffer.insert_at(distance, within);
+        self.rnext = self.rnext + count as u32;
+    }
+
+    /// How far past RCV.NXT the octets of a segment begin that are new.
+    fn distance(&self, number: Seq) -> usize
+        ensures { result ≡ distance_of self.now number.0 }
     {
         if self.rnext.is_before(number) {
-            return;
+            number.past(self.rnext) as usize
+        } else {
+            0
+        }
+    }
+
+    /// Those of a segment's octets that lie in the window: what lies before RCV.NXT and past the edge is cut.
+    fn within<'a>(&self, number: Seq, octets: &'a [u8]) -> &'a [u8]
+        ensures { result.now ≡ octets_within self.now number.0 octets.now }
+    {
+        let window = self.window() as usize;
+        if self.rnext.is_before(number) {
+            let room = window.saturating_sub(number.past(self.rnext) as usize);
+            return &octets[..octets.len().min(room)];
         }
         let known = (self.rnext.past(number) as usize).min(octets.len());
         let fresh = &octets[known..];
-        let within = &fresh[..fresh.len().min(self.window() as usize)];
-        self.readable.extend_from_slice(within).unwrap();
-        self.rnext = self.rnext + within.len() as u32;
+        &fresh[..fresh.len().min(window)]
     }
 
     /// Whether the number of a FIN stands next in order, within the window that is advertised.
@@ -129,12 +161,16 @@ impl Receiver {
         number == self.rnext && self.window() > 0
     }
 
-    /// Takes the peer's FIN, which stands next and for which the window has room.
+    /// Takes the peer's FIN, which stands next and for which the window has room. No octet stands behind it, so nothing is kept any
+    /// longer.
     pub(crate) fn hear_end(&mut self)
         requires { 0 < receive_window self.old }
         ensures after { self.new ≡ after_end self.old }
         ensures fits { ReceivingFits self.new }
+        ensures buffer { IsReceiving (buffer_of self.new) }
+        ensures kept { KeptInWindow self.new }
     {
+        self.buffer.forget_kept();
         self.rnext = self.rnext + 1;
     }
 
@@ -144,17 +180,18 @@ impl Receiver {
         ensures octets { buffer.new ≡ take result self.old.readable ++ drop result buffer.old }
         ensures after { self.new ≡ after_read self.old result }
         ensures fits { ReceivingFits self.new }
+        ensures buffer { IsReceiving (buffer_of self.new) }
+        ensures kept { KeptInWindow self.new }
     {
-        let count = buffer.len().min(self.readable.len());
-        buffer[..count].copy_from_slice(&self.readable[..count]);
-        self.readable.drain(..count);
-        count
+        self.buffer.read(buffer)
     }
 
     /// The whole room is advertised.
     pub(crate) fn advertise(&mut self)
         ensures after { self.new ≡ after_advertisement self.old }
         ensures fits { ReceivingFits self.new }
+        ensures buffer { IsReceiving (buffer_of self.new) }
+        ensures kept { KeptInWindow self.new }
     {
         self.edge = self.rnext + u32::from(self.room());
     }

@@ -95,7 +95,7 @@ between-parts local peer c l id e =
 -- What a segment that arrives makes of one end.
 
 same-timed : (c : View) (s : Segment) (now : Moment) → SameStream (after_segment c s) (timed c s now (after_segment c s))
-same-timed c s now = record { state = refl; held = refl; una = refl; nxt = refl; readable = refl; rnext = refl; pending_error = refl; released = λ e. e }
+same-timed c s now = record { state = refl; held = refl; una = refl; nxt = refl; readable = refl; kept = refl; rnext = refl; pending_error = refl; released = λ e. e }
 
 -- where no octets are lost, the segment is heard, and then the clock is noted
 not-lost : (limit : ℕ) (c : View) (s : Segment) (now : Moment) (t : Account) (there : End) (out arrivals : List Emission) → (x : Fate) → Meets limit (pairing (end_with (remains x (after_segment c s)) t) there out arrivals)

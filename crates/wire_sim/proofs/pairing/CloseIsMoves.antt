@@ -71,7 +71,7 @@ projects-unopened limit hs ts a b own own' other bag openings trace trace' id ad
 -- What closing makes of the end of a connection.
 
 same-released : (c : View) (now : Moment) → SameStream (connection_calls.after_shutdown c) (connection_calls.after_release c now)
-same-released c now = record { state = refl; held = refl; una = refl; nxt = refl; readable = refl; rnext = refl; pending_error = refl; released = λ e. let bad : true ≡ false = e in cc }
+same-released c now = record { state = refl; held = refl; una = refl; nxt = refl; readable = refl; kept = refl; rnext = refl; pending_error = refl; released = λ e. let bad : true ≡ false = e in cc }
 
 closing : (limit : ℕ) (c : View) (l : Option SocketId) (now : Moment) (t : Account) → IsSound c
     → EndGoes limit (end_with (Present c) t) (end_with (presence_in (settle (connection_calls.close_fate c) (role_after_close now) (Connected c l))) (record t { closed = true }))

@@ -1,0 +1,19 @@
+use Rattle.std.proofs.Common.{rules, ◌≡◌, ◌<◌, ◌^◌, subst}
+use Rattle.tcp_state.specs.Halves.{Receiving}
+use Rattle.tcp_state.specs.Received.{received_by}
+use Rattle.tcp_state.specs.Stream.{receive_window, after_end}
+use Rattle.tcp_state.proofs.Keeping.{IsKeeping, end_keeps}
+use Rattle.tcp_state.proofs.receiver.Receiver.hear_end.Goals as goal
+
+pub invariant_of-self : goal.invariant_of-self
+invariant_of-self c =
+    let r : Receiving = received_by c.self.inside in
+    let small : r.rnext < 2 ^ 32 = search rules in
+    let is : IsKeeping r = record { small = small; fits = c.self.invariant.1; buffer = c.self.invariant.2; kept = c.self.invariant.3 } in
+    let room : 0 < receive_window r = search rules in
+    let new : after_end r ≡ received_by (record { buffer = c.forget_kept.new.self; rnext = c.add-self-inside.result; edge = c.self.inside.edge }) = search rules in
+    let k = subst IsKeeping new (end_keeps r is room) in
+    (search rules, k.fits, k.buffer, k.kept)
+
+pub returns-clause-buffer : goal.returns-clause-buffer
+returns-clause-buffer c = (invariant_of-self c).2
