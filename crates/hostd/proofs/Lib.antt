@@ -5,3 +5,4 @@ pub mod StreamLemmas
 pub mod PlayLemmas
 pub mod RunLemmas
 pub mod HexLemmas
+pub mod CapturedLemmas

@@ -1,5 +1,5 @@
 -- clap's meaning of the program's command.
-use Rattle.std.proofs.Common.{◌≡◌, List, [], Option, Some, None, Bool, true, false, option_map, if◌then◌else◌, Result, Ok, Err, IfErr, subst, refl, ap, sym, ◌∙◌}
+use Rattle.std.proofs.Common.{◌≡◌, List, [], Option, Some, None, Bool, true, false, ◌||◌, option_map, if◌then◌else◌, Result, Ok, Err, IfErr, subst, refl, ap, sym, ◌∙◌}
 use Rattle.std.specs.Str.{bytes_eq}
 use Rattle.std.specs.Result.{IsErrAnd}
 use Rattle.std.proofs.lemmas.Slice.Eq.{bytes_eq-Decides}
@@ -13,7 +13,7 @@ use Rattle.clap.specs.declared.error.Error.{Error}
 use Rattle.clap.proofs.OnLiterals.{clap_on_literals}
 use Rattle.clap.specs.declared.parser.matches.ArgMatches.{ArgMatches}
 use Rattle.clap.specs.declared.parser.matches.ArgMatches.TheViews.{out-ArgMatches}
-use Rattle.hostd.specs.Line.{hostd_command, file_of}
+use Rattle.hostd.specs.Line.{hostd_command, value_of}
 
 pub simple : is_simple hostd_command ≡ true
 unfolding clap_on_literals
@@ -34,25 +34,25 @@ when : (b : Bool) (x : Option Text) → b ≡ true → (if b then x else None) �
 when true x is = refl
 when false x is = cc
 
--- where it is this command, the file is that of its rows
-pub file_given : (command file : Text) (met : Option (Text × List Row)) (rows : List Row) → option_map (λ p. p.0) met ≡ Some command →
-    option_map (λ p. p.1) met ≡ Some rows → file_of command file met ≡ first_of file rows
-file_given command file None rows named has = cc
-file_given command file (Some p) rows named has =
+-- where it is this command, the value is that in its rows
+pub value_given : (command id : Text) (met : Option (Text × List Row)) (rows : List Row) → option_map (λ p. p.0) met ≡ Some command →
+    option_map (λ p. p.1) met ≡ Some rows → value_of command id met ≡ first_of id rows
+value_given command id None rows named has = cc
+value_given command id (Some p) rows named has =
     let name : p.0 ≡ command = cc in
     let given : p.1 ≡ rows = cc in
-    ap (λ n. file_of command file (Some (n, p.1))) name ∙ when (bytes_eq command command) (first_of file p.1) ((bytes_eq-Decides command command).1 refl)
-    ∙ ap (first_of file) given
+    ap (λ n. value_of command id (Some (n, p.1))) name ∙ when (bytes_eq command command) (first_of id p.1) ((bytes_eq-Decides command command).1 refl)
+    ∙ ap (first_of id) given
 
 unless : (b : Bool) (x : Option Text) → (b ≡ true → ⊥) → (if b then x else None) ≡ None
 unless true x never = absurd (never refl)
 unless false x never = refl
 
 -- where it isn't, there is none
-pub no_file : (command file : Text) (met : Option (Text × List Row)) → (option_map (λ p. p.0) met ≡ Some command → ⊥) → file_of command file met ≡ None
-no_file command file None other = refl
-no_file command file (Some p) other =
-    unless (bytes_eq p.0 command) (first_of file p.1)
+pub no_value : (command id : Text) (met : Option (Text × List Row)) → (option_map (λ p. p.0) met ≡ Some command → ⊥) → value_of command id met ≡ None
+no_value command id None other = refl
+no_value command id (Some p) other =
+    unless (bytes_eq p.0 command) (first_of id p.1)
     (λ same. other (ap Some ((bytes_eq-Decides p.0 command).0 same)))
 
 -- what holds of the error that a `?` passes on
@@ -66,3 +66,7 @@ kind_along a b words e same has = let P : App → Type 0 = λ x. HasKind (fault_
 
 pub none_along : (a b : App) (words : List Text) → a ≡ b → fault_of a words ≡ [] → fault_of b words ≡ []
 none_along a b words same none = let P : App → Type 0 = λ x. fault_of x words ≡ [] in subst P same none
+
+pub or_false : (b : Bool) → (b || false) ≡ b
+or_false true = refl
+or_false false = refl

@@ -88,7 +88,7 @@ played_none world old before = ([], starts, ([], append-nil before, Keeps-append
     kept (Some xs) = refl
 
 -- a line behind what is on its way
-added_more : (old mid new : Option (List ℕ)) (before text line waiting waiting' : List ℕ) → TakesAllBut old mid (before ++ text) waiting →
+pub added_more : (old mid new : Option (List ℕ)) (before text line waiting waiting' : List ℕ) → TakesAllBut old mid (before ++ text) waiting →
     TakesAllBut mid new (waiting ++ line) waiting' → TakesAllBut old new (before ++ (text ++ line)) waiting'
 added_more old mid new before text line waiting waiting' first second = (
   first.0 ++ second.0,
@@ -97,7 +97,7 @@ added_more old mid new before text line waiting waiting' first second = (
 )
 
 -- a front of it
-added_front : (old mid new : Option (List ℕ)) (before text line waiting : List ℕ) → TakesAllBut old mid (before ++ text) waiting →
+pub added_front : (old mid new : Option (List ℕ)) (before text line waiting : List ℕ) → TakesAllBut old mid (before ++ text) waiting →
     TakesFront mid new (waiting ++ line) → TakesFront old new (before ++ (text ++ line))
 added_front old mid new before text line waiting first second =
     let more = added_more old mid new before text line waiting second.1 first (second.0, second.2, second.3) in

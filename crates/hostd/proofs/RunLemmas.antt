@@ -7,7 +7,7 @@ use Rattle.wire_sim.specs.WorldView.{WorldView, fresh_world}
 use Rattle.script.proofs.HostLemmas.{set_up, is_set_up}
 use Rattle.script.specs.declared.lines.Command.{Command}
 use Rattle.hostd.specs.declared.fault.TextFault.{TextFault}
-use Rattle.hostd.specs.declared.fault.TextFault.TheVariants.{Line, TooLong, NotHex, Read, Write, NoMemory}
+use Rattle.hostd.specs.declared.fault.TextFault.TheVariants.{Line, TooLong, NotHex, Header, Record, Read, Write, NoMemory}
 use Rattle.std.specs.Option.{IsSomeAnd}
 use Rattle.script.specs.Words.{lines_of}
 use Rattle.script.specs.Script.{limit_of, limits_of, commands_of}
@@ -16,7 +16,7 @@ use Rattle.hostd.specs.Streams.{TakesFront, TakesAllBut}
 use Rattle.hostd.specs.Play.{HasPrinted, starts, IsPlayed, IsCutShort, IsLeft, IsFirst, limit_by, limit_line, IsPrinted, IsTold, TakesPrinted, TakesPrintedBy}
 use Rattle.hostd.proofs.StreamLemmas.{Appends-more, Keeps-appends}
 
-kept : (o : Option (List ℕ)) → Keeps o o
+pub kept : (o : Option (List ℕ)) → Keeps o o
 kept None = tt
 kept (Some xs) = refl
 
@@ -42,12 +42,12 @@ printed_from limit world w commands before text first limited printed =
     (text, world, w, first, printed, ap (λ b. b ++ text) limited)
 
 -- what waited went too
-all_taken : (old mid new : Option (List ℕ)) (octets waiting : List ℕ) → TakesAllBut old mid octets waiting → Appends mid new waiting → Appends old new octets
+pub all_taken : (old mid new : Option (List ℕ)) (octets waiting : List ℕ) → TakesAllBut old mid octets waiting → Appends mid new waiting → Appends old new octets
 all_taken old mid new octets waiting first second =
     subst (λ l. Appends old new l) (sym first.1) (Appends-more old mid new first.0 waiting first.2 second)
 
 -- or a front of it
-front_taken : (old mid new : Option (List ℕ)) (octets waiting : List ℕ) → TakesAllBut old mid octets waiting → TakesFront mid new waiting →
+pub front_taken : (old mid new : Option (List ℕ)) (octets waiting : List ℕ) → TakesAllBut old mid octets waiting → TakesFront mid new waiting →
     TakesFront old new octets
 front_taken old mid new octets waiting first second = (
   first.0 ++ second.0,
@@ -62,6 +62,8 @@ left_but : (fault : TextFault) (old new : Option (List ℕ)) (octets waiting : L
 left_but (Line n) old new octets waiting other left = left
 left_but TooLong old new octets waiting other left = left
 left_but NotHex old new octets waiting other left = left
+left_but (Header f) old new octets waiting other left = left
+left_but (Record f) old new octets waiting other left = left
 left_but Read old new octets waiting other left = left
 left_but Write old new octets waiting other left = absurd (other refl)
 left_but NoMemory old new octets waiting other left = left
@@ -70,6 +72,8 @@ told_as : (fault : TextFault) (old new : Option (List ℕ)) (printed : List ℕ)
 told_as (Line n) old new printed other all = inl all
 told_as TooLong old new printed other all = inl all
 told_as NotHex old new printed other all = inl all
+told_as (Header f) old new printed other all = inl all
+told_as (Record f) old new printed other all = inl all
 told_as Read old new printed other all = inl all
 told_as Write old new printed other all = absurd (other refl)
 told_as NoMemory old new printed other all = inl all
@@ -136,6 +140,8 @@ is_write (Ok done) test = cc
 is_write (Err (Line n)) test = cc
 is_write (Err TooLong) test = cc
 is_write (Err NotHex) test = cc
+is_write (Err (Header f)) test = cc
+is_write (Err (Record f)) test = cc
 is_write (Err Read) test = cc
 is_write (Err Write) test = refl
 is_write (Err NoMemory) test = cc
@@ -153,6 +159,8 @@ none_told fault limit commands old other =
     none (Line n) o = inr (Keeps-appends old old (kept old))
     none TooLong o = inr (Keeps-appends old old (kept old))
     none NotHex o = inr (Keeps-appends old old (kept old))
+    none (Header f) o = inr (Keeps-appends old old (kept old))
+    none (Record f) o = inr (Keeps-appends old old (kept old))
     none Read o = inr (Keeps-appends old old (kept old))
     none Write o = absurd (o refl)
     none NoMemory o = inr (Keeps-appends old old (kept old))

@@ -8,7 +8,7 @@ use Rattle.script.specs.declared.fault.ScriptFault.{ScriptFault}
 use Rattle.script.specs.declared.fault.ScriptFault.TheVariants as script
 use Rattle.hostd.specs.Sim.{fault_by, read_fails, write_fails_in, is_before_run, fault_of, IsDue, IsFaultDue}
 use Rattle.hostd.specs.declared.fault.TextFault.{TextFault}
-use Rattle.hostd.specs.declared.fault.TextFault.TheVariants.{Line, TooLong, NotHex, Read, Write, NoMemory}
+use Rattle.hostd.specs.declared.fault.TextFault.TheVariants.{Line, TooLong, NotHex, Header, Record, Read, Write, NoMemory}
 
 -- the fault that a `?` passes on
 pub passed_on : {A : Type 0} (r : Result A TextFault) (f : TextFault) → IsErrAnd r (λ e. e ≡ f) → r ≡ Err f
@@ -49,6 +49,8 @@ ran_due octets (Ok x) none faults = none
 ran_due octets (Err (Line n)) none faults = cc
 ran_due octets (Err TooLong) none faults = cc
 ran_due octets (Err NotHex) none faults = cc
+ran_due octets (Err (Header f)) none faults = cc
+ran_due octets (Err (Record f)) none faults = cc
 ran_due octets (Err Read) none faults = tt
 ran_due octets (Err Write) none faults = none
 ran_due octets (Err NoMemory) none faults = tt
@@ -77,6 +79,8 @@ ran_is_no_read (Ok x) faults = refl
 ran_is_no_read (Err (Line n)) faults = cc
 ran_is_no_read (Err TooLong) faults = cc
 ran_is_no_read (Err NotHex) faults = cc
+ran_is_no_read (Err (Header f)) faults = cc
+ran_is_no_read (Err (Record f)) faults = cc
 ran_is_no_read (Err Read) faults = cc
 ran_is_no_read (Err Write) faults = refl
 ran_is_no_read (Err NoMemory) faults = refl

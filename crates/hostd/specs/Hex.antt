@@ -7,7 +7,7 @@ use Rattle.decode.specs.declared.pairs.HexFault.TheVariants as hex
 use Rattle.decode.specs.Pairs.{octets_in}
 use Rattle.decode.specs.Layers.{Decodes}
 use Rattle.hostd.specs.declared.fault.TextFault.{TextFault}
-use Rattle.hostd.specs.declared.fault.TextFault.TheVariants.{Line, TooLong, NotHex, Read, Write, NoMemory}
+use Rattle.hostd.specs.declared.fault.TextFault.TheVariants.{Line, TooLong, NotHex, Header, Record, Read, Write, NoMemory}
 use Rattle.hostd.specs.Streams.{TakesFront}
 
 -- why a text gives no octets
@@ -24,6 +24,8 @@ abbrev pub IsUnspelled : List ℕ → TextFault → Type 0
 IsUnspelled text (Line n) = ⊥
 IsUnspelled text TooLong = ⊥
 IsUnspelled text NotHex = octets_in text ≡ None
+IsUnspelled text (Header fault) = ⊥
+IsUnspelled text (Record fault) = ⊥
 IsUnspelled text Read = ⊥
 IsUnspelled text Write = ⊥
 IsUnspelled text NoMemory = ⊤
@@ -38,3 +40,5 @@ TakesPrinted text (Err Read) old new = Appends old new []
 TakesPrinted text (Err NoMemory) old new = Appends old new []
 TakesPrinted text (Err TooLong) old new = ⊥
 TakesPrinted text (Err (Line n)) old new = ⊥
+TakesPrinted text (Err (Header fault)) old new = ⊥
+TakesPrinted text (Err (Record fault)) old new = ⊥

@@ -3,3 +3,4 @@ pub mod Sim
 pub mod Line
 pub mod Play
 pub mod Hex
+pub mod Captured

@@ -1,38 +1,56 @@
 -- What the words of a command line ask for, by clap's meaning of the program's command.
-use Rattle.std.specs.Prelude.{List, Option, Some, None, true, codes, option_and_then, if◌then◌else◌}
+use Rattle.std.specs.Prelude.{List, Option, Some, None, Bool, true, false, codes, option_and_then, if◌then◌else◌}
+use Rattle.std.specs.Option.{option_map_or}
 use Rattle.std.specs.Str.{bytes_eq}
 use Rattle.clap.specs.Words.{App, Row, Text, first_of, new_app, new_rule, with_rule, with_subcommand, subcommand_of}
+use Rattle.clap.specs.declared.builder.action.ArgAction.TheVariants.{SetTrue}
 use Rattle.hostd.specs.declared.request.Line.{Line}
-use Rattle.hostd.specs.declared.request.Line.TheVariants.{Sim, Decode}
+use Rattle.hostd.specs.declared.request.Line.TheVariants.{Sim, Decode, DecodeAll}
 
 -- a command with one file, which must be given
 abbrev pub file_command : Text → Text → App
 file_command command file = with_rule (new_app command) (record (new_rule file) { required = true })
 
--- `hostd`, and one of its commands: `sim SCRIPT` or `decode HEXFILE`
+-- a command with a flag more, which may be there or not
+abbrev pub with_flag : Text → App → App
+with_flag name command = with_rule command (record (new_rule name) { long = Some name; action = Some SetTrue })
+
+-- `hostd`, and one of its commands: `sim SCRIPT`, `decode FILE` or `decode --pcap FILE`
 abbrev pub hostd_command : App
 hostd_command =
     let bare = new_app (codes "hostd") in
     with_subcommand (with_subcommand (record bare { top = record bare.top { subcommand_required = true } })
-    (file_command (codes "sim") (codes "SCRIPT")).top) (file_command (codes "decode") (codes "HEXFILE")).top
+    (file_command (codes "sim") (codes "SCRIPT")).top) (with_flag (codes "pcap") (file_command (codes "decode") (codes "FILE"))).top
 
--- the file that a command names, where that is the command
-abbrev pub file_of : Text → Text → Option (Text × List Row) → Option Text
-file_of command file met = option_and_then (λ met. if bytes_eq met.0 command then first_of file met.1 else None) met
+-- what an argument of a command has for its value, where that is the command
+abbrev pub value_of : Text → Text → Option (Text × List Row) → Option Text
+value_of command id met = option_and_then (λ met. if bytes_eq met.0 command then first_of id met.1 else None) met
 
--- what may be asked for: to run the script in a file, or to print what the frame in a file says
+-- whether this is the value of a flag that is there, which clap calls `true`
+abbrev pub is_set : Option Text → Bool
+is_set value = option_map_or (λ text. bytes_eq text (codes "true")) value false
+
+-- what may be asked for: to run the script in a file, to print what the frame in a file says, or what the frames of the capture in one say
 pub data Asked : Type 0 where
   ToRun : Text → Asked
   ToDecode : Text → Asked
+  ToDecodeAll : Text → Asked
 
-abbrev pub asked_from : Option Text → Option Text → Option Asked
-asked_from (Some script) hex = Some (ToRun script)
-asked_from None (Some hex) = Some (ToDecode hex)
-asked_from None None = None
+-- what is asked of a file for `decode`, with `--pcap` or without it
+abbrev pub decode_asked : Bool → Text → Asked
+decode_asked true file = ToDecodeAll file
+decode_asked false file = ToDecode file
+
+abbrev pub asked_from : Option Text → Option Text → Bool → Option Asked
+asked_from (Some script) file pcap = Some (ToRun script)
+asked_from None (Some file) pcap = Some (decode_asked pcap file)
+asked_from None None pcap = None
 
 -- what the command that was met asks for
 abbrev pub asked_of : Option (Text × List Row) → Option Asked
-asked_of met = asked_from (file_of (codes "sim") (codes "SCRIPT") met) (file_of (codes "decode") (codes "HEXFILE") met)
+asked_of met =
+    asked_from (value_of (codes "sim") (codes "SCRIPT") met) (value_of (codes "decode") (codes "FILE") met)
+    (is_set (value_of (codes "decode") (codes "pcap") met))
 
 -- what the words of a command line ask for
 abbrev pub asked_in : List Text → Option Asked
@@ -42,3 +60,4 @@ asked_in words = asked_of (subcommand_of hostd_command words)
 abbrev pub asked_by : Line → Asked
 asked_by (Sim script) = ToRun script.now
 asked_by (Decode hex) = ToDecode hex.now
+asked_by (DecodeAll capture) = ToDecodeAll capture.now

@@ -4,7 +4,7 @@ use Rattle.script.specs.Script.{first_bad_line}
 use Rattle.script.specs.declared.fault.ScriptFault.{ScriptFault}
 use Rattle.script.specs.declared.fault.ScriptFault.TheVariants as script
 use Rattle.hostd.specs.declared.fault.TextFault.{TextFault}
-use Rattle.hostd.specs.declared.fault.TextFault.TheVariants.{Line, TooLong, NotHex, Read, Write, NoMemory}
+use Rattle.hostd.specs.declared.fault.TextFault.TheVariants.{Line, TooLong, NotHex, Header, Record, Read, Write, NoMemory}
 
 -- why octets are not run as a script, by why they are none
 abbrev pub fault_by : ScriptFault → TextFault
@@ -30,6 +30,8 @@ abbrev pub IsFaultDue : List ℕ → TextFault → Type 0
 IsFaultDue octets (Line n) = fault_of octets ≡ Some (Line n)
 IsFaultDue octets TooLong = fault_of octets ≡ Some TooLong
 IsFaultDue octets NotHex = ⊥
+IsFaultDue octets (Header fault) = ⊥
+IsFaultDue octets (Record fault) = ⊥
 IsFaultDue octets Write = fault_of octets ≡ None
 IsFaultDue octets Read = ⊤
 IsFaultDue octets NoMemory = ⊤
@@ -39,6 +41,8 @@ abbrev pub IsUnread : TextFault → Type 0
 IsUnread (Line n) = ⊥
 IsUnread TooLong = ⊥
 IsUnread NotHex = ⊥
+IsUnread (Header fault) = ⊥
+IsUnread (Record fault) = ⊥
 IsUnread Read = ⊤
 IsUnread Write = ⊥
 IsUnread NoMemory = ⊤
@@ -48,6 +52,8 @@ abbrev pub IsScriptUnread : List ℕ → TextFault → Type 0
 IsScriptUnread octets (Line n) = ⊥
 IsScriptUnread octets TooLong = 1000000 < length octets
 IsScriptUnread octets NotHex = ⊥
+IsScriptUnread octets (Header fault) = ⊥
+IsScriptUnread octets (Record fault) = ⊥
 IsScriptUnread octets Read = ⊤
 IsScriptUnread octets Write = ⊥
 IsScriptUnread octets NoMemory = ⊤
@@ -62,6 +68,8 @@ abbrev pub is_before_run : TextFault → Bool
 is_before_run (Line n) = true
 is_before_run TooLong = true
 is_before_run NotHex = true
+is_before_run (Header fault) = true
+is_before_run (Record fault) = true
 is_before_run Read = true
 is_before_run Write = false
 is_before_run NoMemory = false

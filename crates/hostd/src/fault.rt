@@ -3,12 +3,13 @@
 ghost use Rattle.std.specs.Prelude.{◌≡◌};
 ghost use Rattle.hostd.specs.declared.fault.TextFault.TheVariants.{NoMemory};
 
+use capture::{HeaderFault, RecordFault};
 use decode::HexFault;
 use script::ScriptFault;
 use std::alloc::{AllocError, AllocFailed};
 use thiserror::Error;
 
-/// Why a script is not run, or not to its end, or a frame not read.
+/// Why a script is not run, or not to its end, or a frame or a capture not read.
 #[derive(Clone, Copy, Debug, PartialEq, Eq, Error)]
 pub enum TextFault {
     /// The line with this number, counted from 1 over all lines, is the first that is bad.
@@ -20,6 +21,12 @@ pub enum TextFault {
     /// The text isn't pairs of hexadecimal digits and white space.
     #[error("not hex")]
     NotHex,
+    /// The octets are no capture.
+    #[error("{0}")]
+    Header(HeaderFault),
+    /// What stands behind the whole records of a capture is no record.
+    #[error("{0}")]
+    Record(RecordFault),
     /// The source failed.
     #[error("K1 Read")]
     Read,
@@ -70,5 +77,25 @@ impl From<HexFault> for TextFault {
             HexFault::NotHex => TextFault::NotHex,
             HexFault::NoMemory => TextFault::NoMemory,
         }
+    }
+}
+
+impl From<HeaderFault> for TextFault {
+    ghost use Rattle.hostd.specs.declared.fault.TextFault.TheVariants.{Header};
+
+    ghost from_gives = { λ told fault. fault ≡ Header told };
+
+    fn from(fault: HeaderFault) -> TextFault {
+        TextFault::Header(fault)
+    }
+}
+
+impl From<RecordFault> for TextFault {
+    ghost use Rattle.hostd.specs.declared.fault.TextFault.TheVariants.{Record};
+
+    ghost from_gives = { λ told fault. fault ≡ Record told };
+
+    fn from(fault: RecordFault) -> TextFault {
+        TextFault::Record(fault)
     }
 }

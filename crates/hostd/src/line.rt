@@ -5,11 +5,11 @@ ghost use Rattle.clap.specs.declared.builder.command.Command.TheViews.{out-Comma
 ghost use Rattle.clap.specs.Words.{app_of, subcommand_rows_of};
 ghost use Rattle.clap.specs.Faults.{fault_of};
 ghost use Rattle.clap.specs.Kinds.{HasKind};
-ghost use Rattle.hostd.specs.Line.{hostd_command, file_command, file_of, asked_of, asked_in, asked_by};
+ghost use Rattle.hostd.specs.Line.{hostd_command, file_command, with_flag, value_of, is_set, asked_of, asked_in, asked_by};
 
 use crate::request::Line;
 use clap::error::ErrorKind;
-use clap::{Arg, ArgMatches, Command, Error};
+use clap::{Arg, ArgAction, ArgMatches, Command, Error};
 use std::alloc::{AllocError, Global};
 use std::convert::AsStr;
 
@@ -44,9 +44,15 @@ fn hostd<'a>(alloc: Global) -> Result<Command<'a>, AllocError>
     let decode = file_command(
         alloc,
         "decode",
-        "Prints what a frame says, a line a layer",
-        "HEXFILE",
-        "The file of the frame, in hexadecimal digits",
+        "Prints what a frame says, a line a layer, or what each frame of a capture says",
+        "FILE",
+        "The file of the frame, in hexadecimal digits, or of the capture",
+    )?;
+    let decode = with_flag(
+        alloc,
+        decode,
+        "pcap",
+        "The file is a capture in libpcap's classic format",
     )?;
     Command::new(alloc, "hostd")
         .about("Two IPv4 hosts with TCP sockets, joined by a bag of frames")
@@ -70,20 +76,51 @@ fn file_command<'a>(
     Command::new(alloc, name).about(about).arg(file)
 }
 
+/// A command with a flag more, which may be there or not.
+fn with_flag<'a>(
+    alloc: Global,
+    command: Command<'a>,
+    name: &'a str,
+    help: &'a str,
+) -> Result<Command<'a>, AllocError>
+    ensures words { IfOk result (λ more. app_of more ≡ with_flag name.now (app_of command.entry)) }
+    ensures local { IfOk result (λ more. (fields_of more).has_globals ≡ (fields_of command.entry).has_globals) }
+{
+    let flag = Arg::new(alloc, name)
+        .long(name)
+        .action(ArgAction::SetTrue)
+        .help(help);
+    command.arg(flag)
+}
+
 /// What the command that was met asks for.
 fn asked<'a>(matches: &ArgMatches<'a>) -> Option<Line<'a>>
     ensures { option_map asked_by result ≡ asked_of (subcommand_rows_of matches.now) }
 {
-    if let Some(script) = file_in(matches, "sim", "SCRIPT") {
+    if let Some(script) = value_in(matches, "sim", "SCRIPT") {
         return Some(Line::Sim { script });
     }
-    let hex = file_in(matches, "decode", "HEXFILE")?;
-    Some(Line::Decode { hex })
+    let file = value_in(matches, "decode", "FILE")?;
+    if is_set(value_in(matches, "decode", "pcap")) {
+        Some(Line::DecodeAll { capture: file })
+    } else {
+        Some(Line::Decode { hex: file })
+    }
 }
 
-/// The file that a command names, where that is the command that was met.
-fn file_in<'a>(matches: &ArgMatches<'a>, command: &str, file: &str) -> Option<&'a str>
-    ensures { option_map (λ name. name.now) result ≡ file_of command.now file.now (subcommand_rows_of matches.now) }
+/// What an argument of a command has for its value, where that is the command that was met.
+fn value_in<'a>(matches: &ArgMatches<'a>, command: &str, id: &str) -> Option<&'a str>
+    ensures { option_map (λ value. value.now) result ≡ value_of command.now id.now (subcommand_rows_of matches.now) }
 {
-    matches.subcommand_matches(command)?.get_str(file)
+    matches.subcommand_matches(command)?.get_str(id)
+}
+
+/// Whether this is the value of a flag that is there.
+fn is_set(value: Option<&str>) -> bool
+    ensures { result ≡ is_set (option_map (λ text. text.now) value.entry) }
+{
+    match value {
+        Some(text) => text == "true",
+        None => false,
+    }
 }

@@ -1,6 +1,8 @@
-//! `hostd`: runs a script of socket calls, ticks and frames on a world of two hosts, and prints what they answer; or prints what a frame says.
+//! `hostd`: runs a script of socket calls, ticks and frames on a world of two hosts, and prints what they answer; or prints what a frame says,
+//! or what the frames of a capture say.
 #![tactic(auto)]
 
+mod captured;
 mod fault;
 mod frame;
 mod input;
@@ -44,6 +46,7 @@ fn run(rt: &HostRuntime, words: &[String]) -> ExitCode {
     match line::line(rt.alloc(), words) {
         Ok(Line::Sim { script }) => run_script(rt, script),
         Ok(Line::Decode { hex }) => print_frame(rt, hex),
+        Ok(Line::DecodeAll { capture }) => print_frames(rt, capture),
         Err(error) if error.kind() == ErrorKind::OutOfMemory => report(rt, TextFault::NoMemory),
         Err(error) => {
             let _ = eprint!(rt; "{error}");
@@ -75,6 +78,19 @@ fn print_frame(rt: &HostRuntime, path: &str) -> ExitCode {
     match frame::decode(rt.alloc(), &mut hex, &mut out) {
         Ok(None) => ExitCode::SUCCESS,
         Ok(Some(_)) => ExitCode::FAILURE,
+        Err(fault) => report(rt, fault),
+    }
+}
+
+/// Prints what the frames of the capture in a file say.
+fn print_frames(rt: &HostRuntime, path: &str) -> ExitCode {
+    let Ok(file) = fs::open(rt, path) else {
+        return report(rt, format_args!("cannot open {path}"));
+    };
+    let mut capture = Reading::new(file);
+    let mut out = Writing::new(io::writer(rt));
+    match captured::decode(rt.alloc(), &mut capture, &mut out) {
+        Ok(()) => ExitCode::SUCCESS,
         Err(fault) => report(rt, fault),
     }
 }

@@ -1,12 +1,15 @@
 //! Printed text on its way to a sink.
 
-ghost use Rattle.std.specs.Prelude.{◌≡◌, [], OnOk, IfErr, string_bytes};
+ghost use Rattle.std.specs.Prelude.{◌≡◌, ◌⊎◌, [], ◌++◌, Err, OnOk, IfErr, string_bytes};
 ghost use Rattle.std.specs.Io.KnownBytes.{Appends};
-ghost use Rattle.hostd.specs.Streams.{counted, TakesFront};
+ghost use Rattle.hostd.specs.Streams.{counted, TakesFront, TakesAllBut};
 ghost use Rattle.hostd.specs.Sim.{write_fails_in};
 
 use crate::fault::TextFault;
 use crate::streams::Sink;
+
+/// Where so many octets of printed lines wait, they are handed to the sink.
+const FULL: usize = 8192;
 
 /// Hands all of `octets` to `out`, in as many writes as it takes; `Write` where the sink fails, and then it took a part of
 /// the front.
@@ -37,6 +40,21 @@ pub fn hand_on<W: Sink>(lines: &mut String, out: &mut W) -> Result<(), TextFault
     Ok(())
 }
 
+/// Adds a line to those that wait, and hands them on where they are many.
+pub fn add_line<W: Sink>(line: &str, lines: &mut String, out: &mut W) -> Result<(), TextFault>
+    ensures written { W.failures out.new ≡ counted (write_fails_in result) (W.failures out.old) }
+    ensures faults { IfErr result (λ fault. (fault ≡ TextFault.Write)
+        ⊎ ((fault ≡ TextFault.NoMemory) × (string_bytes lines.new ≡ string_bytes lines.old) × (W.taken out.new ≡ W.taken out.old))) }
+    ensures added { OnOk result (TakesAllBut (W.taken out.old) (W.taken out.new) (string_bytes lines.old ++ line.now) (string_bytes lines.new)) }
+    ensures cut { result ≡ Err TextFault.Write → TakesFront (W.taken out.old) (W.taken out.new) (string_bytes lines.old ++ line.now) }
+{
+    lines.push_str(line)?;
+    if lines.len() >= FULL {
+        hand_on(lines, out)?;
+    }
+    Ok(())
+}
+
 /// Hands `lines` to `out` for good; `Write` where the sink fails.
 pub fn finish<W: Sink>(lines: &mut String, out: &mut W) -> Result<(), TextFault>
     ensures failures { W.failures out.new ≡ counted (write_fails_in result) (W.failures out.old) }
@@ -48,4 +66,11 @@ pub fn finish<W: Sink>(lines: &mut String, out: &mut W) -> Result<(), TextFault>
         Ok(()) => Ok(()),
         Err(_) => Err(TextFault::Write),
     }
+}
+
+/// Whether the sink failed.
+pub fn is_write_fault(outcome: &Result<(), TextFault>) -> bool
+    ensures { result ≡ write_fails_in outcome.now }
+{
+    matches!(outcome, Err(TextFault::Write))
 }

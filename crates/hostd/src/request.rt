@@ -7,4 +7,6 @@ pub enum Line<'a> {
     Sim { script: &'a str },
     /// To print what the frame in this file says.
     Decode { hex: &'a str },
+    /// To print what the frames of the capture in this file say.
+    DecodeAll { capture: &'a str },
 }

@@ -1,23 +1,20 @@
 //! `hostd sim`: runs a script on a world of two hosts and prints what they answer.
 
-ghost use Rattle.std.specs.Prelude.{◌≡◌, ◌⊎◌, true, false, ◌≤◌, ◌<◌, ◌^◌, length, take, ◌++◌, Err, string_bytes, IfOk, IfErr, IfSome, OnOk, OnErr};
+ghost use Rattle.std.specs.Prelude.{◌≡◌, true, false, ◌≤◌, ◌<◌, ◌^◌, length, take, string_bytes, IfOk, IfErr, IfSome, OnOk, OnErr};
 ghost use Rattle.std.specs.Option.{ForSome};
-ghost use Rattle.hostd.specs.Streams.{counted, TakesFront, TakesAllBut};
+ghost use Rattle.hostd.specs.Streams.{counted};
 ghost use Rattle.hostd.specs.Sim.{read_fails, write_fails_in, is_before_run, IsDue, IsFaultDue};
 ghost use Rattle.script.specs.Text.{style_of};
 ghost use Rattle.hostd.specs.Play.{line_of_outcome, Emits, Delivers, Carries, Prints, pass_line, IsPlayed, IsCutShort, IsFirst, limit_line, TakesPrinted, TakesPrintedBy};
 
 use crate::fault::TextFault;
 use crate::input::whole_script;
-use crate::output::{finish, hand_on};
+use crate::output::{add_line, finish, is_write_fault};
 use crate::streams::{Sink, Source};
 use script::{Action, Command, Script, Style, config, event, show, show_unfair};
 use std::alloc::{AllocError, Global};
 use tcp_segment::Seq;
 use wire_sim::{Answer, Event, Side, Unfair, World};
-
-/// Where so many octets of printed lines wait, they are handed to the sink.
-const FULL: usize = 8192;
 
 /// The most frames of one side that a `pass` moves.
 const MOST_FRAMES: usize = 64;
@@ -68,13 +65,6 @@ fn run_in<W: Sink>(
     outcome
 }
 
-/// Whether the sink failed.
-fn is_write_fault(outcome: &Result<(), TextFault>) -> bool
-    ensures { result ≡ write_fails_in outcome.now }
-{
-    matches!(outcome, Err(TextFault::Write))
-}
-
 /// What is printed of a limit.
 fn first_lines(alloc: Global, limit: Option<u64>) -> Result<String, AllocError>
     ensures { IfOk result (λ lines. string_bytes lines ≡ limit_line limit) }
@@ -102,21 +92,6 @@ fn play<W: Sink>(
     for command in commands {
         let line = execute(alloc, command, world)?;
         add_line(line.as_str(), lines, out)?;
-    }
-    Ok(())
-}
-
-/// Adds a line to those that wait, and hands them on where they are many.
-fn add_line<W: Sink>(line: &str, lines: &mut String, out: &mut W) -> Result<(), TextFault>
-    ensures written { W.failures out.new ≡ counted (write_fails_in result) (W.failures out.old) }
-    ensures faults { IfErr result (λ fault. (fault ≡ TextFault.Write)
-        ⊎ ((fault ≡ TextFault.NoMemory) × (string_bytes lines.new ≡ string_bytes lines.old) × (W.taken out.new ≡ W.taken out.old))) }
-    ensures added { OnOk result (TakesAllBut (W.taken out.old) (W.taken out.new) (string_bytes lines.old ++ line.now) (string_bytes lines.new)) }
-    ensures cut { result ≡ Err TextFault.Write → TakesFront (W.taken out.old) (W.taken out.new) (string_bytes lines.old ++ line.now) }
-{
-    lines.push_str(line)?;
-    if lines.len() >= FULL {
-        hand_on(lines, out)?;
     }
     Ok(())
 }

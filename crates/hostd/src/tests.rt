@@ -1,6 +1,7 @@
-//! Whole scripts and frames, from memory to memory. The expected lines are those that the documents of the project give.
+//! Whole scripts, frames and captures, from memory to memory. The expected lines are those that the documents of the project give.
 
 mod backlog;
+mod captures;
 mod closing;
 mod command_line;
 mod datagrams;
@@ -18,10 +19,10 @@ mod table;
 mod windows;
 
 use crate::fault::TextFault;
-use crate::frame;
 use crate::sim::sim;
 use crate::streams::memory::{MemorySink, MemorySource};
 use crate::streams::{Sink, Source};
+use crate::{captured, frame};
 use decode::DropCause;
 use std::alloc::Global;
 use std::process::Abort;
@@ -71,11 +72,12 @@ const TRANSCRIPTS: [&[&[&str]]; 12] = [
     windows::TRANSCRIPTS,
 ];
 
-/// What is asked of the program: to run a text as a script, or to print what the frame says that it spells.
+/// What is asked of the program: to run a text as a script, or to print what the frame says that it spells, or what those of a capture say.
 #[derive(Clone, Copy)]
 enum Asked {
     Sim,
     Decode,
+    DecodeAll,
 }
 
 /// A source or a sink that moves so many octets a call at most, and of which this call fails, counted from 1: at 0 none does.
@@ -114,6 +116,10 @@ fn ended(alloc: Global, asked: Asked, text: &[u8], from: Device, to: Device) -> 
             Err(fault) => Err(fault),
         },
         Asked::Decode => frame::decode(alloc, &mut source, &mut sink),
+        Asked::DecodeAll => match captured::decode(alloc, &mut source, &mut sink) {
+            Ok(()) => Ok(None),
+            Err(fault) => Err(fault),
+        },
     };
     End {
         answer,

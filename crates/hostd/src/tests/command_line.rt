@@ -6,7 +6,7 @@ use clap::error::ErrorKind;
 
 #[test]
 fn words_ask_for_a_command_or_are_refused(rt: HostRuntime) {
-    let rows: [(&[&str], Result<Line<'_>, ErrorKind>); 12] = [
+    let rows: [(&[&str], Result<Line<'_>, ErrorKind>); 16] = [
         (
             &["hostd", "sim", "first.txt"],
             Ok(Line::Sim {
@@ -16,6 +16,14 @@ fn words_ask_for_a_command_or_are_refused(rt: HostRuntime) {
         (
             &["hostd", "decode", "syn.hex"],
             Ok(Line::Decode { hex: "syn.hex" }),
+        ),
+        (
+            &["hostd", "decode", "--pcap", "lo.pcap"],
+            Ok(Line::DecodeAll { capture: "lo.pcap" }),
+        ),
+        (
+            &["hostd", "decode", "lo.pcap", "--pcap"],
+            Ok(Line::DecodeAll { capture: "lo.pcap" }),
         ),
         (&["hostd"], Err(ErrorKind::MissingSubcommand)),
         (&["hostd", "sim"], Err(ErrorKind::MissingRequiredArgument)),
@@ -37,6 +45,14 @@ fn words_ask_for_a_command_or_are_refused(rt: HostRuntime) {
         ),
         (
             &["hostd", "decode", "one", "two"],
+            Err(ErrorKind::UnknownArgument),
+        ),
+        (
+            &["hostd", "decode", "--pcap"],
+            Err(ErrorKind::MissingRequiredArgument),
+        ),
+        (
+            &["hostd", "sim", "--pcap", "lo.pcap"],
             Err(ErrorKind::UnknownArgument),
         ),
         (&["hostd", "--help"], Err(ErrorKind::DisplayHelp)),
