@@ -64,7 +64,7 @@ static void ending_step(struct tap *tap)
     }
     if (now == HOST_STATE_CLOSED || (lingers != 0 && lingers <= tap->now)) {
         const int64_t last = host_shutdown_write(&tap->host, joint.id);
-        if (last == HOST_ECONNRESET) {
+        if (last == HOST_ECONNRESET || last == HOST_ETIMEDOUT) {
             fail(tap, "connection", host_refusal_name(last));
         } else {
             tap->status = 0;

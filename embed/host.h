@@ -86,7 +86,7 @@ extern "C" {
 #define HOST_EAGAIN (-8)        /* nothing to do now; the same call may succeed later */
 #define HOST_ECONNREFUSED (-9)  /* the peer refused the connection, or an error told that its SYN can't be delivered */
 #define HOST_ECONNRESET (-10)   /* the peer reset the connection */
-#define HOST_ETIMEDOUT (-11)    /* not given out yet */
+#define HOST_ETIMEDOUT (-11)    /* the peer of the connection was silent for too long */
 #define HOST_EPIPE (-12)        /* our side of the connection is closed */
 #define HOST_EMSGSIZE (-13)     /* a datagram of more than HOST_DATAGRAM_SIZE octets */
 #define HOST_ENETUNREACH (-14)  /* no route leads to the address */
@@ -166,38 +166,40 @@ int64_t host_bind(struct host *host, uint64_t id, uint32_t addr, uint16_t port);
 int64_t host_listen(struct host *host, uint64_t id, size_t backlog);
 
 /* Takes the connection that was the first to be open of those that wait at a listener: answers its id, and writes its other end to `peer`.
- * One that its peer has reset since is taken too, and tells HOST_ECONNRESET.
+ * One that its peer has reset since is taken too, and tells HOST_ECONNRESET; so is one whose peer was silent, which tells HOST_ETIMEDOUT.
  *
  * HOST_EBADF. HOST_EOPNOTSUPP: a UDP socket. HOST_EINVAL: the socket doesn't listen. HOST_EAGAIN: none waits. */
 int64_t host_accept(struct host *host, uint64_t id, struct host_endpoint *peer);
 
 /* Begins to open a connection to `port` of `addr`: answers 0 at once. `isn` is its initial number (docs/EMBEDDING.md says what it should be).
  * It is open once host_state is HOST_STATE_ESTABLISHED; until then host_send and host_recv are HOST_EAGAIN. A socket that isn't bound gets a
- * dynamic port, from 49152 on. Once the peer has refused or reset the connection, this call, host_send, host_recv and host_shutdown_write
- * tell HOST_ECONNREFUSED or HOST_ECONNRESET, whatever is unread, until host_close.
+ * dynamic port, from 49152 on. Once the peer has refused or reset the connection, or was silent up to the
+ * thirteenth expiry of a timer, this call, host_send, host_recv and host_shutdown_write tell HOST_ECONNREFUSED, HOST_ECONNRESET or
+ * HOST_ETIMEDOUT, whatever is unread, until host_close.
  *
- * HOST_EBADF. HOST_EOPNOTSUPP: UDP, or listening. HOST_ECONNREFUSED, HOST_ECONNRESET. HOST_EALREADY: it is opening one. HOST_EISCONN: it has
- * had one. HOST_EADDRNOTAVAIL: port 0, no single host's address, or our own. HOST_ENETUNREACH: no route leads there. HOST_EADDRINUSE: there is
- * a connection between these two ends, or no dynamic port is free. */
+ * HOST_EBADF. HOST_EOPNOTSUPP: UDP, or listening. HOST_ECONNREFUSED, HOST_ECONNRESET, HOST_ETIMEDOUT. HOST_EALREADY: it is opening one.
+ * HOST_EISCONN: it has had one. HOST_EADDRNOTAVAIL: port 0, no single host's address, or our own. HOST_ENETUNREACH: no route leads there.
+ * HOST_EADDRINUSE: there is a connection between these two ends, or no dynamic port is free. */
 int64_t host_connect(struct host *host, uint64_t now, uint32_t isn, uint64_t id, uint32_t addr, uint16_t port);
 
 /* Gives octets to a connection: answers how many it took, the first that find room. They go out in order behind those before them.
  *
- * HOST_EBADF. HOST_EDESTADDRREQ: UDP. HOST_EOPNOTSUPP: listening. HOST_ECONNREFUSED, HOST_ECONNRESET. HOST_ENOTCONN. HOST_EAGAIN: opening.
- * HOST_EPIPE: our side is closed. HOST_EAGAIN: no room, and octets are given. */
+ * HOST_EBADF. HOST_EDESTADDRREQ: UDP. HOST_EOPNOTSUPP: listening. HOST_ECONNREFUSED, HOST_ECONNRESET, HOST_ETIMEDOUT. HOST_ENOTCONN.
+ * HOST_EAGAIN: opening. HOST_EPIPE: our side is closed. HOST_EAGAIN: no room, and octets are given. */
 int64_t host_send(struct host *host, uint64_t id, const uint8_t *octets, size_t len);
 
 /* Reads octets of a connection, in order: answers how many of them are at the front of `buffer` now, at most `len`. 0 is the end of the stream:
  * all octets were read, and the peer has closed its side.
  *
- * HOST_EBADF. HOST_EOPNOTSUPP: UDP, or listening. HOST_EINVAL: `len` is 0. HOST_ECONNREFUSED, HOST_ECONNRESET. HOST_ENOTCONN. HOST_EAGAIN:
- * opening, or nothing to read yet. */
+ * HOST_EBADF. HOST_EOPNOTSUPP: UDP, or listening. HOST_EINVAL: `len` is 0. HOST_ECONNREFUSED, HOST_ECONNRESET, HOST_ETIMEDOUT.
+ * HOST_ENOTCONN. HOST_EAGAIN: opening, or nothing to read yet. */
 int64_t host_recv(struct host *host, uint64_t id, uint8_t *buffer, size_t len);
 
 /* Closes our side of a connection: the peer reads its end behind all octets that were given. What the peer sends is read on. It answers 0, and
  * again 0.
  *
- * HOST_EBADF. HOST_EOPNOTSUPP: UDP, or listening. HOST_ECONNREFUSED, HOST_ECONNRESET. HOST_ENOTCONN: no connection, or it is opening. */
+ * HOST_EBADF. HOST_EOPNOTSUPP: UDP, or listening. HOST_ECONNREFUSED, HOST_ECONNRESET, HOST_ETIMEDOUT. HOST_ENOTCONN: no connection, or it
+ * is opening. */
 int64_t host_shutdown_write(struct host *host, uint64_t id);
 
 /* Takes the socket away: its id is HOST_EBADF from now on. What was given to a connection still goes out, and its end behind it; one with

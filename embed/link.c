@@ -115,12 +115,26 @@ static bool is_nth(uint64_t count, uint64_t n)
     return n != 0 && count % n == 0;
 }
 
+/* Whether this is the one of n that is drawn: the numbers are those of xorshift64 from 1 on, so that a trial can be repeated. */
+static bool is_drawn(struct side *side, uint64_t n)
+{
+    if (n == 0) {
+        return false;
+    }
+    uint64_t x = side->chance == 0 ? 1 : side->chance;
+    x ^= x << 13;
+    x ^= x >> 7;
+    x ^= x << 17;
+    side->chance = x;
+    return x % n == 0;
+}
+
 /* A frame enters a side: its faults decide what becomes of it. */
 static void side_put(struct side *side, uint64_t now, const uint8_t *frame, size_t len)
 {
     const uint64_t due = later(now, side->faults.delay);
     side->frames++;
-    if (is_nth(side->frames, side->faults.lose)) {
+    if (is_nth(side->frames, side->faults.lose) || is_drawn(side, side->faults.drop)) {
         return;
     }
     queue_put(side, due, frame, len);

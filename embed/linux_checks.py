@@ -21,12 +21,8 @@ OURS = "10.0.0.2"  # the host's address
 LINUX = "10.0.0.1"  # Linux's
 FAR = "10.1.0.1"  # another of Linux's, off the link
 MEGABYTE = 1 << 20
-WINDOWS = (
-    "(1) A later stage brings windows: today one segment is outstanding; Linux holds its acknowledgement back for 40 ms while it sends too, "
-    "and a lost one goes again after 1,000 ms."
-)
 NO_ABORT = (
-    "(2) No call of a host resets a connection whose octets are all read, so the program can only close it, and what the client sends then "
+    "(1) No call of a host resets a connection whose octets are all read, so the program can only close it, and what the client sends then "
     "is answered by a reset."
 )
 
@@ -342,6 +338,23 @@ def from_host(size, *words):
     return "equal"
 
 
+def from_host_late(size):
+    """Linux's window closes, and the host probes it until Linux reads on."""
+    data = octets(size)
+    with listener() as server, tempfile.TemporaryFile() as given:
+        given.write(data)
+        given.seek(0)
+        server.setsockopt(socket.SOL_SOCKET, socket.SO_RCVBUF, 65536)
+        words = ["--patience", 200, "--connect", LINUX, server.getsockname()[1]]
+        with Tap(*words, stdin=given, stdout=subprocess.DEVNULL) as tap:
+            with accepted(server) as connection:
+                time.sleep(60)
+                came = read_to_end(connection)
+            status = tap.result(20)
+    want(status == (0, "") and came == data, f"{len(came)} octets come, or others, or {status}")
+    return "equal"
+
+
 def page():
     """curl, Linux, the host and the program, and python's server on Linux's own loopback."""
     data = octets(300000)
@@ -438,16 +451,23 @@ CHECKS = [
     ("TCP: the host opens, Linux resets", linux_resets_what_the_host_opened, (), ""),
     ("TCP: the host opens, the host resets", host_resets_what_it_opened, (), ""),
     ("1 MB to the host", to_host, (MEGABYTE,), ""),
-    ("1 MB from the host", from_host, (MEGABYTE,), WINDOWS),
-    ("1 MB echoed, both ways at once", echo, (MEGABYTE,), WINDOWS),
+    ("1 MB from the host", from_host, (MEGABYTE,), ""),
+    ("1 MB echoed, both ways at once", echo, (MEGABYTE,), ""),
     ("100 kB echoed, every 5th frame twice", echo, (100000, "--repeat", 5), ""),
     ("100 kB echoed, 5 ms late each way", echo, (100000, "--delay", 5), ""),
     ("1 MB to the host, every 11th frame out lost", to_host, (MEGABYTE, "--lose", "out:11"), ""),
     ("1 MB to the host, one in flight, every 11th frame in lost", to_host_in_turn, (MEGABYTE, "--lose", "in:11"), ""),
     ("1 MB to the host, many in flight, every 11th frame in lost", to_host, (MEGABYTE, "--lose", "in:11"), ""),
     ("10 MB to the host, every 101st frame in lost", to_host, (10 * MEGABYTE, "--lose", "in:101"), ""),
-    ("1 MB from the host, every 11th frame in lost", from_host, (MEGABYTE, "--lose", "in:11"), WINDOWS),
-    ("1 MB from the host, every 11th frame out lost", from_host, (MEGABYTE, "--lose", "out:11"), WINDOWS),
+    ("1 MB from the host, every 11th frame in lost", from_host, (MEGABYTE, "--lose", "in:11"), ""),
+    ("1 MB from the host, every 11th frame out lost", from_host, (MEGABYTE, "--lose", "out:11"), ""),
+    ("100 MB to the host", to_host, (100 * MEGABYTE,), ""),
+    ("100 MB from the host", from_host, (100 * MEGABYTE,), ""),
+    ("100 MB to the host, every 101st frame in lost", to_host, (100 * MEGABYTE, "--lose", "in:101"), ""),
+    ("100 MB from the host, every 101st frame out lost", from_host, (100 * MEGABYTE, "--lose", "out:101"), ""),
+    ("100 MB to the host, one frame in 100 lost at random", to_host, (100 * MEGABYTE, "--drop", "100"), ""),
+    ("100 MB from the host, one frame in 100 lost at random", from_host, (100 * MEGABYTE, "--drop", "100"), ""),
+    ("1 MB from the host, Linux doesn't read for a minute", from_host_late, (MEGABYTE,), ""),
     ("a page by curl through --forward", page, (), ""),
     ("--forward to a port without a listener", forward_refused, (), ""),
     ("--forward, the client resets", forward_reset, (), ""),

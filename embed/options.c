@@ -28,6 +28,7 @@ static const char help[] =
     "\n"
     "For trials, of frames that come in, that go out, or both:\n"
     "  --lose [in:|out:]N         every N-th is lost\n"
+    "  --drop [in:|out:]N         one of N is lost, at random, and the same ones each time\n"
     "  --repeat [in:|out:]N       every N-th comes twice\n"
     "  --delay [in:|out:]MS       each is late by so many milliseconds\n"
     "  --pcap FILE                writes what crosses the device as a capture for tcpdump and Wireshark\n"
@@ -139,12 +140,13 @@ static void read_forward(struct options *options, const char *port, const char *
     forward->to.port = read_port("--forward", strrchr(to, ':') + 1);
 }
 
-enum { TAP = 1, ADDR, GATEWAY, MAC, CONNECT, FORWARD, SOURCE, LOSE, REPEAT, DELAY, PCAP, IDLE, PATIENCE, VERBOSE, HELP };
+enum { TAP = 1, ADDR, GATEWAY, MAC, CONNECT, FORWARD, SOURCE, LOSE, DROP, REPEAT, DELAY, PCAP, IDLE, PATIENCE, VERBOSE, HELP };
 
 static const struct option words[] = {
     {"tap", required_argument, NULL, TAP},           {"addr", required_argument, NULL, ADDR},     {"gateway", required_argument, NULL, GATEWAY},
     {"mac", required_argument, NULL, MAC},           {"connect", required_argument, NULL, CONNECT}, {"forward", required_argument, NULL, FORWARD},
-    {"source", required_argument, NULL, SOURCE},     {"lose", required_argument, NULL, LOSE},     {"repeat", required_argument, NULL, REPEAT},
+    {"source", required_argument, NULL, SOURCE},     {"lose", required_argument, NULL, LOSE},
+    {"drop", required_argument, NULL, DROP},         {"repeat", required_argument, NULL, REPEAT},
     {"delay", required_argument, NULL, DELAY},       {"pcap", required_argument, NULL, PCAP},     {"idle", required_argument, NULL, IDLE},
     {"patience", required_argument, NULL, PATIENCE}, {"verbose", no_argument, NULL, VERBOSE},     {"help", no_argument, NULL, HELP},
     {NULL, 0, NULL, 0},
@@ -170,6 +172,9 @@ static void read_trial(struct options *options, int which)
     switch (which) {
     case LOSE:
         read_sided("--lose", optarg, 1, &options->in.lose, &options->out.lose);
+        break;
+    case DROP:
+        read_sided("--drop", optarg, 1, &options->in.drop, &options->out.drop);
         break;
     case REPEAT:
         read_sided("--repeat", optarg, 1, &options->in.repeat, &options->out.repeat);

@@ -24,7 +24,7 @@ enum {
 /* What is done to the frames of one side for a trial: every lose-th is lost and every repeat-th goes on twice (0: none), and each
    waits for delay milliseconds. */
 struct faults {
-    uint64_t lose, repeat, delay;
+    uint64_t lose, drop, repeat, delay;
 };
 
 /* A frame that waits for its moment. */
@@ -33,7 +33,7 @@ struct waiting;
 /* One direction of the link. The counts are of frames before any fault. */
 struct side {
     struct faults faults;
-    uint64_t frames;
+    uint64_t frames, chance;      /* chance: the last number that was drawn */
     struct waiting *first, *last;
 };
 

@@ -1,41 +1,57 @@
 -- What a connection has due can be sent, and fits into a frame.
-use Rattle.std.proofs.Common.{ℕ, ◌+◌, ◌*◌, ◌<◌, ◌≤◌, ◌^◌, if◌then◌else◌, Bool, true, false, length, arith, length-take}
+use Rattle.std.proofs.Common.{ℕ, ◌+◌, ◌*◌, ◌%◌, ◌<◌, ◌≤◌, ◌^◌, if◌then◌else◌, Bool, true, false, length, drop, arith, length-take}
 use Rattle.tcp_segment.specs.Segment.{FieldsFit}
 use Rattle.tcp_segment.specs.Sent.{CanBeSent, sent_segment, sent_offset}
 use Rattle.tcp_state.specs.declared.emission.Due.{Due}
-use Rattle.tcp_state.specs.declared.emission.Due.TheVariants.{Rst, Syn, Text, Fin, Ack}
+use Rattle.tcp_state.specs.declared.emission.Due.TheVariants.{Rst, Syn, Text, Probe, Ack}
+use Rattle.tcp_state.specs.declared.emission.Stretch.{Stretch}
+use Rattle.tcp_state.specs.Halves.{Receiving}
+use Rattle.tcp_state.specs.Stream.{receive_window, ReceivingFits}
+use Rattle.tcp_state.specs.Windows.{receive_room, has_grown, after_advertisement}
 use Rattle.tcp_state.specs.View.{View, IsSound}
-use Rattle.tcp_state.specs.Due.{MayGoOut, head_of, octets_of, number_of, flags_of, window_of}
+use Rattle.tcp_state.specs.Due.{MayGoOut, IsHeld, probe_stretch, head_of, octets_of, octets_of_stretch, number_of, flags_of, window_of}
 use Rattle.sockets.specs.Sound.{IsSoundConnection}
 
 number_fits : (v : View) (due : Due) → IsSound v → number_of v due < 2 ^ 32
 number_fits v Rst sound = sound.nxt
 number_fits v Syn sound = sound.una
-number_fits v (Text count) sound = sound.una
-number_fits v Fin sound = sound.una
+number_fits v (Text stretch) sound = omega arith
+number_fits v Probe sound = sound.una
 number_fits v Ack sound = sound.nxt
 
 acknowledgement_fits : (b : Bool) (n : ℕ) → n < 2 ^ 32 → (if b then n else 0) < 2 ^ 32
 acknowledgement_fits true n fits = fits
 acknowledgement_fits false n fits = omega arith
 
+-- a stretch of what is held has the octets of one segment at most
+stretch_fits : (v : View) (stretch : Stretch) → IsHeld v stretch → length (octets_of_stretch v stretch) ≤ 1460
+stretch_fits v stretch held = omega (arith, length-take stretch.count (drop stretch.offset v.sending.held), held.size)
+
 text_fits : (v : View) (due : Due) → MayGoOut v due → length (octets_of v due) ≤ 1460
 text_fits v Rst may = omega arith
 text_fits v Syn may = omega arith
-text_fits v (Text count) may = omega (arith, length-take count v.sending.held, may.3)
-text_fits v Fin may = omega arith
+text_fits v (Text stretch) may = stretch_fits v stretch may
+text_fits v Probe may = stretch_fits v (probe_stretch v) may
 text_fits v Ack may = omega arith
 
 offset_fits : (b : Bool) → (if b then 6 else 5) ≤ 6
 offset_fits true = omega arith
 offset_fits false = omega arith
 
+-- the window up to the edge that is told with a segment
+told_fits : (r : Receiving) → r.rnext < 2 ^ 32 → ReceivingFits r → receive_window (after_advertisement r) < 2 ^ 16
+told_fits r small fits = by_growth (has_grown r)
+  where
+    by_growth : (grown : Bool) → receive_window (if grown then record r { edge = (r.rnext + receive_room r) % 2 ^ 32 } else r) < 2 ^ 16
+    by_growth true = omega (arith, small)
+    by_growth false = omega (arith, fits)
+
 window_fits : (v : View) (due : Due) → IsSound v → window_of v due < 2 ^ 16
 window_fits v Rst sound = omega arith
-window_fits v Syn sound = omega (arith, sound.rnext)
-window_fits v (Text count) sound = omega (arith, sound.rnext)
-window_fits v Fin sound = omega (arith, sound.rnext)
-window_fits v Ack sound = omega (arith, sound.rnext)
+window_fits v Syn sound = told_fits v.receiving sound.rnext sound.window
+window_fits v (Text stretch) sound = told_fits v.receiving sound.rnext sound.window
+window_fits v Probe sound = told_fits v.receiving sound.rnext sound.window
+window_fits v Ack sound = told_fits v.receiving sound.rnext sound.window
 
 fields_fit : (v : View) (due : Due) → IsSoundConnection v → FieldsFit (sent_segment (head_of v due) (octets_of v due))
 fields_fit v due k = record {
@@ -60,6 +76,6 @@ due-can v due k may = record {
 pub due-fits : (c : View) (due : Due) → MayGoOut c due → 4 * sent_offset (head_of c due) + length (octets_of c due) ≤ 1480
 due-fits c Rst may = omega arith
 due-fits c Syn may = omega arith
-due-fits c (Text count) may = omega (arith, length-take count c.sending.held, may.3)
-due-fits c Fin may = omega arith
+due-fits c (Text stretch) may = omega (arith, text_fits c (Text stretch) may)
+due-fits c Probe may = omega (arith, text_fits c Probe may)
 due-fits c Ack may = omega arith

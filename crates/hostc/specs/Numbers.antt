@@ -8,7 +8,7 @@ use Rattle.tcp_state.specs.declared.calls.Received.TheVariants.{Octets, EndOfStr
 use Rattle.sockets.specs.declared.entry.Kind.{Kind}
 use Rattle.sockets.specs.declared.entry.Kind.TheVariants.{Tcp, Udp}
 use Rattle.sockets.specs.declared.refusal.Refusal.{Refusal}
-use Rattle.sockets.specs.declared.refusal.Refusal.TheVariants.{EBADF, EINVAL, EADDRINUSE, EADDRNOTAVAIL, EISCONN, ENOTCONN, EALREADY, EAGAIN, ECONNREFUSED, ECONNRESET, EPIPE, EMSGSIZE, ENETUNREACH, EMFILE, ENOMEM, EOPNOTSUPP, EDESTADDRREQ}
+use Rattle.sockets.specs.declared.refusal.Refusal.TheVariants.{EBADF, EINVAL, EADDRINUSE, EADDRNOTAVAIL, EISCONN, ENOTCONN, EALREADY, EAGAIN, ECONNREFUSED, ECONNRESET, ETIMEDOUT, EPIPE, EMSGSIZE, ENETUNREACH, EMFILE, ENOMEM, EOPNOTSUPP, EDESTADDRREQ}
 use Rattle.sockets.specs.declared.state.SocketState.{SocketState}
 use Rattle.sockets.specs.declared.state.SocketState.TheVariants.{Datagram, Stream}
 
@@ -24,6 +24,7 @@ refusal_number EALREADY = 7
 refusal_number EAGAIN = 8
 refusal_number ECONNREFUSED = 9
 refusal_number ECONNRESET = 10
+refusal_number ETIMEDOUT = 11
 refusal_number EPIPE = 12
 refusal_number EMSGSIZE = 13
 refusal_number ENETUNREACH = 14

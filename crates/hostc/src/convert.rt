@@ -93,6 +93,7 @@ pub(crate) fn refused(refusal: Refusal) -> i64
         Refusal::EAGAIN => -8,
         Refusal::ECONNREFUSED => -9,
         Refusal::ECONNRESET => -10,
+        Refusal::ETIMEDOUT => -11,
         Refusal::EPIPE => -12,
         Refusal::EMSGSIZE => -13,
         Refusal::ENETUNREACH => -14,

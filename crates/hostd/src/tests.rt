@@ -16,6 +16,7 @@ mod resets;
 mod scripts;
 mod simultaneous;
 mod table;
+mod timers;
 mod windows;
 
 use crate::fault::TextFault;
@@ -43,21 +44,9 @@ pass 7 -> a 1 b 0
 /// b's caller takes the connection.
 const ACCEPTED: &str = "b accept 1 -> id 2 10.0.0.1 49152\n";
 
-/// A fifth of the 45 segments of a full window, each acknowledged.
-const NINE_CROSSINGS: &str = "pass 0 -> a 1 b 1
-pass 0 -> a 1 b 1
-pass 0 -> a 1 b 1
-pass 0 -> a 1 b 1
-pass 0 -> a 1 b 1
-pass 0 -> a 1 b 1
-pass 0 -> a 1 b 1
-pass 0 -> a 1 b 1
-pass 0 -> a 1 b 1
-";
-
 /// All transcripts. Each is a list of parts, in whose lines an arrow parts a script's line from what it prints; a line without
 /// one prints nothing.
-const TRANSCRIPTS: [&[&[&str]]; 12] = [
+const TRANSCRIPTS: [&[&[&str]]; 13] = [
     backlog::TRANSCRIPTS,
     closing::TRANSCRIPTS,
     datagrams::TRANSCRIPTS,
@@ -69,6 +58,7 @@ const TRANSCRIPTS: [&[&[&str]]; 12] = [
     scripts::TRANSCRIPTS,
     simultaneous::TRANSCRIPTS,
     table::TRANSCRIPTS,
+    timers::TRANSCRIPTS,
     windows::TRANSCRIPTS,
 ];
 

@@ -1,2 +1,1 @@
 pub mod Timeouts
-pub mod Earliest

@@ -1,26 +1,33 @@
--- A table of deadlines by kind. A kind whose timer does not run has none.
-use Rattle.std.specs.Prelude.{ℕ, Bool, List, fold, slice_index_or, Option, None}
+-- A deadline or none for each kind of timer. A kind whose timer does not run has none.
+use Rattle.std.specs.Prelude.{Bool, Option, None}
 use Rattle.clock.specs.declared.moment.Moment.{Moment}
 use Rattle.clock.specs.Moments.{has_come, sooner}
+use Rattle.retransmit.specs.declared.timers.Timers.{Timers}
 use Rattle.retransmit.specs.declared.timers.TimerKind.{TimerKind}
-use Rattle.retransmit.specs.declared.timers.TimerKind.TheVariants.{Retransmission, Probe, DelayedAck, Override, Wait}
+use Rattle.retransmit.specs.declared.timers.TimerKind.TheVariants.{Retransmission, Probe, DelayedAck, Override}
 
--- the place of a kind in the table: each has its own
-abbrev pub place_of : TimerKind → ℕ
-place_of Retransmission = 0
-place_of Probe = 1
-place_of DelayedAck = 2
-place_of Override = 3
-place_of Wait = 4
+-- no timer runs
+abbrev pub no_timers : Timers
+no_timers = record { retransmission = None; probe = None; delayed_ack = None; overriding = None }
 
 -- until when the timer of a kind runs
-abbrev pub deadline_of : List (Option Moment) → TimerKind → Option Moment
-deadline_of deadlines kind = slice_index_or deadlines (place_of kind) None
+abbrev pub deadline_of : Timers → TimerKind → Option Moment
+deadline_of t Retransmission = t.retransmission
+deadline_of t Probe = t.probe
+deadline_of t DelayedAck = t.delayed_ack
+deadline_of t Override = t.overriding
+
+-- the timer of a kind runs until then, or runs no more; the others are as they were
+abbrev pub with_deadline : Timers → TimerKind → Option Moment → Timers
+with_deadline t Retransmission deadline = record t { retransmission = deadline }
+with_deadline t Probe deadline = record t { probe = deadline }
+with_deadline t DelayedAck deadline = record t { delayed_ack = deadline }
+with_deadline t Override deadline = record t { overriding = deadline }
 
 -- whether the deadline of a kind has come
-abbrev pub is_due : List (Option Moment) → TimerKind → Moment → Bool
-is_due deadlines kind now = has_come (deadline_of deadlines kind) now
+abbrev pub is_due : Timers → TimerKind → Moment → Bool
+is_due t kind now = has_come (deadline_of t kind) now
 
 -- the least deadline
-abbrev pub next_of : List (Option Moment) → Option Moment
-next_of deadlines = fold sooner None deadlines
+abbrev pub next_of : Timers → Option Moment
+next_of t = sooner (sooner t.retransmission t.probe) (sooner t.delayed_ack t.overriding)

@@ -1,11 +1,13 @@
 //! Laws of the definitions that the contracts of this crate cite: each is the contract of a function
 //! that does nothing.
 
-ghost use Rattle.std.specs.Prelude.{◌≡◌, ℕ, ◌*◌, ◌^◌, ◌≤◌, min, List, [], ◌∷◌, ◌++◌, replicate, Option};
-ghost use Rattle.std.specs.List.{list_any};
+ghost use Rattle.std.specs.Prelude.{◌≡◌, ◌≢◌, ◌||◌, ℕ, ◌*◌, ◌^◌, ◌≤◌, min, List, [], ◌∷◌, ◌++◌, replicate, Option};
 ghost use Rattle.clock.specs.declared.moment.Moment.{Moment};
 ghost use Rattle.clock.specs.Moments.{has_come};
-ghost use Rattle.retransmit.specs.Deadlines.{next_of};
+ghost use Rattle.retransmit.specs.declared.timers.Timers.{Timers};
+ghost use Rattle.retransmit.specs.declared.timers.TimerKind.{TimerKind};
+ghost use Rattle.retransmit.specs.declared.timers.TimerKind.TheVariants.{Retransmission, Probe, DelayedAck, Override};
+ghost use Rattle.retransmit.specs.Deadlines.{deadline_of, with_deadline, is_due, next_of};
 ghost use Rattle.retransmit.specs.Events.{Event, after_event, timeout_after};
 ghost use Rattle.retransmit.specs.Events.Event.{Expiry};
 
@@ -28,8 +30,17 @@ pub fn expiries_in_a_row()
         → (timeout_after (events ++ replicate k Expiry)).rto ≡ min 60000 (2 ^ k * (timeout_after events).rto) }
 {}
 
-/// The next deadline is the least: it has come exactly where some deadline has (RFC 6298 section 5).
+/// The next deadline is the least: it has come exactly where that of some kind has (RFC 6298 section 5).
 pub fn next_is_least()
-    ensures { (deadlines : List (Option Moment)) (now : Moment)
-        → has_come (next_of deadlines) now ≡ list_any (λ d. has_come d now) deadlines }
+    ensures { (t : Timers) (now : Moment)
+        → has_come (next_of t) now
+        ≡ (is_due t Retransmission now || is_due t Probe now || is_due t DelayedAck now || is_due t Override now) }
+{}
+
+/// Each kind has its own place: what is put there is told there, and no other kind sees it.
+pub fn each_kind_has_its_place()
+    ensures told { (t : Timers) (kind : TimerKind) (deadline : Option Moment)
+        → deadline_of (with_deadline t kind deadline) kind ≡ deadline }
+    ensures others { (t : Timers) (kind : TimerKind) (deadline : Option Moment) (other : TimerKind)
+        → kind ≢ other → deadline_of (with_deadline t kind deadline) other ≡ deadline_of t other }
 {}

@@ -1,13 +1,9 @@
 //! The deadlines of a connection's timers.
 
-ghost use Rattle.std.specs.Prelude.{◌≡◌, ◌<◌, Some, None, length, replicate, slice_set};
-ghost use Rattle.retransmit.specs.Deadlines.{place_of, deadline_of, is_due, next_of};
+ghost use Rattle.std.specs.Prelude.{◌≡◌, Some, None};
+ghost use Rattle.retransmit.specs.Deadlines.{no_timers, deadline_of, with_deadline, is_due, next_of};
 
 use clock::{Moment, sooner};
-use std::marker::Model;
-
-/// How many kinds of timer there are.
-const KINDS: usize = 5;
 
 /// What a timer of a connection is for.
 #[derive(Clone, Copy, Debug, PartialEq, Eq)]
@@ -20,70 +16,58 @@ pub enum TimerKind {
     DelayedAck,
     /// Octets that are too few for a segment wait for more (RFC 9293 section 3.8.6.2.1).
     Override,
-    /// The connection waits in TIME-WAIT, or in FIN-WAIT-2 after its caller closed it (RFC 9293 section 3.6).
-    Wait,
 }
 
-impl TimerKind {
-    /// The place of its deadline.
-    fn place(self) -> usize
-        ensures place { result ≡ place_of self }
-        ensures within { result < 5 }
-    {
-        match self {
-            TimerKind::Retransmission => 0,
-            TimerKind::Probe => 1,
-            TimerKind::DelayedAck => 2,
-            TimerKind::Override => 3,
-            TimerKind::Wait => 4,
-        }
-    }
-}
-
-/// A deadline or none for each kind of timer.
-#[derive(Debug, Drop)]
+/// A deadline for each kind of timer, or none where the timer does not run.
+#[derive(Clone, Copy, Debug, PartialEq, Eq)]
 pub struct Timers {
-    deadlines: [Option<Moment>; KINDS],
-}
-
-impl Model for Timers {
-    ghost use Rattle.std.specs.Prelude.{List, Option};
-    ghost use Rattle.clock.specs.declared.moment.Moment.{Moment};
-
-    ghost Value = { List (Option Moment) };
-
-    ghost view = { λ t. t.deadlines };
+    /// When what is outstanding goes out again.
+    pub retransmission: Option<Moment>,
+    /// When a window of zero is probed.
+    pub probe: Option<Moment>,
+    /// When an acknowledgement waits no longer.
+    pub delayed_ack: Option<Moment>,
+    /// When octets that are too few for a segment wait no longer.
+    pub overriding: Option<Moment>,
 }
 
 impl Timers {
     /// No timer runs.
     pub fn new() -> Timers
-        ensures { result ≡ replicate 5 None }
+        ensures { result ≡ no_timers }
     {
         Timers {
-            deadlines: [None; KINDS],
+            retransmission: None,
+            probe: None,
+            delayed_ack: None,
+            overriding: None,
         }
     }
 
     /// Starts the timer of a kind, or starts it anew.
     pub fn set(&mut self, kind: TimerKind, deadline: Moment)
-        ensures { self.new ≡ slice_set self.old (place_of kind) (Some deadline) }
+        ensures { self.new ≡ with_deadline self.old kind (Some deadline) }
     {
-        self.deadlines[kind.place()] = Some(deadline);
+        self.put(kind, Some(deadline));
     }
 
     /// Stops the timer of a kind.
     pub fn clear(&mut self, kind: TimerKind)
-        ensures { self.new ≡ slice_set self.old (place_of kind) None }
+        ensures { self.new ≡ with_deadline self.old kind None }
     {
-        self.deadlines[kind.place()] = None;
+        self.put(kind, None);
     }
 
     /// Until when the timer of a kind runs: its deadline, or none where it does not run.
     pub fn deadline(&self, kind: TimerKind) -> Option<Moment>
         ensures { result ≡ deadline_of self.now kind }
     {
-        self.deadlines[kind.place()]
+        match kind {
+            TimerKind::Retransmission => self.retransmission,
+            TimerKind::Probe => self.probe,
+            TimerKind::DelayedAck => self.delayed_ack,
+            TimerKind::Override => self.overriding,
+        }
     }
 
     /// Whether the deadline of a kind has come.
@@ -98,11 +82,23 @@ impl Timers {
 
     /// The least deadline, where a timer runs.
     pub fn next(&self) -> Option<Moment>
-        ensures value { result ≡ next_of self.now }
-        ensures kinds { length self.now ≡ 5 }
+        ensures { result ≡ next_of self.now }
     {
-        self.deadlines
-            .iter()
-            .fold(None, |next, deadline| sooner(next, *deadline))
+        sooner(
+            sooner(self.retransmission, self.probe),
+            sooner(self.delayed_ack, self.overriding),
+        )
+    }
+
+    /// Puts a deadline, or none, in the place of a kind.
+    fn put(&mut self, kind: TimerKind, deadline: Option<Moment>)
+        ensures { self.new ≡ with_deadline self.old kind deadline }
+    {
+        match kind {
+            TimerKind::Retransmission => self.retransmission = deadline,
+            TimerKind::Probe => self.probe = deadline,
+            TimerKind::DelayedAck => self.delayed_ack = deadline,
+            TimerKind::Override => self.overriding = deadline,
+        }
     }
 }

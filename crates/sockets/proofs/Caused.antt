@@ -16,7 +16,8 @@ use Rattle.tcp_state.specs.declared.connection.Fate.{Fate}
 use Rattle.tcp_state.specs.declared.connection.Fate.TheVariants.{Stays, Removed, Rejected}
 use Rattle.tcp_state.specs.declared.emission.Due.{Due}
 use Rattle.tcp_state.specs.declared.emission.Due.TheVariants.{Rst}
-use Rattle.tcp_state.specs.View.{View, IsSound, is_opening, is_closed, is_over}
+use Rattle.tcp_state.specs.View.{View, IsSound, is_opening, is_closed, is_over, is_at_end}
+use Rattle.tcp_state.specs.Timing.{gives_up, tick_fate}
 use Rattle.tcp_state.specs.declared.calls.Refusal.{Refusal as Error}
 use Rattle.tcp_state.specs.Calls.{beyond_shutdown, after_recv, after_shutdown}
 use Rattle.tcp_state.specs.Due.{first_due}
@@ -149,11 +150,11 @@ quiet_accepted (Listener l b) = refl
 quiet_accepted (Datagrams ours queues) = refl
 quiet_accepted (Connected c l) = never (is_closed c.state)
 
-quiet_sent : (octets : List ℕ) (role : Role) → becomes_closed role (role_after_send octets role) ≡ false
-quiet_sent octets (Idle buffers bound) = refl
-quiet_sent octets (Listener l b) = refl
-quiet_sent octets (Datagrams ours queues) = refl
-quiet_sent octets (Connected c l) = false_from _ (closes_caused c (edge.Sends octets))
+quiet_sent : (now : Moment) (octets : List ℕ) (role : Role) → becomes_closed role (role_after_send now octets role) ≡ false
+quiet_sent now octets (Idle buffers bound) = refl
+quiet_sent now octets (Listener l b) = refl
+quiet_sent now octets (Datagrams ours queues) = refl
+quiet_sent now octets (Connected c l) = false_from _ (closes_caused c (edge.Sends octets now))
 
 quiet_received : (len : ℕ) (role : Role) → becomes_closed role (role_after_recv len role) ≡ false
 quiet_received len (Idle buffers bound) = refl
@@ -165,11 +166,11 @@ quiet_received len (Connected c l) =
 shut_closes_none : (state : State) → (not (is_closed state) && is_closed (beyond_shutdown state)) ≡ false
 shut_closes_none state = grind (arith, common_steps)
 
-quiet_shut : (role : Role) → becomes_closed role (role_after_shutdown role) ≡ false
-quiet_shut (Idle buffers bound) = refl
-quiet_shut (Listener l b) = refl
-quiet_shut (Datagrams ours queues) = refl
-quiet_shut (Connected c l) =
+quiet_shut : (now : Moment) (role : Role) → becomes_closed role (role_after_shutdown now role) ≡ false
+quiet_shut now (Idle buffers bound) = refl
+quiet_shut now (Listener l b) = refl
+quiet_shut now (Datagrams ours queues) = refl
+quiet_shut now (Connected c l) =
     by_test (is_some c.pending_error || is_opening c.state) (λ refused. rw refused (never (is_closed c.state))) (λ shuts. rw shuts (shut_closes_none c.state))
 
 -- .. along their edges
@@ -199,11 +200,11 @@ accepted_edge (Listener l b) = inl refl
 accepted_edge (Datagrams ours queues) = tt
 accepted_edge (Connected c l) = inl refl
 
-sent_edge : (octets : List ℕ) (role : Role) → IsEdge (shown_state role) (shown_state (role_after_send octets role))
-sent_edge octets (Idle buffers bound) = inl refl
-sent_edge octets (Listener l b) = inl refl
-sent_edge octets (Datagrams ours queues) = tt
-sent_edge octets (Connected c l) = kept_edge c (edge.Sends octets) refl
+sent_edge : (now : Moment) (octets : List ℕ) (role : Role) → IsEdge (shown_state role) (shown_state (role_after_send now octets role))
+sent_edge now octets (Idle buffers bound) = inl refl
+sent_edge now octets (Listener l b) = inl refl
+sent_edge now octets (Datagrams ours queues) = tt
+sent_edge now octets (Connected c l) = kept_edge c (edge.Sends octets now) refl
 
 received_edge : (len : ℕ) (role : Role) → IsEdge (shown_state role) (shown_state (role_after_recv len role))
 received_edge len (Idle buffers bound) = inl refl
@@ -216,11 +217,11 @@ shut_edge Established = inr refl
 shut_edge CloseWait = inr refl
 shut_edge _ = inl refl
 
-shut_role_edge : (role : Role) → IsEdge (shown_state role) (shown_state (role_after_shutdown role))
-shut_role_edge (Idle buffers bound) = inl refl
-shut_role_edge (Listener l b) = inl refl
-shut_role_edge (Datagrams ours queues) = tt
-shut_role_edge (Connected c l) = by_test (is_some c.pending_error || is_opening c.state) (λ refused. rw refused (inl refl)) (λ shuts. rw shuts (shut_edge c.state))
+shut_role_edge : (now : Moment) (role : Role) → IsEdge (shown_state role) (shown_state (role_after_shutdown now role))
+shut_role_edge now (Idle buffers bound) = inl refl
+shut_role_edge now (Listener l b) = inl refl
+shut_role_edge now (Datagrams ours queues) = tt
+shut_role_edge now (Connected c l) = by_test (is_some c.pending_error || is_opening c.state) (λ refused. rw refused (inl refl)) (λ shuts. rw shuts (shut_edge c.state))
 
 -- .. and in silence
 
@@ -249,11 +250,11 @@ accepted_mute (Listener l b) error told = told
 accepted_mute (Datagrams ours queues) error told = told
 accepted_mute (Connected c l) error told = told
 
-sent_mute : (octets : List ℕ) → IsMute (role_after_send octets)
-sent_mute octets (Idle buffers bound) error told = told
-sent_mute octets (Listener l b) error told = told
-sent_mute octets (Datagrams ours queues) error told = told
-sent_mute octets (Connected c l) error told = told_before (errors_caused c (edge.Sends octets) error told)
+sent_mute : (now : Moment) (octets : List ℕ) → IsMute (role_after_send now octets)
+sent_mute now octets (Idle buffers bound) error told = told
+sent_mute now octets (Listener l b) error told = told
+sent_mute now octets (Datagrams ours queues) error told = told
+sent_mute now octets (Connected c l) error told = told_before (errors_caused c (edge.Sends octets now) error told)
 
 received_mute : (len : ℕ) → IsMute (role_after_recv len)
 received_mute len (Idle buffers bound) error told = told
@@ -265,12 +266,12 @@ received_mute len (Connected c l) error told =
     (λ none. ap of_test (sym none) ∙ told)
     (λ some. told_before (errors_caused c (edge.Receives len) error (ap of_test (sym some) ∙ told)))
 
-shut_mute : IsMute role_after_shutdown
-shut_mute (Idle buffers bound) error told = told
-shut_mute (Listener l b) error told = told
-shut_mute (Datagrams ours queues) error told = told
-shut_mute (Connected c l) error told =
-    let of_test : Bool → Option Error = λ b. (let w : View = if b then c else after_shutdown c in w.pending_error) in
+shut_mute : (now : Moment) → IsMute (role_after_shutdown now)
+shut_mute now (Idle buffers bound) error told = told
+shut_mute now (Listener l b) error told = told
+shut_mute now (Datagrams ours queues) error told = told
+shut_mute now (Connected c l) error told =
+    let of_test : Bool → Option Error = λ b. (let w : View = if b then c else after_shutdown c now in w.pending_error) in
     by_test (is_some c.pending_error || is_opening c.state) (λ refused. ap of_test (sym refused) ∙ told) (λ shuts. ap of_test (sym shuts) ∙ told)
 
 -- What is done to a UDP socket alone ends nothing, joins no other state and tells no error.
@@ -464,13 +465,13 @@ close_followed h id =
 -- The clock.
 
 tick_step : (h : SocketsView) (now : Moment) (x : Entry) → is_kept (tick_fate_of (later_moment h now) x.role) ≡ true → IsStep h (Ticks now) x (Some (with_role (role_after_tick (later_moment h now)) x))
-tick_step h now x kept = (refl, along x.role kept, by_role x.role, λ error told. inl (mute x.role error told))
+tick_step h now x kept = (refl, along x.role kept, by_role x.role, λ error told. tells x.role error told)
   where
-    mute : IsMute (role_after_tick (later_moment h now))
-    mute (Idle buffers bound) error told = told
-    mute (Listener l b) error told = told
-    mute (Datagrams ours queues) error told = told
-    mute (Connected c l) error told = told_before (errors_caused c (edge.Ticks (later_moment h now)) error told)
+    tells : (role : Role) (error : Error) → pending_error_in (role_after_tick (later_moment h now) role) ≡ Some error → (pending_error_in role ≡ Some error) ⊎ (is_telling (edge.Ticks (later_moment h now)) error role ≡ true)
+    tells (Idle buffers bound) error told = inl told
+    tells (Listener l b) error told = inl told
+    tells (Datagrams ours queues) error told = inl told
+    tells (Connected c l) error told = errors_caused c (edge.Ticks (later_moment h now)) error told
 
     along : (role : Role) → is_kept (tick_fate_of (later_moment h now) role) ≡ true → IsEdge (shown_state role) (shown_state (role_after_tick (later_moment h now) role))
     along (Idle buffers bound) stays = inl refl
@@ -491,7 +492,10 @@ tick_gone h now x = by_role x.role
     by_role (Idle buffers bound) gone = cc
     by_role (Listener l b) gone = cc
     by_role (Datagrams ours queues) gone = cc
-    by_role (Connected c l) gone = grind (arith, common_steps)
+    by_role (Connected c l) gone =
+        by_test (is_at_end c (later_moment h now))
+        (λ ends. or_left _ _ ends)
+        (λ waits. by_test (gives_up c (later_moment h now)) (λ ends. or_right _ _ ends) (λ lives. let kept : is_kept (tick_fate c (later_moment h now)) ≡ true = rw (waits, lives) in cc))
 
 -- A segment.
 
@@ -734,9 +738,9 @@ ends_followed h (Binds id local) sound = bind_followed h id local
 ends_followed h (Listens id backlog) sound = quiet_change h (Listens id backlog) refl (is_socket id) (role_after_listen backlog) (quiet_listening backlog) (listening_edge backlog) (listening_mute backlog) h.entries
 ends_followed h (Accepts id) sound = quiet_change h (Accepts id) refl (is_next_at h id) role_after_accept quiet_accepted accepted_edge accepted_mute h.entries
 ends_followed h (Connects isn id peer routed) sound = connect_followed h isn id peer routed
-ends_followed h (Sends id octets) sound = quiet_change h (Sends id octets) refl (is_socket id) (role_after_send octets) (quiet_sent octets) (sent_edge octets) (sent_mute octets) h.entries
+ends_followed h (Sends id octets) sound = quiet_change h (Sends id octets) refl (is_socket id) (role_after_send h.kept octets) (quiet_sent h.kept octets) (sent_edge h.kept octets) (sent_mute h.kept octets) h.entries
 ends_followed h (Receives id len) sound = quiet_change h (Receives id len) refl (is_socket id) (role_after_recv len) (quiet_received len) (received_edge len) (received_mute len) h.entries
-ends_followed h (Shuts id) sound = quiet_change h (Shuts id) refl (is_socket id) role_after_shutdown quiet_shut shut_role_edge shut_mute h.entries
+ends_followed h (Shuts id) sound = quiet_change h (Shuts id) refl (is_socket id) (role_after_shutdown h.kept) (quiet_shut h.kept) (shut_role_edge h.kept) (shut_mute h.kept) h.entries
 ends_followed h (Closes id) sound = close_followed h id
 ends_followed h (Ticks now) sound = each_followed (IsStep h (Ticks now)) (IsAdded h (Ticks now)) refl (λ x. is_kept (tick_fate_of (later_moment h now) x.role)) (with_role (role_after_tick (later_moment h now))) h.entries (tick_step h now) (tick_gone h now)
 ends_followed h (Hears now isn source s) sound = segment_followed h now isn source s

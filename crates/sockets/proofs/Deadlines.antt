@@ -1,12 +1,11 @@
 -- The least deadline of the entries, and that a tick before it changes none of them.
-use Rattle.std.proofs.Common.{◌≡◌, ◌⊎◌, inl, inr, ℕ, suc, ◌<◌, ◌≤◌, Bool, true, false, if◌then◌else◌, nat_le, List, [], ◌∷◌, Option, Some, None, length, refl, sym, ◌∙◌, ap, subst, arith}
+use Rattle.std.proofs.Common.{◌≡◌, ◌⊎◌, inl, inr, ℕ, suc, ◌<◌, ◌≤◌, true, false, if◌then◌else◌, nat_le, List, [], ◌∷◌, Option, Some, None, length, refl, sym, ◌∙◌, ap, subst, arith}
 use Rattle.std.specs.List.{fold, Contains, AllByRecursion}
 use Rattle.std.proofs.lemmas.Bool.{leb-true, leb-false, lt-leb}
 use Rattle.clock.specs.declared.moment.Moment.{Moment}
 use Rattle.clock.specs.Moments.{has_come, sooner}
-use Rattle.tcp_state.specs.declared.connection.Resend.{Resend}
-use Rattle.tcp_state.specs.declared.connection.Resend.TheVariants.{Idle as Rests, At, Due}
-use Rattle.tcp_state.specs.View.{View, is_at_end, ends_at, resend_at, resend_after, after_resend, after_tick, after_stop, deadline}
+use Rattle.tcp_state.specs.View.{View, is_at_end, ends_at}
+use Rattle.tcp_state.specs.Timing.{gives_up, after_tick, tick_fate, deadline}
 use Rattle.sockets.specs.declared.entry.Entry.{Entry}
 use Rattle.sockets.specs.declared.role.Role.{Role}
 use Rattle.sockets.specs.declared.role.Role.TheVariants.{Idle, Listener, Connected, Datagrams}
@@ -121,24 +120,29 @@ both_unreached (Some a) (Some b) now e = by_test (nat_le a.0 b.0)
     let lower : b.0 < a.0 = leb-false a.0 b.0 more in (unreached b.0 a.0 now.0 (omega arith) at, at))
 
 -- a connection of which no timer acts
-resend_waits : (r : Resend) (now : Moment) → has_come (resend_at r) now ≡ false → resend_after r now ≡ r
-resend_waits Rests now e = refl
-resend_waits Due now e = refl
-resend_waits (At moment) now e = rw e
+record TimersWait (v : View) (now : Moment) : Type 0 where
+  ends : is_at_end v now ≡ false
+  gives : gives_up v now ≡ false
+  timers : has_come (sooner (sooner v.timers.retransmission v.timers.probe) (sooner v.timers.delayed_ack v.timers.overriding)) now ≡ false
+
+timers_wait : (v : View) (now : Moment) → has_come (deadline v) now ≡ false → TimersWait v now
+timers_wait v now e =
+    let both = both_unreached (sooner (sooner v.timers.retransmission v.timers.probe) (sooner v.timers.delayed_ack v.timers.overriding)) (ends_at v) now e in
+    let kinds = both_unreached (sooner v.timers.retransmission v.timers.probe) (sooner v.timers.delayed_ack v.timers.overriding) now both.0 in
+    let first = both_unreached v.timers.retransmission v.timers.probe now kinds.0 in
+    record { ends = both.1; gives = rw (first.0, first.1); timers = both.0 }
 
 pub tick_waits_at : (v : View) (now : Moment) → has_come (deadline v) now ≡ false → after_tick v now ≡ v
-tick_waits_at v now e =
-    let both = both_unreached (resend_at v.resend) (ends_at v) now e in
-    let same : after_resend v now ≡ v = ap (λ (r : Resend). let w : View = record v { resend = r } in w) (resend_waits v.resend now both.0) in
-    ap (λ (b : Bool). if b then after_stop v else after_resend v now) both.1 ∙ same
+tick_waits_at v now e = let w = timers_wait v now e in rw (w.ends, w.gives, w.timers)
+
+kept_at : (v : View) (now : Moment) → has_come (deadline v) now ≡ false → is_kept (tick_fate v now) ≡ true
+kept_at v now e = let w = timers_wait v now e in rw (w.ends, w.gives)
 
 role_waits : (role : Role) (now : Moment) → has_come (deadline_of role) now ≡ false → (is_kept (tick_fate_of now role) ≡ true) × (role_after_tick now role ≡ role)
 role_waits (Idle buffers bound) now e = (refl, refl)
 role_waits (Listener l b) now e = (refl, refl)
 role_waits (Datagrams ours queues) now e = (refl, refl)
-role_waits (Connected c l) now e =
-    let end : is_at_end c now ≡ false = (both_unreached (resend_at c.resend) (ends_at c) now e).1 in
-    (rw end, ap (λ (v : View). Connected v l) (tick_waits_at c now e))
+role_waits (Connected c l) now e = (kept_at c now e, ap (λ (v : View). Connected v l) (tick_waits_at c now e))
 
 entries_wait : (first : Option Moment) (xs : List Entry) (now : Moment) → has_come (least_from first xs) now ≡ false → (has_come first now ≡ false) × (entries_after_steps (tick_fate_of now) (role_after_tick now) xs ≡ xs)
 entries_wait first [] now e = (e, refl)

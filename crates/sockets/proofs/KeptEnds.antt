@@ -1,19 +1,22 @@
 -- Whatever happens to a connection, its endpoints stay, and what is CLOSED stays so.
-use Rattle.std.proofs.Common.{◌≡◌, ℕ, ◌&&◌, ◌||◌, ◌==◌, not, if◌then◌else◌, Bool, true, false, List, length, Some, is_some, refl, ◌∙◌}
+use Rattle.std.proofs.Common.{◌≡◌, ℕ, ◌&&◌, ◌||◌, ◌==◌, not, if◌then◌else◌, Bool, true, false, List, length, Some, is_some, refl, sym, ◌∙◌, ap}
 use Rattle.tcp_segment.specs.Segment.{Segment}
-use Rattle.tcp_state.specs.declared.emission.Due.{Due}
-use Rattle.tcp_state.specs.declared.emission.Due.TheVariants.{Rst, Syn, Text, Fin, Ack}
 use Rattle.clock.specs.declared.moment.Moment.{Moment}
+use Rattle.tcp_state.specs.declared.emission.Due.{Due}
+use Rattle.tcp_state.specs.declared.emission.Due.TheVariants.{Rst, Syn, Text, Probe, Ack}
 use Rattle.tcp_state.specs.declared.state.State.{State}
 use Rattle.tcp_state.specs.declared.state.State.TheVariants.{Closed, Listen, SynSent, SynReceived, Established, FinWait1, FinWait2, CloseWait, Closing, LastAck, TimeWait}
-use Rattle.tcp_state.specs.declared.calls.Refusal.TheVariants.{ECONNREFUSED}
+use Rattle.tcp_state.specs.declared.calls.Refusal.TheVariants.{ECONNREFUSED, ETIMEDOUT}
 use Rattle.tcp_state.specs.Numbers.{is_before}
 use Rattle.tcp_state.specs.Stream.{is_new_ack, is_in_window}
-use Rattle.tcp_state.specs.View.{View, is_opening, is_syn_sent, is_syn_received, is_closed, is_write_closed, is_at_end, after_stop, after_resend, after_tick, is_fin_next}
+use Rattle.tcp_state.specs.View.{View, is_opening, is_syn_sent, is_syn_received, is_closed, is_at_end, after_stop, after_reset}
+use Rattle.tcp_state.specs.Timing.{gives_up, after_tick}
 use Rattle.tcp_state.specs.Calls.{after_send, after_recv, beyond_shutdown, after_shutdown, aborted, aborted_at, after_abort, is_removed_by_close, is_aborted_by_close, after_release, after_close}
-use Rattle.tcp_state.specs.Due.{after_emitted, after_ack_paid, after_numbers}
-use Rattle.tcp_state.specs.Arrival.{after_segment, after_syn_ack, is_right_syn_ack, is_simultaneous_syn, after_simultaneous_syn, is_acceptable_to, after_acceptable_segment, after_acknowledging_segment, after_ack, is_read_on, after_window, after_text, owing_ack, after_establishment, ends_by_syn, fin_acknowledged, after_new_ack, is_receiving, counts_fin, after_fin, after_reset, reset_error, after_rst_in_syn_sent, is_acting_reset, ends_by_reset, after_rst, is_lost, after_lost, after_heard, after_segment_at}
+use Rattle.tcp_state.specs.Due.{after_emitted}
+use Rattle.tcp_state.specs.Arrival.{after_segment, after_syn_ack, is_right_syn_ack, is_simultaneous_syn, after_simultaneous_syn, is_acceptable_to, after_acceptable_segment, after_acknowledging_segment, after_ack, is_read_on, after_window, after_text, owing_ack, after_establishment, ends_by_syn, is_of_fin, fin_acknowledged, after_new_ack, is_receiving, counts_fin, after_fin, reset_error, after_rst_in_syn_sent, is_acting_reset, ends_by_reset, after_rst, is_lost, after_lost, after_heard, is_rejected, before, timed_by, after_segment_at}
 use Rattle.tcp_state.specs.Unreachable.{is_unreachable, after_unreachable}
+use Rattle.sockets.proofs.Followed.{by_test}
+use Rattle.sockets.proofs.Alike.{IsAlike, alike-same, alike-timed, alike-tick, alike-send, alike-syn, alike-text, alike-probe, alike-ack}
 
 -- the endpoints stay, and nothing that is CLOSED lives again
 pub record KeepsEnds (v w : View) : Type 0 where
@@ -21,29 +24,34 @@ pub record KeepsEnds (v w : View) : Type 0 where
   pub peer : w.peer ≡ v.peer
   pub live : is_closed w.state ≡ false → is_closed v.state ≡ false
 
+-- its state stays
+keeps-alike : (v w : View) → IsAlike v w → KeepsEnds v w
+keeps-alike v w a = record { local = a.local; peer = a.peer; live = λ e. ap is_closed (sym a.state) ∙ e }
+
 -- nothing happened
 pub keeps-nothing : (v : View) → KeepsEnds v v
-keeps-nothing v = record { local = refl; peer = refl; live = λ e. e }
+keeps-nothing v = keeps-alike v v (alike-same v)
+
+-- it is CLOSED
+keeps-closed : (v w : View) → w.local ≡ v.local → w.peer ≡ v.peer → is_closed w.state ≡ true → KeepsEnds v w
+keeps-closed v w local peer closed = record { local = local; peer = peer; live = λ e. cc }
+
+-- one of two
+keeps-either : (v : View) (test : Bool) (w x : View) → KeepsEnds v w → KeepsEnds v x → KeepsEnds v (if test then w else x)
+keeps-either v true w x a b = a
+keeps-either v false w x a b = b
 
 -- octets are taken from the caller
-pub keeps-send : (v : View) (octets : List ℕ) → KeepsEnds v (after_send v octets)
-keeps-send v octets = either (is_some v.pending_error || is_opening v.state || is_write_closed v.state) v _ (keeps-nothing v) (record { local = refl; peer = refl; live = λ e. e })
-  where
-    either : (test : Bool) (w x : View) → KeepsEnds v w → KeepsEnds v x → KeepsEnds v (if test then w else x)
-    either true w x a b = a
-    either false w x a b = b
+pub keeps-send : (v : View) (octets : List ℕ) (now : Moment) → KeepsEnds v (after_send v octets now)
+keeps-send v octets now = keeps-alike v (after_send v octets now) (alike-send v octets now)
 
 -- octets are read by the caller
 pub keeps-recv : (v : View) (len : ℕ) → KeepsEnds v (after_recv v len)
-keeps-recv v len = either (is_some v.pending_error || is_opening v.state || (length v.receiving.readable == 0)) v _ (keeps-nothing v) (record { local = refl; peer = refl; live = λ e. e })
-  where
-    either : (test : Bool) (w x : View) → KeepsEnds v w → KeepsEnds v x → KeepsEnds v (if test then w else x)
-    either true w x a b = a
-    either false w x a b = b
+keeps-recv v len = keeps-either v (is_some v.pending_error || is_opening v.state || (length v.receiving.readable == 0)) v _ (keeps-nothing v) (record { local = refl; peer = refl; live = λ e. e })
 
 -- our side is closed
-pub keeps-shutdown : (v : View) → KeepsEnds v (after_shutdown v)
-keeps-shutdown v = record { local = refl; peer = refl; live = λ e. still v.state e }
+pub keeps-shutdown : (v : View) (now : Moment) → KeepsEnds v (after_shutdown v now)
+keeps-shutdown v now = record { local = refl; peer = refl; live = λ e. still v.state e }
   where
     still : (t : State) → is_closed (beyond_shutdown t) ≡ false → is_closed t ≡ false
     still Closed e = e
@@ -60,51 +68,35 @@ keeps-shutdown v = record { local = refl; peer = refl; live = λ e. still v.stat
 
 -- a tick
 pub keeps-tick : (v : View) (now : Moment) → KeepsEnds v (after_tick v now)
-keeps-tick v now = either (is_at_end v now)
-  where
-    either : (test : Bool) → KeepsEnds v (if test then after_stop v else after_resend v now)
-    either true = record { local = refl; peer = refl; live = λ e. let bad : true ≡ false = e in cc }
-    either false = record { local = refl; peer = refl; live = λ e. e }
+keeps-tick v now =
+    by_test (is_at_end v now)
+    (λ ends. rw ends (keeps-closed v (after_stop v) refl refl refl))
+    (λ waits. by_test (gives_up v now)
+    (λ ends. rw (waits, ends) (keeps-closed v (after_reset v (Some ETIMEDOUT)) refl refl refl))
+    (λ lives. keeps-alike v (after_tick v now) (alike-tick v now waits lives)))
 
 -- it is aborted, as far as it is not CLOSED
 pub keeps-abort : (v : View) (now : Moment) → KeepsEnds v (after_abort v now)
-keeps-abort v now = either (is_closed v.state)
-  where
-    either : (test : Bool) → KeepsEnds v (if test then v else aborted_at v now)
-    either true = keeps-nothing v
-    either false = record { local = refl; peer = refl; live = λ e. let bad : true ≡ false = e in cc }
+keeps-abort v now = keeps-either v (is_closed v.state) v (aborted_at v now) (keeps-nothing v) (keeps-closed v (aborted_at v now) refl refl refl)
 
 -- an error tells of its SYN
 pub keeps-unreachable : (v : View) (number : ℕ) → KeepsEnds v (after_unreachable v number)
-keeps-unreachable v number = either (is_unreachable v number)
-  where
-    either : (test : Bool) → KeepsEnds v (if test then after_reset v (Some ECONNREFUSED) else v)
-    either true = record { local = refl; peer = refl; live = λ e. let bad : true ≡ false = e in cc }
-    either false = keeps-nothing v
+keeps-unreachable v number = keeps-either v (is_unreachable v number) (after_reset v (Some ECONNREFUSED)) v (keeps-closed v (after_reset v (Some ECONNREFUSED)) refl refl refl) (keeps-nothing v)
 
 -- its caller closes it
 pub keeps-close : (v : View) (now : Moment) → KeepsEnds v (after_close v now)
-keeps-close v now = first (is_removed_by_close v)
-  where
-    second : (test : Bool) → KeepsEnds v (if test then aborted_at v now else after_release v now)
-    second true = record { local = refl; peer = refl; live = λ e. let bad : true ≡ false = e in cc }
-    second false = let shuts = keeps-shutdown v in record { local = refl; peer = refl; live = shuts.live }
-
-    first : (test : Bool) → KeepsEnds v (if test then v else (if is_aborted_by_close v then aborted_at v now else after_release v now))
-    first true = keeps-nothing v
-    first false = second (is_aborted_by_close v)
+keeps-close v now =
+    keeps-either v (is_removed_by_close v) v _ (keeps-nothing v)
+    (keeps-either v (is_aborted_by_close v) (aborted_at v now) (after_release v now) (keeps-closed v (aborted_at v now) refl refl refl)
+    (let shuts = keeps-shutdown v now in record { local = refl; peer = refl; live = shuts.live }))
 
 -- a segment goes out
 pub keeps-emitted : (v : View) (due : Due) (now : Moment) → KeepsEnds v (after_emitted v due now)
 keeps-emitted v Rst now = record { local = refl; peer = refl; live = λ e. e }
-keeps-emitted v Syn now = either (is_syn_received v.state)
-  where
-    either : (test : Bool) → KeepsEnds v (if test then after_ack_paid (after_numbers v 1 now) else after_numbers v 1 now)
-    either true = record { local = refl; peer = refl; live = λ e. e }
-    either false = record { local = refl; peer = refl; live = λ e. e }
-keeps-emitted v (Text count) now = record { local = refl; peer = refl; live = λ e. e }
-keeps-emitted v Fin now = record { local = refl; peer = refl; live = λ e. e }
-keeps-emitted v Ack now = record { local = refl; peer = refl; live = λ e. e }
+keeps-emitted v Syn now = keeps-alike v _ (alike-syn v now)
+keeps-emitted v (Text stretch) now = keeps-alike v _ (alike-text v stretch now)
+keeps-emitted v Probe now = keeps-alike v _ (alike-probe v now)
+keeps-emitted v Ack now = keeps-alike v _ (alike-ack v now)
 
 -- A segment comes.
 
@@ -130,7 +122,7 @@ same-ack v ack =
     same-either v (is_syn_received v.state) _ _
     (same-either v (is_new_ack v.sending ack) (after_establishment v) v (record { local = refl; peer = refl }) (same v))
     (same-either v (is_new_ack v.sending ack) _ _
-    (same-either v (is_fin_next v) (fin_acknowledged (after_new_ack v ack)) (after_new_ack v ack) (record { local = refl; peer = refl }) (record { local = refl; peer = refl }))
+    (same-either v (is_of_fin v ack) (fin_acknowledged (after_new_ack v ack)) (after_new_ack v ack) (record { local = refl; peer = refl }) (record { local = refl; peer = refl }))
     (same-either v (is_before v.sending.nxt ack) (owing_ack v) v (record { local = refl; peer = refl }) (same v)))
 
 same-text : (v : View) (s : Segment) → SameEnds v (after_text v s)
@@ -175,12 +167,19 @@ same-segment v s =
     (same-either v (is_simultaneous_syn v s) (after_simultaneous_syn v s) (after_syn_ack v s) (record { local = refl; peer = refl }) (same-syn_ack v s))
     (same-either v (is_acceptable_to v s) (after_acceptable_segment v s) (owing_ack v) (same-accepted v s) (record { local = refl; peer = refl }))))
 
-pub same-heard : (v : View) (s : Segment) → SameEnds v (after_heard v s)
+same-heard : (v : View) (s : Segment) → SameEnds v (after_heard v s)
 same-heard v s =
     let acked = after_ack v s.acknowledgement in
     let told = after_window acked s in
     same-either v (is_lost v s) (after_lost v s) (after_segment v s) (same-then v told (aborted told) (same-then v acked told (same-ack v s.acknowledgement) (same-window acked s)) (record { local = refl; peer = refl })) (same-segment v s)
 
+-- and the clock takes note of it
+same-timed : (v : View) (s : Segment) (now : Moment) → SameEnds v (timed_by (before v s) (after_heard v s) now)
+same-timed v s now = let a = same-heard v s in let b = alike-timed v s (after_heard v s) now in record { local = b.local ∙ a.local; peer = b.peer ∙ a.peer }
+
+pub same-arrived : (v : View) (s : Segment) (now : Moment) → SameEnds v (after_segment_at v s now)
+same-arrived v s now = same-either v (is_closed v.state || is_rejected v s) v _ (same v) (same-timed v s now)
+
 -- a segment arrives at a connection that is not CLOSED
 pub keeps-segment : (v : View) (s : Segment) (now : Moment) → is_closed v.state ≡ false → KeepsEnds v (after_segment_at v s now)
-keeps-segment v s now lives = let ends = same-heard v s in record { local = ends.local; peer = ends.peer; live = λ e. lives }
+keeps-segment v s now lives = let ends = same-arrived v s now in record { local = ends.local; peer = ends.peer; live = λ e. lives }

@@ -24,7 +24,7 @@ use Rattle.sockets.specs.Index.{filed_at, filed_as, filed, inserted, index_of}
 use Rattle.sockets.proofs.Connected.{had_opens_none}
 use Rattle.sockets.proofs.Filed.{room_index, index_connected}
 use Rattle.sockets.proofs.Followed.{by_test}
-use Rattle.sockets.proofs.KeptEnds.{KeepsEnds, keeps-send, keeps-recv, keeps-shutdown, keeps-tick, keeps-abort, keeps-close, keeps-emitted, keeps-unreachable, same-heard}
+use Rattle.sockets.proofs.KeptEnds.{KeepsEnds, keeps-send, keeps-recv, keeps-shutdown, keeps-tick, keeps-abort, keeps-close, keeps-emitted, keeps-unreachable, same-arrived}
 
 -- one role is filed as another
 abbrev pub IsFiledAs : Role → Role → Type 0
@@ -55,11 +55,11 @@ filed-accept (Listener l b) id = refl
 filed-accept (Datagrams bound socket) id = refl
 filed-accept (Connected c l) id = refl
 
-pub filed-send : (octets : List ℕ) (r : Role) → IsFiledAs r (role_after_send octets r)
-filed-send octets (Idle buffers bound) id = refl
-filed-send octets (Listener l b) id = refl
-filed-send octets (Datagrams bound socket) id = refl
-filed-send octets (Connected c l) id = filed-kept c _ l l (keeps-send c octets) id
+pub filed-send : (now : Moment) (octets : List ℕ) (r : Role) → IsFiledAs r (role_after_send now octets r)
+filed-send now octets (Idle buffers bound) id = refl
+filed-send now octets (Listener l b) id = refl
+filed-send now octets (Datagrams bound socket) id = refl
+filed-send now octets (Connected c l) id = filed-kept c _ l l (keeps-send c octets now) id
 
 pub filed-recv : (len : ℕ) (r : Role) → IsFiledAs r (role_after_recv len r)
 filed-recv len (Idle buffers bound) id = refl
@@ -67,11 +67,11 @@ filed-recv len (Listener l b) id = refl
 filed-recv len (Datagrams bound socket) id = refl
 filed-recv len (Connected c l) id = by_test (len == 0) (λ none. rw none refl) (λ some. rw some (filed-kept c _ l l (keeps-recv c len) id))
 
-pub filed-shutdown : (r : Role) → IsFiledAs r (role_after_shutdown r)
-filed-shutdown (Idle buffers bound) id = refl
-filed-shutdown (Listener l b) id = refl
-filed-shutdown (Datagrams bound socket) id = refl
-filed-shutdown (Connected c l) id = by_test (is_some c.pending_error || is_opening c.state) (λ refused. rw refused refl) (λ shuts. rw shuts (filed-kept c _ l l (keeps-shutdown c) id))
+pub filed-shutdown : (now : Moment) (r : Role) → IsFiledAs r (role_after_shutdown now r)
+filed-shutdown now (Idle buffers bound) id = refl
+filed-shutdown now (Listener l b) id = refl
+filed-shutdown now (Datagrams bound socket) id = refl
+filed-shutdown now (Connected c l) id = by_test (is_some c.pending_error || is_opening c.state) (λ refused. rw refused refl) (λ shuts. rw shuts (filed-kept c _ l l (keeps-shutdown c now) id))
 
 filed-queues : (bind : Option Endpoint → Option Endpoint) (change : Queues → Queues) (r : Role) → IsFiledAs r (on_datagrams bind change r)
 filed-queues bind change (Idle buffers bound) id = refl
@@ -98,7 +98,7 @@ pub filed-segment : (now : Moment) (s : Segment) (r : Role) → IsFiledAs r (rol
 filed-segment now s (Idle buffers bound) id = refl
 filed-segment now s (Listener l b) id = refl
 filed-segment now s (Datagrams bound socket) id = refl
-filed-segment now s (Connected c l) id = let ends = same-heard c s in filed-by_ends c (after_segment_at c s now) l l ends.local ends.peer id
+filed-segment now s (Connected c l) id = let ends = same-arrived c s now in filed-by_ends c (after_segment_at c s now) l l ends.local ends.peer id
 
 pub filed-unreachable : (number : ℕ) (r : Role) → IsFiledAs r (role_after_unreachable number r)
 filed-unreachable number (Idle buffers bound) id = refl

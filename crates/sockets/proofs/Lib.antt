@@ -23,6 +23,8 @@ pub mod Offered
 pub mod Deadlines
 pub mod Opened
 pub mod Ends
+pub mod Alike
+pub mod Ticked
 pub mod KeptEnds
 pub mod Ordering
 pub mod Ordered

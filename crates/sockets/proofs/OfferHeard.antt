@@ -1,5 +1,5 @@
 -- What a segment makes of a connection that waits at a listener.
-use Rattle.std.proofs.Common.{◌≡◌, ◌⊎◌, inl, inr, ℕ, ◌&&◌, ◌||◌, not, Bool, true, false, if◌then◌else◌, length, ◌==◌, Option, Some, None, refl, sym, ◌∙◌, subst, arith}
+use Rattle.std.proofs.Common.{◌≡◌, ◌⊎◌, inl, inr, ℕ, ◌&&◌, ◌||◌, not, Bool, true, false, if◌then◌else◌, length, ◌==◌, Option, Some, None, refl, sym, ◌∙◌, ap, subst, arith}
 use Rattle.ipv4.specs.declared.addr.Endpoint.{Endpoint}
 use Rattle.ipv4.specs.Addresses.{same_end}
 use Rattle.tcp_segment.specs.Segment.{Segment}
@@ -9,8 +9,8 @@ use Rattle.tcp_state.specs.declared.state.State.TheVariants.{FinWait1, Closing, 
 use Rattle.tcp_state.specs.declared.connection.Fate.TheVariants.{Stays, Removed, Rejected}
 use Rattle.tcp_state.specs.Numbers.{is_before}
 use Rattle.tcp_state.specs.Stream.{is_new_ack, is_in_window}
-use Rattle.tcp_state.specs.View.{View, is_syn_sent, is_syn_received, is_closed, is_over, is_fin_next}
-use Rattle.tcp_state.specs.Arrival.{owing_ack, is_acceptable_to, is_receiving, beyond_fin, beyond_end, ends_by_syn, is_acting_reset, ends_by_reset, after_reset, reset_error, after_rst, after_establishment, fin_acknowledged, after_new_ack, after_ack, is_read_on, after_window, after_text, counts_fin, after_fin, after_acknowledging_segment, after_acceptable_segment, after_segment, is_lost, after_heard, timed, after_segment_at, is_rejected, ends_opening, fate}
+use Rattle.tcp_state.specs.View.{View, is_syn_sent, is_syn_received, is_closed, is_over, after_reset}
+use Rattle.tcp_state.specs.Arrival.{owing_ack, is_acceptable_to, is_receiving, beyond_fin, beyond_end, ends_by_syn, is_acting_reset, ends_by_reset, reset_error, after_rst, after_establishment, is_of_fin, fin_acknowledged, after_new_ack, after_ack, is_read_on, after_window, after_text, counts_fin, after_fin, after_acknowledging_segment, after_acceptable_segment, after_segment, is_lost, after_heard, before, timed_by, after_segment_at, is_rejected, ends_opening, fate}
 use Rattle.tcp_state.proofs.Edges.{and_left, and_right}
 use Rattle.tcp_state.proofs.Causes.{not_true}
 use Rattle.sockets.specs.declared.entry.SocketId.{SocketId}
@@ -18,21 +18,23 @@ use Rattle.sockets.specs.declared.role.Role.{Role}
 use Rattle.sockets.specs.declared.role.Role.TheVariants.{Idle, Listener, Connected, Datagrams}
 use Rattle.sockets.specs.Entries.{is_live_between, is_kept, role_after_segment, fate_of, is_offered_by}
 use Rattle.sockets.specs.Offered.{is_ready}
+use Rattle.sockets.proofs.Alike.{alike-timed}
 use Rattle.sockets.proofs.Followed.{by_test}
 use Rattle.sockets.proofs.OfferRoles.{IsPlainView, IsPlain, is_waking, Carries, StaysReady, as-it-was, nobody, goes-on}
 
--- It is left as before, owes what it did, and joins neither SYN-SENT nor SYN-RECEIVED.
+-- It is left as before, opened by whom it was, owes what it did, and joins neither SYN-SENT nor SYN-RECEIVED.
 record Heard (v w : View) : Type 0 where
+  passive : w.passive ≡ v.passive
   released : w.released ≡ v.released
   owes : w.owes_reset ≡ v.owes_reset
   sent : is_syn_sent v.state ≡ false → is_syn_sent w.state ≡ false
   received : is_syn_received w.state ≡ true → is_syn_received v.state ≡ true
 
 same : (v : View) → Heard v v
-same v = record { released = refl; owes = refl; sent = λ e. e; received = λ e. e }
+same v = record { passive = refl; released = refl; owes = refl; sent = λ e. e; received = λ e. e }
 
 after : (v w x : View) → Heard v w → Heard w x → Heard v x
-after v w x a b = record { released = b.released ∙ a.released; owes = b.owes ∙ a.owes; sent = λ e. b.sent (a.sent e); received = λ e. a.received (b.received e) }
+after v w x a b = record { passive = b.passive ∙ a.passive; released = b.released ∙ a.released; owes = b.owes ∙ a.owes; sent = λ e. b.sent (a.sent e); received = λ e. a.received (b.received e) }
 
 either : (v : View) (test : Bool) (w x : View) → Heard v w → Heard v x → Heard v (if test then w else x)
 either v true w x a b = a
@@ -66,23 +68,23 @@ end-received _ e = e
 heard-ack : (v : View) (ack : ℕ) → Heard v (after_ack v ack)
 heard-ack v ack =
     either v (is_syn_received v.state) _ _
-    (either v (is_new_ack v.sending ack) (after_establishment v) v (record { released = refl; owes = refl; sent = λ e. refl; received = λ e. cc }) (same v))
+    (either v (is_new_ack v.sending ack) (after_establishment v) v (record { passive = refl; released = refl; owes = refl; sent = λ e. refl; received = λ e. cc }) (same v))
     (either v (is_new_ack v.sending ack) _ _
-    (either v (is_fin_next v) (fin_acknowledged (after_new_ack v ack)) (after_new_ack v ack)
-    (record { released = refl; owes = refl; sent = fin-sent v.state; received = fin-received v.state })
-    (record { released = refl; owes = refl; sent = λ e. e; received = λ e. e }))
-    (either v (is_before v.sending.nxt ack) (owing_ack v) v (record { released = refl; owes = refl; sent = λ e. e; received = λ e. e }) (same v)))
+    (either v (is_of_fin v ack) (fin_acknowledged (after_new_ack v ack)) (after_new_ack v ack)
+    (record { passive = refl; released = refl; owes = refl; sent = fin-sent v.state; received = fin-received v.state })
+    (record { passive = refl; released = refl; owes = refl; sent = λ e. e; received = λ e. e }))
+    (either v (is_before v.sending.nxt ack) (owing_ack v) v (record { passive = refl; released = refl; owes = refl; sent = λ e. e; received = λ e. e }) (same v)))
 
 heard-window : (v : View) (s : Segment) → Heard v (after_window v s)
-heard-window v s = record { released = refl; owes = refl; sent = λ e. e; received = λ e. e }
+heard-window v s = record { passive = refl; released = refl; owes = refl; sent = λ e. e; received = λ e. e }
 
 heard-text : (v : View) (s : Segment) → Heard v (after_text v s)
-heard-text v s = either v ((length s.octets == 0) || not (is_receiving v.state)) v _ (same v) (record { released = refl; owes = refl; sent = λ e. e; received = λ e. e })
+heard-text v s = either v ((length s.octets == 0) || not (is_receiving v.state)) v _ (same v) (record { passive = refl; released = refl; owes = refl; sent = λ e. e; received = λ e. e })
 
 heard-fin : (v : View) (s : Segment) → Heard v (after_fin v s)
 heard-fin v s =
-    either v (counts_fin v s) _ _ (record { released = refl; owes = refl; sent = end-sent v.state; received = end-received v.state })
-    (either v (s.flags.fin && is_receiving v.state) (owing_ack v) v (record { released = refl; owes = refl; sent = λ e. e; received = λ e. e }) (same v))
+    either v (counts_fin v s) _ _ (record { passive = refl; released = refl; owes = refl; sent = end-sent v.state; received = end-received v.state })
+    (either v (s.flags.fin && is_receiving v.state) (owing_ack v) v (record { passive = refl; released = refl; owes = refl; sent = λ e. e; received = λ e. e }) (same v))
 
 heard-acknowledging : (v : View) (s : Segment) → Heard v (after_acknowledging_segment v s)
 heard-acknowledging v s =
@@ -96,14 +98,14 @@ heard-acknowledging v s =
 heard-accepted : (v : View) (s : Segment) → Heard v (after_acceptable_segment v s)
 heard-accepted v s =
     either v s.flags.syn _ _
-    (either v (ends_by_syn v s) v (owing_ack v) (same v) (record { released = refl; owes = refl; sent = λ e. e; received = λ e. e }))
+    (either v (ends_by_syn v s) v (owing_ack v) (same v) (record { passive = refl; released = refl; owes = refl; sent = λ e. e; received = λ e. e }))
     (either v s.flags.ack (after_acknowledging_segment v s) v (heard-acknowledging v s) (same v))
 
 heard-reset : (v : View) (s : Segment) → Heard v (after_rst v s)
 heard-reset v s =
     either v (is_acting_reset v s) _ _
-    (either v (ends_by_reset v s) v (after_reset v (reset_error v.state)) (same v) (record { released = refl; owes = refl; sent = λ e. refl; received = λ e. cc }))
-    (either v (is_in_window v.receiving s.number) (owing_ack v) v (record { released = refl; owes = refl; sent = λ e. e; received = λ e. e }) (same v))
+    (either v (ends_by_reset v s) v (after_reset v (reset_error v.state)) (same v) (record { passive = refl; released = refl; owes = refl; sent = λ e. refl; received = λ e. cc }))
+    (either v (is_in_window v.receiving s.number) (owing_ack v) v (record { passive = refl; released = refl; owes = refl; sent = λ e. e; received = λ e. e }) (same v))
 
 past-sent : (v : View) (s : Segment) → is_syn_sent v.state ≡ false
     → after_segment v s ≡ (if is_closed v.state then v else if s.flags.rst then after_rst v s else if is_acceptable_to v s then after_acceptable_segment v s else owing_ack v)
@@ -114,10 +116,12 @@ heard-segment v s sent =
     subst (Heard v) (sym (past-sent v s sent))
     (either v (is_closed v.state) v _ (same v)
     (either v s.flags.rst (after_rst v s) _ (heard-reset v s)
-    (either v (is_acceptable_to v s) (after_acceptable_segment v s) (owing_ack v) (heard-accepted v s) (record { released = refl; owes = refl; sent = λ e. e; received = λ e. e }))))
+    (either v (is_acceptable_to v s) (after_acceptable_segment v s) (owing_ack v) (heard-accepted v s) (record { passive = refl; released = refl; owes = refl; sent = λ e. e; received = λ e. e }))))
 
-heard-timed : (v w : View) (s : Segment) (now : Moment) → Heard v w → Heard v (timed v s now w)
-heard-timed v w s now a = record { released = a.released; owes = a.owes; sent = a.sent; received = a.received }
+heard-timed : (v w : View) (s : Segment) (now : Moment) → Heard v w → Heard v (timed_by (before v s) w now)
+heard-timed v w s now a =
+    let b = alike-timed v s w now in
+    record { passive = b.passive ∙ a.passive; released = b.released ∙ a.released; owes = b.owes ∙ a.owes; sent = λ e. ap is_syn_sent b.state ∙ a.sent e; received = λ e. a.received (ap is_syn_received (sym b.state) ∙ e) }
 
 -- one that waits and is not CLOSED is not left
 held : (c : View) → IsPlainView c → is_closed c.state ≡ false → c.released ≡ false
@@ -128,12 +132,14 @@ not-lost c s h = let plain : is_lost c s ≡ false = rw h in rw plain
 
 heard-at : (c : View) (s : Segment) (now : Moment) → IsPlainView c → is_closed c.state ≡ false → Heard c (after_segment_at c s now)
 heard-at c s now p live =
-    let P : View → Type 0 = λ w. Heard c (timed c s now w) in
-    subst P (sym (not-lost c s (held c p live))) (heard-timed c (after_segment c s) s now (heard-segment c s p.sent))
+    let P : View → Type 0 = λ w. Heard c (timed_by (before c s) w now) in
+    either c (is_closed c.state || is_rejected c s) c (timed_by (before c s) (after_heard c s) now) (same c)
+    (subst P (sym (not-lost c s (held c p live))) (heard-timed c (after_segment c s) s now (heard-segment c s p.sent)))
 
 -- what it leaves is plain
 plain-at : (c d : View) → Heard c d → IsPlainView c → is_closed c.state ≡ false → IsPlainView d
 plain-at c d a p live = record {
+  passive = a.passive ∙ p.passive;
   sent = a.sent p.sent;
   owes = λ e. a.owes ∙ p.owes (held c p live);
   left = λ left. let h : c.released ≡ false = held c p live in let l : c.released ≡ true = sym a.released ∙ left in cc;

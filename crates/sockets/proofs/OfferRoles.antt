@@ -9,22 +9,27 @@ use Rattle.tcp_state.specs.declared.state.State.{State}
 use Rattle.tcp_state.specs.declared.state.State.TheVariants.{SynReceived}
 use Rattle.tcp_state.specs.declared.connection.Fate.TheVariants.{Stays, Removed}
 use Rattle.tcp_state.specs.declared.emission.Due.{Due}
-use Rattle.tcp_state.specs.declared.emission.Due.TheVariants.{Rst, Syn, Text, Fin, Ack}
-use Rattle.tcp_state.specs.View.{View, is_syn_sent, is_syn_received, is_closed, is_over, is_at_end, end_of_wait, after_stop, after_resend}
-use Rattle.tcp_state.specs.Due.{first_due, after_ack_paid, after_numbers}
+use Rattle.tcp_state.specs.declared.emission.Due.TheVariants.{Rst, Syn, Text, Probe, Ack}
+use Rattle.tcp_state.specs.declared.calls.Refusal.TheVariants.{ETIMEDOUT}
+use Rattle.tcp_state.specs.View.{View, is_syn_sent, is_syn_received, is_closed, is_over, is_at_end, end_of_wait, after_stop, after_reset}
+use Rattle.tcp_state.specs.Timing.{gives_up, after_tick, tick_fate}
+use Rattle.tcp_state.specs.Due.{first_due, after_emitted}
 use Rattle.tcp_state.specs.Edges.{after_first}
 use Rattle.tcp_state.specs.Unreachable.{after_unreachable}
-use Rattle.tcp_state.proofs.Edges.{and_left, and_right, emitted-state}
+use Rattle.tcp_state.proofs.Edges.{and_left, and_right}
 use Rattle.sockets.specs.declared.entry.SocketId.{SocketId}
 use Rattle.sockets.specs.declared.role.Role.{Role}
 use Rattle.sockets.specs.declared.role.Role.TheVariants.{Idle, Listener, Connected, Datagrams}
 use Rattle.sockets.specs.Entries.{on_connection, on_datagrams, is_pending, has_socket, waits_at, is_in_syn_received, backlog_of, is_kept, role_after_bind, role_after_listen, role_after_connect, role_after_tick, tick_fate_of, role_after_unreachable, unreachable_fate_of, role_after_listener_close, listener_close_fate_of, role_after_emission, emission_fate_of}
 use Rattle.sockets.specs.Lost.{role_after_giving_up, give_up_fate_of}
 use Rattle.sockets.specs.Offered.{is_ready}
+use Rattle.sockets.proofs.Ticked.{tick-passed, tick-gone as fate_tells}
+use Rattle.sockets.proofs.Alike.{IsAlike, alike-same, alike-tick, alike-syn, alike-text, alike-probe, alike-ack}
 use Rattle.sockets.proofs.Followed.{by_test}
 
--- a connection that waits sends no SYN of its own, owes no reset while nobody left it, and is CLOSED once it is left
+-- a connection that waits was opened by its listener, sends no SYN of its own, owes no reset while nobody left it, and is CLOSED once it is left
 pub record IsPlainView (c : View) : Type 0 where
+  pub passive : c.passive ≡ true
   pub sent : is_syn_sent c.state ≡ false
   pub owes : c.released ≡ false → c.owes_reset ≡ false
   pub left : c.released ≡ true → is_closed c.state ≡ true
@@ -117,6 +122,14 @@ goes-on c d l released received p = record {
   ready = rw (released, received);
 }
 
+alike-goes-on : (c d : View) (l : SocketId) → IsAlike c d → IsPlainView c → StaysReady (Connected c (Some l)) (Connected d (Some l))
+alike-goes-on c d l a p = goes-on c d l a.released (ap is_syn_received a.state) (record {
+  passive = a.passive ∙ p.passive;
+  sent = ap is_syn_sent a.state ∙ p.sent;
+  owes = λ held. a.owes ∙ p.owes (sym a.released ∙ held);
+  left = λ left. ap is_closed a.state ∙ p.left (sym a.released ∙ left);
+})
+
 left-unready : (c : View) (l : SocketId) → c.released ≡ true → is_ready (Connected c (Some l)) ≡ false
 left-unready c l left = rw left
 
@@ -126,45 +139,48 @@ end-passed : (state : State) (released : Bool) (since now : Moment) → has_come
 end-passed SynReceived released since now e = cc
 end-passed _ released since now e = refl
 
-pub tick-stays : (now : Moment) (r : Role) → IsPlain r → StaysReady r (role_after_tick now r)
-tick-stays now (Idle buffers bound) p = as-it-was (Idle buffers bound) p
-tick-stays now (Listener l b) p = as-it-was (Listener l b) p
-tick-stays now (Datagrams bound queues) p = as-it-was (Datagrams bound queues) p
-tick-stays now (Connected c None) p = nobody (Connected c None) (role_after_tick now (Connected c None)) refl refl (λ id. refl) (omega arith) tt
-tick-stays now (Connected c (Some l)) p =
+-- a connection that waits and keeps its place
+tick-kept : (now : Moment) (c : View) (l : SocketId) → is_kept (tick_fate c now) ≡ true → IsPlainView c → StaysReady (Connected c (Some l)) (Connected (after_tick c now) (Some l))
+tick-kept now c l kept p =
     by_test (is_at_end c now)
-    (λ ends. rw ends (goes-on c (after_stop c) l refl (sym (end-passed c.state c.released c.since now ends)) (record { sent = refl; owes = p.owes; left = λ e. refl })))
-    (λ waits. rw waits (goes-on c (after_resend c now) l refl refl (record { sent = p.sent; owes = p.owes; left = p.left })))
+    (λ ends. rw ends (goes-on c (after_stop c) l refl (sym (end-passed c.state c.released c.since now ends)) (record { passive = p.passive; sent = refl; owes = p.owes; left = λ e. refl })))
+    (λ waits. by_test (gives_up c now)
+    (λ given. rw (waits, given) (goes-on c (after_reset c (Some ETIMEDOUT)) l refl (sym (tick-passed c now kept waits given p.passive)) (record { passive = p.passive; sent = refl; owes = p.owes; left = λ e. refl })))
+    (λ lives. alike-goes-on c (after_tick c now) l (alike-tick c now waits lives) p))
 
+pub tick-stays : (now : Moment) (r : Role) → is_kept (tick_fate_of now r) ≡ true → IsPlain r → StaysReady r (role_after_tick now r)
+tick-stays now (Idle buffers bound) kept p = as-it-was (Idle buffers bound) p
+tick-stays now (Listener l b) kept p = as-it-was (Listener l b) p
+tick-stays now (Datagrams bound queues) kept p = as-it-was (Datagrams bound queues) p
+tick-stays now (Connected c None) kept p = nobody (Connected c None) (role_after_tick now (Connected c None)) refl refl (λ id. refl) (omega arith) tt
+tick-stays now (Connected c (Some l)) kept p = tick-kept now c l kept p
+
+-- taken out is one that is left, or in SYN-RECEIVED
 pub tick-gone : (now : Moment) (r : Role) → is_kept (tick_fate_of now r) ≡ false → is_ready r ≡ false
 tick-gone now (Idle buffers bound) gone = refl
 tick-gone now (Listener l b) gone = refl
 tick-gone now (Datagrams bound queues) gone = refl
 tick-gone now (Connected c None) gone = refl
-tick-gone now (Connected c (Some l)) gone = by_test c.released (λ left. left-unready c l left) (λ held. let kept : is_kept (tick_fate_of now (Connected c (Some l))) ≡ true = unended (is_at_end c now) c.released held in cc)
-  where
-    unended : (ends released : Bool) → released ≡ false → is_kept (if ends && released then Removed else Stays) ≡ true
-    unended true true held = cc
-    unended true false held = refl
-    unended false released held = refl
+tick-gone now (Connected c (Some l)) gone = fate_tells c now gone
 
 -- What goes out.
 
 record IsEmitted (v w : View) : Type 0 where
+  state : w.state ≡ v.state
+  passive : w.passive ≡ v.passive
   released : w.released ≡ v.released
   owes : v.owes_reset ≡ false → w.owes_reset ≡ false
 
+alike-emitted : (v w : View) → IsAlike v w → IsEmitted v w
+alike-emitted v w a = record { state = a.state; passive = a.passive; released = a.released; owes = λ none. a.owes ∙ none }
+
 emitted : (v : View) (due : Option Due) (now : Moment) → IsEmitted v (after_first v due now)
-emitted v None now = record { released = refl; owes = λ o. o }
-emitted v (Some Rst) now = record { released = refl; owes = λ o. refl }
-emitted v (Some Syn) now = either (is_syn_received v.state)
-  where
-    either : (test : Bool) → IsEmitted v (if test then after_ack_paid (after_numbers v 1 now) else after_numbers v 1 now)
-    either true = record { released = refl; owes = λ o. o }
-    either false = record { released = refl; owes = λ o. o }
-emitted v (Some (Text count)) now = record { released = refl; owes = λ o. o }
-emitted v (Some Fin) now = record { released = refl; owes = λ o. o }
-emitted v (Some Ack) now = record { released = refl; owes = λ o. o }
+emitted v None now = alike-emitted v v (alike-same v)
+emitted v (Some Rst) now = record { state = refl; passive = refl; released = refl; owes = λ none. refl }
+emitted v (Some Syn) now = alike-emitted v (after_emitted v Syn now) (alike-syn v now)
+emitted v (Some (Text stretch)) now = alike-emitted v (after_emitted v (Text stretch) now) (alike-text v stretch now)
+emitted v (Some Probe) now = alike-emitted v (after_emitted v Probe now) (alike-probe v now)
+emitted v (Some Ack) now = alike-emitted v (after_emitted v Ack now) (alike-ack v now)
 
 pub emission-stays : (now : Moment) (r : Role) → IsPlain r → StaysReady r (role_after_emission now r)
 emission-stays now (Idle buffers bound) p = as-it-was (Idle buffers bound) p
@@ -174,11 +190,11 @@ emission-stays now (Connected c None) p = nobody (Connected c None) (role_after_
 emission-stays now (Connected c (Some l)) p =
     let d : View = after_first c (first_due c) now in
     let e = emitted c (first_due c) now in
-    let same : d.state ≡ c.state = emitted-state c (first_due c) now in
-    goes-on c d l e.released (ap is_syn_received same) (record {
-      sent = ap is_syn_sent same ∙ p.sent;
+    goes-on c d l e.released (ap is_syn_received e.state) (record {
+      passive = e.passive ∙ p.passive;
+      sent = ap is_syn_sent e.state ∙ p.sent;
       owes = λ held. e.owes (p.owes (sym e.released ∙ held));
-      left = λ left. ap is_closed same ∙ p.left (sym e.released ∙ left);
+      left = λ left. ap is_closed e.state ∙ p.left (sym e.released ∙ left);
     })
 
 -- what is taken out since it is over was left
@@ -261,7 +277,7 @@ forsaken-withdrawn now id (Connected c (Some l)) kept p =
     by_test (is_closed c.state)
     (λ ended. let out : is_kept (listener_close_fate_of id (Connected c (Some l))) ≡ false = rw (waits, ended) in cc)
     (λ live. rw (waits, live) (record {
-      carries = record { waits = λ i w. w; backlog = omega arith; waking = λ w. cc; plain = record { sent = refl; owes = λ e. cc; left = λ e. refl } };
+      carries = record { waits = λ i w. w; backlog = omega arith; waking = λ w. cc; plain = record { passive = p.passive; sent = refl; owes = λ e. cc; left = λ e. refl } };
       gone = λ w. refl;
       stays = λ w. let bad : true ≡ false = sym waits ∙ w in cc;
     })))

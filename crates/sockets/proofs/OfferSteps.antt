@@ -183,7 +183,7 @@ tick-outcome : (h : SocketsView) (now : Moment) → Outcome h (after_event h (Ti
 tick-outcome h now = Still (record {
   last = refl;
   offered = refl;
-  follows = each_followed IsCalm IsNothing refl (λ x. is_kept (tick_fate_of (later_moment h now) x.role)) (with_role (role_after_tick (later_moment h now))) h.entries (λ x kept. (refl, tick-stays (later_moment h now) x.role)) (λ x gone p. tick-gone (later_moment h now) x.role gone);
+  follows = each_followed IsCalm IsNothing refl (λ x. is_kept (tick_fate_of (later_moment h now) x.role)) (with_role (role_after_tick (later_moment h now))) h.entries (λ x kept. (refl, tick-stays (later_moment h now) x.role kept)) (λ x gone p. tick-gone (later_moment h now) x.role gone);
 })
 
 give_up-outcome : (h : SocketsView) (lost : Addr → Bool) (now : Moment) → Outcome h (after_giving_up h lost now)
@@ -316,7 +316,7 @@ opening-outcome h isn listener source s found place =
       entries = refl;
       offered = refl;
       place = parts.1;
-      plain = record { sent = refl; owes = λ e. refl; left = λ e. cc };
+      plain = record { passive = refl; sent = refl; owes = λ e. refl; left = λ e. cc };
       ready = refl;
       room = λ id w. (
         listener,
@@ -406,9 +406,9 @@ outcome h (Binds id local) allowed = bind-outcome h id local
 outcome h (Listens id backlog) allowed = changed h _ (is_socket id) (role_after_listen backlog) refl refl refl (λ x passes p. listening-stays backlog x.role p)
 outcome h (Accepts id) allowed = accept-outcome h id
 outcome h (Connects isn id peer routed) allowed = connect-outcome h isn id peer routed
-outcome h (Sends id octets) allowed = changed h _ (is_socket id) (role_after_send octets) refl refl refl (λ x passes p. socket-stays _ x.role (and_right _ _ passes))
+outcome h (Sends id octets) allowed = changed h _ (is_socket id) (role_after_send h.kept octets) refl refl refl (λ x passes p. socket-stays _ x.role (and_right _ _ passes))
 outcome h (Receives id len) allowed = changed h _ (is_socket id) (role_after_recv len) refl refl refl (λ x passes p. socket-stays _ x.role (and_right _ _ passes))
-outcome h (Shuts id) allowed = changed h _ (is_socket id) role_after_shutdown refl refl refl (λ x passes p. socket-stays _ x.role (and_right _ _ passes))
+outcome h (Shuts id) allowed = changed h _ (is_socket id) (role_after_shutdown h.kept) refl refl refl (λ x passes p. socket-stays _ x.role (and_right _ _ passes))
 outcome h (Closes id) allowed = close-outcome h id
 outcome h (Ticks now) allowed = tick-outcome h now
 outcome h (Hears now isn source s) allowed = segment-outcome h now isn source s

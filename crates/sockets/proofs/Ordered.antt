@@ -70,11 +70,11 @@ accepted_keeps (Listener l b) = keeps_role (Listener l b)
 accepted_keeps (Datagrams ours queues) = keeps_role (Datagrams ours queues)
 accepted_keeps (Connected c l) = keeps_connection c c l None (keeps-nothing c)
 
-sent_keeps : (octets : List ℕ) (r : Role) → KeepsRole r (role_after_send octets r)
-sent_keeps octets (Idle buffers bound) = keeps_role (Idle buffers bound)
-sent_keeps octets (Listener l b) = keeps_role (Listener l b)
-sent_keeps octets (Datagrams ours queues) = keeps_role (Datagrams ours queues)
-sent_keeps octets (Connected c l) = keeps_connection c _ l l (keeps-send c octets)
+sent_keeps : (now : Moment) (octets : List ℕ) (r : Role) → KeepsRole r (role_after_send now octets r)
+sent_keeps now octets (Idle buffers bound) = keeps_role (Idle buffers bound)
+sent_keeps now octets (Listener l b) = keeps_role (Listener l b)
+sent_keeps now octets (Datagrams ours queues) = keeps_role (Datagrams ours queues)
+sent_keeps now octets (Connected c l) = keeps_connection c _ l l (keeps-send c octets now)
 
 received_keeps : (len : ℕ) (r : Role) → KeepsRole r (role_after_recv len r)
 received_keeps len (Idle buffers bound) = keeps_role (Idle buffers bound)
@@ -82,11 +82,11 @@ received_keeps len (Listener l b) = keeps_role (Listener l b)
 received_keeps len (Datagrams ours queues) = keeps_role (Datagrams ours queues)
 received_keeps len (Connected c l) = by_test (len == 0) (λ none. rw none (keeps_role (Connected c l))) (λ some. rw some (keeps_connection c _ l l (keeps-recv c len)))
 
-shut_keeps : (r : Role) → KeepsRole r (role_after_shutdown r)
-shut_keeps (Idle buffers bound) = keeps_role (Idle buffers bound)
-shut_keeps (Listener l b) = keeps_role (Listener l b)
-shut_keeps (Datagrams ours queues) = keeps_role (Datagrams ours queues)
-shut_keeps (Connected c l) = by_test (is_some c.pending_error || is_opening c.state) (λ refused. rw refused (keeps_role (Connected c l))) (λ shuts. rw shuts (keeps_connection c _ l l (keeps-shutdown c)))
+shut_keeps : (now : Moment) (r : Role) → KeepsRole r (role_after_shutdown now r)
+shut_keeps now (Idle buffers bound) = keeps_role (Idle buffers bound)
+shut_keeps now (Listener l b) = keeps_role (Listener l b)
+shut_keeps now (Datagrams ours queues) = keeps_role (Datagrams ours queues)
+shut_keeps now (Connected c l) = by_test (is_some c.pending_error || is_opening c.state) (λ refused. rw refused (keeps_role (Connected c l))) (λ shuts. rw shuts (keeps_connection c _ l l (keeps-shutdown c now)))
 
 ticked_keeps : (now : Moment) (r : Role) → KeepsRole r (role_after_tick now r)
 ticked_keeps now (Idle buffers bound) = keeps_role (Idle buffers bound)
@@ -525,9 +525,9 @@ stays_ordered h (Binds id local) allowed o = bind_ordered h id local allowed o
 stays_ordered h (Listens id backlog) allowed o = changed_ordered h (is_socket id) (role_after_listen backlog) (λ x passes. listening_keeps backlog x.role) o
 stays_ordered h (Accepts id) allowed o = offered_ordered _ _ (changed_ordered h (is_next_at h id) role_after_accept (λ x passes. accepted_keeps x.role) o)
 stays_ordered h (Connects isn id peer routed) allowed o = connect_ordered h isn id peer routed allowed o
-stays_ordered h (Sends id octets) allowed o = changed_ordered h (is_socket id) (role_after_send octets) (λ x passes. sent_keeps octets x.role) o
+stays_ordered h (Sends id octets) allowed o = changed_ordered h (is_socket id) (role_after_send h.kept octets) (λ x passes. sent_keeps h.kept octets x.role) o
 stays_ordered h (Receives id len) allowed o = changed_ordered h (is_socket id) (role_after_recv len) (λ x passes. received_keeps len x.role) o
-stays_ordered h (Shuts id) allowed o = changed_ordered h (is_socket id) role_after_shutdown (λ x passes. shut_keeps x.role) o
+stays_ordered h (Shuts id) allowed o = changed_ordered h (is_socket id) (role_after_shutdown h.kept) (λ x passes. shut_keeps h.kept x.role) o
 stays_ordered h (Closes id) allowed o = close_ordered h id o
 stays_ordered h (Ticks now) allowed o = tick_ordered h now o
 stays_ordered h (Hears now isn source s) allowed o = segment_ordered h now isn source s allowed o

@@ -1,5 +1,5 @@
 -- Why no connection stays in the table that is over.
-use Rattle.std.proofs.Common.{◌≡◌, ℕ, ◌==◌, ◌&&◌, ◌||◌, Bool, true, false, if◌then◌else◌, List, [], ◌∷◌, ◌++◌, Option, Some, None, Result, Ok, Err, is_some, option_map, refl, sym, ◌∙◌, ap, subst, arith}
+use Rattle.std.proofs.Common.{◌≡◌, ℕ, ◌==◌, ◌||◌, Bool, true, false, if◌then◌else◌, List, [], ◌∷◌, ◌++◌, Option, Some, None, Result, Ok, Err, is_some, option_map, refl, sym, ◌∙◌, ap, subst, arith}
 use Rattle.std.proofs.lemmas.Grind.{common_steps}
 use Rattle.std.specs.List.{find, retain_mut, AllByRecursion}
 use Rattle.ipv4.specs.declared.addr.Addr.{Addr}
@@ -13,11 +13,12 @@ use Rattle.tcp_state.specs.declared.state.State.{State}
 use Rattle.tcp_state.specs.declared.connection.Fate.{Fate}
 use Rattle.tcp_state.specs.declared.connection.Fate.TheVariants.{Stays, Removed, Rejected}
 use Rattle.tcp_state.specs.View.{View, is_opening, is_closed, is_over, is_at_end}
+use Rattle.tcp_state.specs.Timing.{gives_up, after_tick}
 use Rattle.tcp_state.specs.Calls.{beyond_shutdown, after_send, after_recv, after_shutdown}
-use Rattle.tcp_state.specs.Arrival.{is_lost, after_segment, is_rejected, ends_opening}
+use Rattle.tcp_state.specs.Arrival.{is_lost, after_segment, after_heard, before, timed_by, is_rejected, ends_opening}
 use Rattle.tcp_state.specs.Unreachable.{after_unreachable}
 use Rattle.tcp_state.proofs.Edges.{and_left}
-use Rattle.tcp_state.proofs.Causes.{not_true}
+use Rattle.tcp_state.proofs.Causes.{not_true, or_left, or_right}
 use Rattle.sockets.specs.declared.refusal.Refusal.{Refusal}
 use Rattle.sockets.specs.declared.datagrams.Reception.{Reception}
 use Rattle.sockets.specs.declared.datagrams.Reception.TheVariants.{Queued, NoRoom, NoSocket}
@@ -37,6 +38,8 @@ use Rattle.sockets.specs.Replies.{reset_at_ack, answer_to, answer_at_listener}
 use Rattle.sockets.specs.Sound.{is_over_in, NoneIsOver}
 use Rattle.sockets.specs.Lists.{change_first, remove_first}
 use Rattle.sockets.specs.Causes.{Event, Makes, MakesDatagrams, Binds, Listens, Accepts, Connects, Sends, Receives, Shuts, Closes, Ticks, Hears, Emits, GivesUp, Unreachable, SendsTo, ReceivesFrom, HearsDatagram, after_arrival, after_event}
+use Rattle.sockets.proofs.Alike.{IsAlike, alike-tick, alike-timed, alike-send}
+use Rattle.sockets.proofs.Ticked.{tick-alone}
 use Rattle.sockets.proofs.Caused.{some_same, answered_same}
 use Rattle.sockets.proofs.Emitting.{segment_sent-found}
 use Rattle.sockets.proofs.Queues.{sendto-refused, sendto-given, queued-change, no_room-same, no_socket-same}
@@ -111,8 +114,9 @@ accepted_left (Listener l b) left = refl
 accepted_left (Datagrams ours queues) left = refl
 accepted_left (Connected c l) left = left
 
-send_left : (c : View) (octets : List ℕ) → is_over c ≡ false → is_over (after_send c octets) ≡ false
-send_left c octets left = grind (arith, common_steps)
+-- what is alike is over as it was
+alike_over : (c d : View) → IsAlike c d → is_over d ≡ is_over c
+alike_over c d a = rw (a.state, a.released, a.owes) refl
 
 recv_left : (c : View) (len : ℕ) → is_over c ≡ false → is_over (after_recv c len) ≡ false
 recv_left c len left = grind (arith, common_steps)
@@ -120,14 +124,14 @@ recv_left c len left = grind (arith, common_steps)
 shut_closed : (state : State) → is_closed (beyond_shutdown state) ≡ is_closed state
 shut_closed state = grind (arith, common_steps)
 
-shutdown_left : (c : View) → is_over c ≡ false → is_over (after_shutdown c) ≡ false
-shutdown_left c left = rw (shut_closed c.state) left
+shutdown_left : (c : View) (now : Moment) → is_over c ≡ false → is_over (after_shutdown c now) ≡ false
+shutdown_left c now left = rw (shut_closed c.state) left
 
-sent_left : (octets : List ℕ) → Leaves (role_after_send octets)
-sent_left octets (Idle buffers bound) left = refl
-sent_left octets (Listener l b) left = refl
-sent_left octets (Datagrams ours queues) left = refl
-sent_left octets (Connected c l) left = send_left c octets left
+sent_left : (now : Moment) (octets : List ℕ) → Leaves (role_after_send now octets)
+sent_left now octets (Idle buffers bound) left = refl
+sent_left now octets (Listener l b) left = refl
+sent_left now octets (Datagrams ours queues) left = refl
+sent_left now octets (Connected c l) left = alike_over c (after_send c octets now) (alike-send c octets now) ∙ left
 
 received_left : (len : ℕ) → Leaves (role_after_recv len)
 received_left len (Idle buffers bound) left = refl
@@ -135,11 +139,11 @@ received_left len (Listener l b) left = refl
 received_left len (Datagrams ours queues) left = refl
 received_left len (Connected c l) left = by_test (len == 0) (λ none. rw none left) (λ some. rw some (recv_left c len left))
 
-shut_left : Leaves role_after_shutdown
-shut_left (Idle buffers bound) left = refl
-shut_left (Listener l b) left = refl
-shut_left (Datagrams ours queues) left = refl
-shut_left (Connected c l) left = by_test (is_some c.pending_error || is_opening c.state) (λ refused. rw refused left) (λ shuts. rw shuts (shutdown_left c left))
+shut_left : (now : Moment) → Leaves (role_after_shutdown now)
+shut_left now (Idle buffers bound) left = refl
+shut_left now (Listener l b) left = refl
+shut_left now (Datagrams ours queues) left = refl
+shut_left now (Connected c l) left = by_test (is_some c.pending_error || is_opening c.state) (λ refused. rw refused left) (λ shuts. rw shuts (shutdown_left c now left))
 
 -- a change of a role that keeps its place
 tick_left : (now : Moment) (role : Role) → is_kept (tick_fate_of now role) ≡ true → is_over_in role ≡ false → is_over_in (role_after_tick now role) ≡ false
@@ -148,12 +152,10 @@ tick_left now (Listener l b) kept left = refl
 tick_left now (Datagrams ours queues) kept left = refl
 tick_left now (Connected c l) kept left =
     by_test (is_at_end c now)
-    (λ ends. let alone : c.released ≡ false = at_end c.released (ap (λ (b : Bool). is_kept (if b && c.released then Removed else Stays)) (sym ends) ∙ kept) in rw (ends, alone))
-    (λ waits. rw waits left)
-  where
-    at_end : (released : Bool) → is_kept (if true && released then Removed else Stays) ≡ true → released ≡ false
-    at_end true stays = cc
-    at_end false stays = refl
+    (λ ends. let alone : c.released ≡ false = tick-alone c now kept (or_left _ _ ends) in rw (ends, alone))
+    (λ waits. by_test (gives_up c now)
+    (λ given. let alone : c.released ≡ false = tick-alone c now kept (or_right _ _ given) in rw (waits, given, alone))
+    (λ lives. alike_over c (after_tick c now) (alike-tick c now waits lives) ∙ left))
 
 close_left : (now : Moment) (role : Role) → is_kept (close_fate_of role) ≡ true → is_over_in (role_after_close now role) ≡ false
 close_left now (Idle buffers bound) kept = cc
@@ -178,15 +180,37 @@ kept_tests : (ended lost over refuses ends : Bool) → ended ≡ false → is_ke
 kept_tests ended lost true refuses ends live kept plain = grind (arith, common_steps)
 kept_tests ended lost false refuses ends live kept plain = refl
 
+-- a segment that is rejected is left alone
+refused_alone : (closed refused : Bool) (v w : View) → refused ≡ true → (if closed || refused then v else w) ≡ v
+refused_alone true refused v w e = refl
+refused_alone false true v w e = refl
+refused_alone false false v w e = cc
+
+heard_alone : (closed refused : Bool) (v w : View) → closed ≡ false → refused ≡ false → (if closed || refused then v else w) ≡ w
+heard_alone false false v w e f = refl
+heard_alone true refused v w e f = cc
+heard_alone false true v w e f = cc
+
 heard_left : (now : Moment) (s : Segment) (local peer : Endpoint) (role : Role) → is_live_between local peer role ≡ true → is_kept (fate_of s role) ≡ true → is_over_in (role_after_segment now s role) ≡ false
 heard_left now s local peer (Idle buffers bound) live kept = refl
 heard_left now s local peer (Listener l b) live kept = refl
 heard_left now s local peer (Datagrams ours queues) live kept = refl
 heard_left now s local peer (Connected c l) live kept =
-    by_test (is_lost c s)
-    (λ lost. rw lost)
-    (λ plain. let over : is_over (after_segment c s) ≡ false = kept_tests (is_closed c.state) (is_lost c s) (is_over (after_segment c s)) (is_rejected c s) (ends_opening c s) (not_true _ (and_left _ _ live)) kept plain in
-    rw plain over)
+    by_test (is_rejected c s)
+    (λ refused. ap (λ (w : View). is_over w) (refused_alone (is_closed c.state) (is_rejected c s) c (timed_by (before c s) (after_heard c s) now) refused) ∙ not_over)
+    (λ heard. ap (λ (w : View). is_over w) (heard_alone (is_closed c.state) (is_rejected c s) c (timed_by (before c s) (after_heard c s) now) open_still heard)
+    ∙ alike_over (after_heard c s) (timed_by (before c s) (after_heard c s) now) (alike-timed c s (after_heard c s) now) ∙ plainly)
+  where
+    open_still : is_closed c.state ≡ false
+    open_still = not_true _ (and_left _ _ live)
+
+    not_over : is_over c ≡ false
+    not_over = rw open_still
+
+    plainly : is_over (after_heard c s) ≡ false
+    plainly = by_test (is_lost c s)
+        (λ lost. rw lost)
+        (λ plain. let over : is_over (after_segment c s) ≡ false = kept_tests (is_closed c.state) (is_lost c s) (is_over (after_segment c s)) (is_rejected c s) (ends_opening c s) open_still kept plain in rw plain over)
 
 emit_left : (now : Moment) (role : Role) → is_kept (emission_fate_of (role_after_emission now role)) ≡ true → is_over_in (role_after_emission now role) ≡ false
 emit_left now role kept = after (role_after_emission now role) kept
@@ -325,9 +349,9 @@ none_over h (Binds id local) all = bind_left h id local all
 none_over h (Listens id backlog) all = changed_left (is_socket id) (role_after_listen backlog) h.entries (listening_left backlog) all
 none_over h (Accepts id) all = changed_left (is_next_at h id) role_after_accept h.entries accepted_left all
 none_over h (Connects isn id peer routed) all = connect_left h isn id peer routed all
-none_over h (Sends id octets) all = changed_left (is_socket id) (role_after_send octets) h.entries (sent_left octets) all
+none_over h (Sends id octets) all = changed_left (is_socket id) (role_after_send h.kept octets) h.entries (sent_left h.kept octets) all
 none_over h (Receives id len) all = changed_left (is_socket id) (role_after_recv len) h.entries (received_left len) all
-none_over h (Shuts id) all = changed_left (is_socket id) role_after_shutdown h.entries shut_left all
+none_over h (Shuts id) all = changed_left (is_socket id) (role_after_shutdown h.kept) h.entries (shut_left h.kept) all
 none_over h (Closes id) all =
     let middle : List Entry = let after = after_socket_closed h id in after.entries in
     all_retained (λ x. is_kept (listener_close_fate_of id x.role)) (with_role (role_after_listener_close h.kept id)) middle (λ x kept left. forsaken_left h.kept id x.role kept left) (socket_closed_left h id all)

@@ -24,7 +24,7 @@ use Rattle.sockets.specs.declared.entry.Entry.{Entry}
 use Rattle.sockets.specs.declared.role.Role.{Role}
 use Rattle.sockets.specs.declared.role.Role.TheVariants.{Idle, Listener, Connected, Datagrams}
 use Rattle.sockets.specs.declared.refusal.Refusal.{Refusal}
-use Rattle.sockets.specs.declared.refusal.Refusal.TheVariants.{EBADF, EINVAL, EADDRINUSE, EADDRNOTAVAIL, EISCONN, ENOTCONN, EALREADY, EAGAIN, ENETUNREACH, EOPNOTSUPP, ECONNREFUSED, ECONNRESET, EPIPE, EDESTADDRREQ}
+use Rattle.sockets.specs.declared.refusal.Refusal.TheVariants.{EBADF, EINVAL, EADDRINUSE, EADDRNOTAVAIL, EISCONN, ENOTCONN, EALREADY, EAGAIN, ENETUNREACH, EOPNOTSUPP, ECONNREFUSED, ECONNRESET, ETIMEDOUT, EPIPE, EDESTADDRREQ}
 use Rattle.sockets.specs.Ports.{first_port, is_free_port, is_unused_port, is_free_datagram_port}
 use Rattle.sockets.specs.Entries.{is_socket, is_between, is_waiting_as, is_waiting_id, peer_of, shown_state, new_socket, new_datagram_socket, role_after_bind, role_after_listen, role_after_connect, role_after_accept, role_after_send, role_after_recv, role_after_shutdown, role_after_close, close_fate_of, role_after_listener_close, listener_close_fate_of, entries_after_step, entries_after_steps, with_role}
 use Rattle.sockets.specs.SocketsView.{SocketsView, role_of, with_socket}
@@ -197,6 +197,7 @@ refusal_of connection_variants.EAGAIN = EAGAIN
 refusal_of connection_variants.ECONNREFUSED = ECONNREFUSED
 refusal_of connection_variants.ECONNRESET = ECONNRESET
 refusal_of connection_variants.EPIPE = EPIPE
+refusal_of connection_variants.ETIMEDOUT = ETIMEDOUT
 
 abbrev pub of_connection : {T : Type 0} → Result T connection_refusal.Refusal → Result T Refusal
 of_connection (Ok value) = Ok value
@@ -232,7 +233,7 @@ abbrev pub send_answer : SocketsView → SocketId → List ℕ → Result ℕ Re
 send_answer h id octets = answer_at h id (λ role. role_send_answer role octets)
 
 abbrev pub after_send : SocketsView → SocketId → List ℕ → SocketsView
-after_send h id octets = with_socket h id (role_after_send octets)
+after_send h id octets = with_socket h id (role_after_send h.kept octets)
 
 abbrev pub recv_answer : SocketsView → SocketId → ℕ → Result Received Refusal
 recv_answer h id len = answer_at h id (λ role. role_recv_answer role len)
@@ -251,7 +252,7 @@ abbrev pub shutdown_refusal : SocketsView → SocketId → Option Refusal
 shutdown_refusal h id = refusal_at h id role_shutdown_refusal
 
 abbrev pub after_shutdown : SocketsView → SocketId → SocketsView
-after_shutdown h id = with_socket h id role_after_shutdown
+after_shutdown h id = with_socket h id (role_after_shutdown h.kept)
 
 -- close is refused only where the id names no socket
 abbrev pub close_refusal : SocketsView → SocketId → Option Refusal

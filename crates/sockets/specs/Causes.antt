@@ -122,12 +122,13 @@ IsEdge Datagram (Stream after) = ⊥
 abbrev pub pending_error_in : Role → Option Error
 pending_error_in role = in_connection None (λ c. c.pending_error) role
 
--- an event of the entry's connection makes it tell an error: a reset that acts or a hard error, in a state that has it
+-- an event of the entry's connection makes it tell an error: a reset that acts or a hard error, in a state that has it, or the last expiry of its timer
 abbrev pub is_telling : edge.Event → Error → Role → Bool
 is_telling e error role = in_connection false (λ c. edge.may_raise c e error) role
 
 abbrev pub is_telling_to : SocketsView → Event → Error → Entry → Bool
 is_telling_to h (Hears now isn source s) error x = is_between (local_end h s) (peer_end source s) x && is_telling (edge.Hears s (later_moment h now)) error x.role
+is_telling_to h (Ticks now) error x = is_telling (edge.Ticks (later_moment h now)) error x.role
 is_telling_to h (Unreachable local peer number) error x = is_between local peer x && is_telling (edge.Unreachable number) error x.role
 is_telling_to h _ error x = false
 

@@ -6,7 +6,8 @@ use Rattle.ipv4.specs.declared.addr.Endpoint.{Endpoint}
 use Rattle.ipv4.specs.declared.addr.Pair.{Pair}
 use Rattle.tcp_state.specs.declared.state.State.TheVariants.{Closed, Listen}
 use Rattle.clock.specs.declared.moment.Moment.{Moment}
-use Rattle.tcp_state.specs.View.{View, is_opening, is_closed, is_syn_received, is_over, opened_actively, after_tick, tick_fate, deadline, reset_since}
+use Rattle.tcp_state.specs.View.{View, is_opening, is_closed, is_syn_received, is_over, opened_actively, reset_since}
+use Rattle.tcp_state.specs.Timing.{after_tick, tick_fate, deadline}
 use Rattle.tcp_segment.specs.Segment.{Segment}
 use Rattle.tcp_state.specs.declared.connection.Fate.{Fate}
 use Rattle.tcp_state.specs.declared.connection.Fate.TheVariants.{Stays, Removed, Rejected}
@@ -240,13 +241,13 @@ role_after_accept (Listener l b) = Listener l b
 role_after_accept (Idle buffers bound) = Idle buffers bound
 role_after_accept (Datagrams bound socket) = Datagrams bound socket
 
--- octets are given to the connection, and as many are taken as there is room for
-abbrev pub role_after_send : List ℕ → Role → Role
-role_after_send octets role = on_connection (λ c. after_send c octets) role
+-- octets are given to the connection at a moment, and as many are taken as there is room for
+abbrev pub role_after_send : Moment → List ℕ → Role → Role
+role_after_send now octets role = on_connection (λ c. after_send c octets now) role
 
--- our side of the connection is closed, where it is past its opening and told no error
-abbrev pub role_after_shutdown : Role → Role
-role_after_shutdown role = on_connection (λ c. if is_some c.pending_error || is_opening c.state then c else after_shutdown c) role
+-- our side of the connection is closed at a moment, where it is past its opening and told no error
+abbrev pub role_after_shutdown : Moment → Role → Role
+role_after_shutdown now role = on_connection (λ c. if is_some c.pending_error || is_opening c.state then c else after_shutdown c now) role
 
 -- octets of the connection are read into a buffer of this length, and none into an empty one
 abbrev pub role_after_recv : ℕ → Role → Role

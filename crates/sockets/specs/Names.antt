@@ -2,7 +2,7 @@
 use Rattle.std.specs.Prelude.{ℕ, List, codes}
 use Rattle.tcp_state.specs.Names.{state_text}
 use Rattle.sockets.specs.declared.refusal.Refusal.{Refusal}
-use Rattle.sockets.specs.declared.refusal.Refusal.TheVariants.{EBADF, EINVAL, EADDRINUSE, EADDRNOTAVAIL, EISCONN, ENOTCONN, EALREADY, EAGAIN, ECONNREFUSED, ECONNRESET, EPIPE, EMSGSIZE, ENETUNREACH, EMFILE, ENOMEM, EOPNOTSUPP, EDESTADDRREQ}
+use Rattle.sockets.specs.declared.refusal.Refusal.TheVariants.{EBADF, EINVAL, EADDRINUSE, EADDRNOTAVAIL, EISCONN, ENOTCONN, EALREADY, EAGAIN, ECONNREFUSED, ECONNRESET, ETIMEDOUT, EPIPE, EMSGSIZE, ENETUNREACH, EMFILE, ENOMEM, EOPNOTSUPP, EDESTADDRREQ}
 use Rattle.sockets.specs.declared.state.SocketState.{SocketState}
 use Rattle.sockets.specs.declared.state.SocketState.TheVariants.{Datagram, Stream}
 
@@ -18,6 +18,7 @@ refusal_text EALREADY = codes "E7 EALREADY"
 refusal_text EAGAIN = codes "E8 EAGAIN"
 refusal_text ECONNREFUSED = codes "E9 ECONNREFUSED"
 refusal_text ECONNRESET = codes "E10 ECONNRESET"
+refusal_text ETIMEDOUT = codes "E11 ETIMEDOUT"
 refusal_text EPIPE = codes "E12 EPIPE"
 refusal_text EMSGSIZE = codes "E13 EMSGSIZE"
 refusal_text ENETUNREACH = codes "E14 ENETUNREACH"

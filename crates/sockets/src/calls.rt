@@ -319,7 +319,8 @@ impl Sockets {
         ensures err { OnErr result (self.new ≡ self.old) }
     {
         let place = self.socket_place(id)?;
-        self.entries[place].send(octets)
+        let kept = self.kept;
+        self.entries[place].send(kept, octets)
     }
 
     /// Reads octets of a connection into `buffer` (RFC 9293 section 3.10.3), in order, as many as there are or as fit. The end of the stream
@@ -348,7 +349,8 @@ impl Sockets {
         ensures err { OnErr result (self.new ≡ self.old) }
     {
         let place = self.may_shut(id)?;
-        self.entries[place].shutdown();
+        let kept = self.kept;
+        self.entries[place].shutdown(kept);
         Ok(())
     }
 

@@ -159,12 +159,12 @@ impl Entry {
         self.role.accept();
     }
 
-    /// Gives octets to the connection, and answers how many it took.
-    pub(crate) fn send(&mut self, octets: &[u8]) -> Result<usize, Refusal>
+    /// Gives octets to the connection at this moment, and answers how many it took.
+    pub(crate) fn send(&mut self, now: Moment, octets: &[u8]) -> Result<usize, Refusal>
         ensures answer { result ≡ role_send_answer self.old.role octets.now }
-        ensures after { self.new ≡ with_role (role_after_send octets.now) self.old }
+        ensures after { self.new ≡ with_role (role_after_send now octets.now) self.old }
     {
-        self.role.send(octets)
+        self.role.send(now, octets)
     }
 
     /// Reads octets of the connection into `buffer`.
@@ -176,11 +176,11 @@ impl Entry {
         self.role.recv(buffer)
     }
 
-    /// Closes our side of the connection.
-    pub(crate) fn shutdown(&mut self)
-        ensures { self.new ≡ with_role role_after_shutdown self.old }
+    /// Closes our side of the connection at this moment.
+    pub(crate) fn shutdown(&mut self, now: Moment)
+        ensures { self.new ≡ with_role (role_after_shutdown now) self.old }
     {
-        self.role.shutdown();
+        self.role.shutdown(now);
     }
 
     /// Takes a datagram to be sent from `local`, where the UDP socket is bound then, and answers whether it did: not where it has no room.

@@ -26,6 +26,8 @@ pub enum Refusal {
     ECONNREFUSED,
     /// The peer reset the connection.
     ECONNRESET,
+    /// The peer did not answer for too long.
+    ETIMEDOUT,
     /// Our side of the connection is closed.
     EPIPE,
     /// The datagram is longer than one can be.
@@ -60,6 +62,7 @@ impl fmt::Display for Refusal {
             Refusal::EAGAIN => "E8 EAGAIN",
             Refusal::ECONNREFUSED => "E9 ECONNREFUSED",
             Refusal::ECONNRESET => "E10 ECONNRESET",
+            Refusal::ETIMEDOUT => "E11 ETIMEDOUT",
             Refusal::EPIPE => "E12 EPIPE",
             Refusal::EMSGSIZE => "E13 EMSGSIZE",
             Refusal::ENETUNREACH => "E14 ENETUNREACH",
@@ -87,6 +90,7 @@ impl From<tcp_state::Refusal> for Refusal {
             tcp_state::Refusal::ECONNREFUSED => Refusal::ECONNREFUSED,
             tcp_state::Refusal::ECONNRESET => Refusal::ECONNRESET,
             tcp_state::Refusal::EPIPE => Refusal::EPIPE,
+            tcp_state::Refusal::ETIMEDOUT => Refusal::ETIMEDOUT,
         }
     }
 }

@@ -381,16 +381,16 @@ impl Role {
         }
     }
 
-    /// Gives octets to the connection, and answers how many it took.
-    pub(crate) fn send(&mut self, octets: &[u8]) -> Result<usize, Refusal>
+    /// Gives octets to the connection at this moment, and answers how many it took.
+    pub(crate) fn send(&mut self, now: Moment, octets: &[u8]) -> Result<usize, Refusal>
         ensures answer { result ≡ role_send_answer self.old octets.now }
-        ensures after { self.new ≡ role_after_send octets.now self.old }
+        ensures after { self.new ≡ role_after_send now octets.now self.old }
     {
         match self {
             Role::Idle { .. } => Err(Refusal::ENOTCONN),
             Role::Listener { .. } => Err(Refusal::EOPNOTSUPP),
             Role::Datagrams { .. } => Err(Refusal::EDESTADDRREQ),
-            Role::Connected { connection, .. } => match connection.send(octets) {
+            Role::Connected { connection, .. } => match connection.send(now, octets) {
                 Ok(taken) => Ok(taken),
                 Err(refusal) => Err(Refusal::from(refusal)),
             },
@@ -414,12 +414,12 @@ impl Role {
         }
     }
 
-    /// Closes our side of the connection, where it is past its opening.
-    pub(crate) fn shutdown(&mut self)
-        ensures { self.new ≡ role_after_shutdown self.old }
+    /// Closes our side of the connection at this moment, where it is past its opening.
+    pub(crate) fn shutdown(&mut self, now: Moment)
+        ensures { self.new ≡ role_after_shutdown now self.old }
     {
         if let Role::Connected { connection, .. } = self {
-            let _ = connection.shutdown();
+            let _ = connection.shutdown(now);
         }
     }
 

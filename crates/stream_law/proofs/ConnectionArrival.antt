@@ -1,20 +1,21 @@
 -- An arriving segment is steps of the two channels of the connection that takes it.
-use Rattle.std.proofs.Common.{◌≡◌, ℕ, ◌+◌, ◌<◌, ◌≤◌, ◌^◌, ◌%◌, ◌||◌, ◌&&◌, ◌==◌, min, not, if◌then◌else◌, Bool, true, false, List, length, Option, arith, refl, sym, ◌∙◌, ap, subst}
-use Rattle.std.proofs.lemmas.Bool.{eqb-true}
+use Rattle.std.proofs.Common.{◌≡◌, ℕ, ◌+◌, ◌<◌, ◌≤◌, ◌^◌, ◌%◌, ◌||◌, ◌&&◌, ◌==◌, nat_lt, max, not, if◌then◌else◌, Bool, true, false, List, length, Option, arith, refl, sym, ◌∙◌, ap, subst}
+use Rattle.std.proofs.lemmas.Bool.{eqb-true, ltb-true, ltb-false}
+use Rattle.tcp_segment.specs.Wire.{past}
 use Rattle.tcp_segment.specs.Segment.{Segment}
 use Rattle.tcp_state.specs.declared.state.State.{State}
 use Rattle.tcp_state.specs.declared.state.State.TheVariants.{SynSent, SynReceived, Established, FinWait1, FinWait2, Closing, LastAck}
 use Rattle.tcp_state.specs.Numbers.{is_before}
-use Rattle.tcp_state.specs.View.{View, IsSound, is_opening, is_syn_sent, is_syn_received, is_closed, is_write_closed, is_read_closed, is_write_finished, awaits_fin_ack, is_fin_next}
+use Rattle.tcp_state.specs.View.{View, IsSound, is_opening, is_syn_sent, is_syn_received, is_closed, is_write_closed, is_read_closed, is_write_finished, awaits_fin_ack}
 use Rattle.tcp_state.specs.Halves.{Receiving as ReceivingHalf}
 use Rattle.tcp_state.specs.Stream.{outstanding, is_new_ack, after_acknowledged, receive_window, after_octets, stands_next, after_end}
 use Rattle.tcp_state.specs.Windows.{updates_window}
-use Rattle.tcp_state.specs.Arrival.{after_segment, is_simultaneous_syn, after_simultaneous_syn, after_syn_ack, is_right_syn_ack, is_acceptable_to, after_acceptable_segment, after_acknowledging_segment, after_ack, is_read_on, after_window, after_text, owing_ack, after_establishment, ends_by_syn, fin_acknowledged, after_new_ack, beyond_fin, beyond_end, is_receiving, counts_fin, after_fin}
-use Rattle.stream_law.specs.Channel.{Channel, Sending, Open, Receiving, Waiting, Synchronised, IsAmong, IsRecent}
+use Rattle.tcp_state.specs.Arrival.{after_segment, is_simultaneous_syn, after_simultaneous_syn, after_syn_ack, is_right_syn_ack, is_of_fin, is_acceptable_to, after_acceptable_segment, after_acknowledging_segment, after_ack, is_read_on, after_window, may_delay, after_text, owing_ack, after_establishment, ends_by_syn, fin_acknowledged, after_new_ack, beyond_fin, beyond_end, is_receiving, counts_fin, after_fin}
+use Rattle.stream_law.specs.Channel.{Channel, Sending, Open, Receiving, Waiting, Synchronised, IsAmong, IsRecent, number_of}
 use Rattle.stream_law.specs.ChannelSteps.{Step, nothing_kept}
 use Rattle.stream_law.specs.ChannelViews.{frame_of, Leads, stays, goes, sender_of, kept_at, receiver_of, receiving_of, SendsInto, ReceivesFrom, Follows, IsOfWidth, CameFrom}
 use Rattle.stream_law.proofs.Kept.{unkept}
-use Rattle.stream_law.proofs.ConnectionHears.{HasRoom, hears-octets, hears-fin, hears-ack, hears-fin_ack, hears-syn_ack, hears-syn}
+use Rattle.stream_law.proofs.ConnectionHears.{HasRoom, bounds_of, hears-octets, hears-fin, hears-ack, hears-fin_ack, hears-syn_ack, hears-syn}
 
 one_step : (cap limit : ℕ) (c d : Channel) → Step cap limit c d → Leads cap limit c d
 one_step cap limit c d step = goes c d d step (stays d)
@@ -101,20 +102,15 @@ beyond_end_acked FinWait1 e = (refl, refl)
 beyond_end_acked FinWait2 e = (refl, refl)
 beyond_end_acked _ e = cc
 
--- in its opening a connection has at most its SYN outstanding, and past it no more than it holds
+-- in its opening a connection has at most its SYN outstanding, and past it no more than it holds and its FIN
 opening_flight : (v : View) → IsSound v → is_opening v.state ≡ true → outstanding v.sending ≤ 1
-opening_flight v sound opening = subst (λ b. outstanding v.sending ≤ (if b || (awaits_fin_ack v.state && (length v.sending.held == 0)) then 1 else min (length v.sending.held) 1460)) opening sound.flight
+opening_flight v sound opening =
+    let none : length v.sending.held ≤ 0 = subst (λ b. length v.sending.held ≤ (if b || is_write_finished v.state then 0 else 65535)) opening sound.held in
+    let most : outstanding v.sending ≤ length v.sending.held + 1 = subst (λ b. outstanding v.sending ≤ length v.sending.held + (if b || awaits_fin_ack v.state then 1 else 0)) opening sound.flight in
+    omega (arith, none, most)
 
-opened_flight : (v : View) → IsSound v → is_opening v.state ≡ false → is_fin_next v ≡ false → outstanding v.sending ≤ length v.sending.held
-opened_flight v sound opened none =
-    let some : outstanding v.sending ≤ (if is_fin_next v then 1 else min (length v.sending.held) 1460) = subst (λ b. outstanding v.sending ≤ (if b || is_fin_next v then 1 else min (length v.sending.held) 1460)) opened sound.flight in
-    let most : outstanding v.sending ≤ min (length v.sending.held) 1460 = subst (λ b. outstanding v.sending ≤ (if b then 1 else min (length v.sending.held) 1460)) none some in
-    omega (arith, most)
-
-pub fin_flight : (v : View) → IsSound v → is_opening v.state ≡ false → is_fin_next v ≡ true → outstanding v.sending ≤ 1
-fin_flight v sound opened fin =
-    let some : outstanding v.sending ≤ (if is_fin_next v then 1 else min (length v.sending.held) 1460) = subst (λ b. outstanding v.sending ≤ (if b || is_fin_next v then 1 else min (length v.sending.held) 1460)) opened sound.flight in
-    subst (λ b. outstanding v.sending ≤ (if b then 1 else min (length v.sending.held) 1460)) fin some
+opened_flight : (v : View) → IsSound v → is_opening v.state ≡ false → outstanding v.sending ≤ length v.sending.held + number_of (awaits_fin_ack v.state)
+opened_flight v sound opened = subst (λ b. outstanding v.sending ≤ length v.sending.held + (if b || awaits_fin_ack v.state then 1 else 0)) opened sound.flight
 
 pub opened_held : (v : View) → IsSound v → is_opening v.state ≡ false → length v.sending.held ≤ 65535
 opened_held v sound opened =
@@ -124,6 +120,22 @@ opened_held v sound opened =
     at_most : (b : Bool) (n : ℕ) → n ≤ (if b then 0 else 65535) → n ≤ 65535
     at_most true n e = omega (arith, e)
     at_most false n e = e
+
+short_flight : (v : View) → IsSound v → is_opening v.state ≡ false → outstanding v.sending < 2 ^ 31
+short_flight v sound opened = let held = opened_held v sound opened in let most = opened_flight v sound opened in let fin = one_at_most (awaits_fin_ack v.state) in omega (arith, held, most, fin)
+  where
+    one_at_most : (b : Bool) → number_of b ≤ 1
+    one_at_most true = omega arith
+    one_at_most false = omega arith
+
+-- an acknowledgement of what is outstanding reaches past what is held only where it is of our FIN
+within_held : (v : View) (ack : ℕ) → IsSound v → is_opening v.state ≡ false → is_new_ack v.sending ack ≡ true → is_of_fin v ack ≡ false → past ack v.sending.una ≤ length v.sending.held
+within_held v ack sound opened new none =
+    reaches (awaits_fin_ack v.state) (opened_flight v sound opened) none
+  where
+    reaches : (waits : Bool) → outstanding v.sending ≤ length v.sending.held + number_of waits → (waits && nat_lt (length v.sending.held) (past ack v.sending.una)) ≡ false → past ack v.sending.una ≤ length v.sending.held
+    reaches true most e = ltb-false (length v.sending.held) (past ack v.sending.una) e
+    reaches false most e = let bounds = bounds_of v.sending ack new in omega (arith, bounds.1, most)
 
 -- no window is advertised in SYN-SENT, so that nothing is kept
 unheard_keeps : (v : View) → IsSound v → is_syn_sent v.state ≡ true → kept_at v.receiving.kept ≡ nothing_kept
@@ -224,16 +236,16 @@ arrives-ack cap limit v s c d sound fits past_syn ack into came =
     })
     (λ old. same))
     (λ unreceived. either P (is_new_ack v.sending s.acknowledgement) _ _
-    (λ new. let opened = past_opening v.state past_syn unreceived in either P (is_fin_next v) (fin_acknowledged (after_new_ack v s.acknowledgement)) (after_new_ack v s.acknowledgement)
+    (λ new. let opened = past_opening v.state past_syn unreceived in either P (is_of_fin v s.acknowledgement) (fin_acknowledged (after_new_ack v s.acknowledgement)) (after_new_ack v s.acknowledgement)
     (λ fin.
-    let waits = and_left (awaits_fin_ack v.state) (length v.sending.held == 0) fin in
-    let none = eqb-true (length v.sending.held) 0 (and_right (awaits_fin_ack v.state) (length v.sending.held == 0) fin) in
+    let waits = and_left (awaits_fin_ack v.state) (nat_lt (length v.sending.held) (past s.acknowledgement v.sending.una)) fin in
+    let reach = ltb-true (length v.sending.held) (past s.acknowledgement v.sending.una) (and_right (awaits_fin_ack v.state) (nat_lt (length v.sending.held) (past s.acknowledgement v.sending.una)) fin) in
     let beyond = beyond_fin_acked v.state waits in
     let plain = record (sender_of v) { held = (after_acknowledged v.sending s.acknowledgement).held; una = (after_acknowledged v.sending s.acknowledgement).una; fin_acked = true } in
     record {
       into = Open plain;
       leads = one_step cap limit c (record c { sending = Open plain })
-          (hears-fin_ack cap limit v c s came.acked_at opened none (fin_flight v sound opened fin) new into (came.ack ack) came.ack_recent);
+          (hears-fin_ack cap limit v c s came.acked_at opened reach (short_flight v sound opened) new into (came.ack ack) came.ack_recent);
       sends = record {
         sending = ap (λ b. Open (record plain { syn_acked = not b })) (sym beyond.1) ∙ ap (λ b. Open (record plain { syn_acked = not (is_opening (beyond_fin v.state)); fin_acked = b })) (sym beyond.0);
         closed = into.closed ∙ sym (beyond_fin_closed v.state waits).0;
@@ -245,7 +257,7 @@ arrives-ack cap limit v s c d sound fits past_syn ack into came =
     (λ octets. record {
       into = Open (record (sender_of v) { held = (after_acknowledged v.sending s.acknowledgement).held; una = (after_acknowledged v.sending s.acknowledgement).una });
       leads = one_step cap limit c (record c { sending = Open (record (sender_of v) { held = (after_acknowledged v.sending s.acknowledgement).held; una = (after_acknowledged v.sending s.acknowledgement).una }) })
-          (hears-ack cap limit v c s came.acked_at opened (opened_flight v sound opened octets) (opened_held v sound opened) new into (came.ack ack) came.ack_recent);
+          (hears-ack cap limit v c s came.acked_at opened (within_held v s.acknowledgement sound opened new octets) (opened_held v sound opened) new into (came.ack ack) came.ack_recent);
       sends = record { sending = refl; closed = into.closed };
       receiving = refl;
       synchronised = past_syn;
@@ -283,7 +295,7 @@ arrives-text : (cap limit : ℕ) (v : View) (s : Segment) (c d : Channel) → v.
     → Heard cap limit v (after_text v s) d
 arrives-text cap limit v s c d rnext room fits past_syn from came =
     let heard = after_octets v.receiving s.number s.octets in
-    let w = record v { receiving = heard; owes_ack = true } in
+    let w = record v { receiving = heard; owes_ack = v.owes_ack || v.delays_ack || not (may_delay v s); delays_ack = true } in
     either (λ w. Heard cap limit v w d) ((length s.octets == 0) || not (is_receiving v.state)) v w
     (λ none. unheard cap limit v d past_syn from)
     (λ some. record {
@@ -359,7 +371,7 @@ arrives-stream cap limit v s c d rnext room fits past_syn from came =
       synchronised = f.synchronised;
     }
   where
-    text_fits : (none : Bool) → (if none then v else record v { receiving = after_octets v.receiving s.number s.octets; owes_ack = true }).receiving.rnext < 2 ^ 32
+    text_fits : (none : Bool) → (if none then v else record v { receiving = after_octets v.receiving s.number s.octets; owes_ack = v.owes_ack || v.delays_ack || not (may_delay v s); delays_ack = true }).receiving.rnext < 2 ^ 32
     text_fits true = rnext
     text_fits false = omega arith
 
@@ -367,7 +379,7 @@ arrives-stream cap limit v s c d rnext room fits past_syn from came =
 window_told : (v : View) (s : Segment) → sender_of v ≡ sender_of (after_window v s)
 window_told v s = told (updates_window v.sending s.number s.acknowledgement)
   where
-    told : (tells : Bool) → sender_of v ≡ sender_of (record v { sending = if tells then record v.sending { window = s.window; wl1 = s.number; wl2 = s.acknowledgement } else v.sending })
+    told : (tells : Bool) → sender_of v ≡ sender_of (record v { sending = if tells then record v.sending { window = s.window; largest = max v.sending.largest s.window; wl1 = s.number; wl2 = s.acknowledgement } else v.sending })
     told true = refl
     told false = refl
 

@@ -187,41 +187,41 @@ not_past : (a b : ℕ) → b ≤ a → nat_lt a b ≡ false
 not_past a b le = elim (leb_tells (suc a) b) [ inl t ↦ absurd (omega (arith, t.1, le)) | inr t ↦ t.0 ]
 
 -- what a new acknowledgement reaches
-bounds_of : (h : SendingHalf) (ack : ℕ) → is_new_ack h ack ≡ true → (0 < past ack h.una) × (past ack h.una ≤ outstanding h)
+pub bounds_of : (h : SendingHalf) (ack : ℕ) → is_new_ack h ack ≡ true → (0 < past ack h.una) × (past ack h.una ≤ outstanding h)
 bounds_of h ack e = elim (leb_tells (suc 0) (past ack h.una)) [
   | inl t ↦ (t.1, leb-true (past ack h.una) (outstanding h) (sym (ap (λ b. b && nat_le (past ack h.una) (outstanding h)) t.0) ∙ e))
   | inr t ↦ let bad : false ≡ true = sym (ap (λ b. b && nat_le (past ack h.una) (outstanding h)) t.0) ∙ e in cc
 ]
 
--- an acknowledgement of octets that are outstanding
-pub hears-ack : (cap limit : ℕ) (v : View) (c : Channel) (s : Segment) (written_at : ℕ) → is_opening v.state ≡ false → outstanding v.sending ≤ length v.sending.held → length v.sending.held ≤ 65535
+-- an acknowledgement of octets, with none of our FIN
+pub hears-ack : (cap limit : ℕ) (v : View) (c : Channel) (s : Segment) (written_at : ℕ) → is_opening v.state ≡ false → past s.acknowledgement v.sending.una ≤ length v.sending.held → length v.sending.held ≤ 65535
     → is_new_ack v.sending s.acknowledgement ≡ true → SendsInto v c → IsAmong (ack_of s written_at) c.acks → IsRecent limit c.written written_at
     → Step cap limit c (record c { sending = Open (record (sender_of v) { held = (after_acknowledged v.sending s.acknowledgement).held; una = (after_acknowledged v.sending s.acknowledgement).una }) })
-hears-ack cap limit v c s written_at opened flight held new shows among recent =
+hears-ack cap limit v c s written_at opened within held new shows among recent =
     let w = sender_of v in
     let ack = s.acknowledgement in
     let acked : w.syn_acked ≡ true = ap not opened in
     let bounds = bounds_of v.sending ack new in
     let count : octets_up_to w ack ≡ past ack v.sending.una = ap (λ b. past ack v.sending.una - number_of (if b then false else true)) acked ∙ omega arith in
     let held' : drop (octets_up_to w ack) w.held ≡ drop (past ack v.sending.una) v.sending.held = ap (λ n. drop n w.held) count in
-    let no_fin : (w.fin_acked || nat_lt (length w.held) (octets_up_to w ack)) ≡ w.fin_acked = as_it_was w.fin_acked (not_past (length w.held) (octets_up_to w ack) (omega (arith, count, bounds.1, flight))) in
-    let step = acknowledges c w (ack_of s written_at) shows.sending among recent bounds.0 (omega (arith, bounds.1, flight, held)) in
+    let no_fin : (w.fin_acked || nat_lt (length w.held) (octets_up_to w ack)) ≡ w.fin_acked = as_it_was w.fin_acked (not_past (length w.held) (octets_up_to w ack) (omega (arith, count, within))) in
+    let step = acknowledges c w (ack_of s written_at) shows.sending among recent bounds.0 (omega (arith, within, held)) in
     subst (λ l. Step cap limit c (record c { sending = Open (record w { held = l; una = ack }) })) held'
     (subst (λ b. Step cap limit c (record c { sending = Open (record w { held = drop (octets_up_to w ack) w.held; una = ack; syn_acked = b }) })) (sym acked)
     (subst (λ b. Step cap limit c (record c { sending = Open (record w { held = drop (octets_up_to w ack) w.held; una = ack; syn_acked = true; fin_acked = b }) })) no_fin step))
 
--- an acknowledgement of our FIN, the one number that is outstanding
-pub hears-fin_ack : (cap limit : ℕ) (v : View) (c : Channel) (s : Segment) (written_at : ℕ) → is_opening v.state ≡ false → length v.sending.held ≡ 0 → outstanding v.sending ≤ 1
+-- an acknowledgement past all that is held, of our FIN behind it
+pub hears-fin_ack : (cap limit : ℕ) (v : View) (c : Channel) (s : Segment) (written_at : ℕ) → is_opening v.state ≡ false → length v.sending.held < past s.acknowledgement v.sending.una → outstanding v.sending < 2 ^ 31
     → is_new_ack v.sending s.acknowledgement ≡ true → SendsInto v c → IsAmong (ack_of s written_at) c.acks → IsRecent limit c.written written_at
     → Step cap limit c (record c { sending = Open (record (sender_of v) { held = (after_acknowledged v.sending s.acknowledgement).held; una = (after_acknowledged v.sending s.acknowledgement).una; fin_acked = true }) })
-hears-fin_ack cap limit v c s written_at opened empty flight new shows among recent =
+hears-fin_ack cap limit v c s written_at opened beyond flight new shows among recent =
     let w = sender_of v in
     let ack = s.acknowledgement in
     let acked : w.syn_acked ≡ true = ap not opened in
     let bounds = bounds_of v.sending ack new in
     let count : octets_up_to w ack ≡ past ack v.sending.una = ap (λ b. past ack v.sending.una - number_of (if b then false else true)) acked ∙ omega arith in
     let held' : drop (octets_up_to w ack) w.held ≡ drop (past ack v.sending.una) v.sending.held = ap (λ n. drop n w.held) count in
-    let fin : (w.fin_acked || nat_lt (length w.held) (octets_up_to w ack)) ≡ true = or_true w.fin_acked (is_past (length w.held) (octets_up_to w ack) (omega (arith, count, bounds.0, empty))) in
+    let fin : (w.fin_acked || nat_lt (length w.held) (octets_up_to w ack)) ≡ true = or_true w.fin_acked (is_past (length w.held) (octets_up_to w ack) (omega (arith, count, beyond))) in
     let step = acknowledges c w (ack_of s written_at) shows.sending among recent bounds.0 (omega (arith, bounds.1, flight)) in
     subst (λ l. Step cap limit c (record c { sending = Open (record w { held = l; una = ack; fin_acked = true }) })) held'
     (subst (λ b. Step cap limit c (record c { sending = Open (record w { held = drop (octets_up_to w ack) w.held; una = ack; syn_acked = b; fin_acked = true }) })) (sym acked)

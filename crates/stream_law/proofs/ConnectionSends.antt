@@ -1,107 +1,139 @@
 -- What a connection takes from its caller, and what it sends, is a step of each of its two channels.
-use Rattle.std.proofs.Common.{◌≡◌, ℕ, ◌+◌, ◌<◌, ◌≤◌, ◌^◌, ◌%◌, ◌||◌, min, if◌then◌else◌, not, Bool, true, false, List, [], ◌∷◌, ◌++◌, length, take, drop, is_some, arith, refl, sym, ◌∙◌, ap, subst, length-append}
+use Rattle.std.proofs.Common.{◌≡◌, ℕ, ◌+◌, ◌-◌, ◌<◌, ◌≤◌, ◌^◌, ◌%◌, ◌||◌, ◌==◌, min, if◌then◌else◌, not, Bool, true, false, List, [], ◌∷◌, ◌++◌, length, take, drop, is_some, arith, refl, sym, ◌∙◌, ap, subst, append-nil, append_assoc, length-append, length-drop}
+use Rattle.std.proofs.lemmas.Bool.{eqb-true}
 use Rattle.std.proofs.lemmas.List.{length-take, take-append-drop}
 use Rattle.tcp_segment.specs.Wire.{past}
 use Rattle.tcp_segment.specs.Sent.{sent_segment}
 use Rattle.clock.specs.declared.moment.Moment.{Moment}
-use Rattle.tcp_state.specs.declared.emission.Due.TheVariants.{Syn, Text, Fin}
-use Rattle.tcp_state.specs.View.{View, is_opening, is_syn_sent, is_syn_received, is_write_finished, is_write_closed}
+use Rattle.tcp_state.specs.declared.emission.Due.TheVariants.{Syn, Text, Probe}
+use Rattle.tcp_state.specs.declared.emission.Stretch.{Stretch}
+use Rattle.tcp_state.specs.View.{View, is_opening, is_syn_sent, is_write_finished, is_write_closed}
 use Rattle.tcp_state.specs.Numbers.{later_number}
 use Rattle.tcp_state.specs.Stream.{outstanding}
-use Rattle.tcp_state.specs.Calls.{send_count, after_send}
-use Rattle.tcp_state.specs.Due.{head_of, octets_of, after_emitted, after_ack_paid, after_numbers}
+use Rattle.tcp_state.specs.Timing.{clocked}
+use Rattle.tcp_state.specs.Calls.{send_count, with_octets, after_send}
+use Rattle.tcp_state.specs.Due.{IsHeld, probe_stretch, end_of, octets_of_stretch, head_of, octets_of}
 use Rattle.stream_law.specs.Channel.{Open, Waiting, Synchronised, Channel}
 use Rattle.stream_law.specs.ChannelSteps.{Step, writes, emits_syn, emits_text, emits_ack, span}
 use Rattle.stream_law.specs.ChannelViews.{sender_of, receiver_of, SendsInto, ReceivesFrom, frame_of}
 use Rattle.stream_law.proofs.KeepingText.{chosen}
+use Rattle.stream_law.proofs.ConnectionArrival.{either}
 
--- octets that the caller gives are written
-pub sends : (cap limit : ℕ) (v : View) (c : Channel) (octets : List ℕ) → 65535 ≤ cap → is_some v.pending_error ≡ false → is_opening v.state ≡ false → is_write_closed v.state ≡ false → length v.sending.held ≤ 65535 → SendsInto v c
-    → Step cap limit c (record c { written = c.written ++ take (send_count v octets) octets; sending = Open (sender_of (after_send v octets)) })
-sends cap limit v c octets room untold opened unclosed held shows =
-    let more = take (send_count v octets) octets in
-    let s = sender_of v in
-    let len : length more ≡ min (send_count v octets) (length octets) = length-take (send_count v octets) octets in
-    let fits : length (s.held ++ more) ≤ cap = omega (arith, length-append s.held more, len, room, held) in
-    subst (λ w. Step cap limit c (record c { written = c.written ++ more; sending = Open w })) (same (is_some v.pending_error || is_opening v.state || is_write_closed v.state) (neither (is_some v.pending_error || is_opening v.state) (is_write_closed v.state) (neither (is_some v.pending_error) (is_opening v.state) untold opened) unclosed))
-    (writes c s more shows.sending (shows.closed ∙ unclosed) fits)
+-- octets that the caller gives stand behind those that are held, and of the rest of both streams nothing changed
+pub record Takes (v w : View) (more : List ℕ) : Type 0 where
+  pub state : w.state ≡ v.state
+  pub sender : record (sender_of v) { held = v.sending.held ++ more } ≡ sender_of w
+  pub receiving : w.receiving ≡ v.receiving
+
+no_octets : (xs : List ℕ) → length xs ≡ 0 → xs ≡ []
+no_octets [] e = refl
+no_octets (x ∷ xs) e = cc
+
+pub takes-octets : (v : View) (octets : List ℕ) (now : Moment) → is_some v.pending_error ≡ false → is_opening v.state ≡ false → is_write_closed v.state ≡ false → Takes v (after_send v octets now) (take (send_count v octets) octets)
+takes-octets v octets now untold opened unclosed =
+    either P (is_some v.pending_error || is_opening v.state || is_write_closed v.state) v (with_octets v more now)
+    (λ refused. let bad : true ≡ false = sym refused ∙ neither (is_some v.pending_error || is_opening v.state) (is_write_closed v.state) (neither (is_some v.pending_error) (is_opening v.state) untold opened) unclosed in cc)
+    (λ taken. either P (length more == 0) v (clocked false (record v { sending = record v.sending { held = v.sending.held ++ more } }) now)
+    (λ none. record { state = refl; sender = ap (λ l. record (sender_of v) { held = l }) (nothing_more (eqb-true (length more) 0 none)); receiving = refl })
+    (λ some. record { state = refl; sender = refl; receiving = refl }))
   where
-    with_more : View
-    with_more = record v { sending = record v.sending { held = v.sending.held ++ take (send_count v octets) octets } }
+    more : List ℕ
+    more = take (send_count v octets) octets
+
+    P : View → Type 0
+    P w = Takes v w more
 
     neither : (a b : Bool) → a ≡ false → b ≡ false → (a || b) ≡ false
     neither true b e f = e
     neither false b e f = f
 
-    same : (opening : Bool) → opening ≡ false → record (sender_of v) { held = v.sending.held ++ take (send_count v octets) octets } ≡ sender_of (if opening then v else with_more)
-    same true e = let bad : true ≡ false = e in cc
-    same false e = refl
+    nothing_more : length more ≡ 0 → v.sending.held ++ more ≡ v.sending.held
+    nothing_more e = ap (λ l. v.sending.held ++ l) (no_octets more e) ∙ append-nil v.sending.held
+
+-- they are written
+pub sends : (cap limit : ℕ) (v w : View) (c : Channel) (octets : List ℕ) → 65535 ≤ cap → is_write_closed v.state ≡ false → length v.sending.held ≤ 65535 → Takes v w (take (send_count v octets) octets) → SendsInto v c
+    → Step cap limit c (record c { written = c.written ++ take (send_count v octets) octets; sending = Open (sender_of w) })
+sends cap limit v w c octets room unclosed held taken shows =
+    let more = take (send_count v octets) octets in
+    let s = sender_of v in
+    let len : length more ≡ min (send_count v octets) (length octets) = length-take (send_count v octets) octets in
+    let fits : length (s.held ++ more) ≤ cap = omega (arith, length-append s.held more, len, room, held) in
+    subst (λ x. Step cap limit c (record c { written = c.written ++ more; sending = Open x })) taken.sender
+    (writes c s more shows.sending (shows.closed ∙ unclosed) fits)
 
 -- the SYN goes out
-pub emits-syn : (cap limit : ℕ) (v : View) (c : Channel) (now : Moment) → is_opening v.state ≡ true → v.sending.una < 2 ^ 32 → outstanding v.sending ≤ 1 → SendsInto v c
+pub emits-syn : (cap limit : ℕ) (v : View) (c : Channel) → is_opening v.state ≡ true → v.sending.una < 2 ^ 32 → outstanding v.sending ≤ 1 → SendsInto v c
     → Step cap limit c (record c {
-      sending = Open (sender_of (after_emitted v Syn now));
+      sending = Open (record (sender_of v) { nxt = later_number v.sending.una v.sending.nxt ((v.sending.una + 1) % 2 ^ 32) });
       frames = frame_of (sent_segment (head_of v Syn) (octets_of v Syn)) (length c.written) ∷ c.frames;
     })
-emits-syn cap limit v c now opening una whole shows =
+emits-syn cap limit v c opening una whole shows =
     let s = sender_of v in
     let unacked : s.syn_acked ≡ false = ap not opening in
     let end = (s.una + 1) % 2 ^ 32 in
     let next : end ≡ later_number s.una s.nxt end =
     sym (chosen (past s.nxt s.una) (past end s.una) s.nxt end end (λ le. refl) (λ lt. let reach : past end s.una ≡ 1 = omega (arith, una) in absurd (omega (arith, lt, reach, whole)))) in
-    subst (λ w. Step cap limit c (record c { sending = Open w; frames = frame_of (sent_segment (head_of v Syn) (octets_of v Syn)) (length c.written) ∷ c.frames })) (same (is_syn_received v.state))
-    (subst (λ n. Step cap limit c (record c {
+    subst (λ n. Step cap limit c (record c {
       sending = Open (record s { nxt = n });
       frames = frame_of (sent_segment (head_of v Syn) (octets_of v Syn)) (length c.written) ∷ c.frames;
-    })) next (emits_syn c s shows.sending unacked))
-  where
-    same : (reply : Bool) → record (sender_of v) { nxt = later_number v.sending.una v.sending.nxt ((v.sending.una + 1) % 2 ^ 32) }
-        ≡ sender_of (if reply then after_ack_paid (after_numbers v 1 now) else after_numbers v 1 now)
-    same true = refl
-    same false = refl
+    })) next (emits_syn c s shows.sending unacked)
 
--- octets that are held go out
-pub emits-text : (cap limit : ℕ) (v : View) (c : Channel) (now : Moment) (count : ℕ) → is_opening v.state ≡ false → is_write_finished v.state ≡ false → v.sending.una < 2 ^ 32 → count ≤ length v.sending.held → SendsInto v c
+-- a stretch of what is held goes out, from its offset past SND.UNA on, and the FIN only behind all octets
+pub emits-stretch : (cap limit : ℕ) (v : View) (c : Channel) (stretch : Stretch) → is_write_finished v.state ≡ false → IsHeld v stretch → SendsInto v c
     → Step cap limit c (record c {
-      sending = Open (sender_of (after_emitted v (Text count) now));
-      frames = frame_of (sent_segment (head_of v (Text count)) (octets_of v (Text count))) (length c.written) ∷ c.frames;
+      sending = Open (record (sender_of v) { nxt = later_number v.sending.una v.sending.nxt ((v.sending.una + end_of stretch) % 2 ^ 32) });
+      frames = frame_of (sent_segment (head_of v (Text stretch)) (octets_of v (Text stretch))) (length c.written) ∷ c.frames;
     })
-emits-text cap limit v c now count opened unfinished una held shows =
+emits-stretch cap limit v c stretch unfinished is shows =
     let s = sender_of v in
-    let octets = take count s.held in
-    let none : List ℕ = [] in
-    let acked : s.syn_acked ≡ true = ap not opened in
-    let len : length octets ≡ count = length-take count s.held ∙ omega (arith, held) in
-    let cut : s.held ≡ (none ++ octets) ++ drop count s.held = sym (take-append-drop count s.held) in
-    let first : (s.una + length none) % 2 ^ 32 ≡ s.una = omega (arith, una) in
-    let reach : length none + span octets false ≡ count = omega (arith, len) in
-    let step = emits_text c s none octets (drop count s.held) false shows.sending acked unfinished cut (λ e. let bad : false ≡ true = e in cc) in
+    let before = take stretch.offset s.held in
+    let octets = octets_of_stretch v stretch in
+    let after = drop stretch.count (drop stretch.offset s.held) in
+    let acked : s.syn_acked ≡ true = ap not is.opened in
+    let first : length before ≡ stretch.offset = length-take stretch.offset s.held ∙ omega (arith, is.held) in
+    let behind : length (drop stretch.offset s.held) ≡ length s.held - stretch.offset = length-drop stretch.offset s.held in
+    let len : length octets ≡ stretch.count = length-take stretch.count (drop stretch.offset s.held) ∙ omega (arith, behind, is.held) in
+    let cut : s.held ≡ (before ++ octets) ++ after =
+    sym (take-append-drop stretch.offset s.held) ∙ (ap (λ l. before ++ l) (sym (take-append-drop stretch.count (drop stretch.offset s.held))) ∙ sym (append_assoc before octets after)) in
+    let last : stretch.fin ≡ true → (c.closed ≡ true) × (after ≡ []) = λ e. let f = is.fin e in (
+      shows.closed ∙ ap (λ b. b || is_write_finished v.state) f.0,
+      no_octets after (length-drop stretch.count (drop stretch.offset s.held) ∙ omega (arith, behind, f.1)),
+    ) in
+    let reach : length before + span octets stretch.fin ≡ end_of stretch = omega (arith, first, len) in
+    let step = emits_text c s before octets after stretch.fin shows.sending acked unfinished cut last in
     subst (λ n. Step cap limit c (record c {
       sending = Open (record s { nxt = later_number s.una s.nxt ((s.una + n) % 2 ^ 32) });
-      frames = frame_of (sent_segment (head_of v (Text count)) (octets_of v (Text count))) (length c.written) ∷ c.frames;
+      frames = frame_of (sent_segment (head_of v (Text stretch)) (octets_of v (Text stretch))) (length c.written) ∷ c.frames;
     })) reach
     (subst (λ n. Step cap limit c (record c {
-      sending = Open (record s { nxt = later_number s.una s.nxt ((s.una + (length none + span octets false)) % 2 ^ 32) });
-      frames = record { number = n; octets = octets; syn = false; fin = false; written_at = length c.written } ∷ c.frames;
+      sending = Open (record s { nxt = later_number s.una s.nxt ((s.una + (length before + span octets stretch.fin)) % 2 ^ 32) });
+      frames = record { number = (s.una + n) % 2 ^ 32; octets = octets; syn = false; fin = stretch.fin; written_at = length c.written } ∷ c.frames;
     })) first step)
 
--- the FIN goes out behind all octets, first or again
-pub emits-fin : (cap limit : ℕ) (v : View) (c : Channel) (now : Moment) → is_opening v.state ≡ false → is_write_finished v.state ≡ false → is_write_closed v.state ≡ true → v.sending.held ≡ []
-    → v.sending.una < 2 ^ 32 → SendsInto v c
+-- a probe is the stretch at SND.UNA
+pub emits-probe : (cap limit : ℕ) (v : View) (c : Channel) → is_write_finished v.state ≡ false → v.sending.una < 2 ^ 32 → IsHeld v (probe_stretch v) → SendsInto v c
     → Step cap limit c (record c {
-      sending = Open (sender_of (after_emitted v Fin now));
-      frames = frame_of (sent_segment (head_of v Fin) (octets_of v Fin)) (length c.written) ∷ c.frames;
+      sending = Open (record (sender_of v) { nxt = later_number v.sending.una v.sending.nxt ((v.sending.una + end_of (probe_stretch v)) % 2 ^ 32) });
+      frames = frame_of (sent_segment (head_of v Probe) (octets_of v Probe)) (length c.written) ∷ c.frames;
     })
-emits-fin cap limit v c now opened unfinished closed empty una shows =
+emits-probe cap limit v c unfinished una is shows =
+    let stretch = probe_stretch v in
     let s = sender_of v in
-    let none : List ℕ = [] in
-    let acked : s.syn_acked ≡ true = ap not opened in
-    let first : (s.una + length none) % 2 ^ 32 ≡ s.una = omega (arith, una) in
-    let step = emits_text c s none none none true shows.sending acked unfinished empty (λ e. (shows.closed ∙ closed, refl)) in
+    let number : (s.una + stretch.offset) % 2 ^ 32 ≡ s.una = ap (λ n. (s.una + n) % 2 ^ 32) (at_una (length v.sending.held == 0)) ∙ omega (arith, una) in
     subst (λ n. Step cap limit c (record c {
-      sending = Open (record s { nxt = later_number s.una s.nxt ((s.una + (length none + span none true)) % 2 ^ 32) });
-      frames = record { number = n; octets = none; syn = false; fin = true; written_at = length c.written } ∷ c.frames;
-    })) first step
+      sending = Open (record s { nxt = later_number s.una s.nxt ((s.una + end_of stretch) % 2 ^ 32) });
+      frames = record { number = n; octets = octets_of_stretch v stretch; syn = false; fin = stretch.fin; written_at = length c.written } ∷ c.frames;
+    })) number (emits-stretch cap limit v c stretch unfinished is shows)
+  where
+    alone : Stretch
+    alone = record { offset = 0; count = 0; fin = true }
+
+    oldest : Stretch
+    oldest = record { offset = 0; count = 1; fin = false }
+
+    at_una : (none : Bool) → (if none then alone else oldest).offset ≡ 0
+    at_una true = refl
+    at_una false = refl
 
 -- a segment with ACK acknowledges
 pub emits-ack : (cap limit : ℕ) (v : View) (d : Channel) → is_syn_sent v.state ≡ false → ReceivesFrom v d

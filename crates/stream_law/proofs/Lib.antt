@@ -6,9 +6,11 @@ pub mod KeepingArrival
 pub mod KeepingOctets
 pub mod ChannelLaw
 pub mod Kept
-pub mod ConnectionSends
 pub mod ConnectionHears
 pub mod ConnectionArrival
+pub mod ConnectionSends
+pub mod Emitted
+pub mod Clock
 pub mod PairingInvariant
 pub mod PairingEndings
 pub mod PairingMoves

@@ -1,22 +1,23 @@
 -- A segment that goes out is steps of the two channels.
-use Rattle.std.proofs.Common.{◌≡◌, ℕ, ◌<◌, ◌≤◌, ◌||◌, ◌==◌, min, if◌then◌else◌, Bool, true, false, List, [], ◌∷◌, length, arith, refl, sym, ◌∙◌, ap, subst}
-use Rattle.std.proofs.lemmas.Bool.{eqb-true}
+use Rattle.std.proofs.Common.{◌≡◌, ℕ, ◌+◌, ◌<◌, ◌≤◌, ◌||◌, not, if◌then◌else◌, Bool, true, false, List, [], ◌∷◌, length, arith, refl, sym, ◌∙◌, ap, subst}
 use Rattle.tcp_segment.specs.Segment.{Segment}
 use Rattle.tcp_segment.specs.Sent.{sent_segment}
 use Rattle.tcp_state.specs.declared.emission.Due.{Due}
-use Rattle.tcp_state.specs.declared.emission.Due.TheVariants.{Rst, Syn, Text, Fin, Ack as AckAlone}
+use Rattle.tcp_state.specs.declared.emission.Due.TheVariants.{Rst, Syn, Text, Probe, Ack as AckAlone}
+use Rattle.tcp_state.specs.declared.emission.Stretch.{Stretch}
 use Rattle.clock.specs.declared.moment.Moment.{Moment}
 use Rattle.tcp_state.specs.declared.state.State.{State}
 use Rattle.tcp_state.specs.declared.state.State.TheVariants.{Closed, SynSent, SynReceived, FinWait1, Closing, LastAck}
-use Rattle.tcp_state.specs.View.{View, IsSound, is_opening, is_syn_sent, is_syn_received, is_closed, is_listening, is_write_closed, is_read_closed, is_write_finished, awaits_fin_ack, is_fin_next}
-use Rattle.tcp_state.specs.Stream.{outstanding}
-use Rattle.tcp_state.specs.Due.{MayGoOut, flags_of, head_of, octets_of, after_emitted, after_ack_paid, after_numbers}
+use Rattle.tcp_state.specs.View.{View, IsSound, is_opening, is_syn_sent, is_syn_received, is_closed, is_listening, is_write_closed, is_read_closed, is_write_finished, awaits_fin_ack}
+use Rattle.tcp_state.specs.Halves.{Sending as SendingHalf}
+use Rattle.tcp_state.specs.Stream.{outstanding, after_sent}
+use Rattle.tcp_state.specs.Due.{MayGoOut, IsHeld, probe_stretch, end_of, flags_of, head_of, octets_of, after_emitted}
 use Rattle.stream_law.specs.Channel.{Channel, Ack, Open, IsAmong, here, there}
 use Rattle.stream_law.specs.ChannelSteps.{Step, steps, emits_bare}
 use Rattle.stream_law.specs.ChannelViews.{Leads, stays, goes, sender_of, receiving_of, SendsInto, ReceivesFrom, IsOfWidth, frame_of, ack_of}
 use Rattle.stream_law.specs.Pairing.{Present, Emission, Pairing, with_connection}
-use Rattle.stream_law.proofs.ConnectionSends.{emits-syn, emits-text, emits-fin, emits-ack}
-use Rattle.stream_law.proofs.ConnectionArrival.{and_left, and_right}
+use Rattle.stream_law.proofs.ConnectionSends.{emits-syn, emits-stretch, emits-probe, emits-ack}
+use Rattle.stream_law.proofs.Emitted.{GoesOut, syn-out, stretch-out, probe-out, ack-out, sender-out, receiving-out}
 use Rattle.stream_law.proofs.PairingInvariant.{Shown, runs_on, other_stays, connected, living, receives}
 
 -- the acknowledgement that a segment carries joins those of the channel from which the end receives
@@ -110,106 +111,90 @@ assembled cap limit p v w s width unreset unclosed is h went =
     emissions _ _ first rest _ (here _ _) = first
     emissions _ _ first rest _ (there e _ _ among) = rest e among
 
+-- this view became that one as its sending half did, and the half's step sent the segment
+went-out : (cap limit : ℕ) (v w : View) (into : Channel) (s : Segment) (half : SendingHalf) → GoesOut v w half
+    → Step cap limit into (record into {
+      sending = Open (record { held = half.held; una = half.una; nxt = half.nxt; syn_acked = not (is_opening v.state); fin_acked = is_write_finished v.state });
+      frames = frame_of s (length into.written) ∷ into.frames;
+    })
+    → (s.flags.ack ≡ true → (is_syn_sent v.state ≡ false) × (s.acknowledgement ≡ v.receiving.rnext)) → Went cap limit v w into s
+went-out cap limit v w into s half out step acknowledges = record {
+  step = subst (λ x. Step cap limit into (record into { sending = Open x; frames = frame_of s (length into.written) ∷ into.frames })) (sender-out v w half out) step;
+  receiving = receiving-out v w half out;
+  readable = out.readable;
+  state = out.state;
+  acknowledges = acknowledges;
+}
+
 -- the SYN alone is outstanding while a connection opens
 syn_flight : (v : View) → IsSound v → is_opening v.state ≡ true → outstanding v.sending ≤ 1
-syn_flight v sound opening = subst (λ b. outstanding v.sending ≤ (if b || is_fin_next v then 1 else min (length v.sending.held) 1460)) opening sound.flight
+syn_flight v sound opening =
+    let none : length v.sending.held ≤ 0 = subst (λ b. length v.sending.held ≤ (if b || is_write_finished v.state then 0 else 65535)) opening sound.held in
+    let most : outstanding v.sending ≤ length v.sending.held + 1 = subst (λ b. outstanding v.sending ≤ length v.sending.held + (if b || awaits_fin_ack v.state then 1 else 0)) opening sound.flight in
+    omega (arith, none, most)
 
 went-syn : (cap limit : ℕ) (v : View) (into : Channel) (now : Moment) → IsSound v → is_opening v.state ≡ true → SendsInto v into → Went cap limit v (after_emitted v Syn now) into (sent_segment (head_of v Syn) (octets_of v Syn))
-went-syn cap limit v into now sound opening shows = record {
-  step = emits-syn cap limit v into now opening sound.una (syn_flight v sound opening) shows;
-  receiving = same_receiving (is_syn_received v.state);
-  readable = same_readable (is_syn_received v.state);
-  state = same_state (is_syn_received v.state);
-  acknowledges = λ e. (syn_received_past v.state e, ap (λ b. if b then v.receiving.rnext else 0) e);
-}
+went-syn cap limit v into now sound opening shows =
+    went-out cap limit v (after_emitted v Syn now) into (sent_segment (head_of v Syn) (octets_of v Syn)) (after_sent v.sending 1) (syn-out v now)
+    (emits-syn cap limit v into opening sound.una (syn_flight v sound opening) shows) (λ e. (syn_received_past v.state e, ap (λ b. if b then v.receiving.rnext else 0) e))
+
+-- Nothing is held once our FIN is acknowledged, and no FIN is sent.
+unfinished : (v : View) (stretch : Stretch) → IsSound v → IsHeld v stretch → is_write_finished v.state ≡ false
+unfinished v stretch sound is = by_fin stretch.fin (λ e. awaiting v.state (is.fin e).0)
+    (λ e. none_left (is_write_finished v.state) (length v.sending.held) (subst (λ b. length v.sending.held ≤ (if b || is_write_finished v.state then 0 else 65535)) is.opened sound.held)
+    (let some : 0 < stretch.count + (if false then 1 else 0) = subst (λ b. 0 < stretch.count + (if b then 1 else 0)) e is.some in omega (arith, some, is.held)))
   where
-    same_receiving : (reply : Bool) → receiving_of (if reply then after_ack_paid (after_numbers v 1 now) else after_numbers v 1 now) ≡ receiving_of v
-    same_receiving true = refl
-    same_receiving false = refl
+    by_fin : (fin : Bool) → (fin ≡ true → is_write_finished v.state ≡ false) → (fin ≡ false → is_write_finished v.state ≡ false) → is_write_finished v.state ≡ false
+    by_fin true if_fin if_none = if_fin refl
+    by_fin false if_fin if_none = if_none refl
 
-    same_readable : (reply : Bool) → (if reply then after_ack_paid (after_numbers v 1 now) else after_numbers v 1 now).receiving.readable ≡ v.receiving.readable
-    same_readable true = refl
-    same_readable false = refl
-
-    same_state : (reply : Bool) → (if reply then after_ack_paid (after_numbers v 1 now) else after_numbers v 1 now).state ≡ v.state
-    same_state true = refl
-    same_state false = refl
-
--- nothing is held once our FIN is acknowledged
-unfinished : (v : View) (count : ℕ) → IsSound v → is_opening v.state ≡ false → 0 < count → count ≤ length v.sending.held → is_write_finished v.state ≡ false
-unfinished v count sound opened some held =
-    none_left (is_write_finished v.state) (length v.sending.held) count (subst (λ b. length v.sending.held ≤ (if b || is_write_finished v.state then 0 else 65535)) opened sound.held) some held
-  where
-    none_left : (b : Bool) (len count : ℕ) → len ≤ (if b then 0 else 65535) → 0 < count → count ≤ len → b ≡ false
-    none_left true len count most some held = absurd (omega (arith, most, some, held))
-    none_left false len count most some held = refl
-
-went-text : (cap limit : ℕ) (v : View) (into : Channel) (count : ℕ) (now : Moment) → IsSound v → MayGoOut v (Text count) → SendsInto v into
-    → Went cap limit v (after_emitted v (Text count) now) into (sent_segment (head_of v (Text count)) (octets_of v (Text count)))
-went-text cap limit v into count now sound may shows = record {
-  step = emits-text cap limit v into now count may.0 (unfinished v count sound may.0 may.1 may.2) sound.una may.2 shows;
-  receiving = refl;
-  readable = refl;
-  state = refl;
-  acknowledges = λ e. (opened_past v.state may.0, refl);
-}
-
-went-fin : (cap limit : ℕ) (v : View) (into : Channel) (now : Moment) → IsSound v → MayGoOut v Fin → SendsInto v into
-    → Went cap limit v (after_emitted v Fin now) into (sent_segment (head_of v Fin) (octets_of v Fin))
-went-fin cap limit v into now sound may shows =
-    let waits = and_left (awaits_fin_ack v.state) (length v.sending.held == 0) may in
-    let empty = no_octets v.sending.held (eqb-true (length v.sending.held) 0 (and_right (awaits_fin_ack v.state) (length v.sending.held == 0) may)) in
-    let t = awaiting v.state waits in
-    record {
-      step = emits-fin cap limit v into now t.0 t.1 t.2 empty sound.una shows;
-      receiving = refl;
-      readable = refl;
-      state = refl;
-      acknowledges = λ e. (opened_past v.state t.0, refl);
-    }
-  where
-    awaiting : (t : State) → awaits_fin_ack t ≡ true → (is_opening t ≡ false) × (is_write_finished t ≡ false) × (is_write_closed t ≡ true)
-    awaiting FinWait1 e = (refl, refl, refl)
-    awaiting Closing e = (refl, refl, refl)
-    awaiting LastAck e = (refl, refl, refl)
+    awaiting : (t : State) → awaits_fin_ack t ≡ true → is_write_finished t ≡ false
+    awaiting FinWait1 e = refl
+    awaiting Closing e = refl
+    awaiting LastAck e = refl
     awaiting _ e = cc
 
-    no_octets : (xs : List ℕ) → length xs ≡ 0 → xs ≡ []
-    no_octets [] e = refl
-    no_octets (x ∷ xs) e = cc
+    none_left : (b : Bool) (len : ℕ) → len ≤ (if b then 0 else 65535) → 0 < len → b ≡ false
+    none_left true len most some = absurd (omega (arith, most, some))
+    none_left false len most some = refl
+
+went-text : (cap limit : ℕ) (v : View) (into : Channel) (stretch : Stretch) (now : Moment) → IsSound v → IsHeld v stretch → SendsInto v into
+    → Went cap limit v (after_emitted v (Text stretch) now) into (sent_segment (head_of v (Text stretch)) (octets_of v (Text stretch)))
+went-text cap limit v into stretch now sound is shows =
+    went-out cap limit v (after_emitted v (Text stretch) now) into (sent_segment (head_of v (Text stretch)) (octets_of v (Text stretch))) (after_sent v.sending (end_of stretch)) (stretch-out v stretch now)
+    (emits-stretch cap limit v into stretch (unfinished v stretch sound is) is shows) (λ e. (opened_past v.state is.opened, refl))
+
+went-probe : (cap limit : ℕ) (v : View) (into : Channel) (now : Moment) → IsSound v → IsHeld v (probe_stretch v) → SendsInto v into
+    → Went cap limit v (after_emitted v Probe now) into (sent_segment (head_of v Probe) (octets_of v Probe))
+went-probe cap limit v into now sound is shows =
+    went-out cap limit v (after_emitted v Probe now) into (sent_segment (head_of v Probe) (octets_of v Probe)) (after_sent v.sending (end_of (probe_stretch v))) (probe-out v now)
+    (emits-probe cap limit v into (unfinished v (probe_stretch v) sound is) sound.una is shows) (λ e. (opened_past v.state is.opened, refl))
 
 went-ack : (cap limit : ℕ) (v : View) (into : Channel) (now : Moment) → is_syn_sent v.state ≡ false → SendsInto v into
     → Went cap limit v (after_emitted v AckAlone now) into (sent_segment (head_of v AckAlone) (octets_of v AckAlone))
-went-ack cap limit v into now past shows = record {
-  step = subst (λ x. Step cap limit into (record into { sending = x; frames = frame_of (sent_segment (head_of v AckAlone) []) (length into.written) ∷ into.frames })) shows.sending (emits_bare into (sender_of v) shows.sending);
-  receiving = refl;
-  readable = refl;
-  state = refl;
-  acknowledges = λ e. (past, refl);
-}
+went-ack cap limit v into now past shows =
+    went-out cap limit v (after_emitted v AckAlone now) into (sent_segment (head_of v AckAlone) (octets_of v AckAlone)) v.sending (ack-out v now)
+    (subst (λ x. Step cap limit into (record into { sending = x; frames = frame_of (sent_segment (head_of v AckAlone) []) (length into.written) ∷ into.frames })) shows.sending (emits_bare into (sender_of v) shows.sending))
+    (λ e. (past, refl))
 
 neither : (a b : Bool) → (a || b) ≡ false → (a ≡ false) × (b ≡ false)
 neither true b e = cc
 neither false b e = (refl, e)
 
+unfinished_unclosed : (t : State) → is_write_finished t ≡ false → is_closed t ≡ false
+unfinished_unclosed Closed e = cc
+unfinished_unclosed _ e = refl
+
 -- nothing goes out where all is closed
-unclosed_goes : (v : View) (due : Due) → IsSound v → MayGoOut v due → (let f = flags_of v due in f.rst) ≡ false → is_closed v.state ≡ false
+pub unclosed_goes : (v : View) (due : Due) → IsSound v → MayGoOut v due → (let f = flags_of v due in f.rst) ≡ false → is_closed v.state ≡ false
 unclosed_goes v Rst sound may unreset = let bad : true ≡ false = unreset in cc
 unclosed_goes v Syn sound may unreset = opening_unclosed v.state may
   where
     opening_unclosed : (t : State) → is_opening t ≡ true → is_closed t ≡ false
     opening_unclosed Closed e = cc
     opening_unclosed _ e = refl
-unclosed_goes v (Text count) sound may unreset = unfinished_unclosed v.state (unfinished v count sound may.0 may.1 may.2)
-  where
-    unfinished_unclosed : (t : State) → is_write_finished t ≡ false → is_closed t ≡ false
-    unfinished_unclosed Closed e = cc
-    unfinished_unclosed _ e = refl
-unclosed_goes v Fin sound may unreset = awaiting_unclosed v.state (and_left (awaits_fin_ack v.state) (length v.sending.held == 0) may)
-  where
-    awaiting_unclosed : (t : State) → awaits_fin_ack t ≡ true → is_closed t ≡ false
-    awaiting_unclosed Closed e = cc
-    awaiting_unclosed _ e = refl
+unclosed_goes v (Text stretch) sound may unreset = unfinished_unclosed v.state (unfinished v stretch sound may)
+unclosed_goes v Probe sound may unreset = unfinished_unclosed v.state (unfinished v (probe_stretch v) sound may)
 unclosed_goes v AckAlone sound may unreset = (neither (is_syn_sent v.state) (is_closed v.state) may).1
 
 pub moves-emits : (cap limit : ℕ) (p : Pairing) (v : View) (due : Due) (now : Moment) → p.own.connection ≡ Present v → IsSound v → MayGoOut v due
@@ -225,6 +210,6 @@ moves-emits cap limit p v due now is sound may unreset width h =
     went : (due : Due) → MayGoOut v due → (let f = flags_of v due in f.rst) ≡ false → SendsInto v h.into → Went cap limit v (after_emitted v due now) h.into (sent_segment (head_of v due) (octets_of v due))
     went Rst may reset shows = let bad : true ≡ false = reset in cc
     went Syn may reset shows = went-syn cap limit v h.into now sound may shows
-    went (Text count) may reset shows = went-text cap limit v h.into count now sound may shows
-    went Fin may reset shows = went-fin cap limit v h.into now sound may shows
+    went (Text stretch) may reset shows = went-text cap limit v h.into stretch now sound may shows
+    went Probe may reset shows = went-probe cap limit v h.into now sound may shows
     went AckAlone may reset shows = went-ack cap limit v h.into now (neither (is_syn_sent v.state) (is_closed v.state) may).0 shows

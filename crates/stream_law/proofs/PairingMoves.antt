@@ -1,5 +1,5 @@
 -- Each move at an end is steps of the two channels: opening, octets from and to the caller, the clock.
-use Rattle.std.proofs.Common.{◌≡◌, ℕ, ◌+◌, ◌<◌, ◌≤◌, ◌^◌, ◌%◌, ◌||◌, ◌&&◌, ◌==◌, not, if◌then◌else◌, Bool, true, false, List, [], ◌∷◌, ◌++◌, length, take, drop, Option, Some, None, is_some, Result, Ok, Err, arith, refl, sym, ◌∙◌, ap, subst}
+use Rattle.std.proofs.Common.{◌≡◌, ℕ, ◌+◌, ◌<◌, ◌≤◌, ◌^◌, ◌%◌, ◌||◌, ◌&&◌, ◌==◌, not, if◌then◌else◌, Bool, true, false, List, [], ◌∷◌, ◌++◌, length, take, drop, Option, Some, None, is_some, Result, Ok, Err, arith, refl, sym, ◌∙◌, ap, ap₂}
 use Rattle.std.proofs.lemmas.Bool.{eqb-true}
 use Rattle.ipv4.specs.declared.addr.Endpoint.{Endpoint}
 use Rattle.clock.specs.declared.moment.Moment.{Moment}
@@ -10,8 +10,9 @@ use Rattle.tcp_state.specs.declared.calls.Received.TheVariants.{Octets, EndOfStr
 use Rattle.tcp_state.specs.declared.state.State.{State}
 use Rattle.tcp_state.specs.declared.state.State.TheVariants.{Closed, Listen, SynSent, SynReceived, Established, FinWait1, FinWait2, CloseWait, Closing, LastAck, TimeWait}
 use Rattle.tcp_state.specs.declared.buffers.TheConstants.{CAPACITY}
-use Rattle.tcp_state.specs.View.{View, IsSound, is_opening, is_syn_sent, is_closed, is_listening, is_write_closed, is_read_closed, is_write_finished, opened_actively, after_resend}
-use Rattle.tcp_state.specs.Stream.{after_read, receive_window}
+use Rattle.tcp_state.specs.View.{View, IsSound, is_opening, is_syn_sent, is_closed, is_listening, is_write_closed, is_read_closed, is_write_finished, opened_actively}
+use Rattle.tcp_state.specs.Halves.{Receiving as ReceivingHalf}
+use Rattle.tcp_state.specs.Stream.{after_read}
 use Rattle.tcp_state.specs.Calls.{send_count, unless_pending, after_send, recv_count, recv_answer, after_recv, beyond_shutdown, after_shutdown}
 use Rattle.tcp_state.specs.Arrival.{opened_passively}
 use Rattle.stream_law.specs.Channel.{Channel, Open, Waiting, Synchronised, IsAmong}
@@ -19,7 +20,7 @@ use Rattle.stream_law.specs.ChannelSteps.{steps, opens, reads_end, synchronises,
 use Rattle.stream_law.specs.ChannelViews.{sender_of, receiver_of, receiving_of, SameStream, is_telling, frame_of}
 use Rattle.stream_law.specs.Pairing.{Absent, Present, Emission, Pairing, with_connection}
 use Rattle.stream_law.proofs.Kept.{keeps_nothing, keeps_same}
-use Rattle.stream_law.proofs.ConnectionSends.{sends}
+use Rattle.stream_law.proofs.ConnectionSends.{takes-octets, sends}
 use Rattle.stream_law.proofs.ConnectionHears.{hands-over}
 use Rattle.stream_law.proofs.ConnectionArrival.{opened_held}
 use Rattle.stream_law.proofs.PairingInvariant.{Connected, Shown, other_stays, connected, unconnected, untold_tells, living, receives}
@@ -87,37 +88,35 @@ moves-accepts cap limit p local peer isn e none fits among syn h =
       received = λ e among. let s = h.received e among in record { frame = s.frame; ack = s.ack; width = s.width; unreset = s.unreset };
     }
 
-pub same-resend : (v : View) (now : Moment) → SameStream v (after_resend v now)
-same-resend v now = record { state = refl; held = refl; una = refl; nxt = refl; readable = refl; kept = refl; rnext = refl; pending_error = refl; released = λ e. e }
-
 -- the clock is no part of a channel
 pub moves-rests : (cap limit : ℕ) (p : Pairing) (v w : View) → p.own.connection ≡ Present v → SameStream v w → Shown cap limit p → Shown cap limit (with_connection p w)
 moves-rests cap limit p v w is same h =
     resting cap limit p (Present w) h (rests-fits v w h.into h.from same (connected p.own.connection v h.into h.from is h.own.connection))
 
 -- the caller gives octets
-pub moves-takes : (cap limit : ℕ) (p : Pairing) (v : View) (octets : List ℕ) → 65535 ≤ cap → p.own.connection ≡ Present v → IsSound v → is_some v.pending_error ≡ false → is_opening v.state ≡ false → is_write_closed v.state ≡ false → Shown cap limit p
-    → Shown cap limit (record p { own = record p.own { connection = Present (after_send v octets); written = p.own.written ++ take (send_count v octets) octets } })
-moves-takes cap limit p v octets room is sound untold opened unclosed h =
+pub moves-takes : (cap limit : ℕ) (p : Pairing) (v : View) (octets : List ℕ) (now : Moment) → 65535 ≤ cap → p.own.connection ≡ Present v → IsSound v → is_some v.pending_error ≡ false → is_opening v.state ≡ false → is_write_closed v.state ≡ false → Shown cap limit p
+    → Shown cap limit (record p { own = record p.own { connection = Present (after_send v octets now); written = p.own.written ++ take (send_count v octets) octets } })
+moves-takes cap limit p v octets now room is sound untold opened unclosed h =
     let k = connected p.own.connection v h.into h.from is h.own.connection in
     let shows = k.sends (writes_open v.state unclosed) in
     let hears = receives v h.into h.from (writes_open v.state unclosed) k in
     let more = take (send_count v octets) octets in
-    let into' : Channel = record h.into { written = h.into.written ++ more; sending = Open (sender_of (after_send v octets)) } in
+    let w = after_send v octets now in
+    let taken = takes-octets v octets now untold opened unclosed in
+    let same_receiving : receiving_of v ≡ receiving_of w = ap₂ (λ (t : State) (r : ReceivingHalf). if is_syn_sent t then Waiting else Synchronised (receiver_of r)) (sym taken.state) (sym taken.receiving) in
+    let into' : Channel = record h.into { written = h.into.written ++ more; sending = Open (sender_of w) } in
     record {
       into = into';
       from = h.from;
-      runs_into = steps h.into into' h.runs_into (sends cap limit v h.into octets room untold opened unclosed (opened_held v sound opened) shows);
+      runs_into = steps h.into into' h.runs_into (sends cap limit v w h.into octets room unclosed (opened_held v sound opened) taken shows);
       runs_from = h.runs_from;
       own = record {
         written = ap (λ l. l ++ more) h.own.written;
         closed = h.own.closed;
         read = h.own.read;
         ended = h.own.ended;
-        connection = subst (λ w. Connected w (record h.into { written = h.into.written ++ more; sending = Open (sender_of w) }) h.from)
-            (sym (all_false (is_some v.pending_error) (is_opening v.state) (is_write_closed v.state) v with_more untold opened unclosed))
-            (living with_more (record h.into { written = h.into.written ++ more; sending = Open (sender_of with_more) }) h.from k.unlistening (record { sending = refl; closed = shows.closed })
-            (record { receiving = hears.receiving; readable = hears.readable; end_seen = hears.end_seen }));
+        connection = living w into' h.from (ap is_listening taken.state ∙ k.unlistening) (record { sending = refl; closed = shows.closed ∙ ap is_write_closed (sym taken.state) })
+            (record { receiving = hears.receiving ∙ same_receiving; readable = hears.readable ∙ ap (λ (r : ReceivingHalf). r.readable) (sym taken.receiving); end_seen = hears.end_seen ∙ ap is_read_closed (sym taken.state) });
       };
       other = record {
         written = h.other.written;
@@ -130,28 +129,19 @@ moves-takes cap limit p v octets room is sound untold opened unclosed h =
       received = λ e among. let s = h.received e among in record { frame = s.frame; ack = s.ack; width = s.width; unreset = s.unreset };
     }
   where
-    with_more : View
-    with_more = record v { sending = record v.sending { held = v.sending.held ++ take (send_count v octets) octets } }
-
     writes_open : (t : State) → is_write_closed t ≡ false → is_closed t ≡ false
     writes_open Closed e = cc
     writes_open _ e = refl
 
-    all_false : (a b c : Bool) (v w : View) → a ≡ false → b ≡ false → c ≡ false → (if a || b || c then v else w) ≡ w
-    all_false false false false v w d e f = refl
-    all_false true b c v w d e f = cc
-    all_false false true c v w d e f = cc
-    all_false false false true v w d e f = cc
-
 -- the caller closes its side
-pub moves-closes : (cap limit : ℕ) (p : Pairing) (v : View) → p.own.connection ≡ Present v → IsSound v → is_opening v.state ≡ false → Shown cap limit p
-    → Shown cap limit (record p { own = record p.own { connection = Present (after_shutdown v); closed = true } })
-moves-closes cap limit p v is sound opened h =
+pub moves-closes : (cap limit : ℕ) (p : Pairing) (v : View) (now : Moment) → p.own.connection ≡ Present v → IsSound v → is_opening v.state ≡ false → Shown cap limit p
+    → Shown cap limit (record p { own = record p.own { connection = Present (after_shutdown v now); closed = true } })
+moves-closes cap limit p v now is sound opened h =
     let k = connected p.own.connection v h.into h.from is h.own.connection in
     let t = shut_shows v.state opened sound.connection in
     let same_closed : is_closed (beyond_shutdown v.state) ≡ is_closed v.state = t.5 in
-    let tells : is_telling (after_shutdown v) ≡ is_telling v = ap (λ b. not (b && (is_some v.pending_error || v.released))) same_closed in
-    ending cap limit p (Present (after_shutdown v)) true (λ e. refl) h (record {
+    let tells : is_telling (after_shutdown v now) ≡ is_telling v = ap (λ b. not (b && (is_some v.pending_error || v.released))) same_closed in
+    ending cap limit p (Present (after_shutdown v now)) true (λ e. refl) h (record {
       unlistening = t.6;
       sends = λ e. let s = k.sends (sym same_closed ∙ e) in record {
         sending = s.sending ∙ ap (λ b. Open (record (sender_of v) { syn_acked = not b })) (sym t.0) ∙ ap (λ b. Open (record (sender_of v) { syn_acked = not (is_opening (beyond_shutdown v.state)); fin_acked = b })) (sym t.1);
@@ -257,7 +247,7 @@ moves-gives cap limit p v len is untold kept opened h =
     }
   where
     after : View
-    after = record v { receiving = after_read v.receiving (recv_count v len); owes_ack = v.owes_ack || ((receive_window v.receiving == 0) && not (is_closed v.state)) }
+    after = record v { receiving = after_read v.receiving (recv_count v len) }
 
     neither : (a b : Bool) → a ≡ false → b ≡ false → (a || b) ≡ false
     neither true b e f = e

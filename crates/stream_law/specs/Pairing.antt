@@ -78,11 +78,11 @@ pub data Move (limit : ℕ) : Pairing → Pairing → Type 0 where
   accepts : (p : Pairing) (local peer : Endpoint) (isn : ℕ) (e : Emission) → p.own.connection ≡ Absent → isn < 2 ^ 32 → IsAmong e p.received → IsTimely limit p e → e.segment.flags.syn ≡ true
       → Move limit p (with_connection p (opened_passively local peer isn e.segment))
   -- its caller gives octets
-  takes : (p : Pairing) (v : View) (octets : List ℕ) → p.own.connection ≡ Present v → IsSound v → is_some v.pending_error ≡ false → is_opening v.state ≡ false → is_write_closed v.state ≡ false
-      → Move limit p (record p { own = record p.own { connection = Present (after_send v octets); written = p.own.written ++ take (send_count v octets) octets } })
+  takes : (p : Pairing) (v : View) (octets : List ℕ) (now : Moment) → p.own.connection ≡ Present v → IsSound v → is_some v.pending_error ≡ false → is_opening v.state ≡ false → is_write_closed v.state ≡ false
+      → Move limit p (record p { own = record p.own { connection = Present (after_send v octets now); written = p.own.written ++ take (send_count v octets) octets } })
   -- its caller closes its side
-  closes : (p : Pairing) (v : View) → p.own.connection ≡ Present v → IsSound v → is_opening v.state ≡ false
-      → Move limit p (record p { own = record p.own { connection = Present (after_shutdown v); closed = true } })
+  closes : (p : Pairing) (v : View) (now : Moment) → p.own.connection ≡ Present v → IsSound v → is_opening v.state ≡ false
+      → Move limit p (record p { own = record p.own { connection = Present (after_shutdown v now); closed = true } })
   -- its caller reads into a buffer of some length
   gives : (p : Pairing) (v : View) (len : ℕ) → p.own.connection ≡ Present v → IsSound v → is_some v.pending_error ≡ false → v.released ≡ false → is_opening v.state ≡ false
       → Move limit p (record p { own = record p.own { connection = Present (after_recv v len); read = p.own.read ++ take (recv_count v len) v.receiving.readable } })

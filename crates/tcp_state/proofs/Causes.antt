@@ -1,21 +1,24 @@
 -- Why a connection ends only by a cause, and an error is told only by a reset.
-use Rattle.std.proofs.Common.{◌≡◌, ℕ, ◌==◌, ◌||◌, ◌&&◌, ◌⊎◌, not, if◌then◌else◌, Bool, true, false, length, Option, Some, None, inl, inr, refl, sym, ◌∙◌, ap, is_some}
+use Rattle.std.proofs.Common.{◌≡◌, ℕ, ◌==◌, ◌||◌, ◌&&◌, ◌⊎◌, not, if◌then◌else◌, Bool, true, false, length, take, Option, Some, inl, inr, refl, sym, ◌∙◌, ap, is_some}
 use Rattle.tcp_segment.specs.Segment.{Segment}
 use Rattle.clock.specs.declared.moment.Moment.{Moment}
 use Rattle.tcp_state.specs.declared.connection.Fate.TheVariants.{Stays, Removed, Rejected}
-use Rattle.tcp_state.specs.declared.calls.Refusal.TheVariants.{ECONNREFUSED}
+use Rattle.clock.specs.Moments.{has_come}
+use Rattle.retransmit.specs.Deadlines.{next_of}
+use Rattle.tcp_state.specs.declared.calls.Refusal.TheVariants.{ECONNREFUSED, ETIMEDOUT}
 use Rattle.tcp_state.specs.declared.emission.Due.{Due}
-use Rattle.tcp_state.specs.declared.emission.Due.TheVariants.{Rst, Syn, Text, Fin, Ack}
 use Rattle.tcp_state.specs.declared.state.State.{State}
 use Rattle.tcp_state.specs.declared.state.State.TheVariants.{Closed, Established, FinWait1, FinWait2, Closing, LastAck}
 use Rattle.tcp_state.specs.Numbers.{is_before}
 use Rattle.tcp_state.specs.Stream.{is_new_ack, is_in_window}
-use Rattle.tcp_state.specs.View.{View, is_opening, is_syn_sent, is_syn_received, is_closed, is_over, awaits_fin_ack, is_write_closed, is_at_end, after_stop, after_resend, is_fin_next}
-use Rattle.tcp_state.specs.Calls.{after_send, after_recv, beyond_shutdown, shutdown_refusal, after_shutdown, aborted_at, after_release, is_removed_by_close, is_aborted_by_close}
-use Rattle.tcp_state.specs.Arrival.{owing_ack, after_establishment, is_receiving, beyond_fin, beyond_end, fin_acknowledged, after_new_ack, after_ack, is_read_on, is_read, after_window, after_text, after_fin, after_acknowledging_segment, after_acceptable_segment, ends_by_syn, ends_by_reset, ends_opening, is_acting_reset, is_acceptable_to, after_reset, reset_error, after_rst_in_syn_sent, after_rst, is_right_syn_ack, after_syn_ack, is_simultaneous_syn, after_simultaneous_syn, after_segment, is_lost, after_lost, after_heard, is_rejected}
-use Rattle.tcp_state.specs.Due.{first_due, after_ack_paid, after_numbers}
+use Rattle.tcp_state.specs.View.{View, is_opening, is_syn_sent, is_syn_received, is_closed, is_over, awaits_fin_ack, is_write_closed, is_at_end, after_stop, after_reset}
+use Rattle.tcp_state.specs.Timing.{gives_up, after_timers, clocked}
+use Rattle.tcp_state.specs.Calls.{send_count, with_octets, after_send, after_recv, beyond_shutdown, shutdown_refusal, after_shutdown, aborted_at, after_release, is_removed_by_close, is_aborted_by_close}
+use Rattle.tcp_state.specs.Arrival.{owing_ack, after_establishment, is_receiving, beyond_fin, beyond_end, is_of_fin, fin_acknowledged, after_new_ack, after_ack, is_read_on, is_read, after_window, after_text, after_fin, after_acknowledging_segment, after_acceptable_segment, ends_by_syn, ends_by_reset, ends_opening, is_acting_reset, is_acceptable_to, reset_error, after_rst_in_syn_sent, after_rst, is_right_syn_ack, after_syn_ack, is_simultaneous_syn, after_simultaneous_syn, after_segment, is_lost, after_lost, after_heard, is_rejected, before, timed_by}
+use Rattle.tcp_state.specs.Due.{first_due}
 use Rattle.tcp_state.specs.Unreachable.{is_unreachable, after_unreachable, unreachable_fate}
-use Rattle.tcp_state.specs.Edges.{Event, Hears, Ticks, Emits, Sends, Receives, Shuts, Closes, Aborts, Unreachable, after_first, fate_by, is_removed, is_reset_by, is_last_ack, ends_by_ack, is_cause, ends_by}
+use Rattle.tcp_state.specs.Edges.{Event, Hears, Ticks, Emits, Sends, Receives, Shuts, Closes, Aborts, Unreachable, after_first, after_event, fate_by, is_removed, is_reset_by, is_last_ack, ends_by_ack, is_cause, ends_by}
+use Rattle.tcp_state.proofs.Clocked.{timers_keep, emission_keeps}
 use Rattle.tcp_state.proofs.Edges.{either, by_fin, and_left, and_right, emitted-state}
 
 pub both : (a b : Bool) → a ≡ true → b ≡ true → (a && b) ≡ true
@@ -69,16 +72,16 @@ last_fin Closing e closed = cc
 last_fin _ e closed = cc
 
 -- an acknowledgement closes by our FIN in LAST-ACK alone
-closed_by_ack : (v : View) (ack : ℕ) → is_closed v.state ≡ false → is_closed (after_ack v ack).state ≡ true → (is_last_ack v.state && is_new_ack v.sending ack && is_fin_next v) ≡ true
+closed_by_ack : (v : View) (ack : ℕ) → is_closed v.state ≡ false → is_closed (after_ack v ack).state ≡ true → (is_last_ack v.state && is_new_ack v.sending ack && is_of_fin v ack) ≡ true
 closed_by_ack v ack lives =
-    let P : View → Type 0 = λ w. is_closed w.state ≡ true → (is_last_ack v.state && is_new_ack v.sending ack && is_fin_next v) ≡ true in
-    let none : is_closed v.state ≡ true → (is_last_ack v.state && is_new_ack v.sending ack && is_fin_next v) ≡ true = λ closed. let bad : true ≡ false = sym closed ∙ lives in cc in
+    let P : View → Type 0 = λ w. is_closed w.state ≡ true → (is_last_ack v.state && is_new_ack v.sending ack && is_of_fin v ack) ≡ true in
+    let none : is_closed v.state ≡ true → (is_last_ack v.state && is_new_ack v.sending ack && is_of_fin v ack) ≡ true = λ closed. let bad : true ≡ false = sym closed ∙ lives in cc in
     either View P (is_syn_received v.state) _ _
     (λ received. either View P (is_new_ack v.sending ack) (after_establishment v) v (λ new closed. cc) (λ old. none))
     (λ past. either View P (is_new_ack v.sending ack) _ _
-    (λ new. either View P (is_fin_next v) (fin_acknowledged (after_new_ack v ack)) (after_new_ack v ack)
-    (λ fin closed. both (is_last_ack v.state && is_new_ack v.sending ack) (is_fin_next v)
-    (both (is_last_ack v.state) (is_new_ack v.sending ack) (last_fin v.state (and_left (awaits_fin_ack v.state) (length v.sending.held == 0) fin) closed) new) fin)
+    (λ new. either View P (is_of_fin v ack) (fin_acknowledged (after_new_ack v ack)) (after_new_ack v ack)
+    (λ fin closed. both (is_last_ack v.state && is_new_ack v.sending ack) (is_of_fin v ack)
+    (both (is_last_ack v.state) (is_new_ack v.sending ack) (last_fin v.state (and_left (awaits_fin_ack v.state) _ fin) closed) new) fin)
     (λ octets. none))
     (λ old. either View P (is_before v.sending.nxt ack) (owing_ack v) v (λ beyond. none) (λ within. none)))
 
@@ -88,10 +91,10 @@ read_by_new false true behind e = refl
 read_by_new false false behind e = cc
 
 pub closed_by_acceptable : (v : View) (s : Segment) → is_closed v.state ≡ false → is_closed (after_acknowledging_segment v s).state ≡ true
-    → (is_last_ack v.state && is_new_ack v.sending s.acknowledgement && is_fin_next v) ≡ true
+    → (is_last_ack v.state && is_new_ack v.sending s.acknowledgement && is_of_fin v s.acknowledgement) ≡ true
 closed_by_acceptable v s lives =
     let told = after_window (after_ack v s.acknowledgement) s in
-    either View (λ w. is_closed w.state ≡ true → (is_last_ack v.state && is_new_ack v.sending s.acknowledgement && is_fin_next v) ≡ true) (is_read_on v s.acknowledgement) _ (after_ack v s.acknowledgement)
+    either View (λ w. is_closed w.state ≡ true → (is_last_ack v.state && is_new_ack v.sending s.acknowledgement && is_of_fin v s.acknowledgement) ≡ true) (is_read_on v s.acknowledgement) _ (after_ack v s.acknowledgement)
     (λ on closed. closed_by_ack v s.acknowledgement lives (closed_before_text told s (closed_before_fin (after_text told s) s closed)))
     (λ off closed. closed_by_ack v s.acknowledgement lives closed)
 
@@ -130,15 +133,15 @@ closed_by_segment v s lives =
     (λ no_syn. either View P s.flags.ack (after_acknowledging_segment v s) v
     (λ ack closed.
     let k = closed_by_acceptable v s lives closed in
-    let fin = and_right (is_last_ack v.state && is_new_ack v.sending s.acknowledgement) (is_fin_next v) k in
-    let two = and_left (is_last_ack v.state && is_new_ack v.sending s.acknowledgement) (is_fin_next v) k in
+    let fin = and_right (is_last_ack v.state && is_new_ack v.sending s.acknowledgement) (is_of_fin v s.acknowledgement) k in
+    let two = and_left (is_last_ack v.state && is_new_ack v.sending s.acknowledgement) (is_of_fin v s.acknowledgement) k in
     let last = and_left (is_last_ack v.state) (is_new_ack v.sending s.acknowledgement) two in
     let new = and_right (is_last_ack v.state) (is_new_ack v.sending s.acknowledgement) two in
     let on : is_read_on v s.acknowledgement ≡ true = read_by_new (is_syn_received v.state) (is_new_ack v.sending s.acknowledgement) (is_before v.sending.nxt s.acknowledgement) new in
     let read : is_read v s ≡ true =
     both (not s.flags.rst && is_acceptable_to v s && not s.flags.syn && s.flags.ack) _ (both (not s.flags.rst && is_acceptable_to v s && not s.flags.syn) s.flags.ack
     (both (not s.flags.rst && is_acceptable_to v s) (not s.flags.syn) (both (not s.flags.rst) (is_acceptable_to v s) (of_false s.flags.rst no_rst) accepted) (of_false s.flags.syn no_syn)) ack) on in
-    inr (both (is_last_ack v.state && is_read v s && is_new_ack v.sending s.acknowledgement) (is_fin_next v)
+    inr (both (is_last_ack v.state && is_read v s && is_new_ack v.sending s.acknowledgement) (is_of_fin v s.acknowledgement)
     (both (is_last_ack v.state && is_read v s) (is_new_ack v.sending s.acknowledgement) (both (is_last_ack v.state) (is_read v s) last read) new) fin))
     (λ no_ack. none)))
     (λ refused. none))))
@@ -180,6 +183,12 @@ caused_by_opening v s e =
     let ends : ends_by_syn v s ≡ true = sym (ap (λ b. if b then ends_by_reset v s else ends_by_syn v s) no_rst) ∙ chosen in
     or_left (is_reset_by v s || (not s.flags.rst && ends_by_syn v s) || is_lost v s) (ends_by_ack v s) (or_left (is_reset_by v s || (not s.flags.rst && ends_by_syn v s)) (is_lost v s) (or_right (is_reset_by v s) (not s.flags.rst && ends_by_syn v s) (both (not s.flags.rst) (ends_by_syn v s) (of_false s.flags.rst no_rst) ends))))
 
+-- what a segment closes at a moment it closes without the clock
+closed_by_heard : (v : View) (s : Segment) (now : Moment) → is_closed v.state ≡ false → is_closed (after_event v (Hears s now)).state ≡ true → is_closed (after_heard v s).state ≡ true
+closed_by_heard v s now lives =
+    either View (λ w. is_closed w.state ≡ true → is_closed (after_heard v s).state ≡ true) (is_closed v.state || is_rejected v s) v (timed_by (before v s) (after_heard v s) now)
+    (λ kept closed. let bad : true ≡ false = sym closed ∙ lives in cc) (λ heard closed. closed)
+
 pub segment-cause : (v : View) (s : Segment) (now : Moment) → ends_by v (Hears s now) ≡ true → is_cause v (Hears s now) ≡ true
 segment-cause v s now e =
     let C : Type 0 = (is_reset_by v s || (not s.flags.rst && ends_by_syn v s) || is_lost v s || ends_by_ack v s) ≡ true in
@@ -194,7 +203,7 @@ segment-cause v s now e =
           ]
       | inr ended ↦
           let lives = not_true (is_closed v.state) (and_left (not (is_closed v.state)) _ ended) in
-          let closed : is_closed (after_heard v s).state ≡ true = and_right (not (is_closed v.state)) _ ended in
+          let closed : is_closed (after_heard v s).state ≡ true = closed_by_heard v s now lives (and_right (not (is_closed v.state)) _ ended) in
           let same : is_closed (after_heard v s).state ≡ is_closed (after_segment v s).state = ap (λ b. is_closed (if b then after_lost v s else after_segment v s).state) kept in
           caused_by v s (closed_by_segment v s lives (sym same ∙ closed))
     ])
@@ -216,13 +225,7 @@ shut_closes_none t e = none t (not_true (is_closed t) (and_left (not (is_closed 
     none _ a b = cc
 
 emitted-released : (v : View) (due : Option Due) (now : Moment) → (after_first v due now).released ≡ v.released
-emitted-released v None now = refl
-emitted-released v (Some Rst) now = refl
-emitted-released v (Some Syn) now =
-    either View (λ w. w.released ≡ v.released) (is_syn_received v.state) (after_ack_paid (after_numbers v 1 now)) (after_numbers v 1 now) (λ received. refl) (λ sent. refl)
-emitted-released v (Some (Text count)) now = refl
-emitted-released v (Some Fin) now = refl
-emitted-released v (Some Ack) now = refl
+emitted-released v due now = ap (λ (w : View). w.released) (emission_keeps v due now)
 
 -- what is over after an emission, and was not before, owed a reset
 owed_before : (closed released owed : Bool) → closed ≡ true → released ≡ true → (closed && released && not owed) ≡ false → owed ≡ true
@@ -250,18 +253,27 @@ emission-cause v now lives e =
 
 pub ends_caused : (v : View) (e : Event) → is_over v ≡ false → ends_by v e ≡ true → is_cause v e ≡ true
 ends_caused v (Hears s now) lives e = segment-cause v s now e
-ends_caused v (Ticks now) lives e = by (is_at_end v now ≡ true) (is_at_end v now) (λ ends. ends) (λ waits.
-    let tried : Bool → Bool = λ b. is_removed (if b && v.released then Removed else Stays) || (not (is_closed v.state) && is_closed (if b then after_stop v else after_resend v now).state) in
-    absurd (unclosed v.state v.state refl (sym (ap tried waits) ∙ e)))
+ends_caused v (Ticks now) lives e = by (is_cause v (Ticks now) ≡ true) (is_at_end v now) (or_left (is_at_end v now) (gives_up v now))
+    (λ stays. by (is_cause v (Ticks now) ≡ true) (gives_up v now) (or_right (is_at_end v now) (gives_up v now))
+    (λ goes_on.
+    let waits = if has_come (next_of v.timers) now then clocked false (after_timers v now) now else v in
+    let tried : Bool → Bool → Bool = λ a b.
+    is_removed (if a then (if v.released then Removed else Stays) else if b then (if v.released || (v.passive && is_syn_received v.state) then Removed else Stays) else Stays)
+    || (not (is_closed v.state) && is_closed (if a then after_stop v else if b then after_reset v (Some ETIMEDOUT) else waits).state) in
+    let same = either View (λ w. w.state ≡ v.state) (has_come (next_of v.timers) now) (clocked false (after_timers v now) now) v (λ acts. ap (λ (w : View). w.state) (timers_keep v now)) (λ idle. refl) in
+    absurd (unclosed v.state waits.state same (sym (ap (λ a. tried a (gives_up v now)) stays ∙ ap (tried false) goes_on) ∙ e))))
 ends_caused v (Emits now) lives e = emission-cause v now lives e
-ends_caused v (Sends octets) lives e =
-    let same = either View (λ w. w.state ≡ v.state) (is_some v.pending_error || is_opening v.state || is_write_closed v.state) v _ (λ refused. refl) (λ takes. refl) in
-    absurd (unclosed v.state (after_send v octets).state same e)
+ends_caused v (Sends octets now) lives e =
+    let P : View → Type 0 = λ w. w.state ≡ v.state in
+    let taken = take (send_count v octets) octets in
+    let same = either View P (is_some v.pending_error || is_opening v.state || is_write_closed v.state) v (with_octets v taken now) (λ refused. refl)
+    (λ takes. either View P (length taken == 0) v _ (λ none. refl) (λ some. refl)) in
+    absurd (unclosed v.state (after_send v octets now).state same e)
 ends_caused v (Receives len) lives e =
     let same = either View (λ w. w.state ≡ v.state) (is_some v.pending_error || is_opening v.state || (length v.receiving.readable == 0)) v _ (λ none. refl) (λ some. refl) in
     absurd (unclosed v.state (after_recv v len).state same e)
-ends_caused v Shuts lives e = absurd (
-    either View (λ w. (not (is_closed v.state) && is_closed w.state) ≡ true → ⊥) (is_some (shutdown_refusal v)) v (after_shutdown v)
+ends_caused v (Shuts now) lives e = absurd (
+    either View (λ w. (not (is_closed v.state) && is_closed w.state) ≡ true → ⊥) (is_some (shutdown_refusal v)) v (after_shutdown v now)
     (λ refused. unclosed v.state v.state refl) (λ closed. shut_closes_none v.state) e)
 ends_caused v (Closes now) lives e = by (is_cause v (Closes now) ≡ true) (is_removed_by_close v) (or_left (is_removed_by_close v) (is_aborted_by_close v))
     (λ stays. by (is_cause v (Closes now) ≡ true) (is_aborted_by_close v) (or_right (is_removed_by_close v) (is_aborted_by_close v))

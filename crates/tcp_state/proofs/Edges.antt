@@ -1,25 +1,24 @@
 -- Why one event keeps to the table of edges.
-use Rattle.std.proofs.Common.{◌≡◌, ℕ, ◌==◌, ◌||◌, ◌&&◌, not, if◌then◌else◌, Bool, true, false, length, Option, Some, None, inl, inr, refl, sym, subst, is_some}
+use Rattle.std.proofs.Common.{◌≡◌, ℕ, ◌==◌, ◌||◌, ◌&&◌, not, Bool, true, false, length, take, Option, Some, inl, inr, refl, sym, ap, subst, is_some}
 use Rattle.tcp_segment.specs.Segment.{Segment}
 use Rattle.clock.specs.declared.moment.Moment.{Moment}
-use Rattle.tcp_state.specs.declared.calls.Refusal.TheVariants.{ECONNREFUSED}
+use Rattle.clock.specs.Moments.{has_come}
+use Rattle.retransmit.specs.Deadlines.{next_of}
+use Rattle.tcp_state.specs.declared.calls.Refusal.TheVariants.{ECONNREFUSED, ETIMEDOUT}
 use Rattle.tcp_state.specs.declared.emission.Due.{Due}
-use Rattle.tcp_state.specs.declared.emission.Due.TheVariants.{Rst, Syn, Text, Fin, Ack}
 use Rattle.tcp_state.specs.declared.state.State.{State}
 use Rattle.tcp_state.specs.declared.state.State.TheVariants.{Closed, Listen, SynSent, SynReceived, Established, FinWait1, FinWait2, CloseWait, Closing, LastAck}
 use Rattle.tcp_state.specs.Numbers.{is_before}
 use Rattle.tcp_state.specs.Stream.{is_new_ack, is_in_window, after_end}
-use Rattle.tcp_state.specs.View.{View, is_opening, is_syn_sent, is_syn_received, is_closed, awaits_fin_ack, is_write_closed, is_at_end, after_stop, after_resend, is_fin_next}
-use Rattle.tcp_state.specs.Calls.{beyond_shutdown, shutdown_refusal, after_shutdown, aborted_at, after_release, is_removed_by_close, is_aborted_by_close}
-use Rattle.tcp_state.specs.Arrival.{owing_ack, after_establishment, is_receiving, beyond_fin, beyond_end, fin_acknowledged, after_new_ack, after_ack, is_read_on, after_window, after_text, counts_fin, after_fin, after_acknowledging_segment, after_acceptable_segment, ends_by_syn, ends_by_reset, is_acting_reset, is_acceptable_to, after_reset, reset_error, after_rst_in_syn_sent, after_rst, is_right_syn_ack, after_syn_ack, is_simultaneous_syn, after_simultaneous_syn, after_segment, is_lost, after_lost, after_heard}
-use Rattle.tcp_state.specs.Due.{first_due, after_ack_paid, after_numbers}
+use Rattle.tcp_state.specs.View.{View, is_opening, is_syn_sent, is_syn_received, is_closed, awaits_fin_ack, is_write_closed, is_at_end, after_stop, after_reset}
+use Rattle.tcp_state.specs.Timing.{gives_up, after_timers, clocked}
+use Rattle.tcp_state.specs.Calls.{send_count, with_octets, beyond_shutdown, shutdown_refusal, after_shutdown, aborted_at, after_release, is_removed_by_close, is_aborted_by_close}
+use Rattle.tcp_state.specs.Arrival.{owing_ack, after_establishment, is_receiving, beyond_fin, beyond_end, is_of_fin, fin_acknowledged, after_new_ack, after_ack, is_read_on, after_window, after_text, counts_fin, after_fin, after_acknowledging_segment, after_acceptable_segment, ends_by_syn, ends_by_reset, is_acting_reset, is_acceptable_to, reset_error, after_rst_in_syn_sent, after_rst, is_right_syn_ack, after_syn_ack, is_simultaneous_syn, after_simultaneous_syn, after_segment, is_lost, after_lost, is_rejected, before, timed_by, after_heard}
+use Rattle.tcp_state.specs.Due.{first_due}
 use Rattle.tcp_state.specs.Unreachable.{is_unreachable}
 use Rattle.tcp_state.specs.Edges.{IsEdge, Event, Hears, Ticks, Emits, Sends, Receives, Shuts, Closes, Aborts, Unreachable, after_first, after_event, fate_by, is_removed, left_by, state_after}
-
--- one of two by a test
-pub either : (A : Type 0) (P : A → Type 0) (test : Bool) (v w : A) → (test ≡ true → P v) → (test ≡ false → P w) → P (if test then v else w)
-either A P true v w if_true if_false = if_true refl
-either A P false v w if_true if_false = if_false refl
+use Rattle.tcp_state.proofs.Clocked.{timers_keep, emission_keeps}
+pub use Rattle.tcp_state.proofs.Clocked.{either}
 
 -- what a FIN makes of a connection: it counts, or draws an acknowledgement, or there is none
 pub by_fin : (P : View → Type 0) (w : View) (s : Segment) → (counts_fin w s ≡ true → P (record w { state = beyond_end w.state; receiving = after_end w.receiving; owes_ack = true }))
@@ -34,6 +33,10 @@ and_left false b e = cc
 pub and_right : (a b : Bool) → (a && b) ≡ true → b ≡ true
 and_right true b e = e
 and_right false b e = cc
+
+pub clash : {C : Type 0} (b : Bool) → b ≡ true → b ≡ false → C
+clash true e f = cc
+clash false e f = cc
 
 -- any state may end
 closes : (t : State) → IsEdge t Closed
@@ -92,8 +95,8 @@ acked v ack =
     (λ new. let r = reached_established v.state received in record { here = r.0; beyond = λ on. r.1 })
     (λ old. stays v v refl))
     (λ past. either View P (is_new_ack v.sending ack) _ _
-    (λ new. either View P (is_fin_next v) (fin_acknowledged (after_new_ack v ack)) (after_new_ack v ack)
-    (λ fin. let r = reached_fin v.state (and_left (awaits_fin_ack v.state) (length v.sending.held == 0) fin) in record { here = r.0; beyond = r.1 })
+    (λ new. either View P (is_of_fin v ack) (fin_acknowledged (after_new_ack v ack)) (after_new_ack v ack)
+    (λ fin. let r = reached_fin v.state (and_left (awaits_fin_ack v.state) _ fin) in record { here = r.0; beyond = r.1 })
     (λ octets. stays v (after_new_ack v ack) refl))
     (λ old. either View P (is_before v.sending.nxt ack) (owing_ack v) v (λ beyond. stays v (owing_ack v) refl) (λ within. stays v v refl)))
 
@@ -143,13 +146,7 @@ heard-edge v s = either View (λ w. IsEdge v.state w.state) (is_lost v s) (after
 
 -- what goes out changes no state
 pub emitted-state : (v : View) (due : Option Due) (now : Moment) → (after_first v due now).state ≡ v.state
-emitted-state v None now = refl
-emitted-state v (Some Rst) now = refl
-emitted-state v (Some Syn) now =
-    either View (λ w. w.state ≡ v.state) (is_syn_received v.state) (after_ack_paid (after_numbers v 1 now)) (after_numbers v 1 now) (λ received. refl) (λ sent. refl)
-emitted-state v (Some (Text count)) now = refl
-emitted-state v (Some Fin) now = refl
-emitted-state v (Some Ack) now = refl
+emitted-state v due now = ap (λ (w : View). w.state) (emission_keeps v due now)
 
 left-edge : (v : View) → IsEdge v.state (left_by v)
 left-edge v =
@@ -158,12 +155,21 @@ left-edge v =
     (λ gone. closes v.state)
 
 event-edge : (v : View) (e : Event) → IsEdge v.state (after_event v e).state
-event-edge v (Hears s now) = heard-edge v s
-event-edge v (Ticks now) = either View (λ w. IsEdge v.state w.state) (is_at_end v now) (after_stop v) (after_resend v now) (λ over. closes v.state) (λ waits. inl refl)
+event-edge v (Hears s now) =
+    either View (λ w. IsEdge v.state w.state) (is_closed v.state || is_rejected v s) v (timed_by (before v s) (after_heard v s) now) (λ kept. inl refl) (λ heard. heard-edge v s)
+event-edge v (Ticks now) =
+    let P : View → Type 0 = λ w. IsEdge v.state w.state in
+    either View P (is_at_end v now) (after_stop v) _ (λ over. closes v.state)
+    (λ stays. either View P (gives_up v now) (after_reset v (Some ETIMEDOUT)) _ (λ given_up. closes v.state)
+    (λ goes_on. either View P (has_come (next_of v.timers) now) (clocked false (after_timers v now) now) v (λ acts. inl (sym (ap (λ (w : View). w.state) (timers_keep v now)))) (λ waits. inl refl)))
 event-edge v (Emits now) = inl (sym (emitted-state v (first_due v) now))
-event-edge v (Sends octets) = either View (λ w. IsEdge v.state w.state) (is_some v.pending_error || is_opening v.state || is_write_closed v.state) v _ (λ refused. inl refl) (λ takes. inl refl)
+event-edge v (Sends octets now) =
+    let P : View → Type 0 = λ w. IsEdge v.state w.state in
+    let taken = take (send_count v octets) octets in
+    either View P (is_some v.pending_error || is_opening v.state || is_write_closed v.state) v (with_octets v taken now) (λ refused. inl refl)
+    (λ takes. either View P (length taken == 0) v _ (λ none. inl refl) (λ some. inl refl))
 event-edge v (Receives len) = either View (λ w. IsEdge v.state w.state) (is_some v.pending_error || is_opening v.state || (length v.receiving.readable == 0)) v _ (λ none. inl refl) (λ some. inl refl)
-event-edge v Shuts = either View (λ w. IsEdge v.state w.state) (is_some (shutdown_refusal v)) v (after_shutdown v) (λ refused. inl refl) (λ closed. shuts v.state)
+event-edge v (Shuts now) = either View (λ w. IsEdge v.state w.state) (is_some (shutdown_refusal v)) v (after_shutdown v now) (λ refused. inl refl) (λ closed. shuts v.state)
 event-edge v (Closes now) =
     either View (λ w. IsEdge v.state w.state) (is_removed_by_close v) v _ (λ removed. inl refl)
     (λ stays. either View (λ w. IsEdge v.state w.state) (is_aborted_by_close v) (aborted_at v now) (after_release v now) (λ lost. closes v.state) (λ released. shuts v.state))

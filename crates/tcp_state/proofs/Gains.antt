@@ -1,5 +1,5 @@
 -- Why a segment makes nothing readable and keeps nothing but its octets in the window, and all of them where it is read.
-use Rattle.std.proofs.Common.{◌≡◌, ℕ, ◌-◌, ◌==◌, ◌||◌, ◌&&◌, ◌⊎◌, not, true, false, List, ◌++◌, length, get_or, take, drop, Option, None, inl, inr, arith, refl, sym, ◌∙◌, ap}
+use Rattle.std.proofs.Common.{◌≡◌, ℕ, ◌-◌, ◌==◌, ◌||◌, ◌&&◌, ◌⊎◌, not, true, false, List, ◌++◌, length, get_or, take, drop, Option, None, inl, inr, arith, refl, sym, ◌∙◌, ap, subst}
 use Rattle.std.proofs.lemmas.List.{length-take, length-drop}
 use Rattle.std.proofs.lemmas.Bool.{eqb-true}
 use Rattle.tcp_segment.specs.Segment.{Segment}
@@ -9,16 +9,15 @@ use Rattle.tcp_state.specs.declared.state.State.{State}
 use Rattle.tcp_state.specs.declared.state.State.TheVariants.{Established, FinWait1, FinWait2}
 use Rattle.tcp_state.specs.Numbers.{is_before}
 use Rattle.tcp_state.specs.Halves.{Receiving}
-use Rattle.tcp_state.specs.Stream.{buffer_of, receive_window, distance_of, octets_within, is_new_ack, is_in_window, octets_gained, after_octets}
-use Rattle.tcp_state.specs.View.{View, IsSound, is_syn_sent, is_syn_received, is_closed, is_fin_next}
-use Rattle.tcp_state.specs.Arrival.{owing_ack, after_establishment, is_receiving, beyond_fin, fin_acknowledged, after_new_ack, after_ack, is_read_on, is_read, after_window, after_text, after_fin, after_acknowledging_segment, after_acceptable_segment, ends_by_syn, ends_by_reset, is_acting_reset, is_acceptable_to, after_reset, reset_error, after_rst_in_syn_sent, after_rst, is_right_syn_ack, after_syn_ack, is_simultaneous_syn, after_simultaneous_syn, after_segment, is_lost, after_lost, after_segment_at}
+use Rattle.tcp_state.specs.Stream.{buffer_of, receive_window, distance_of, octets_within, octets_gained, after_octets}
+use Rattle.tcp_state.specs.View.{View, IsSound, is_syn_sent, is_syn_received, is_closed}
+use Rattle.tcp_state.specs.Arrival.{is_receiving, beyond_fin, after_ack, is_read, after_window, after_text, after_fin, after_segment, is_lost, after_lost, after_heard, is_rejected, before, timed_by, after_segment_at}
 use Rattle.tcp_state.specs.Positions.{AreFree}
-use Rattle.tcp_state.proofs.Edges.{either, by_fin, and_left, and_right}
+use Rattle.tcp_state.proofs.Edges.{either, by_fin, and_left}
 use Rattle.tcp_state.proofs.Causes.{or_else, not_true}
 use Rattle.tcp_state.proofs.Keeping.{IsKeeping, sound_keeping, none_within, at_none, inserted_readable}
 use Rattle.tcp_state.proofs.Unchanged.{clash}
-use Rattle.tcp_state.proofs.Released.{unheard, readable_by_fin}
-use Rattle.tcp_state.proofs.Resets.{read_is_no_rst, read_is_accepted}
+use Rattle.tcp_state.proofs.Segments.{after_reading, by_ack, ack_receives, by_hearing, by_clock, read_tells, reads, not_rejected}
 
 -- behind a FIN that counts nothing is kept, and else it leaves what is kept
 abbrev Ends : List (Option ℕ) → Segment → View → Type 0
@@ -29,6 +28,9 @@ kept_by_fin w s =
     by_fin (λ x. Ends w.receiving.kept s x) w s
     (λ counts. inr (and_left s.flags.fin (is_receiving w.state) (and_left (s.flags.fin && is_receiving w.state) _ counts), at_none (length w.receiving.kept)))
     (inl refl) (inl refl)
+
+readable_by_fin : (w : View) (s : Segment) → (after_fin w s).receiving.readable ≡ w.receiving.readable
+readable_by_fin w s = by_fin (λ x. x.receiving.readable ≡ w.receiving.readable) w s (λ counts. refl) refl refl
 
 -- What a segment leaves to be read, and what it keeps.
 
@@ -68,42 +70,24 @@ fin_takes v w s was = (
   ],
 )
 
-acceptable_takes : (v : View) (s : Segment) → Takes v s (after_acknowledging_segment v s)
-acceptable_takes v s =
-    let acked = after_ack v s.acknowledgement in
-    let told = after_window acked s in
-    let same : told.receiving ≡ v.receiving = unheard v s.acknowledgement in
-    either View (λ w. Takes v s w) (is_read_on v s.acknowledgement) _ acked
-    (λ on. fin_takes v (after_text told s) s (text_takes v told s same))
-    (λ off. as_was v acked s same)
+told_receives : (v : View) (s : Segment) → (after_window (after_ack v s.acknowledgement) s).receiving ≡ v.receiving
+told_receives v s = ack_receives v s.acknowledgement
 
-segment_takes : (v : View) (s : Segment) → Takes v s (after_segment v s)
-segment_takes v s =
-    let P : View → Type 0 = λ w. Takes v s w in
-    let none : Takes v s v = as_was v v s refl in
-    let owing : P (owing_ack v) = (inl refl, inl refl) in
-    let reset : P (after_reset v (reset_error v.state)) = (inl refl, inl refl) in
-    either View P (is_closed v.state) v _
-    (λ closed. none)
-    (λ lives. either View P s.flags.rst _ _
-    (λ rst. either View P (is_syn_sent v.state) (after_rst_in_syn_sent v s) (after_rst v s)
-    (λ waits. either View P (s.flags.ack && is_new_ack v.sending s.acknowledgement) (after_reset v (reset_error v.state)) v (λ acts. reset) (λ dropped. none))
-    (λ past_opening. either View P (is_acting_reset v s) _ _
-    (λ acts. either View P (ends_by_reset v s) v (after_reset v (reset_error v.state)) (λ removed. none) (λ ends. reset))
-    (λ elsewhere. either View P (is_in_window v.receiving s.number) (owing_ack v) v (λ drawn. owing) (λ dropped. none))))
-    (λ no_rst. either View P (is_syn_sent v.state) _ _
-    (λ waits. either View P (is_simultaneous_syn v s) (after_simultaneous_syn v s) (after_syn_ack v s) (λ simultaneous. (inl refl, inl refl))
-    (λ answers. either View P (is_right_syn_ack v s) _ v (λ right. (inl refl, inl refl)) (λ wrong. none)))
-    (λ past_opening. either View P (is_acceptable_to v s) (after_acceptable_segment v s) (owing_ack v)
-    (λ accepted. either View P s.flags.syn _ _
-    (λ syn. either View P (ends_by_syn v s) v (owing_ack v) (λ removed. none) (λ drawn. owing))
-    (λ no_syn. either View P s.flags.ack (after_acknowledging_segment v s) v (λ ack. acceptable_takes v s) (λ no_ack. none)))
-    (λ refused. owing))))
+heard_takes : (v : View) (s : Segment) → Takes v s (after_heard v s)
+heard_takes v s =
+    let told = after_window (after_ack v s.acknowledgement) s in
+    by_hearing (λ w. Takes v s w) v s (as_was v (after_lost v s) s (told_receives v s)) (record {
+      dropped = as_was v v s refl;
+      drawn = (inl refl, inl refl);
+      reset = (inl refl, inl refl);
+      crossed = λ waits. (inl refl, inl refl);
+      opened = λ waits right. (inl refl, inl refl);
+      acknowledged = as_was v (after_ack v s.acknowledgement) s (ack_receives v s.acknowledgement);
+      read = fin_takes v (after_text told s) s (text_takes v told s (told_receives v s));
+    })
 
 takes_alone : (v : View) (s : Segment) (now : Moment) → Takes v s (after_segment_at v s now)
-takes_alone v s now =
-    either View (λ w. Takes v s w) (is_lost v s) (after_lost v s) (after_segment v s)
-    (λ lost. as_was v (after_lost v s) s (unheard v s.acknowledgement)) (λ stays. segment_takes v s)
+takes_alone v s now = by_clock (λ w. Takes v s w) v s now (as_was v v s refl) (λ lives. heard_takes v s)
 
 pub gains_alone : (v : View) (s : Segment) (now : Moment)
     → ((after_segment_at v s now).receiving.readable ≡ v.receiving.readable) ⊎ ((after_segment_at v s now).receiving.readable ≡ v.receiving.readable ++ octets_gained v.receiving s.number s.octets)
@@ -116,10 +100,10 @@ keeps_alone v s now = (takes_alone v s now).1
 
 -- A segment that is read.
 
-receiving_lives : (t : State) → is_receiving t ≡ true → (is_closed t ≡ false) × (is_syn_sent t ≡ false)
-receiving_lives Established e = (refl, refl)
-receiving_lives FinWait1 e = (refl, refl)
-receiving_lives FinWait2 e = (refl, refl)
+receiving_lives : (t : State) → is_receiving t ≡ true → (is_closed t ≡ false) × (is_syn_sent t ≡ false) × (is_syn_received t ≡ false)
+receiving_lives Established e = (refl, refl, refl)
+receiving_lives FinWait1 e = (refl, refl, refl)
+receiving_lives FinWait2 e = (refl, refl, refl)
 receiving_lives _ e = cc
 
 receiving_beyond : (t : State) → is_receiving t ≡ true → is_receiving (beyond_fin t) ≡ true
@@ -129,13 +113,13 @@ receiving_beyond FinWait2 e = refl
 receiving_beyond _ e = cc
 
 receiving_after : (v : View) (ack : ℕ) → is_receiving v.state ≡ true → is_receiving (after_ack v ack).state ≡ true
-receiving_after v ack receiving =
-    let P : View → Type 0 = λ w. is_receiving w.state ≡ true in
-    either View P (is_syn_received v.state) _ _
-    (λ received. either View P (is_new_ack v.sending ack) (after_establishment v) v (λ new. refl) (λ old. receiving))
-    (λ past_opening. either View P (is_new_ack v.sending ack) _ _
-    (λ new. either View P (is_fin_next v) (fin_acknowledged (after_new_ack v ack)) (after_new_ack v ack) (λ fin. receiving_beyond v.state receiving) (λ octets. receiving))
-    (λ old. either View P (is_before v.sending.nxt ack) (owing_ack v) v (λ beyond. receiving) (λ within. receiving)))
+receiving_after v ack receiving = by_ack (λ w. is_receiving w.state ≡ true) v ack (record {
+  old = receiving;
+  beyond = receiving;
+  opens = λ new. refl;
+  octets = λ new. receiving;
+  fin = λ new fin. receiving_beyond v.state receiving;
+})
 
 -- no octets are none in the window
 none_of_none : (r : Receiving) (number : ℕ) (octets : List ℕ) → IsKeeping r → (length octets == 0) ≡ true → after_octets r number octets ≡ r
@@ -167,43 +151,24 @@ all_text v w s is receiving same =
       ap (λ (t : Receiving). (after_octets t s.number s.octets).kept) same,
     ))
 
-all_acceptable : (v : View) (s : Segment) → IsKeeping v.receiving → is_receiving v.state ≡ true → is_read_on v s.acknowledgement ≡ true → TakesAll v s (after_acknowledging_segment v s)
-all_acceptable v s is receiving on =
-    let acked = after_ack v s.acknowledgement in
-    let told = after_window acked s in
-    either View (λ w. TakesAll v s w) (is_read_on v s.acknowledgement) _ acked
-    (λ reads.
-    let text = all_text v told s is (receiving_after v s.acknowledgement receiving) (unheard v s.acknowledgement) in (
+all_read : (v : View) (s : Segment) → IsKeeping v.receiving → is_receiving v.state ≡ true → TakesAll v s (after_reading v s)
+all_read v s is receiving =
+    let told = after_window (after_ack v s.acknowledgement) s in
+    let text = all_text v told s is (receiving_after v s.acknowledgement receiving) (told_receives v s) in (
       readable_by_fin (after_text told s) s ∙ text.0,
       elim (kept_by_fin (after_text told s) s) [ inl stays ↦ inl (stays ∙ text.1) | inr ends ↦ inr ends ],
-    ))
-    (λ off. clash (is_read_on v s.acknowledgement) on off)
-
-all_segment : (v : View) (s : Segment) → IsKeeping v.receiving → is_receiving v.state ≡ true → is_read v s ≡ true → TakesAll v s (after_segment v s)
-all_segment v s is receiving read =
-    let P : View → Type 0 = λ w. TakesAll v s w in
-    let lives = receiving_lives v.state receiving in
-    let acks = and_left (not s.flags.rst && is_acceptable_to v s && not s.flags.syn && s.flags.ack) _ read in
-    let plain = and_left (not s.flags.rst && is_acceptable_to v s && not s.flags.syn) s.flags.ack acks in
-    either View P (is_closed v.state) v _
-    (λ closed. clash (is_closed v.state) closed lives.0)
-    (λ open_yet. either View P s.flags.rst _ _
-    (λ rst. clash s.flags.rst rst (read_is_no_rst v s read))
-    (λ no_rst. either View P (is_syn_sent v.state) _ _
-    (λ waits. clash (is_syn_sent v.state) waits lives.1)
-    (λ past_opening. either View P (is_acceptable_to v s) (after_acceptable_segment v s) (owing_ack v)
-    (λ accepted. either View P s.flags.syn _ _
-    (λ syn. clash s.flags.syn syn (not_true s.flags.syn (and_right (not s.flags.rst && is_acceptable_to v s) (not s.flags.syn) plain)))
-    (λ no_syn. either View P s.flags.ack (after_acknowledging_segment v s) v
-    (λ ack. all_acceptable v s is receiving (and_right (not s.flags.rst && is_acceptable_to v s && not s.flags.syn && s.flags.ack) _ read))
-    (λ no_ack. clash s.flags.ack (and_right (not s.flags.rst && is_acceptable_to v s && not s.flags.syn) s.flags.ack acks) no_ack)))
-    (λ refused. clash (is_acceptable_to v s) (read_is_accepted v s read) refused))))
+    )
 
 all_where_read : (v : View) (s : Segment) (now : Moment) → IsSound v → v.released ≡ false → is_receiving v.state ≡ true → is_read v s ≡ true → TakesAll v s (after_segment_at v s now)
 all_where_read v s now sound kept receiving read =
-    either View (λ w. TakesAll v s w) (is_lost v s) (after_lost v s) (after_segment v s)
+    let lives = receiving_lives v.state receiving in
+    let heard : after_segment v s ≡ after_reading v s = reads v s lives.0 lives.1 (read_tells v s read) in
+    let all : TakesAll v s (after_segment v s) = subst (λ w. TakesAll v s w) (sym heard) (all_read v s (sound_keeping v sound) receiving) in
+    either View (λ w. TakesAll v s w) (is_closed v.state || is_rejected v s) v (timed_by (before v s) (after_heard v s) now)
+    (λ unheard. clash (is_closed v.state || is_rejected v s) unheard (ap (λ b. b || is_rejected v s) lives.0 ∙ not_rejected v s lives.1 lives.2))
+    (λ hears. either View (λ w. TakesAll v s w) (is_lost v s) (after_lost v s) (after_segment v s)
     (λ lost. clash v.released (and_left v.released (is_receiving v.state) (and_left (v.released && is_receiving v.state) (is_read v s) (and_left (v.released && is_receiving v.state && is_read v s) _ lost))) kept)
-    (λ stays. all_segment v s (sound_keeping v sound) receiving read)
+    (λ stays. all))
 
 pub gains_where_read : (v : View) (s : Segment) (now : Moment) → IsSound v → v.released ≡ false → is_receiving v.state ≡ true → is_read v s ≡ true
     → (after_segment_at v s now).receiving.readable ≡ v.receiving.readable ++ octets_gained v.receiving s.number s.octets

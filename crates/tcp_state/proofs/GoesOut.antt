@@ -1,100 +1,128 @@
 -- What is due is a segment that may go out.
-use Rattle.std.proofs.Common.{◌≡◌, ◌⊎◌, inl, inr, ℕ, ◌<◌, ◌≤◌, ◌==◌, ◌&&◌, ◌||◌, not, nat_lt, min, if◌then◌else◌, Bool, true, false, length, arith, refl, sym, ◌∙◌, subst}
-use Rattle.std.proofs.Common.{Option, Some, None}
-use Rattle.std.proofs.lemmas.Bool.Decides.{nat_tests}
+use Rattle.std.proofs.Common.{◌≡◌, ℕ, suc, ◌+◌, ◌<◌, ◌≤◌, ◌==◌, ◌&&◌, ◌||◌, not, nat_lt, min, if◌then◌else◌, Bool, true, false, length, Some, inl, inr, arith, refl, sym, ◌∙◌, ap, subst}
+use Rattle.std.proofs.lemmas.Bool.{eqb-true, eq-eqb, ltb-true, lt-ltb}
+use Rattle.std.proofs.lemmas.Bool.Decides.{leb_tells, eqb_tells}
 use Rattle.tcp_state.specs.declared.emission.Due.{Due}
-use Rattle.tcp_state.specs.declared.emission.Due.TheVariants.{Rst, Syn, Text, Fin, Ack}
-use Rattle.tcp_state.specs.declared.connection.Resend.{Resend}
-use Rattle.tcp_state.specs.declared.connection.Resend.TheVariants as resend
+use Rattle.tcp_state.specs.declared.emission.Due.TheVariants.{Rst, Syn, Text, Probe, Ack}
+use Rattle.tcp_state.specs.declared.emission.Stretch.{Stretch}
+use Rattle.tcp_state.specs.declared.state.State.{State}
+use Rattle.tcp_state.specs.declared.state.State.TheVariants.{SynSent}
 use Rattle.tcp_state.specs.Stream.{outstanding}
-use Rattle.tcp_state.specs.Windows.{sendable}
-use Rattle.tcp_state.specs.View.{View, IsSound, is_opening, is_syn_sent, is_closed, is_due as is_resend_due, is_idle, is_fin_next}
-use Rattle.tcp_state.specs.Due.{MayGoOut, first_due}
+use Rattle.tcp_state.specs.Windows.{sendable, is_worth_sending, has_grown}
+use Rattle.tcp_state.specs.View.{View, IsSound, is_opening, is_syn_sent, is_closed, awaits_fin_ack}
+use Rattle.tcp_state.specs.Timing.{probes, has_unacknowledged}
+use Rattle.tcp_state.specs.Due.{MayGoOut, IsHeld, first_due, probe_stretch, again, sends_new, new_octets, sends_fin, fin_alone}
+use Rattle.tcp_state.proofs.Edges.{either, and_left, and_right}
+use Rattle.tcp_state.proofs.Causes.{or_else, both, not_true}
+use Rattle.tcp_state.proofs.Unchanged.{clash}
+use Rattle.tcp_state.proofs.Emissions.{is_ack_due, by_due}
 
--- what the tests of what goes out first come to
-abbrev Tested : Bool → Bool → Bool → Bool → Bool → Bool → Bool → ℕ → ℕ → Option Due
-Tested opening unsent again none more fin owes o few =
-    if opening then (if unsent then Some Syn else (if owes then Some Ack else None))
-    else if again then Some (if fin then Fin else Text o)
-    else if not none then (if owes then Some Ack else None)
-    else if more then Some (Text few)
-    else if fin then Some Fin
-    else (if owes then Some Ack else None)
+-- What is outstanding from the mark on: octets that are held, or the FIN behind them.
 
--- why the first segment goes out
-abbrev Reason : Bool → Bool → Bool → Bool → Bool → ℕ → ℕ → Due → Type 0
-Reason opening again more fin owes o few Rst = ⊥
-Reason opening again more fin owes o few Syn = opening ≡ true
-Reason opening again more fin owes o few (Text count) = (opening ≡ false) × (((again ≡ true) × (fin ≡ false) × (count ≡ o)) ⊎ ((more ≡ true) × (count ≡ few)))
-Reason opening again more fin owes o few Fin = fin ≡ true
-Reason opening again more fin owes o few Ack = owes ≡ true
+-- past the opening, more is outstanding than is held only where our FIN is
+fin_outstanding : (opening waits : Bool) (held o : ℕ) → opening ≡ false → o ≤ held + (if opening || waits then 1 else 0) → held < o → (waits ≡ true) × (o ≡ held + 1)
+fin_outstanding false true held o e most past = (refl, omega (arith, most, past))
+fin_outstanding false false held o e most past = absurd (omega (arith, most, past))
+fin_outstanding true waits held o e most past = cc
 
-reason : (opening unsent again none more fin owes : Bool) (o few : ℕ) (due : Due) → Tested opening unsent again none more fin owes o few ≡ Some due → Reason opening again more fin owes o few due
-reason true true again none more fin owes o few due e = let same : Syn ≡ due = cc in subst (λ d. Reason true again more fin owes o few d) same refl
-reason true false again none more fin true o few due e = let same : Ack ≡ due = cc in subst (λ d. Reason true again more fin true o few d) same refl
-reason true false again none more fin false o few due e = cc
-reason false unsent true none more true owes o few due e = let same : Fin ≡ due = cc in subst (λ d. Reason false true more true owes o few d) same refl
-reason false unsent true none more false owes o few due e = let same : Text o ≡ due = cc in subst (λ d. Reason false true more false owes o few d) same (refl, inl (refl, refl, refl))
-reason false unsent false false more fin true o few due e = let same : Ack ≡ due = cc in subst (λ d. Reason false false more fin true o few d) same refl
-reason false unsent false false more fin false o few due e = cc
-reason false unsent false true true fin owes o few due e = let same : Text few ≡ due = cc in subst (λ d. Reason false false true fin owes o few d) same (refl, inr (refl, refl))
-reason false unsent false true false true owes o few due e = let same : Fin ≡ due = cc in subst (λ d. Reason false false false true owes o few d) same refl
-reason false unsent false true false false true o few due e = let same : Ack ≡ due = cc in subst (λ d. Reason false false false false true o few d) same refl
-reason false unsent false true false false false o few due e = cc
+no_more_than : (opening waits : Bool) (held o : ℕ) → opening ≡ false → o ≤ held + (if opening || waits then 1 else 0) → o ≤ held + 1
+no_more_than opening waits held o e most = elim (leb_tells o held) [ inl t ↦ omega (arith, t.1) | inr t ↦ omega (arith, (fin_outstanding opening waits held o e most t.1).1) ]
 
--- a reset goes out first where one is owed, and else what the other tests come to
-owed_first : (owed : Bool) (rest : Option Due) (due : Due) → (if owed then Some Rst else rest) ≡ Some due → ((owed ≡ true) × (due ≡ Rst)) ⊎ (rest ≡ Some due)
-owed_first true rest due e = inl (refl, cc)
-owed_first false rest due e = inr e
+held_again : (v : View) (mark : ℕ) → IsSound v → is_opening v.state ≡ false → mark < outstanding v.sending → IsHeld v (again v mark)
+held_again v mark sound opened within =
+    let held = length v.sending.held in
+    let o = outstanding v.sending in
+    let stretch = again v mark in
+    let most = no_more_than (is_opening v.state) (awaits_fin_ack v.state) held o opened sound.flight in
+    record {
+      opened = opened;
+      joined = omega (arith, within);
+      held = omega (arith, within, most);
+      size = omega (arith, sound.segment);
+      some = elim (leb_tells (suc mark) (min held o)) [
+        | inl t ↦ omega (arith, t.1, sound.segment_least)
+        | inr t ↦
+            let end : mark ≡ held = omega (arith, t.1, within, most) in
+            let count : stretch.count ≡ 0 = omega (arith, end) in
+            let last : stretch.fin ≡ true = both (mark + stretch.count == held) (nat_lt held o) (eq-eqb (mark + stretch.count) held (omega (arith, end, count))) (lt-ltb held o (omega (arith, end, within))) in
+            subst (λ b. 0 < stretch.count + (if b then 1 else 0)) (sym last) (omega arith)
+      ];
+      fin = λ ends. (
+        (fin_outstanding (is_opening v.state) (awaits_fin_ack v.state) held o opened sound.flight (ltb-true held o (and_right (mark + stretch.count == held) (nat_lt held o) ends))).0,
+        eqb-true (mark + stretch.count) held (and_left (mark + stretch.count == held) (nat_lt held o) ends),
+      );
+    }
 
-reason_of : (v : View) (due : Due) → first_due v ≡ Some due → (due ≡ Rst → ⊥)
-    → Reason (is_opening v.state) (is_resend_due v.resend) (nat_lt 0 (sendable v.sending)) (is_fin_next v) v.owes_ack (outstanding v.sending) (sendable v.sending) due
-reason_of v due first never =
-    let again = is_resend_due v.resend in
-    let none = outstanding v.sending == 0 in
-    elim (owed_first v.owes_reset _ due first) [
-      | inl k ↦ absurd (never k.1)
-      | inr plain ↦ reason (is_opening v.state) (none || again) again none (nat_lt 0 (sendable v.sending)) (is_fin_next v) v.owes_ack (outstanding v.sending) (sendable v.sending) due plain
+held_new : (v : View) → IsSound v → is_opening v.state ≡ false → sends_new v ≡ true → IsHeld v (new_octets v)
+held_new v sound opened sends =
+    let some : 0 < sendable v.sending = ltb-true 0 (sendable v.sending) (and_left (nat_lt 0 (sendable v.sending)) (is_worth_sending v.sending v.pace.overridden) sends) in
+    record {
+      opened = opened;
+      joined = omega arith;
+      held = omega (arith, some);
+      size = omega (arith, sound.segment);
+      some = omega (arith, some, sound.segment_least);
+      fin = λ ends. cc;
+    }
+
+held_fin : (v : View) → is_opening v.state ≡ false → sends_fin v ≡ true → IsHeld v (fin_alone v)
+held_fin v opened sends =
+    let waits = awaits_fin_ack v.state in
+    let all = outstanding v.sending == length v.sending.held in
+    let two = and_left (waits && all) (nat_lt (outstanding v.sending) v.sending.window) sends in
+    let same : outstanding v.sending ≡ length v.sending.held = eqb-true (outstanding v.sending) (length v.sending.held) (and_right waits all two) in
+    record {
+      opened = opened;
+      joined = omega arith;
+      held = omega (arith, same);
+      size = omega arith;
+      some = omega arith;
+      fin = λ ends. (and_left waits all two, omega (arith, same));
+    }
+
+held_probe : (v : View) → is_opening v.state ≡ false → probes v ≡ true → IsHeld v (probe_stretch v)
+held_probe v opened goes =
+    let unacknowledged : has_unacknowledged v ≡ true = and_right (not (is_opening v.state) && (v.sending.window == 0)) (has_unacknowledged v) goes in
+    either Stretch (λ t. IsHeld v t) (length v.sending.held == 0) (record { offset = 0; count = 0; fin = true }) (record { offset = 0; count = 1; fin = false })
+    (λ empty.
+    let none : length v.sending.held ≡ 0 = eqb-true (length v.sending.held) 0 empty in
+    let waits : awaits_fin_ack v.state ≡ true = sym (ap (λ b. not b || awaits_fin_ack v.state) empty) ∙ unacknowledged in
+    record { opened = opened; joined = omega arith; held = omega arith; size = omega arith; some = omega arith; fin = λ ends. (waits, sym none) })
+    (λ some.
+    let held : 0 < length v.sending.held = elim (eqb_tells (length v.sending.held) 0) [ inl t ↦ clash (length v.sending.held == 0) t.0 some | inr t ↦ omega (arith, t.1) ] in
+    record { opened = opened; joined = omega arith; held = omega (arith, held); size = omega arith; some = omega arith; fin = λ ends. cc })
+
+-- An acknowledgement is due only once the peer's SYN came, and not where all is closed.
+
+none_owed : (shut owes delays : Bool) → owes ≡ true → (shut && (owes || delays)) ≡ false → shut ≡ false
+none_owed false owes delays o e = refl
+none_owed true true delays o e = cc
+none_owed true false delays o e = cc
+
+opened_heard : (t : State) → is_opening t ≡ false → is_syn_sent t ≡ false
+opened_heard SynSent e = cc
+opened_heard _ e = refl
+
+ack_may : (v : View) → IsSound v → is_ack_due v ≡ true → (is_syn_sent v.state || is_closed v.state) ≡ false
+ack_may v sound due =
+    let opened = not (is_opening v.state) in
+    let told = opened && not (is_closed v.state) && has_grown v.receiving in
+    elim (or_else v.owes_ack told due) [
+      | inl owes ↦ none_owed (is_syn_sent v.state || is_closed v.state) v.owes_ack v.delays_ack owes sound.ack
+      | inr tells ↦
+          let lives = and_left (opened && not (is_closed v.state)) (has_grown v.receiving) tells in
+          ap (λ b. b || is_closed v.state) (opened_heard v.state (not_true (is_opening v.state) (and_left opened (not (is_closed v.state)) lives))) ∙ not_true (is_closed v.state) (and_right opened (not (is_closed v.state)) lives)
     ]
-
--- a timer that came due is not idle
-due_runs : (r : Resend) → is_resend_due r ≡ true → is_idle r ≡ false
-due_runs resend.Due e = refl
-due_runs resend.Idle e = cc
-due_runs (resend.At moment) e = cc
-
-unequal : (n : ℕ) → (n == 0) ≡ false → 0 < n
-unequal n e = grind (arith, nat_tests)
-
-above : (n : ℕ) → nat_lt 0 n ≡ true → 0 < n
-above n e = grind (arith, nat_tests)
-
-owing : (b owes : Bool) → (b && owes) ≡ false → owes ≡ true → b ≡ false
-owing true owes none e = let bad : true ≡ false = sym e ∙ none in cc
-owing false owes none e = refl
 
 -- what goes out first may go out
 pub due-may : (v : View) (due : Due) → IsSound v → first_due v ≡ Some due → MayGoOut v due
-due-may v Rst sound first = elim (owed_first v.owes_reset _ Rst first) [
-  | inl k ↦ k.0
-  | inr plain ↦ absurd (reason (is_opening v.state) ((outstanding v.sending == 0) || is_resend_due v.resend) (is_resend_due v.resend) (outstanding v.sending == 0) (nat_lt 0 (sendable v.sending)) (is_fin_next v) v.owes_ack (outstanding v.sending) (sendable v.sending) Rst plain)
-]
-due-may v Syn sound first = reason_of v Syn first (λ e. cc)
-due-may v (Text count) sound first =
-    let why = reason_of v (Text count) first (λ e. cc) in
-    step why.0 why.1
-  where
-    step : is_opening v.state ≡ false
-        → (((is_resend_due v.resend ≡ true) × (is_fin_next v ≡ false) × (count ≡ outstanding v.sending)) ⊎ ((nat_lt 0 (sendable v.sending) ≡ true) × (count ≡ sendable v.sending))) → MayGoOut v (Text count)
-    step opened (inl (again, octets, same)) =
-        let flight : outstanding v.sending ≤ (if is_fin_next v then 1 else min (length v.sending.held) 1460) = subst (λ b. outstanding v.sending ≤ (if b || is_fin_next v then 1 else min (length v.sending.held) 1460)) opened sound.flight in
-        let most : outstanding v.sending ≤ min (length v.sending.held) 1460 = subst (λ b. outstanding v.sending ≤ (if b then 1 else min (length v.sending.held) 1460)) octets flight in
-        let some : 0 < outstanding v.sending = unequal (outstanding v.sending) (sym sound.timer ∙ due_runs v.resend again) in
-        (opened, omega (arith, some, same), omega (arith, most, same), omega (arith, most, same))
-    step opened (inr (more, same)) =
-        let some : 0 < sendable v.sending = above (sendable v.sending) more in
-        let few : sendable v.sending ≤ v.sending.smss = omega arith in
-        let held : sendable v.sending ≤ length v.sending.held = omega arith in
-        (opened, omega (arith, some, same), omega (arith, held, same), omega (arith, few, same, sound.segment))
-due-may v Fin sound first = reason_of v Fin first (λ e. cc)
-due-may v Ack sound first = owing (is_syn_sent v.state || is_closed v.state) v.owes_ack sound.ack (reason_of v Ack first (λ e. cc))
+due-may v due sound first = by_due (λ o. (d : Due) → o ≡ Some d → MayGoOut v d) v (record {
+  nothing = λ d e. cc;
+  rst = λ owes d e. let same : Rst ≡ d = cc in subst (MayGoOut v) same owes;
+  syn = λ opening d e. let same : Syn ≡ d = cc in subst (MayGoOut v) same opening;
+  once_more = λ opened mark is goes d e. let same : Text (again v mark) ≡ d = cc in subst (MayGoOut v) same (held_again v mark sound opened (sound.mark mark is));
+  octets = λ opened sends d e. let same : Text (new_octets v) ≡ d = cc in subst (MayGoOut v) same (held_new v sound opened sends);
+  fin = λ opened sends d e. let same : Text (fin_alone v) ≡ d = cc in subst (MayGoOut v) same (held_fin v opened sends);
+  probe = λ opened goes d e. let same : Probe ≡ d = cc in subst (MayGoOut v) same (held_probe v opened goes);
+  ack = λ owes d e. let same : Ack ≡ d = cc in subst (MayGoOut v) same (ack_may v sound owes);
+}) due first

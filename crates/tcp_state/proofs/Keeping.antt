@@ -12,7 +12,7 @@ use Rattle.tcp_state.specs.declared.buffers.TheConstants.{CAPACITY}
 use Rattle.tcp_state.specs.Halves.{Receiving}
 use Rattle.tcp_state.specs.Stream.{receiving_nothing, buffer_of, ReceivingFits, KeptInWindow, receive_window, after_syn, distance_of, octets_within, octets_gained, after_octets, after_end, after_read}
 use Rattle.tcp_state.specs.View.{View, IsSound}
-use Rattle.tcp_state.specs.Windows.{receive_room, after_advertisement}
+use Rattle.tcp_state.specs.Windows.{receive_room, has_grown, after_advertisement}
 use Rattle.tcp_state.proofs.Edges.{either}
 
 -- every octet kept in these places lies below a distance
@@ -249,8 +249,9 @@ read_keeps r count within is = record {
   kept = λ distance octet at. is.kept distance octet (sym (at_more r.kept count distance) ∙ at);
 }
 
-pub advertisement_keeps : (r : Receiving) → IsKeeping r → IsKeeping (after_advertisement r)
-advertisement_keeps r is =
+-- the window up to the whole room
+widened_keeps : (r : Receiving) → IsKeeping r → has_grown r ≡ true → IsKeeping (record r { edge = (r.rnext + receive_room r) % 2 ^ 32 })
+widened_keeps r is grown =
     let wide : past ((r.rnext + receive_room r) % 2 ^ 32) r.rnext ≡ receive_room r = omega (arith, is.small) in
     record {
       small = is.small;
@@ -258,6 +259,9 @@ advertisement_keeps r is =
       buffer = is.buffer;
       kept = λ distance octet at. let near = is.kept distance octet at in omega (arith, near, wide, is.fits);
     }
+
+pub advertisement_keeps : (r : Receiving) → IsKeeping r → IsKeeping (after_advertisement r)
+advertisement_keeps r is = either Receiving IsKeeping (has_grown r) (record r { edge = (r.rnext + receive_room r) % 2 ^ 32 }) r (widened_keeps r is) (λ small. is)
 
 -- a buffer is seen through its receiving half
 pub seen : (b : ReceiveView) (rnext edge : ℕ) → b.capacity ≡ CAPACITY → b ≡ buffer_of (record { readable = b.readable; kept = b.kept; rnext = rnext; edge = edge })

@@ -1,5 +1,7 @@
 pub mod Framing
+pub mod Sizes
 pub mod GoesOut
+pub mod Clocked
 pub mod Edges
 pub mod Keeping
 pub mod Causes
@@ -18,3 +20,12 @@ pub mod ResetAges
 pub mod Unreachable
 pub mod Simultaneous
 pub mod SynAnswers
+pub mod Segments
+pub mod Rejecting
+pub mod Emissions
+pub mod NewNumbers
+pub mod Deadlines
+pub mod Timers
+pub mod Paces
+pub mod Measured
+pub mod SetSoon

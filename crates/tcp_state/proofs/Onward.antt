@@ -1,27 +1,31 @@
 -- Why no number of a connection goes back.
-use Rattle.std.proofs.Common.{◌≡◌, ℕ, ◌+◌, ◌-◌, ◌%◌, ◌^◌, ◌<◌, ◌≤◌, ◌==◌, ◌||◌, ◌&&◌, not, min, nat_lt, nat_le, if◌then◌else◌, Bool, true, false, List, length, Option, Some, None, arith, refl, sym, ◌∙◌, ap, subst, is_some}
+use Rattle.std.proofs.Common.{◌≡◌, ℕ, ◌+◌, ◌-◌, ◌%◌, ◌^◌, ◌<◌, ◌≤◌, ◌==◌, ◌||◌, ◌&&◌, not, nat_lt, nat_le, if◌then◌else◌, Bool, true, false, List, length, take, Some, arith, refl, sym, ◌∙◌, ap, subst, is_some}
 use Rattle.std.proofs.lemmas.Bool.{ltb-true, leb-true}
 use Rattle.tcp_segment.specs.Wire.{past}
 use Rattle.tcp_segment.specs.Segment.{Segment}
 use Rattle.clock.specs.declared.moment.Moment.{Moment}
-use Rattle.tcp_state.specs.declared.emission.Due.{Due}
-use Rattle.tcp_state.specs.declared.emission.Due.TheVariants.{Rst, Syn, Text, Fin, Ack}
-use Rattle.tcp_state.specs.Numbers.{is_before}
+use Rattle.clock.specs.Moments.{has_come}
+use Rattle.retransmit.specs.Deadlines.{next_of}
+use Rattle.tcp_state.specs.declared.emission.Due.TheVariants.{Syn, Text}
+use Rattle.tcp_state.specs.declared.emission.Stretch.{Stretch}
+use Rattle.tcp_state.specs.declared.calls.Refusal.TheVariants.{ECONNREFUSED, ETIMEDOUT}
 use Rattle.tcp_state.specs.Halves.{Sending, Receiving}
-use Rattle.tcp_state.specs.Stream.{outstanding, is_new_ack, receive_window, octets_gained, after_octets, stands_next, after_end, after_sent, is_in_window}
-use Rattle.tcp_state.specs.Windows.{updates_window, after_window_update, sendable, after_advertisement}
-use Rattle.tcp_state.specs.View.{View, IsSound, is_opening, is_syn_sent, is_syn_received, is_closed, is_write_closed, is_at_end, after_stop, after_resend, is_due, is_fin_next}
-use Rattle.tcp_state.specs.Calls.{shutdown_refusal, after_shutdown, aborted_at, after_release, is_removed_by_close, is_aborted_by_close}
-use Rattle.tcp_state.specs.declared.calls.Refusal.TheVariants.{ECONNREFUSED}
-use Rattle.tcp_state.specs.Arrival.{owing_ack, after_establishment, is_receiving, fin_acknowledged, after_new_ack, after_ack, is_read_on, after_window, after_text, after_fin, after_acknowledging_segment, after_acceptable_segment, ends_by_syn, ends_by_reset, is_acting_reset, is_acceptable_to, after_reset, reset_error, after_rst_in_syn_sent, after_rst, is_right_syn_ack, after_syn_ack, is_simultaneous_syn, after_simultaneous_syn, after_segment, is_lost, after_lost, after_heard}
-use Rattle.tcp_state.specs.Due.{first_due, again, ack_due, after_ack_paid, after_numbers}
+use Rattle.tcp_state.specs.Stream.{outstanding, is_new_ack, receive_window, octets_gained, after_octets, stands_next, after_end, after_sent}
+use Rattle.tcp_state.specs.Windows.{updates_window, after_window_update, after_advertisement, has_grown, receive_room}
+use Rattle.tcp_state.specs.View.{View, IsSound, is_opening, is_syn_sent, is_syn_received, is_closed, is_write_closed, is_write_finished, takes_flag_number, is_at_end, after_stop, after_reset}
+use Rattle.tcp_state.specs.Timing.{clocked, gives_up, after_timers}
+use Rattle.tcp_state.specs.Calls.{send_count, shutdown_refusal, after_shutdown, aborted_at, after_release, is_removed_by_close, is_aborted_by_close}
+use Rattle.tcp_state.specs.Arrival.{reset_error, is_receiving, after_ack, after_window, after_text, after_fin, after_lost, after_heard}
+use Rattle.tcp_state.specs.Due.{first_due, again, fin_alone, new_octets, probe_stretch, end_of, after_ack_paid, after_stretch, after_probe, after_syn_out, after_going_out}
 use Rattle.tcp_state.specs.Unreachable.{is_unreachable}
 use Rattle.tcp_state.specs.Edges.{Event, Hears, Ticks, Emits, Sends, Receives, Shuts, Closes, Aborts, Unreachable, after_first, after_event}
 use Rattle.tcp_state.specs.Positions.{GoesOn, NeverBack, HasNumber}
+use Rattle.tcp_state.proofs.Clocked.{timers_keep}
 use Rattle.tcp_state.proofs.Edges.{either, by_fin, and_right}
 use Rattle.tcp_state.proofs.Keeping.{IsKeeping, sound_keeping, gained_fits}
-use Rattle.tcp_state.proofs.Released.{unheard}
 use Rattle.tcp_state.proofs.Unchanged.{clash}
+use Rattle.tcp_state.proofs.Segments.{by_ack, ack_receives, after_reading, reading_sends, by_hearing, by_clock}
+use Rattle.tcp_state.proofs.Emissions.{by_due, numbers_send, numbers_receive, stretch_sends, stretch_receives, probe_sends, probe_receives}
 
 -- One number.
 
@@ -40,12 +44,20 @@ stays_at before after same = subst (λ n. GoesOn before n) (sym same) (rests bef
 
 -- What stands in the way of a number that goes back.
 
-few_outstanding : (v : View) → IsSound v → outstanding v.sending ≤ 1460
-few_outstanding v sound = most (is_opening v.state || is_fin_next v) (length v.sending.held) (outstanding v.sending) sound.flight
+-- few octets are held, so that few numbers are outstanding
+pub few_held : (v : View) → IsSound v → length v.sending.held ≤ 65535
+few_held v sound = most (is_opening v.state || is_write_finished v.state) (length v.sending.held) sound.held
   where
-    most : (b : Bool) (held o : ℕ) → o ≤ (if b then 1 else min held 1460) → o ≤ 1460
-    most true held o e = omega (arith, e)
-    most false held o e = omega (arith, e)
+    most : (b : Bool) (held : ℕ) → held ≤ (if b then 0 else 65535) → held ≤ 65535
+    most true held e = omega (arith, e)
+    most false held e = omega (arith, e)
+
+pub few_outstanding : (v : View) → IsSound v → outstanding v.sending ≤ 65536
+few_outstanding v sound = most (takes_flag_number v.state) (length v.sending.held) (outstanding v.sending) (few_held v sound) sound.flight
+  where
+    most : (b : Bool) (held o : ℕ) → held ≤ 65535 → o ≤ held + (if b then 1 else 0) → o ≤ 65536
+    most true held o h e = omega (arith, h, e)
+    most false held o h e = omega (arith, h, e)
 
 -- the two halves as they were, but for SND.UNA, which may have come to SND.NXT
 still : (v w : View) → w.sending.una ≡ v.sending.una → w.sending.nxt ≡ v.sending.nxt → w.receiving ≡ v.receiving → NeverBack v w
@@ -66,29 +78,33 @@ ended v w sound una nxt receiving =
       edge = λ past_opening. stays_at v.receiving.edge w.receiving.edge (ap (λ (r : Receiving). r.edge) receiving);
     }
 
+-- a connection goes on from another whose halves are the same
+alike : (v w x : View) → x.sending ≡ w.sending → x.receiving ≡ w.receiving → NeverBack v w → NeverBack v x
+alike v w x sending receiving k = record {
+  una = subst (λ t. GoesOn v.sending.una t.una) (sym sending) k.una;
+  nxt = subst (λ t. GoesOn v.sending.nxt t.nxt) (sym sending) k.nxt;
+  rnext = λ past_opening. subst (λ r. GoesOn v.receiving.rnext r.rnext) (sym receiving) (k.rnext past_opening);
+  edge = λ past_opening. subst (λ r. GoesOn v.receiving.edge r.edge) (sym receiving) (k.edge past_opening);
+}
+
 -- Segments.
 
 acknowledged : (v : View) (ack : ℕ) → IsSound v → ack < 2 ^ 32 → GoesOn v.sending.una (after_ack v ack).sending.una
 acknowledged v ack sound fits =
-    let P : View → Type 0 = λ w. GoesOn v.sending.una w.sending.una in
     let few = few_outstanding v sound in
-    either View P (is_syn_received v.state) _ _
-    (λ received. either View P (is_new_ack v.sending ack) (after_establishment v) v (λ new. reaches v.sending.una v.sending.nxt sound.nxt (omega (arith, few))) (λ old. rests v.sending.una))
-    (λ past_opening. either View P (is_new_ack v.sending ack) _ _
-    (λ new.
+    let on : is_new_ack v.sending ack ≡ true → GoesOn v.sending.una ack = λ new.
     let most : past ack v.sending.una ≤ outstanding v.sending = leb-true (past ack v.sending.una) (outstanding v.sending) (and_right (nat_lt 0 (past ack v.sending.una)) _ new) in
-    let on : GoesOn v.sending.una ack = reaches v.sending.una ack fits (omega (arith, few, most)) in
-    either View P (is_fin_next v) (fin_acknowledged (after_new_ack v ack)) (after_new_ack v ack) (λ fin. on) (λ octets. on))
-    (λ old. either View P (is_before v.sending.nxt ack) (owing_ack v) v (λ beyond. rests v.sending.una) (λ within. rests v.sending.una)))
+    reaches v.sending.una ack fits (omega (arith, few, most)) in
+    by_ack (λ w. GoesOn v.sending.una w.sending.una) v ack (record {
+      old = rests v.sending.una;
+      beyond = rests v.sending.una;
+      opens = λ new. reaches v.sending.una v.sending.nxt sound.nxt (omega (arith, few));
+      octets = on;
+      fin = λ new fin. on new;
+    })
 
 acknowledged_nxt : (v : View) (ack : ℕ) → (after_ack v ack).sending.nxt ≡ v.sending.nxt
-acknowledged_nxt v ack =
-    let P : View → Type 0 = λ w. w.sending.nxt ≡ v.sending.nxt in
-    either View P (is_syn_received v.state) _ _
-    (λ received. either View P (is_new_ack v.sending ack) (after_establishment v) v (λ new. refl) (λ old. refl))
-    (λ past_opening. either View P (is_new_ack v.sending ack) _ _
-    (λ new. either View P (is_fin_next v) (fin_acknowledged (after_new_ack v ack)) (after_new_ack v ack) (λ fin. refl) (λ octets. refl))
-    (λ old. either View P (is_before v.sending.nxt ack) (owing_ack v) v (λ beyond. refl) (λ within. refl)))
+acknowledged_nxt v ack = by_ack (λ w. w.sending.nxt ≡ v.sending.nxt) v ack (record { old = refl; beyond = refl; opens = λ new. refl; octets = λ new. refl; fin = λ new fin. refl })
 
 told_una : (s : Sending) (number ack window : ℕ) → (after_window_update s number ack window).una ≡ s.una
 told_una s number ack window = either Sending (λ t. t.una ≡ s.una) (updates_window s number ack) _ s (λ tells. refl) (λ none. refl)
@@ -133,13 +149,6 @@ advanced_fin r w s small a =
     ends r w.receiving small a room)
     a a
 
--- octets and a FIN leave the sending half
-pub text_sends : (w : View) (s : Segment) → (after_text w s).sending ≡ w.sending
-text_sends w s = either View (λ x. x.sending ≡ w.sending) ((length s.octets == 0) || not (is_receiving w.state)) w _ (λ none. refl) (λ some. refl)
-
-pub fin_sends : (w : View) (s : Segment) → (after_fin w s).sending ≡ w.sending
-fin_sends w s = by_fin (λ x. x.sending ≡ w.sending) w s (λ counts. refl) refl refl
-
 heard : (v w : View) → IsSound v → GoesOn v.sending.una w.sending.una → w.sending.nxt ≡ v.sending.nxt → Advances v.receiving w.receiving → NeverBack v w
 heard v w sound una nxt a = record {
   una = una;
@@ -148,73 +157,51 @@ heard v w sound una nxt a = record {
   edge = λ past_opening. stays_at v.receiving.edge w.receiving.edge a.edge;
 }
 
-by_acceptable : (v : View) (s : Segment) → IsSound v → s.acknowledgement < 2 ^ 32 → NeverBack v (after_acknowledging_segment v s)
-by_acceptable v s sound fits =
+by_reading : (v : View) (s : Segment) → IsSound v → s.acknowledgement < 2 ^ 32 → NeverBack v (after_reading v s)
+by_reading v s sound fits =
     let acked = after_ack v s.acknowledgement in
     let told = after_window acked s in
-    let on = acknowledged v s.acknowledgement sound fits in
-    let nxt = acknowledged_nxt v s.acknowledgement in
-    let same : acked.receiving ≡ v.receiving = unheard v s.acknowledgement in
-    let same_told : told.receiving ≡ v.receiving = same in
-    either View (λ w. NeverBack v w) (is_read_on v s.acknowledgement) _ acked
-    (λ read.
-    let sending : (after_fin (after_text told s) s).sending ≡ told.sending = fin_sends (after_text told s) s ∙ text_sends told s in
-    let una : told.sending.una ≡ acked.sending.una = told_una acked.sending s.number s.acknowledgement s.window in
-    let later : told.sending.nxt ≡ acked.sending.nxt = told_nxt acked.sending s.number s.acknowledgement s.window in
-    heard v (after_fin (after_text told s) s) sound
-    (subst (λ n. GoesOn v.sending.una n) (sym (ap (λ (x : Sending). x.una) sending ∙ una)) on)
-    (ap (λ (x : Sending). x.nxt) sending ∙ (later ∙ nxt))
-    (advanced_fin v.receiving (after_text told s) s sound.rnext (advanced_text v.receiving told s (sound_keeping v sound) (subst (λ r. Advances v.receiving r) (sym same_told) (waits v.receiving sound.rnext)) same_told)))
-    (λ dropped. heard v acked sound on nxt (subst (λ r. Advances v.receiving r) (sym same) (waits v.receiving sound.rnext)))
+    let same : told.receiving ≡ v.receiving = ack_receives v s.acknowledgement in
+    let una : (after_reading v s).sending.una ≡ acked.sending.una = ap (λ (x : Sending). x.una) (reading_sends v s) ∙ told_una acked.sending s.number s.acknowledgement s.window in
+    let nxt : (after_reading v s).sending.nxt ≡ acked.sending.nxt = ap (λ (x : Sending). x.nxt) (reading_sends v s) ∙ told_nxt acked.sending s.number s.acknowledgement s.window in
+    heard v (after_reading v s) sound
+    (subst (λ n. GoesOn v.sending.una n) (sym una) (acknowledged v s.acknowledgement sound fits))
+    (nxt ∙ acknowledged_nxt v s.acknowledgement)
+    (advanced_fin v.receiving (after_text told s) s sound.rnext (advanced_text v.receiving told s (sound_keeping v sound) (subst (λ r. Advances v.receiving r) (sym same) (waits v.receiving sound.rnext)) same))
 
-by_syn_ack : (v : View) (s : Segment) → IsSound v → is_syn_sent v.state ≡ true → NeverBack v (after_syn_ack v s)
-by_syn_ack v s sound opening =
-    let few = few_outstanding v sound in
-    either View (λ w. NeverBack v w) (is_right_syn_ack v s) _ v
-    (λ right. record {
-      una = reaches v.sending.una v.sending.nxt sound.nxt (omega (arith, few));
-      nxt = rests v.sending.nxt;
-      rnext = λ past_opening. clash (is_syn_sent v.state) opening past_opening;
-      edge = λ past_opening. clash (is_syn_sent v.state) opening past_opening;
-    })
-    (λ wrong. still v v refl refl refl)
+by_acknowledgement : (v : View) (s : Segment) → IsSound v → s.acknowledgement < 2 ^ 32 → NeverBack v (after_ack v s.acknowledgement)
+by_acknowledgement v s sound fits =
+    let acked = after_ack v s.acknowledgement in
+    heard v acked sound (acknowledged v s.acknowledgement sound fits) (acknowledged_nxt v s.acknowledgement)
+    (subst (λ r. Advances v.receiving r) (sym (ack_receives v s.acknowledgement)) (waits v.receiving sound.rnext))
 
-by_simultaneous_syn : (v : View) (s : Segment) → is_syn_sent v.state ≡ true → NeverBack v (after_simultaneous_syn v s)
-by_simultaneous_syn v s opening = record {
-  una = rests v.sending.una;
-  nxt = rests v.sending.nxt;
+-- the halves of the peer's stream begin with the SYN that is heard
+opens : (v w : View) → is_syn_sent v.state ≡ true → GoesOn v.sending.una w.sending.una → GoesOn v.sending.nxt w.sending.nxt → NeverBack v w
+opens v w opening una nxt = record {
+  una = una;
+  nxt = nxt;
   rnext = λ past_opening. clash (is_syn_sent v.state) opening past_opening;
   edge = λ past_opening. clash (is_syn_sent v.state) opening past_opening;
 }
-
-by_segment : (v : View) (s : Segment) → IsSound v → s.acknowledgement < 2 ^ 32 → NeverBack v (after_segment v s)
-by_segment v s sound fits =
-    let P : View → Type 0 = λ w. NeverBack v w in
-    let none : P v = still v v refl refl refl in
-    let owing : P (owing_ack v) = still v (owing_ack v) refl refl refl in
-    let reset : P (after_reset v (reset_error v.state)) = ended v (after_reset v (reset_error v.state)) sound refl refl refl in
-    either View P (is_closed v.state) v _
-    (λ closed. none)
-    (λ lives. either View P s.flags.rst _ _
-    (λ rst. either View P (is_syn_sent v.state) (after_rst_in_syn_sent v s) (after_rst v s)
-    (λ opening. either View P (s.flags.ack && is_new_ack v.sending s.acknowledgement) (after_reset v (reset_error v.state)) v (λ acts. reset) (λ dropped. none))
-    (λ opened. either View P (is_acting_reset v s) _ _
-    (λ acts. either View P (ends_by_reset v s) v (after_reset v (reset_error v.state)) (λ removed. none) (λ stays. reset))
-    (λ elsewhere. either View P (is_in_window v.receiving s.number) (owing_ack v) v (λ drawn. owing) (λ dropped. none))))
-    (λ no_rst. either View P (is_syn_sent v.state) _ _
-    (λ opening. either View P (is_simultaneous_syn v s) (after_simultaneous_syn v s) (after_syn_ack v s) (λ simultaneous. by_simultaneous_syn v s opening)
-    (λ answers. by_syn_ack v s sound opening))
-    (λ opened. either View P (is_acceptable_to v s) (after_acceptable_segment v s) (owing_ack v)
-    (λ accepted. either View P s.flags.syn _ _
-    (λ syn. either View P (ends_by_syn v s) v (owing_ack v) (λ removed. none) (λ drawn. owing))
-    (λ no_syn. either View P s.flags.ack (after_acknowledging_segment v s) v (λ ack. by_acceptable v s sound fits) (λ no_ack. none)))
-    (λ refused. owing))))
 
 by_lost : (v : View) (s : Segment) → IsSound v → NeverBack v (after_lost v s)
 by_lost v s sound =
     let acked = after_ack v s.acknowledgement in
     let nxt : (after_window acked s).sending.nxt ≡ v.sending.nxt = told_nxt acked.sending s.number s.acknowledgement s.window ∙ acknowledged_nxt v s.acknowledgement in
-    ended v (after_lost v s) sound nxt nxt (unheard v s.acknowledgement)
+    ended v (after_lost v s) sound nxt nxt (ack_receives v s.acknowledgement)
+
+by_heard : (v : View) (s : Segment) → IsSound v → s.acknowledgement < 2 ^ 32 → NeverBack v (after_heard v s)
+by_heard v s sound fits =
+    let few = few_outstanding v sound in
+    by_hearing (λ w. NeverBack v w) v s (by_lost v s sound) (record {
+      dropped = still v v refl refl refl;
+      drawn = still v _ refl refl refl;
+      reset = ended v (after_reset v (reset_error v.state)) sound refl refl refl;
+      crossed = λ opening. opens v _ opening (rests v.sending.una) (rests v.sending.nxt);
+      opened = λ opening right. opens v _ opening (reaches v.sending.una v.sending.nxt sound.nxt (omega (arith, few))) (rests v.sending.nxt);
+      acknowledged = by_acknowledgement v s sound fits;
+      read = by_reading v s sound fits;
+    })
 
 -- Emissions.
 
@@ -229,18 +216,20 @@ sent_on v count sound few =
     reaches v.sending.nxt end (omega arith) (omega (arith, order, reach, sound.una, sound.nxt, few)))
     (λ lt. rests v.sending.nxt)
 
--- the edge moves up to the free room
+-- the edge moves up to the free room, or stays
 told_on : (r : Receiving) → r.rnext < 2 ^ 32 → length r.readable + receive_window r ≤ 65535 → GoesOn r.edge (after_advertisement r).edge
-told_on r small fits initial position at =
-    let further = (65535 - length r.readable) - receive_window r in
-    (further, omega arith, omega (arith, small, fits, at))
+told_on r small fits = either Receiving (λ t. GoesOn r.edge t.edge) (has_grown r) _ r (λ grows. moves) (λ keeps. rests r.edge)
+  where
+    moves : GoesOn r.edge ((r.rnext + receive_room r) % 2 ^ 32)
+    moves initial position at = (receive_room r - receive_window r, omega arith, omega (arith, small, fits, at))
 
-numbers : (v : View) (count : ℕ) (now : Moment) → IsSound v → count < 2 ^ 17 → NeverBack v (after_numbers v count now)
-numbers v count now sound few = record {
-  una = rests v.sending.una;
-  nxt = sent_on v count sound few;
-  rnext = λ opened. rests v.receiving.rnext;
-  edge = λ opened. rests v.receiving.edge;
+-- so many numbers from SND.UNA on went out
+goes_out : (v w : View) (count : ℕ) → IsSound v → count < 2 ^ 17 → w.sending ≡ after_sent v.sending count → w.receiving ≡ v.receiving → NeverBack v w
+goes_out v w count sound few sending receiving = record {
+  una = stays_at v.sending.una w.sending.una (ap (λ (t : Sending). t.una) sending);
+  nxt = subst (λ t. GoesOn v.sending.nxt t.nxt) (sym sending) (sent_on v count sound few);
+  rnext = λ past_opening. stays_at v.receiving.rnext w.receiving.rnext (ap (λ (r : Receiving). r.rnext) receiving);
+  edge = λ past_opening. stays_at v.receiving.edge w.receiving.edge (ap (λ (r : Receiving). r.edge) receiving);
 }
 
 -- an acknowledgement goes out with them, or alone
@@ -248,50 +237,81 @@ pays : (v w : View) → IsSound v → w.receiving ≡ v.receiving → NeverBack 
 pays v w sound same k = record {
   una = k.una;
   nxt = k.nxt;
-  rnext = k.rnext;
-  edge = λ opened. subst (λ r. GoesOn v.receiving.edge (after_advertisement r).edge) (sym same) (told_on v.receiving sound.rnext sound.window);
+  rnext = λ past_opening. subst (λ r. GoesOn v.receiving.rnext (after_advertisement r).rnext) (sym same) (advertised v.receiving);
+  edge = λ past_opening. subst (λ r. GoesOn v.receiving.edge (after_advertisement r).edge) (sym same) (told_on v.receiving sound.rnext sound.window);
 }
+  where
+    advertised : (r : Receiving) → GoesOn r.rnext (after_advertisement r).rnext
+    advertised r = either Receiving (λ t. GoesOn r.rnext t.rnext) (has_grown r) _ r (λ grows. rests r.rnext) (λ keeps. rests r.rnext)
 
-with_numbers : (v : View) (count : ℕ) (now : Moment) → IsSound v → count < 2 ^ 17 → NeverBack v (after_ack_paid (after_numbers v count now))
-with_numbers v count now sound few = pays v (after_numbers v count now) sound refl (numbers v count now sound few)
+by_text : (v : View) (stretch : Stretch) (now : Moment) → IsSound v → end_of stretch < 2 ^ 17 → NeverBack v (after_ack_paid (after_stretch v stretch now))
+by_text v stretch now sound few =
+    let sent = after_stretch v stretch now in
+    let receiving = stretch_receives v stretch now in
+    pays v sent sound receiving (goes_out v sent (end_of stretch) sound few (stretch_sends v stretch now) receiving)
+
+by_probe : (v : View) → IsSound v → NeverBack v (after_ack_paid (after_probe v))
+by_probe v sound =
+    let receiving = probe_receives v in
+    let few = either Stretch (λ t. end_of t < 2 ^ 17) (length v.sending.held == 0) _ _ (λ none. omega arith) (λ some. omega arith) in
+    pays v (after_probe v) sound receiving (goes_out v (after_probe v) (end_of (probe_stretch v)) sound few (probe_sends v) receiving)
+
+by_syn : (v : View) (now : Moment) → IsSound v → NeverBack v (after_going_out v Syn now)
+by_syn v now sound =
+    let sent = after_syn_out v now in
+    let receiving = numbers_receive v 0 1 now in
+    let on = goes_out v sent 1 sound (omega arith) (numbers_send v 0 1 now) receiving in
+    either View (λ w. NeverBack v w) (is_syn_received v.state) (after_ack_paid sent) sent (λ received. pays v sent sound receiving on) (λ first. on)
+
+-- a flag takes a number
+flag_number : (b : Bool) (offset count most : ℕ) → offset + count ≤ most → offset + (count + (if b then 1 else 0)) ≤ most + 1
+flag_number true offset count most e = omega (arith, e)
+flag_number false offset count most e = omega (arith, e)
 
 by_emission : (v : View) (now : Moment) → IsSound v → NeverBack v (after_first v (first_due v) now)
 by_emission v now sound =
-    let P : Option Due → Type 0 = λ o. NeverBack v (after_first v o now) in
-    let none : P None = still v v refl refl refl in
-    let ack : P (ack_due v) = either (Option Due) P v.owes_ack (Some Ack) None (λ owes. pays v v sound refl none) (λ nothing. none) in
     let few = few_outstanding v sound in
-    let fin : P (Some Fin) = with_numbers v 1 now sound (omega arith) in
-    let syn : P (Some Syn) = either View (λ w. NeverBack v w) (is_syn_received v.state) (after_ack_paid (after_numbers v 1 now)) (after_numbers v 1 now)
-    (λ received. with_numbers v 1 now sound (omega arith)) (λ first. numbers v 1 now sound (omega arith)) in
-    either (Option Due) P v.owes_reset (Some Rst) _ (λ owes. still v (record v { owes_reset = false }) refl refl refl)
-    (λ no_reset. either (Option Due) P (is_opening v.state) _ _
-    (λ opening. either (Option Due) P ((outstanding v.sending == 0) || is_due v.resend) (Some Syn) (ack_due v) (λ goes_out. syn) (λ rest. ack))
-    (λ opened. either (Option Due) P (is_due v.resend) (Some (again v)) _
-    (λ repeats. either Due (λ d. P (Some d)) (is_fin_next v) Fin (Text (outstanding v.sending)) (λ last. fin) (λ octets. with_numbers v (outstanding v.sending) now sound (omega (arith, few))))
-    (λ still_waits. either (Option Due) P (not (outstanding v.sending == 0)) (ack_due v) _ (λ some. ack)
-    (λ idle. either (Option Due) P (nat_lt 0 (sendable v.sending)) (Some (Text (sendable v.sending))) _
-    (λ text. with_numbers v (sendable v.sending) now sound (omega (arith, sound.segment)))
-    (λ no_text. either (Option Due) P (is_fin_next v) (Some Fin) (ack_due v) (λ last. fin) (λ rest. ack))))))
+    let text : (stretch : Stretch) → end_of stretch < 2 ^ 17 → NeverBack v (after_first v (Some (Text stretch)) now) = λ stretch small.
+    let out = after_ack_paid (after_stretch v stretch now) in alike v out (clocked false out now) refl refl (by_text v stretch now sound small) in
+    by_due (λ o. NeverBack v (after_first v o now)) v (record {
+      nothing = still v v refl refl refl;
+      rst = λ owes. still v _ refl refl refl;
+      syn = λ opening. let out = after_going_out v Syn now in alike v out (clocked false out now) refl refl (by_syn v now sound);
+      once_more = λ opened mark is goes.
+          let within : mark < outstanding v.sending = sound.mark mark is in
+          let stretch = again v mark in
+          let size : stretch.offset + stretch.count ≤ 70000 = omega (arith, within, few, sound.segment) in
+          let end = flag_number stretch.fin stretch.offset stretch.count 70000 size in
+          text stretch (omega (arith, end));
+      octets = λ opened sends. text (new_octets v) (omega (arith, few, sound.segment));
+      fin = λ opened sends. text (fin_alone v) (omega (arith, few));
+      probe = λ opened probes. let out = after_ack_paid (after_probe v) in alike v out (clocked false out now) refl refl (by_probe v sound);
+      ack = λ owes. let out = after_ack_paid v in alike v out (clocked false out now) refl refl (pays v v sound refl (still v v refl refl refl));
+    })
 
 -- Every event.
 
 pub never_back : (v : View) (e : Event) → IsSound v → HasNumber e → NeverBack v (after_event v e)
 never_back v (Hears s now) sound fits =
-    let k : NeverBack v (after_heard v s) = either View (λ w. NeverBack v w) (is_lost v s) (after_lost v s) (after_segment v s) (λ lost. by_lost v s sound) (λ kept. by_segment v s sound fits) in
-    record { una = k.una; nxt = k.nxt; rnext = k.rnext; edge = k.edge }
+    by_clock (λ w. NeverBack v w) v s now (still v v refl refl refl) (λ lives. alike v (after_heard v s) _ refl refl (by_heard v s sound fits))
 never_back v (Ticks now) sound fits =
-    either View (λ w. NeverBack v w) (is_at_end v now) (after_stop v) (after_resend v now)
-    (λ over. ended v (after_stop v) sound refl refl refl) (λ runs. still v (after_resend v now) refl refl refl)
+    let P : View → Type 0 = λ w. NeverBack v w in
+    let acted = clocked false (after_timers v now) now in
+    let kept = timers_keep v now in
+    either View P (is_at_end v now) (after_stop v) _ (λ over. ended v (after_stop v) sound refl refl refl)
+    (λ waits. either View P (gives_up v now) (after_reset v (Some ETIMEDOUT)) _ (λ given_up. ended v (after_reset v (Some ETIMEDOUT)) sound refl refl refl)
+    (λ goes_on. either View P (has_come (next_of v.timers) now) acted v
+    (λ acts. alike v v acted (ap (λ (w : View). w.sending) kept) (ap (λ (w : View). w.receiving) kept) (still v v refl refl refl)) (λ none. still v v refl refl refl)))
 never_back v (Emits now) sound fits = by_emission v now sound
-never_back v (Sends octets) sound fits =
-    either View (λ w. NeverBack v w) (is_some v.pending_error || is_opening v.state || is_write_closed v.state) v _ (λ refused. still v v refl refl refl)
-    (λ taken. record { una = rests v.sending.una; nxt = rests v.sending.nxt; rnext = λ opened. rests v.receiving.rnext; edge = λ opened. rests v.receiving.edge })
+never_back v (Sends octets now) sound fits =
+    let P : View → Type 0 = λ w. NeverBack v w in
+    either View P (is_some v.pending_error || is_opening v.state || is_write_closed v.state) v _ (λ refused. still v v refl refl refl)
+    (λ taken. either View P (length (take (send_count v octets) octets) == 0) v (clocked false _ now) (λ none. still v v refl refl refl) (λ some. still v _ refl refl refl))
 never_back v (Receives len) sound fits =
     either View (λ w. NeverBack v w) (is_some v.pending_error || is_opening v.state || (length v.receiving.readable == 0)) v _ (λ nothing. still v v refl refl refl)
     (λ some. record { una = rests v.sending.una; nxt = rests v.sending.nxt; rnext = λ opened. rests v.receiving.rnext; edge = λ opened. rests v.receiving.edge })
-never_back v Shuts sound fits =
-    either View (λ w. NeverBack v w) (is_some (shutdown_refusal v)) v (after_shutdown v) (λ refused. still v v refl refl refl) (λ shuts. still v (after_shutdown v) refl refl refl)
+never_back v (Shuts now) sound fits =
+    either View (λ w. NeverBack v w) (is_some (shutdown_refusal v)) v (after_shutdown v now) (λ refused. still v v refl refl refl) (λ shuts. still v (after_shutdown v now) refl refl refl)
 never_back v (Closes now) sound fits =
     either View (λ w. NeverBack v w) (is_removed_by_close v) v _ (λ removed. still v v refl refl refl)
     (λ stays. either View (λ w. NeverBack v w) (is_aborted_by_close v) (aborted_at v now) (after_release v now)

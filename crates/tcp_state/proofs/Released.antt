@@ -11,12 +11,11 @@ use Rattle.tcp_state.specs.declared.state.State.TheVariants.{FinWait1, Closing, 
 use Rattle.tcp_state.specs.Numbers.{is_before}
 use Rattle.tcp_state.specs.Halves.{Receiving}
 use Rattle.tcp_state.specs.Stream.{is_new_ack, octets_within, after_octets, receive_window, is_in_window}
-use Rattle.tcp_state.specs.View.{View, IsSound, is_syn_sent, is_syn_received, is_closed, is_write_closed, is_fin_next}
-use Rattle.tcp_state.specs.Arrival.{owing_ack, after_establishment, is_receiving, beyond_fin, fin_acknowledged, after_new_ack, after_ack, is_read_on, is_read, brings_more, after_window, after_text, after_fin, after_acknowledging_segment, after_acceptable_segment, ends_by_syn, ends_by_reset, is_acting_reset, is_acceptable_to, after_reset, reset_error, after_rst_in_syn_sent, after_rst, is_right_syn_ack, after_syn_ack, is_simultaneous_syn, after_simultaneous_syn, after_segment, is_lost, after_lost, after_segment_at}
-use Rattle.tcp_state.proofs.Edges.{either, by_fin}
+use Rattle.tcp_state.specs.View.{View, IsSound, is_syn_sent, is_syn_received, is_closed, is_write_closed, after_reset}
+use Rattle.tcp_state.specs.Arrival.{owing_ack, after_establishment, is_receiving, beyond_fin, is_of_fin, fin_acknowledged, after_new_ack, after_ack, is_read_on, is_read, brings_more, after_window, after_text, after_fin, after_acknowledging_segment, after_acceptable_segment, ends_by_syn, ends_by_reset, is_acting_reset, is_acceptable_to, reset_error, after_rst_in_syn_sent, after_rst, is_right_syn_ack, after_syn_ack, is_simultaneous_syn, after_simultaneous_syn, after_segment, is_lost, after_lost, is_rejected, before, timed_by, after_heard, after_segment_at}
+use Rattle.tcp_state.proofs.Edges.{either, by_fin, clash}
 use Rattle.tcp_state.proofs.Keeping.{IsKeeping, sound_keeping, none_within}
 use Rattle.tcp_state.proofs.Causes.{both, of_false}
-use Rattle.tcp_state.proofs.Unchanged.{clash}
 
 -- an acknowledgement leaves the receiving half
 pub unheard : (v : View) (ack : ℕ) → (after_ack v ack).receiving ≡ v.receiving
@@ -25,7 +24,7 @@ unheard v ack =
     either View P (is_syn_received v.state) _ _
     (λ received. either View P (is_new_ack v.sending ack) (after_establishment v) v (λ new. refl) (λ old. refl))
     (λ past_opening. either View P (is_new_ack v.sending ack) _ _
-    (λ new. either View P (is_fin_next v) (fin_acknowledged (after_new_ack v ack)) (after_new_ack v ack) (λ fin. refl) (λ octets. refl))
+    (λ new. either View P (is_of_fin v ack) (fin_acknowledged (after_new_ack v ack)) (after_new_ack v ack) (λ fin. refl) (λ octets. refl))
     (λ old. either View P (is_before v.sending.nxt ack) (owing_ack v) v (λ beyond. refl) (λ within. refl)))
 
 -- where our side is closed, octets were taken before an acknowledgement if they are after it
@@ -45,7 +44,7 @@ receiving_before v ack closed =
     either View P (is_syn_received v.state) _ _
     (λ received. clash (is_syn_received v.state) received (opening_is_open v.state closed))
     (λ past_opening. either View P (is_new_ack v.sending ack) _ _
-    (λ new. either View P (is_fin_next v) (fin_acknowledged (after_new_ack v ack)) (after_new_ack v ack) (λ fin. received_before v.state) (λ octets e. e))
+    (λ new. either View P (is_of_fin v ack) (fin_acknowledged (after_new_ack v ack)) (after_new_ack v ack) (λ fin. received_before v.state) (λ octets e. e))
     (λ old. either View P (is_before v.sending.nxt ack) (owing_ack v) v (λ beyond e. e) (λ within e. e)))
 
 not_before : (a b : ℕ) → is_before a b ≡ false → past a b < 2 ^ 31
@@ -144,9 +143,8 @@ closed_where_released true true e f = refl
 closed_where_released true false e f = cc
 closed_where_released false closed e f = cc
 
-pub released_takes_none : (v : View) (s : Segment) (now : Moment) → IsSound v → v.released ≡ true → s.number < 2 ^ 32 → length s.octets < 2 ^ 16
-    → (after_segment_at v s now).receiving.readable ≡ v.receiving.readable
-released_takes_none v s now sound released fits short =
+readable_by_heard : (v : View) (s : Segment) → IsSound v → v.released ≡ true → s.number < 2 ^ 32 → length s.octets < 2 ^ 16 → (after_heard v s).receiving.readable ≡ v.receiving.readable
+readable_by_heard v s sound released fits short =
     either View (λ w. w.receiving.readable ≡ v.receiving.readable) (is_lost v s) (after_lost v s) (after_segment v s)
     (λ lost. ap (λ (r : Receiving). r.readable) (unheard v s.acknowledgement))
     (λ kept. readable_by_segment v s (record {
@@ -157,3 +155,9 @@ released_takes_none v s now sound released fits short =
       closed = closed_where_released v.released (is_write_closed v.state) sound.release released;
       kept = kept;
     }))
+
+pub released_takes_none : (v : View) (s : Segment) (now : Moment) → IsSound v → v.released ≡ true → s.number < 2 ^ 32 → length s.octets < 2 ^ 16
+    → (after_segment_at v s now).receiving.readable ≡ v.receiving.readable
+released_takes_none v s now sound released fits short =
+    either View (λ w. w.receiving.readable ≡ v.receiving.readable) (is_closed v.state || is_rejected v s) v (timed_by (before v s) (after_heard v s) now)
+    (λ kept. refl) (λ heard. readable_by_heard v s sound released fits short)

@@ -1,23 +1,23 @@
 -- The reset of an abort waits from the event by which it is owed.
-use Rattle.std.proofs.Common.{◌≡◌, ℕ, ◌+◌, ◌%◌, ◌^◌, ◌==◌, ◌||◌, ◌&&◌, ◌⊎◌, not, if◌then◌else◌, Bool, true, false, length, Option, Some, None, is_some, inl, inr, refl, sym, ◌∙◌, ap}
-use Rattle.tcp_segment.specs.Segment.{Segment, span_of}
+use Rattle.std.proofs.Common.{◌≡◌, ℕ, ◌==◌, ◌||◌, ◌&&◌, ◌⊎◌, not, if◌then◌else◌, Bool, true, false, length, take, Option, Some, None, is_some, inl, inr, refl, sym, ◌∙◌, ap, subst}
+use Rattle.tcp_segment.specs.Segment.{Segment}
 use Rattle.clock.specs.declared.moment.Moment.{Moment}
+use Rattle.clock.specs.Moments.{has_come}
+use Rattle.retransmit.specs.Deadlines.{next_of}
 use Rattle.tcp_state.specs.declared.emission.Due.{Due}
-use Rattle.tcp_state.specs.declared.emission.Due.TheVariants.{Rst, Syn, Text, Fin, Ack}
-use Rattle.tcp_state.specs.declared.state.State.{State}
-use Rattle.tcp_state.specs.declared.state.State.TheVariants.{Closed, Established, FinWait1, FinWait2}
 use Rattle.tcp_state.specs.Numbers.{is_before}
 use Rattle.tcp_state.specs.Stream.{is_new_ack, is_in_window}
-use Rattle.tcp_state.specs.View.{View, IsSound, is_opening, is_syn_sent, is_syn_received, is_closed, is_time_wait, is_write_closed, is_fin_next, is_at_end, after_stop, after_resend, reset_since}
-use Rattle.tcp_state.specs.declared.calls.Refusal.TheVariants.{ECONNREFUSED}
-use Rattle.tcp_state.specs.Arrival.{owing_ack, after_reset, reset_error, after_rst_in_syn_sent, after_rst, is_acting_reset, ends_by_reset, ends_by_syn, is_right_syn_ack, after_syn_ack, is_simultaneous_syn, after_simultaneous_syn, is_acceptable_to, after_acceptable_segment, after_acknowledging_segment, after_establishment, fin_acknowledged, after_new_ack, after_ack, after_window, is_read_on, is_receiving, after_text, after_fin, after_segment, is_read, brings_more, is_lost, after_lost, begins_wait, starts_clock, repeats_fin, timed}
-use Rattle.tcp_state.specs.Calls.{aborted_at, after_release, is_removed_by_close, is_aborted_by_close, shutdown_refusal, after_shutdown}
-use Rattle.tcp_state.specs.Due.{first_due, after_ack_paid, after_numbers}
+use Rattle.tcp_state.specs.View.{View, IsSound, is_opening, is_syn_sent, is_syn_received, is_closed, is_write_closed, is_at_end, after_stop, after_reset, reset_since}
+use Rattle.tcp_state.specs.Timing.{gives_up, after_timers, clocked}
+use Rattle.tcp_state.specs.declared.calls.Refusal.TheVariants.{ECONNREFUSED, ETIMEDOUT}
+use Rattle.tcp_state.specs.Arrival.{owing_ack, is_of_fin, reset_error, after_rst_in_syn_sent, after_rst, is_acting_reset, ends_by_reset, ends_by_syn, is_right_syn_ack, after_syn_ack, is_simultaneous_syn, after_simultaneous_syn, is_acceptable_to, after_acceptable_segment, after_acknowledging_segment, after_establishment, fin_acknowledged, after_new_ack, after_ack, after_window, is_read_on, is_receiving, after_text, after_fin, after_segment, is_lost, after_lost, after_heard, is_rejected, begins_wait, repeats_fin, before, timed_by}
+use Rattle.tcp_state.specs.Calls.{send_count, with_octets, aborted_at, after_release, is_removed_by_close, is_aborted_by_close, shutdown_refusal, after_shutdown}
+use Rattle.tcp_state.specs.Due.{first_due, after_emitted}
 use Rattle.tcp_state.specs.Unreachable.{is_unreachable}
 use Rattle.tcp_state.specs.Edges.{Event, Hears, Ticks, Emits, Sends, Receives, Shuts, Closes, Aborts, Unreachable, after_first, after_event, moment_of}
-use Rattle.tcp_state.proofs.Edges.{either, by_fin, and_left, and_right}
+use Rattle.tcp_state.proofs.Clocked.{timers_keep, emission}
+use Rattle.tcp_state.proofs.Edges.{either, by_fin, clash}
 use Rattle.tcp_state.proofs.Causes.{by, or_left, or_right, of_false}
-use Rattle.tcp_state.proofs.Unchanged.{clash, starts_none}
 
 -- what an event makes of an owed reset: it waits as before, it waits no more, or the event is the first by which it is owed
 abbrev Ages : View → Event → View → Type 0
@@ -42,7 +42,7 @@ owed_by_ack v ack =
     either View P (is_syn_received v.state) _ _
     (λ received. either View P (is_new_ack v.sending ack) (after_establishment v) v (λ new. refl) (λ old. refl))
     (λ past. either View P (is_new_ack v.sending ack) _ _
-    (λ new. either View P (is_fin_next v) (fin_acknowledged (after_new_ack v ack)) (after_new_ack v ack) (λ fin. refl) (λ octets. refl))
+    (λ new. either View P (is_of_fin v ack) (fin_acknowledged (after_new_ack v ack)) (after_new_ack v ack) (λ fin. refl) (λ octets. refl))
     (λ old. either View P (is_before v.sending.nxt ack) (owing_ack v) v (λ beyond. refl) (λ within. refl)))
 
 owed_by_text : (w : View) (s : Segment) → (after_text w s).owes_reset ≡ w.owes_reset
@@ -78,64 +78,56 @@ owed_by_segment v s =
     (λ no_syn. either View P s.flags.ack (after_acknowledging_segment v s) v (λ ack. owed_by_acknowledging v s) (λ no_ack. refl)))
     (λ refused. refl))))
 
-receiving_lives : (t : State) → is_receiving t ≡ true → is_closed t ≡ false
-receiving_lives Established e = refl
-receiving_lives FinWait1 e = refl
-receiving_lives FinWait2 e = refl
-receiving_lives _ e = cc
-
-lost_lives : (v : View) (s : Segment) → is_lost v s ≡ true → is_closed v.state ≡ false
-lost_lives v s lost = receiving_lives v.state (and_right v.released (is_receiving v.state)
-    (and_left (v.released && is_receiving v.state) (is_read v s) (and_left (v.released && is_receiving v.state && is_read v s) (brings_more v s) lost)))
-
-closed_waits_not : (t : State) → is_closed t ≡ true → is_time_wait t ≡ false
-closed_waits_not Closed e = refl
-closed_waits_not _ e = cc
+open_yet : (closed rejected : Bool) → (closed || rejected) ≡ false → closed ≡ false
+open_yet true rejected e = cc
+open_yet false rejected e = refl
 
 -- one by which a reset comes to be owed
-begun : (v w : View) (s : Segment) (now : Moment) → v.owes_reset ≡ false → w.owes_reset ≡ true → reset_since (timed v s now w) ≡ Some now
+begun : (v w : View) (s : Segment) (now : Moment) → v.owes_reset ≡ false → w.owes_reset ≡ true → reset_since (timed_by (before v s) w now) ≡ Some now
 begun v w s now none owes =
-    let starts : starts_clock v w ≡ true = or_right (begins_wait v.state w.state) (w.owes_reset && not v.owes_reset) (ap (λ b. b && not v.owes_reset) owes ∙ of_false v.owes_reset none) in
-    let counts : (repeats_fin v s || starts_clock v w) ≡ true = or_right (repeats_fin v s) (starts_clock v w) starts in
-    ap (λ b. if b then Some (if repeats_fin v s || starts_clock v w then now else w.since) else None) owes ∙ ap (λ b. Some (if b then now else w.since)) counts
-
--- one for what is CLOSED
-waiting : (v : View) (s : Segment) (now : Moment) → is_closed v.state ≡ true → reset_since (timed v s now v) ≡ reset_since v
-waiting v s now closed =
-    let first : repeats_fin v s ≡ false = ap (λ b. b && not s.flags.rst && not (is_acceptable_to v s) && s.flags.fin && ((s.number + span_of s) % 2 ^ 32 == v.receiving.rnext)) (closed_waits_not v.state closed) in
-    ap (λ b. if v.owes_reset then Some (if b || starts_clock v v then now else v.since) else None) first
-    ∙ ap (λ b. if v.owes_reset then Some (if b then now else v.since) else None) (starts_none v)
-
-closed_stays : (v : View) (s : Segment) → is_closed v.state ≡ true → after_segment v s ≡ v
-closed_stays v s = either View (λ w. is_closed v.state ≡ true → w ≡ v) (is_closed v.state) v _ (λ is closed. refl) (λ lives closed. clash (is_closed v.state) closed lives)
+    let early = repeats_fin v s || begins_wait v.state w.state in
+    let starts : (early || (w.owes_reset && not v.owes_reset)) ≡ true = or_right early (w.owes_reset && not v.owes_reset) (ap (λ b. b && not v.owes_reset) owes ∙ of_false v.owes_reset none) in
+    ap (λ b. if b then Some (if early || (w.owes_reset && not v.owes_reset) then now else w.since) else None) owes ∙ ap (λ b. Some (if b then now else w.since)) starts
 
 heard : (v : View) (s : Segment) (now : Moment) → IsSound v → Ages v (Hears s now) (after_event v (Hears s now))
-heard v s now sound = either View (λ w. Ages v (Hears s now) (timed v s now w)) (is_lost v s) (after_lost v s) (after_segment v s)
-    (λ lost. let none = live v sound (lost_lives v s lost) in inr (inr (none, sym (begun v (after_lost v s) s now none refl))))
-    (λ kept. by (Ages v (Hears s now) (timed v s now (after_segment v s))) (is_closed v.state)
-    (λ closed. inl (ap (λ (w : View). reset_since (timed v s now w)) (closed_stays v s closed) ∙ waiting v s now closed))
-    (λ lives. inr (inl (none_owed (timed v s now (after_segment v s)) (owed_by_segment v s ∙ live v sound lives)))))
+heard v s now sound =
+    let b = before v s in
+    either View (λ w. Ages v (Hears s now) w) (is_closed v.state || is_rejected v s) v (timed_by b (after_heard v s) now) (λ kept. inl refl)
+    (λ comes. let none = live v sound (open_yet (is_closed v.state) (is_rejected v s) comes) in
+    either View (λ w. Ages v (Hears s now) (timed_by b w now)) (is_lost v s) (after_lost v s) (after_segment v s)
+    (λ lost. inr (inr (none, sym (begun v (after_lost v s) s now none refl))))
+    (λ kept. inr (inl (none_owed (timed_by b (after_segment v s) now) (owed_by_segment v s ∙ none)))))
 
 -- Every other event.
 
 emitted : (v : View) (due : Option Due) (now : Moment) → Ages v (Emits now) (after_first v due now)
 emitted v None now = inl refl
-emitted v (Some Rst) now = inr (inl refl)
-emitted v (Some Syn) now = either View (λ w. Ages v (Emits now) w) (is_syn_received v.state) (after_ack_paid (after_numbers v 1 now)) (after_numbers v 1 now) (λ received. inl refl) (λ sent. inl refl)
-emitted v (Some (Text count)) now = inl refl
-emitted v (Some Fin) now = inl refl
-emitted v (Some Ack) now = inl refl
+emitted v (Some due) now = elim (emission v due now) [
+  | inl reset ↦ subst (λ d. Ages v (Emits now) (after_emitted v d now)) (sym reset) (inr (inl refl))
+  | inr same ↦ inl (ap (λ (w : View). reset_since w) same)
+]
+
+ticked : (v : View) (now : Moment) → Ages v (Ticks now) (after_event v (Ticks now))
+ticked v now =
+    let P : View → Type 0 = λ w. Ages v (Ticks now) w in
+    either View P (is_at_end v now) (after_stop v) _ (λ over. inl refl)
+    (λ waits. either View P (gives_up v now) (after_reset v (Some ETIMEDOUT)) _ (λ given_up. inl refl)
+    (λ goes_on. either View P (has_come (next_of v.timers) now) (clocked false (after_timers v now) now) v (λ acts. inl (ap (λ (w : View). reset_since w) (timers_keep v now))) (λ idle. inl refl)))
 
 closed_among : (v : View) → is_removed_by_close v ≡ false → is_closed v.state ≡ false
 closed_among v stays = by (is_closed v.state ≡ false) (is_closed v.state) (λ closed. clash (is_removed_by_close v) (or_left (is_closed v.state) (is_syn_sent v.state) closed) stays) (λ lives. lives)
 
 ages : (v : View) (e : Event) → IsSound v → Ages v e (after_event v e)
 ages v (Hears s now) sound = heard v s now sound
-ages v (Ticks now) sound = either View (λ w. Ages v (Ticks now) w) (is_at_end v now) (after_stop v) (after_resend v now) (λ over. inl refl) (λ waits. inl refl)
+ages v (Ticks now) sound = ticked v now
 ages v (Emits now) sound = emitted v (first_due v) now
-ages v (Sends octets) sound = either View (λ w. Ages v (Sends octets) w) (is_some v.pending_error || is_opening v.state || is_write_closed v.state) v _ (λ refused. inl refl) (λ takes. inl refl)
+ages v (Sends octets now) sound =
+    let P : View → Type 0 = λ w. Ages v (Sends octets now) w in
+    let taken = take (send_count v octets) octets in
+    either View P (is_some v.pending_error || is_opening v.state || is_write_closed v.state) v (with_octets v taken now) (λ refused. inl refl)
+    (λ takes. either View P (length taken == 0) v _ (λ none. inl refl) (λ some. inl refl))
 ages v (Receives len) sound = either View (λ w. Ages v (Receives len) w) (is_some v.pending_error || is_opening v.state || (length v.receiving.readable == 0)) v _ (λ none. inl refl) (λ some. inl refl)
-ages v Shuts sound = either View (λ w. Ages v Shuts w) (is_some (shutdown_refusal v)) v (after_shutdown v) (λ refused. inl refl) (λ closed. inl refl)
+ages v (Shuts now) sound = either View (λ w. Ages v (Shuts now) w) (is_some (shutdown_refusal v)) v (after_shutdown v now) (λ refused. inl refl) (λ closed. inl refl)
 ages v (Closes now) sound = either View (λ w. Ages v (Closes now) w) (is_removed_by_close v) v _ (λ removed. inl refl)
     (λ stays. let none = live v sound (closed_among v stays) in
     either View (λ w. Ages v (Closes now) w) (is_aborted_by_close v) (aborted_at v now) (after_release v now) (λ lost. inr (inr (none, refl))) (λ released. inr (inl (none_owed (after_release v now) none))))

@@ -1,5 +1,5 @@
 -- Why a reset acts only at RCV.NXT, and a segment that is not acceptable changes nothing.
-use Rattle.std.proofs.Common.{◌≡◌, ℕ, ◌^◌, ◌<◌, ◌≤◌, ◌==◌, ◌||◌, ◌&&◌, not, min, nat_lt, if◌then◌else◌, Bool, true, false, length, inl, inr, arith, refl, ◌∙◌, ap, subst}
+use Rattle.std.proofs.Common.{◌≡◌, ℕ, ◌+◌, ◌^◌, ◌<◌, ◌≤◌, ◌==◌, ◌||◌, ◌&&◌, not, nat_lt, if◌then◌else◌, Bool, true, false, length, inl, inr, arith, refl, ◌∙◌, ap}
 use Rattle.std.proofs.lemmas.Bool.{eqb-true, ltb-true, leb-true, lt-ltb, eq-eqb}
 use Rattle.std.proofs.lemmas.Bool.Decides.{eqb_tells}
 use Rattle.tcp_segment.specs.Wire.{past}
@@ -8,14 +8,16 @@ use Rattle.clock.specs.declared.moment.Moment.{Moment}
 use Rattle.tcp_state.specs.declared.connection.Fate.TheVariants.{Stays, Removed, Rejected}
 use Rattle.tcp_state.specs.declared.state.State.{State}
 use Rattle.tcp_state.specs.declared.state.State.TheVariants.{SynSent}
+use Rattle.tcp_state.specs.declared.buffers.TheConstants.{CAPACITY}
 use Rattle.tcp_state.specs.Halves.{Receiving}
 use Rattle.tcp_state.specs.Stream.{outstanding, is_new_ack, is_in_window, receive_window, is_acceptable}
-use Rattle.tcp_state.specs.View.{View, IsSound, is_opening, is_syn_sent, is_closed, is_over, is_time_wait, is_fin_next}
-use Rattle.tcp_state.specs.Arrival.{owing_ack, is_acceptable_to, is_acting_reset, is_read, is_lost, after_lost, ends_by_syn, ends_by_reset, ends_opening, acknowledges_unsent, is_rejected, after_reset, reset_error, after_rst_in_syn_sent, after_rst, after_acceptable_segment, after_segment, starts_clock, repeats_fin, after_segment_at, after_heard}
+use Rattle.tcp_state.specs.View.{View, IsSound, is_opening, is_syn_sent, is_closed, is_over, is_time_wait, is_write_finished, takes_flag_number, after_reset}
+use Rattle.tcp_state.specs.Timing.{KeepsTime}
+use Rattle.tcp_state.specs.Arrival.{owing_ack, is_acceptable_to, is_acting_reset, is_read, is_lost, after_lost, ends_by_syn, ends_by_reset, ends_opening, acknowledges_unsent, is_rejected, reset_error, after_rst_in_syn_sent, after_rst, after_acceptable_segment, after_segment, is_of_fin, begins_wait, repeats_fin, answers_probe, before, timed_by, after_segment_at, after_heard}
 use Rattle.tcp_state.specs.Edges.{Hears, after_event, fate_by, is_removed, is_reset_by, ends_by, ends_by_ack}
-use Rattle.tcp_state.proofs.Edges.{either, and_left, and_right}
+use Rattle.tcp_state.proofs.Clocked.{Owing, OwingAt, owing_timed, starts_none, comes_to}
+use Rattle.tcp_state.proofs.Edges.{either, and_left, and_right, clash}
 use Rattle.tcp_state.proofs.Causes.{both, or_left, or_right, or_else, not_true, of_false, by, segment-cause}
-use Rattle.tcp_state.proofs.Unchanged.{clash, starts_none}
 
 -- a segment that is read has no RST
 pub read_is_no_rst : (v : View) (s : Segment) → is_read v s ≡ true → s.flags.rst ≡ false
@@ -46,7 +48,7 @@ reset_by v s now rst e =
         ]
         | inr lost ↦ clash s.flags.rst rst (read_is_no_rst v s (lost_is_read v s lost))
       ]
-      | inr ack ↦ clash s.flags.rst rst (read_is_no_rst v s (and_right _ (is_read v s) (and_left _ (is_new_ack v.sending s.acknowledgement) (and_left _ (is_fin_next v) ack))))
+      | inr ack ↦ clash s.flags.rst rst (read_is_no_rst v s (and_right _ (is_read v s) (and_left _ (is_new_ack v.sending s.acknowledgement) (and_left _ (is_of_fin v s.acknowledgement) ack))))
     ]
 
 chosen_else : (t a b : Bool) → t ≡ false → (if t then a else b) ≡ true → b ≡ true
@@ -63,9 +65,10 @@ acts_at_rnext v s now past_opening rst e =
     let acts : is_acting_reset v s ≡ true = chosen_else (is_syn_sent v.state) (s.flags.ack && is_new_ack v.sending s.acknowledgement) (is_acting_reset v s) past_opening chosen in
     eqb-true s.number v.receiving.rnext (and_right (is_acceptable_to v s) (s.number == v.receiving.rnext) acts)
 
-syn_sent_opens : (t : State) → is_syn_sent t ≡ true → is_opening t ≡ true
-syn_sent_opens SynSent e = refl
-syn_sent_opens _ e = cc
+-- while a connection opens, its SYN alone may be outstanding
+pub one_out : (t : State) (held out : ℕ) → is_syn_sent t ≡ true → held ≤ (if is_opening t || is_write_finished t then 0 else CAPACITY) → out ≤ held + (if takes_flag_number t then 1 else 0) → out ≤ 1
+one_out SynSent held out e few most = omega (arith, few, most)
+one_out _ held out e few most = cc
 
 pub acts_at_nxt : (v : View) (s : Segment) (now : Moment) → IsSound v → s.acknowledgement < 2 ^ 32 → is_syn_sent v.state ≡ true → s.flags.rst ≡ true → ends_by v (Hears s now) ≡ true
     → (s.flags.ack ≡ true) × (s.acknowledgement ≡ v.sending.nxt)
@@ -73,14 +76,10 @@ acts_at_nxt v s now sound fits waits rst e =
     let chosen = and_right s.flags.rst _ (reset_by v s now rst e) in
     let acts = chosen_then (is_syn_sent v.state) (s.flags.ack && is_new_ack v.sending s.acknowledgement) (is_acting_reset v s) waits chosen in
     let new = and_right s.flags.ack (is_new_ack v.sending s.acknowledgement) acts in
-    let one : outstanding v.sending ≤ 1 = subst (λ b. outstanding v.sending ≤ (if b || is_fin_next v then 1 else min (length v.sending.held) 1460)) (syn_sent_opens v.state waits) sound.flight in
+    let one : outstanding v.sending ≤ 1 = one_out v.state (length v.sending.held) (outstanding v.sending) waits sound.held sound.flight in
     let some : 0 < past s.acknowledgement v.sending.una = ltb-true 0 (past s.acknowledgement v.sending.una) (and_left (nat_lt 0 (past s.acknowledgement v.sending.una)) _ new) in
     let most : past s.acknowledgement v.sending.una ≤ outstanding v.sending = leb-true (past s.acknowledgement v.sending.una) (outstanding v.sending) (and_right (nat_lt 0 (past s.acknowledgement v.sending.una)) _ new) in
     (and_left s.flags.ack (is_new_ack v.sending s.acknowledgement) acts, omega (arith, one, some, most, fits, sound.una, sound.nxt))
-
--- what changes nothing but what is owed
-abbrev Owing : View → View → Type 0
-Owing v w = w ≡ record v { owes_ack = w.owes_ack }
 
 unaccepted_segment : (v : View) (s : Segment) → is_syn_sent v.state ≡ false → is_acceptable_to v s ≡ false → Owing v (after_segment v s)
 unaccepted_segment v s past_opening refused =
@@ -99,13 +98,17 @@ unaccepted_segment v s past_opening refused =
     (λ accepted. clash (is_acceptable_to v s) accepted refused)
     (λ unaccepted. refl))))
 
-pub unaccepted_changes : (v : View) (s : Segment) (now : Moment) → is_syn_sent v.state ≡ false → is_acceptable_to v s ≡ false
-    → after_segment_at v s now ≡ record v { owes_ack = (after_segment_at v s now).owes_ack; since = (after_segment_at v s now).since }
-unaccepted_changes v s now past_opening refused =
-    let same : Owing v (after_heard v s) = either View (λ w. Owing v w) (is_lost v s) (after_lost v s) (after_segment v s)
+unaccepted_is_none : (v : View) (s : Segment) → is_acceptable_to v s ≡ false → answers_probe v s ≡ false
+unaccepted_is_none v s refused = by (answers_probe v s ≡ false) (answers_probe v s)
+    (λ answers. let acks = and_left (not (is_opening v.state) && (v.sending.window == 0) && is_acceptable_to v s) s.flags.ack (and_left (not (is_opening v.state) && (v.sending.window == 0) && is_acceptable_to v s && s.flags.ack) (not s.flags.rst) answers) in
+    clash (is_acceptable_to v s) (and_right (not (is_opening v.state) && (v.sending.window == 0)) (is_acceptable_to v s) acks) refused)
+    (λ none. none)
+
+pub unaccepted_changes : (v : View) (s : Segment) (now : Moment) → KeepsTime v → is_syn_sent v.state ≡ false → is_acceptable_to v s ≡ false → OwingAt v (after_segment_at v s now)
+unaccepted_changes v s now keeps past_opening refused =
+    owing_timed v s now keeps (unaccepted_is_none v s refused) (either View (λ w. Owing v w) (is_lost v s) (after_lost v s) (after_segment v s)
     (λ lost. clash (is_acceptable_to v s) (read_is_accepted v s (lost_is_read v s lost)) refused)
-    (λ kept. unaccepted_segment v s past_opening refused) in
-    ap (λ (w : View). record w { since = (after_segment_at v s now).since }) same
+    (λ kept. unaccepted_segment v s past_opening refused))
 
 -- an RST whose number is not RCV.NXT
 elsewhere_segment : (v : View) (s : Segment) → is_syn_sent v.state ≡ false → s.flags.rst ≡ true → (s.number == v.receiving.rnext) ≡ false → Owing v (after_segment v s)
@@ -129,19 +132,30 @@ repeats_no_rst v s rst =
     (and_left (is_time_wait v.state && not s.flags.rst && not (is_acceptable_to v s) && s.flags.fin) _ repeats))))))
     (λ none. none)
 
-no_wait : (v w : View) (now : Moment) (repeats : Bool) → repeats ≡ false → Owing v w → (if repeats || starts_clock v w then now else w.since) ≡ w.since
-no_wait v w now repeats none same =
-    let begins : starts_clock v w ≡ false = ap (λ (x : View). starts_clock v x) same ∙ starts_none v in
-    ap (λ b. if b || starts_clock v w then now else w.since) none ∙ ap (λ b. if b then now else w.since) begins
+-- it begins no wait
+no_wait : (v : View) (s : Segment) (now : Moment) → s.flags.rst ≡ true → Owing v (after_heard v s) → (after_segment_at v s now).since ≡ v.since
+no_wait v s now rst same =
+    let w = after_heard v s in
+    let begins : (begins_wait v.state w.state || (w.owes_reset && not v.owes_reset)) ≡ false = ap (λ (x : View). begins_wait v.state x.state || (x.owes_reset && not v.owes_reset)) same ∙ starts_none v in
+    let waits : (repeats_fin v s || begins_wait v.state w.state || (w.owes_reset && not v.owes_reset)) ≡ false =
+    ap (λ b. b || begins_wait v.state w.state || (w.owes_reset && not v.owes_reset)) (repeats_no_rst v s rst) ∙ begins in
+    either View (λ x. x.since ≡ v.since) (is_closed v.state || is_rejected v s) v (timed_by (before v s) w now) (λ kept. refl)
+    (λ heard. ap (λ b. if b then now else w.since) waits ∙ ap (λ (x : View). x.since) same)
 
-pub elsewhere_changes : (v : View) (s : Segment) (now : Moment) → is_syn_sent v.state ≡ false → s.flags.rst ≡ true → (s.number == v.receiving.rnext) ≡ false
-    → after_segment_at v s now ≡ record v { owes_ack = (after_segment_at v s now).owes_ack }
-elsewhere_changes v s now past_opening rst apart =
+rst_is_none : (v : View) (s : Segment) → s.flags.rst ≡ true → answers_probe v s ≡ false
+rst_is_none v s rst = by (answers_probe v s ≡ false) (answers_probe v s)
+    (λ answers. clash s.flags.rst rst (not_true s.flags.rst (and_right (not (is_opening v.state) && (v.sending.window == 0) && is_acceptable_to v s && s.flags.ack) (not s.flags.rst) answers)))
+    (λ none. none)
+
+pub elsewhere_changes : (v : View) (s : Segment) (now : Moment) → KeepsTime v → is_syn_sent v.state ≡ false → s.flags.rst ≡ true → (s.number == v.receiving.rnext) ≡ false
+    → after_segment_at v s now ≡ record v { owes_ack = (after_segment_at v s now).owes_ack; timers = record v.timers { delayed_ack = (after_segment_at v s now).timers.delayed_ack } }
+elsewhere_changes v s now keeps past_opening rst apart =
     let w = after_heard v s in
     let same : Owing v w = either View (λ x. Owing v x) (is_lost v s) (after_lost v s) (after_segment v s)
     (λ lost. clash s.flags.rst rst (read_is_no_rst v s (lost_is_read v s lost)))
     (λ kept. elsewhere_segment v s past_opening rst apart) in
-    ap (λ (n : Moment). record w { since = n }) (no_wait v w now (repeats_fin v s) (repeats_no_rst v s rst) same) ∙ same
+    let at : OwingAt v (after_segment_at v s now) = owing_timed v s now keeps (rst_is_none v s rst) same in
+    at ∙ ap (λ (n : Moment). record v { owes_ack = (after_segment_at v s now).owes_ack; since = n; timers = record v.timers { delayed_ack = (after_segment_at v s now).timers.delayed_ack } }) (no_wait v s now rst same)
 
 -- A reset at RCV.NXT that takes no numbers acts.
 
@@ -202,5 +216,6 @@ next_acts v s now sound past_opening lives rst same none =
     let opening : ends_opening v s ≡ true = both (not (is_syn_sent v.state)) _ (of_false (is_syn_sent v.state) past_opening) (ap (λ b. if b then ends_by_reset v s else ends_by_syn v s) rst ∙ removes) in
     or_left out closes (taken_out (is_closed v.state) (is_lost v s) (is_over (after_segment v s)) (is_rejected v s) (ends_opening v s) lives kept (rst_not_refused v s rst) opening))
     (λ stays.
-    let heard : (after_heard v s).state ≡ (after_segment v s).state = ap (λ b. (if b then after_lost v s else after_segment v s).state) kept in
+    let heard : (after_event v (Hears s now)).state ≡ (after_segment v s).state =
+    ap (λ (w : View). w.state) (comes_to v s now lives (rst_not_refused v s rst)) ∙ ap (λ b. (if b then after_lost v s else after_segment v s).state) kept in
     or_right out closes (both (not (is_closed v.state)) _ (of_false (is_closed v.state) lives) (ap is_closed heard ∙ closed_by_reset v s lives past_opening rst acts stays)))

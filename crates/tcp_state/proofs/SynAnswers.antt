@@ -1,28 +1,33 @@
 -- Why a SYN without ACK in SYN-SENT draws a SYN-ACK, and what a reset then does.
-use Rattle.std.proofs.Common.{◌≡◌, ℕ, ◌^◌, ◌<◌, ◌≤◌, ◌==◌, ◌||◌, ◌&&◌, not, min, nat_le, if◌then◌else◌, Bool, true, false, length, Some, arith, refl, sym, ◌∙◌, ap, subst}
-use Rattle.std.proofs.lemmas.Bool.{le-leb, eq-eqb}
+use Rattle.std.proofs.Common.{◌≡◌, ℕ, ◌^◌, ◌<◌, ◌≤◌, ◌==◌, ◌||◌, ◌&&◌, not, nat_le, nat_lt, if◌then◌else◌, Bool, true, false, length, Some, None, is_some, inl, inr, arith, refl, sym, ◌∙◌, ap, subst}
+use Rattle.std.proofs.lemmas.Bool.{le-leb, lt-ltb, eq-eqb}
+use Rattle.std.proofs.lemmas.Bool.Decides.{eqb_tells}
 use Rattle.clock.specs.declared.moment.Moment.{Moment}
+use Rattle.clock.specs.Moments.{sooner}
+use Rattle.retransmit.specs.Deadlines.{next_of}
+use Rattle.tcp_state.specs.declared.buffers.TheConstants.{CAPACITY}
 use Rattle.tcp_segment.specs.Segment.{Segment, span_of}
 use Rattle.tcp_segment.specs.Wire.{wire, past}
 use Rattle.tcp_state.specs.declared.calls.Refusal.TheVariants.{ECONNREFUSED}
 use Rattle.tcp_state.specs.declared.connection.Fate.TheVariants.{Stays, Removed, Rejected}
-use Rattle.tcp_state.specs.declared.connection.Resend.TheVariants as resend
 use Rattle.tcp_state.specs.declared.emission.Due.TheVariants.{Rst, Syn}
 use Rattle.tcp_state.specs.declared.state.State.{State}
 use Rattle.tcp_state.specs.declared.state.State.TheVariants.{SynSent, SynReceived}
 use Rattle.tcp_state.specs.Numbers.{later_number}
 use Rattle.tcp_state.specs.Stream.{outstanding, is_new_ack}
-use Rattle.tcp_state.specs.View.{View, IsSound, is_opening, is_syn_sent, is_syn_received, is_closed, is_over, is_due, is_write_closed, is_fin_next}
-use Rattle.tcp_state.specs.Arrival.{after_reset, reset_error, after_rst_in_syn_sent, after_rst, is_acting_reset, ends_by_reset, ends_by_syn, ends_opening, is_acceptable_to, is_simultaneous_syn, after_simultaneous_syn, after_syn_ack, after_segment, is_receiving, is_read, brings_more, is_lost, after_lost, after_heard, timed, after_segment_at, is_rejected, fate}
-use Rattle.tcp_state.specs.Due.{first_due, ack_due}
+use Rattle.tcp_state.specs.View.{View, IsSound, is_opening, is_syn_sent, is_syn_received, is_closed, is_over, is_write_closed, after_reset}
+use Rattle.tcp_state.specs.Pace.{mark_past}
+use Rattle.tcp_state.specs.Timing.{probes}
+use Rattle.tcp_state.specs.Arrival.{reset_error, after_rst_in_syn_sent, after_rst, is_acting_reset, ends_by_reset, ends_by_syn, ends_opening, is_acceptable_to, is_simultaneous_syn, after_simultaneous_syn, after_syn_ack, after_segment, is_receiving, is_read, brings_more, is_lost, after_lost, after_heard, before, is_moved, pace_after, timed_by, after_segment_at, is_rejected, fate}
+use Rattle.tcp_state.specs.Due.{first_due, ack_due, after_resent, after_first_sent}
 use Rattle.tcp_state.specs.Edges.{after_first}
 use Rattle.tcp_state.specs.Simultaneous.{AnswersSyn}
 use Rattle.tcp_state.specs.Unreachable.{IsRefused}
-use Rattle.tcp_state.proofs.Edges.{either}
-use Rattle.tcp_state.proofs.Causes.{both, of_false}
-use Rattle.tcp_state.proofs.Unchanged.{clash}
-use Rattle.tcp_state.proofs.Resets.{next_accepted, rst_not_lost, rst_not_refused}
-use Rattle.tcp_state.proofs.Unreachable.{none_listed, opening, silent}
+use Rattle.tcp_state.proofs.Clocked.{comes_to, marks_kept, probes_kept}
+use Rattle.tcp_state.proofs.Edges.{either, clash}
+use Rattle.tcp_state.proofs.Causes.{both, or_left, or_right, of_false}
+use Rattle.tcp_state.proofs.Resets.{one_out, next_accepted, rst_not_lost, rst_not_refused}
+use Rattle.tcp_state.proofs.Unreachable.{none_listed, opening, silent, at_rest}
 
 -- The SYN.
 
@@ -37,12 +42,12 @@ answered v s lives waits no_rst syn =
     (λ opens. either View P (is_simultaneous_syn v s) (after_simultaneous_syn v s) (after_syn_ack v s) (λ is. refl) (λ other. clash (is_simultaneous_syn v s) syn other))
     (λ past_opening. clash (is_syn_sent v.state) waits past_opening)))
 
-goes_at_once : (none : Bool) → (none || is_due (if none then resend.Idle else resend.Due)) ≡ true
-goes_at_once true = refl
-goes_at_once false = refl
-
-one_out : (v : View) → IsSound v → v.state ≡ SynSent → outstanding v.sending ≤ 1
-one_out v sound opens = subst (λ t. outstanding v.sending ≤ (if is_opening t || is_fin_next v then 1 else min (length v.sending.held) 1460)) opens sound.flight
+-- it is due where it has not gone out, and else goes out again
+goes_at_once : (out : ℕ) → ((out == 0) || is_some (mark_past 0 out)) ≡ true
+goes_at_once out = elim (eqb_tells out 0) [
+  | inl none ↦ or_left (out == 0) (is_some (mark_past 0 out)) none.0
+  | inr some ↦ or_right (out == 0) (is_some (mark_past 0 out)) (ap (λ b. is_some {T = ℕ} (if b then Some 0 else None)) (lt-ltb 0 out (omega (arith, some.1))))
+]
 
 -- SND.NXT is the number behind the SYN, whether that had gone out or goes out now
 then_sent : (una nxt : ℕ) → una < 2 ^ 32 → nxt < 2 ^ 32 → past nxt una ≤ 1 → later_number una nxt (wire una 1) ≡ wire una 1
@@ -50,13 +55,16 @@ then_sent una nxt small fits few =
     either ℕ (λ n. n ≡ wire una 1) (nat_le (past nxt una) (past (wire una 1) una)) (wire una 1) nxt
     (λ le. refl) (λ gt. clash (nat_le (past nxt una) (past (wire una 1) una)) (le-leb (past nxt una) (past (wire una 1) una) (omega (arith, small, few))) gt)
 
-answers : (v : View) (s : Segment) (now : Moment) → IsSound v → v.state ≡ SynSent → AnswersSyn v.sending.una s.number (timed v s now (after_simultaneous_syn v s))
+answers : (v : View) (s : Segment) (now : Moment) → IsSound v → v.state ≡ SynSent → AnswersSyn v.sending.una s.number (timed_by (before v s) (after_simultaneous_syn v s) now)
 answers v s now sound opens =
-    let w = timed v s now (after_simultaneous_syn v s) in
-    let none = outstanding v.sending == 0 in
+    let u = after_simultaneous_syn v s in
+    let w = timed_by (before v s) u now in
+    let out = outstanding v.sending in
     let o = opening v sound opens in
     let due : first_due w ≡ Some Syn =
-    ap (λ b. if b then Some Rst else (if none || is_due (if none then resend.Idle else resend.Due) then Some Syn else ack_due w)) o.quiet ∙ ap (λ b. if b then Some Syn else ack_due w) (goes_at_once none) in
+    ap (λ b. if b then Some Rst else (if (out == 0) || is_some (pace_after (before v s) u now).mark then Some Syn else ack_due w)) o.quiet
+    ∙ (ap (λ m. if (out == 0) || is_some m then Some Syn else ack_due w) (marks_kept (before v s) u now) ∙ ap (λ b. if b then Some Syn else ack_due w) (goes_at_once out)) in
+    let few : out ≤ 1 = one_out v.state (length v.sending.held) out o.waits sound.held sound.flight in
     record {
       state = refl;
       due = due;
@@ -64,7 +72,9 @@ answers v s now sound opens =
       ack = refl;
       number = refl;
       expects = refl;
-      then_sent = λ later. ap (λ d. (after_first w d later).sending.nxt) due ∙ then_sent v.sending.una v.sending.nxt sound.una sound.nxt (one_out v sound opens);
+      then_sent = λ later. ap (λ d. (after_first w d later).sending.nxt) due
+          ∙ (either View (λ x. x.sending.nxt ≡ later_number v.sending.una v.sending.nxt (wire v.sending.una 1)) (nat_lt 0 out) (after_resent w 1) (after_first_sent w 1 later) (λ again. refl) (λ first. refl)
+          ∙ then_sent v.sending.una v.sending.nxt sound.una sound.nxt few);
     }
 
 living : (t : State) → t ≡ SynSent → is_closed t ≡ false
@@ -89,13 +99,15 @@ pub syn_answered : (v : View) (s : Segment) (now : Moment) → IsSound v → v.s
     → AnswersSyn v.sending.una s.number (after_segment_at v s now) × (fate v s ≡ Stays)
 syn_answered v s now sound opens no_rst syn no_ack =
     let o = opening v sound opens in
+    let lives = living v.state opens in
     let is : is_simultaneous_syn v s ≡ true = both s.flags.syn (not s.flags.ack) syn (of_false s.flags.ack no_ack) in
-    let same = answered v s (living v.state opens) o.waits no_rst is in
+    let same = answered v s lives o.waits no_rst is in
     let kept : is_lost v s ≡ false = ap (λ b. b && is_receiving v.state && is_read v s && brings_more v s) o.kept in
-    let heard : after_heard v s ≡ after_simultaneous_syn v s = ap (λ b. if b then after_lost v s else after_segment v s) kept ∙ same in (
-      subst (λ w. AnswersSyn v.sending.una s.number (timed v s now w)) (sym heard) (answers v s now sound opens),
-      stays_where (is_closed v.state) (is_lost v s) (is_over (after_segment v s)) (is_rejected v s) (ends_opening v s) (ap is_over same)
-          (without_ack s.flags.rst s.flags.ack (is_new_ack v.sending s.acknowledgement) _ no_ack)
+    let taken : is_rejected v s ≡ false = without_ack s.flags.rst s.flags.ack (is_new_ack v.sending s.acknowledgement) _ no_ack in
+    let heard : after_heard v s ≡ after_simultaneous_syn v s = ap (λ b. if b then after_lost v s else after_segment v s) kept ∙ same in
+    let at : after_segment_at v s now ≡ timed_by (before v s) (after_simultaneous_syn v s) now = comes_to v s now lives taken ∙ ap (λ w. timed_by (before v s) w now) heard in (
+      subst (AnswersSyn v.sending.una s.number) (sym at) (answers v s now sound opens),
+      stays_where (is_closed v.state) (is_lost v s) (is_over (after_segment v s)) (is_rejected v s) (ends_opening v s) (ap is_over same) taken
           (ap (λ b. not b && (if s.flags.rst then ends_by_reset v s else ends_by_syn v s)) o.waits),
     )
 
@@ -127,16 +139,21 @@ reset_leaves v s a rst acts kept =
     (λ elsewhere. clash (is_acting_reset v s) acts elsewhere)))
     (λ no_rst. clash s.flags.rst rst no_rst))
 
-refused : (v : View) (s : Segment) (now : Moment) → IsSound v → v.state ≡ SynReceived → v.owes_reset ≡ false → IsRefused (timed v s now (after_reset v (Some ECONNREFUSED)))
-refused v s now sound is quiet = record {
-  closed = refl;
-  send = λ octets. refl;
-  recv = λ len. refl;
-  held = refl;
-  readable = none_listed v.receiving.readable (subst (λ t. length v.receiving.readable ≤ (if is_opening t then 0 else 65535)) is sound.readable);
-  due = silent v sound quiet;
-  timer = refl;
-}
+refused : (v : View) (s : Segment) (now : Moment) → IsSound v → v.state ≡ SynReceived → v.owes_reset ≡ false → IsRefused (timed_by (before v s) (after_reset v (Some ECONNREFUSED)) now)
+refused v s now sound is quiet =
+    let b = before v s in
+    let w = after_reset v (Some ECONNREFUSED) in
+    let pace = pace_after b w now in
+    let timed = timed_by b w now in
+    record {
+      closed = refl;
+      send = λ octets. refl;
+      recv = λ len. refl;
+      held = refl;
+      readable = none_listed v.receiving.readable (subst (λ t. length v.receiving.readable ≤ (if is_opening t then 0 else CAPACITY)) is sound.readable);
+      due = silent v timed.pace quiet (marks_kept b w now) (ap (λ b. b && probes (record w { pace = pace })) (probes_kept b w now));
+      timer = ap (λ t. sooner (next_of t) None) (at_rest v pace (is_moved b w) now sound.nxt);
+    }
 
 by_no_listener : (acts passive received : Bool) → passive ≡ false → (acts && passive && received) ≡ false
 by_no_listener true true received e = cc
@@ -153,8 +170,9 @@ reset_refuses v s now sound is active rst same none =
     let error : reset_error v.state ≡ Some ECONNREFUSED = ap reset_error is in
     let leaves : after_segment v s ≡ after_reset v (Some ECONNREFUSED) = reset_leaves v s a rst acts kept ∙ ap (after_reset v) error in
     let heard : after_heard v s ≡ after_reset v (Some ECONNREFUSED) = ap (λ b. if b then after_lost v s else after_segment v s) (rst_not_lost v s rst) ∙ leaves in
+    let at : after_segment_at v s now ≡ timed_by (before v s) (after_reset v (Some ECONNREFUSED)) now = comes_to v s now a.lives (rst_not_refused v s rst) ∙ ap (λ w. timed_by (before v s) w now) heard in
     let left : v.released ≡ false = unleft v.state v.released is sound.release in (
-      subst (λ w. IsRefused (timed v s now w)) (sym heard) (refused v s now sound is a.quiet),
+      subst IsRefused (sym at) (refused v s now sound is a.quiet),
       stays_where (is_closed v.state) (is_lost v s) (is_over (after_segment v s)) (is_rejected v s) (ends_opening v s)
           (ap is_over leaves ∙ ap (λ b. b && not v.owes_reset) left)
           (rst_not_refused v s rst)

@@ -1,65 +1,45 @@
--- Why a segment that is refused changes nothing, and what is CLOSED owes nothing but a reset.
-use Rattle.std.proofs.Common.{◌≡◌, ℕ, ◌+◌, ◌%◌, ◌^◌, ◌≤◌, ◌==◌, ◌||◌, ◌&&◌, ◌⊎◌, not, min, nat_lt, if◌then◌else◌, Bool, true, false, length, Some, None, inl, inr, arith, refl, sym, ◌∙◌, ap, subst}
-use Rattle.tcp_segment.specs.Segment.{Segment, span_of}
+-- Why a segment that is rejected changes nothing, and what is CLOSED owes nothing but a reset.
+use Rattle.std.proofs.Common.{◌≡◌, ◌+◌, ◌<◌, ◌≤◌, ◌==◌, ◌||◌, ◌&&◌, not, nat_lt, if◌then◌else◌, Bool, true, false, length, Option, Some, None, inl, inr, arith, refl, sym, ◌∙◌, ap, subst, is_some, ℕ}
+use Rattle.std.specs.Option.{option_or}
+use Rattle.tcp_segment.specs.Segment.{Segment}
 use Rattle.clock.specs.declared.moment.Moment.{Moment}
 use Rattle.tcp_state.specs.declared.connection.Fate.TheVariants.{Stays, Removed, Rejected}
-use Rattle.tcp_state.specs.declared.connection.Resend.{Resend}
-use Rattle.tcp_state.specs.declared.connection.Resend.TheVariants.{Idle}
 use Rattle.tcp_state.specs.declared.emission.Due.{Due}
-use Rattle.tcp_state.specs.declared.emission.Due.TheVariants.{Rst, Syn, Text, Fin, Ack}
+use Rattle.tcp_state.specs.declared.emission.Due.TheVariants.{Rst, Syn, Text, Probe, Ack}
 use Rattle.tcp_state.specs.declared.state.State.{State}
-use Rattle.tcp_state.specs.declared.state.State.TheVariants.{Closed, SynSent, SynReceived, FinWait2, TimeWait}
+use Rattle.tcp_state.specs.declared.state.State.TheVariants.{Closed}
 use Rattle.tcp_state.specs.Numbers.{is_before}
 use Rattle.tcp_state.specs.Stream.{outstanding, is_new_ack}
-use Rattle.tcp_state.specs.Windows.{sendable}
-use Rattle.tcp_state.specs.View.{View, IsSound, is_opening, is_syn_sent, is_syn_received, is_closed, is_over, is_due, is_idle, is_time_wait, awaits_fin_ack, is_write_finished, is_fin_next}
-use Rattle.tcp_state.specs.Arrival.{owing_ack, after_establishment, after_ack, is_read_on, after_acknowledging_segment, after_acceptable_segment, ends_opening, is_acceptable_to, is_right_syn_ack, after_syn_ack, is_simultaneous_syn, after_simultaneous_syn, after_segment, is_lost, after_lost, after_heard, begins_wait, starts_clock, repeats_fin, timed, after_segment_at, acknowledges_unsent, is_rejected, fate}
-use Rattle.tcp_state.specs.Due.{first_due, again}
+use Rattle.tcp_state.specs.Windows.{sendable, is_worth_sending, has_grown}
+use Rattle.tcp_state.specs.View.{View, IsSound, is_opening, is_syn_sent, is_syn_received, is_closed, is_over, awaits_fin_ack, is_write_finished, takes_flag_number}
+use Rattle.tcp_state.specs.Timing.{probes}
+use Rattle.tcp_state.specs.Arrival.{owing_ack, after_establishment, after_ack, is_read_on, after_acknowledging_segment, after_acceptable_segment, ends_opening, is_acceptable_to, is_right_syn_ack, after_syn_ack, is_simultaneous_syn, after_simultaneous_syn, after_segment, is_lost, after_lost, after_heard, acknowledges_unsent, is_rejected, before, timed_by, after_segment_at, fate}
+use Rattle.tcp_state.specs.Due.{first_due, again_from, new_due, ack_due, sends_fin, new_octets, fin_alone}
 use Rattle.tcp_state.proofs.Edges.{either, and_left, and_right}
-use Rattle.tcp_state.proofs.Causes.{or_else, not_true}
+use Rattle.tcp_state.proofs.Causes.{or_else, or_right, not_true}
 
--- no wait begins where the state stays, and none of a reset where that is owed as before
-begins_none : (t : State) → begins_wait t t ≡ false
-begins_none FinWait2 = refl
-begins_none TimeWait = refl
-begins_none _ = refl
-
-apart_from_itself : (b : Bool) → (b && not b) ≡ false
-apart_from_itself true = refl
-apart_from_itself false = refl
-
-pub starts_none : (v : View) → starts_clock v v ≡ false
-starts_none v = ap (λ b. b || (v.owes_reset && not v.owes_reset)) (begins_none v.state) ∙ apart_from_itself v.owes_reset
-
--- the tests of a fate that refuses
-record Refuses (lost refused : Bool) : Type 0 where
+-- the tests of a fate that rejects
+record Rejects (lost rejected : Bool) : Type 0 where
   pub kept : lost ≡ false
-  pub answered : refused ≡ true
+  pub answered : rejected ≡ true
 
-refuses : (closed lost over refused opening : Bool) → (if closed || lost then Stays else if over then Removed else if refused then Rejected else if opening then Removed else Stays) ≡ Rejected
-    → Refuses lost refused
-refuses true lost over refused opening e = cc
-refuses false true over refused opening e = cc
-refuses false false true refused opening e = cc
-refuses false false false true opening e = record { kept = refl; answered = refl }
-refuses false false false false true e = cc
-refuses false false false false false e = cc
+rejects : (closed lost over rejected opening : Bool) → (if closed || lost then Stays else if over then Removed else if rejected then Rejected else if opening then Removed else Stays) ≡ Rejected
+    → Rejects lost rejected
+rejects true lost over rejected opening e = cc
+rejects false true over rejected opening e = cc
+rejects false false true refused opening e = cc
+rejects false false false true opening e = record { kept = refl; answered = refl }
+rejects false false false false true e = cc
+rejects false false false false false e = cc
 
--- what a refused segment is: no reset, with an acknowledgement that is not new, and in SYN-RECEIVED acceptable and no SYN
-record IsUnsent (v : View) (s : Segment) : Type 0 where
+-- what a rejected segment is: no reset, with an acknowledgement that is not new, and in SYN-RECEIVED acceptable and no SYN
+pub record IsUnsent (v : View) (s : Segment) : Type 0 where
   pub no_rst : s.flags.rst ≡ false
   pub ack : s.flags.ack ≡ true
   pub old : is_new_ack v.sending s.acknowledgement ≡ false
   pub received : is_syn_sent v.state ≡ false → (is_syn_received v.state ≡ true) × (is_acceptable_to v s ≡ true) × (s.flags.syn ≡ false)
-  pub opening : is_time_wait v.state ≡ false
 
-opening_waits_not : (t : State) → (is_syn_sent t ≡ true) ⊎ (is_syn_received t ≡ true) → is_time_wait t ≡ false
-opening_waits_not SynSent e = refl
-opening_waits_not SynReceived e = refl
-opening_waits_not _ (inl e) = cc
-opening_waits_not _ (inr e) = cc
-
-unsent : (v : View) (s : Segment) → is_rejected v s ≡ true → IsUnsent v s
+pub unsent : (v : View) (s : Segment) → is_rejected v s ≡ true → IsUnsent v s
 unsent v s e =
     let late = is_syn_received v.state && is_acceptable_to v s && not s.flags.syn in
     let old = and_left (acknowledges_unsent v s) (is_syn_sent v.state || late) e in
@@ -77,17 +57,13 @@ unsent v s e =
           not_true s.flags.syn (and_right (is_syn_received v.state && is_acceptable_to v s) (not s.flags.syn) l),
         )
       ];
-      opening = opening_waits_not v.state (elim waits [
-        | inl sent ↦ inl sent
-        | inr l ↦ inr (and_left (is_syn_received v.state) (is_acceptable_to v s) (and_left (is_syn_received v.state && is_acceptable_to v s) (not s.flags.syn) l))
-      ]);
     }
 
 pub clash : {C : Type 0} (b : Bool) → b ≡ true → b ≡ false → C
 clash true e f = cc
 clash false e f = cc
 
-unsent_leaves : (v : View) (s : Segment) → IsUnsent v s → after_segment v s ≡ v
+pub unsent_leaves : (v : View) (s : Segment) → IsUnsent v s → after_segment v s ≡ v
 unsent_leaves v s u =
     let P : View → Type 0 = λ w. w ≡ v in
     let new = is_new_ack v.sending s.acknowledgement in
@@ -110,49 +86,93 @@ unsent_leaves v s u =
     (λ no_ack. refl)))
     (λ refused. clash (is_acceptable_to v s) r.1 refused))))
 
-pub refused_leaves : (v : View) (s : Segment) (now : Moment) → fate v s ≡ Rejected → after_segment_at v s now ≡ v
-refused_leaves v s now e =
-    let r = refuses (is_closed v.state) (is_lost v s) (is_over (after_segment v s)) (is_rejected v s) (ends_opening v s) e in
-    let u = unsent v s r.answered in
-    let same : after_heard v s ≡ v = ap (λ b. if b then after_lost v s else after_segment v s) r.kept ∙ unsent_leaves v s u in
-    let first : repeats_fin v s ≡ false = ap (λ b. b && not s.flags.rst && not (is_acceptable_to v s) && s.flags.fin && ((s.number + span_of s) % 2 ^ 32 == v.receiving.rnext)) u.opening in
-    ap (timed v s now) same ∙ (ap (λ b. record v { since = if b || starts_clock v v then now else v.since }) first
-    ∙ ap (λ b. record v { since = if b then now else v.since }) (starts_none v))
+-- without the clock
+pub rejected_leaves : (v : View) (s : Segment) → fate v s ≡ Rejected → after_heard v s ≡ v
+rejected_leaves v s e =
+    let r = rejects (is_closed v.state) (is_lost v s) (is_over (after_segment v s)) (is_rejected v s) (ends_opening v s) e in
+    ap (λ b. if b then after_lost v s else after_segment v s) r.kept ∙ unsent_leaves v s (unsent v s r.answered)
+
+-- .. and with it
+pub rejected_leaves_at : (v : View) (s : Segment) (now : Moment) → fate v s ≡ Rejected → after_segment_at v s now ≡ v
+rejected_leaves_at v s now e =
+    let r = rejects (is_closed v.state) (is_lost v s) (is_over (after_segment v s)) (is_rejected v s) (ends_opening v s) e in
+    ap (λ b. if b then v else timed_by (before v s) (after_heard v s) now) (or_right (is_closed v.state) (is_rejected v s) r.answered)
 
 -- What is CLOSED.
 
-closed_plain : (t : State) → is_closed t ≡ true → (is_opening t ≡ false) × (awaits_fin_ack t ≡ false) × (is_write_finished t ≡ true) × (is_syn_sent t ≡ false)
+pub and_false : (b : Bool) → (b && false) ≡ false
+and_false true = refl
+and_false false = refl
+
+-- no test that makes something due holds but that of a reset
+pub record IsQuiet (v : View) : Type 0 where
+  pub opened : is_opening v.state ≡ false
+  pub mark : v.pace.mark ≡ None
+  pub octets : sendable v.sending ≡ 0
+  pub fin : awaits_fin_ack v.state ≡ false
+  pub probe : probes v ≡ false
+  pub closed : is_closed v.state ≡ true
+  pub ack : v.owes_ack ≡ false
+
+none_new : (octets fin owed probe owes opened closed grown : Bool) (text end : Due) → octets ≡ false → fin ≡ false → probe ≡ false → owes ≡ false → closed ≡ true
+    → (if octets then Some text else if fin then Some end else if owed && probe then Some Probe else if owes || (opened && not closed && grown) then Some Ack else None) ≡ None
+none_new false false true false false true true grown text end o f p a c = refl
+none_new false false true false false false true grown text end o f p a c = refl
+none_new false false false false false true true grown text end o f p a c = refl
+none_new false false false false false false true grown text end o f p a c = refl
+none_new true fin owed probe owes opened closed grown text end o f p a c = cc
+none_new false true owed probe owes opened closed grown text end o f p a c = cc
+none_new false false owed true owes opened closed grown text end o f p a c = cc
+none_new false false owed false true opened closed grown text end o f p a c = cc
+none_new false false owed false false opened false grown text end o f p a c = cc
+
+pub none_due : (v : View) → IsQuiet v → first_due v ≡ (if v.owes_reset then Some Rst else None)
+none_due v quiet =
+    let octets = ap (λ n. nat_lt 0 n && is_worth_sending v.sending v.pace.overridden) quiet.octets in
+    let fin = ap (λ b. b && (outstanding v.sending == length v.sending.held) && nat_lt (outstanding v.sending) v.sending.window) quiet.fin in
+    let new : new_due v ≡ None = none_new _ (sends_fin v) v.pace.owes_probe (probes v) v.owes_ack (not (is_opening v.state)) (is_closed v.state) (has_grown v.receiving) (Text (new_octets v)) (Text (fin_alone v)) octets fin quiet.probe quiet.ack quiet.closed in
+    ap (λ b. if v.owes_reset then Some Rst else if b then (if (outstanding v.sending == 0) || is_some v.pace.mark then Some Syn else ack_due v) else option_or (again_from v v.pace.mark) (new_due v)) quiet.opened
+    ∙ ap (λ m. if v.owes_reset then Some Rst else option_or (again_from v m) (new_due v)) quiet.mark
+    ∙ ap (λ d. if v.owes_reset then Some Rst else d) new
+
+pub closed_plain : (t : State) → is_closed t ≡ true → (is_opening t ≡ false) × (awaits_fin_ack t ≡ false) × (is_write_finished t ≡ true) × (takes_flag_number t ≡ false)
 closed_plain Closed e = (refl, refl, refl, refl)
 closed_plain _ e = cc
 
-idle_is_not_due : (r : Resend) → is_idle r ≡ true → is_due r ≡ false
-idle_is_not_due Idle e = refl
-idle_is_not_due _ e = cc
-
--- nothing is due where no test that makes something due holds
-pub none_due : (owes opening again none some fin ack : Bool) (text : ℕ) (more : Due) → opening ≡ false → again ≡ false → none ≡ true → some ≡ false → fin ≡ false → ack ≡ false
-    → (if owes then Some Rst else if opening then (if none || again then Some Syn else if ack then Some Ack else None) else if again then Some more
-    else if not none then (if ack then Some Ack else None) else if some then Some (Text text) else if fin then Some Fin else if ack then Some Ack else None)
-    ≡ (if owes then Some Rst else None)
-none_due true opening again none some fin ack text more o a n s f k = refl
-none_due false false false true false false false text more o a n s f k = refl
-none_due false true again none some fin ack text more o a n s f k = cc
-none_due false false true none some fin ack text more o a n s f k = cc
-none_due false false false false some fin ack text more o a n s f k = cc
-none_due false false false true true fin ack text more o a n s f k = cc
-none_due false false false true false true ack text more o a n s f k = cc
-none_due false false false true false false true text more o a n s f k = cc
-
-pub closed_owes : (v : View) → IsSound v → is_closed v.state ≡ true → first_due v ≡ (if v.owes_reset then Some Rst else None)
-closed_owes v sound closed =
+-- nothing is held or outstanding where all is closed
+pub closed_holds : (v : View) → IsSound v → is_closed v.state ≡ true → (length v.sending.held ≡ 0) × (outstanding v.sending ≡ 0)
+closed_holds v sound closed =
     let plain = closed_plain v.state closed in
     let held : length v.sending.held ≤ 0 = subst (λ b. length v.sending.held ≤ (if b then 0 else 65535)) (ap (λ b. b || is_write_finished v.state) plain.0 ∙ plain.2) sound.held in
-    let fin : is_fin_next v ≡ false = ap (λ b. b && (length v.sending.held == 0)) plain.1 in
-    let flight : outstanding v.sending ≤ min (length v.sending.held) 1460 =
-    subst (λ b. outstanding v.sending ≤ (if b then 1 else min (length v.sending.held) 1460)) (ap (λ b. b || is_fin_next v) plain.0 ∙ fin) sound.flight in
-    let zero_out : outstanding v.sending ≡ 0 = omega (arith, held, flight) in
-    let none : (outstanding v.sending == 0) ≡ true = ap (λ n. n == 0) zero_out in
-    let none_sendable : sendable v.sending ≡ 0 = omega (arith, held) in
-    let ack : v.owes_ack ≡ false = sym (ap (λ b. (b || is_closed v.state) && v.owes_ack) plain.3 ∙ ap (λ b. b && v.owes_ack) closed) ∙ sound.ack in
-    none_due v.owes_reset (is_opening v.state) (is_due v.resend) (outstanding v.sending == 0) (nat_lt 0 (sendable v.sending)) (is_fin_next v) v.owes_ack (sendable v.sending) (again v)
-    plain.0 (idle_is_not_due v.resend (sound.timer ∙ none)) none (ap (λ n. nat_lt 0 n) none_sendable) fin ack
+    let flight : outstanding v.sending ≤ length v.sending.held + 0 = subst (λ b. outstanding v.sending ≤ length v.sending.held + (if b then 1 else 0)) plain.3 sound.flight in
+    (omega (arith, held), omega (arith, held, flight))
+
+none_below : (o : Option ℕ) (n : ℕ) → n ≡ 0 → ((distance : ℕ) → o ≡ Some distance → distance < n) → o ≡ None
+none_below None n none below = refl
+none_below (Some distance) n none below = let within = below distance refl in absurd (omega (arith, none, within))
+
+owes_none : (sent closed owes delays : Bool) → closed ≡ true → ((sent || closed) && (owes || delays)) ≡ false → owes ≡ false
+owes_none sent true false delays c e = refl
+owes_none true true true delays c e = cc
+owes_none false true true delays c e = cc
+owes_none sent false owes delays c e = cc
+
+pub closed_quiet : (v : View) → IsSound v → is_closed v.state ≡ true → IsQuiet v
+closed_quiet v sound closed =
+    let plain = closed_plain v.state closed in
+    let holds = closed_holds v sound closed in
+    let probe : probes v ≡ (not (is_opening v.state) && (v.sending.window == 0) && false) =
+    ap (λ n. not (is_opening v.state) && (v.sending.window == 0) && (not (n == 0) || awaits_fin_ack v.state)) holds.0
+    ∙ ap (λ b. not (is_opening v.state) && (v.sending.window == 0) && b) plain.1 in
+    record {
+      opened = plain.0;
+      mark = none_below v.pace.mark (outstanding v.sending) holds.1 sound.mark;
+      octets = omega (arith, holds.0);
+      fin = plain.1;
+      probe = probe ∙ and_false (not (is_opening v.state) && (v.sending.window == 0));
+      closed = closed;
+      ack = owes_none (is_syn_sent v.state) (is_closed v.state) v.owes_ack v.delays_ack closed sound.ack;
+    }
+
+pub closed_owes : (v : View) → IsSound v → is_closed v.state ≡ true → first_due v ≡ (if v.owes_reset then Some Rst else None)
+closed_owes v sound closed = none_due v (closed_quiet v sound closed)

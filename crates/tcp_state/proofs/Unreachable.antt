@@ -1,21 +1,24 @@
 -- Why an error that a segment can't be delivered ends the opening whose SYN that is, and nothing else.
-use Rattle.std.proofs.Common.{◌≡◌, ◌≢◌, ℕ, ◌^◌, ◌<◌, ◌≤◌, ◌==◌, ◌&&◌, not, if◌then◌else◌, Bool, true, false, List, [], ◌∷◌, length, Some, None, inl, inr, nat_lt, arith, refl, sym, ◌∙◌, ap, subst}
+use Rattle.std.proofs.Common.{◌≡◌, ◌≢◌, ℕ, ◌^◌, ◌<◌, ◌≤◌, ◌==◌, ◌&&◌, not, if◌then◌else◌, Bool, true, false, List, [], ◌∷◌, length, Option, Some, None, inl, inr, nat_lt, arith, refl, sym, ◌∙◌, ap, subst}
 use Rattle.std.proofs.lemmas.Bool.Decides.{eqb_tells}
+use Rattle.clock.specs.declared.moment.Moment.{Moment}
+use Rattle.retransmit.specs.Deadlines.{no_timers}
 use Rattle.tcp_segment.specs.Wire.{past}
+use Rattle.tcp_state.specs.declared.timing.TheConstants.{OVERRIDE}
 use Rattle.tcp_state.specs.declared.calls.Refusal.TheVariants.{ECONNREFUSED}
 use Rattle.tcp_state.specs.declared.connection.Fate.TheVariants.{Stays, Removed}
-use Rattle.tcp_state.specs.declared.emission.Due.TheVariants.{Rst}
+use Rattle.tcp_state.specs.declared.emission.Due.TheVariants.{Rst, Text}
 use Rattle.tcp_state.specs.declared.state.State.{State}
 use Rattle.tcp_state.specs.declared.state.State.TheVariants.{SynSent}
 use Rattle.tcp_state.specs.Stream.{outstanding}
-use Rattle.tcp_state.specs.Windows.{sendable}
-use Rattle.tcp_state.specs.View.{View, IsSound, is_opening, is_syn_sent, is_closed, is_write_closed, is_over}
-use Rattle.tcp_state.specs.Arrival.{after_reset}
-use Rattle.tcp_state.specs.Due.{first_due, again}
+use Rattle.tcp_state.specs.Windows.{sendable, is_worth_sending}
+use Rattle.tcp_state.specs.View.{View, IsSound, is_opening, is_syn_sent, is_closed, is_write_closed, after_stop, after_reset, is_over}
+use Rattle.tcp_state.specs.Pace.{Pace, stopped}
+use Rattle.tcp_state.specs.Timing.{probes, retransmits, awaits_more, running, retransmission_timer, probe_timer, override_timer, clocked}
+use Rattle.tcp_state.specs.Due.{first_due, new_octets, sends_new, new_due}
 use Rattle.tcp_state.specs.Edges.{Unreachable, after_event, fate_by}
 use Rattle.tcp_state.specs.Unreachable.{is_unreachable, after_unreachable, IsRefused}
 use Rattle.tcp_state.proofs.Causes.{both, of_false}
-use Rattle.tcp_state.proofs.Unchanged.{none_due}
 
 -- what the error doesn't hit stays
 unhit : (v : View) (number : ℕ) → is_unreachable v number ≡ false → after_unreachable v number ≡ v
@@ -25,7 +28,7 @@ no_opening : (t : State) → t ≢ SynSent → is_syn_sent t ≡ false
 no_opening SynSent past = absurd (past refl)
 no_opening _ past = refl
 
-and_no : (a b : Bool) → b ≡ false → (a && b) ≡ false
+pub and_no : (a b : Bool) → b ≡ false → (a && b) ≡ false
 and_no true b e = e
 and_no false b e = refl
 
@@ -87,17 +90,33 @@ hit v sound waits sent =
     equal n = elim (eqb_tells n n) [ inl same ↦ same.0 | inr other ↦ absurd (other.1 refl) ]
 
 -- of what is CLOSED and owes no reset nothing is due
-pub silent : (v : View) → IsSound v → v.owes_reset ≡ false → first_due (after_reset v (Some ECONNREFUSED)) ≡ None
-silent v sound quiet =
-    let w = after_reset v (Some ECONNREFUSED) in
-    let none : (outstanding w.sending == 0) ≡ true = ap (λ n. n == 0) (none_outstanding_at v.sending.nxt sound.nxt) in
+pub silent : (v : View) (pace : Pace) → v.owes_reset ≡ false → pace.mark ≡ None → pace.owes_probe ≡ false → first_due (record (after_stop v) { pace = pace }) ≡ None
+silent v pace quiet unmarked unprobed =
+    let w = record (after_stop v) { pace = record pace { mark = None; owes_probe = false } } in
+    let same : record (after_stop v) { pace = pace } ≡ w = rw unmarked (rw unprobed refl) in
     let least : sendable w.sending ≡ 0 = omega arith in
-    let text : nat_lt 0 (sendable w.sending) ≡ false = ap (λ n. nat_lt 0 n) least in
-    none_due v.owes_reset false false (outstanding w.sending == 0) (nat_lt 0 (sendable w.sending)) false false (sendable w.sending) (again w) refl refl none text refl refl
-    ∙ ap (λ b. if b then Some Rst else None) quiet
+    let none_new : sends_new w ≡ false = ap (λ n. nat_lt 0 n && is_worth_sending w.sending w.pace.overridden) least in
+    ap first_due same ∙ (ap (λ b. if b then Some Rst else new_due w) quiet ∙ ap (λ b. if b then Some (Text (new_octets w)) else None) none_new)
+
+none_run : (resend probe overriding : Option Moment) → resend ≡ None → probe ≡ None → overriding ≡ None
+    → record { retransmission = resend; probe = probe; delayed_ack = None; overriding = overriding } ≡ no_timers
+none_run resend probe overriding a b c = rw a (rw b (rw c refl))
+
+-- no timer of it runs
+pub at_rest : (v : View) (pace : Pace) (moved : Bool) (now : Moment) → v.sending.nxt < 2 ^ 32 → (clocked moved (record (after_stop v) { pace = pace }) now).timers ≡ no_timers
+at_rest v pace moved now fits =
+    let w = record (after_stop v) { pace = pace } in
+    let idle : probes w ≡ false = and_no (v.sending.window == 0) false refl in
+    let none_out : retransmits w ≡ false = ap (λ n. nat_lt 0 n && not (probes w)) (none_outstanding_at v.sending.nxt fits) in
+    let least : sendable w.sending ≡ 0 = omega arith in
+    let content : awaits_more w ≡ false = ap (λ n. nat_lt 0 n && not (is_worth_sending w.sending pace.overridden)) least in
+    none_run (retransmission_timer w moved now) (probe_timer w now) (override_timer w now)
+    (ap (λ b. if b then running (if moved then None else None) now pace.timeout.rto else None) none_out)
+    (ap (λ b. if b then running None now pace.timeout.rto else None) idle)
+    (ap (λ b. if b then running None now OVERRIDE else None) content)
 
 refused : (v : View) → IsSound v → IsOpening v → IsRefused (after_reset v (Some ECONNREFUSED))
-refused v sound o = record { closed = refl; send = λ octets. refl; recv = λ len. refl; held = refl; readable = o.readable; due = silent v sound o.quiet; timer = refl }
+refused v sound o = record { closed = refl; send = λ octets. refl; recv = λ len. refl; held = refl; readable = o.readable; due = silent v (stopped v.pace) o.quiet refl refl; timer = refl }
 
 pub opening_ends : (v : View) → IsSound v → v.state ≡ SynSent → v.sending.nxt ≢ v.sending.una
     → IsRefused (after_event v (Unreachable v.sending.una)) × (fate_by v (Unreachable v.sending.una) ≡ Stays)

@@ -1,48 +1,66 @@
--- Why what is held goes out while the peer's window is open.
-use Rattle.std.proofs.Common.{◌≡◌, ◌<◌, ◌≤◌, ◌==◌, ◌||◌, ◌&&◌, ◌⊎◌, not, nat_lt, if◌then◌else◌, Bool, true, false, length, Option, Some, None, inl, inr, arith, refl, ◌∙◌, ap, subst, is_some}
-use Rattle.std.proofs.lemmas.Bool.{lt-ltb}
+-- Why what is held goes out, whatever the peer's window.
+use Rattle.std.proofs.Common.{◌≡◌, ℕ, ◌<◌, ◌==◌, ◌||◌, ◌&&◌, not, nat_lt, if◌then◌else◌, Bool, true, false, length, Option, Some, None, inl, inr, arith, refl, sym, ◌∙◌, ap, is_some}
+use Rattle.std.proofs.lemmas.Bool.{lt-ltb, eq-eqb}
 use Rattle.std.proofs.lemmas.Bool.Decides.{eqb_tells}
+use Rattle.std.specs.Option.{option_or}
 use Rattle.clock.specs.declared.moment.Moment.{Moment}
 use Rattle.clock.specs.Moments.{sooner}
-use Rattle.tcp_state.specs.declared.connection.Resend.{Resend}
-use Rattle.tcp_state.specs.declared.connection.Resend.TheVariants.{Idle, At, Due}
-use Rattle.tcp_state.specs.declared.state.State.{State}
-use Rattle.tcp_state.specs.declared.state.State.TheVariants.{Closed}
-use Rattle.tcp_state.specs.declared.emission.Due.{Due as Segment}
-use Rattle.tcp_state.specs.declared.emission.Due.TheVariants.{Rst, Syn, Text, Fin}
+use Rattle.retransmit.specs.Deadlines.{next_of}
+use Rattle.tcp_state.specs.declared.emission.Due.{Due}
+use Rattle.tcp_state.specs.declared.emission.Due.TheVariants.{Rst, Syn, Text, Probe}
 use Rattle.tcp_state.specs.Stream.{outstanding}
-use Rattle.tcp_state.specs.Windows.{sendable}
-use Rattle.tcp_state.specs.View.{View, IsSound, is_opening, is_closed, awaits_fin_ack, is_write_finished, is_due, is_idle, resend_at, ends_at, deadline, is_fin_next}
-use Rattle.tcp_state.specs.Due.{first_due, ack_due, again}
+use Rattle.tcp_state.specs.Windows.{sendable, is_worth_sending}
+use Rattle.tcp_state.specs.View.{View, IsSound, is_opening, is_closed, awaits_fin_ack, ends_at}
+use Rattle.tcp_state.specs.Timing.{KeepsTime, has_unacknowledged, probes, deadline}
+use Rattle.tcp_state.specs.Due.{first_due, ack_due, again, goes_again, again_from, sends_new, new_octets, sends_fin, fin_alone, new_due}
 use Rattle.tcp_state.specs.Positions.{HasToSend, takes_numbers}
 use Rattle.tcp_state.proofs.Edges.{either}
-use Rattle.tcp_state.proofs.Causes.{or_left, or_right, both, by}
-use Rattle.tcp_state.proofs.Unchanged.{clash}
+use Rattle.tcp_state.proofs.Causes.{or_left, or_right, both, by, of_false}
+use Rattle.tcp_state.proofs.Unchanged.{clash, and_false, closed_plain, closed_holds}
 
--- a timer that runs has come, or has a moment
-running : (r : Resend) → is_idle r ≡ false → (is_due r ≡ true) ⊎ (is_some (resend_at r) ≡ true)
-running Idle e = cc
-running (At moment) e = inr refl
-running Due e = inl refl
+-- Timers.
 
-sooner_some : (a b : Option Moment) → is_some a ≡ true → is_some (sooner a b) ≡ true
-sooner_some None b e = cc
-sooner_some (Some m) None e = refl
-sooner_some (Some m) (Some n) e = either (Option Moment) (λ o. is_some o ≡ true) _ (Some m) (Some n) (λ first. refl) (λ second. refl)
+sooner_left : (a b : Option Moment) → is_some a ≡ true → is_some (sooner a b) ≡ true
+sooner_left None b e = cc
+sooner_left (Some m) None e = refl
+sooner_left (Some m) (Some n) e = either (Option Moment) (λ o. is_some o ≡ true) _ (Some m) (Some n) (λ first. refl) (λ second. refl)
+
+sooner_right : (a b : Option Moment) → is_some b ≡ true → is_some (sooner a b) ≡ true
+sooner_right None b e = e
+sooner_right (Some m) None e = cc
+sooner_right (Some m) (Some n) e = sooner_left (Some m) (Some n) refl
+
+-- a timer that runs has a moment
+retransmission_told : (v : View) → is_some v.timers.retransmission ≡ true → is_some (deadline v) ≡ true
+retransmission_told v runs =
+    let t = v.timers in
+    sooner_left (next_of t) (ends_at v) (sooner_left (sooner t.retransmission t.probe) (sooner t.delayed_ack t.overriding) (sooner_left t.retransmission t.probe runs))
+
+probe_told : (v : View) → is_some v.timers.probe ≡ true → is_some (deadline v) ≡ true
+probe_told v runs =
+    let t = v.timers in
+    sooner_left (next_of t) (ends_at v) (sooner_left (sooner t.retransmission t.probe) (sooner t.delayed_ack t.overriding) (sooner_right t.retransmission t.probe runs))
+
+override_told : (v : View) → is_some v.timers.overriding ≡ true → is_some (deadline v) ≡ true
+override_told v runs =
+    let t = v.timers in
+    sooner_left (next_of t) (ends_at v) (sooner_right (sooner t.retransmission t.probe) (sooner t.delayed_ack t.overriding) (sooner_right t.delayed_ack t.overriding runs))
+
+-- what is outstanding and not probed with runs the retransmission timer
+outstanding_told : (v : View) → KeepsTime v → (outstanding v.sending == 0) ≡ false → probes v ≡ false → is_some (deadline v) ≡ true
+outstanding_told v keeps some unprobed =
+    let more : 0 < outstanding v.sending = elim (eqb_tells (outstanding v.sending) 0) [ inl t ↦ clash (outstanding v.sending == 0) t.0 some | inr t ↦ omega (arith, t.1) ] in
+    retransmission_told v (keeps.retransmission ∙ both (nat_lt 0 (outstanding v.sending)) (not (probes v)) (lt-ltb 0 (outstanding v.sending) more) (of_false (probes v) unprobed))
 
 -- A reset is owed only where nothing waits.
 
-closed_waits_not : (t : State) → is_closed t ≡ true → (is_opening t ≡ false) × (awaits_fin_ack t ≡ false) × (is_write_finished t ≡ true)
-closed_waits_not Closed e = (refl, refl, refl)
-closed_waits_not _ e = cc
-
 closed_has_none : (v : View) → IsSound v → is_closed v.state ≡ true → HasToSend v → ⊥
 closed_has_none v sound closed has =
-    let t = closed_waits_not v.state closed in
-    let held : length v.sending.held ≤ 0 = subst (λ b. length v.sending.held ≤ (if b then 0 else 65535)) (ap (λ b. b || is_write_finished v.state) t.0 ∙ t.2) sound.held in
+    let plain = closed_plain v.state closed in
+    let none = (closed_holds v sound closed).0 in
     elim has [
-      | inl opening ↦ clash (is_opening v.state) opening t.0
-      | inr sends ↦ elim sends.1 [ inl some ↦ omega (arith, held, some) | inr waits ↦ clash (awaits_fin_ack v.state) waits t.1 ]
+      | inl opening ↦ clash (is_opening v.state) opening plain.0
+      | inr sends ↦ elim sends [ inl some ↦ omega (arith, none, some) | inr waits ↦ clash (awaits_fin_ack v.state) waits plain.1 ]
     ]
 
 owed_where_closed : (owes closed released : Bool) → (owes && not (closed && released)) ≡ false → owes ≡ true → closed ≡ true
@@ -54,71 +72,101 @@ no_reset : (v : View) → IsSound v → HasToSend v → v.owes_reset ≡ false
 no_reset v sound has =
     by (v.owes_reset ≡ false) v.owes_reset (λ owes. absurd (closed_has_none v sound (owed_where_closed v.owes_reset (is_closed v.state) v.released sound.reset owes) has)) (λ none. none)
 
--- what is due where a reset is not
-due_past_reset : (v : View) (P : Option Segment → Type 0) → v.owes_reset ≡ false
-    → P (
-    if is_opening v.state then (if (outstanding v.sending == 0) || is_due v.resend then Some Syn else ack_due v)
-    else if is_due v.resend then Some (again v)
-    else if not (outstanding v.sending == 0) then ack_due v
-    else if nat_lt 0 (sendable v.sending) then Some (Text (sendable v.sending))
-    else if is_fin_next v then Some Fin
-    else ack_due v
-    ) → P (first_due v)
-due_past_reset v P none rest = either (Option Segment) P v.owes_reset (Some Rst) _ (λ owes. clash v.owes_reset owes none) (λ past. rest)
+-- While the connection opens.
 
--- the SYN is due where it has not gone out, or goes out again
-syn_due : (v : View) → ((outstanding v.sending == 0) || is_due v.resend) ≡ true → takes_numbers (if (outstanding v.sending == 0) || is_due v.resend then Some Syn else ack_due v) ≡ true
-syn_due v goes =
-    either (Option Segment) (λ o. takes_numbers o ≡ true) ((outstanding v.sending == 0) || is_due v.resend) (Some Syn) (ack_due v) (λ sends. refl)
-    (λ waits. clash ((outstanding v.sending == 0) || is_due v.resend) goes waits)
+opening_unprobed : (v : View) → is_opening v.state ≡ true → probes v ≡ false
+opening_unprobed v opening = ap (λ b. not b && (v.sending.window == 0) && has_unacknowledged v) opening
 
-again_due : (v : View) → takes_numbers (Some (again v)) ≡ true
-again_due v = either Segment (λ d. takes_numbers (Some d) ≡ true) (is_fin_next v) Fin (Text (outstanding v.sending)) (λ fin. refl) (λ text. refl)
+syn_due : (v : View) → v.owes_reset ≡ false → is_opening v.state ≡ true → (outstanding v.sending == 0) ≡ true → takes_numbers (first_due v) ≡ true
+syn_due v none opening unsent =
+    let rest = option_or (again_from v v.pace.mark) (new_due v) in
+    let P : Option Due → Type 0 = λ o. takes_numbers o ≡ true in
+    either (Option Due) P v.owes_reset (Some Rst) _ (λ owes. clash v.owes_reset owes none)
+    (λ past. either (Option Due) P (is_opening v.state) _ rest
+    (λ opens. either (Option Due) P ((outstanding v.sending == 0) || is_some v.pace.mark) (Some Syn) (ack_due v) (λ goes. refl)
+    (λ waits. clash ((outstanding v.sending == 0) || is_some v.pace.mark) (or_left (outstanding v.sending == 0) (is_some v.pace.mark) unsent) waits))
+    (λ opened. clash (is_opening v.state) opening opened))
 
--- what is due again goes first
-due_again : (v : View) → v.owes_reset ≡ false → is_due v.resend ≡ true → takes_numbers (first_due v) ≡ true
-due_again v none goes =
-    let P : Option Segment → Type 0 = λ o. takes_numbers o ≡ true in
-    due_past_reset v P none (either (Option Segment) P (is_opening v.state) _ _
-    (λ opening. syn_due v (or_right (outstanding v.sending == 0) (is_due v.resend) goes))
-    (λ opened. either (Option Segment) P (is_due v.resend) (Some (again v)) _ (λ resends. again_due v) (λ still. clash (is_due v.resend) goes still)))
+opening_goes : (v : View) → IsSound v → KeepsTime v → HasToSend v → is_opening v.state ≡ true → (takes_numbers (first_due v) || is_some (deadline v)) ≡ true
+opening_goes v sound keeps has opening =
+    by ((takes_numbers (first_due v) || is_some (deadline v)) ≡ true) (outstanding v.sending == 0)
+    (λ unsent. or_left (takes_numbers (first_due v)) (is_some (deadline v)) (syn_due v (no_reset v sound has) opening unsent))
+    (λ sent. or_right (takes_numbers (first_due v)) (is_some (deadline v)) (outstanding_told v keeps sent (opening_unprobed v opening)))
 
-open_window : (v : View) → IsSound v → 0 < v.sending.window → 0 < length v.sending.held → nat_lt 0 (sendable v.sending) ≡ true
-open_window v sound window held = lt-ltb 0 (sendable v.sending) (omega (arith, window, held, sound.segment_least))
+-- Past the opening.
 
--- where neither octets nor the FIN are due, nothing waits
-nothing_waits : (v : View) → IsSound v → is_opening v.state ≡ false → nat_lt 0 (sendable v.sending) ≡ false → is_fin_next v ≡ false → HasToSend v → ⊥
-nothing_waits v sound opened no_text no_fin has =
+-- what goes out again is before what is new
+new_goes : (v : View) → v.owes_reset ≡ false → is_opening v.state ≡ false → takes_numbers (new_due v) ≡ true → takes_numbers (first_due v) ≡ true
+new_goes v none opened new =
+    let P : Option Due → Type 0 = λ o. takes_numbers o ≡ true in
+    either (Option Due) P v.owes_reset (Some Rst) _ (λ owes. clash v.owes_reset owes none)
+    (λ past. either (Option Due) P (is_opening v.state) _ _ (λ opens. clash (is_opening v.state) opens opened) (λ opens_not. marked v.pace.mark))
+  where
+    marked : (mark : Option ℕ) → takes_numbers (option_or (again_from v mark) (new_due v)) ≡ true
+    marked None = new
+    marked (Some mark) = either (Option Due) (λ o. takes_numbers (option_or o (new_due v)) ≡ true) (goes_again v mark) (Some (Text (again v mark))) None (λ goes. refl) (λ waits. new)
+
+octets_go : (v : View) → sends_new v ≡ true → takes_numbers (new_due v) ≡ true
+octets_go v sends =
+    ap (λ b. takes_numbers (if b then Some (Text (new_octets v)) else if sends_fin v then Some (Text (fin_alone v)) else if v.pace.owes_probe && probes v then Some Probe else ack_due v)) sends
+
+fin_goes : (v : View) → sends_fin v ≡ true → takes_numbers (new_due v) ≡ true
+fin_goes v sends =
+    let P : Option Due → Type 0 = λ o. takes_numbers o ≡ true in
+    either (Option Due) P (sends_new v) (Some (Text (new_octets v))) _ (λ octets. refl)
+    (λ no_octets. either (Option Due) P (sends_fin v) (Some (Text (fin_alone v))) _ (λ fin. refl) (λ no_fin. clash (sends_fin v) sends no_fin))
+
+-- octets may go out, and do or wait for more
+sendable_goes : (v : View) → v.owes_reset ≡ false → KeepsTime v → is_opening v.state ≡ false → 0 < sendable v.sending → (takes_numbers (first_due v) || is_some (deadline v)) ≡ true
+sendable_goes v none keeps opened some =
+    let goes = nat_lt 0 (sendable v.sending) in
+    let worth = is_worth_sending v.sending v.pace.overridden in
+    let may : goes ≡ true = lt-ltb 0 (sendable v.sending) some in
+    by ((takes_numbers (first_due v) || is_some (deadline v)) ≡ true) worth
+    (λ is. or_left (takes_numbers (first_due v)) (is_some (deadline v)) (new_goes v none opened (octets_go v (both goes worth may is))))
+    (λ is_not. or_right (takes_numbers (first_due v)) (is_some (deadline v)) (override_told v (keeps.overriding (both (not (is_opening v.state)) (goes && not worth) (of_false (is_opening v.state) opened) (both goes (not worth) may (of_false worth is_not))))))
+
+-- the window is closed, and probed
+closed_window : (v : View) → KeepsTime v → is_opening v.state ≡ false → (v.sending.window == 0) ≡ true → has_unacknowledged v ≡ true → is_some (deadline v) ≡ true
+closed_window v keeps opened shut has =
+    let both_tests = both (not (is_opening v.state)) (v.sending.window == 0) (of_false (is_opening v.state) opened) shut in
+    probe_told v (keeps.probe ∙ both (not (is_opening v.state) && (v.sending.window == 0)) (has_unacknowledged v) both_tests has)
+
+-- the window is open: what is outstanding runs the retransmission timer, and else octets or the FIN may go out
+open_window : (v : View) → IsSound v → v.owes_reset ≡ false → KeepsTime v → is_opening v.state ≡ false → (v.sending.window == 0) ≡ false → has_unacknowledged v ≡ true
+    → (takes_numbers (first_due v) || is_some (deadline v)) ≡ true
+open_window v sound none keeps opened wide has =
+    let goal : Type 0 = (takes_numbers (first_due v) || is_some (deadline v)) ≡ true in
+    let room : 0 < v.sending.window = elim (eqb_tells v.sending.window 0) [ inl t ↦ clash (v.sending.window == 0) t.0 wide | inr t ↦ omega (arith, t.1) ] in
+    let unprobed : probes v ≡ false = ap (λ b. not (is_opening v.state) && b && has_unacknowledged v) wide ∙ ap (λ b. b && has_unacknowledged v) (and_false (not (is_opening v.state))) in
+    elim (eqb_tells (outstanding v.sending) 0) [
+      | inr some ↦ or_right (takes_numbers (first_due v)) (is_some (deadline v)) (outstanding_told v keeps some.0 unprobed)
+      | inl idle ↦ elim (eqb_tells (length v.sending.held) 0) [
+        | inr octets ↦ sendable_goes v none keeps opened (omega (arith, room, idle.1, octets.1))
+        | inl empty ↦
+            let waits : awaits_fin_ack v.state ≡ true = sym (ap (λ b. not b || awaits_fin_ack v.state) empty.0) ∙ has in
+            let all = outstanding v.sending == length v.sending.held in
+            let sends : sends_fin v ≡ true = both (awaits_fin_ack v.state && all) (nat_lt (outstanding v.sending) v.sending.window)
+            (both (awaits_fin_ack v.state) all waits (eq-eqb (outstanding v.sending) (length v.sending.held) (omega (arith, idle.1, empty.1)))) (lt-ltb (outstanding v.sending) v.sending.window (omega (arith, idle.1, room))) in
+            or_left (takes_numbers (first_due v)) (is_some (deadline v)) (new_goes v none opened (fin_goes v sends))
+      ]
+    ]
+
+unacknowledged : (v : View) → is_opening v.state ≡ false → HasToSend v → has_unacknowledged v ≡ true
+unacknowledged v opened has =
+    let some = not (length v.sending.held == 0) in
     elim has [
       | inl opening ↦ clash (is_opening v.state) opening opened
-      | inr sends ↦ elim sends.1 [
-        | inl held ↦ clash (nat_lt 0 (sendable v.sending)) (open_window v sound sends.0 held) no_text
-        | inr waits ↦ elim (eqb_tells (length v.sending.held) 0) [
-          | inl empty ↦ clash (is_fin_next v) (both (awaits_fin_ack v.state) (length v.sending.held == 0) waits empty.0) no_fin
-          | inr some ↦ clash (nat_lt 0 (sendable v.sending)) (open_window v sound sends.0 (omega (arith, some.1))) no_text
-        ]
+      | inr sends ↦ elim sends [
+        | inl held ↦ or_left some (awaits_fin_ack v.state) (elim (eqb_tells (length v.sending.held) 0) [ inl t ↦ absurd (omega (arith, held, t.1)) | inr t ↦ of_false (length v.sending.held == 0) t.0 ])
+        | inr waits ↦ or_right some (awaits_fin_ack v.state) waits
       ]
     ]
 
--- nothing is outstanding: the SYN, the octets that are held or the FIN behind them are due
-due_first : (v : View) → IsSound v → (outstanding v.sending == 0) ≡ true → HasToSend v → takes_numbers (first_due v) ≡ true
-due_first v sound idle has =
-    let P : Option Segment → Type 0 = λ o. takes_numbers o ≡ true in
-    due_past_reset v P (no_reset v sound has) (either (Option Segment) P (is_opening v.state) _ _
-    (λ opening. syn_due v (or_left (outstanding v.sending == 0) (is_due v.resend) idle))
-    (λ opened. either (Option Segment) P (is_due v.resend) (Some (again v)) _ (λ resends. again_due v)
-    (λ still. either (Option Segment) P (not (outstanding v.sending == 0)) (ack_due v) _ (λ some. clash (not (outstanding v.sending == 0)) some (ap not idle))
-    (λ none. either (Option Segment) P (nat_lt 0 (sendable v.sending)) (Some (Text (sendable v.sending))) _ (λ text. refl)
-    (λ no_text. either (Option Segment) P (is_fin_next v) (Some Fin) (ack_due v) (λ fin. refl) (λ no_fin. absurd (nothing_waits v sound opened no_text no_fin has)))))))
-
-pub goes_out : (v : View) → IsSound v → HasToSend v → (takes_numbers (first_due v) || is_some (deadline v)) ≡ true
-goes_out v sound has =
-    let due = takes_numbers (first_due v) in
-    let timed = is_some (deadline v) in
-    elim (eqb_tells (outstanding v.sending) 0) [
-      | inl none ↦ or_left due timed (due_first v sound none.0 has)
-      | inr some ↦ elim (running v.resend (sound.timer ∙ some.0)) [
-        | inl goes ↦ or_left due timed (due_again v (no_reset v sound has) goes)
-        | inr waits ↦ or_right due timed (sooner_some (resend_at v.resend) (ends_at v) waits)
-      ]
-    ]
+pub goes_out : (v : View) → IsSound v → KeepsTime v → HasToSend v → (takes_numbers (first_due v) || is_some (deadline v)) ≡ true
+goes_out v sound keeps has =
+    let goal : Type 0 = (takes_numbers (first_due v) || is_some (deadline v)) ≡ true in
+    by goal (is_opening v.state) (opening_goes v sound keeps has)
+    (λ opened. by goal (v.sending.window == 0)
+    (λ shut. or_right (takes_numbers (first_due v)) (is_some (deadline v)) (closed_window v keeps opened shut (unacknowledged v opened has)))
+    (λ wide. open_window v sound (no_reset v sound has) keeps opened wide (unacknowledged v opened has)))

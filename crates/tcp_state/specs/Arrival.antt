@@ -1,5 +1,5 @@
 -- What an arriving segment makes of a connection, step by step (RFC 9293 section 3.10.7).
-use Rattle.std.specs.Prelude.{ℕ, ◌+◌, ◌%◌, ◌^◌, ◌==◌, ◌&&◌, ◌||◌, not, Bool, true, false, if◌then◌else◌, length, Option, Some, None}
+use Rattle.std.specs.Prelude.{ℕ, ◌+◌, ◌%◌, ◌^◌, ◌==◌, ◌&&◌, ◌||◌, not, nat_lt, Bool, true, false, if◌then◌else◌, length, Option, Some, None}
 use Rattle.tcp_state.specs.declared.calls.Refusal.{Refusal}
 use Rattle.tcp_state.specs.declared.calls.Refusal.TheVariants.{ECONNREFUSED, ECONNRESET}
 use Rattle.ipv4.specs.declared.addr.Endpoint.{Endpoint}
@@ -9,12 +9,17 @@ use Rattle.tcp_state.specs.declared.connection.Fate.{Fate}
 use Rattle.tcp_state.specs.declared.connection.Fate.TheVariants.{Stays, Removed, Rejected}
 use Rattle.tcp_state.specs.declared.buffers.TheConstants.{CAPACITY}
 use Rattle.clock.specs.declared.moment.Moment.{Moment}
-use Rattle.tcp_state.specs.declared.connection.Resend.TheVariants.{Idle, Due}
 use Rattle.tcp_state.specs.declared.state.State.{State}
 use Rattle.tcp_state.specs.declared.state.State.TheVariants.{SynSent, SynReceived, Established, FinWait1, FinWait2, CloseWait, Closing, LastAck, TimeWait, Closed}
 use Rattle.tcp_state.specs.Stream.{outstanding, is_new_ack, sending_from, receiving_nothing, after_syn_acknowledged, after_acknowledged, is_in_window, is_acceptable, after_syn, after_octets, stands_next, after_end}
 use Rattle.tcp_state.specs.Windows.{after_syn_heard, after_window_update}
-use Rattle.tcp_state.specs.View.{View, is_syn_sent, is_syn_received, is_closed, is_fin_wait_2, is_time_wait, is_fin_next, after_stop, is_over}
+use Rattle.tcp_state.specs.View.{View, is_opening, is_syn_sent, is_syn_received, is_closed, is_fin_wait_2, is_time_wait, awaits_fin_ack, after_reset, is_over}
+use Rattle.tcp_state.specs.Pace.{Pace, first_pace, stopped, mark_past, mark_moved, unmarked, pace_acknowledged}
+use Rattle.tcp_state.specs.Timing.{clocked}
+use Rattle.retransmit.specs.Deadlines.{no_timers}
+use Rattle.stream_buf.specs.Receiving.{ranges}
+use Rattle.tcp_segment.specs.Wire.{past}
+use Rattle.tcp_state.specs.declared.arrival.Before.{Before}
 use Rattle.tcp_state.specs.Calls.{aborted}
 
 abbrev pub owing_ack : View → View
@@ -30,18 +35,16 @@ opened_passively local peer isn syn = record {
   sending = after_syn_heard (sending_from isn) syn.number syn.window (smss_of syn);
   receiving = after_syn receiving_nothing syn.number 0;
   owes_ack = false;
-  resend = Idle;
+  delays_ack = false;
+  pace = first_pace;
+  timers = no_timers;
   pending_error = None;
   released = false;
   owes_reset = false;
   since = record { 0 = 0 };
 }
 
--- A reset ends the connection: what is held goes out no more, nothing is owed, and every call reports why from now on.
-abbrev pub after_reset : View → Option Refusal → View
-after_reset v error = record (after_stop v) { pending_error = error }
-
--- why, by the state that it ends: refused while it opens, reset while octets may still come or go; else both sides were closed
+-- Why a reset ends the connection, by the state that it ends: refused while it opens, reset while octets may still come or go; else both sides were closed
 abbrev pub reset_error : State → Option Refusal
 reset_error SynSent = Some ECONNREFUSED
 reset_error SynReceived = Some ECONNREFUSED
@@ -67,7 +70,7 @@ after_syn_ack v s =
       sending = after_syn_acknowledged (after_syn_heard v.sending s.number s.window (smss_of s));
       receiving = after_syn v.receiving s.number CAPACITY;
       owes_ack = true;
-      resend = Idle;
+      pace = unmarked v.pace;
     } else v
 
 -- .. or one without ACK, of a peer that opens at the same time (section 3.5, figure 7): a SYN-ACK is due, with the number of our SYN. That had advertised the
@@ -80,7 +83,7 @@ after_simultaneous_syn v s = record v {
   state = SynReceived;
   sending = after_syn_heard v.sending s.number s.window (smss_of s);
   receiving = after_syn v.receiving s.number (if outstanding v.sending == 0 then 0 else CAPACITY);
-  resend = if outstanding v.sending == 0 then Idle else Due;
+  pace = record v.pace { mark = mark_past 0 (outstanding v.sending) };
 }
 
 -- the acceptability test, in every state but SYN-SENT (section 3.10.7.4, first)
@@ -108,9 +111,12 @@ after_rst v s =
 
 -- our SYN is acknowledged
 abbrev pub after_establishment : View → View
-after_establishment v = record v { state = Established; sending = after_syn_acknowledged v.sending; resend = Idle }
+after_establishment v = record v { state = Established; sending = after_syn_acknowledged v.sending; pace = unmarked v.pace }
 
--- our FIN is acknowledged (section 3.10.7.4, fifth)
+-- an acknowledgement past all that is held is of our FIN (section 3.10.7.4, fifth)
+abbrev pub is_of_fin : View → ℕ → Bool
+is_of_fin v ack = awaits_fin_ack v.state && nat_lt (length v.sending.held) (past ack v.sending.una)
+
 abbrev pub beyond_fin : State → State
 beyond_fin FinWait1 = FinWait2
 beyond_fin Closing = TimeWait
@@ -119,20 +125,24 @@ beyond_fin state = state
 
 -- nothing is owed once all is closed
 abbrev pub fin_acknowledged : View → View
-fin_acknowledged v = record v { state = beyond_fin v.state; owes_ack = v.owes_ack && not (is_closed (beyond_fin v.state)) }
+fin_acknowledged v = let closed = is_closed (beyond_fin v.state) in record v {
+  state = beyond_fin v.state;
+  owes_ack = v.owes_ack && not closed;
+  delays_ack = v.delays_ack && not closed;
+  pace = if closed then stopped v.pace else v.pace;
+  timers = if closed then no_timers else v.timers;
+}
 
 -- numbers that were outstanding are acknowledged
 abbrev pub after_new_ack : View → ℕ → View
-after_new_ack v ack = record v {
-  sending = after_acknowledged v.sending ack;
-  resend = if outstanding (after_acknowledged v.sending ack) == 0 then Idle else v.resend;
-}
+after_new_ack v ack = let sending = after_acknowledged v.sending ack in
+    record v { sending = sending; pace = mark_moved v.pace (past ack v.sending.una) (outstanding sending) }
 
 -- the acknowledgement field (section 3.10.7.4, fifth): what it makes of the connection ..
 abbrev pub after_ack : View → ℕ → View
 after_ack v ack =
     if is_syn_received v.state then (if is_new_ack v.sending ack then after_establishment v else v)
-    else if is_new_ack v.sending ack then (if is_fin_next v then fin_acknowledged (after_new_ack v ack) else after_new_ack v ack)
+    else if is_new_ack v.sending ack then (if is_of_fin v ack then fin_acknowledged (after_new_ack v ack) else after_new_ack v ack)
     else if is_before v.sending.nxt ack then owing_ack v
     else v
 
@@ -150,12 +160,20 @@ is_receiving FinWait1 = true
 is_receiving FinWait2 = true
 is_receiving _ = false
 
--- The octets (section 3.10.7.4, seventh): those in order can be read, and those ahead of a gap are kept. Whatever they are, an acknowledgement tells the peer at
--- once how far they are in order.
+-- Octets that stand next in order, and nothing is kept ahead of a gap: their acknowledgement may wait for a second segment (section 3.8.6.3)
+abbrev pub may_delay : View → Segment → Bool
+may_delay v s = (s.number == v.receiving.rnext) && (ranges v.receiving.kept == 0)
+
+-- The octets (section 3.10.7.4, seventh): those in order can be read, and those ahead of a gap are kept. An acknowledgement tells the peer how far they are in order: at once, where they come
+-- ahead of a gap or into one, or come again, and for the second segment; else it is delayed.
 abbrev pub after_text : View → Segment → View
 after_text v s =
     if (length s.octets == 0) || not (is_receiving v.state) then v
-    else record v { receiving = after_octets v.receiving s.number s.octets; owes_ack = true }
+    else record v {
+      receiving = after_octets v.receiving s.number s.octets;
+      owes_ack = v.owes_ack || v.delays_ack || not (may_delay v s);
+      delays_ack = true;
+    }
 
 -- The FIN (section 3.10.7.4, eighth) counts where every octet before it is in place and it was not cut. One that doesn't count isn't kept: the peer sends it again.
 abbrev pub counts_fin : View → Segment → Bool
@@ -209,29 +227,9 @@ is_lost v s = v.released && is_receiving v.state && is_read v s && brings_more v
 abbrev pub after_lost : View → Segment → View
 after_lost v s = aborted (after_window (after_ack v s.acknowledgement) s)
 
--- What the segment makes of the connection without the clock ..
+-- What the segment makes of the connection without the clock.
 abbrev pub after_heard : View → Segment → View
 after_heard v s = if is_lost v s then after_lost v s else after_segment v s
-
--- .. and the clock: a wait is counted from the segment that leads to TIME-WAIT or to FIN-WAIT-2 ..
-abbrev pub begins_wait : State → State → Bool
-begins_wait before TimeWait = not (is_time_wait before)
-begins_wait before FinWait2 = not (is_fin_wait_2 before)
-begins_wait before _ = false
-
--- .. or by which a reset comes to be owed ..
-abbrev pub starts_clock : View → View → Bool
-starts_clock v w = begins_wait v.state w.state || (w.owes_reset && not v.owes_reset)
-
--- .. and in TIME-WAIT again from one that brings the peer's FIN once more (section 3.10.7.4, eighth)
-abbrev pub repeats_fin : View → Segment → Bool
-repeats_fin v s = is_time_wait v.state && not s.flags.rst && not (is_acceptable_to v s) && s.flags.fin && ((s.number + span_of s) % 2 ^ 32 == v.receiving.rnext)
-
-abbrev pub timed : View → Segment → Moment → View → View
-timed v s now w = record w { since = if repeats_fin v s || starts_clock v w then now else w.since }
-
-abbrev pub after_segment_at : View → Segment → Moment → View
-after_segment_at v s now = timed v s now (after_heard v s)
 
 -- While the connection opens, an acknowledgement of what was not sent is rejected: it is answered by a reset at its number
 -- (section 3.10.7.3, first, and section 3.10.7.4, fifth), and changes nothing.
@@ -240,6 +238,51 @@ acknowledges_unsent v s = not s.flags.rst && s.flags.ack && not (is_new_ack v.se
 
 abbrev pub is_rejected : View → Segment → Bool
 is_rejected v s = acknowledges_unsent v s && (is_syn_sent v.state || (is_syn_received v.state && is_acceptable_to v s && not s.flags.syn))
+
+-- The clock. A wait is counted from the segment that leads to TIME-WAIT or to FIN-WAIT-2 ..
+abbrev pub begins_wait : State → State → Bool
+begins_wait before TimeWait = not (is_time_wait before)
+begins_wait before FinWait2 = not (is_fin_wait_2 before)
+begins_wait before _ = false
+
+-- .. and in TIME-WAIT again from one that brings the peer's FIN once more (section 3.10.7.4, eighth)
+abbrev pub repeats_fin : View → Segment → Bool
+repeats_fin v s = is_time_wait v.state && not s.flags.rst && not (is_acceptable_to v s) && s.flags.fin && ((s.number + span_of s) % 2 ^ 32 == v.receiving.rnext)
+
+-- While its window is closed, a peer that acknowledges is there, whatever it acknowledges: that is progress (section 3.8.6.1).
+abbrev pub answers_probe : View → Segment → Bool
+answers_probe v s = not (is_opening v.state) && (v.sending.window == 0) && is_acceptable_to v s && s.flags.ack && not s.flags.rst
+
+-- what the clock has to know of a connection before a segment and of the segment
+abbrev pub before : View → Segment → Before
+before v s = record {
+  state = v.state;
+  una = record { 0 = v.sending.una };
+  owes_reset = v.owes_reset;
+  repeats_fin = repeats_fin v s;
+  answers_probe = answers_probe v s;
+}
+
+abbrev pub since_after : Before → View → Moment → Moment
+since_after b w now = if b.repeats_fin || begins_wait b.state w.state || (w.owes_reset && not b.owes_reset) then now else w.since
+
+-- the segment moved SND.UNA
+abbrev pub is_moved : Before → View → Bool
+is_moved b w = not (b.una.0 == w.sending.una)
+
+abbrev pub pace_after : Before → View → Moment → Pace
+pace_after b w now =
+    if is_moved b w then pace_acknowledged w.pace w.sending.una (is_opening b.state) now
+    else if b.answers_probe then record w.pace { expiries = 0 }
+    else w.pace
+
+-- what the clock makes of the connection once a segment was heard
+abbrev pub timed_by : Before → View → Moment → View
+timed_by b w now = clocked (is_moved b w) (record w { since = since_after b w now; pace = pace_after b w now }) now
+
+-- a segment that is rejected, or comes to what is CLOSED, changes nothing
+abbrev pub after_segment_at : View → Segment → Moment → View
+after_segment_at v s now = if is_closed v.state || is_rejected v s then v else timed_by (before v s) (after_heard v s) now
 
 -- a reset or a SYN takes out what a listener opened and is not established
 abbrev pub ends_opening : View → Segment → Bool

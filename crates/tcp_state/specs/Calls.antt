@@ -1,5 +1,5 @@
 -- What a caller's octets, its reading and its closing make of a connection (RFC 9293 sections 3.10.2 to 3.10.5, POSIX send, recv and close).
-use Rattle.std.specs.Prelude.{ℕ, ◌==◌, ◌&&◌, ◌||◌, not, Bool, true, min, max, if◌then◌else◌, List, ◌++◌, length, take, Option, Some, None, is_some, Result, Ok, Err}
+use Rattle.std.specs.Prelude.{ℕ, ◌==◌, ◌&&◌, ◌||◌, not, Bool, true, false, min, max, if◌then◌else◌, List, ◌++◌, length, take, Option, Some, None, is_some, Result, Ok, Err}
 use Rattle.std.specs.Option.{option_or}
 use Rattle.tcp_state.specs.declared.state.State.{State}
 use Rattle.tcp_state.specs.declared.state.State.TheVariants.{Established, FinWait1, CloseWait, LastAck}
@@ -10,7 +10,8 @@ use Rattle.tcp_state.specs.declared.calls.Received.TheVariants.{Octets, EndOfStr
 use Rattle.clock.specs.declared.moment.Moment.{Moment}
 use Rattle.tcp_state.specs.declared.connection.Fate.{Fate}
 use Rattle.tcp_state.specs.declared.connection.Fate.TheVariants.{Stays, Removed}
-use Rattle.tcp_state.specs.Stream.{send_room, receive_window, after_read}
+use Rattle.tcp_state.specs.Stream.{send_room, after_read}
+use Rattle.tcp_state.specs.Timing.{clocked}
 use Rattle.tcp_state.specs.View.{View, is_opening, is_syn_sent, is_syn_received, is_write_closed, is_read_closed, is_closed, is_fin_wait_2, after_stop}
 
 -- how many octets a send takes: all, or as many as there is room for
@@ -31,10 +32,16 @@ send_answer v octets =
     else Ok (send_count v octets)
     )
 
-abbrev pub after_send : View → List ℕ → View
-after_send v octets =
+-- octets that are taken stand behind those that are held, and the clock may begin for them; none change nothing
+abbrev pub with_octets : View → List ℕ → Moment → View
+with_octets v octets now =
+    if length octets == 0 then v
+    else clocked false (record v { sending = record v.sending { held = v.sending.held ++ octets } }) now
+
+abbrev pub after_send : View → List ℕ → Moment → View
+after_send v octets now =
     if is_some v.pending_error || is_opening v.state || is_write_closed v.state then v
-    else record v { sending = record v.sending { held = v.sending.held ++ take (send_count v octets) octets } }
+    else with_octets v (take (send_count v octets) octets) now
 
 -- how many octets a receive into a buffer of this length moves
 abbrev pub recv_count : View → ℕ → ℕ
@@ -49,15 +56,11 @@ recv_answer v len =
     else Err EAGAIN
     )
 
--- Octets that were read make room. Where the window that the peer knows is used up, the room is advertised at once, but not
--- where all is closed.
+-- octets that were read make room; whether the peer is told is a matter of what is due
 abbrev pub after_recv : View → ℕ → View
 after_recv v len =
     if is_some v.pending_error || is_opening v.state || (length v.receiving.readable == 0) then v
-    else record v {
-      receiving = after_read v.receiving (recv_count v len);
-      owes_ack = v.owes_ack || ((receive_window v.receiving == 0) && not (is_closed v.state));
-    }
+    else record v { receiving = after_read v.receiving (recv_count v len) }
 
 -- closing our side: there is nothing to close while the connection opens
 abbrev pub shutdown_refusal : View → Option Refusal
@@ -69,8 +72,8 @@ beyond_shutdown Established = FinWait1
 beyond_shutdown CloseWait = LastAck
 beyond_shutdown state = state
 
-abbrev pub after_shutdown : View → View
-after_shutdown v = record v { state = beyond_shutdown v.state }
+abbrev pub after_shutdown : View → Moment → View
+after_shutdown v now = clocked false (record v { state = beyond_shutdown v.state }) now
 
 -- An abort (section 3.10.5): the peer is owed a reset, and nobody else anything; own in CLOSING, LAST-ACK and TIME-WAIT, where the
 -- section sends none.
@@ -95,7 +98,11 @@ latest a b = record { 0 = max a.0 b.0 }
 -- its caller leaves it, and our side closes: it goes on until it ends by itself; in FIN-WAIT-2 its wait begins, with the call or with
 -- the state, whichever is later
 abbrev pub after_release : View → Moment → View
-after_release v now = record v { state = beyond_shutdown v.state; released = true; since = if is_fin_wait_2 v.state then latest v.since now else v.since }
+after_release v now = clocked false (record v {
+  state = beyond_shutdown v.state;
+  released = true;
+  since = if is_fin_wait_2 v.state then latest v.since now else v.since;
+}) now
 
 -- Closing (section 3.10.4) takes out at once what is CLOSED, or waits for the answer to its SYN ..
 abbrev pub is_removed_by_close : View → Bool

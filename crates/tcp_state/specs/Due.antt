@@ -1,36 +1,73 @@
 -- What goes out, and what that makes of a connection (RFC 9293 section 3.8).
-use Rattle.std.specs.Prelude.{◌≡◌, ℕ, ◌+◌, ◌*◌, ◌<◌, ◌≤◌, ◌==◌, ◌||◌, not, nat_lt, true, false, if◌then◌else◌, List, [], length, take, Option, Some, None}
+use Rattle.std.specs.Prelude.{◌≡◌, ℕ, ◌+◌, ◌-◌, ◌*◌, ◌%◌, ◌^◌, ◌<◌, ◌≤◌, ◌==◌, ◌&&◌, ◌||◌, not, nat_lt, min, Bool, true, false, if◌then◌else◌, List, [], length, take, drop, Option, Some, None, is_some}
+use Rattle.std.specs.Option.{option_or}
 use Rattle.tcp_segment.specs.declared.TheConstants.{MSS}
 use Rattle.tcp_segment.specs.declared.flags.Flags.{Flags}
 use Rattle.tcp_segment.specs.declared.head.Head.{Head}
 use Rattle.tcp_segment.specs.Sent.{sent_offset, sent_octets}
-use Rattle.tcp_state.specs.declared.emission.TheConstants.{RESEND_AFTER}
 use Rattle.tcp_state.specs.declared.emission.Due.{Due}
-use Rattle.tcp_state.specs.declared.emission.Due.TheVariants.{Rst, Syn, Text, Fin, Ack}
+use Rattle.tcp_state.specs.declared.emission.Due.TheVariants.{Rst, Syn, Text, Probe, Ack}
+use Rattle.tcp_state.specs.declared.emission.Stretch.{Stretch}
 use Rattle.clock.specs.declared.moment.Moment.{Moment}
-use Rattle.clock.specs.Moments.{after}
-use Rattle.tcp_state.specs.declared.connection.Resend.TheVariants.{At}
+use Rattle.tcp_state.specs.Pace.{pace_resent, pace_sent, pace_probed}
 use Rattle.tcp_state.specs.Stream.{outstanding, after_sent, receive_window}
-use Rattle.tcp_state.specs.Windows.{sendable, after_advertisement}
-use Rattle.tcp_state.specs.View.{View, is_opening, is_syn_sent, is_syn_received, is_closed, is_due, is_fin_next}
+use Rattle.tcp_state.specs.Windows.{sendable, next_count, is_worth_sending, has_grown, after_advertisement}
+use Rattle.tcp_state.specs.View.{View, is_opening, is_syn_sent, is_syn_received, is_closed, awaits_fin_ack}
+use Rattle.tcp_state.specs.Timing.{probes, clocked}
 
 -- The segment that goes out for each thing that may be due.
+
+-- a probe brings the oldest octet that is not acknowledged, or the FIN where none is
+abbrev pub probe_stretch : View → Stretch
+probe_stretch v = if length v.sending.held == 0 then record { offset = 0; count = 0; fin = true } else record { offset = 0; count = 1; fin = false }
+
+-- what of the stream a segment brings: where it begins, as a distance past SND.UNA, how many octets, and whether the FIN
+abbrev pub stretch_of : View → Due → Stretch
+stretch_of v (Text stretch) = stretch
+stretch_of v Probe = probe_stretch v
+stretch_of v Syn = record { offset = 0; count = 0; fin = false }
+stretch_of v _ = record { offset = outstanding v.sending; count = 0; fin = false }
+
+-- how many numbers it takes
+abbrev pub numbers_of : Stretch → ℕ
+numbers_of stretch = stretch.count + (if stretch.fin then 1 else 0)
+
+-- the distance past SND.UNA of the number behind it
+abbrev pub end_of : Stretch → ℕ
+end_of stretch = stretch.offset + numbers_of stretch
+
+-- PSH tells of the last octet that is held
+abbrev pub flags_of_stretch : View → Stretch → Flags
+flags_of_stretch v stretch = record {
+  fin = stretch.fin;
+  syn = false;
+  rst = false;
+  psh = nat_lt 0 stretch.count && (stretch.offset + stretch.count == length v.sending.held);
+  ack = true;
+  urg = false;
+}
 
 -- a reset goes out alone, and a SYN alone or acknowledging the peer's; every other segment acknowledges
 abbrev pub flags_of : View → Due → Flags
 flags_of v Rst = record { fin = false; syn = false; rst = true; psh = false; ack = false; urg = false }
 flags_of v Syn = record { fin = false; syn = true; rst = false; psh = false; ack = is_syn_received v.state; urg = false }
-flags_of v (Text count) = record { fin = false; syn = false; rst = false; psh = count == length v.sending.held; ack = true; urg = false }
-flags_of v Fin = record { fin = true; syn = false; rst = false; psh = false; ack = true; urg = false }
+flags_of v (Text stretch) = flags_of_stretch v stretch
+flags_of v Probe = flags_of_stretch v (probe_stretch v)
 flags_of v Ack = record { fin = false; syn = false; rst = false; psh = false; ack = true; urg = false }
 
 abbrev pub number_of : View → Due → ℕ
 number_of v Rst = v.sending.nxt
+number_of v Syn = v.sending.una
+number_of v (Text stretch) = (v.sending.una + stretch.offset) % 2 ^ 32
+number_of v Probe = v.sending.una
 number_of v Ack = v.sending.nxt
-number_of v _ = v.sending.una
+
+abbrev pub octets_of_stretch : View → Stretch → List ℕ
+octets_of_stretch v stretch = take stretch.count (drop stretch.offset v.sending.held)
 
 abbrev pub octets_of : View → Due → List ℕ
-octets_of v (Text count) = take count v.sending.held
+octets_of v (Text stretch) = octets_of_stretch v stretch
+octets_of v Probe = octets_of_stretch v (probe_stretch v)
 octets_of v _ = []
 
 -- the window up to the edge that is advertised with it, and none in a reset
@@ -59,46 +96,129 @@ emitted_len v due = 4 * sent_offset (head_of v due) + length (octets_of v due)
 abbrev pub segment_octets : View → Due → List ℕ
 segment_octets v due = sent_octets v.local.addr v.peer.addr (head_of v due) (octets_of v due)
 
--- an acknowledgement that goes out advertises the whole room, and none is owed any more
-abbrev pub after_ack_paid : View → View
-after_ack_paid v = record v { receiving = after_advertisement v.receiving; owes_ack = false }
+-- it brings numbers that went out before, or is a probe
+abbrev pub sends_again : View → Due → Bool
+sends_again v Rst = false
+sends_again v Syn = nat_lt 0 (outstanding v.sending)
+sends_again v (Text stretch) = nat_lt stretch.offset (outstanding v.sending)
+sends_again v Probe = true
+sends_again v Ack = false
 
--- what is outstanding goes out again after a second
-abbrev pub after_numbers : View → ℕ → Moment → View
-after_numbers v count now = record v { sending = after_sent v.sending count; resend = At (after now RESEND_AFTER) }
+-- What it makes of the connection.
+
+-- an acknowledgement that goes out advertises the window, and none is owed any more
+abbrev pub after_ack_paid : View → View
+after_ack_paid v = record v { receiving = after_advertisement v.receiving; owes_ack = false; delays_ack = false }
+
+-- so many numbers from SND.UNA on went out before, in part at least: once more
+abbrev pub after_resent : View → ℕ → View
+after_resent v end = let sending = after_sent v.sending end in
+    record v { sending = sending; pace = pace_resent v.pace end (outstanding sending) }
+
+-- .. or now for the first time
+abbrev pub after_first_sent : View → ℕ → Moment → View
+after_first_sent v end now = let sending = after_sent v.sending end in
+    record v { sending = sending; pace = pace_sent v.pace sending.nxt now }
+
+-- what begins below SND.NXT went out before
+abbrev pub after_numbers : View → ℕ → ℕ → Moment → View
+after_numbers v offset end now = if nat_lt offset (outstanding v.sending) then after_resent v end else after_first_sent v end now
+
+-- new octets that go out end the wait for more
+abbrev pub after_new_octets : View → View
+after_new_octets v = record v { pace = record v.pace { overridden = false }; timers = record v.timers { overriding = None } }
+
+abbrev pub brings_new_octets : View → Stretch → Bool
+brings_new_octets v stretch = nat_lt 0 stretch.count && not (nat_lt stretch.offset (outstanding v.sending))
+
+abbrev pub after_stretch : View → Stretch → Moment → View
+after_stretch v stretch now =
+    let sent = after_numbers v stretch.offset (end_of stretch) now in
+    if brings_new_octets v stretch then after_new_octets sent else sent
+
+abbrev pub after_probe : View → View
+after_probe v =
+    let stretch = probe_stretch v in
+    let sent = record v { sending = after_sent v.sending (end_of stretch); pace = pace_probed v.pace } in
+    if brings_new_octets v stretch then after_new_octets sent else sent
+
+abbrev pub after_syn_out : View → Moment → View
+after_syn_out v now = after_numbers v 0 1 now
+
+-- .. without the timers
+abbrev pub after_going_out : View → Due → Moment → View
+after_going_out v Rst now = record v { owes_reset = false }
+after_going_out v Syn now = if is_syn_received v.state then after_ack_paid (after_syn_out v now) else after_syn_out v now
+after_going_out v (Text stretch) now = after_ack_paid (after_stretch v stretch now)
+after_going_out v Probe now = after_ack_paid (after_probe v)
+after_going_out v Ack now = after_ack_paid v
 
 abbrev pub after_emitted : View → Due → Moment → View
-after_emitted v Rst now = record v { owes_reset = false }
-after_emitted v Syn now = if is_syn_received v.state then after_ack_paid (after_numbers v 1 now) else after_numbers v 1 now
-after_emitted v (Text count) now = after_ack_paid (after_numbers v count now)
-after_emitted v Fin now = after_ack_paid (after_numbers v 1 now)
-after_emitted v Ack now = after_ack_paid v
+after_emitted v due now = clocked false (after_going_out v due now) now
 
--- Which segments may go out: the reset of an abort, the SYN while the connection opens, octets that are held from SND.UNA on, at most as
--- many as one segment has room for, the FIN of a closed side once they all are acknowledged, and an acknowledgement once the
--- peer's SYN came, until all is closed.
+-- Which segments may go out: the reset of an abort, the SYN while the connection opens, a stretch of the octets that are held and of the FIN behind them, at most as
+-- many octets as one segment has room for, and an acknowledgement once the peer's SYN came, until all is closed.
+pub record IsHeld (v : View) (stretch : Stretch) : Type 0 where
+  pub opened : is_opening v.state ≡ false
+  pub joined : stretch.offset ≤ outstanding v.sending
+  pub held : stretch.offset + stretch.count ≤ length v.sending.held
+  pub size : stretch.count ≤ MSS
+  pub some : 0 < numbers_of stretch
+  pub fin : stretch.fin ≡ true → (awaits_fin_ack v.state ≡ true) × (stretch.offset + stretch.count ≡ length v.sending.held)
+
 abbrev pub MayGoOut : View → Due → Type 0
 MayGoOut v Rst = v.owes_reset ≡ true
 MayGoOut v Syn = is_opening v.state ≡ true
-MayGoOut v (Text count) = (is_opening v.state ≡ false) × (0 < count) × (count ≤ length v.sending.held) × (count ≤ MSS)
-MayGoOut v Fin = is_fin_next v ≡ true
+MayGoOut v (Text stretch) = IsHeld v stretch
+MayGoOut v Probe = IsHeld v (probe_stretch v)
 MayGoOut v Ack = (is_syn_sent v.state || is_closed v.state) ≡ false
 
--- Which of them goes out first: a reset, and after it nothing. Else at most one segment is outstanding. Where none is, the next one is due; where its
--- second is over it goes out again, the same numbers and no more. An acknowledgement rides on what is due.
+-- Which of them goes out first.
+
+-- an acknowledgement is owed, or the window to advertise has grown by enough to be told
 abbrev pub ack_due : View → Option Due
-ack_due v = if v.owes_ack then Some Ack else None
+ack_due v = if v.owes_ack || (not (is_opening v.state) && not (is_closed v.state) && has_grown v.receiving) then Some Ack else None
 
--- what is outstanding, once more
-abbrev pub again : View → Due
-again v = if is_fin_next v then Fin else Text (outstanding v.sending)
+-- What is outstanding from a mark on, once more: one segment's octets, with the FIN where it follows them and has gone out.
+abbrev pub again : View → ℕ → Stretch
+again v mark =
+    let count = min (min (length v.sending.held) (outstanding v.sending) - mark) v.sending.smss in
+    record { offset = mark; count = count; fin = (mark + count == length v.sending.held) && nat_lt (length v.sending.held) (outstanding v.sending) }
 
+-- what goes out again stays within the peer's window, but for what is at SND.UNA
+abbrev pub goes_again : View → ℕ → Bool
+goes_again v mark = (mark == 0) || nat_lt mark v.sending.window
+
+abbrev pub again_from : View → Option ℕ → Option Due
+again_from v None = None
+again_from v (Some mark) = if goes_again v mark then Some (Text (again v mark)) else None
+
+-- new octets: the peer's window takes some, and they are worth a segment
+abbrev pub sends_new : View → Bool
+sends_new v = nat_lt 0 (sendable v.sending) && is_worth_sending v.sending v.pace.overridden
+
+abbrev pub new_octets : View → Stretch
+new_octets v = record { offset = outstanding v.sending; count = next_count v.sending; fin = false }
+
+-- the FIN of a closed side: all octets went out, and the peer's window takes one number more
+abbrev pub sends_fin : View → Bool
+sends_fin v = awaits_fin_ack v.state && (outstanding v.sending == length v.sending.held) && nat_lt (outstanding v.sending) v.sending.window
+
+abbrev pub fin_alone : View → Stretch
+fin_alone v = record { offset = outstanding v.sending; count = 0; fin = true }
+
+-- what is new, a probe, or an acknowledgement alone; it rides on whatever goes out
+abbrev pub new_due : View → Option Due
+new_due v =
+    if sends_new v then Some (Text (new_octets v))
+    else if sends_fin v then Some (Text (fin_alone v))
+    else if v.pace.owes_probe && probes v then Some Probe
+    else ack_due v
+
+-- The reset of an abort is first, and after it nothing. While the connection opens, its SYN is due until it went out, and again where a mark stands before it. Later, what goes out again is before what
+-- is new.
 abbrev pub first_due : View → Option Due
 first_due v =
     if v.owes_reset then Some Rst
-    else if is_opening v.state then (if (outstanding v.sending == 0) || is_due v.resend then Some Syn else ack_due v)
-    else if is_due v.resend then Some (again v)
-    else if not (outstanding v.sending == 0) then ack_due v
-    else if nat_lt 0 (sendable v.sending) then Some (Text (sendable v.sending))
-    else if is_fin_next v then Some Fin
-    else ack_due v
+    else if is_opening v.state then (if (outstanding v.sending == 0) || is_some v.pace.mark then Some Syn else ack_due v)
+    else option_or (again_from v v.pace.mark) (new_due v)

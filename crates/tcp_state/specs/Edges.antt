@@ -8,11 +8,12 @@ use Rattle.tcp_state.specs.declared.connection.Fate.TheVariants.{Stays, Removed,
 use Rattle.tcp_state.specs.declared.state.State.{State}
 use Rattle.tcp_state.specs.declared.state.State.TheVariants.{Closed, Listen, SynSent, SynReceived, Established, FinWait1, FinWait2, CloseWait, Closing, LastAck, TimeWait}
 use Rattle.tcp_state.specs.declared.calls.Refusal.{Refusal}
-use Rattle.tcp_state.specs.declared.calls.Refusal.TheVariants.{ECONNREFUSED, ECONNRESET}
+use Rattle.tcp_state.specs.declared.calls.Refusal.TheVariants.{ECONNREFUSED, ECONNRESET, ETIMEDOUT}
 use Rattle.tcp_state.specs.Stream.{is_new_ack}
-use Rattle.tcp_state.specs.View.{View, is_syn_sent, is_syn_received, is_closed, is_at_end, is_fin_next, is_over, after_tick, tick_fate}
+use Rattle.tcp_state.specs.View.{View, is_syn_sent, is_syn_received, is_closed, is_at_end, is_over}
+use Rattle.tcp_state.specs.Timing.{gives_up, after_tick, tick_fate}
 use Rattle.tcp_state.specs.Calls.{after_send, after_recv, shutdown_refusal, after_shutdown, after_abort, abort_fate, is_removed_by_close, is_aborted_by_close, after_close, close_fate}
-use Rattle.tcp_state.specs.Arrival.{is_acting_reset, ends_by_reset, ends_by_syn, is_lost, is_read, after_segment_at, fate}
+use Rattle.tcp_state.specs.Arrival.{is_acting_reset, ends_by_reset, ends_by_syn, is_of_fin, is_lost, is_read, after_segment_at, fate}
 use Rattle.tcp_state.specs.Due.{first_due, after_emitted}
 use Rattle.tcp_state.specs.Unreachable.{is_unreachable, after_unreachable, unreachable_fate}
 
@@ -56,9 +57,9 @@ pub data Event : Type 0 where
   Hears : Segment → Moment → Event
   Ticks : Moment → Event
   Emits : Moment → Event
-  Sends : List ℕ → Event
+  Sends : List ℕ → Moment → Event
   Receives : ℕ → Event
-  Shuts : Event
+  Shuts : Moment → Event
   Closes : Moment → Event
   Aborts : Moment → Event
   Unreachable : ℕ → Event
@@ -68,6 +69,8 @@ abbrev pub moment_of : Event → Option Moment
 moment_of (Hears s now) = Some now
 moment_of (Ticks now) = Some now
 moment_of (Emits now) = Some now
+moment_of (Sends octets now) = Some now
+moment_of (Shuts now) = Some now
 moment_of (Closes now) = Some now
 moment_of (Aborts now) = Some now
 moment_of _ = None
@@ -82,9 +85,9 @@ abbrev pub after_event : View → Event → View
 after_event v (Hears s now) = after_segment_at v s now
 after_event v (Ticks now) = after_tick v now
 after_event v (Emits now) = after_first v (first_due v) now
-after_event v (Sends octets) = after_send v octets
+after_event v (Sends octets now) = after_send v octets now
 after_event v (Receives len) = after_recv v len
-after_event v Shuts = if is_some (shutdown_refusal v) then v else after_shutdown v
+after_event v (Shuts now) = if is_some (shutdown_refusal v) then v else after_shutdown v now
 after_event v (Closes now) = after_close v now
 after_event v (Aborts now) = after_abort v now
 after_event v (Unreachable number) = after_unreachable v number
@@ -94,9 +97,9 @@ abbrev pub fate_by : View → Event → Fate
 fate_by v (Hears s now) = fate v s
 fate_by v (Ticks now) = tick_fate v now
 fate_by v (Emits now) = if is_over (after_first v (first_due v) now) then Removed else Stays
-fate_by v (Sends octets) = Stays
+fate_by v (Sends octets now) = Stays
 fate_by v (Receives len) = Stays
-fate_by v Shuts = Stays
+fate_by v (Shuts now) = Stays
 fate_by v (Closes now) = close_fate v
 fate_by v (Aborts now) = abort_fate v
 fate_by v (Unreachable number) = unreachable_fate v number
@@ -124,20 +127,20 @@ is_last_ack _ = false
 
 -- our FIN is acknowledged, in LAST-ACK
 abbrev pub ends_by_ack : View → Segment → Bool
-ends_by_ack v s = is_last_ack v.state && is_read v s && is_new_ack v.sending s.acknowledgement && is_fin_next v
+ends_by_ack v s = is_last_ack v.state && is_read v s && is_new_ack v.sending s.acknowledgement && is_of_fin v s.acknowledgement
 
 -- What ends a connection: a `close` that takes it out or aborts it, and an abort; a reset that acts, a SYN before it is established,
--- octets after its caller closed it, or the acknowledgement of our FIN in LAST-ACK; the clock at the end of its wait; the going out of
+-- octets after its caller closed it, or the acknowledgement of our FIN in LAST-ACK; the clock at the end of its wait, or at the thirteenth expiry without progress; the going out of
 -- the reset of an abort; and an error that tells that its SYN can't be delivered.
 abbrev pub is_cause : View → Event → Bool
 is_cause v (Closes now) = is_removed_by_close v || is_aborted_by_close v
 is_cause v (Aborts now) = true
 is_cause v (Hears s now) = is_reset_by v s || (not s.flags.rst && ends_by_syn v s) || is_lost v s || ends_by_ack v s
-is_cause v (Ticks now) = is_at_end v now
+is_cause v (Ticks now) = is_at_end v now || gives_up v now
 is_cause v (Emits now) = v.owes_reset
-is_cause v (Sends octets) = false
+is_cause v (Sends octets now) = false
 is_cause v (Receives len) = false
-is_cause v Shuts = false
+is_cause v (Shuts now) = false
 is_cause v (Unreachable number) = is_unreachable v number
 
 -- it is taken out, or becomes CLOSED
@@ -154,14 +157,19 @@ is_error_of FinWait2 ECONNRESET = true
 is_error_of CloseWait ECONNRESET = true
 is_error_of _ _ = false
 
--- an event raises this error: a reset that acts and leaves the connection its place, or an error about its SYN, in a state that has it
+-- .. or the clock in any
+abbrev pub is_timeout : Refusal → Bool
+is_timeout ETIMEDOUT = true
+is_timeout _ = false
+
+-- an event raises this error: a reset that acts and leaves the connection its place, or an error about its SYN, in a state that has it; or the last expiry
 abbrev pub may_raise : View → Event → Refusal → Bool
 may_raise v (Hears s now) error = is_reset_by v s && not (ends_by_reset v s) && is_error_of v.state error
-may_raise v (Ticks now) error = false
+may_raise v (Ticks now) error = not (is_at_end v now) && gives_up v now && is_timeout error
 may_raise v (Emits now) error = false
-may_raise v (Sends octets) error = false
+may_raise v (Sends octets now) error = false
 may_raise v (Receives len) error = false
-may_raise v Shuts error = false
+may_raise v (Shuts now) error = false
 may_raise v (Closes now) error = false
 may_raise v (Aborts now) error = false
 may_raise v (Unreachable number) error = is_unreachable v number && is_error_of v.state error

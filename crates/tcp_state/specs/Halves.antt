@@ -2,12 +2,13 @@
 use Rattle.std.specs.Prelude.{ℕ, List, Option}
 
 -- the sending half: the octets taken from the caller and not acknowledged, SND.UNA, SND.NXT (the number after the
--- highest sent), SND.WND, SND.WL1, SND.WL2, and the size of the segments that the peer takes
+-- highest sent), SND.WND, the largest window that the peer ever advertised, SND.WL1, SND.WL2, and the size of the segments that the peer takes
 pub record Sending : Type 0 where
   pub held : List ℕ
   pub una : ℕ
   pub nxt : ℕ
   pub window : ℕ
+  pub largest : ℕ
   pub wl1 : ℕ
   pub wl2 : ℕ
   pub smss : ℕ

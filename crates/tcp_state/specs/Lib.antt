@@ -2,7 +2,10 @@ pub mod Numbers
 pub mod Halves
 pub mod Stream
 pub mod Windows
+pub mod Pace
+pub mod PaceInside
 pub mod View
+pub mod Timing
 pub mod Names
 pub mod Calls
 pub mod Arrival

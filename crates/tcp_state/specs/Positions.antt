@@ -4,7 +4,7 @@ use Rattle.std.specs.Prelude.{◌≡◌, ℕ, ◌+◌, ◌-◌, ◌<◌, ◌≤�
 use Rattle.stream_buf.specs.Receiving.{laid, is_taken}
 use Rattle.tcp_segment.specs.Wire.{wire}
 use Rattle.tcp_state.specs.declared.emission.Due.{Due}
-use Rattle.tcp_state.specs.declared.emission.Due.TheVariants.{Syn, Text, Fin}
+use Rattle.tcp_state.specs.declared.emission.Due.TheVariants.{Syn, Text, Probe}
 use Rattle.tcp_state.specs.Halves.{Receiving}
 use Rattle.tcp_state.specs.Stream.{buffer_of, distance_of, octets_within, octets_gained, after_octets}
 use Rattle.tcp_state.specs.View.{View, is_opening, is_syn_sent, awaits_fin_ack}
@@ -74,13 +74,13 @@ abbrev pub HasNumber : Event → Type 0
 HasNumber (Hears s now) = s.acknowledgement < 2 ^ 32
 HasNumber _ = ⊤
 
--- something waits to be acknowledged, and may go out: the SYN; or octets that are held or the FIN behind them, while the peer's window is open
+-- something of the stream waits to be acknowledged: the SYN, octets that are held, or the FIN of a closed side
 abbrev pub HasToSend : View → Type 0
-HasToSend v = (is_opening v.state ≡ true) ⊎ ((0 < v.sending.window) × ((0 < length v.sending.held) ⊎ (awaits_fin_ack v.state ≡ true)))
+HasToSend v = (is_opening v.state ≡ true) ⊎ ((0 < length v.sending.held) ⊎ (awaits_fin_ack v.state ≡ true))
 
 -- a SYN, octets or a FIN are due, and not a reset or an acknowledgement alone
 abbrev pub takes_numbers : Option Due → Bool
 takes_numbers (Some Syn) = true
-takes_numbers (Some (Text count)) = true
-takes_numbers (Some Fin) = true
+takes_numbers (Some (Text stretch)) = true
+takes_numbers (Some Probe) = true
 takes_numbers _ = false

@@ -5,9 +5,9 @@ use Rattle.tcp_state.specs.declared.connection.Fate.{Fate}
 use Rattle.tcp_state.specs.declared.connection.Fate.TheVariants.{Stays, Removed}
 use Rattle.tcp_state.specs.declared.state.State.TheVariants.{Closed}
 use Rattle.tcp_state.specs.Stream.{outstanding}
-use Rattle.tcp_state.specs.View.{View, is_syn_sent, is_over, deadline}
+use Rattle.tcp_state.specs.View.{View, is_syn_sent, after_reset, is_over}
+use Rattle.tcp_state.specs.Timing.{deadline}
 use Rattle.tcp_state.specs.Calls.{send_answer, recv_answer}
-use Rattle.tcp_state.specs.Arrival.{after_reset}
 use Rattle.tcp_state.specs.Due.{first_due}
 
 -- The error tells of the segment of this number. It ends a connection in SYN-SENT whose SYN has gone out and has this number; past SYN-SENT it is only a hint

@@ -1,5 +1,5 @@
 -- A connection as its callers see it (RFC 9293 section 3.3).
-use Rattle.std.specs.Prelude.{◌≡◌, ℕ, ◌≤◌, ◌^◌, ◌==◌, ◌&&◌, ◌||◌, ◌<◌, not, nat_le, min, Bool, true, false, if◌then◌else◌, [], length, Option, Some, None, is_some}
+use Rattle.std.specs.Prelude.{◌≡◌, ℕ, ◌+◌, ◌≤◌, ◌^◌, ◌==◌, ◌&&◌, ◌||◌, ◌<◌, not, nat_le, min, Bool, true, false, if◌then◌else◌, [], length, Option, Some, None, is_some}
 use Rattle.ipv4.specs.declared.addr.Endpoint.{Endpoint}
 use Rattle.tcp_segment.specs.declared.TheConstants.{MSS, LEAST_MSS}
 use Rattle.tcp_state.specs.declared.buffers.TheConstants.{CAPACITY}
@@ -7,12 +7,12 @@ use Rattle.tcp_state.specs.declared.state.State.{State}
 use Rattle.tcp_state.specs.declared.state.State.TheVariants.{Closed, Listen, SynSent, SynReceived, FinWait1, FinWait2, CloseWait, Closing, LastAck, TimeWait}
 use Rattle.tcp_state.specs.declared.ending.TheConstants.{TIME_WAIT, FIN_WAIT_2}
 use Rattle.clock.specs.declared.moment.Moment.{Moment}
-use Rattle.clock.specs.Moments.{after, has_come, sooner}
+use Rattle.clock.specs.Moments.{after, has_come}
 use Rattle.tcp_state.specs.declared.calls.Refusal.{Refusal}
-use Rattle.tcp_state.specs.declared.connection.Fate.{Fate}
-use Rattle.tcp_state.specs.declared.connection.Fate.TheVariants.{Stays, Removed}
-use Rattle.tcp_state.specs.declared.connection.Resend.{Resend}
-use Rattle.tcp_state.specs.declared.connection.Resend.TheVariants.{Idle, At, Due}
+use Rattle.retransmit.specs.declared.timers.Timers.{Timers}
+use Rattle.retransmit.specs.Deadlines.{no_timers}
+use Rattle.tcp_state.specs.Pace.{Pace, IsPaced, first_pace, stopped}
+use Rattle.std.specs.Option.{ForSome}
 use Rattle.tcp_state.specs.Halves.{Sending, Receiving}
 use Rattle.stream_buf.specs.Receiving.{IsReceiving}
 use Rattle.tcp_state.specs.Stream.{outstanding, sending_from, receiving_nothing, receive_window, buffer_of, ReceivingFits, KeptInWindow}
@@ -27,8 +27,12 @@ pub record View : Type 0 where
   pub receiving : Receiving
   -- an acknowledgement is owed
   pub owes_ack : Bool
-  -- whether and when what is outstanding goes out again
-  pub resend : Resend
+  -- octets came since the last acknowledgement went out, and theirs may wait
+  pub delays_ack : Bool
+  -- what goes out again, and what is measured
+  pub pace : Pace
+  -- the deadlines of its timers
+  pub timers : Timers
   -- the error that every call reports from now on
   pub pending_error : Option Refusal
   -- its caller closed it: no socket names it any more
@@ -95,15 +99,7 @@ abbrev pub is_listening : State → Bool
 is_listening Listen = true
 is_listening _ = false
 
-abbrev pub is_due : Resend → Bool
-is_due Due = true
-is_due _ = false
-
-abbrev pub is_idle : Resend → Bool
-is_idle Idle = true
-is_idle _ = false
-
--- The clock.
+-- The end of a wait.
 
 -- when a wait that began at a moment ends: TIME-WAIT lasts twice the two minutes that a segment may live (section 3.4.2), FIN-WAIT-2
 -- a minute where no caller is left to read
@@ -119,9 +115,20 @@ ends_at v = end_of_wait v.state v.released v.since
 abbrev pub is_at_end : View → Moment → Bool
 is_at_end v now = has_come (ends_at v) now
 
--- the connection is CLOSED: nothing is held, owed or due, and no number is outstanding
+-- the connection is CLOSED: nothing is held, owed or due, no number is outstanding, and no timer runs
 abbrev pub after_stop : View → View
-after_stop v = record v { state = Closed; sending = record v.sending { held = []; una = v.sending.nxt }; owes_ack = false; resend = Idle }
+after_stop v = record v {
+  state = Closed;
+  sending = record v.sending { held = []; una = v.sending.nxt };
+  owes_ack = false;
+  delays_ack = false;
+  pace = stopped v.pace;
+  timers = no_timers;
+}
+
+-- An error ends the connection: every call reports it from now on.
+abbrev pub after_reset : View → Option Refusal → View
+after_reset v error = record (after_stop v) { pending_error = error }
 
 -- closed by its caller and CLOSED, and no reset is owed: nothing is left of it
 abbrev pub is_over : View → Bool
@@ -130,29 +137,6 @@ is_over v = is_closed v.state && v.released && not v.owes_reset
 -- since when the reset of an abort waits to go out
 abbrev pub reset_since : View → Option Moment
 reset_since v = if v.owes_reset then Some v.since else None
-
-abbrev pub resend_after : Resend → Moment → Resend
-resend_after (At moment) now = if nat_le moment.0 now.0 then Due else At moment
-resend_after other now = other
-
--- the timer of what goes out again acts at a tick whose moment has come
-abbrev pub after_resend : View → Moment → View
-after_resend v now = record v { resend = resend_after v.resend now }
-
--- a tick ends the connection whose wait is over, and tells nobody; else it lets the other timer act
-abbrev pub after_tick : View → Moment → View
-after_tick v now = if is_at_end v now then after_stop v else after_resend v now
-
-abbrev pub tick_fate : View → Moment → Fate
-tick_fate v now = if is_at_end v now && v.released then Removed else Stays
-
-abbrev pub resend_at : Resend → Option Moment
-resend_at (At moment) = Some moment
-resend_at _ = None
-
--- the moment at which a tick does something
-abbrev pub deadline : View → Option Moment
-deadline v = sooner (resend_at v.resend) (ends_at v)
 
 -- a connection that its caller opens (RFC 9293 section 3.10.1)
 abbrev pub opened_actively : Endpoint → Endpoint → ℕ → View
@@ -164,24 +148,26 @@ opened_actively local peer isn = record {
   sending = sending_from isn;
   receiving = receiving_nothing;
   owes_ack = false;
-  resend = Idle;
+  delays_ack = false;
+  pace = first_pace;
+  timers = no_timers;
   pending_error = None;
   released = false;
   owes_reset = false;
   since = record { 0 = 0 };
 }
 
--- all octets are acknowledged, so that of what may be outstanding the FIN alone is left
-abbrev pub is_fin_next : View → Bool
-is_fin_next v = awaits_fin_ack v.state && (length v.sending.held == 0)
+-- a SYN, or the FIN of a closed side behind all octets, may be outstanding
+abbrev pub takes_flag_number : State → Bool
+takes_flag_number state = is_opening state || awaits_fin_ack state
 
--- how many numbers may be outstanding: that of the SYN, as many octets that are held as one segment has, or that of the FIN behind them
+-- how many numbers may be outstanding: those of the octets that are held, and that of the SYN before them or of the FIN behind them
 abbrev pub most_outstanding : View → ℕ
-most_outstanding v =
-    if is_opening v.state || is_fin_next v then 1 else min (length v.sending.held) MSS
+most_outstanding v = length v.sending.held + (if takes_flag_number v.state then 1 else 0)
 
--- What holds of every connection. While it opens, nothing is held or readable, and before the peer's SYN came no window is advertised; nothing is held once our FIN is acknowledged or all is closed. At most
--- one segment is outstanding; its timer runs exactly while it is. A segment may have `LEAST_MSS` octets at least, so that what is held can always go out. An acknowledgement is owed once a SYN came, and none when all is closed.
+-- What holds of every connection. While it opens, nothing is held or readable, and before the peer's SYN came no window is advertised; nothing is held once our FIN is acknowledged or all is closed. What is
+-- outstanding is of what is held, with the SYN or the FIN; the resend mark stands within it. A segment may
+-- have `LEAST_MSS` octets at least, so that what is held can always go out. An acknowledgement is owed once a SYN came, and none when all is closed.
 -- An error is pending, and a reset owed, only where all is closed; what its caller closed is closed on our side.
 pub record IsSound (v : View) : Type 0 where
   pub una : v.sending.una < 2 ^ 32
@@ -194,11 +180,12 @@ pub record IsSound (v : View) : Type 0 where
   pub buffer : IsReceiving (buffer_of v.receiving)
   pub kept : KeptInWindow v.receiving
   pub flight : outstanding v.sending ≤ most_outstanding v
-  pub timer : is_idle v.resend ≡ (outstanding v.sending == 0)
+  pub mark : ForSome v.pace.mark (λ distance. distance < outstanding v.sending)
+  pub pace : IsPaced v.pace
   pub connection : is_listening v.state ≡ false
   pub segment : v.sending.smss ≤ MSS
   pub segment_least : LEAST_MSS ≤ v.sending.smss
-  pub ack : ((is_syn_sent v.state || is_closed v.state) && v.owes_ack) ≡ false
+  pub ack : ((is_syn_sent v.state || is_closed v.state) && (v.owes_ack || v.delays_ack)) ≡ false
   pub error : (is_some v.pending_error && not (is_closed v.state)) ≡ false
   pub reset : (v.owes_reset && not (is_closed v.state && v.released)) ≡ false
   pub release : (v.released && not (is_write_closed v.state)) ≡ false

@@ -1,12 +1,14 @@
 -- The windows that the two ends advertise to each other, and how much may go out at once (RFC 9293 sections 3.8.6 and 3.10.7.4).
-use Rattle.std.specs.Prelude.{ℕ, ◌+◌, ◌-◌, ◌%◌, ◌^◌, ◌==◌, ◌&&◌, ◌||◌, not, min, Bool, if◌then◌else◌, length}
+use Rattle.std.specs.Prelude.{ℕ, ◌+◌, ◌-◌, ◌*◌, ◌%◌, ◌^◌, ◌==◌, ◌&&◌, ◌||◌, not, nat_le, nat_lt, min, max, Bool, if◌then◌else◌, length}
+use Rattle.tcp_segment.specs.declared.TheConstants.{MSS}
 use Rattle.tcp_state.specs.Numbers.{is_before}
 use Rattle.tcp_state.specs.declared.buffers.TheConstants.{CAPACITY}
 use Rattle.tcp_state.specs.Halves.{Sending, Receiving}
+use Rattle.tcp_state.specs.Stream.{outstanding, receive_window}
 
 -- the peer's SYN has its window and the size of the segments that it takes
 abbrev pub after_syn_heard : Sending → ℕ → ℕ → ℕ → Sending
-after_syn_heard s number window smss = record s { window = window; wl1 = number; smss = smss }
+after_syn_heard s number window smss = record s { window = window; largest = max s.largest window; wl1 = number; smss = smss }
 
 -- A segment updates the send window where its acknowledgement is not below SND.UNA, and where it is no older than the one that updated it last
 -- (section 3.10.7.4, fifth): SND.UNA =< SEG.ACK, and SND.WL1 < SEG.SEQ or (SND.WL1 = SEG.SEQ and SND.WL2 =< SEG.ACK)
@@ -14,16 +16,44 @@ abbrev pub updates_window : Sending → ℕ → ℕ → Bool
 updates_window s number ack = not (is_before ack s.una) && (is_before s.wl1 number || (s.wl1 == number && not (is_before ack s.wl2)))
 
 abbrev pub after_window_update : Sending → ℕ → ℕ → ℕ → Sending
-after_window_update s number ack window = if updates_window s number ack then record s { window = window; wl1 = number; wl2 = ack } else s
+after_window_update s number ack window = if updates_window s number ack then record s { window = window; largest = max s.largest window; wl1 = number; wl2 = ack } else s
 
--- how many octets may go out in one segment where nothing is outstanding
+-- how many octets are held that have not gone out: D
+abbrev pub unsent : Sending → ℕ
+unsent s = length s.held - outstanding s
+
+-- the usable window: how many numbers may go out beside those that are outstanding: U
+abbrev pub usable : Sending → ℕ
+usable s = s.window - outstanding s
+
+-- how many new octets may go out: min (D, U)
 abbrev pub sendable : Sending → ℕ
-sendable s = min (min (length s.held) s.smss) s.window
+sendable s = min (unsent s) (usable s)
 
--- how many octets can still come: the window to advertise
+-- those of the next segment
+abbrev pub next_count : Sending → ℕ
+next_count s = min (sendable s) s.smss
+
+-- A segment of new octets is worth its way (section 3.8.6.2.1): it is full; or nothing is outstanding, and it takes all that is held, or half the largest window that the peer ever advertised; or
+-- what is held waited for more as long as it may. So small segments wait for what is outstanding (Nagle, RFC 1122 section 4.2.3.4).
+abbrev pub is_worth_sending : Sending → Bool → Bool
+is_worth_sending s overridden =
+    nat_le s.smss (sendable s)
+    || ((outstanding s == 0) && (nat_le (unsent s) (usable s) || nat_le s.largest (2 * sendable s)))
+    || overridden
+
+-- there are new octets that may go out and are not worth it yet
+abbrev pub waits_for_more : Sending → Bool → Bool
+waits_for_more s overridden = nat_lt 0 (sendable s) && not (is_worth_sending s overridden)
+
+-- how many octets can still come
 abbrev pub receive_room : Receiving → ℕ
 receive_room r = CAPACITY - length r.readable
 
--- the whole room is advertised
+-- The window to advertise would grow by a segment at least: a smaller step is kept back (section 3.8.6.2.2), so that the peer sends no small segments into it.
+abbrev pub has_grown : Receiving → Bool
+has_grown r = nat_le (receive_window r + MSS) (receive_room r)
+
+-- the window that is advertised: the whole room where that is a step worth telling, else up to the edge that it had
 abbrev pub after_advertisement : Receiving → Receiving
-after_advertisement r = record r { edge = (r.rnext + receive_room r) % 2 ^ 32 }
+after_advertisement r = if has_grown r then record r { edge = (r.rnext + receive_room r) % 2 ^ 32 } else r

@@ -1,18 +1,30 @@
 //! What an arriving segment does (RFC 9293 section 3.10.7).
 
-ghost use Rattle.std.specs.Prelude.{◌≡◌, true, false, ◌&&◌, ◌||◌, not, if◌then◌else◌, IsTrue, ◌==◌};
-ghost use Rattle.tcp_state.specs.View.{is_opening, is_syn_sent, is_syn_received, is_closed, is_fin_next};
-ghost use Rattle.tcp_state.specs.Arrival.{after_segment, after_syn_ack, owing_ack, after_establishment, after_ack, is_read_on, after_window, after_text, after_acknowledging_segment, after_acceptable_segment, ends_by_syn, is_acceptable_to, fin_acknowledged, after_new_ack, after_fin, after_reset, reset_error, after_rst_in_syn_sent, after_rst, is_acting_reset, ends_by_reset, is_right_syn_ack, is_simultaneous_syn, after_simultaneous_syn, fate, after_segment_at, after_heard, is_lost, is_read, brings_more, after_lost, repeats_fin, is_rejected, ends_opening};
+ghost use Rattle.std.specs.Prelude.{◌≡◌, ◌≤◌, ◌-◌, [], true, false, ◌&&◌, ◌||◌, not, if◌then◌else◌, IsTrue, ◌==◌};
+ghost use Rattle.tcp_state.specs.View.{is_opening, is_syn_sent, is_syn_received, is_closed, awaits_fin_ack, after_reset};
+ghost use Rattle.tcp_state.specs.Arrival.{after_segment, after_syn_ack, owing_ack, after_establishment, after_ack, is_read_on, after_window, after_text, after_acknowledging_segment, after_acceptable_segment, ends_by_syn, is_acceptable_to, fin_acknowledged, after_new_ack, after_fin, reset_error, after_rst_in_syn_sent, after_rst, is_acting_reset, ends_by_reset, is_right_syn_ack, is_simultaneous_syn, after_simultaneous_syn, fate, after_segment_at, after_heard, is_lost, is_read, brings_more, after_lost, repeats_fin, is_rejected, ends_opening, is_of_fin, may_delay, answers_probe, before, timed_by, begins_wait};
 ghost use Rattle.tcp_state.specs.declared.state.State.{State};
 ghost use Rattle.tcp_segment.specs.Segment.{smss_of};
-ghost use Rattle.tcp_state.specs.Stream.{is_new_ack, after_syn};
+ghost use Rattle.tcp_segment.specs.Wire.{past};
+ghost use Rattle.tcp_state.specs.Stream.{outstanding, is_new_ack, after_syn};
 ghost use Rattle.tcp_state.specs.Windows.{after_syn_heard};
 
 use crate::buffers::CAPACITY;
-use crate::connection::{Connection, Fate, Resend};
+use crate::connection::{Connection, Fate};
 use crate::state::State;
 use clock::Moment;
+use retransmit::Timers;
 use tcp_segment::{Seq, TcpView};
+
+/// What the clock has to know of a connection before a segment and of the segment.
+#[derive(Clone, Copy)]
+pub(crate) struct Before {
+    state: State,
+    una: Seq,
+    owes_reset: bool,
+    repeats_fin: bool,
+    answers_probe: bool,
+}
 
 impl Connection {
     /// Takes a segment from the peer, and answers what becomes of the connection's place.
@@ -20,24 +32,64 @@ impl Connection {
         ensures fate { result ≡ fate self.old segment.now }
         ensures after { self.new ≡ after_segment_at self.old segment.now now }
     {
-        let before = self.state;
-        let owed_reset = self.owes_reset;
-        let waits_anew = self.repeats_fin(segment);
+        if self.state == State::Closed {
+            return Fate::Stays;
+        }
+        let before = self.before(segment);
         let fate = self.hear(segment);
-        if waits_anew || before.begins_wait(self.state) || (self.owes_reset && !owed_reset) {
-            self.since = now;
+        if fate != Fate::Rejected {
+            self.note_heard(before, now);
         }
         fate
     }
 
+    /// What the clock has to know before a segment is heard.
+    fn before(&self, segment: &TcpView<'_>) -> Before
+        ensures { result ≡ before self.now segment.now }
+    {
+        Before {
+            state: self.state,
+            una: self.sender.una(),
+            owes_reset: self.owes_reset,
+            repeats_fin: self.repeats_fin(segment),
+            answers_probe: self.answers_probe(segment),
+        }
+    }
+
+    /// Whether a segment shows that a peer whose window is closed is there.
+    fn answers_probe(&self, segment: &TcpView<'_>) -> bool
+        ensures { result ≡ answers_probe self.now segment.now }
+    {
+        !self.state.is_opening()
+            && self.sender.window() == 0
+            && self.is_acceptable(segment)
+            && segment.flags().ack
+            && !segment.flags().rst
+    }
+
+    /// A segment was heard at this moment.
+    fn note_heard(&mut self, before: Before, now: Moment)
+        ensures { self.new ≡ timed_by before self.old now }
+    {
+        let moved = self.sender.una() != before.una;
+        if moved {
+            self.pace
+                .acknowledge(self.sender.una(), before.state.is_opening(), now);
+        } else if before.answers_probe {
+            self.pace.progress();
+        }
+        if before.starts_wait(self.state, self.owes_reset) {
+            self.since = now;
+        }
+        self.clock(moved, now);
+    }
+
     /// Takes a segment, without the clock.
     fn hear(&mut self, segment: &TcpView<'_>) -> Fate
+        requires { is_closed self.old.state ≡ false }
         ensures fate { result ≡ fate self.old segment.now }
         ensures after { self.new ≡ after_heard self.old segment.now }
     {
-        if self.state == State::Closed {
-            return Fate::Stays;
-        }
         if self.is_lost(segment) {
             self.hear_lost(segment);
             return Fate::Stays;
@@ -241,7 +293,7 @@ impl Connection {
     {
         let was_sent = self.sender.outstanding() != 0;
         self.take_syn(segment, if was_sent { CAPACITY as u16 } else { 0 });
-        self.resend = if was_sent { Resend::Due } else { Resend::Idle };
+        self.pace.mark_all(self.sender.outstanding());
     }
 
     /// Takes what the peer's SYN says, which leads to SYN-RECEIVED. Our SYN advertised a window of so many octets to it.
@@ -263,7 +315,7 @@ impl Connection {
         self.take_syn(segment, CAPACITY as u16);
         self.sender.acknowledge_syn();
         self.state = State::Established;
-        self.resend = Resend::Idle;
+        self.pace.unmark();
         self.owes_ack = true;
     }
 
@@ -301,22 +353,54 @@ impl Connection {
         is_read_on
     }
 
-    /// Numbers that were outstanding are acknowledged: octets, or the FIN once they all were.
+    /// Numbers that were outstanding are acknowledged: octets, and the FIN behind them.
     fn hear_new_ack(&mut self, acknowledgement: Seq)
         requires opened { is_opening self.old.state ≡ false }
         requires new { is_new_ack self.old.sending acknowledgement.0 ≡ true }
-        ensures { self.new ≡ (if is_fin_next self.old then fin_acknowledged (after_new_ack self.old acknowledgement.0) else after_new_ack self.old acknowledgement.0) }
+        ensures { self.new ≡ (if is_of_fin self.old acknowledgement.0 then fin_acknowledged (after_new_ack self.old acknowledgement.0) else after_new_ack self.old acknowledgement.0) }
     {
-        let is_fin = self.is_fin_next();
-        self.sender.acknowledge(acknowledgement);
-        if self.sender.outstanding() == 0 {
-            self.resend = Resend::Idle;
+        if self.is_of_fin(acknowledgement) {
+            self.move_una(acknowledgement);
+            self.finish();
+        } else {
+            self.move_una(acknowledgement);
         }
-        if is_fin {
-            self.state = self.state.beyond_fin();
-            if self.state == State::Closed {
-                self.owes_ack = false;
-            }
+    }
+
+    /// Whether an acknowledgement is past all that is held, which is of our FIN.
+    fn is_of_fin(&self, acknowledgement: Seq) -> bool
+        ensures value { result ≡ is_of_fin self.now acknowledgement.0 }
+        ensures last { result ≡ true → outstanding self.now.sending ≤ past acknowledgement.0 self.now.sending.una }
+    {
+        let gained = acknowledgement.past(self.sender.una()) as usize;
+        self.state.awaits_fin_ack() && self.sender.held().len() < gained
+    }
+
+    /// SND.UNA moves to an acknowledgement.
+    fn move_una(&mut self, acknowledgement: Seq)
+        requires opened { is_opening self.old.state ≡ false }
+        requires new { is_new_ack self.old.sending acknowledgement.0 ≡ true }
+        ensures after { self.new ≡ after_new_ack self.old acknowledgement.0 }
+        ensures left { outstanding self.new.sending ≡ outstanding self.old.sending - past acknowledgement.0 self.old.sending.una }
+    {
+        let gained = acknowledgement.past(self.sender.una());
+        self.sender.acknowledge(acknowledgement);
+        self.pace.move_mark(gained, self.sender.outstanding());
+    }
+
+    /// Our FIN is acknowledged, and all octets before it.
+    fn finish(&mut self)
+        requires waits { awaits_fin_ack self.old.state ≡ true }
+        requires held { self.old.sending.held ≡ [] }
+        requires all { outstanding self.old.sending ≡ 0 }
+        ensures { self.new ≡ fin_acknowledged self.old }
+    {
+        self.state = self.state.beyond_fin();
+        if self.state == State::Closed {
+            self.owes_ack = false;
+            self.delays_ack = false;
+            self.pace.stop();
+            self.timers = Timers::new();
         }
     }
 
@@ -327,10 +411,10 @@ impl Connection {
     {
         self.sender.acknowledge_syn();
         self.state = State::Established;
-        self.resend = Resend::Idle;
+        self.pace.unmark();
     }
 
-    /// Takes the octets, those ahead of a gap to be kept, and owes an ACK for any.
+    /// Takes the octets, those ahead of a gap to be kept, and owes an ACK for any, at once or later.
     fn hear_octets(&mut self, segment: &TcpView<'_>)
         requires { is_opening self.old.state ≡ false }
         ensures { self.new ≡ after_text self.old segment.now }
@@ -339,8 +423,20 @@ impl Connection {
         if octets.is_empty() || !self.state.is_receiving() {
             return;
         }
-        self.owes_ack = true;
+        let is_second = self.delays_ack;
+        if is_second || !self.may_delay(segment) {
+            self.owes_ack = true;
+        }
+        self.delays_ack = true;
         self.receiver.take(segment.number(), octets);
+    }
+
+    /// Whether the acknowledgement of a segment's octets may wait for a second segment: they stand next, and nothing is kept ahead of a
+    /// gap.
+    fn may_delay(&self, segment: &TcpView<'_>) -> bool
+        ensures { result ≡ may_delay self.now segment.now }
+    {
+        segment.number() == self.receiver.rnext() && self.receiver.is_gapless()
     }
 
     /// Takes a FIN that stands next behind the octets in place, and owes an ACK for it, and for one ahead of a gap too.
@@ -357,5 +453,14 @@ impl Connection {
             self.receiver.hear_end();
             self.state = self.state.beyond_end();
         }
+    }
+}
+
+impl Before {
+    /// Whether a wait is counted from the segment that led to a state.
+    fn starts_wait(self, state: State, owes_reset: bool) -> bool
+        ensures { result ≡ (self.repeats_fin || begins_wait self.state state || (owes_reset && not self.owes_reset)) }
+    {
+        self.repeats_fin || self.state.begins_wait(state) || owes_reset && !self.owes_reset
     }
 }

@@ -1,12 +1,13 @@
 //! What a caller does with a connection that is open: it sends, receives and closes its side (RFC 9293 section 3.10).
 
-ghost use Rattle.std.specs.Prelude.{◌≡◌, ◌<◌, ◌++◌, length, take, drop, if◌then◌else◌, ◌||◌, ◌==◌, Ok, Err, OnOk, OnErr, is_some};
+ghost use Rattle.std.specs.Prelude.{◌≡◌, ◌<◌, ◌≤◌, ◌++◌, false, length, take, drop, if◌then◌else◌, ◌||◌, ◌==◌, Ok, Err, OnOk, OnErr, is_some};
 ghost use Rattle.std.specs.Result.{result_err};
-ghost use Rattle.tcp_state.specs.View.{is_opening, is_read_closed};
-ghost use Rattle.tcp_state.specs.Calls.{send_answer, after_send, recv_answer, after_recv, recv_count, shutdown_refusal, after_shutdown};
+ghost use Rattle.tcp_state.specs.View.{is_opening, is_read_closed, is_write_closed};
+ghost use Rattle.tcp_state.specs.Stream.{send_room};
+ghost use Rattle.tcp_state.specs.Calls.{send_answer, with_octets, after_send, recv_answer, after_recv, recv_count, shutdown_refusal, after_shutdown};
 
 use crate::connection::Connection;
-use crate::state::State;
+use clock::Moment;
 use thiserror::Error;
 
 /// Why a connection refuses a call, by its POSIX name. Its text is in words: the number and the name that a caller of a host sees are that host's.
@@ -27,6 +28,9 @@ pub enum Refusal {
     /// Our side is closed.
     #[error("our side is closed")]
     EPIPE,
+    /// The peer did not answer for too long.
+    #[error("the peer did not answer for too long")]
+    ETIMEDOUT,
 }
 
 /// What a receive answers.
@@ -42,9 +46,9 @@ impl Connection {
     /// Takes as many of the octets as there is room for, and says how many (POSIX `send`).
     ///
     /// `EAGAIN` while the connection is opening, `EPIPE` once our side is closed, `EAGAIN` where octets are given and there is no room.
-    pub fn send(&mut self, octets: &[u8]) -> Result<usize, Refusal>
+    pub fn send(&mut self, now: Moment, octets: &[u8]) -> Result<usize, Refusal>
         ensures answer { result ≡ send_answer self.old octets.now }
-        ensures after { self.new ≡ after_send self.old octets.now }
+        ensures after { self.new ≡ after_send self.old octets.now now }
     {
         self.ask_error()?;
         if self.state.is_opening() {
@@ -57,8 +61,20 @@ impl Connection {
         if count == 0 && !octets.is_empty() {
             return Err(Refusal::EAGAIN);
         }
-        self.sender.append(&octets[..count]);
+        self.take(now, &octets[..count]);
         Ok(count)
+    }
+
+    /// Takes octets, for which there is room, and begins the clock for them.
+    fn take(&mut self, now: Moment, octets: &[u8])
+        requires opened { (is_opening self.old.state || is_write_closed self.old.state) ≡ false }
+        requires room { length octets.now ≤ send_room self.old.sending }
+        ensures { self.new ≡ with_octets self.old octets.now now }
+    {
+        if !octets.is_empty() {
+            self.sender.append(octets);
+            self.clock(false, now);
+        }
     }
 
     /// Moves the first readable octets into `buffer`, which is not empty (POSIX `recv`). The end of the stream is answered where nothing
@@ -77,9 +93,6 @@ impl Connection {
         }
         if self.receiver.is_empty() {
             return self.end();
-        }
-        if self.receiver.window() == 0 && self.state != State::Closed {
-            self.owes_ack = true;
         }
         Ok(Received::Octets(self.receiver.read(buffer)))
     }
@@ -115,9 +128,9 @@ impl Connection {
     /// Closes our side (RFC 9293 section 3.10.4): a FIN follows the octets that are held. Closed again, it stays so.
     ///
     /// `ENOTCONN` while the connection is opening.
-    pub fn shutdown(&mut self) -> Result<(), Refusal>
+    pub fn shutdown(&mut self, now: Moment) -> Result<(), Refusal>
         ensures refused { result_err result ≡ shutdown_refusal self.old }
-        ensures ok { OnOk result (self.new ≡ after_shutdown self.old) }
+        ensures ok { OnOk result (self.new ≡ after_shutdown self.old now) }
         ensures err { OnErr result (self.new ≡ self.old) }
     {
         self.ask_error()?;
@@ -125,6 +138,7 @@ impl Connection {
             return Err(Refusal::ENOTCONN);
         }
         self.state = self.state.beyond_shutdown();
+        self.clock(false, now);
         Ok(())
     }
 }

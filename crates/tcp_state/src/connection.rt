@@ -1,16 +1,18 @@
 //! A connection: what it is made of, how it is opened, and what can be asked of it (RFC 9293 section 3.3).
 
 ghost use Rattle.std.specs.Prelude.{◌≡◌};
-ghost use Rattle.tcp_state.specs.View.{View, IsSound, opened_actively, is_fin_next, is_over, reset_since};
+ghost use Rattle.tcp_state.specs.View.{View, IsSound, opened_actively, is_over, reset_since};
 ghost use Rattle.tcp_state.specs.Arrival.{opened_passively};
 
 use crate::buffers::Buffers;
 use crate::calls::Refusal;
+use crate::pace::Pace;
 use crate::receiver::Receiver;
 use crate::sender::Sender;
 use crate::state::State;
 use clock::Moment;
 use ipv4::Endpoint;
+use retransmit::Timers;
 use std::marker::Model;
 use tcp_segment::{Seq, TcpView};
 
@@ -27,17 +29,6 @@ pub enum Fate {
     Rejected,
 }
 
-/// Whether and when what is outstanding goes out again.
-#[derive(Clone, Copy, Debug, PartialEq, Eq)]
-pub enum Resend {
-    /// Nothing is outstanding.
-    Idle,
-    /// At the first tick at this moment or later.
-    At(Moment),
-    /// Now.
-    Due,
-}
-
 /// One TCP connection.
 #[derive(Drop)]
 pub struct Connection {
@@ -48,7 +39,9 @@ pub struct Connection {
     pub(crate) sender: Sender,
     pub(crate) receiver: Receiver,
     pub(crate) owes_ack: bool,
-    pub(crate) resend: Resend,
+    pub(crate) delays_ack: bool,
+    pub(crate) pace: Pace,
+    pub(crate) timers: Timers,
     pub(crate) pending_error: Option<Refusal>,
     pub(crate) is_released: bool,
     pub(crate) owes_reset: bool,
@@ -81,7 +74,9 @@ impl Connection {
             sender: Sender::new(send, isn),
             receiver: Receiver::new(receive),
             owes_ack: false,
-            resend: Resend::Idle,
+            delays_ack: false,
+            pace: Pace::new(),
+            timers: Timers::new(),
             pending_error: None,
             is_released: false,
             owes_reset: false,
@@ -112,7 +107,9 @@ impl Connection {
             sender,
             receiver,
             owes_ack: false,
-            resend: Resend::Idle,
+            delays_ack: false,
+            pace: Pace::new(),
+            timers: Timers::new(),
             pending_error: None,
             is_released: false,
             owes_reset: false,
@@ -126,13 +123,6 @@ impl Connection {
         ensures sound { IsSound self.now }
     {
         self.state
-    }
-
-    /// Whether all octets are acknowledged, and the FIN of a closed side is not.
-    pub(crate) fn is_fin_next(&self) -> bool
-        ensures { result ≡ is_fin_next self.now }
-    {
-        self.state.awaits_fin_ack() && self.sender.is_empty()
     }
 
     /// Our end.

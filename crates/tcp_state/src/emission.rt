@@ -1,20 +1,20 @@
 //! What is due, and how it goes out (RFC 9293 section 3.8).
 
-ghost use Rattle.std.specs.Prelude.{◌≡◌, ◌+◌, ◌<◌, ◌≤◌, ◌++◌, length, drop, IfSome, MatchOption, option_map, min, if◌then◌else◌, true, false, Some};
-ghost use Rattle.tcp_state.specs.View.{is_opening, is_syn_sent, is_due, most_outstanding};
-ghost use Rattle.tcp_state.specs.Due.{MayGoOut, first_due, again, flags_of, number_of, octets_of, window_of, head_of, segment_octets, emitted_len, after_emitted, after_ack_paid, after_numbers};
+ghost use Rattle.std.specs.Prelude.{◌≡◌, ◌+◌, ◌<◌, ◌≤◌, ◌++◌, length, drop, IfSome, MatchOption, option_map, is_some, if◌then◌else◌, ◌||◌, ◌==◌, ◌^◌, true, false, Some};
+ghost use Rattle.tcp_state.specs.View.{is_opening, is_syn_sent, most_outstanding};
+ghost use Rattle.tcp_state.specs.Stream.{outstanding};
+ghost use Rattle.tcp_state.specs.Timing.{probes};
+ghost use Rattle.tcp_state.specs.Due.{MayGoOut, IsHeld, first_due, ack_due, again, goes_again, again_from, sends_new, new_octets, sends_fin, fin_alone, new_due, probe_stretch, numbers_of, end_of, flags_of, flags_of_stretch, number_of, octets_of, octets_of_stretch, window_of, head_of, segment_octets, emitted_len, after_emitted, after_going_out, after_ack_paid, after_numbers, after_resent, after_first_sent, after_new_octets, brings_new_octets, after_stretch, after_probe, after_syn_out};
 
-use crate::connection::{Connection, Resend};
+use crate::connection::Connection;
 use crate::state::State;
 use clock::Moment;
+use retransmit::TimerKind;
 use tcp_segment::{Flags, Head, Seq};
 
 /// The octets that a segment has at most: a header of 20 octets and `tcp_segment::MSS` of text. A SYN's header has 24,
 /// and no text stands behind it.
 pub const MOST_SEGMENT: usize = 1_480;
-
-/// How long what is outstanding waits before it goes out again, in milliseconds.
-const RESEND_AFTER: u64 = 1_000;
 
 /// A segment that may go out.
 #[derive(Clone, Copy, Debug, PartialEq, Eq)]
@@ -23,12 +23,33 @@ pub enum Due {
     Rst,
     /// The SYN, or the SYN-ACK where a SYN came first.
     Syn,
-    /// So many octets from the oldest unacknowledged number on.
-    Text(usize),
-    /// The FIN, behind all octets.
-    Fin,
+    /// A stretch of the stream, for the first time or again.
+    Text(Stretch),
+    /// The oldest octet that is not acknowledged, or the FIN, into a closed window.
+    Probe,
     /// An acknowledgement alone.
     Ack,
+}
+
+/// A stretch of the octets that are held and of the FIN behind them.
+#[derive(Clone, Copy, Debug, PartialEq, Eq)]
+pub struct Stretch {
+    /// Where it begins: how many octets stand between SND.UNA and its first.
+    pub offset: usize,
+    /// How many octets it has.
+    pub count: usize,
+    /// Whether the FIN follows them.
+    pub fin: bool,
+}
+
+impl Stretch {
+    /// How many numbers it takes.
+    fn numbers(self) -> usize
+        requires { self.count < 2 ^ 32 }
+        ensures { result ≡ numbers_of self }
+    {
+        self.count + usize::from(self.fin)
+    }
 }
 
 impl Connection {
@@ -40,37 +61,145 @@ impl Connection {
         if self.owes_reset {
             return Some(Due::Rst);
         }
-        let outstanding = self.sender.outstanding();
-        let goes_again = self.resend == Resend::Due;
         if self.state.is_opening() {
-            if outstanding == 0 || goes_again {
-                return Some(Due::Syn);
-            }
-        } else if goes_again {
-            return Some(self.again());
-        } else if outstanding == 0 {
-            if self.sender.sendable() > 0 {
-                return Some(Due::Text(self.sender.sendable()));
-            }
-            if self.is_fin_next() {
-                return Some(Due::Fin);
-            }
+            return self.opening_due();
         }
-        if self.owes_ack { Some(Due::Ack) } else { None }
+        match self.again_due() {
+            Some(due) => Some(due),
+            None => self.new_due(),
+        }
     }
 
-    /// What is outstanding, once more.
-    fn again(&self) -> Due
+    /// What is due first while the connection opens.
+    fn opening_due(&self) -> Option<Due>
+        requires { is_opening self.now.state ≡ true }
+        ensures first { result ≡ (if (outstanding self.now.sending == 0) || is_some self.now.pace.mark then Some Due.Syn else ack_due self.now) }
+        ensures may { IfSome result (MayGoOut self.now) }
+    {
+        if self.sender.outstanding() == 0 || self.pace.mark().is_some() {
+            return Some(Due::Syn);
+        }
+        self.ack_due()
+    }
+
+    /// An acknowledgement alone, where one is owed or the window to advertise has grown by enough.
+    fn ack_due(&self) -> Option<Due>
+        ensures first { result ≡ ack_due self.now }
+        ensures may { IfSome result (MayGoOut self.now) }
+    {
+        let is_window_told = !self.state.is_opening()
+            && self.state != State::Closed
+            && self.receiver.has_grown();
+        (self.owes_ack || is_window_told).then_some(Due::Ack)
+    }
+
+    /// What goes out again from the resend mark on, within the peer's window.
+    fn again_due(&self) -> Option<Due>
+        requires { is_opening self.now.state ≡ false }
+        ensures first { result ≡ again_from self.now self.now.pace.mark }
+        ensures may { IfSome result (MayGoOut self.now) }
+    {
+        let mark = self.pace.mark()?;
+        self.goes_again(mark).then_some(Due::Text(self.again(mark)))
+    }
+
+    /// Whether what stands at a distance past SND.UNA goes out again.
+    fn goes_again(&self, mark: u32) -> bool
+        ensures { result ≡ goes_again self.now mark }
+    {
+        mark == 0 || mark < self.sender.window()
+    }
+
+    /// What is outstanding from a distance past SND.UNA on, as much as one segment has room for.
+    fn again(&self, mark: u32) -> Stretch
         requires opened { is_opening self.now.state ≡ false }
-        requires due { is_due self.now.resend ≡ true }
-        ensures value { result ≡ again self.now }
+        requires within { mark < outstanding self.now.sending }
+        ensures value { result ≡ again self.now mark }
+        ensures held { IsHeld self.now result }
+    {
+        let (held, outstanding) = (self.sender.held().len(), self.sender.outstanding() as usize);
+        let offset = mark as usize;
+        let count = held
+            .min(outstanding)
+            .saturating_sub(offset)
+            .min(self.sender.smss());
+        Stretch {
+            offset,
+            count,
+            fin: offset + count == held && held < outstanding,
+        }
+    }
+
+    /// What is due first past the opening where nothing goes out again.
+    fn new_due(&self) -> Option<Due>
+        requires { is_opening self.now.state ≡ false }
+        ensures first { result ≡ new_due self.now }
+        ensures may { IfSome result (MayGoOut self.now) }
+    {
+        if self.sends_new() {
+            return Some(Due::Text(self.new_octets()));
+        }
+        if self.sends_fin() {
+            return Some(Due::Text(self.fin_alone()));
+        }
+        if self.pace.owes_probe() && self.probes() {
+            return Some(self.probe());
+        }
+        self.ack_due()
+    }
+
+    /// Whether new octets go out.
+    fn sends_new(&self) -> bool
+        ensures { result ≡ sends_new self.now }
+    {
+        self.sender.sendable() > 0 && self.sender.is_worth_sending(self.pace.is_overridden())
+    }
+
+    /// The new octets of the next segment.
+    fn new_octets(&self) -> Stretch
+        requires opened { is_opening self.now.state ≡ false }
+        requires some { sends_new self.now ≡ true }
+        ensures value { result ≡ new_octets self.now }
+        ensures held { IsHeld self.now result }
+    {
+        Stretch {
+            offset: self.sender.outstanding() as usize,
+            count: self.sender.next_count(),
+            fin: false,
+        }
+    }
+
+    /// Whether the FIN of a closed side goes out behind all octets.
+    fn sends_fin(&self) -> bool
+        ensures { result ≡ sends_fin self.now }
+    {
+        let outstanding = self.sender.outstanding();
+        self.state.awaits_fin_ack()
+            && outstanding as usize == self.sender.held().len()
+            && outstanding < self.sender.window()
+    }
+
+    /// The FIN alone.
+    fn fin_alone(&self) -> Stretch
+        requires opened { is_opening self.now.state ≡ false }
+        requires due { sends_fin self.now ≡ true }
+        ensures value { result ≡ fin_alone self.now }
+        ensures held { IsHeld self.now result }
+    {
+        Stretch {
+            offset: self.sender.outstanding() as usize,
+            count: 0,
+            fin: true,
+        }
+    }
+
+    /// The probe of a closed window.
+    fn probe(&self) -> Due
+        requires { probes self.now ≡ true }
+        ensures value { result ≡ Due.Probe }
         ensures may { MayGoOut self.now result }
     {
-        if self.is_fin_next() {
-            Due::Fin
-        } else {
-            Due::Text(self.sender.outstanding() as usize)
-        }
+        Due::Probe
     }
 
     /// Writes the segment that is due first to the front of `out`, and answers its length in octets.
@@ -86,14 +215,14 @@ impl Connection {
         let due = self.due()?;
         let len = self.write(due, out);
         self.note_emitted(due, now);
+        self.clock(false, now);
         Some(len)
     }
 
     /// Writes the segment for what is due to the front of `out`.
     fn write(&self, due: Due, out: &mut [u8]) -> usize
-        requires first { first_due self.now ≡ Some due }
+        requires may { MayGoOut self.now due }
         requires room { MOST_SEGMENT ≤ length out.old }
-        ensures may { MayGoOut self.now due }
         ensures len { result ≡ emitted_len self.now due }
         ensures bound { result ≤ MOST_SEGMENT }
         ensures frame { out.new ≡ segment_octets self.now due ++ drop result out.old }
@@ -106,29 +235,48 @@ impl Connection {
         head.emit(local, peer, octets.len(), out)
     }
 
+    /// What a probe brings.
+    fn probe_stretch(&self) -> Stretch
+        ensures { result ≡ probe_stretch self.now }
+    {
+        let has_octets = !self.sender.is_empty();
+        Stretch {
+            offset: 0,
+            count: usize::from(has_octets),
+            fin: !has_octets,
+        }
+    }
+
     /// The octets of the segment for what is due.
     fn octets(&self, due: Due) -> &[u8]
         requires { MayGoOut self.now due }
         ensures { result.now ≡ octets_of self.now due }
     {
         match due {
-            Due::Text(count) => &self.sender.held()[..count],
-            Due::Rst | Due::Syn | Due::Fin | Due::Ack => &[],
+            Due::Text(stretch) => self.octets_of(stretch),
+            Due::Probe => self.octets_of(self.probe_stretch()),
+            Due::Rst | Due::Syn | Due::Ack => &[],
         }
+    }
+
+    /// The octets of a stretch.
+    fn octets_of(&self, stretch: Stretch) -> &[u8]
+        requires { IsHeld self.now stretch }
+        ensures { result.now ≡ octets_of_stretch self.now stretch }
+    {
+        &self.sender.held()[stretch.offset..stretch.offset + stretch.count]
     }
 
     /// The header of the segment for what is due.
     fn head(&self, due: Due) -> Head
+        requires { MayGoOut self.now due }
         ensures { result ≡ head_of self.now due }
     {
         let flags = self.flags(due);
         Head {
             source: self.local.port,
             destination: self.peer.port,
-            number: match due {
-                Due::Syn | Due::Text(_) | Due::Fin => self.sender.una(),
-                Due::Rst | Due::Ack => self.sender.nxt(),
-            },
+            number: self.number(due),
             acknowledgement: if flags.ack {
                 self.receiver.rnext()
             } else {
@@ -139,18 +287,31 @@ impl Connection {
         }
     }
 
+    /// The number of the segment for what is due.
+    fn number(&self, due: Due) -> Seq
+        requires { MayGoOut self.now due }
+        ensures { result.0 ≡ number_of self.now due }
+    {
+        match due {
+            Due::Syn | Due::Probe => self.sender.una(),
+            Due::Text(stretch) => self.sender.una() + stretch.offset as u32,
+            Due::Rst | Due::Ack => self.sender.nxt(),
+        }
+    }
+
     /// The window that the segment for what is due advertises.
     fn window(&self, due: Due) -> u16
         ensures { result ≡ window_of self.now due }
     {
         match due {
             Due::Rst => 0,
-            Due::Syn | Due::Text(_) | Due::Fin | Due::Ack => self.receiver.room(),
+            Due::Syn | Due::Text(_) | Due::Probe | Due::Ack => self.receiver.next_window(),
         }
     }
 
     /// The control bits of the segment for what is due.
     fn flags(&self, due: Due) -> Flags
+        requires { MayGoOut self.now due }
         ensures { result ≡ flags_of self.now due }
     {
         let mut flags = Flags::default();
@@ -160,60 +321,124 @@ impl Connection {
                 flags.syn = true;
                 flags.ack = self.state == State::SynReceived;
             }
-            Due::Text(count) => {
-                flags.ack = true;
-                flags.psh = count == self.sender.held().len();
-            }
-            Due::Fin => {
-                flags.fin = true;
-                flags.ack = true;
-            }
+            Due::Text(stretch) => return self.flags_of(stretch),
+            Due::Probe => return self.flags_of(self.probe_stretch()),
             Due::Ack => flags.ack = true,
         }
+        flags
+    }
+
+    /// The control bits of a segment that brings a stretch.
+    fn flags_of(&self, stretch: Stretch) -> Flags
+        requires { IsHeld self.now stretch }
+        ensures { result ≡ flags_of_stretch self.now stretch }
+    {
+        let mut flags = Flags::default();
+        flags.ack = true;
+        flags.fin = stretch.fin;
+        flags.psh = stretch.count > 0 && stretch.offset + stretch.count == self.sender.held().len();
         flags
     }
 
     /// The segment for what was due went out at this moment.
     fn note_emitted(&mut self, due: Due, now: Moment)
         requires { MayGoOut self.old due }
-        ensures { self.new ≡ after_emitted self.old due now }
+        ensures { self.new ≡ after_going_out self.old due now }
     {
         match due {
             Due::Rst => self.owes_reset = false,
             Due::Syn => {
-                self.note_numbers(1, now);
+                self.note_numbers(0, 1, now);
                 if self.state == State::SynReceived {
                     self.pay_ack();
                 }
             }
-            Due::Text(count) => {
-                self.note_numbers(count, now);
+            Due::Text(stretch) => {
+                self.note_stretch(stretch, now);
                 self.pay_ack();
             }
-            Due::Fin => {
-                self.note_numbers(1, now);
+            Due::Probe => {
+                self.note_probe();
                 self.pay_ack();
             }
             Due::Ack => self.pay_ack(),
         }
     }
 
-    /// So many numbers from the oldest unacknowledged one on went out at this moment.
-    fn note_numbers(&mut self, count: usize, now: Moment)
-        requires some { 0 < count }
-        requires fits { count ≤ most_outstanding self.old }
-        ensures { self.new ≡ after_numbers self.old count now }
+    /// A stretch went out at this moment.
+    fn note_stretch(&mut self, stretch: Stretch, now: Moment)
+        requires { IsHeld self.old stretch }
+        ensures { self.new ≡ after_stretch self.old stretch now }
     {
-        self.sender.sent(count as u32);
-        self.resend = Resend::At(now.after(RESEND_AFTER));
+        let is_new = self.brings_new_octets(stretch);
+        let end = self.end_of(stretch);
+        self.note_numbers(stretch.offset as u32, end, now);
+        if is_new {
+            self.end_override();
+        }
     }
 
-    /// An acknowledgement went out, and advertised the whole room.
+    /// The distance past SND.UNA of the number behind a stretch.
+    fn end_of(&self, stretch: Stretch) -> u32
+        requires { IsHeld self.now stretch }
+        ensures value { result ≡ end_of stretch }
+        ensures most { result ≤ most_outstanding self.now }
+    {
+        let held = self.sender.held().len();
+        (stretch.offset + stretch.numbers()).min(held + 1) as u32
+    }
+
+    /// Whether a stretch brings octets that have not gone out.
+    fn brings_new_octets(&self, stretch: Stretch) -> bool
+        ensures { result ≡ brings_new_octets self.now stretch }
+    {
+        stretch.count > 0 && self.sender.outstanding() as usize <= stretch.offset
+    }
+
+    /// A probe went out.
+    fn note_probe(&mut self)
+        requires { IsHeld self.old (probe_stretch self.old) }
+        ensures { self.new ≡ after_probe self.old }
+    {
+        let is_new = self.brings_new_octets(self.probe_stretch());
+        self.sender.sent(1);
+        self.pace.note_probe();
+        if is_new {
+            self.end_override();
+        }
+    }
+
+    /// New octets went out, and none wait for more any longer.
+    fn end_override(&mut self)
+        ensures { self.new ≡ after_new_octets self.old }
+    {
+        self.pace.end_override();
+        self.timers.clear(TimerKind::Override);
+    }
+
+    /// The numbers between two distances past SND.UNA went out at this moment, the first of them again where it was outstanding.
+    fn note_numbers(&mut self, offset: u32, end: u32, now: Moment)
+        requires joined { offset ≤ outstanding self.old.sending }
+        requires some { offset < end }
+        requires fits { end ≤ most_outstanding self.old }
+        ensures { self.new ≡ after_numbers self.old offset end now }
+    {
+        let is_new = self.sender.outstanding() <= offset;
+        self.sender.sent(end);
+        if is_new {
+            self.pace.note_sent(self.sender.nxt(), now);
+        } else {
+            self.pace.note_resent(end, self.sender.outstanding());
+        }
+    }
+
+    /// An acknowledgement went out, and advertised the window.
     fn pay_ack(&mut self)
         requires { is_syn_sent self.old.state ≡ false }
         ensures { self.new ≡ after_ack_paid self.old }
     {
         self.receiver.advertise();
         self.owes_ack = false;
+        self.delays_ack = false;
     }
 }

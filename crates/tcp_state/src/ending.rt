@@ -1,15 +1,15 @@
-//! How a connection ends: by the clock, by an error, by an abort, and after its caller closed it (RFC 9293 sections 3.6, 3.9.2.2, 3.10.4, 3.10.5 and 3.10.8).
+//! How a connection ends: at the end of its wait, by an error, by an abort, and after its caller closed it (RFC 9293 sections 3.6, 3.9.2.2, 3.10.4 and 3.10.5).
 
 ghost use Rattle.std.specs.Prelude.{◌≡◌, ◌&&◌, ◌||◌, ◌==◌, false, length, if◌then◌else◌};
-ghost use Rattle.tcp_state.specs.View.{is_opening, ends_at, is_at_end, after_stop, after_resend, after_tick, tick_fate, deadline};
-ghost use Rattle.tcp_state.specs.Arrival.{after_reset};
+ghost use Rattle.tcp_state.specs.View.{is_opening, ends_at, is_at_end, after_stop, after_reset};
 ghost use Rattle.tcp_state.specs.Unreachable.{is_unreachable, after_unreachable, unreachable_fate};
 ghost use Rattle.tcp_state.specs.Calls.{aborted, aborted_at, after_abort, abort_fate, after_release, after_close, close_fate};
 
 use crate::calls::Refusal;
-use crate::connection::{Connection, Fate, Resend};
+use crate::connection::{Connection, Fate};
 use crate::state::State;
-use clock::{Moment, sooner};
+use clock::Moment;
+use retransmit::Timers;
 use tcp_segment::Seq;
 
 /// How long TIME-WAIT lasts, in milliseconds: twice the time that a segment may live (RFC 9293 section 3.4.2).
@@ -19,39 +19,8 @@ const TIME_WAIT: u64 = 240_000;
 const FIN_WAIT_2: u64 = 60_000;
 
 impl Connection {
-    /// Lets the timers act whose moment has come: what is outstanding is due again, or the connection's wait is over, and it is CLOSED
-    /// without an error.
-    ///
-    /// `Removed` where that was the end of one that its caller closed.
-    pub fn tick(&mut self, now: Moment) -> Fate
-        ensures fate { result ≡ tick_fate self.old now }
-        ensures after { self.new ≡ after_tick self.old now }
-    {
-        if !self.is_at_end(now) {
-            self.tick_resend(now);
-            return Fate::Stays;
-        }
-        self.stop();
-        if self.is_released {
-            Fate::Removed
-        } else {
-            Fate::Stays
-        }
-    }
-
-    /// Lets the timer of what is outstanding act.
-    fn tick_resend(&mut self, now: Moment)
-        ensures { self.new ≡ after_resend self.old now }
-    {
-        if let Resend::At(moment) = self.resend
-            && moment <= now
-        {
-            self.resend = Resend::Due;
-        }
-    }
-
     /// Whether the connection's wait is over.
-    fn is_at_end(&self, now: Moment) -> bool
+    pub(crate) fn is_at_end(&self, now: Moment) -> bool
         ensures { result ≡ is_at_end self.now now }
     {
         match self.ends_at() {
@@ -61,7 +30,7 @@ impl Connection {
     }
 
     /// When the wait of TIME-WAIT ends, or of FIN-WAIT-2 where the caller closed the connection.
-    fn ends_at(&self) -> Option<Moment>
+    pub(crate) fn ends_at(&self) -> Option<Moment>
         ensures { result ≡ ends_at self.now }
     {
         match self.state {
@@ -71,25 +40,16 @@ impl Connection {
         }
     }
 
-    /// The moment at which a tick would do something.
-    pub fn deadline(&self) -> Option<Moment>
-        ensures { result ≡ deadline self.now }
-    {
-        let again = match self.resend {
-            Resend::At(moment) => Some(moment),
-            Resend::Idle | Resend::Due => None,
-        };
-        sooner(again, self.ends_at())
-    }
-
-    /// The connection is CLOSED: nothing is held, owed or due, and no number is outstanding.
+    /// The connection is CLOSED: nothing is held, owed or due, no number is outstanding, and no timer runs.
     pub(crate) fn stop(&mut self)
         ensures { self.new ≡ after_stop self.old }
     {
         self.state = State::Closed;
         self.sender.abandon();
         self.owes_ack = false;
-        self.resend = Resend::Idle;
+        self.delays_ack = false;
+        self.pace.stop();
+        self.timers = Timers::new();
     }
 
     /// An error ends the connection: it is CLOSED, and every call reports `error` from now on.
@@ -197,5 +157,6 @@ impl Connection {
         }
         self.state = self.state.beyond_shutdown();
         self.is_released = true;
+        self.clock(false, now);
     }
 }

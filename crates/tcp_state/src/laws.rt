@@ -9,17 +9,22 @@ ghost use Rattle.clock.specs.Moments.{has_come};
 ghost use Rattle.tcp_state.specs.declared.connection.Fate.{Fate};
 ghost use Rattle.tcp_state.specs.declared.state.State.{State};
 ghost use Rattle.tcp_state.specs.declared.emission.Due.{Due};
-ghost use Rattle.tcp_state.specs.View.{View, IsSound, is_closed, is_syn_sent, is_over, is_due, is_read_closed, deadline, after_tick, reset_since, opened_actively};
+ghost use Rattle.tcp_state.specs.View.{View, IsSound, is_closed, is_syn_sent, is_over, is_read_closed, reset_since, opened_actively};
 ghost use Rattle.tcp_segment.specs.Wire.{wire, IsBefore};
 ghost use Rattle.tcp_state.specs.Numbers.{is_before};
 ghost use Rattle.tcp_state.specs.Halves.{Sending, Receiving};
 ghost use Rattle.std.specs.Option.{option_or};
 ghost use Rattle.stream_buf.specs.Receiving.{ranges, IsReceiving};
-ghost use Rattle.tcp_state.specs.Stream.{buffer_of, octets_gained, after_octets};
+ghost use Rattle.tcp_state.specs.Stream.{outstanding, buffer_of, octets_gained, after_octets};
 ghost use Rattle.tcp_state.specs.Windows.{updates_window};
 ghost use Rattle.tcp_state.specs.Positions.{ReceivesAt, IsNear, MeetsWindow, AreNear, brought, known_at, places_after, takes_octets, kept_with, AreFree, NeverBack, HasNumber, HasToSend, takes_numbers};
-ghost use Rattle.tcp_state.specs.Arrival.{fate, is_acceptable_to, is_receiving, is_read, after_ack, after_segment_at};
-ghost use Rattle.tcp_state.specs.Due.{first_due};
+ghost use Rattle.retransmit.specs.declared.timers.TimerKind.{TimerKind};
+ghost use Rattle.retransmit.specs.Deadlines.{deadline_of};
+ghost use Rattle.tcp_state.specs.declared.pace.Timed.{Timed};
+ghost use Rattle.tcp_state.specs.declared.emission.Stretch.{Stretch};
+ghost use Rattle.tcp_state.specs.Timing.{KeepsTime, wants_out, after_tick, deadline};
+ghost use Rattle.tcp_state.specs.Arrival.{opened_passively, fate, is_acceptable_to, is_receiving, is_read, after_ack, after_heard, after_segment_at};
+ghost use Rattle.tcp_state.specs.Due.{MayGoOut, first_due, end_of, sends_again, after_emitted};
 ghost use Rattle.tcp_state.specs.Unreachable.{IsRefused};
 ghost use Rattle.tcp_state.specs.Simultaneous.{crossed, AnswersSyn, HasOpened};
 ghost use Rattle.tcp_state.specs.Edges.{Event, after_event, fate_by, moment_of, state_after, IsEdge, ends_by, is_cause, may_raise};
@@ -34,22 +39,22 @@ pub fn ends_have_causes()
     ensures { (v : View) (e : Event) → is_over v ≡ false → ends_by v e ≡ true → is_cause v e ≡ true }
 {}
 
-/// An error that is pending was pending before, or a reset raises it, or an error about its SYN, in a state that has it.
+/// An error that is pending was pending before, or a reset raises it, or an error about its SYN, in a state that has it, or the clock at the last expiry.
 pub fn errors_have_causes()
     ensures { (v : View) (e : Event) (error : Refusal) → (after_event v e).pending_error ≡ Some error → (v.pending_error ≡ Some error) ⊎ (may_raise v e error ≡ true) }
 {}
 
 /// An error that is pending stays so.
 pub fn errors_stay()
-    ensures { (v : View) (e : Event) → IsSound v → is_some v.pending_error ≡ true → (after_event v e).pending_error ≡ v.pending_error }
+    ensures { (v : View) (e : Event) → IsSound v → KeepsTime v → is_some v.pending_error ≡ true → (after_event v e).pending_error ≡ v.pending_error }
 {}
 
-/// Where the clock has not come to a connection's deadline, a tick changes nothing; where it has, what is outstanding is due again or the
-/// connection is CLOSED.
+/// Where the clock has not come to a connection's deadline, a tick changes nothing; where it has, something goes out again, a probe or an acknowledgement is due, new octets
+/// wait no longer, or the connection is CLOSED.
 pub fn deadlines_are_exact()
     ensures waits { (v : View) (now : Moment) → has_come (deadline v) now ≡ false → after_tick v now ≡ v }
-    ensures acts { (v : View) (now : Moment) → has_come (deadline v) now ≡ true
-        → (is_due (after_tick v now).resend || is_closed (after_tick v now).state) ≡ true }
+    ensures acts { (v : View) (now : Moment) → KeepsTime v → has_come (deadline v) now ≡ true
+        → (wants_out (after_tick v now) || is_closed (after_tick v now).state) ≡ true }
 {}
 
 /// A connection that becomes CLOSED without an error, and that its caller has not left, had seen the peer's end: `recv` answers an end of
@@ -66,9 +71,10 @@ pub fn numbers_are_ordered()
     ensures positions { (initial p q : ℕ) → p < q + 2 ^ 31 → q < p + 2 ^ 31 → (is_before (wire initial p) (wire initial q) ≡ true) ↔ (p < q) }
 {}
 
-/// A segment that is answered by a reset changes nothing.
+/// A segment that is answered by a reset changes nothing, with the clock or without.
 pub fn rejected_changes_nothing()
-    ensures { (v : View) (s : Segment) (now : Moment) → fate v s ≡ Fate.Rejected → after_segment_at v s now ≡ v }
+    ensures timed { (v : View) (s : Segment) (now : Moment) → fate v s ≡ Fate.Rejected → after_segment_at v s now ≡ v }
+    ensures heard { (v : View) (s : Segment) → fate v s ≡ Fate.Rejected → after_heard v s ≡ v }
 {}
 
 /// Of a connection that is CLOSED the reset of an abort alone is due.
@@ -89,14 +95,14 @@ pub fn released_takes_no_octets()
 {}
 
 /// Which segments are acceptable, by positions (RFC 9293 section 3.10.7.4, first): of those that take numbers the ones that meet the window advertised, from RCV.NXT
-/// up to its edge; of the others those at RCV.NXT and those in the window. What is not acceptable changes at most what is owed, and the wait of TIME-WAIT.
+/// up to its edge; of the others those at RCV.NXT and those in the window. What is not acceptable changes at most that an acknowledgement is owed, so that none is delayed, and the wait of TIME-WAIT.
 pub fn acceptable_segments_meet_the_window()
     ensures filled { (initial next edge first : ℕ) (v : View) (s : Segment) → ReceivesAt initial next edge v.receiving → s.number ≡ wire initial first → IsNear next first (span_of s)
         → 0 < span_of s → (is_acceptable_to v s ≡ true) ↔ MeetsWindow next edge first (span_of s) }
     ensures empty { (initial next edge first : ℕ) (v : View) (s : Segment) → ReceivesAt initial next edge v.receiving → s.number ≡ wire initial first → IsNear next first 0
         → span_of s ≡ 0 → (is_acceptable_to v s ≡ true) ↔ ((first ≡ next) ⊎ ((next ≤ first) × (first < edge))) }
-    ensures others { (v : View) (s : Segment) (now : Moment) → is_syn_sent v.state ≡ false → is_acceptable_to v s ≡ false
-        → after_segment_at v s now ≡ record v { owes_ack = (after_segment_at v s now).owes_ack; since = (after_segment_at v s now).since } }
+    ensures others { (v : View) (s : Segment) (now : Moment) → KeepsTime v → is_syn_sent v.state ≡ false → is_acceptable_to v s ≡ false
+        → after_segment_at v s now ≡ record v { owes_ack = (after_segment_at v s now).owes_ack; since = (after_segment_at v s now).since; timers = record v.timers { delayed_ack = (after_segment_at v s now).timers.delayed_ack } } }
 {}
 
 /// What the octets of a segment make known, by positions (RFC 9293 section 3.10.7.4, seventh): of each position from RCV.NXT on the segment's octet, where it has one that lies before the
@@ -125,7 +131,7 @@ pub fn octets_in_the_window_are_taken()
 {}
 
 /// A reset acts only in SYN-SENT where it acknowledges all that was sent, and later only at RCV.NXT exactly, where one without octets always acts; any
-/// other changes at most that an acknowledgement is owed (RFC 9293 sections 3.10.7.3, second, and 3.10.7.4, second).
+/// other changes at most that an acknowledgement is owed, so that none is delayed (RFC 9293 sections 3.10.7.3, second, and 3.10.7.4, second).
 pub fn resets_act_at_the_next_number()
     ensures opening { (v : View) (s : Segment) (now : Moment) → IsSound v → s.acknowledgement < 2 ^ 32 → is_syn_sent v.state ≡ true → s.flags.rst ≡ true → ends_by v (Event.Hears s now) ≡ true
         → (s.flags.ack ≡ true) × (s.acknowledgement ≡ v.sending.nxt) }
@@ -133,8 +139,8 @@ pub fn resets_act_at_the_next_number()
         → s.number ≡ v.receiving.rnext }
     ensures acts { (v : View) (s : Segment) (now : Moment) → IsSound v → is_syn_sent v.state ≡ false → is_closed v.state ≡ false → s.flags.rst ≡ true
         → s.number ≡ v.receiving.rnext → span_of s ≡ 0 → ends_by v (Event.Hears s now) ≡ true }
-    ensures others { (v : View) (s : Segment) (now : Moment) → is_syn_sent v.state ≡ false → s.flags.rst ≡ true → (s.number == v.receiving.rnext) ≡ false
-        → after_segment_at v s now ≡ record v { owes_ack = (after_segment_at v s now).owes_ack } }
+    ensures others { (v : View) (s : Segment) (now : Moment) → KeepsTime v → is_syn_sent v.state ≡ false → s.flags.rst ≡ true → (s.number == v.receiving.rnext) ≡ false
+        → after_segment_at v s now ≡ record v { owes_ack = (after_segment_at v s now).owes_ack; timers = record v.timers { delayed_ack = (after_segment_at v s now).timers.delayed_ack } } }
 {}
 
 /// A window is believed exactly from a segment that is no older than the one that updated it last, by the position of its first number and then by that of its
@@ -155,10 +161,44 @@ pub fn numbers_never_go_back()
     ensures { (v : View) (e : Event) → IsSound v → HasNumber e → NeverBack v (after_event v e) }
 {}
 
-/// While the peer's window is open, and octets are held or our FIN is not acknowledged, a segment that takes numbers is due, or there is a deadline; so it is
-/// whatever the window while our SYN is not acknowledged.
+/// While our SYN is not acknowledged, octets are held, or our FIN is not acknowledged, a segment that takes numbers is due, or there is a deadline, whatever the peer's window.
 pub fn what_waits_goes_out()
-    ensures { (v : View) → IsSound v → HasToSend v → (takes_numbers (first_due v) || is_some (deadline v)) ≡ true }
+    ensures { (v : View) → IsSound v → KeepsTime v → HasToSend v → (takes_numbers (first_due v) || is_some (deadline v)) ≡ true }
+{}
+
+/// The timers run exactly where something waits for them: when a connection opens, and after each event (RFC 6298 section 5, RFC 9293 sections 3.8.1, 3.8.6.1 and 3.8.6.3).
+pub fn timers_run_as_they_should()
+    ensures opened { (local peer : Endpoint) (isn : ℕ) → isn < 2 ^ 32 → KeepsTime (opened_actively local peer isn) }
+    ensures accepted { (local peer : Endpoint) (isn : ℕ) (syn : Segment) → isn < 2 ^ 32 → KeepsTime (opened_passively local peer isn syn) }
+    ensures stays { (v : View) (e : Event) → IsSound v → KeepsTime v → KeepsTime (after_event v e) }
+{}
+
+/// No event sets a timer for later than a minute past its moment, and one without a moment sets none.
+pub fn timers_are_set_soon()
+    ensures soon { (v : View) (e : Event) (now deadline : Moment) (kind : TimerKind) → IsSound v → moment_of e ≡ Some now → deadline_of (after_event v e).timers kind ≡ Some deadline
+        → (deadline_of v.timers kind ≡ Some deadline) ⊎ (deadline.0 ≤ now.0 + 60000) }
+    ensures never { (v : View) (e : Event) (deadline : Moment) (kind : TimerKind) → moment_of e ≡ None → deadline_of (after_event v e).timers kind ≡ Some deadline
+        → deadline_of v.timers kind ≡ Some deadline }
+{}
+
+/// New octets and the FIN go out within the window that the peer advertised (RFC 9293 section 3.8.6).
+pub fn new_numbers_keep_the_window()
+    ensures { (v : View) (stretch : Stretch) → IsSound v → first_due v ≡ Some (Due.Text stretch) → outstanding v.sending ≤ stretch.offset
+        → (stretch.offset ≡ outstanding v.sending) × (end_of stretch ≤ v.sending.window) }
+{}
+
+/// What goes out again, or as a probe, is measured no longer (RFC 6298 section 3, Karn's algorithm).
+pub fn resent_segments_are_not_timed()
+    ensures { (v : View) (due : Due) (now : Moment) → MayGoOut v due → sends_again v due ≡ true → (after_emitted v due now).pace.timed ≡ None }
+{}
+
+/// One round trip is measured at a time, and each once: a sample is taken only of the segment that is measured, which then is measured no longer; and what is measured next is what goes out next with
+/// new numbers (RFC 6298 section 3).
+pub fn rounds_are_measured_once()
+    ensures sampled { (v : View) (e : Event) → ((after_event v e).pace.timeout.estimate ≡ v.pace.timeout.estimate)
+        ⊎ ((is_some v.pace.timed ≡ true) × ((after_event v e).pace.timed ≡ None)) }
+    ensures begins { (v : View) (e : Event) (timed : Timed) → (after_event v e).pace.timed ≡ Some timed
+        → (v.pace.timed ≡ Some timed) ⊎ ((v.pace.timed ≡ None) × (moment_of e ≡ Some timed.since) × (first_due v ≢ None) × (timed.end.0 ≡ (after_event v e).sending.nxt)) }
 {}
 
 /// An error that tells that a segment can't be delivered ends the connection in SYN-SENT whose SYN is that segment and has gone out, and no other (RFC 1122 section

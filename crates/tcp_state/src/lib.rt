@@ -9,12 +9,15 @@ mod connection;
 mod emission;
 mod ending;
 pub mod laws;
+mod pace;
 mod receiver;
 mod sender;
 mod state;
+mod timing;
 
 pub use buffers::{Buffers, CAPACITY};
 pub use calls::{Received, Refusal};
-pub use connection::{Connection, Fate, Resend};
-pub use emission::{Due, MOST_SEGMENT};
+pub use connection::{Connection, Fate};
+pub use emission::{Due, MOST_SEGMENT, Stretch};
+pub use pace::Timed;
 pub use state::State;

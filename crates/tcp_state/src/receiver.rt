@@ -1,15 +1,16 @@
 //! The receiving half: what came in order and the caller has not read, and what came ahead of a gap (RFC 9293 section 3.3.1).
 
-ghost use Rattle.std.specs.Prelude.{◌≡◌, ◌+◌, ◌≤◌, ◌<◌, ◌++◌, ◌==◌, length, take, drop, min};
-ghost use Rattle.stream_buf.specs.Receiving.{nothing_received, IsReceiving};
+ghost use Rattle.std.specs.Prelude.{◌≡◌, ◌+◌, ◌%◌, ◌^◌, ◌≤◌, ◌<◌, ◌++◌, ◌==◌, length, take, drop, min};
+ghost use Rattle.stream_buf.specs.Receiving.{nothing_received, ranges, IsReceiving};
 ghost use Rattle.tcp_state.specs.Halves.{Receiving};
 ghost use Rattle.tcp_state.specs.Stream.{receive_window, is_in_window, is_acceptable, receiving_nothing, buffer_of, after_syn, distance_of, octets_within, after_octets, after_read, stands_next, after_end, ReceivingFits, KeptInWindow};
-ghost use Rattle.tcp_state.specs.Windows.{receive_room, after_advertisement};
+ghost use Rattle.tcp_segment.specs.Wire.{past};
+ghost use Rattle.tcp_state.specs.Windows.{receive_room, has_grown, after_advertisement};
 
 use crate::buffers::CAPACITY;
 use std::marker::Model;
 use stream_buf::RecvBuf;
-use tcp_segment::Seq;
+use tcp_segment::{MSS, Seq};
 
 /// The receiving half of a connection.
 #[derive(Drop)]
@@ -64,8 +65,41 @@ impl Receiver {
         self.rnext
     }
 
-    /// How many octets can still come: the window to advertise.
-    pub(crate) fn room(&self) -> u16
+    /// Whether no octet is kept ahead of a gap.
+    pub(crate) fn is_gapless(&self) -> bool
+        ensures { result ≡ (ranges self.now.kept == 0) }
+    {
+        self.buffer.ranges() == 0
+    }
+
+    /// Whether the window to advertise is larger by a segment than the one that is known (RFC 9293 section 3.8.6.2.2).
+    pub(crate) fn has_grown(&self) -> bool
+        ensures { result ≡ has_grown self.now }
+    {
+        u64::from(self.window()) + u64::from(MSS) <= u64::from(self.room())
+    }
+
+    /// The window to advertise: the whole room where it has grown by enough, else what is left of the one that is known.
+    pub(crate) fn next_window(&self) -> u16
+        ensures { result ≡ receive_window (after_advertisement self.now) }
+    {
+        self.next_edge().past(self.rnext) as u16
+    }
+
+    /// The right edge of the window to advertise.
+    fn next_edge(&self) -> Seq
+        ensures edge { result.0 ≡ (after_advertisement self.now).edge }
+        ensures near { past result.0 self.now.rnext ≤ CAPACITY }
+    {
+        if self.has_grown() {
+            edge_of(self.rnext, self.room())
+        } else {
+            self.edge
+        }
+    }
+
+    /// How many octets can still come.
+    fn room(&self) -> u16
         ensures { result ≡ receive_room self.now }
     {
         self.buffer.room() as u16
@@ -186,13 +220,21 @@ impl Receiver {
         self.buffer.read(buffer)
     }
 
-    /// The whole room is advertised.
+    /// The window is advertised.
     pub(crate) fn advertise(&mut self)
         ensures after { self.new ≡ after_advertisement self.old }
         ensures fits { ReceivingFits self.new }
         ensures buffer { IsReceiving (buffer_of self.new) }
         ensures kept { KeptInWindow self.new }
     {
-        self.edge = self.rnext + u32::from(self.room());
+        self.edge = self.next_edge();
     }
+}
+
+/// The number behind a window of so many octets.
+fn edge_of(rnext: Seq, window: u16) -> Seq
+    ensures edge { result.0 ≡ (rnext.0 + window) % 2 ^ 32 }
+    ensures reach { past result.0 rnext.0 ≡ window }
+{
+    rnext + u32::from(window)
 }

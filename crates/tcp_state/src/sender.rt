@@ -1,11 +1,11 @@
 //! The sending half: what the caller gave and the peer has not acknowledged (RFC 9293 section 3.3.1).
 
-ghost use Rattle.std.specs.Prelude.{◌≡◌, ◌≤◌, ◌==◌, ◌++◌, [], length};
+ghost use Rattle.std.specs.Prelude.{◌≡◌, ◌≤◌, ◌==◌, ◌++◌, [], length, max};
 ghost use Rattle.std.specs.Vec.{vec_capacity};
 ghost use Rattle.tcp_segment.specs.Wire.{past};
 ghost use Rattle.tcp_state.specs.Halves.{Sending};
 ghost use Rattle.tcp_state.specs.Stream.{send_room, outstanding, is_new_ack, sending_from, after_syn_acknowledged, after_acknowledged, after_sent};
-ghost use Rattle.tcp_state.specs.Windows.{after_syn_heard, after_window_update, sendable};
+ghost use Rattle.tcp_state.specs.Windows.{after_syn_heard, after_window_update, unsent, usable, sendable, next_count, is_worth_sending, waits_for_more};
 
 use crate::buffers::CAPACITY;
 use std::marker::Model;
@@ -18,6 +18,7 @@ pub(crate) struct Sender {
     una: Seq,
     nxt: Seq,
     window: u32,
+    largest: u32,
     wl1: Seq,
     wl2: Seq,
     smss: u16,
@@ -31,7 +32,7 @@ impl Model for Sender {
 
     ghost Value = { Sending };
 
-    ghost view = { λ s. record { held = s.held.items; una = s.una.0; nxt = s.nxt.0; window = s.window; wl1 = s.wl1.0; wl2 = s.wl2.0; smss = s.smss } };
+    ghost view = { λ s. record { held = s.held.items; una = s.una.0; nxt = s.nxt.0; window = s.window; largest = s.largest; wl1 = s.wl1.0; wl2 = s.wl2.0; smss = s.smss } };
 
     ghost invariant = { λ s. (length s.held.items ≤ CAPACITY) × (CAPACITY ≤ vec_capacity s.held) };
 }
@@ -48,6 +49,7 @@ impl Sender {
             una: isn,
             nxt: isn,
             window: 0,
+            largest: 0,
             wl1: isn,
             wl2: isn,
             smss: DEFAULT_MSS,
@@ -109,7 +111,7 @@ impl Sender {
     pub(crate) fn hear_syn(&mut self, number: Seq, window: u16, smss: u16)
         ensures { self.new ≡ after_syn_heard self.old number.0 window smss }
     {
-        self.window = u32::from(window);
+        self.note_window(u32::from(window));
         self.wl1 = number;
         self.smss = smss;
     }
@@ -155,20 +157,78 @@ impl Sender {
         let is_newer = self.wl1.is_before(number)
             || self.wl1 == number && !acknowledgement.is_before(self.wl2);
         if is_newer && !acknowledgement.is_before(self.una) {
-            self.window = u32::from(window);
+            self.note_window(u32::from(window));
             self.wl1 = number;
             self.wl2 = acknowledgement;
         }
     }
 
-    /// How many octets may go out where nothing is outstanding: one segment within the peer's window.
+    /// The peer's window is this one from now on.
+    fn note_window(&mut self, window: u32)
+        ensures { self.new ≡ record self.old { window = window; largest = max self.old.largest window } }
+    {
+        self.window = window;
+        self.largest = self.largest.max(window);
+    }
+
+    /// SND.WND, the peer's window.
+    pub(crate) fn window(&self) -> u32
+        ensures { result ≡ self.now.window }
+    {
+        self.window
+    }
+
+    /// The octets that a segment takes at most.
+    pub(crate) fn smss(&self) -> usize
+        ensures { result ≡ self.now.smss }
+    {
+        usize::from(self.smss)
+    }
+
+    /// How many octets are held that have not gone out.
+    fn unsent(&self) -> usize
+        ensures { result ≡ unsent self.now }
+    {
+        self.held.len().saturating_sub(self.outstanding() as usize)
+    }
+
+    /// How many numbers the peer's window takes beside those that are outstanding.
+    fn usable(&self) -> usize
+        ensures { result ≡ usable self.now }
+    {
+        self.window.saturating_sub(self.outstanding()) as usize
+    }
+
+    /// How many new octets may go out.
     pub(crate) fn sendable(&self) -> usize
         ensures { result ≡ sendable self.now }
     {
-        self.held
-            .len()
-            .min(usize::from(self.smss))
-            .min(self.window as usize)
+        self.unsent().min(self.usable())
+    }
+
+    /// How many new octets the next segment has.
+    pub(crate) fn next_count(&self) -> usize
+        ensures { result ≡ next_count self.now }
+    {
+        self.sendable().min(self.smss())
+    }
+
+    /// Whether a segment of new octets is worth its way (RFC 9293 section 3.8.6.2.1), where they waited as long as they may or didn't.
+    pub(crate) fn is_worth_sending(&self, is_overridden: bool) -> bool
+        ensures { result ≡ is_worth_sending self.now is_overridden }
+    {
+        let sendable = self.sendable();
+        let is_idle = self.outstanding() == 0;
+        self.smss() <= sendable
+            || is_idle && (self.unsent() <= self.usable() || self.largest as usize <= 2 * sendable)
+            || is_overridden
+    }
+
+    /// Whether new octets that may go out wait for more.
+    pub(crate) fn waits_for_more(&self, is_overridden: bool) -> bool
+        ensures { result ≡ waits_for_more self.now is_overridden }
+    {
+        self.sendable() > 0 && !self.is_worth_sending(is_overridden)
     }
 
     /// So many numbers from the oldest unacknowledged one on went out: SND.NXT is the later of what it was and the number after them.

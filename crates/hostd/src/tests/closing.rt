@@ -2,25 +2,23 @@
 
 use super::{ACCEPTED, OPENING};
 
-/// a closes its side: its octets go out before the end.
+/// a closes its side: its octets go out, and right behind them the end, which is acknowledged at once.
 const ONE_SIDE: &str = "a send 1 hello -> sent 5
 a shutdown 1 -> ok
 a state 1 -> FIN-WAIT-1
-pass 0 -> a 1 b 1
+pass 0 -> a 2 b 1
 b recv 2 100 -> octets hello
-b recv 2 100 -> E8 EAGAIN
-pass 0 -> a 1 b 1
 b recv 2 100 -> end
 b state 2 -> CLOSE-WAIT
 a state 1 -> FIN-WAIT-2
 ";
 
-/// Then b writes on, and closes its side.
+/// Then b writes on, and closes its side before its octets are acknowledged.
 const OTHER_SIDE: &str = "a shutdown 1 -> ok
 a send 1 x -> E12 EPIPE
 b send 2 world -> sent 5
 pass 0 -> a 0 b 1
-pass 0 -> a 1 b 0
+pass 0 -> a 0 b 0
 b shutdown 2 -> ok
 b state 2 -> LAST-ACK
 a recv 1 100 -> octets world
@@ -96,7 +94,7 @@ a recv 1 10 -> E1 EBADF
 
 /// Who gives a socket back with octets unread resets the connection.
 const UNREAD: &str = "a send 1 hello -> sent 5
-pass 0 -> a 1 b 1
+pass 0 -> a 1 b 0
 b close 2 -> ok
 b recv 2 1 -> E1 EBADF
 pass 0 -> a 0 b 1
@@ -132,10 +130,8 @@ b recv 2 1 -> E10 ECONNRESET
 const GIVEN: &str = "a send 1 hello -> sent 5
 a close 1 -> ok
 a send 1 x -> E1 EBADF
-pass 0 -> a 1 b 1
+pass 0 -> a 2 b 1
 b recv 2 100 -> octets hello
-b recv 2 100 -> E8 EAGAIN
-pass 0 -> a 1 b 1
 b recv 2 100 -> end
 ";
 

@@ -291,7 +291,7 @@ b deliver 5 0 -> taken
 b recv 2 9 -> E8 EAGAIN
 b recvfrom 3 9 -> octets hi from 10.0.0.1 49153
 b deliver 5 0 -> taken
-pass 0 -> a 1 b 1
+pass 0 -> a 1 b 0
 b recv 2 9 -> octets hello
 b recvfrom 3 9 -> octets hi from 10.0.0.1 49153
 a state 1 -> ESTABLISHED

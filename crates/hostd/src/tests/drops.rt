@@ -187,9 +187,8 @@ b recv 2 100 -> octets hello
 const FIRST_RULE: &str = "a send 1 x -> sent 1
 b deliver 2 9 -> U2 Stale
 a close 1 -> ok
-pass 0 -> a 1 b 1
+pass 0 -> a 2 b 1
 b recv 2 9 -> octets x
-pass 0 -> a 1 b 1
 b close 2 -> ok
 pass 0 -> a 0 b 1
 pass 0 -> a 1 b 0
@@ -202,7 +201,7 @@ b deliver 2 9 -> U3 OtherEpoch
 a deliver 2 9 -> U1 NoSuchFrame
 b deliver 0 9 -> taken
 a deliver 1 9 -> taken
-b emit -> frame 11 60
+b emit -> frame 10 60
 ";
 
 /// A second connection finds no room, nor does a seventeenth reply; the world refuses events.

@@ -44,9 +44,12 @@ b deliver 5 0 -> taken
 # b reads them, and then there is nothing more to read.
 b recv 2 100 -> octets hello
 b recv 2 100 -> E8 EAGAIN
-# b acknowledges them, and neither side has anything left to say.
+# b acknowledges them. That waits for octets to ride on, and goes out alone after 200 milliseconds.
+b emit -> none
+b tick 200 -> ok
 b emit -> frame 6 60
 a deliver 6 0 -> taken
+# Neither side has anything left to say.
 a emit -> none
 b emit -> none
 ";
@@ -79,7 +82,8 @@ a tick 1000 -> ok
 a emit -> frame 6 60
 b deliver 6 0 -> taken
 b recv 2 100 -> octets hello
-# b's acknowledgement arrives. So nothing goes out again, however long a waits.
+# 200 milliseconds later b acknowledges them, and nothing goes out again, however long a waits.
+b tick 200 -> ok
 b emit -> frame 7 60
 a deliver 7 0 -> taken
 a tick 9000 -> ok
@@ -168,9 +172,11 @@ a connect 2 80 100 -> started
 pass 300 -> a 1 b 1
 pass 300 -> a 1 b 0
 b accept 1 -> id 2 10.0.0.1 49153
-# a sends five octets. They arrive and are acknowledged, but b's caller doesn't read them.
+# a sends five octets. They arrive and are acknowledged after 200 milliseconds, but b's caller doesn't read them.
 a send 2 hello -> sent 5
-pass 0 -> a 1 b 1
+pass 0 -> a 1 b 0
+b tick 200 -> ok
+pass 0 -> a 0 b 1
 a state 2 -> ESTABLISHED
 # b's caller gives the socket back. Since octets are unread, a is told by a reset that they were lost.
 b close 2 -> ok
@@ -236,7 +242,7 @@ a fill 2 1 -> sent 1
 b deliver 12 0 -> U2 Stale
 # What was refused changed nothing: the connection goes on.
 pass 0 -> a 0 b 1
-pass 0 -> a 1 b 1
+pass 0 -> a 1 b 0
 b recv 3 100 -> octets xxxxxxxxxxxxxxxx
 ";
 

@@ -70,6 +70,7 @@ const FORGOTTEN: &str = "a fill 1 20 -> sent 20
 a tick 1199999 -> ok
 a emit -> frame 5 74
 b deliver 5 0 -> taken
+b tick 200 -> ok
 b emit -> frame 6 60
 a deliver 6 0 -> taken
 a fill 1 20 -> sent 20
@@ -146,7 +147,9 @@ b deliver 0 0 -> taken
 /// b has forgotten a when its caller gives the socket back with octets unread. The connection owes a reset, and holds its place until
 /// that is gone too.
 const RESET_OF_A_CONNECTION: &str = "a send 1 hello -> sent 5
-pass 0 -> a 1 b 1
+pass 0 -> a 1 b 0
+b tick 200 -> ok
+pass 0 -> a 0 b 1
 b close 1 -> ok
 b tick 1200000 -> ok
 b close 2 -> ok

@@ -239,7 +239,7 @@ a close 1 -> E1 EBADF
 
 /// b's caller gives its socket back with octets unread.
 const TOLD_RESET: &str = "a send 1 hello -> sent 5
-pass 0 -> a 1 b 1
+pass 0 -> a 1 b 0
 b close 2 -> ok
 pass 0 -> a 0 b 1
 a state 1 -> CLOSED

@@ -46,9 +46,11 @@ a emit -> none
 a state 1 -> CLOSED
 ";
 
-/// a's octets lie unread at b, so that b's close is a reset.
+/// a's octets lie unread at b, so that b's close is a reset. b acknowledges them 200 ms after they came.
 const UNREAD: &str = "a send 1 hello -> sent 5
-pass 0 -> a 1 b 1
+pass 0 -> a 1 b 0
+b tick 200 -> ok
+pass 0 -> a 0 b 1
 ";
 
 /// b's caller gives its socket back, and the reset arrives before a says anything more.
@@ -61,6 +63,7 @@ b emit -> none
 /// b's octets lie unread at a.
 const ALSO_UNREAD: &str = "b send 2 world -> sent 5
 pass 0 -> a 0 b 1
+a tick 200 -> ok
 pass 0 -> a 1 b 0
 ";
 

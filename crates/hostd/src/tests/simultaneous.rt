@@ -59,6 +59,9 @@ b deliver 8 0 -> taken
 a deliver 9 0 -> taken
 b recv 1 100 -> octets hello
 a recv 1 100 -> octets world
+pass 0 -> a 0 b 0
+a tick 1000200 -> ok
+b tick 1000200 -> ok
 pass 0 -> a 1 b 1
 a shutdown 1 -> ok
 pass 0 -> a 1 b 1
@@ -130,7 +133,7 @@ b emit -> none
 a deliver 6 0 -> taken
 a emit -> none
 a send 1 hello -> sent 5
-pass 0 -> a 1 b 1
+pass 0 -> a 1 b 0
 b recv 1 100 -> octets hello
 ";
 

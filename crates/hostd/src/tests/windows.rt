@@ -1,90 +1,80 @@
 //! A reader that doesn't read: the window closes, and the writer waits.
 
-use super::{ACCEPTED, NINE_CROSSINGS, OPENING};
+use super::{ACCEPTED, OPENING};
 
-/// 65,535 octets are 44 segments of 1,460 and one of 1,295, and as many are given again once they are acknowledged.
+/// 65,535 octets are 44 segments of 1,460, which go out at once, and 1,295 more, which wait until those are acknowledged: a small segment
+/// doesn't go out while others are in flight. Its own acknowledgement waits for 200 ms. Then the window is closed.
 const FILLED: &str = "a fill 1 70000 -> sent 65535
 a fill 1 1 -> E8 EAGAIN
+pass 0 -> a 44 b 1
+pass 0 -> a 1 b 0
+b tick 200 -> ok
+pass 0 -> a 0 b 1
 ";
 
-/// The window is closed. The end that a's caller asks for waits behind the octets.
+/// As many are given again. The end that a's caller asks for waits behind them.
 const WAITING: &str = "a fill 1 70000 -> sent 65535
 a fill 1 1 -> E8 EAGAIN
 a shutdown 1 -> ok
 pass 0 -> a 0 b 0
-a tick 9000 -> ok
-pass 0 -> a 0 b 0
 ";
 
-/// A read of 1,000 octets opens it for 1,000, which fill it again.
-const READ_IN_PART: &str = "b count 2 1000 -> octets 1000
+/// Room for less than a segment is not told. With one octet more it is, and is filled again by one segment.
+const READ_IN_PART: &str = "b count 2 1459 -> octets 1459
+pass 0 -> a 0 b 0
+b count 2 1 -> octets 1
 pass 0 -> a 0 b 1
-pass 0 -> a 1 b 1
+pass 0 -> a 1 b 0
 pass 0 -> a 0 b 0
 b count 2 2000000 -> octets 65535
 b count 2 2000000 -> E8 EAGAIN
 pass 0 -> a 0 b 1
 ";
 
-/// The other 64,535 octets are 44 segments of 1,460 and one of 295. Then the end goes out.
-const READ_AT_LAST: &str = "b count 2 2000000 -> octets 64535
-b count 2 2000000 -> E8 EAGAIN
-pass 0 -> a 1 b 1
+/// The other 64,075 octets are 43 segments of 1,460 and one of 1,295. Right behind that the end goes out.
+const READ_AT_LAST: &str = "pass 0 -> a 43 b 1
+pass 0 -> a 2 b 1
+b count 2 2000000 -> octets 64075
 b count 2 2000000 -> end
 a state 1 -> FIN-WAIT-2
 b state 2 -> CLOSE-WAIT
 ";
 
-/// With nothing held, the end doesn't wait for the window. There it finds no place, and a second later it goes out again.
+/// With nothing held, the end waits for the window all the same, and goes out as a probe a second later. There it finds no place. Once the
+/// window is open, it goes out again after the timeout.
 const END_FINDS_NO_PLACE: &str = "a shutdown 1 -> ok
-a emit -> frame 95 60
-b deliver 95 0 -> taken
+a emit -> none
+a tick 1000 -> ok
+a emit -> frame 52 60
+a emit -> none
+b deliver 52 0 -> taken
 b state 2 -> ESTABLISHED
-b emit -> frame 96 60
-a deliver 96 0 -> taken
+b emit -> frame 53 60
+a deliver 53 0 -> taken
 a state 1 -> FIN-WAIT-1
 b count 2 2000000 -> octets 65535
 b count 2 2000000 -> E8 EAGAIN
-b emit -> frame 97 60
-a deliver 97 0 -> taken
+b emit -> frame 54 60
+a deliver 54 0 -> taken
 a emit -> none
-a tick 1000 -> ok
-a emit -> frame 98 60
-b deliver 98 0 -> taken
+a tick 1999 -> ok
+a emit -> none
+a tick 2000 -> ok
+a emit -> frame 55 60
+b deliver 55 0 -> taken
 b state 2 -> CLOSE-WAIT
 b count 2 2000000 -> end
 ";
 
-/// A closed window holds octets and the end back; an end at a closed window comes later. The segments of a filled window go
-/// out one by one, each acknowledged.
+/// A closed window holds octets and the end back; an end at a closed window comes later.
 pub const TRANSCRIPTS: &[&[&str]] = &[
     &[
         OPENING,
         ACCEPTED,
         FILLED,
-        NINE_CROSSINGS,
-        NINE_CROSSINGS,
-        NINE_CROSSINGS,
-        NINE_CROSSINGS,
-        NINE_CROSSINGS,
         WAITING,
         READ_IN_PART,
-        NINE_CROSSINGS,
-        NINE_CROSSINGS,
-        NINE_CROSSINGS,
-        NINE_CROSSINGS,
-        NINE_CROSSINGS,
         READ_AT_LAST,
     ],
-    &[
-        OPENING,
-        ACCEPTED,
-        FILLED,
-        NINE_CROSSINGS,
-        NINE_CROSSINGS,
-        NINE_CROSSINGS,
-        NINE_CROSSINGS,
-        NINE_CROSSINGS,
-        END_FINDS_NO_PLACE,
-    ],
+    &[OPENING, ACCEPTED, FILLED, END_FINDS_NO_PLACE],
 ];

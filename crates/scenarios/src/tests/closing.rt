@@ -6,7 +6,7 @@ use super::ends::{Act, STAYS, Scenario, Step, Told, plays};
 use clock::Moment;
 use tcp_state::{Fate, Received, Refusal, State};
 
-/// A closes its side behind its octets.
+/// A closes its side behind its octets. The FIN doesn't wait until they are acknowledged, and is acknowledged with them.
 const FIRST_SIDE: &[Step] = &[
     (A, Act::Send(b"hello"), Told::Count(5)),
     (A, Act::Shutdown, Told::Done),
@@ -14,7 +14,7 @@ const FIRST_SIDE: &[Step] = &[
     (A, Act::State, Told::State(State::FinWait1)),
     (A, Act::Send(b"more"), Told::Refused(Refusal::EPIPE)),
     (A, Act::Pass(0), STAYS),
-    (B, Act::Pass(0), STAYS),
+    (B, Act::Due, Told::Due(None)),
     (B, Act::Recv, Told::Received(Received::Octets(5))),
     (B, Act::Recv, Told::Refused(Refusal::EAGAIN)),
     (A, Act::Pass(0), STAYS),
@@ -57,7 +57,6 @@ const FIRST_CALLER: &[Step] = &[
     (A, Act::Close(0), STAYS),
     (A, Act::IsReleased, Told::Is(true)),
     (A, Act::Pass(0), STAYS),
-    (B, Act::Pass(0), STAYS),
     (A, Act::Pass(0), STAYS),
     (B, Act::Pass(0), STAYS),
     (A, Act::State, Told::State(State::FinWait2)),

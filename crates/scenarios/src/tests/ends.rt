@@ -162,7 +162,7 @@ impl End {
 
     /// Its caller writes octets.
     fn send(&mut self, octets: &[u8]) -> Told {
-        match self.connection.send(octets) {
+        match self.connection.send(Moment(0), octets) {
             Ok(count) => Told::Count(count),
             Err(refusal) => Told::Refused(refusal),
         }
@@ -178,7 +178,7 @@ impl End {
 
     /// Its caller closes its side.
     fn shutdown(&mut self) -> Told {
-        match self.connection.shutdown() {
+        match self.connection.shutdown(Moment(0)) {
             Ok(()) => Told::Done,
             Err(refusal) => Told::Refused(refusal),
         }

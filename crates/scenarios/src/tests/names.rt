@@ -41,6 +41,7 @@ const SOCKET_STATES: &[(SocketState, &str)] = &[
 
 const REFUSALS: &[(Refusal, &str)] = &[
     (Refusal::EAGAIN, "E8 EAGAIN"),
+    (Refusal::ETIMEDOUT, "E11 ETIMEDOUT"),
     (Refusal::EMSGSIZE, "E13 EMSGSIZE"),
     (Refusal::ENETUNREACH, "E14 ENETUNREACH"),
     (Refusal::EDESTADDRREQ, "E18 EDESTADDRREQ"),

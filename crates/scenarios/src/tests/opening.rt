@@ -4,7 +4,7 @@ use super::ends::Side::{A, B};
 use super::ends::Start::{Called, Open};
 use super::ends::{ACK, Act, STAYS, SYN_SEGMENT, Scenario, Step, Told, plays};
 use clock::Moment;
-use tcp_state::{Due, Fate, Received, Refusal, State};
+use tcp_state::{Due, Fate, Received, Refusal, State, Stretch};
 
 /// The segment that carries `hello` from A to B after the handshake.
 const HELLO_SEGMENT: [u8; 25] = [
@@ -27,6 +27,7 @@ const OCTETS: &[Step] = &[
     (B, Act::Recv, Told::Refused(Refusal::EAGAIN)),
 ];
 
+/// The timer begins anew at each tick at which it expires, with twice the timeout.
 const SYN_AGAIN: &[Step] = &[
     (A, Act::Deadline, Told::Deadline(None)),
     (A, Act::Emit(500), Told::Length(24)),
@@ -34,8 +35,11 @@ const SYN_AGAIN: &[Step] = &[
     (A, Act::Tick(1_499), STAYS),
     (A, Act::Emit(1_499), Told::Nothing),
     (A, Act::Tick(1_500), STAYS),
-    (A, Act::Emit(u64::MAX), Told::Length(24)),
+    (A, Act::Deadline, Told::Deadline(Some(Moment(3_500)))),
+    (A, Act::Emit(1_600), Told::Length(24)),
     (A, Act::HasSent(&SYN_SEGMENT), Told::Is(true)),
+    (A, Act::Deadline, Told::Deadline(Some(Moment(3_500)))),
+    (A, Act::Tick(u64::MAX), STAYS),
     (A, Act::Deadline, Told::Deadline(Some(Moment(u64::MAX)))),
 ];
 
@@ -48,14 +52,22 @@ const WRONG_ACKNOWLEDGEMENTS: &[Step] = &[
     (A, Act::State, Told::State(State::SynSent)),
 ];
 
+/// The octets that A's caller gave last.
+const MORE: Due = Due::Text(Stretch {
+    offset: 0,
+    count: 4,
+    fin: false,
+});
+
 /// The window of 0 in an acknowledgement from before the last one leaves B's window open.
 const OLD_WINDOW: &[Step] = &[
     (A, Act::Send(b"hello"), Told::Count(5)),
     (A, Act::Pass(0), STAYS),
-    (B, Act::Pass(0), STAYS),
+    (B, Act::Tick(200), STAYS),
+    (B, Act::Pass(200), STAYS),
     (A, Act::Send(b"more"), Told::Count(4)),
     (A, Act::Hear(9, 4, ACK, 0), STAYS),
-    (A, Act::Due, Told::Due(Some(Due::Text(4)))),
+    (A, Act::Due, Told::Due(Some(MORE))),
     (A, Act::Hear(9, 5, ACK, 0), STAYS),
     (A, Act::Due, Told::Due(None)),
 ];

@@ -20,7 +20,7 @@ const CROSSED: &[Step] = &[
     (A, Act::Emit(300), Told::Length(24)),
     (A, Act::Sent, ANSWER),
     (A, Act::Due, Told::Due(None)),
-    (A, Act::Deadline, Told::Deadline(Some(Moment(1_300)))),
+    (A, Act::Deadline, Told::Deadline(Some(Moment(1_000)))),
 ];
 
 /// B's SYN comes before A's is out. Until then nothing can acknowledge A's.
@@ -58,12 +58,12 @@ const ACKNOWLEDGED: &[Step] = &[
     (A, Act::Deadline, Told::Deadline(None)),
 ];
 
-/// A's answer is lost.
+/// A's answer is lost. The timer runs since A's SYN first went out.
 const ANSWERED_AGAIN: &[Step] = &[
-    (A, Act::Tick(1_299), STAYS),
-    (A, Act::Emit(1_299), Told::Nothing),
-    (A, Act::Tick(1_300), STAYS),
-    (A, Act::Emit(1_300), Told::Length(24)),
+    (A, Act::Tick(999), STAYS),
+    (A, Act::Emit(999), Told::Nothing),
+    (A, Act::Tick(1_000), STAYS),
+    (A, Act::Emit(1_000), Told::Length(24)),
     (A, Act::Sent, ANSWER),
 ];
 

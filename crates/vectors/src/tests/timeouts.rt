@@ -61,7 +61,7 @@ fn deadlines(rt: HostRuntime) {
         assert!(rt; timers.due(kind, Moment(now)) == want, "at {now}");
     }
     assert!(rt; timers.deadline(TimerKind::Retransmission) == Some(Moment(1_500)));
-    assert!(rt; timers.deadline(TimerKind::Wait) == None);
+    assert!(rt; timers.deadline(TimerKind::Override) == None);
     assert!(rt; timers.next() == Some(Moment(900)));
     timers.clear(TimerKind::DelayedAck);
     assert!(rt; timers.next() == Some(Moment(1_500)));

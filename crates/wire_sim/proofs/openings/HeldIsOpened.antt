@@ -12,7 +12,8 @@ use Rattle.tcp_segment.specs.Segment.{Segment}
 use Rattle.tcp_state.specs.declared.connection.Fate.{Fate}
 use Rattle.tcp_state.specs.declared.emission.Due.{Due}
 use Rattle.clock.specs.declared.moment.Moment.{Moment}
-use Rattle.tcp_state.specs.View.{opened_actively, View, is_closed, is_opening, after_tick}
+use Rattle.tcp_state.specs.View.{opened_actively, View, is_closed, is_opening}
+use Rattle.tcp_state.specs.Timing.{after_tick}
 use Rattle.tcp_state.specs.Calls.{after_send, after_recv, after_shutdown, after_abort, after_close}
 use Rattle.tcp_state.specs.Due.{first_due, after_emitted}
 use Rattle.tcp_state.specs.Arrival.{after_segment_at}
@@ -100,11 +101,11 @@ unheld_ticked now pair (Datagrams bound s) out = refl
 unheld_ticked now pair (Listener x y) out = refl
 unheld_ticked now pair (Connected c l) out = unjoined pair c (after_tick c now) l l (keeps-tick c now) out
 
-pub unheld_sent : (octets : List ℕ) → KeepsUnheld (role_after_send octets)
-unheld_sent octets pair (Idle b bound) out = refl
-unheld_sent octets pair (Datagrams bound s) out = refl
-unheld_sent octets pair (Listener x y) out = refl
-unheld_sent octets pair (Connected c l) out = unjoined pair c (after_send c octets) l l (keeps-send c octets) out
+pub unheld_sent : (now : Moment) (octets : List ℕ) → KeepsUnheld (role_after_send now octets)
+unheld_sent now octets pair (Idle b bound) out = refl
+unheld_sent now octets pair (Datagrams bound s) out = refl
+unheld_sent now octets pair (Listener x y) out = refl
+unheld_sent now octets pair (Connected c l) out = unjoined pair c (after_send c octets now) l l (keeps-send c octets now) out
 
 pub unheld_received : (len : ℕ) → KeepsUnheld (role_after_recv len)
 unheld_received len pair (Idle b bound) out = refl
@@ -116,15 +117,15 @@ unheld_received len pair (Connected c l) out = unjoined pair c (if len == 0 then
     either true = keeps-nothing c
     either false = keeps-recv c len
 
-pub unheld_write_shut : KeepsUnheld role_after_shutdown
-unheld_write_shut pair (Idle b bound) out = refl
-unheld_write_shut pair (Datagrams bound s) out = refl
-unheld_write_shut pair (Listener x y) out = refl
-unheld_write_shut pair (Connected c l) out = unjoined pair c (if is_some c.pending_error || is_opening c.state then c else after_shutdown c) l l (either (is_some c.pending_error || is_opening c.state)) out
+pub unheld_write_shut : (now : Moment) → KeepsUnheld (role_after_shutdown now)
+unheld_write_shut now pair (Idle b bound) out = refl
+unheld_write_shut now pair (Datagrams bound s) out = refl
+unheld_write_shut now pair (Listener x y) out = refl
+unheld_write_shut now pair (Connected c l) out = unjoined pair c (if is_some c.pending_error || is_opening c.state then c else after_shutdown c now) l l (either (is_some c.pending_error || is_opening c.state)) out
   where
-    either : (b : Bool) → KeepsEnds c (if b then c else after_shutdown c)
+    either : (b : Bool) → KeepsEnds c (if b then c else after_shutdown c now)
     either true = keeps-nothing c
-    either false = keeps-shutdown c
+    either false = keeps-shutdown c now
 
 pub unheld_closed : (now : Moment) → KeepsUnheld (role_after_close now)
 unheld_closed now pair (Idle b bound) out = refl

@@ -132,7 +132,7 @@ call-keeps routed (call.Accept id) answer own own' other m =
 call-keeps routed (call.Connect isn id peer) answer own own' other m = let bad : true ≡ false = other in cc
 call-keeps routed (call.Send id octets) answer own own' other m =
     elim (outcome (send_answer own id octets.items) (λ count. reply.Sent count) (after_send own id octets.items) own answer own' m) [
-      | inl x ↦ keeps-next own (after_send own id octets.items) own' x.3 (λ pair none. unheld-changed (is_socket id) (role_after_send octets.items) pair own.entries (unheld_sent octets.items) none)
+      | inl x ↦ keeps-next own (after_send own id octets.items) own' x.3 (λ pair none. unheld-changed (is_socket id) (role_after_send own.kept octets.items) pair own.entries (unheld_sent own.kept octets.items) none)
       | inr x ↦ keeps-same own own' x.3
     ]
 call-keeps routed (call.Recv id len) answer own own' other m = by_outcome (recv_outcome own id (recv_len len) answer own' m)
@@ -157,7 +157,7 @@ call-keeps routed (call.RecvFrom id len) answer own own' other m =
     ]
 call-keeps routed (call.Shutdown id) answer own own' other m =
     elim (outcome (unless_refused (shutdown_refusal own id) (tt {0})) (λ _. reply.Done) (after_shutdown own id) own answer own' m) [
-      | inl x ↦ keeps-next own (after_shutdown own id) own' x.3 (λ pair none. unheld-changed (is_socket id) role_after_shutdown pair own.entries unheld_write_shut none)
+      | inl x ↦ keeps-next own (after_shutdown own id) own' x.3 (λ pair none. unheld-changed (is_socket id) (role_after_shutdown own.kept) pair own.entries (unheld_write_shut own.kept) none)
       | inr x ↦ keeps-same own own' x.3
     ]
 call-keeps routed (call.Close id) answer own own' other m =

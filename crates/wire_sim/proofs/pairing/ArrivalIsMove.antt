@@ -1,5 +1,5 @@
 -- A segment that arrives at a table is a move of the one pairing to which it belongs, or changes nothing.
-use Rattle.std.proofs.Common.{◌≡◌, ℕ, ◌+◌, ◌<◌, ◌^◌, ◌==◌, ◌&&◌, ◌⊎◌, inl, inr, arith, not, Bool, true, false, cond, List, [], ◌∷◌, ◌++◌, Option, Some, None, option_map, refl, sym, ◌∙◌, ap, subst}
+use Rattle.std.proofs.Common.{◌≡◌, ℕ, ◌+◌, ◌<◌, ◌^◌, ◌==◌, ◌&&◌, ◌||◌, ◌⊎◌, if◌then◌else◌, inl, inr, arith, not, Bool, true, false, cond, List, [], ◌∷◌, ◌++◌, Option, Some, None, option_map, refl, sym, ◌∙◌, ap, subst}
 use Rattle.std.specs.List.{find}
 use Rattle.std.proofs.lemmas.Bool.{and_parts}
 use Rattle.ipv4.specs.declared.addr.Addr.{Addr}
@@ -11,7 +11,7 @@ use Rattle.tcp_state.specs.declared.connection.Fate.{Fate}
 use Rattle.tcp_state.specs.declared.connection.Fate.TheVariants.{Stays, Removed, Rejected}
 use Rattle.clock.specs.declared.moment.Moment.{Moment}
 use Rattle.tcp_state.specs.View.{View, is_closed}
-use Rattle.tcp_state.specs.Arrival.{opened_passively, after_segment, is_lost, after_lost, timed, after_segment_at, fate}
+use Rattle.tcp_state.specs.Arrival.{opened_passively, after_segment, is_lost, after_lost, after_heard, is_rejected, before, timed_by, after_segment_at, fate}
 use Rattle.wire_sim.specs.declared.event.Side.{Side}
 use Rattle.wire_sim.specs.declared.event.Opening.{Opening}
 use Rattle.wire_sim.specs.declared.event.Happening.{Happening}
@@ -20,13 +20,13 @@ use Rattle.sockets.specs.declared.entry.Entry.{Entry}
 use Rattle.sockets.specs.declared.role.Role.{Role}
 use Rattle.sockets.specs.declared.role.Role.TheVariants.{Connected}
 use Rattle.stream_law.specs.Channel.{IsAmong}
-use Rattle.stream_law.specs.ChannelViews.{SameStream}
+use Rattle.stream_law.proofs.Clock.{same-timed}
 use Rattle.stream_law.proofs.PairingEndings.{stops-left}
 use Rattle.sockets.specs.Arrival.{is_opening}
 use Rattle.sockets.specs.Entries.{is_between, is_of_pair, is_kept, role_after_segment, entries_after_step, new_waiting}
 use Rattle.sockets.specs.SocketsView.{SocketsView, later_moment, holder_id}
 use Rattle.wire_sim.specs.Openings.{epoch_of, held_anew, opened_by_frame}
-use Rattle.stream_law.specs.Pairing.{Presence, Present, End, Emission, Pairing, Move, IsTimely, Meets, accepts, hears, resets, rests, stops, here_moves, remains, nothing_yet}
+use Rattle.stream_law.specs.Pairing.{Presence, Present, Departed, End, Emission, Pairing, Move, IsTimely, Meets, accepts, hears, resets, rests, stops, leaves, here_moves, remains, nothing_yet}
 use Rattle.sockets.specs.Sound.{IsSoundConnection, IsSoundRole, IsSoundTable}
 use Rattle.wire_sim.specs.Tallies.{is_opening_of, is_opening_at}
 use Rattle.wire_sim.specs.Trace.{sent_on}
@@ -94,41 +94,62 @@ between-parts local peer c l id e =
 
 -- What a segment that arrives makes of one end.
 
-same-timed : (c : View) (s : Segment) (now : Moment) → SameStream (after_segment c s) (timed c s now (after_segment c s))
-same-timed c s now = record { state = refl; held = refl; una = refl; nxt = refl; readable = refl; kept = refl; rnext = refl; pending_error = refl; released = λ e. e }
+-- where it changes nothing, the connection stays or is taken out
+unheard : (limit : ℕ) (c : View) (l : Option SocketId) (t : Account) (there : End) (out arrivals : List Emission) (x : Fate)
+    → Goes limit (pairing (end_with (Present c) t) there out arrivals) (pairing (end_with (presence_in (settle x (λ r. Connected c l) (Connected c l))) t) there out arrivals)
+unheard limit c l t there out arrivals Removed met =
+    let was = pairing (end_with (Present c) t) there out arrivals in
+    moved limit was (pairing (end_with Departed t) there out arrivals) (leaves was c t.closed refl (λ e. e)) met
+unheard limit c l t there out arrivals Stays met = met
+unheard limit c l t there out arrivals Rejected met = met
 
--- where no octets are lost, the segment is heard, and then the clock is noted
+-- what a segment that is not rejected makes of the connection
+abbrev timed : View → Segment → Moment → View → View
+timed c s now w = timed_by (before c s) w now
+
+-- where no octets are lost, the segment is heard, and then the clock acts
 not-lost : (limit : ℕ) (c : View) (s : Segment) (now : Moment) (t : Account) (there : End) (out arrivals : List Emission) → (x : Fate) → Meets limit (pairing (end_with (remains x (after_segment c s)) t) there out arrivals)
     → (l : Option SocketId) → Meets limit (pairing (end_with (presence_in (settle x (λ r. Connected (timed c s now (after_segment c s)) l) (Connected c l))) t) there out arrivals)
 not-lost limit c s now t there out arrivals Removed met l = met
 not-lost limit c s now t there out arrivals Stays met l =
     let was = pairing (end_with (Present (after_segment c s)) t) there out arrivals in
-    moved limit was (pairing (end_with (Present (timed c s now (after_segment c s))) t) there out arrivals) (rests was (after_segment c s) (timed c s now (after_segment c s)) refl (same-timed c s now)) met
+    moved limit was (pairing (end_with (Present (timed c s now (after_segment c s))) t) there out arrivals) (rests was (after_segment c s) (timed c s now (after_segment c s)) refl (same-timed c (after_segment c s) s now)) met
 not-lost limit c s now t there out arrivals Rejected met l =
     let was = pairing (end_with (Present (after_segment c s)) t) there out arrivals in
-    moved limit was (pairing (end_with (Present (timed c s now (after_segment c s))) t) there out arrivals) (rests was (after_segment c s) (timed c s now (after_segment c s)) refl (same-timed c s now)) met
+    moved limit was (pairing (end_with (Present (timed c s now (after_segment c s))) t) there out arrivals) (rests was (after_segment c s) (timed c s now (after_segment c s)) refl (same-timed c (after_segment c s) s now)) met
 
--- a segment whose octets are lost aborts the connection, and any other is heard
+-- a segment that is rejected changes nothing, one whose octets are lost aborts the connection, and any other is heard
 arriving : (limit : ℕ) (c : View) (l : Option SocketId) (s : Segment) (now : Moment) (t : Account) (there : End) (out arrivals : List Emission) → is_closed c.state ≡ false
     → Move limit (pairing (end_with (Present c) t) there out arrivals) (pairing (end_with (remains (fate c s) (after_segment c s)) t) there out arrivals)
     → Goes limit (pairing (end_with (Present c) t) there out arrivals) (pairing (end_with (presence_in (settle (fate c s) (role_after_segment now s) (Connected c l))) t) there out arrivals)
-arriving limit c l s now t there out arrivals lives move met = by_lost (is_lost c s) refl
+arriving limit c l s now t there out arrivals lives move met = by_rejected (is_rejected c s) refl
   where
     was : Pairing
     was = pairing (end_with (Present c) t) there out arrivals
 
-    by_lost : (b : Bool) → is_lost c s ≡ b → Meets limit (pairing (end_with (presence_in (settle (fate c s) (role_after_segment now s) (Connected c l))) t) there out arrivals)
+    -- the entry as the segment leaves it
+    left : Bool → Role
+    left unheard = Connected (if unheard then c else timed c s now (after_heard c s)) l
+
+    Shown : Role → Type 0
+    Shown r = Meets limit (pairing (end_with (presence_in (settle (fate c s) (λ _. r) (Connected c l))) t) there out arrivals)
+
+    by_lost : (b : Bool) → is_lost c s ≡ b → Shown (Connected (timed c s now (after_heard c s)) l)
     by_lost true lost =
         let w : View = timed c s now (after_lost c s) in
         let stays : fate c s ≡ Stays = rw (lives, lost) in
-        let becomes : role_after_segment now s (Connected c l) ≡ Connected w l = ap (λ b. Connected (timed c s now (cond b (after_lost c s) (after_segment c s))) l) lost in
-        subst (λ x. Meets limit (pairing (end_with (presence_in (settle x (role_after_segment now s) (Connected c l))) t) there out arrivals)) (sym stays)
+        let becomes : Connected (timed c s now (after_heard c s)) l ≡ Connected w l = ap (λ b. Connected (timed c s now (if b then after_lost c s else after_segment c s)) l) lost in
+        subst (λ x. Meets limit (pairing (end_with (presence_in (settle x (λ _. Connected (timed c s now (after_heard c s)) l) (Connected c l))) t) there out arrivals)) (sym stays)
         (subst (λ r. Meets limit (pairing (end_with (presence_in (Some r)) t) there out arrivals)) (sym becomes)
         (moved limit was (pairing (end_with (Present w) t) there out arrivals) (stops was c w t.closed refl (stops-left c w refl refl) (λ e. e)) met))
     by_lost false kept =
-        let becomes : role_after_segment now s (Connected c l) ≡ Connected (timed c s now (after_segment c s)) l = ap (λ b. Connected (timed c s now (cond b (after_lost c s) (after_segment c s))) l) kept in
-        subst (λ r. Meets limit (pairing (end_with (presence_in (cond (is_kept (fate c s)) (Some r) None)) t) there out arrivals)) (sym becomes)
+        let becomes : Connected (timed c s now (after_heard c s)) l ≡ Connected (timed c s now (after_segment c s)) l = ap (λ b. Connected (timed c s now (if b then after_lost c s else after_segment c s)) l) kept in
+        subst Shown (sym becomes)
         (not-lost limit c s now t there out arrivals (fate c s) (here_moves was (pairing (end_with (remains (fate c s) (after_segment c s)) t) there out arrivals) met move) l)
+
+    by_rejected : (b : Bool) → is_rejected c s ≡ b → Shown (role_after_segment now s (Connected c l))
+    by_rejected true rejected = subst Shown (sym (ap left (ap (λ b. b || is_rejected c s) lives ∙ rejected))) (unheard limit c l t there out arrivals (fate c s) met)
+    by_rejected false read = subst Shown (sym (ap left (ap (λ b. b || is_rejected c s) lives ∙ read))) (by_lost (is_lost c s) refl)
 
 -- what is kept of an entry
 kept-role : (x : Fate) (q role : Role) → cond (is_kept x) (Some q) None ≡ Some role → q ≡ role

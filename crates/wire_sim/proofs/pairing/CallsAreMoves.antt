@@ -143,6 +143,7 @@ socket_outcome kind h (reply.Refused refusal.ENETUNREACH) new m = absurd m
 socket_outcome kind h (reply.Refused refusal.EPIPE) new m = absurd m
 socket_outcome kind h (reply.Refused refusal.ECONNREFUSED) new m = absurd m
 socket_outcome kind h (reply.Refused refusal.ECONNRESET) new m = absurd m
+socket_outcome kind h (reply.Refused refusal.ETIMEDOUT) new m = absurd m
 socket_outcome kind h (reply.Refused refusal.EMFILE) new m = inr m.1
 socket_outcome kind h (reply.Refused refusal.ENOMEM) new m = inr m.1
 socket_outcome kind h (reply.Refused refusal.EOPNOTSUPP) new m = absurd m
@@ -340,9 +341,9 @@ call-sends limit hs ts a b own other bag openings trace id octets count sound op
     let more : Account = record one { gave = one.gave ++ take (connection_calls.send_count k.c octets.items) octets.items } in
     let same : told hs (trace ++ answered hs (call.Send id octets) (reply.Sent count) ∷ []) id ≡ more =
     t.0 ∙ ap (λ i. let x : Account = record one { gave = one.gave ++ take i octets.items } in x) k.takes in
-    (projects-socket limit hs ts a b own other bag openings trace (call.Send id octets) (reply.Sent count) id k.c (connection_calls.after_send k.c octets.items) k.l k.l (role_after_send octets.items) opposite k.found refl (keeps-send k.c octets.items) t.1
-    (subst (λ x. EndGoes limit (end_with (Present k.c) one) (end_with (Present (connection_calls.after_send k.c octets.items)) x)) (sym same)
-    (λ there out arrived. moved limit (pairing (end_with (Present k.c) one) there out arrived) (pairing (end_with (Present (connection_calls.after_send k.c octets.items)) more) there out arrived) (takes (pairing (end_with (Present k.c) one) there out arrived) k.c octets.items refl solid.sound k.untold k.opened k.unclosed))) h)
+    (projects-socket limit hs ts a b own other bag openings trace (call.Send id octets) (reply.Sent count) id k.c (connection_calls.after_send k.c octets.items own.kept) k.l k.l (role_after_send own.kept octets.items) opposite k.found refl (keeps-send k.c octets.items own.kept) t.1
+    (subst (λ x. EndGoes limit (end_with (Present k.c) one) (end_with (Present (connection_calls.after_send k.c octets.items own.kept)) x)) (sym same)
+    (λ there out arrived. moved limit (pairing (end_with (Present k.c) one) there out arrived) (pairing (end_with (Present (connection_calls.after_send k.c octets.items own.kept)) more) there out arrived) (takes (pairing (end_with (Present k.c) one) there out arrived) k.c octets.items own.kept refl solid.sound k.untold k.opened k.unclosed))) h)
 
 pub call-receives : (limit : ℕ) (hs ts : Side) (a b : Addr) (own other : SocketsView) (bag : Bag) (openings : List Opening) (trace : List Happening) (id : SocketId) (len : ℕ) (octets : Vec ℕ) (m : ℕ) (c : View) (l : Option SocketId) → IsSoundTable own → ts ≡ other_side hs
     → find (is_socket id) own.entries ≡ Some (record { id = id; role = Connected c l }) → is_some c.pending_error ≡ false → is_opening c.state ≡ false → (m == 0) ≡ false → octets.items ≡ take (connection_calls.recv_count c m) c.receiving.readable
@@ -376,6 +377,6 @@ call-closes limit hs ts a b own other bag openings trace id sound opposite accep
     let solid = sound_socket own id k.c k.l sound k.found in
     let t = closes-told hs trace id in
     let one = told hs trace id in
-    (projects-socket limit hs ts a b own other bag openings trace (call.Shutdown id) reply.Done id k.c (connection_calls.after_shutdown k.c) k.l k.l role_after_shutdown opposite k.found k.shuts (keeps-shutdown k.c) t.1
-    (subst (λ x. EndGoes limit (end_with (Present k.c) one) (end_with (Present (connection_calls.after_shutdown k.c)) x)) (sym t.0)
-    (λ there out arrived. moved limit (pairing (end_with (Present k.c) one) there out arrived) (pairing (end_with (Present (connection_calls.after_shutdown k.c)) (record one { closed = true })) there out arrived) (closes (pairing (end_with (Present k.c) one) there out arrived) k.c refl solid.sound k.opened))) h)
+    (projects-socket limit hs ts a b own other bag openings trace (call.Shutdown id) reply.Done id k.c (connection_calls.after_shutdown k.c own.kept) k.l k.l (role_after_shutdown own.kept) opposite k.found (k.shuts own.kept) (keeps-shutdown k.c own.kept) t.1
+    (subst (λ x. EndGoes limit (end_with (Present k.c) one) (end_with (Present (connection_calls.after_shutdown k.c own.kept)) x)) (sym t.0)
+    (λ there out arrived. moved limit (pairing (end_with (Present k.c) one) there out arrived) (pairing (end_with (Present (connection_calls.after_shutdown k.c own.kept)) (record one { closed = true })) there out arrived) (closes (pairing (end_with (Present k.c) one) there out arrived) k.c own.kept refl solid.sound k.opened))) h)

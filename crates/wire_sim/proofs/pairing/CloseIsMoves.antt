@@ -70,7 +70,7 @@ projects-unopened limit hs ts a b own own' other bag openings trace trace' id ad
 
 -- What closing makes of the end of a connection.
 
-same-released : (c : View) (now : Moment) → SameStream (connection_calls.after_shutdown c) (connection_calls.after_release c now)
+same-released : (c : View) (now : Moment) → SameStream (connection_calls.after_shutdown c now) (connection_calls.after_release c now)
 same-released c now = record { state = refl; held = refl; una = refl; nxt = refl; readable = refl; kept = refl; rnext = refl; pending_error = refl; released = λ e. let bad : true ≡ false = e in cc }
 
 closing : (limit : ℕ) (c : View) (l : Option SocketId) (now : Moment) (t : Account) → IsSound c
@@ -104,9 +104,9 @@ closing limit c l now t sound there out arrived = first (connection_calls.is_rem
         → Meets limit (pairing (end_with (Present (if b then connection_calls.aborted_at c now else connection_calls.after_release c now)) t') there out arrived)
     second stays true is met = moved limit was (pairing (end_with (Present (connection_calls.aborted_at c now)) t') there out arrived) (stops was c (connection_calls.aborted_at c now) true refl (stops-left c (connection_calls.aborted_at c now) refl refl) (λ e. refl)) met
     second stays false is met =
-        let shut = pairing (end_with (Present (connection_calls.after_shutdown c)) t') there out arrived in
-        moved limit shut (pairing (end_with (Present (connection_calls.after_release c now)) t') there out arrived) (rests shut (connection_calls.after_shutdown c) (connection_calls.after_release c now) refl (same-released c now))
-        (moved limit was shut (closes was c refl sound (opened c.state stays (not_first (is_syn_received c.state) (not (length c.receiving.readable == 0)) is))) met)
+        let shut = pairing (end_with (Present (connection_calls.after_shutdown c now)) t') there out arrived in
+        moved limit shut (pairing (end_with (Present (connection_calls.after_release c now)) t') there out arrived) (rests shut (connection_calls.after_shutdown c now) (connection_calls.after_release c now) refl (same-released c now))
+        (moved limit was shut (closes was c now refl sound (opened c.state stays (not_first (is_syn_received c.state) (not (length c.receiving.readable == 0)) is))) met)
 
     first : (b : Bool) → connection_calls.is_removed_by_close c ≡ b → Meets limit was
         → Meets limit (pairing (end_with (presence_in (cond (is_kept (if b then Removed else Stays)) (Some (Connected (if b then c else (if connection_calls.is_aborted_by_close c then connection_calls.aborted_at c now else connection_calls.after_release c now)) l)) None)) t') there out arrived)

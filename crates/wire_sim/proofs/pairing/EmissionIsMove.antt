@@ -28,13 +28,14 @@ use Rattle.sockets.specs.Sound.{IsSoundConnection, IsSoundRole, IsSoundTable}
 use Rattle.sockets.proofs.KeptEnds.{keeps-emitted}
 use Rattle.stream_law.specs.Channel.{IsAmong, here, there}
 use Rattle.stream_law.specs.Pairing.{End, Emission, Present, Departed, emits, leaves, Meets, here_moves}
+use Rattle.stream_law.proofs.PairingEmission.{unclosed_goes}
 use Rattle.wire_sim.specs.Openings.{epoch_of}
 use Rattle.wire_sim.specs.Tallies.{is_opening_of, is_opening_at, same_pair}
 use Rattle.wire_sim.specs.Trace.{sent_on, of_opening, written}
 use Rattle.wire_sim.proofs.tables.EntryChanges.{by_test, end-its, end-another, table-becomes, opened-kept}
 use Rattle.wire_sim.proofs.pairing.EndMoves.{pairing, EndGoes, moved}
 use Rattle.wire_sim.proofs.lists.FoundAfterChange.{All-find, find-passes}
-use Rattle.wire_sim.proofs.emission.SegmentsGoOut.{due-live, due-kind, due-width, emitted-state, Emits, emitted_at-connected}
+use Rattle.wire_sim.proofs.emission.SegmentsGoOut.{due-kind, due-width, emitted-state, Emits, emitted_at-connected}
 use Rattle.wire_sim.proofs.openings.OpeningIsFound.{opening-found, opening-only, opening-at_parts}
 use Rattle.wire_sim.proofs.tables.PairOfPorts.{same_pair-same, same_pair-true}
 use Rattle.wire_sim.proofs.pairing.WorldAsPairings.{told, Sent, Bag, Projects}
@@ -113,7 +114,7 @@ projects-sent limit hs ts a b own other bag openings trace now goes e c l due m 
     let o = k.opening in
     let pair = pair_of c.local c.peer in
     let epoch = epoch_of openings pair in
-    let one : o.epoch ≡ epoch = k.present (due-live c due solid.sound may unreset) ∙ ap (epoch_of openings) k.pair in
+    let one : o.epoch ≡ epoch = k.present (unclosed_goes c due solid.sound may unreset) ∙ ap (epoch_of openings) k.pair in
     let at : find (is_opening_of hs pair epoch) openings ≡ Some o =
     subst (λ p. find (is_opening_of hs p epoch) openings ≡ Some o) k.pair (subst (λ i. find (is_opening_of hs o.pair i) openings ≡ Some o) one (opening-found openings hs e.id o h.ledger k.at)) in
     let its : o.id ≡ e.id = (opening-at_parts hs e.id o (find-passes (is_opening_at hs e.id) openings o k.at)).1 in
@@ -220,7 +221,7 @@ projects-emitted limit hs ts a b own other bag openings trace now goes e c l due
           subst (λ x. GoesOut limit hs ts a b (record own { entries = entries_after_step x goes (role_after_emission now) own.entries }) other bag openings trace c due) (sym (fate ∙ ap (λ t. if t then Removed else Stays) ended))
           (GoesReset is_reset (projects-reset limit hs ts a b own other bag openings trace goes e c l r h))
       | inr unreset ↦
-          let lives : is_closed (let w = after_emitted c due now in w.state) ≡ false = ap is_closed (emitted-state c due now) ∙ due-live c due solid.sound may unreset in
+          let lives : is_closed (let w = after_emitted c due now in w.state) ≡ false = ap is_closed (emitted-state c due now) ∙ unclosed_goes c due solid.sound may unreset in
           let going : is_over (after_emitted c due now) ≡ false = ap (λ t. t && (let w = after_emitted c due now in w.released) && not (let w = after_emitted c due now in w.owes_reset)) lives in
           subst (λ x. GoesOut limit hs ts a b (record own { entries = entries_after_step x goes (role_after_emission now) own.entries }) other bag openings trace c due) (sym (fate ∙ ap (λ t. if t then Removed else Stays) going))
           (GoesOn unreset (projects-sent limit hs ts a b own other bag openings trace now goes e c l due m unreset sound h))

@@ -1,12 +1,14 @@
 -- A step of every entry of a table, as a tick is one, is a move of every pairing whose end it changes.
-use Rattle.std.proofs.Common.{◌≡◌, ℕ, ◌&&◌, inl, inr, Bool, true, false, cond, if◌then◌else◌, List, Option, Some, None, refl, sym, ◌∙◌, ap, subst}
+use Rattle.std.proofs.Common.{◌≡◌, ℕ, ◌&&◌, ◌||◌, inl, inr, Bool, true, false, cond, if◌then◌else◌, List, Option, Some, None, refl, sym, ◌∙◌, ap, subst}
 use Rattle.std.specs.List.{find}
 use Rattle.ipv4.specs.declared.addr.Addr.{Addr}
 use Rattle.ipv4.specs.declared.addr.Pair.{Pair}
 use Rattle.tcp_state.specs.declared.connection.Fate.{Fate}
 use Rattle.tcp_state.specs.declared.connection.Fate.TheVariants.{Stays, Removed}
 use Rattle.clock.specs.declared.moment.Moment.{Moment}
-use Rattle.tcp_state.specs.View.{is_at_end, after_stop, after_resend, after_tick}
+use Rattle.tcp_state.specs.declared.calls.Refusal.TheVariants.{ETIMEDOUT}
+use Rattle.tcp_state.specs.View.{View, is_syn_received, is_at_end, after_stop, after_reset}
+use Rattle.tcp_state.specs.Timing.{clocked, gives_up, after_timers, after_tick}
 use Rattle.wire_sim.specs.declared.event.Side.{Side}
 use Rattle.wire_sim.specs.declared.event.Opening.{Opening}
 use Rattle.wire_sim.specs.declared.event.Happening.{Happening}
@@ -17,9 +19,10 @@ use Rattle.sockets.specs.Entries.{is_kept, entries_after_steps, role_after_tick,
 use Rattle.sockets.specs.Ticks as table_ticks
 use Rattle.sockets.specs.Lost.{is_given_up, give_up_fate_of, role_after_giving_up, after_giving_up}
 use Rattle.sockets.specs.SocketsView.{SocketsView, later_moment}
-use Rattle.stream_law.specs.Pairing.{Present, Departed, Meets, rests, stops, leaves}
-use Rattle.stream_law.proofs.PairingEndings.{stops-at_end}
-use Rattle.stream_law.proofs.PairingMoves.{same-resend}
+use Rattle.stream_law.specs.ChannelViews.{Stops}
+use Rattle.stream_law.specs.Pairing.{Pairing, Present, Departed, Meets, rests, stops, leaves}
+use Rattle.stream_law.proofs.Clock.{same-acted}
+use Rattle.stream_law.proofs.PairingEndings.{stops-at_end, stops-told}
 use Rattle.wire_sim.specs.Tallies.{is_opening_of}
 use Rattle.wire_sim.proofs.tables.EntryChanges.{opened-kept}
 use Rattle.wire_sim.proofs.tables.UnseenRoles.{IsQuiet, quiet_given_up}
@@ -81,13 +84,38 @@ projects-settled limit hs ts a b own own' other bag openings trace fate g addr l
 
 -- what a tick makes of one end
 role_goes : (limit : ℕ) (now : Moment) (t : Account) (r : Role) → EndGoes limit (end_with (presence_in (Some r)) t) (end_with (presence_in (settle (tick_fate_of now r) (role_after_tick now) r)) t)
-role_goes limit now t (Connected c l) there out arrived = by_end (is_at_end c now) c.released refl refl
+role_goes limit now t (Connected c l) there out arrived = by_end (is_at_end c now) _ refl
   where
-    by_end : (over left : Bool) → is_at_end c now ≡ over → c.released ≡ left → Meets limit (pairing (end_with (Present c) t) there out arrived)
-        → Meets limit (pairing (end_with (presence_in (cond (is_kept (if over && left then Removed else Stays)) (Some (Connected (if over then after_stop c else after_resend c now) l)) None)) t) there out arrived)
-    by_end true true is was = moved limit (pairing (end_with (Present c) t) there out arrived) (pairing (end_with Departed t) there out arrived) (leaves (pairing (end_with (Present c) t) there out arrived) c t.closed refl (λ e. e))
-    by_end true false is was = moved limit (pairing (end_with (Present c) t) there out arrived) (pairing (end_with (Present (after_stop c)) t) there out arrived) (stops (pairing (end_with (Present c) t) there out arrived) c (after_stop c) t.closed refl (stops-at_end c now is) (λ e. e))
-    by_end false left is was = moved limit (pairing (end_with (Present c) t) there out arrived) (pairing (end_with (Present (after_resend c now)) t) there out arrived) (rests (pairing (end_with (Present c) t) there out arrived) c (after_resend c now) refl (same-resend c now))
+    was : Pairing
+    was = pairing (end_with (Present c) t) there out arrived
+
+    leaving : Meets limit was → Meets limit (pairing (end_with Departed t) there out arrived)
+    leaving = moved limit was (pairing (end_with Departed t) there out arrived) (leaves was c t.closed refl (λ e. e))
+
+    -- it is over, and is taken out or stays
+    ending : (w : View) → Stops c w → (out_of_table : Bool) → Meets limit was
+        → Meets limit (pairing (end_with (presence_in (cond (is_kept (if out_of_table then Removed else Stays)) (Some (Connected w l)) None)) t) there out arrived)
+    ending w over true = leaving
+    ending w over false = moved limit was (pairing (end_with (Present w) t) there out arrived) (stops was c w t.closed refl over (λ e. e))
+
+    given_up : View
+    given_up = after_reset c (Some ETIMEDOUT)
+
+    -- its timers act, where the moment of one has come
+    waiting : (come : Bool) → View
+    waiting come = if come then clocked false (after_timers c now) now else c
+
+    by_expiry : (gone come : Bool) → Meets limit was
+        → Meets limit (pairing (end_with (presence_in (cond (is_kept (if gone then (if c.released || (c.passive && is_syn_received c.state) then Removed else Stays) else Stays)) (Some (Connected (if gone then given_up else waiting come) l)) None)) t) there out arrived)
+    by_expiry true come = ending given_up (stops-told c given_up refl refl) (c.released || (c.passive && is_syn_received c.state))
+    by_expiry false come = moved limit was (pairing (end_with (Present (waiting come)) t) there out arrived) (rests was c (waiting come) refl (same-acted c come now))
+
+    by_end : (over come : Bool) → is_at_end c now ≡ over → Meets limit was
+        → Meets limit (pairing (end_with (presence_in (cond
+        (is_kept (if over then (if c.released then Removed else Stays) else if gives_up c now then (if c.released || (c.passive && is_syn_received c.state) then Removed else Stays) else Stays))
+        (Some (Connected (if over then after_stop c else if gives_up c now then given_up else waiting come) l)) None)) t) there out arrived)
+    by_end true come is = ending (after_stop c) (stops-at_end c now is) c.released
+    by_end false come is = by_expiry (gives_up c now) come
 role_goes limit now t (Listener b n) there out arrived = end-stays limit (end_with Departed t) (end_with Departed t) refl there out arrived
 role_goes limit now t (Idle b n) there out arrived = end-stays limit (end_with Departed t) (end_with Departed t) refl there out arrived
 role_goes limit now t (Datagrams b n) there out arrived = end-stays limit (end_with Departed t) (end_with Departed t) refl there out arrived

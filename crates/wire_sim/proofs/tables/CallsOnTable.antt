@@ -9,6 +9,7 @@ use Rattle.tcp_state.specs.declared.buffers.Buffers.{Buffers}
 use Rattle.tcp_state.specs.declared.calls.Received.{Received}
 use Rattle.tcp_state.specs.declared.calls.Received.TheVariants.{Octets, EndOfStream}
 use Rattle.tcp_state.specs.declared.calls.Refusal.{Refusal as ConnectionRefusal}
+use Rattle.clock.specs.declared.moment.Moment.{Moment}
 use Rattle.tcp_state.specs.declared.calls.Refusal.TheVariants as connection_variants
 use Rattle.tcp_state.specs.Calls as connection_calls
 use Rattle.tcp_state.specs.Calls.{unless_pending, send_count, recv_count, after_recv}
@@ -369,7 +370,7 @@ pub record ShutsOn (h : SocketsView) (id : SocketId) : Type 0 where
   pub l : Option SocketId
   pub found : find (is_socket id) h.entries ≡ Some (record { id = id; role = Connected c l })
   pub opened : is_opening c.state ≡ false
-  pub shuts : role_after_shutdown (Connected c l) ≡ Connected (connection_calls.after_shutdown c) l
+  pub shuts : (now : Moment) → role_after_shutdown now (Connected c l) ≡ Connected (connection_calls.after_shutdown c now) l
 
 pub shuts-on : (h : SocketsView) (id : SocketId) → shutdown_refusal h id ≡ None → ShutsOn h id
 shuts-on h id none = by_entry (find (is_socket id) h.entries) refl
@@ -378,7 +379,7 @@ shuts-on h id none = by_entry (find (is_socket id) h.entries) refl
         → option_map refusal_of (option_or error (if opening then Some connection_variants.ENOTCONN else None)) ≡ None → ShutsOn h id
     by_tests c l at (Some error) opening told is e = cc
     by_tests c l at None true told is e = cc
-    by_tests c l at None false told is e = record { c = c; l = l; found = at; opened = is; shuts = rw (told, is) }
+    by_tests c l at None false told is e = record { c = c; l = l; found = at; opened = is; shuts = λ now. rw (told, is) }
 
     by_role : (e : Entry) → find (is_socket id) h.entries ≡ Some e → (r : Role) → e.role ≡ r → role_shutdown_refusal r ≡ None → ShutsOn h id
     by_role e at (Idle buffers bound) is a = cc

@@ -1,5 +1,5 @@
 -- What an entry has due is behind the place of the two heads before they are written.
-use Rattle.std.proofs.Common.{◌≡◌, ◌+◌, ◌++◌, ℕ, Bool, List, Some, drop, arith, sym, subst, ◌∙◌, ap}
+use Rattle.std.proofs.Common.{◌≡◌, ◌++◌, ℕ, Bool, List, Some, drop, arith, sym, subst, ◌∙◌, ap}
 use Rattle.sockets.specs.declared.entry.Entry.{Entry}
 use Rattle.sockets.specs.declared.emission.Emitted.{Emitted}
 use Rattle.sockets.specs.declared.emission.Emitted.TheVariants.{Segment, Datagram}

@@ -1,17 +1,15 @@
-use Rattle.std.proofs.Common.{◌≡◌, ◌+◌, ◌-◌, ◌*◌, ◌++◌, length, drop, arith, rules, sym, ◌∙◌, ap, subst}
-use Rattle.tcp_state.specs.Due.{head_of, octets_of, segment_octets}
+use Rattle.std.proofs.Common.{◌≡◌, ◌+◌, ◌-◌, ◌*◌, ◌≤◌, ◌++◌, length, drop, arith, rules, sym, ◌∙◌, ap, subst}
+use Rattle.tcp_state.specs.Due.{MayGoOut, head_of, octets_of, segment_octets, emitted_len}
 use Rattle.tcp_state.specs.Inside.{view_of}
-use Rattle.tcp_state.specs.View.{IsSound}
 use Rattle.tcp_state.proofs.Framing.{framed}
-use Rattle.tcp_state.proofs.GoesOut.{due-may}
+use Rattle.tcp_state.proofs.Sizes.{emitted_short}
 use Rattle.tcp_state.proofs.connection.Connection.write.Goals as goal
 
--- what is due may go out
-pub octets-octets-requires : goal.octets-octets-requires
-octets-octets-requires c = due-may c.args.self.now c.args.due (subst IsSound c.self.view_is c.self.invariant) c.requires.first
-
-pub returns-clause-may : goal.returns-clause-may
-returns-clause-may c = due-may c.args.self.now c.args.due (subst IsSound c.self.view_is c.self.invariant) c.requires.first
+pub returns-clause-bound : goal.returns-clause-bound
+returns-clause-bound c =
+    let short : emitted_len c.args.self.now c.args.due ≤ 1480 = emitted_short c.args.self.now c.args.due c.requires.may in
+    let len : c.emit.result ≡ emitted_len c.args.self.now c.args.due = search rules in
+    omega (arith, short, len)
 
 pub returns-clause-frame : goal.returns-clause-frame
 returns-clause-frame c =
@@ -20,8 +18,10 @@ returns-clause-frame c =
     let v = view_of c.self.inside in
     let same : octets ≡ c.octets-octets.result.now = c.copy_from_slice.ensures.after in
     let count : length octets ≡ length c.octets-octets.result.now = ap length same in
+    let bound = returns-clause-bound c in
+    let room : c.emit.result ≤ length c.args.out.now = omega (arith, bound, c.requires.room) in
     c.emit.ensures.octets
     ∙ (framed v.local.addr v.peer.addr c.head-head.result (head_of v c.args.due) start c.emit.result (start + length c.octets-octets.result.now - start)
     (4 * Rattle.tcp_segment.specs.Sent.sent_offset c.head-head.result) c.args.out.now octets (octets_of v c.args.due) (sym c.len-start.ensures)
-    (omega (arith, c.emit.ensures.len, c.len-start.ensures, count)) (omega (arith, c.emit.ensures.len, c.len-start.ensures)) (search rules) (search rules) (same ∙ search rules)
+    (omega (arith, c.emit.ensures.len, c.len-start.ensures, count)) (omega (arith, c.emit.ensures.len, c.len-start.ensures)) room (search rules) (same ∙ search rules)
     ∙ ap (λ w. segment_octets w c.args.due ++ drop c.emit.result c.args.out.now) c.self.view_is)

@@ -1,0 +1,156 @@
+//! What the clock does: small segments wait for more, acknowledgements wait for octets to ride on, what is lost goes out again, and a peer
+//! that doesn't answer is given up.
+
+use super::{ACCEPTED, OPENING};
+
+/// Octets go out at once where nothing is in flight, and are read.
+const HELLO: &str = "a send 1 hello -> sent 5
+pass 0 -> a 1 b 0
+b recv 2 100 -> octets hello
+";
+
+/// A second small segment waits for half a second (Nagle), and goes out then. It comes first, and is kept until the other has come, which
+/// comes twice.
+const OVERRIDDEN: &str = "a send 1 0123456789 -> sent 10
+a emit -> frame 5 64
+a send 1 abcdefghij -> sent 10
+a emit -> none
+a tick 499 -> ok
+a emit -> none
+a tick 500 -> ok
+a emit -> frame 6 64
+b deliver 6 0 -> taken
+b recv 2 100 -> E8 EAGAIN
+b deliver 5 0 -> taken
+b deliver 5 0 -> taken
+b recv 2 100 -> octets 0123456789abcdefghij
+";
+
+/// An end that comes ahead of its octets isn't kept. It goes out again with them.
+const END_AHEAD: &str = "a send 1 hello -> sent 5
+a emit -> frame 5 60
+a shutdown 1 -> ok
+a emit -> frame 6 60
+b deliver 6 0 -> taken
+b recv 2 100 -> E8 EAGAIN
+b deliver 5 0 -> taken
+b recv 2 100 -> octets hello
+b recv 2 100 -> E8 EAGAIN
+a tick 1000 -> ok
+a emit -> frame 7 60
+b deliver 7 0 -> taken
+b recv 2 100 -> end
+";
+
+/// Octets that aren't read are lost with the socket, and a is told so by a reset.
+const UNREAD: &str = "a send 1 hello -> sent 5
+pass 0 -> a 1 b 0
+b close 2 -> ok
+pass 0 -> a 0 b 1
+a recv 1 100 -> E10 ECONNRESET
+a recv 1 100 -> E10 ECONNRESET
+";
+
+/// An acknowledgement waits for 200 ms.
+const DELAYED: &str = "a send 1 hello -> sent 5
+pass 0 -> a 1 b 0
+b tick 199 -> ok
+b emit -> none
+b tick 200 -> ok
+b emit -> frame 6 60
+";
+
+/// The second segment with octets draws it at once.
+const SECOND_SEGMENT: &str = "a fill 1 2920 -> sent 2920
+a emit -> frame 5 1514
+a emit -> frame 6 1514
+b deliver 5 0 -> taken
+b emit -> none
+b deliver 6 0 -> taken
+b emit -> frame 7 60
+b emit -> none
+";
+
+/// The timeout doubles up to a minute, and the thirteenth expiry ends the connection.
+const GIVEN_UP: &str = "a socket tcp -> id 1
+a connect 1 80 5 -> started
+pass 0 -> a 1 b 1
+a emit -> frame 2 60
+a tick 1000 -> ok
+a tick 3000 -> ok
+a tick 7000 -> ok
+a tick 15000 -> ok
+a tick 31000 -> ok
+a tick 63000 -> ok
+a tick 123000 -> ok
+a tick 183000 -> ok
+a tick 243000 -> ok
+a tick 303000 -> ok
+a tick 363000 -> ok
+a tick 423000 -> ok
+a state 1 -> SYN-SENT
+a tick 483000 -> ok
+a state 1 -> CLOSED
+a recv 1 10 -> E11 ETIMEDOUT
+a recv 1 10 -> E11 ETIMEDOUT
+";
+
+/// Three segments are lost. At the expiry they go out again one after the other, from the first on.
+const ALL_AGAIN: &str = "a fill 1 3000 -> sent 3000
+a emit -> frame 5 1514
+a emit -> frame 6 1514
+a emit -> none
+a tick 500 -> ok
+a emit -> frame 7 134
+a emit -> none
+a tick 1000 -> ok
+a emit -> frame 8 1514
+a emit -> frame 9 1514
+a emit -> frame 10 134
+a emit -> none
+b deliver 9 0 -> taken
+b deliver 10 0 -> taken
+b count 2 9000 -> E8 EAGAIN
+b deliver 8 0 -> taken
+b count 2 9000 -> octets 3000
+";
+
+/// The window is closed, and a probes it with one octet, at first after the timeout and then after twice the time each. b answers with
+/// the window that it has. The one that opens it is lost, and the next probe finds it open.
+const PROBED: &str = "a fill 1 65535 -> sent 65535
+pass 0 -> a 44 b 1
+pass 0 -> a 1 b 0
+b tick 200 -> ok
+pass 0 -> a 0 b 1
+a send 1 y -> sent 1
+a emit -> none
+a tick 999 -> ok
+a emit -> none
+a tick 1000 -> ok
+a emit -> frame 52 60
+a emit -> none
+b deliver 52 0 -> taken
+b emit -> frame 53 60
+a deliver 53 0 -> taken
+a tick 2999 -> ok
+a emit -> none
+a tick 3000 -> ok
+a emit -> frame 54 60
+b count 2 65535 -> octets 65535
+b emit -> frame 55 60
+b deliver 54 0 -> taken
+b count 2 9 -> octets 1
+";
+
+/// The clock moves what waits, and nothing else.
+pub const TRANSCRIPTS: &[&[&str]] = &[
+    &[OPENING, ACCEPTED, HELLO],
+    &[OPENING, ACCEPTED, OVERRIDDEN],
+    &[OPENING, ACCEPTED, END_AHEAD],
+    &[OPENING, ACCEPTED, UNREAD],
+    &[OPENING, ACCEPTED, DELAYED],
+    &[OPENING, ACCEPTED, SECOND_SEGMENT],
+    &[GIVEN_UP],
+    &[OPENING, ACCEPTED, ALL_AGAIN],
+    &[OPENING, ACCEPTED, PROBED],
+];

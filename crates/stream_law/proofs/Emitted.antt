@@ -1,0 +1,87 @@
+-- What goes out moves SND.NXT at most, and of the rest of both streams it changes nothing.
+use Rattle.std.proofs.Common.{◌≡◌, ℕ, ◌+◌, ◌%◌, ◌^◌, if◌then◌else◌, not, Bool, true, false, nat_lt, refl, sym, ◌∙◌, ap₂}
+use Rattle.clock.specs.declared.moment.Moment.{Moment}
+use Rattle.tcp_state.specs.declared.emission.Due.TheVariants.{Syn, Text, Probe, Ack}
+use Rattle.tcp_state.specs.declared.emission.Stretch.{Stretch}
+use Rattle.tcp_state.specs.declared.state.State.{State}
+use Rattle.tcp_state.specs.View.{View, is_opening, is_syn_sent, is_syn_received, is_write_finished}
+use Rattle.tcp_state.specs.Halves.{Sending as SendingHalf, Receiving as ReceivingHalf}
+use Rattle.tcp_state.specs.Stream.{outstanding, after_sent}
+use Rattle.tcp_state.specs.Windows.{receive_room, has_grown, after_advertisement}
+use Rattle.tcp_state.specs.Pace.{pace_probed}
+use Rattle.tcp_state.specs.Timing.{clocked}
+use Rattle.tcp_state.specs.Due.{probe_stretch, end_of, brings_new_octets, after_ack_paid, after_resent, after_first_sent, after_numbers, after_new_octets, after_stretch, after_probe, after_syn_out, after_going_out, after_emitted}
+use Rattle.stream_law.specs.Channel.{Sender, Receiver, Waiting, Synchronised}
+use Rattle.stream_law.specs.ChannelViews.{sender_of, receiver_of, receiving_of}
+use Rattle.stream_law.proofs.ConnectionArrival.{either}
+
+-- the sending half became this one, and of the rest of both streams nothing changed
+pub record GoesOut (v w : View) (half : SendingHalf) : Type 0 where
+  pub state : w.state ≡ v.state
+  pub sending : w.sending ≡ half
+  pub receiver : receiver_of w.receiving ≡ receiver_of v.receiving
+  pub readable : w.receiving.readable ≡ v.receiving.readable
+
+-- the window that is advertised is no part of a channel
+same_receiver : (r : ReceivingHalf) → (receiver_of (after_advertisement r) ≡ receiver_of r) × ((after_advertisement r).readable ≡ r.readable)
+same_receiver r = same (has_grown r)
+  where
+    told : Bool → ReceivingHalf
+    told grown = if grown then record r { edge = (r.rnext + receive_room r) % 2 ^ 32 } else r
+
+    same : (grown : Bool) → (receiver_of (told grown) ≡ receiver_of r) × ((told grown).readable ≡ r.readable)
+    same true = (refl, refl)
+    same false = (refl, refl)
+
+paid : (v w : View) (half : SendingHalf) → GoesOut v w half → GoesOut v (after_ack_paid w) half
+paid v w half g = let same = same_receiver w.receiving in record { state = g.state; sending = g.sending; receiver = same.0 ∙ g.receiver; readable = same.1 ∙ g.readable }
+
+-- .. nor is the clock
+timed : (v w : View) (half : SendingHalf) (now : Moment) → GoesOut v w half → GoesOut v (clocked false w now) half
+timed v w half now g = record { state = g.state; sending = g.sending; receiver = g.receiver; readable = g.readable }
+
+numbered : (v : View) (offset end : ℕ) (now : Moment) → GoesOut v (after_numbers v offset end now) (after_sent v.sending end)
+numbered v offset end now =
+    either (λ w. GoesOut v w (after_sent v.sending end)) (nat_lt offset (outstanding v.sending)) (after_resent v end) (after_first_sent v end now)
+    (λ again. record { state = refl; sending = refl; receiver = refl; readable = refl })
+    (λ first. record { state = refl; sending = refl; receiver = refl; readable = refl })
+
+renewed : (v w : View) (half : SendingHalf) (new : Bool) → GoesOut v w half → GoesOut v (if new then after_new_octets w else w) half
+renewed v w half true g = record { state = g.state; sending = g.sending; receiver = g.receiver; readable = g.readable }
+renewed v w half false g = g
+
+pub syn-out : (v : View) (now : Moment) → GoesOut v (after_emitted v Syn now) (after_sent v.sending 1)
+syn-out v now =
+    let half = after_sent v.sending 1 in
+    timed v (after_going_out v Syn now) half now
+    (either (λ w. GoesOut v w half) (is_syn_received v.state) (after_ack_paid (after_syn_out v now)) (after_syn_out v now)
+    (λ reply. paid v (after_syn_out v now) half (numbered v 0 1 now))
+    (λ alone. numbered v 0 1 now))
+
+pub stretch-out : (v : View) (stretch : Stretch) (now : Moment) → GoesOut v (after_emitted v (Text stretch) now) (after_sent v.sending (end_of stretch))
+stretch-out v stretch now =
+    let half = after_sent v.sending (end_of stretch) in
+    let sent = after_numbers v stretch.offset (end_of stretch) now in
+    timed v (after_going_out v (Text stretch) now) half now
+    (paid v (after_stretch v stretch now) half (renewed v sent half (brings_new_octets v stretch) (numbered v stretch.offset (end_of stretch) now)))
+
+pub probe-out : (v : View) (now : Moment) → GoesOut v (after_emitted v Probe now) (after_sent v.sending (end_of (probe_stretch v)))
+probe-out v now =
+    let half = after_sent v.sending (end_of (probe_stretch v)) in
+    let sent : View = record v { sending = half; pace = pace_probed v.pace } in
+    timed v (after_going_out v Probe now) half now
+    (paid v (after_probe v) half (renewed v sent half (brings_new_octets v (probe_stretch v)) (record { state = refl; sending = refl; receiver = refl; readable = refl })))
+
+pub ack-out : (v : View) (now : Moment) → GoesOut v (after_emitted v Ack now) v.sending
+ack-out v now = timed v (after_ack_paid v) v.sending now (paid v v v.sending (record { state = refl; sending = refl; receiver = refl; readable = refl }))
+
+-- what the channels see of it
+pub sender-out : (v w : View) (half : SendingHalf) → GoesOut v w half
+    → record { held = half.held; una = half.una; nxt = half.nxt; syn_acked = not (is_opening v.state); fin_acked = is_write_finished v.state } ≡ sender_of w
+sender-out v w half g = ap₂ as_sender (sym g.state) (sym g.sending)
+  where
+    as_sender : State → SendingHalf → Sender
+    as_sender t s = record { held = s.held; una = s.una; nxt = s.nxt; syn_acked = not (is_opening t); fin_acked = is_write_finished t }
+
+pub receiving-out : (v w : View) (half : SendingHalf) → GoesOut v w half → receiving_of w ≡ receiving_of v
+receiving-out v w half g = ap₂ (λ (t : State) (r : Receiver). if is_syn_sent t then Waiting else Synchronised r) g.state g.receiver

@@ -1,0 +1,217 @@
+-- What the clock, and what goes out, leave of a connection as it was.
+use Rattle.std.proofs.Common.{◌≡◌, ℕ, ◌==◌, ◌&&◌, ◌||◌, ◌⊎◌, not, nat_lt, Bool, true, false, if◌then◌else◌, Option, Some, None, is_some, inl, inr, refl, sym, ◌∙◌, ap, subst}
+use Rattle.std.proofs.lemmas.Bool.Decides.{eqb_tells}
+use Rattle.clock.specs.declared.moment.Moment.{Moment}
+use Rattle.tcp_segment.specs.Segment.{Segment}
+use Rattle.tcp_state.specs.declared.state.State.{State}
+use Rattle.tcp_state.specs.declared.state.State.TheVariants.{FinWait2, TimeWait}
+use Rattle.tcp_state.specs.declared.timing.TheConstants.{OVERRIDE}
+use Rattle.clock.specs.Moments.{has_come}
+use Rattle.tcp_state.specs.declared.arrival.Before.{Before}
+use Rattle.tcp_state.specs.declared.emission.Due.{Due}
+use Rattle.tcp_state.specs.declared.emission.Due.TheVariants.{Rst, Syn, Text, Probe, Ack}
+use Rattle.tcp_state.specs.declared.emission.Stretch.{Stretch}
+use Rattle.tcp_state.specs.Stream.{outstanding, after_sent}
+use Rattle.tcp_state.specs.View.{View, is_opening, is_syn_received, is_closed}
+use Rattle.tcp_state.specs.Pace.{Pace, pace_probed, pace_acknowledged}
+use Rattle.tcp_state.specs.Timing.{KeepsTime, probes, retransmits, awaits_more, running, retransmission_timer, probe_timer, delayed_ack_timer, override_timer, interval_of, clocked, retransmission_expired, probe_expired, after_expiry, delayed_ack_expired, override_expired, after_timers}
+use Rattle.tcp_state.specs.Arrival.{after_heard, is_rejected, begins_wait, answers_probe, before, since_after, is_moved, pace_after, timed_by, after_segment_at}
+use Rattle.tcp_state.specs.Due.{probe_stretch, end_of, after_ack_paid, after_resent, after_first_sent, after_numbers, after_new_octets, brings_new_octets, after_syn_out, after_stretch, after_probe, after_going_out, after_emitted}
+use Rattle.tcp_state.specs.Edges.{after_first}
+
+-- one of two by a test
+pub either : (A : Type 0) (P : A → Type 0) (test : Bool) (v w : A) → (test ≡ true → P v) → (test ≡ false → P w) → P (if test then v else w)
+either A P true v w if_true if_false = if_true refl
+either A P false v w if_true if_false = if_false refl
+
+-- Timers.
+
+-- nothing changed but what is owed, the pace and the timers
+abbrev pub KeepsTo : View → View → Type 0
+KeepsTo v w = w ≡ record v { owes_ack = w.owes_ack; pace = w.pace; timers = w.timers }
+
+keeps_on : (v w x : View) → KeepsTo v w → KeepsTo w x → KeepsTo v x
+keeps_on v w x first then_kept = then_kept ∙ ap (λ (u : View). record u { owes_ack = x.owes_ack; pace = x.pace; timers = x.timers }) first
+
+expiry_keeps : (v : View) (now : Moment) → KeepsTo v (after_expiry v now)
+expiry_keeps v now =
+    let P : View → Type 0 = λ w. KeepsTo v w in
+    either View P (has_come v.timers.retransmission now) (retransmission_expired v) _ (λ expired. refl)
+    (λ waits. either View P (has_come v.timers.probe now) (probe_expired v now) v (λ probes. refl) (λ other. refl))
+
+delayed_ack_keeps : (v : View) (now : Moment) → KeepsTo v (delayed_ack_expired v now)
+delayed_ack_keeps v now = either View (λ w. KeepsTo v w) (has_come v.timers.delayed_ack now) _ v (λ expired. refl) (λ waits. refl)
+
+override_keeps : (v : View) (now : Moment) → KeepsTo v (override_expired v now)
+override_keeps v now = either View (λ w. KeepsTo v w) (has_come v.timers.overriding now) _ v (λ expired. refl) (λ waits. refl)
+
+-- timers that act
+pub timers_keep : (v : View) (now : Moment) → KeepsTo v (clocked false (after_timers v now) now)
+timers_keep v now =
+    let first = after_expiry v now in
+    let second = delayed_ack_expired first now in
+    let third = override_expired second now in
+    keeps_on v third (clocked false third now) (keeps_on v second third (keeps_on v first second (expiry_keeps v now) (delayed_ack_keeps first now)) (override_keeps second now)) refl
+
+-- What goes out.
+
+-- nothing changed but the two halves, the acknowledgements that are owed, the pace and the timers
+abbrev pub Emitted : View → View → Type 0
+Emitted v w = w ≡ record v { sending = w.sending; receiving = w.receiving; owes_ack = w.owes_ack; delays_ack = w.delays_ack; pace = w.pace; timers = w.timers }
+
+emits_on : (v w x : View) → Emitted v w → Emitted w x → Emitted v x
+emits_on v w x first then_kept =
+    then_kept ∙ ap (λ (u : View). record u { sending = x.sending; receiving = x.receiving; owes_ack = x.owes_ack; delays_ack = x.delays_ack; pace = x.pace; timers = x.timers }) first
+
+numbers_emitted : (v : View) (offset end : ℕ) (now : Moment) → Emitted v (after_numbers v offset end now)
+numbers_emitted v offset end now =
+    either View (λ w. Emitted v w) (nat_lt offset (outstanding v.sending)) (after_resent v end) (after_first_sent v end now) (λ again. refl) (λ first. refl)
+
+stretch_emitted : (v : View) (stretch : Stretch) (now : Moment) → Emitted v (after_stretch v stretch now)
+stretch_emitted v stretch now =
+    let sent = after_numbers v stretch.offset (end_of stretch) now in
+    let all = numbers_emitted v stretch.offset (end_of stretch) now in
+    either View (λ w. Emitted v w) (brings_new_octets v stretch) (after_new_octets sent) sent (λ new. emits_on v sent (after_new_octets sent) all refl) (λ old. all)
+
+probe_emitted : (v : View) → Emitted v (after_probe v)
+probe_emitted v =
+    let sent = record v { sending = after_sent v.sending (end_of (probe_stretch v)); pace = pace_probed v.pace } in
+    either View (λ w. Emitted v w) (brings_new_octets v (probe_stretch v)) (after_new_octets sent) sent (λ new. refl) (λ old. refl)
+
+syn_emitted : (v : View) (now : Moment) → Emitted v (after_going_out v Syn now)
+syn_emitted v now =
+    let sent = after_syn_out v now in
+    let all = numbers_emitted v 0 1 now in
+    either View (λ w. Emitted v w) (is_syn_received v.state) (after_ack_paid sent) sent (λ received. emits_on v sent (after_ack_paid sent) all refl) (λ waits. all)
+
+-- the reset of an abort goes out, or something else
+pub emission : (v : View) (due : Due) (now : Moment) → (due ≡ Rst) ⊎ Emitted v (after_emitted v due now)
+emission v Rst now = inl refl
+emission v Syn now = let sent = after_going_out v Syn now in inr (emits_on v sent (clocked false sent now) (syn_emitted v now) refl)
+emission v (Text stretch) now = let sent = after_stretch v stretch now in inr (emits_on v sent (after_emitted v (Text stretch) now) (stretch_emitted v stretch now) refl)
+emission v Probe now = let sent = after_probe v in inr (emits_on v sent (after_emitted v Probe now) (probe_emitted v) refl)
+emission v Ack now = inr refl
+
+-- what is due first goes out, if anything is
+pub emission_keeps : (v : View) (due : Option Due) (now : Moment) → Emitted (record v { owes_reset = (after_first v due now).owes_reset }) (after_first v due now)
+emission_keeps v None now = refl
+emission_keeps v (Some due) now = elim (emission v due now) [
+  | inl reset ↦ subst (λ d. Emitted (record v { owes_reset = (after_emitted v d now).owes_reset }) (after_emitted v d now)) (sym reset) refl
+  | inr same ↦ ap (λ (u : View). record u { owes_reset = (after_emitted v due now).owes_reset }) same
+]
+
+-- Where nothing changed that timers wait for.
+
+runs_on : (runs : Bool) (deadline : Option Moment) (now : Moment) (milliseconds : ℕ) → is_some deadline ≡ runs → (if runs then running deadline now milliseconds else None) ≡ deadline
+runs_on true (Some moment) now milliseconds e = refl
+runs_on true None now milliseconds e = cc
+runs_on false (Some moment) now milliseconds e = cc
+runs_on false None now milliseconds e = refl
+
+goes_on : (waits : Bool) (deadline : Option Moment) (now : Moment) (milliseconds : ℕ) → (waits ≡ true → is_some deadline ≡ true)
+    → (if waits then running deadline now milliseconds else deadline) ≡ deadline
+goes_on true (Some moment) now milliseconds e = refl
+goes_on true None now milliseconds e = let bad = e refl in cc
+goes_on false deadline now milliseconds e = refl
+
+interval_stays : (probing runs : Bool) (interval timeout : ℕ) → runs ≡ probing → (runs ≡ false → interval ≡ timeout) → (if probing && runs then interval else timeout) ≡ interval
+interval_stays true true interval timeout same rest = refl
+interval_stays true false interval timeout same rest = cc
+interval_stays false true interval timeout same rest = cc
+interval_stays false false interval timeout same rest = sym (rest refl)
+
+owed_still : (owes probing : Bool) → (owes ≡ true → probing ≡ true) → (owes && probing) ≡ owes
+owed_still true probing e = e refl
+owed_still false probing e = refl
+
+-- the parts of the pace and the timers, one by one
+parts : (v : View) (owes : Bool) (since : Moment) (interval : ℕ) (probe : Bool) (resend probing ack overriding : Option Moment) → interval ≡ v.pace.interval → probe ≡ v.pace.owes_probe
+    → resend ≡ v.timers.retransmission → probing ≡ v.timers.probe → overriding ≡ v.timers.overriding
+    → record v {
+      owes_ack = owes;
+      since = since;
+      pace = record v.pace { interval = interval; owes_probe = probe };
+      timers = record { retransmission = resend; probe = probing; delayed_ack = ack; overriding = overriding };
+    } ≡ record v { owes_ack = owes; since = since; timers = record v.timers { delayed_ack = ack } }
+parts v owes since interval probe resend probing ack overriding a b c d e = rw a (rw b (rw c (rw d (rw e refl))))
+
+-- an acknowledgement that is owed ends the wait of one that is delayed, and leaves the other timers as they run
+pub settles : (v : View) (owes : Bool) (since now : Moment) → KeepsTime v
+    → (let w = record v { owes_ack = owes; since = since } in clocked false w now ≡ record w { timers = record v.timers { delayed_ack = delayed_ack_timer w now } })
+settles v owes since now keeps =
+    let w = record v { owes_ack = owes; since = since } in
+    parts v owes since (interval_of v) (v.pace.owes_probe && probes v) (retransmission_timer v false now) (probe_timer v now) (delayed_ack_timer w now) (override_timer v now)
+    (interval_stays (probes v) (is_some v.timers.probe) v.pace.interval v.pace.timeout.rto keeps.probe keeps.interval)
+    (owed_still v.pace.owes_probe (probes v) keeps.owed)
+    (runs_on (retransmits v) v.timers.retransmission now v.pace.timeout.rto keeps.retransmission)
+    (runs_on (probes v) v.timers.probe now v.pace.timeout.rto keeps.probe)
+    (goes_on (awaits_more v) v.timers.overriding now OVERRIDE keeps.overriding)
+
+-- Segments.
+
+equal : (n : ℕ) → (n == n) ≡ true
+equal n = elim (eqb_tells n n) [ inl same ↦ same.0 | inr other ↦ absurd (other.1 refl) ]
+
+begins_none : (t : State) → begins_wait t t ≡ false
+begins_none FinWait2 = refl
+begins_none TimeWait = refl
+begins_none _ = refl
+
+apart_from_itself : (b : Bool) → (b && not b) ≡ false
+apart_from_itself true = refl
+apart_from_itself false = refl
+
+-- no wait begins where the state stays, and none of a reset where that is owed as before
+pub starts_none : (v : View) → (begins_wait v.state v.state || (v.owes_reset && not v.owes_reset)) ≡ false
+starts_none v = ap (λ b. b || (v.owes_reset && not v.owes_reset)) (begins_none v.state) ∙ apart_from_itself v.owes_reset
+
+-- one that is not rejected comes to a connection that is not CLOSED
+pub comes_to : (v : View) (s : Segment) (now : Moment) → is_closed v.state ≡ false → is_rejected v s ≡ false → after_segment_at v s now ≡ timed_by (before v s) (after_heard v s) now
+comes_to v s now lives taken =
+    ap (λ b. if b || is_rejected v s then v else timed_by (before v s) (after_heard v s) now) lives ∙ ap (λ b. if b then v else timed_by (before v s) (after_heard v s) now) taken
+
+-- what an acknowledgement tells of time leaves what goes out again
+pub marks_kept : (b : Before) (w : View) (now : Moment) → (pace_after b w now).mark ≡ w.pace.mark
+marks_kept b w now =
+    let P : Pace → Type 0 = λ p. p.mark ≡ w.pace.mark in
+    either Pace P (is_moved b w) (pace_acknowledged w.pace w.sending.una (is_opening b.state) now) _ (λ moves. refl)
+    (λ stays. either Pace P b.answers_probe (record w.pace { expiries = 0 }) w.pace (λ answers. refl) (λ other. refl))
+
+-- .. and whether a probe is due
+pub probes_kept : (b : Before) (w : View) (now : Moment) → (pace_after b w now).owes_probe ≡ w.pace.owes_probe
+probes_kept b w now =
+    let P : Pace → Type 0 = λ p. p.owes_probe ≡ w.pace.owes_probe in
+    either Pace P (is_moved b w) (pace_acknowledged w.pace w.sending.una (is_opening b.state) now) _ (λ moves. refl)
+    (λ stays. either Pace P b.answers_probe (record w.pace { expiries = 0 }) w.pace (λ answers. refl) (λ other. refl))
+
+-- nothing changed but what is owed
+abbrev pub Owing : View → View → Type 0
+Owing v w = w ≡ record v { owes_ack = w.owes_ack }
+
+-- .. and at its moment nothing but that, the acknowledgement that is delayed, and the moment from which a wait is counted
+abbrev pub OwingAt : View → View → Type 0
+OwingAt v w = w ≡ record v { owes_ack = w.owes_ack; since = w.since; timers = record v.timers { delayed_ack = w.timers.delayed_ack } }
+
+-- no acknowledgement moved SND.UNA
+pub unmoved : (v : View) → not (v.sending.una == v.sending.una) ≡ false
+unmoved v = ap not (equal v.sending.una)
+
+-- a segment that acknowledges nothing new, and does not answer a probe, changes no timer by itself
+pub timed_unmoved : (b : Before) (w : View) (now : Moment) → is_moved b w ≡ false → b.answers_probe ≡ false → timed_by b w now ≡ clocked false (record w { since = since_after b w now }) now
+timed_unmoved b w now same quiet =
+    let since = since_after b w now in
+    let pace : pace_after b w now ≡ w.pace =
+    ap (λ t. if t then pace_acknowledged w.pace w.sending.una (is_opening b.state) now else if b.answers_probe then record w.pace { expiries = 0 } else w.pace) same
+    ∙ ap (λ t. if t then record w.pace { expiries = 0 } else w.pace) quiet in
+    ap (λ t. clocked t (record w { since = since; pace = pace_after b w now }) now) same ∙ ap (λ (p : Pace). clocked false (record w { since = since; pace = p }) now) pace
+
+timed_owing : (v : View) (s : Segment) (owes : Bool) (now : Moment) → KeepsTime v → answers_probe v s ≡ false → OwingAt v (timed_by (before v s) (record v { owes_ack = owes }) now)
+timed_owing v s owes now keeps quiet =
+    let w = record v { owes_ack = owes } in
+    subst (λ x. OwingAt v x) (sym (timed_unmoved (before v s) w now (unmoved v) quiet)) (settles v owes (since_after (before v s) w now) now keeps)
+
+-- a segment that draws an acknowledgement, or nothing
+pub owing_timed : (v : View) (s : Segment) (now : Moment) → KeepsTime v → answers_probe v s ≡ false → Owing v (after_heard v s) → OwingAt v (after_segment_at v s now)
+owing_timed v s now keeps quiet same =
+    either View (λ w. OwingAt v w) (is_closed v.state || is_rejected v s) v (timed_by (before v s) (after_heard v s) now) (λ kept. refl)
+    (λ heard. subst (λ w. OwingAt v (timed_by (before v s) w now)) (sym same) (timed_owing v s (after_heard v s).owes_ack now keeps quiet))

@@ -1,0 +1,191 @@
+-- Why each round trip is measured once, and none of what goes out again.
+use Rattle.std.proofs.Common.{◌≡◌, ℕ, ◌-◌, ◌&&◌, ◌⊎◌, ◌≢◌, ◌==◌, ◌||◌, nat_lt, length, take, if◌then◌else◌, Bool, true, false, Option, Some, None, is_some, inl, inr, refl, sym, ◌∙◌, ap}
+use Rattle.tcp_segment.specs.Segment.{Segment}
+use Rattle.clock.specs.declared.moment.Moment.{Moment}
+use Rattle.clock.specs.Moments.{has_come}
+use Rattle.retransmit.specs.Deadlines.{next_of}
+use Rattle.retransmit.specs.Timeout.{Timeout, after_sample, after_lost_syn}
+use Rattle.tcp_state.specs.declared.calls.Refusal.TheVariants.{ECONNREFUSED, ETIMEDOUT}
+use Rattle.tcp_state.specs.declared.emission.Due.{Due}
+use Rattle.tcp_state.specs.declared.emission.Due.TheVariants.{Rst, Syn, Text, Probe, Ack}
+use Rattle.tcp_state.specs.declared.pace.Timed.{Timed}
+use Rattle.tcp_state.specs.Stream.{outstanding, after_sent}
+use Rattle.tcp_state.specs.Pace.{Pace, timing_of, pace_probed, is_timed_by, timeout_sampled, timed_left, pace_acknowledged}
+use Rattle.tcp_state.specs.View.{View, is_opening, is_syn_received, is_closed, is_write_closed, is_at_end, after_stop, after_reset}
+use Rattle.tcp_state.specs.Timing.{clocked, gives_up, retransmission_expired, probe_expired, after_expiry, delayed_ack_expired, after_timers}
+use Rattle.tcp_state.specs.Calls.{send_count, shutdown_refusal, after_shutdown, aborted_at, after_release, is_removed_by_close, is_aborted_by_close}
+use Rattle.tcp_state.specs.Arrival.{after_heard, before, is_moved, pace_after, timed_by}
+use Rattle.tcp_state.specs.Due.{MayGoOut, sends_again, after_emitted, probe_stretch, end_of, after_ack_paid, after_resent, after_first_sent, after_numbers, after_new_octets, brings_new_octets, after_syn_out, after_going_out, first_due}
+use Rattle.tcp_state.specs.Unreachable.{is_unreachable}
+use Rattle.tcp_state.specs.Edges.{Event, Hears, Ticks, Emits, Sends, Receives, Shuts, Closes, Aborts, Unreachable, moment_of, after_first, after_event}
+use Rattle.tcp_state.proofs.Edges.{either}
+use Rattle.tcp_state.proofs.Unchanged.{clash}
+use Rattle.tcp_state.proofs.Segments.{by_clock}
+use Rattle.tcp_state.proofs.Paces.{segment_hears, goes_out}
+
+-- What goes out again.
+
+resent : (v : View) (offset end : ℕ) (now : Moment) → nat_lt offset (outstanding v.sending) ≡ true → (after_numbers v offset end now).pace.timed ≡ None
+resent v offset end now again =
+    either View (λ w. w.pace.timed ≡ None) (nat_lt offset (outstanding v.sending)) (after_resent v end) (after_first_sent v end now) (λ before. refl) (λ first. clash (nat_lt offset (outstanding v.sending)) again first)
+
+pub not_timed : (v : View) (due : Due) (now : Moment) → MayGoOut v due → sends_again v due ≡ true → (after_emitted v due now).pace.timed ≡ None
+not_timed v Rst now may again = cc
+not_timed v Syn now may again =
+    let sent = after_syn_out v now in
+    let none = resent v 0 1 now again in
+    either View (λ w. w.pace.timed ≡ None) (is_syn_received v.state) (after_ack_paid sent) sent (λ received. none) (λ waits. none)
+not_timed v (Text stretch) now may again =
+    let sent = after_numbers v stretch.offset (end_of stretch) now in
+    let none = resent v stretch.offset (end_of stretch) now again in
+    either View (λ w. w.pace.timed ≡ None) (brings_new_octets v stretch) (after_new_octets sent) sent (λ new. none) (λ old. none)
+not_timed v Probe now may again =
+    let sent = record v { sending = after_sent v.sending (end_of (probe_stretch v)); pace = pace_probed v.pace } in
+    either View (λ w. w.pace.timed ≡ None) (brings_new_octets v (probe_stretch v)) (after_new_octets sent) sent (λ new. refl) (λ old. refl)
+not_timed v Ack now may again = cc
+
+-- What is measured.
+
+-- the estimate moves only by a sample of what was measured, which is measured no longer; and what is measured was, or begins to be with numbers that go out
+record Measures (v : View) (now : Option Moment) (w : View) : Type 0 where
+  pub sampled : (w.pace.timeout.estimate ≡ v.pace.timeout.estimate) ⊎ ((is_some v.pace.timed ≡ true) × (w.pace.timed ≡ None))
+  pub begins : (timed : Timed) → w.pace.timed ≡ Some timed
+      → (v.pace.timed ≡ Some timed) ⊎ ((v.pace.timed ≡ None) × (now ≡ Some timed.since) × (first_due v ≢ None) × (timed.end.0 ≡ w.sending.nxt))
+
+-- nothing is measured that was not
+keeps : (v w : View) (now : Option Moment) → w.pace.timeout.estimate ≡ v.pace.timeout.estimate → w.pace.timed ≡ v.pace.timed → Measures v now w
+keeps v w now estimate timed = record { sampled = inl estimate; begins = λ t is. inl (sym timed ∙ is) }
+
+leaves : (v w : View) (now : Option Moment) → w.pace.timeout.estimate ≡ v.pace.timeout.estimate → w.pace.timed ≡ None → Measures v now w
+leaves v w now estimate none = record { sampled = inl estimate; begins = λ t is. let bad : None ≡ Some t = sym none ∙ is in cc }
+
+-- Segments.
+
+-- the same sample, whether it came with the acknowledgement of our SYN or later
+estimated : (opens : Bool) (t : Timeout) → (let u = if opens then after_lost_syn t else t in u.estimate) ≡ t.estimate
+estimated true t = refl
+estimated false t = refl
+
+sampled_or_left : (t : Timeout) (o : Option Timed) (una : ℕ) (now : Moment)
+    → (let u = timeout_sampled t o una now in u.estimate ≡ t.estimate) ⊎ ((is_some o ≡ true) × (timed_left o una ≡ None))
+sampled_or_left t None una now = inl refl
+sampled_or_left t (Some timed) una now = chosen (is_timed_by timed una)
+  where
+    chosen : (back : Bool) → (let u = if back then after_sample t (now.0 - timed.since.0) else t in u.estimate ≡ t.estimate) ⊎ ((true ≡ true) × ((if back then None else Some timed) ≡ None))
+    chosen true = inr (refl, refl)
+    chosen false = inl refl
+
+still_timed : (o : Option Timed) (una : ℕ) (timed : Timed) → timed_left o una ≡ Some timed → o ≡ Some timed
+still_timed None una timed e = cc
+still_timed (Some other) una timed e = either (Option Timed) (λ x. x ≡ Some timed → Some other ≡ Some timed) (is_timed_by other una) None (Some other) (λ back bad. cc) (λ out same. same) e
+
+acknowledged : (v w : View) (una : ℕ) (opens : Bool) (now : Moment) → w.pace.timeout.estimate ≡ v.pace.timeout.estimate → (w.pace.timed ≡ v.pace.timed) ⊎ (w.pace.timed ≡ None)
+    → Measures v (Some now) (record w { pace = pace_acknowledged w.pace una opens now })
+acknowledged v w una opens now estimate was =
+    let last = estimated (opens && nat_lt 0 w.pace.expiries) (timeout_sampled w.pace.timeout w.pace.timed una now) in
+    record {
+      sampled = elim (sampled_or_left w.pace.timeout w.pace.timed una now) [
+        | inl same ↦ inl (last ∙ same ∙ estimate)
+        | inr back ↦ elim was [
+          | inl same ↦ inr (ap is_some (sym same) ∙ back.0, back.1)
+          | inr none ↦ let bad : false ≡ true = sym (ap is_some none) ∙ back.0 in cc
+        ]
+      ];
+      begins = λ timed is.
+          let out = still_timed w.pace.timed una timed is in
+          elim was [ inl same ↦ inl (sym same ∙ out) | inr none ↦ let bad : None ≡ Some timed = sym none ∙ out in cc ];
+    }
+
+-- whether or not it moved SND.UNA, or answered a probe
+clocked_measures : (v w : View) (m : Option Moment) (moved : Bool) (now : Moment) → Measures v m w → Measures v m (clocked moved w now)
+clocked_measures v w m moved now k = record { sampled = k.sampled; begins = k.begins }
+
+heard_measures : (v : View) (s : Segment) (now : Moment) → Measures v (Some now) (timed_by (before v s) (after_heard v s) now)
+heard_measures v s now =
+    let b = before v s in
+    let w = after_heard v s in
+    let k = segment_hears v s in
+    let estimate : w.pace.timeout.estimate ≡ v.pace.timeout.estimate = ap (λ (t : Timeout). t.estimate) k.timeout in
+    let kept : Measures v (Some now) w = elim k.timed [ inl same ↦ keeps v w (Some now) estimate same | inr none ↦ leaves v w (Some now) estimate none ] in
+    let paced : Measures v (Some now) (record w { pace = pace_after b w now }) =
+    either Pace (λ p. Measures v (Some now) (record w { pace = p })) (is_moved b w) _ _ (λ moved. acknowledged v w w.sending.una (is_opening b.state) now estimate k.timed)
+    (λ still. either Pace (λ p. Measures v (Some now) (record w { pace = p })) b.answers_probe (record w.pace { expiries = 0 }) w.pace
+    (λ answers. record { sampled = kept.sampled; begins = kept.begins }) (λ other. record { sampled = kept.sampled; begins = kept.begins })) in
+    record { sampled = paced.sampled; begins = paced.begins }
+
+-- Emissions.
+
+begun : (o : Option Timed) (end : ℕ) (now : Moment) (timed : Timed) → timing_of o end now ≡ Some timed → (o ≡ Some timed) ⊎ ((o ≡ None) × (Some now ≡ Some timed.since) × (timed.end.0 ≡ end))
+begun None end now timed e =
+    let same : record { end = record { 0 = end }; since = now } ≡ timed = cc in
+    inr (refl, ap (λ (t : Timed). Some t.since) same, ap (λ (t : Timed). t.end.0) (sym same))
+begun (Some other) end now timed e = inl e
+
+emission_measures : (v : View) (now : Moment) → Measures v (Some now) (after_first v (first_due v) now)
+emission_measures v now = sent (first_due v) refl
+  where
+    sent : (o : Option Due) → first_due v ≡ o → Measures v (Some now) (after_first v o now)
+    sent None first = keeps v v (Some now) refl refl
+    sent (Some due) first =
+        let k = goes_out v due now in
+        record {
+          sampled = inl (ap (λ (t : Timeout). t.estimate) k.timeout);
+          begins = λ timed is. elim k.timed [
+            | inl same ↦ inl (sym same ∙ is)
+            | inr more ↦ elim more [
+              | inl none ↦ let bad : None ≡ Some timed = sym none ∙ is in cc
+              | inr new ↦ elim (begun v.pace.timed (after_going_out v due now).sending.nxt now timed (sym new ∙ is)) [
+                | inl was ↦ inl was
+                | inr begins ↦ inr (begins.0, begins.1, λ none. let bad : None ≡ Some due = sym none ∙ first in cc, begins.2)
+              ]
+            ]
+          ];
+        }
+
+-- Every event.
+
+-- a timer that expires takes no sample
+timers_measure : (v : View) (now : Moment) → Measures v (Some now) (clocked false (after_timers v now) now)
+timers_measure v now =
+    let m : Option Moment = Some now in
+    let first = after_expiry v now in
+    let second = delayed_ack_expired first now in
+    let one : Measures v m first = either View (Measures v m) (has_come v.timers.retransmission now) (retransmission_expired v) _ (λ comes. keeps v _ m refl refl)
+    (λ early. either View (Measures v m) (has_come v.timers.probe now) (probe_expired v now) v (λ comes. keeps v _ m refl refl) (λ late. keeps v v m refl refl)) in
+    let two : Measures v m second = either View (Measures v m) (has_come first.timers.delayed_ack now) _ first (λ comes. record { sampled = one.sampled; begins = one.begins }) (λ early. one) in
+    let three : Measures v m (after_timers v now) = either View (Measures v m) (has_come second.timers.overriding now) _ second (λ comes. record { sampled = two.sampled; begins = two.begins }) (λ early. two) in
+    clocked_measures v (after_timers v now) m false now three
+
+measures : (v : View) (e : Event) → Measures v (moment_of e) (after_event v e)
+measures v (Hears s now) = by_clock (Measures v (Some now)) v s now (keeps v v (Some now) refl refl) (λ lives. heard_measures v s now)
+measures v (Ticks now) =
+    let m : Option Moment = Some now in
+    either View (Measures v m) (is_at_end v now) (after_stop v) _ (λ over. leaves v _ m refl refl)
+    (λ goes_on. either View (Measures v m) (gives_up v now) (after_reset v (Some ETIMEDOUT)) _ (λ given_up. leaves v _ m refl refl)
+    (λ lives. either View (Measures v m) (has_come (next_of v.timers) now) (clocked false (after_timers v now) now) v (λ comes. timers_measure v now) (λ early. keeps v v m refl refl)))
+measures v (Emits now) = emission_measures v now
+measures v (Sends octets now) =
+    let m : Option Moment = Some now in
+    either View (Measures v m) (is_some v.pending_error || is_opening v.state || is_write_closed v.state) v _ (λ refused. keeps v v m refl refl)
+    (λ taken. either View (Measures v m) (length (take (send_count v octets) octets) == 0) v _ (λ none. keeps v v m refl refl) (λ some. keeps v _ m refl refl))
+measures v (Receives len) =
+    either View (Measures v None) (is_some v.pending_error || is_opening v.state || (length v.receiving.readable == 0)) v _ (λ nothing. keeps v v None refl refl) (λ some. keeps v _ None refl refl)
+measures v (Shuts now) =
+    let m : Option Moment = Some now in
+    either View (Measures v m) (is_some (shutdown_refusal v)) v (after_shutdown v now) (λ refused. keeps v v m refl refl) (λ shuts. keeps v _ m refl refl)
+measures v (Closes now) =
+    let m : Option Moment = Some now in
+    either View (Measures v m) (is_removed_by_close v) v _ (λ removed. keeps v v m refl refl)
+    (λ stays. either View (Measures v m) (is_aborted_by_close v) (aborted_at v now) (after_release v now) (λ aborts. leaves v _ m refl refl) (λ leaves_it. keeps v _ m refl refl))
+measures v (Aborts now) =
+    let m : Option Moment = Some now in
+    either View (Measures v m) (is_closed v.state) v (aborted_at v now) (λ closed. keeps v v m refl refl) (λ aborts. leaves v _ m refl refl)
+measures v (Unreachable number) =
+    either View (Measures v None) (is_unreachable v number) (after_reset v (Some ECONNREFUSED)) v (λ refused. leaves v _ None refl refl) (λ other. keeps v v None refl refl)
+
+pub sampled : (v : View) (e : Event) → ((after_event v e).pace.timeout.estimate ≡ v.pace.timeout.estimate) ⊎ ((is_some v.pace.timed ≡ true) × ((after_event v e).pace.timed ≡ None))
+sampled v e = (measures v e).sampled
+
+pub begins : (v : View) (e : Event) (timed : Timed) → (after_event v e).pace.timed ≡ Some timed
+    → (v.pace.timed ≡ Some timed) ⊎ ((v.pace.timed ≡ None) × (moment_of e ≡ Some timed.since) × (first_due v ≢ None) × (timed.end.0 ≡ (after_event v e).sending.nxt))
+begins v e = (measures v e).begins

@@ -1,0 +1,34 @@
+-- Why new octets and the FIN go out within the peer's window.
+use Rattle.std.proofs.Common.{◌≡◌, ◌≤◌, ◌==◌, ◌&&◌, nat_lt, length, Some, arith, refl, subst}
+use Rattle.std.proofs.lemmas.Bool.{ltb-true}
+use Rattle.tcp_state.specs.declared.emission.Due.TheVariants.{Text}
+use Rattle.tcp_state.specs.declared.emission.Stretch.{Stretch}
+use Rattle.tcp_state.specs.Stream.{outstanding}
+use Rattle.tcp_state.specs.Windows.{sendable, is_worth_sending}
+use Rattle.tcp_state.specs.View.{View, IsSound, awaits_fin_ack}
+use Rattle.tcp_state.specs.Due.{first_due, end_of, again, new_octets, fin_alone}
+use Rattle.tcp_state.proofs.Edges.{and_left, and_right}
+use Rattle.tcp_state.proofs.Emissions.{by_due}
+
+-- a stretch with nothing that went out before begins at SND.NXT, and ends in the window
+abbrev KeepsWindow : View → Stretch → Type 0
+KeepsWindow v stretch = outstanding v.sending ≤ stretch.offset → (stretch.offset ≡ outstanding v.sending) × (end_of stretch ≤ v.sending.window)
+
+pub keeps_window : (v : View) (stretch : Stretch) → IsSound v → first_due v ≡ Some (Text stretch) → outstanding v.sending ≤ stretch.offset
+    → (stretch.offset ≡ outstanding v.sending) × (end_of stretch ≤ v.sending.window)
+keeps_window v stretch sound first = by_due (λ o. (t : Stretch) → o ≡ Some (Text t) → KeepsWindow v t) v (record {
+  nothing = λ t e. cc;
+  rst = λ owes t e. cc;
+  syn = λ opening t e. cc;
+  once_more = λ opened mark is goes t e. let same : again v mark ≡ t = cc in subst (KeepsWindow v) same (λ past. let within = sound.mark mark is in absurd (omega (arith, past, within)));
+  octets = λ opened sends t e.
+      let same : new_octets v ≡ t = cc in
+      let some = ltb-true 0 (sendable v.sending) (and_left (nat_lt 0 (sendable v.sending)) (is_worth_sending v.sending v.pace.overridden) sends) in
+      subst (KeepsWindow v) same (λ past. (refl, omega (arith, some)));
+  fin = λ opened sends t e.
+      let same : fin_alone v ≡ t = cc in
+      let room = ltb-true (outstanding v.sending) v.sending.window (and_right (awaits_fin_ack v.state && (outstanding v.sending == length v.sending.held)) _ sends) in
+      subst (KeepsWindow v) same (λ past. (refl, omega (arith, room)));
+  probe = λ opened goes t e. cc;
+  ack = λ owes t e. cc;
+}) stretch first

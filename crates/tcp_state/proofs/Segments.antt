@@ -1,0 +1,142 @@
+-- What a segment makes of a connection, case by case.
+use Rattle.std.proofs.Common.{◌≡◌, ℕ, ◌==◌, ◌||◌, ◌&&◌, not, Bool, true, false, if◌then◌else◌, length, refl, ◌∙◌, ap}
+use Rattle.tcp_segment.specs.Segment.{Segment, smss_of}
+use Rattle.clock.specs.declared.moment.Moment.{Moment}
+use Rattle.tcp_state.specs.declared.buffers.TheConstants.{CAPACITY}
+use Rattle.tcp_state.specs.declared.state.State.TheVariants.{Established}
+use Rattle.tcp_state.specs.Numbers.{is_before}
+use Rattle.tcp_state.specs.Stream.{is_new_ack, is_in_window, after_syn, after_syn_acknowledged}
+use Rattle.tcp_state.specs.Windows.{after_syn_heard}
+use Rattle.tcp_state.specs.Pace.{unmarked}
+use Rattle.tcp_state.specs.View.{View, is_syn_sent, is_syn_received, is_closed, after_reset}
+use Rattle.tcp_state.specs.Arrival.{owing_ack, reset_error, after_rst_in_syn_sent, after_rst, is_right_syn_ack, after_syn_ack, is_simultaneous_syn, after_simultaneous_syn, is_acceptable_to, ends_by_syn, is_acting_reset, ends_by_reset, after_establishment, is_of_fin, fin_acknowledged, after_new_ack, after_ack, is_read_on, is_receiving, after_window, after_text, after_fin, after_acknowledging_segment, after_acceptable_segment, after_segment, is_read, is_lost, after_lost, after_heard, acknowledges_unsent, is_rejected, before, timed_by, after_segment_at}
+use Rattle.tcp_state.proofs.Edges.{either, by_fin, and_left, and_right}
+use Rattle.tcp_state.proofs.Causes.{not_true}
+use Rattle.tcp_state.proofs.Unchanged.{and_false}
+
+-- the SYN-ACK that ends an opening
+abbrev pub opened_by_syn_ack : View → Segment → View
+opened_by_syn_ack v s = record v {
+  state = Established;
+  sending = after_syn_acknowledged (after_syn_heard v.sending s.number s.window (smss_of s));
+  receiving = after_syn v.receiving s.number CAPACITY;
+  owes_ack = true;
+  pace = unmarked v.pace;
+}
+
+-- a segment is read: its acknowledgement, its window, its octets and its FIN
+abbrev pub after_reading : View → Segment → View
+after_reading v s = after_fin (after_text (after_window (after_ack v s.acknowledgement) s) s) s
+
+-- what an acknowledgement may make of a connection
+pub record ByAck (P : View → Type 0) (v : View) (ack : ℕ) : Type 0 where
+  pub old : P v
+  pub beyond : P (owing_ack v)
+  pub opens : is_new_ack v.sending ack ≡ true → P (after_establishment v)
+  pub octets : is_new_ack v.sending ack ≡ true → P (after_new_ack v ack)
+  pub fin : is_new_ack v.sending ack ≡ true → is_of_fin v ack ≡ true → P (fin_acknowledged (after_new_ack v ack))
+
+pub by_ack : (P : View → Type 0) (v : View) (ack : ℕ) → ByAck P v ack → P (after_ack v ack)
+by_ack P v ack cases =
+    either View P (is_syn_received v.state) _ _
+    (λ received. either View P (is_new_ack v.sending ack) (after_establishment v) v cases.opens (λ old. cases.old))
+    (λ past_opening. either View P (is_new_ack v.sending ack) _ _
+    (λ new. either View P (is_of_fin v ack) (fin_acknowledged (after_new_ack v ack)) (after_new_ack v ack) (cases.fin new) (λ octets. cases.octets new))
+    (λ old. either View P (is_before v.sending.nxt ack) (owing_ack v) v (λ beyond. cases.beyond) (λ within. cases.old)))
+
+-- it leaves the receiving half
+pub ack_receives : (v : View) (ack : ℕ) → (after_ack v ack).receiving ≡ v.receiving
+ack_receives v ack = by_ack (λ w. w.receiving ≡ v.receiving) v ack (record { old = refl; beyond = refl; opens = λ new. refl; octets = λ new. refl; fin = λ new fin. refl })
+
+-- octets and a FIN leave the sending half
+pub reading_sends : (v : View) (s : Segment) → (after_reading v s).sending ≡ (after_window (after_ack v s.acknowledgement) s).sending
+reading_sends v s =
+    let told = after_window (after_ack v s.acknowledgement) s in
+    let text = after_text told s in
+    by_fin (λ w. w.sending ≡ text.sending) text s (λ counts. refl) refl refl
+    ∙ either View (λ w. w.sending ≡ told.sending) ((length s.octets == 0) || not (is_receiving told.state)) told _ (λ none. refl) (λ some. refl)
+
+-- what a segment may make of it
+pub record BySegment (P : View → Type 0) (v : View) (s : Segment) : Type 0 where
+  pub dropped : P v
+  pub drawn : P (owing_ack v)
+  pub reset : P (after_reset v (reset_error v.state))
+  pub crossed : is_syn_sent v.state ≡ true → P (after_simultaneous_syn v s)
+  pub opened : is_syn_sent v.state ≡ true → is_right_syn_ack v s ≡ true → P (opened_by_syn_ack v s)
+  pub acknowledged : P (after_ack v s.acknowledgement)
+  pub read : P (after_reading v s)
+
+pub by_segment : (P : View → Type 0) (v : View) (s : Segment) → BySegment P v s → P (after_segment v s)
+by_segment P v s cases =
+    either View P (is_closed v.state) v _
+    (λ closed. cases.dropped)
+    (λ lives. either View P s.flags.rst _ _
+    (λ rst. either View P (is_syn_sent v.state) (after_rst_in_syn_sent v s) (after_rst v s)
+    (λ waits. either View P (s.flags.ack && is_new_ack v.sending s.acknowledgement) (after_reset v (reset_error v.state)) v (λ acts. cases.reset) (λ other. cases.dropped))
+    (λ past_opening. either View P (is_acting_reset v s) _ _
+    (λ acts. either View P (ends_by_reset v s) v (after_reset v (reset_error v.state)) (λ removed. cases.dropped) (λ stays. cases.reset))
+    (λ elsewhere. either View P (is_in_window v.receiving s.number) (owing_ack v) v (λ within. cases.drawn) (λ outside. cases.dropped))))
+    (λ no_rst. either View P (is_syn_sent v.state) _ _
+    (λ waits. either View P (is_simultaneous_syn v s) (after_simultaneous_syn v s) (after_syn_ack v s) (λ simultaneous. cases.crossed waits)
+    (λ answers. either View P (is_right_syn_ack v s) (opened_by_syn_ack v s) v (cases.opened waits) (λ wrong. cases.dropped)))
+    (λ past_opening. either View P (is_acceptable_to v s) (after_acceptable_segment v s) (owing_ack v)
+    (λ accepted. either View P s.flags.syn _ _
+    (λ syn. either View P (ends_by_syn v s) v (owing_ack v) (λ removed. cases.dropped) (λ stays. cases.drawn))
+    (λ no_syn. either View P s.flags.ack (after_acknowledging_segment v s) v
+    (λ ack. either View P (is_read_on v s.acknowledgement) (after_reading v s) (after_ack v s.acknowledgement) (λ on. cases.read) (λ off. cases.acknowledged))
+    (λ no_ack. cases.dropped)))
+    (λ unacceptable. cases.drawn))))
+
+-- octets for a connection that its caller closed end it, and else it is as the segment makes it
+pub by_hearing : (P : View → Type 0) (v : View) (s : Segment) → P (after_lost v s) → BySegment P v s → P (after_heard v s)
+by_hearing P v s lost cases = either View P (is_lost v s) (after_lost v s) (after_segment v s) (λ ends. lost) (λ kept. by_segment P v s cases)
+
+-- with the clock
+pub by_clock : (P : View → Type 0) (v : View) (s : Segment) (now : Moment) → P v → (is_closed v.state ≡ false → P (timed_by (before v s) (after_heard v s) now)) → P (after_segment_at v s now)
+by_clock P v s now same heard =
+    either View P (is_closed v.state || is_rejected v s) v (timed_by (before v s) (after_heard v s) now) (λ unheard. same) (λ hears. heard (neither (is_closed v.state) (is_rejected v s) hears))
+  where
+    neither : (a b : Bool) → (a || b) ≡ false → a ≡ false
+    neither true b e = cc
+    neither false b e = refl
+
+-- what is read: an acceptable segment with ACK alone, past SYN-SENT
+pub record IsRead (v : View) (s : Segment) : Type 0 where
+  pub no_rst : s.flags.rst ≡ false
+  pub accepted : is_acceptable_to v s ≡ true
+  pub no_syn : s.flags.syn ≡ false
+  pub ack : s.flags.ack ≡ true
+  pub on : is_read_on v s.acknowledgement ≡ true
+
+pub read_tells : (v : View) (s : Segment) → is_read v s ≡ true → IsRead v s
+read_tells v s e =
+    let four = and_left (not s.flags.rst && is_acceptable_to v s && not s.flags.syn && s.flags.ack) (is_read_on v s.acknowledgement) e in
+    let three = and_left (not s.flags.rst && is_acceptable_to v s && not s.flags.syn) s.flags.ack four in
+    let two = and_left (not s.flags.rst && is_acceptable_to v s) (not s.flags.syn) three in
+    record {
+      no_rst = not_true s.flags.rst (and_left (not s.flags.rst) (is_acceptable_to v s) two);
+      accepted = and_right (not s.flags.rst) (is_acceptable_to v s) two;
+      no_syn = not_true s.flags.syn (and_right (not s.flags.rst && is_acceptable_to v s) (not s.flags.syn) three);
+      ack = and_right (not s.flags.rst && is_acceptable_to v s && not s.flags.syn) s.flags.ack four;
+      on = and_right (not s.flags.rst && is_acceptable_to v s && not s.flags.syn && s.flags.ack) (is_read_on v s.acknowledgement) e;
+    }
+
+pub reads : (v : View) (s : Segment) → is_closed v.state ≡ false → is_syn_sent v.state ≡ false → IsRead v s → after_segment v s ≡ after_reading v s
+reads v s lives past_opening read =
+    ap (λ b. if b then v else if s.flags.rst then (if is_syn_sent v.state then after_rst_in_syn_sent v s else after_rst v s) else rest) lives
+    ∙ ap (λ b. if b then (if is_syn_sent v.state then after_rst_in_syn_sent v s else after_rst v s) else rest) read.no_rst
+    ∙ ap (λ b. if b then (if is_simultaneous_syn v s then after_simultaneous_syn v s else after_syn_ack v s) else if is_acceptable_to v s then after_acceptable_segment v s else owing_ack v) past_opening
+    ∙ ap (λ b. if b then after_acceptable_segment v s else owing_ack v) read.accepted
+    ∙ ap (λ b. if b then (if ends_by_syn v s then v else owing_ack v) else if s.flags.ack then after_acknowledging_segment v s else v) read.no_syn
+    ∙ ap (λ b. if b then after_acknowledging_segment v s else v) read.ack
+    ∙ ap (λ b. if b then after_reading v s else after_ack v s.acknowledgement) read.on
+  where
+    rest : View
+    rest = if is_syn_sent v.state then (if is_simultaneous_syn v s then after_simultaneous_syn v s else after_syn_ack v s) else if is_acceptable_to v s then after_acceptable_segment v s else owing_ack v
+
+-- past the opening nothing is rejected
+pub not_rejected : (v : View) (s : Segment) → is_syn_sent v.state ≡ false → is_syn_received v.state ≡ false → is_rejected v s ≡ false
+not_rejected v s past_opening established =
+    let unsent = acknowledges_unsent v s in
+    let accepted = is_acceptable_to v s in
+    ap (λ b. unsent && (b || (is_syn_received v.state && accepted && not s.flags.syn))) past_opening ∙ ap (λ b. unsent && (b && accepted && not s.flags.syn)) established ∙ and_false unsent

@@ -1,0 +1,243 @@
+-- Why no event sets a timer for later than a minute past its moment.
+use Rattle.std.proofs.Common.{◌≡◌, ℕ, ◌+◌, ◌≤◌, ◌==◌, ◌||◌, ◌&&◌, ◌⊎◌, nat_lt, if◌then◌else◌, Bool, true, false, length, take, ◌++◌, Option, Some, None, is_some, inl, inr, arith, refl, sym, ◌∙◌, ap, subst}
+use Rattle.tcp_segment.specs.Segment.{Segment}
+use Rattle.clock.specs.declared.moment.Moment.{Moment}
+use Rattle.clock.specs.Moments.{after, has_come}
+use Rattle.retransmit.specs.declared.timers.Timers.{Timers}
+use Rattle.retransmit.specs.declared.timers.TimerKind.{TimerKind}
+use Rattle.retransmit.specs.declared.timers.TimerKind.TheVariants.{Retransmission, Probe, DelayedAck, Override}
+use Rattle.retransmit.specs.Deadlines.{no_timers, deadline_of, next_of}
+use Rattle.retransmit.specs.Timeout.{Timeout, after_lost_syn}
+use Rattle.tcp_state.specs.declared.calls.Refusal.TheVariants.{ECONNREFUSED, ETIMEDOUT}
+use Rattle.tcp_state.specs.declared.emission.Due.{Due}
+use Rattle.tcp_state.specs.declared.pace.Timed.{Timed}
+use Rattle.tcp_state.specs.declared.timing.TheConstants.{DELAYED_ACK, OVERRIDE}
+use Rattle.tcp_state.specs.Pace.{Pace, is_timed_by, timeout_sampled, pace_acknowledged}
+use Rattle.tcp_state.specs.View.{View, IsSound, is_opening, is_closed, is_fin_wait_2, is_write_closed, is_at_end, after_stop, after_reset}
+use Rattle.tcp_state.specs.Timing.{probes, retransmits, awaits_second, awaits_more, running, clocked, gives_up, retransmission_expired, probe_expired, after_expiry, delayed_ack_expired, after_timers}
+use Rattle.tcp_state.specs.Calls.{send_count, beyond_shutdown, latest, shutdown_refusal, after_shutdown, aborted_at, after_release, is_removed_by_close, is_aborted_by_close}
+use Rattle.tcp_state.specs.Arrival.{after_heard, before, is_moved, since_after, pace_after, timed_by}
+use Rattle.tcp_state.specs.Due.{first_due, after_going_out}
+use Rattle.tcp_state.specs.Unreachable.{is_unreachable}
+use Rattle.tcp_state.specs.Edges.{Event, Hears, Ticks, Emits, Sends, Receives, Shuts, Closes, Aborts, Unreachable, moment_of, after_first, after_event}
+use Rattle.tcp_state.proofs.Edges.{either}
+use Rattle.tcp_state.proofs.Segments.{by_clock}
+use Rattle.tcp_state.proofs.Paces.{segment_hears, goes_out}
+
+-- a timer runs as before, or until a minute past the moment at the latest
+abbrev Soon : Moment → Option Moment → Option Moment → Type 0
+Soon now was is = (deadline : Moment) → is ≡ Some deadline → (was ≡ Some deadline) ⊎ (deadline.0 ≤ now.0 + 60000)
+
+record SetSoon (now : Moment) (was is : Timers) : Type 0 where
+  pub retransmission : Soon now was.retransmission is.retransmission
+  pub probe : Soon now was.probe is.probe
+  pub delayed_ack : Soon now was.delayed_ack is.delayed_ack
+  pub overriding : Soon now was.overriding is.overriding
+
+as_before : (now : Moment) (was : Option Moment) → Soon now was was
+as_before now was deadline e = inl e
+
+none_set : (now : Moment) (was : Option Moment) → Soon now was None
+none_set now was deadline e = cc
+
+-- so many milliseconds from now on
+later : (now : Moment) (was : Option Moment) (milliseconds : ℕ) → milliseconds ≤ 60000 → Soon now was (Some (after now milliseconds))
+later now was milliseconds few deadline e =
+    let same : after now milliseconds ≡ deadline = cc in
+    let at : (let m = after now milliseconds in m.0) ≡ deadline.0 = ap (λ (m : Moment). m.0) same in
+    inr (omega (arith, at, few))
+
+runs : (now : Moment) (was is : Option Moment) (milliseconds : ℕ) → milliseconds ≤ 60000 → Soon now was is → Soon now was (running is now milliseconds)
+runs now was None milliseconds few k = later now was milliseconds few
+runs now was (Some moment) milliseconds few k = k
+
+runs_where : (wants : Bool) (now : Moment) (was is : Option Moment) (milliseconds : ℕ) → milliseconds ≤ 60000 → Soon now was is → Soon now was (if wants then running is now milliseconds else None)
+runs_where true now was is milliseconds few k = runs now was is milliseconds few k
+runs_where false now was is milliseconds few k = none_set now was
+
+runs_once : (wants : Bool) (now : Moment) (was is : Option Moment) (milliseconds : ℕ) → milliseconds ≤ 60000 → Soon now was is → Soon now was (if wants then running is now milliseconds else is)
+runs_once true now was is milliseconds few k = runs now was is milliseconds few k
+runs_once false now was is milliseconds few k = k
+
+-- anew where SND.UNA moved
+anew : (moved : Bool) (now : Moment) (was is : Option Moment) → Soon now was is → Soon now was (if moved then None else is)
+anew true now was is k = none_set now was
+anew false now was is k = k
+
+unset : (now : Moment) (t : Timers) → SetSoon now t t
+unset now t = record {
+  retransmission = as_before now t.retransmission;
+  probe = as_before now t.probe;
+  delayed_ack = as_before now t.delayed_ack;
+  overriding = as_before now t.overriding;
+}
+
+stopped_soon : (now : Moment) (t : Timers) → SetSoon now t no_timers
+stopped_soon now t = record {
+  retransmission = none_set now t.retransmission;
+  probe = none_set now t.probe;
+  delayed_ack = none_set now t.delayed_ack;
+  overriding = none_set now t.overriding;
+}
+
+-- the clock at the end of an event
+clocked_soon : (moved : Bool) (v : View) (now : Moment) (was : Timers) → v.pace.timeout.rto ≤ 60000 → SetSoon now was v.timers → SetSoon now was (clocked moved v now).timers
+clocked_soon moved v now was few k = record {
+  retransmission = runs_where (retransmits v) now was.retransmission (if moved then None else v.timers.retransmission) v.pace.timeout.rto few (anew moved now was.retransmission v.timers.retransmission k.retransmission);
+  probe = runs_where (probes v) now was.probe v.timers.probe v.pace.timeout.rto few k.probe;
+  delayed_ack = runs_where (awaits_second v) now was.delayed_ack v.timers.delayed_ack DELAYED_ACK (omega arith) k.delayed_ack;
+  overriding = runs_once (awaits_more v) now was.overriding v.timers.overriding OVERRIDE (omega arith) k.overriding;
+}
+
+-- Segments.
+
+sampled_few : (t : Timeout) (o : Option Timed) (una : ℕ) (now : Moment) → t.rto ≤ 60000 → (let u = timeout_sampled t o una now in u.rto ≤ 60000)
+sampled_few t None una now few = few
+sampled_few t (Some timed) una now few = either Timeout (λ u. u.rto ≤ 60000) (is_timed_by timed una) _ t (λ back. omega arith) (λ out. few)
+
+acknowledged_few : (p : Pace) (una : ℕ) (opens : Bool) (now : Moment) → p.timeout.rto ≤ 60000 → (let q = pace_acknowledged p una opens now in q.timeout.rto ≤ 60000)
+acknowledged_few p una opens now few =
+    let sampled = timeout_sampled p.timeout p.timed una now in
+    either Timeout (λ u. u.rto ≤ 60000) (opens && nat_lt 0 p.expiries) (after_lost_syn sampled) sampled (λ lost. omega arith) (λ came. sampled_few p.timeout p.timed una now few)
+
+heard_few : (v : View) (s : Segment) (now : Moment) → v.pace.timeout.rto ≤ 60000 → (let p = pace_after (before v s) (after_heard v s) now in p.timeout.rto ≤ 60000)
+heard_few v s now few =
+    let b = before v s in
+    let w = after_heard v s in
+    let same : w.pace.timeout.rto ≡ v.pace.timeout.rto = ap (λ (t : Timeout). t.rto) (segment_hears v s).timeout in
+    let still : w.pace.timeout.rto ≤ 60000 = omega (arith, same, few) in
+    either Pace (λ p. p.timeout.rto ≤ 60000) (is_moved b w) _ _ (λ moved. acknowledged_few w.pace w.sending.una (is_opening b.state) now still)
+    (λ unmoved. either Pace (λ p. p.timeout.rto ≤ 60000) b.answers_probe (record w.pace { expiries = 0 }) w.pace (λ answers. still) (λ other. still))
+
+heard_soon : (v : View) (s : Segment) (now : Moment) → v.pace.timeout.rto ≤ 60000 → SetSoon now v.timers (timed_by (before v s) (after_heard v s) now).timers
+heard_soon v s now few =
+    let b = before v s in
+    let w = after_heard v s in
+    let kept : SetSoon now v.timers w.timers = elim (segment_hears v s).timers [
+      | inl same ↦ subst (λ t. SetSoon now v.timers t) (sym same) (unset now v.timers)
+      | inr none ↦ subst (λ t. SetSoon now v.timers t) (sym none) (stopped_soon now v.timers)
+    ] in
+    clocked_soon (is_moved b w) (record w { since = since_after b w now; pace = pace_after b w now }) now v.timers (heard_few v s now few) kept
+
+-- Emissions.
+
+same_soon : (now : Moment) (was is : Option Moment) → is ≡ was → Soon now was is
+same_soon now was is same deadline e = inl (sym same ∙ e)
+
+emission_soon : (v : View) (o : Option Due) (now : Moment) → v.pace.timeout.rto ≤ 60000 → SetSoon now v.timers (after_first v o now).timers
+emission_soon v None now few = unset now v.timers
+emission_soon v (Some due) now few =
+    let out = after_going_out v due now in
+    let k = goes_out v due now in
+    let rto : out.pace.timeout.rto ≡ v.pace.timeout.rto = ap (λ (t : Timeout). t.rto) k.timeout in
+    clocked_soon false out now v.timers (omega (arith, rto, few)) (record {
+      retransmission = same_soon now v.timers.retransmission out.timers.retransmission (ap (λ (t : Timers). t.retransmission) k.others);
+      probe = same_soon now v.timers.probe out.timers.probe (ap (λ (t : Timers). t.probe) k.others);
+      delayed_ack = same_soon now v.timers.delayed_ack out.timers.delayed_ack (ap (λ (t : Timers). t.delayed_ack) k.others);
+      overriding = elim k.overriding [
+        | inl same ↦ same_soon now v.timers.overriding out.timers.overriding same
+        | inr none ↦ subst (Soon now v.timers.overriding) (sym none) (none_set now v.timers.overriding)
+      ];
+    })
+
+-- Ticks.
+
+record Acted (now : Moment) (v w : View) : Type 0 where
+  pub timers : SetSoon now v.timers w.timers
+  pub few : w.pace.timeout.rto ≤ 60000
+
+expiry_soon : (v : View) (now : Moment) → v.pace.timeout.rto ≤ 60000 → Acted now v (after_expiry v now)
+expiry_soon v now few =
+    let t = unset now v.timers in
+    either View (Acted now v) (has_come v.timers.retransmission now) (retransmission_expired v) _
+    (λ comes. record { timers = record { retransmission = none_set now v.timers.retransmission; probe = t.probe; delayed_ack = t.delayed_ack; overriding = t.overriding }; few = omega arith })
+    (λ early. either View (Acted now v) (has_come v.timers.probe now) (probe_expired v now) v
+    (λ comes. record { timers = record { retransmission = t.retransmission; probe = later now v.timers.probe _ (omega arith); delayed_ack = t.delayed_ack; overriding = t.overriding }; few = few })
+    (λ late. record { timers = t; few = few }))
+
+timers_soon : (v : View) (now : Moment) → v.pace.timeout.rto ≤ 60000 → SetSoon now v.timers (clocked false (after_timers v now) now).timers
+timers_soon v now few =
+    let first = after_expiry v now in
+    let second = delayed_ack_expired first now in
+    let one = expiry_soon v now few in
+    let two : Acted now v second = either View (Acted now v) (has_come first.timers.delayed_ack now) _ first (λ comes. record { timers = one.timers; few = one.few }) (λ early. one) in
+    let t = two.timers in
+    let three : Acted now v (after_timers v now) = either View (Acted now v) (has_come second.timers.overriding now) _ second
+    (λ comes. record { timers = record { retransmission = t.retransmission; probe = t.probe; delayed_ack = t.delayed_ack; overriding = none_set now v.timers.overriding }; few = two.few }) (λ early. two) in
+    clocked_soon false (after_timers v now) now v.timers three.few three.timers
+
+-- Every event.
+
+abbrev SetsSoon : View → Moment → View → Type 0
+SetsSoon v now w = SetSoon now v.timers w.timers
+
+at_moment : (v w : View) (m now : Moment) → Some m ≡ Some now → SetsSoon v m w → SetsSoon v now w
+at_moment v w m now same k = let one : m ≡ now = cc in subst (λ n. SetsSoon v n w) one k
+
+set_soon : (v : View) (e : Event) (now : Moment) → IsSound v → moment_of e ≡ Some now → SetsSoon v now (after_event v e)
+set_soon v (Hears s m) now sound is =
+    at_moment v (after_event v (Hears s m)) m now is (by_clock (SetsSoon v m) v s m (unset m v.timers) (λ lives. heard_soon v s m sound.pace.timeout_most))
+set_soon v (Ticks m) now sound is =
+    let P : View → Type 0 = SetsSoon v m in
+    at_moment v (after_event v (Ticks m)) m now is (either View P (is_at_end v m) (after_stop v) _ (λ over. stopped_soon m v.timers)
+    (λ goes_on. either View P (gives_up v m) (after_reset v (Some ETIMEDOUT)) _ (λ given_up. stopped_soon m v.timers)
+    (λ lives. either View P (has_come (next_of v.timers) m) (clocked false (after_timers v m) m) v (λ comes. timers_soon v m sound.pace.timeout_most) (λ early. unset m v.timers))))
+set_soon v (Emits m) now sound is = at_moment v (after_event v (Emits m)) m now is (emission_soon v (first_due v) m sound.pace.timeout_most)
+set_soon v (Sends octets m) now sound is =
+    let P : View → Type 0 = SetsSoon v m in
+    let taken = take (send_count v octets) octets in
+    at_moment v (after_event v (Sends octets m)) m now is (either View P (is_some v.pending_error || is_opening v.state || is_write_closed v.state) v _ (λ refused. unset m v.timers)
+    (λ takes. either View P (length taken == 0) v _ (λ none. unset m v.timers)
+    (λ some. clocked_soon false (record v { sending = record v.sending { held = v.sending.held ++ taken } }) m v.timers sound.pace.timeout_most (unset m v.timers))))
+set_soon v (Shuts m) now sound is =
+    at_moment v (after_event v (Shuts m)) m now is (either View (SetsSoon v m) (is_some (shutdown_refusal v)) v (after_shutdown v m) (λ refused. unset m v.timers)
+    (λ shuts. clocked_soon false (record v { state = beyond_shutdown v.state }) m v.timers sound.pace.timeout_most (unset m v.timers)))
+set_soon v (Closes m) now sound is =
+    let P : View → Type 0 = SetsSoon v m in
+    let left = record v { state = beyond_shutdown v.state; released = true; since = if is_fin_wait_2 v.state then latest v.since m else v.since } in
+    at_moment v (after_event v (Closes m)) m now is (either View P (is_removed_by_close v) v _ (λ removed. unset m v.timers)
+    (λ stays. either View P (is_aborted_by_close v) (aborted_at v m) (after_release v m) (λ aborts. stopped_soon m v.timers) (λ leaves. clocked_soon false left m v.timers sound.pace.timeout_most (unset m v.timers))))
+set_soon v (Aborts m) now sound is =
+    at_moment v (after_event v (Aborts m)) m now is (either View (SetsSoon v m) (is_closed v.state) v (aborted_at v m) (λ closed. unset m v.timers) (λ aborts. stopped_soon m v.timers))
+set_soon v (Receives len) now sound is = cc
+set_soon v (Unreachable number) now sound is = cc
+
+pub soon : (v : View) (e : Event) (now deadline : Moment) (kind : TimerKind) → IsSound v → moment_of e ≡ Some now → deadline_of (after_event v e).timers kind ≡ Some deadline
+    → (deadline_of v.timers kind ≡ Some deadline) ⊎ (deadline.0 ≤ now.0 + 60000)
+soon v e now deadline kind sound is set = of_kind kind set
+  where
+    k : SetsSoon v now (after_event v e)
+    k = set_soon v e now sound is
+
+    of_kind : (kind : TimerKind) → deadline_of (after_event v e).timers kind ≡ Some deadline → (deadline_of v.timers kind ≡ Some deadline) ⊎ (deadline.0 ≤ now.0 + 60000)
+    of_kind Retransmission = k.retransmission deadline
+    of_kind Probe = k.probe deadline
+    of_kind DelayedAck = k.delayed_ack deadline
+    of_kind Override = k.overriding deadline
+
+-- An event without a moment leaves the timers as they run, or stops them.
+
+stops_or_stays : (v : View) (e : Event) → moment_of e ≡ None → ((after_event v e).timers ≡ v.timers) ⊎ ((after_event v e).timers ≡ no_timers)
+stops_or_stays v (Receives len) is =
+    either View (λ w. (w.timers ≡ v.timers) ⊎ (w.timers ≡ no_timers)) (is_some v.pending_error || is_opening v.state || (length v.receiving.readable == 0)) v _ (λ nothing. inl refl) (λ some. inl refl)
+stops_or_stays v (Unreachable number) is =
+    either View (λ w. (w.timers ≡ v.timers) ⊎ (w.timers ≡ no_timers)) (is_unreachable v number) (after_reset v (Some ECONNREFUSED)) v (λ refused. inr refl) (λ other. inl refl)
+stops_or_stays v (Hears s m) is = cc
+stops_or_stays v (Ticks m) is = cc
+stops_or_stays v (Emits m) is = cc
+stops_or_stays v (Sends octets m) is = cc
+stops_or_stays v (Shuts m) is = cc
+stops_or_stays v (Closes m) is = cc
+stops_or_stays v (Aborts m) is = cc
+
+none_runs : (kind : TimerKind) → deadline_of no_timers kind ≡ None
+none_runs Retransmission = refl
+none_runs Probe = refl
+none_runs DelayedAck = refl
+none_runs Override = refl
+
+pub never : (v : View) (e : Event) (deadline : Moment) (kind : TimerKind) → moment_of e ≡ None → deadline_of (after_event v e).timers kind ≡ Some deadline → deadline_of v.timers kind ≡ Some deadline
+never v e deadline kind is set = elim (stops_or_stays v e is) [
+  | inl same ↦ sym (ap (λ (t : Timers). deadline_of t kind) same) ∙ set
+  | inr none ↦ let bad : None ≡ Some deadline = sym (ap (λ (t : Timers). deadline_of t kind) none ∙ none_runs kind) ∙ set in cc
+]

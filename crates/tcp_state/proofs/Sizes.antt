@@ -1,0 +1,20 @@
+-- How long a segment that may go out is.
+use Rattle.std.proofs.Common.{◌≡◌, ℕ, ◌+◌, ◌*◌, ◌≤◌, Bool, true, false, if◌then◌else◌, List, length, take, drop, arith, refl}
+use Rattle.std.proofs.lemmas.List.{length-take}
+use Rattle.tcp_segment.specs.Sent.{sent_offset}
+use Rattle.tcp_state.specs.declared.emission.Due.{Due}
+use Rattle.tcp_state.specs.declared.emission.Due.TheVariants.{Rst, Syn, Text, Probe, Ack}
+use Rattle.tcp_state.specs.declared.emission.Stretch.{Stretch}
+use Rattle.tcp_state.specs.View.{View}
+use Rattle.tcp_state.specs.Due.{MayGoOut, IsHeld, octets_of, octets_of_stretch, emitted_len, probe_stretch}
+
+stretch_short : (v : View) (stretch : Stretch) → IsHeld v stretch → 4 * 5 + length (octets_of_stretch v stretch) ≤ 1480
+stretch_short v stretch held = omega (arith, length-take stretch.count (drop stretch.offset v.sending.held), held.size)
+
+-- a header of 20 octets and as many of text as a segment has room for, or that of a SYN alone
+pub emitted_short : (v : View) (due : Due) → MayGoOut v due → emitted_len v due ≤ 1480
+emitted_short v Rst may = omega (arith)
+emitted_short v Syn may = omega (arith)
+emitted_short v (Text stretch) may = stretch_short v stretch may
+emitted_short v Probe may = stretch_short v (probe_stretch v) may
+emitted_short v Ack may = omega (arith)

@@ -1,0 +1,115 @@
+-- The pace of a connection: what goes out again, and what the clock measures of a round trip (RFC 6298, RFC 9293 sections 3.8.1 and 3.8.6.1).
+use Rattle.std.specs.Prelude.{ℕ, suc, ◌-◌, ◌*◌, ◌≤◌, ◌&&◌, nat_lt, min, Bool, true, false, if◌then◌else◌, not, Option, Some, None}
+use Rattle.clock.specs.declared.moment.Moment.{Moment}
+use Rattle.retransmit.specs.Timeout.{Timeout, first_timeout, after_sample, after_expiry, after_lost_syn}
+use Rattle.tcp_state.specs.Numbers.{is_before}
+use Rattle.tcp_state.specs.declared.pace.TheConstants.{MOST_EXPIRIES, MOST_INTERVAL}
+use Rattle.tcp_state.specs.declared.pace.Timed.{Timed}
+
+pub record Pace : Type 0 where
+  -- the resend mark, as a distance past SND.UNA: what is outstanding from there on goes out again
+  pub mark : Option ℕ
+  -- the retransmission timeout
+  pub timeout : Timeout
+  -- the segment whose round trip is measured
+  pub timed : Option Timed
+  -- how many times the timer expired, that of probes too, since the last progress
+  pub expiries : ℕ
+  -- how long the next wait of the probe timer is, in milliseconds
+  pub interval : ℕ
+  -- a probe of the closed window is due
+  pub owes_probe : Bool
+  -- new octets waited for more as long as they may
+  pub overridden : Bool
+
+-- the timeout and the wait of a probe last a second at least and a minute at most, and the timers expire twelve times without progress at most
+pub record IsPaced (p : Pace) : Type 0 where
+  pub timeout_least : 1000 ≤ p.timeout.rto
+  pub timeout_most : p.timeout.rto ≤ MOST_INTERVAL
+  pub interval_least : 1000 ≤ p.interval
+  pub interval_most : p.interval ≤ MOST_INTERVAL
+  pub expiries : p.expiries ≤ MOST_EXPIRIES
+
+-- nothing has gone out
+abbrev pub first_pace : Pace
+first_pace = record {
+  mark = None;
+  timeout = first_timeout;
+  timed = None;
+  expiries = 0;
+  interval = first_timeout.rto;
+  owes_probe = false;
+  overridden = false;
+}
+
+-- nothing is outstanding or waits any longer
+abbrev pub stopped : Pace → Pace
+stopped p = record p { mark = None; timed = None; interval = p.timeout.rto; owes_probe = false; overridden = false }
+
+-- What goes out.
+
+-- the mark is past what went out from it on; it is gone where nothing that is outstanding lies behind it
+abbrev pub mark_past : ℕ → ℕ → Option ℕ
+mark_past end outstanding = if nat_lt end outstanding then Some end else None
+
+-- what was outstanding went out again, up to this distance past SND.UNA: what comes back tells no round trip (RFC 6298 section 3)
+abbrev pub pace_resent : Pace → ℕ → ℕ → Pace
+pace_resent p end outstanding = record p { mark = mark_past end outstanding; timed = None }
+
+-- new numbers went out, up to this one: their round trip is measured where no other is
+abbrev pub timing_of : Option Timed → ℕ → Moment → Option Timed
+timing_of None end now = Some (record { end = record { 0 = end }; since = now })
+timing_of (Some timed) end now = Some timed
+
+abbrev pub pace_sent : Pace → ℕ → Moment → Pace
+pace_sent p end now = record p { timed = timing_of p.timed end now }
+
+-- the probe that was due went out: it isn't measured, nor is what it sent again
+abbrev pub pace_probed : Pace → Pace
+pace_probed p = record p { owes_probe = false; timed = None }
+
+-- The timers expire.
+
+-- the retransmission timer: all that is outstanding goes out again, from SND.UNA on, and the timeout backs off (RFC 6298 sections 5.4 and 5.5)
+abbrev pub pace_expired : Pace → ℕ → Pace
+pace_expired p outstanding = record p { mark = mark_past 0 outstanding; timeout = after_expiry p.timeout; expiries = suc p.expiries }
+
+-- the probe timer: a probe is due, and the next wait is twice as long, a minute at most (RFC 9293 section 3.8.6.1)
+abbrev pub pace_probes : Pace → Pace
+pace_probes p = record p { owes_probe = true; interval = min MOST_INTERVAL (2 * p.interval); expiries = suc p.expiries }
+
+-- Acknowledgements.
+
+-- so many numbers are acknowledged, and so many are outstanding still: the mark stays at its number, or moves with SND.UNA
+abbrev pub mark_left : Option ℕ → ℕ → ℕ → Option ℕ
+mark_left None gained outstanding = None
+mark_left (Some distance) gained outstanding = mark_past (distance - gained) outstanding
+
+abbrev pub mark_moved : Pace → ℕ → ℕ → Pace
+mark_moved p gained outstanding = record p { mark = mark_left p.mark gained outstanding }
+
+-- nothing is outstanding
+abbrev pub unmarked : Pace → Pace
+unmarked p = record p { mark = None }
+
+-- SND.UNA is at the end of what is measured, or past it
+abbrev pub is_timed_by : Timed → ℕ → Bool
+is_timed_by timed una = not (is_before una timed.end.0)
+
+-- it came back: its round trip is a sample (RFC 6298 sections 2.2 and 2.3) ..
+abbrev pub timeout_sampled : Timeout → Option Timed → ℕ → Moment → Timeout
+timeout_sampled t None una now = t
+timeout_sampled t (Some timed) una now = if is_timed_by timed una then after_sample t (now.0 - timed.since.0) else t
+
+-- .. and is measured no longer
+abbrev pub timed_left : Option Timed → ℕ → Option Timed
+timed_left None una = None
+timed_left (Some timed) una = if is_timed_by timed una then None else Some timed
+
+-- Numbers that were outstanding are acknowledged, up to this one: that is progress. Where one was our SYN's, and its timer had expired, the timeout begins anew (RFC 6298 section 5.7).
+abbrev pub pace_acknowledged : Pace → ℕ → Bool → Moment → Pace
+pace_acknowledged p una opens now = let sampled = timeout_sampled p.timeout p.timed una now in record p {
+  timeout = if opens && nat_lt 0 p.expiries then after_lost_syn sampled else sampled;
+  timed = timed_left p.timed una;
+  expiries = 0;
+}

@@ -1,0 +1,140 @@
+-- The timers of a connection: when each runs, and what a tick makes of it (RFC 6298 section 5, RFC 9293 sections 3.8.1, 3.8.6 and 3.10.8).
+use Rattle.std.specs.Prelude.{◌≡◌, ℕ, ◌==◌, ◌&&◌, ◌||◌, not, nat_le, nat_lt, Bool, true, false, if◌then◌else◌, length, Option, Some, None, is_some}
+use Rattle.clock.specs.declared.moment.Moment.{Moment}
+use Rattle.clock.specs.Moments.{after, has_come, sooner}
+use Rattle.retransmit.specs.declared.timers.Timers.{Timers}
+use Rattle.retransmit.specs.Deadlines.{next_of}
+use Rattle.tcp_state.specs.declared.calls.Refusal.TheVariants.{ETIMEDOUT}
+use Rattle.tcp_state.specs.declared.connection.Fate.{Fate}
+use Rattle.tcp_state.specs.declared.connection.Fate.TheVariants.{Stays, Removed}
+use Rattle.tcp_state.specs.declared.pace.TheConstants.{MOST_EXPIRIES}
+use Rattle.tcp_state.specs.declared.timing.TheConstants.{DELAYED_ACK, OVERRIDE}
+use Rattle.tcp_state.specs.Pace.{Pace, pace_expired, pace_probes}
+use Rattle.tcp_state.specs.Stream.{outstanding}
+use Rattle.tcp_state.specs.Windows.{waits_for_more}
+use Rattle.tcp_state.specs.View.{View, is_opening, is_syn_received, is_closed, awaits_fin_ack, ends_at, is_at_end, after_stop, after_reset, is_over}
+
+-- When each timer runs.
+
+-- octets, or the FIN of a closed side, are unacknowledged or unsent
+abbrev pub has_unacknowledged : View → Bool
+has_unacknowledged v = not (length v.sending.held == 0) || awaits_fin_ack v.state
+
+-- the peer's window is closed, and is probed (section 3.8.6.1)
+abbrev pub probes : View → Bool
+probes v = not (is_opening v.state) && (v.sending.window == 0) && has_unacknowledged v
+
+-- something is outstanding that is not probed with
+abbrev pub retransmits : View → Bool
+retransmits v = nat_lt 0 (outstanding v.sending) && not (probes v)
+
+-- an acknowledgement waits for a second segment (section 3.8.6.3)
+abbrev pub awaits_second : View → Bool
+awaits_second v = v.delays_ack && not v.owes_ack
+
+-- new octets wait for more (section 3.8.6.2.1)
+abbrev pub awaits_more : View → Bool
+awaits_more v = not (is_opening v.state) && waits_for_more v.sending v.pace.overridden
+
+-- it goes on where it runs, and else begins
+abbrev pub running : Option Moment → Moment → ℕ → Option Moment
+running (Some deadline) now milliseconds = Some deadline
+running None now milliseconds = Some (after now milliseconds)
+
+-- it starts with the first number that is outstanding, and anew where SND.UNA moved (RFC 6298 sections 5.1 to 5.3)
+abbrev pub retransmission_timer : View → Bool → Moment → Option Moment
+retransmission_timer v moved now =
+    if retransmits v then running (if moved then None else v.timers.retransmission) now v.pace.timeout.rto else None
+
+-- the first wait is the retransmission timeout
+abbrev pub probe_timer : View → Moment → Option Moment
+probe_timer v now = if probes v then running v.timers.probe now v.pace.timeout.rto else None
+
+abbrev pub delayed_ack_timer : View → Moment → Option Moment
+delayed_ack_timer v now = if awaits_second v then running v.timers.delayed_ack now DELAYED_ACK else None
+
+-- once it runs, only the going out of new octets ends it
+abbrev pub override_timer : View → Moment → Option Moment
+override_timer v now = if awaits_more v then running v.timers.overriding now OVERRIDE else v.timers.overriding
+
+-- the wait of the probe timer that doesn't go on is the timeout
+abbrev pub interval_of : View → ℕ
+interval_of v = if probes v && is_some v.timers.probe then v.pace.interval else v.pace.timeout.rto
+
+-- At the end of each event its timers run, stop or begin as the connection wants them, and no probe is due of a window that is open. `moved` tells whether the event moved SND.UNA.
+abbrev pub clocked : Bool → View → Moment → View
+clocked moved v now = record v {
+  pace = record v.pace { interval = interval_of v; owes_probe = v.pace.owes_probe && probes v };
+  timers = record {
+    retransmission = retransmission_timer v moved now;
+    probe = probe_timer v now;
+    delayed_ack = delayed_ack_timer v now;
+    overriding = override_timer v now;
+  };
+}
+
+-- The timers run exactly where something waits for them, the override where new octets began to. So it is for each connection after each event.
+pub record KeepsTime (v : View) : Type 0 where
+  pub retransmission : is_some v.timers.retransmission ≡ retransmits v
+  pub probe : is_some v.timers.probe ≡ probes v
+  pub delayed_ack : is_some v.timers.delayed_ack ≡ awaits_second v
+  pub overriding : awaits_more v ≡ true → is_some v.timers.overriding ≡ true
+  pub interval : is_some v.timers.probe ≡ false → v.pace.interval ≡ v.pace.timeout.rto
+  pub owed : v.pace.owes_probe ≡ true → probes v ≡ true
+  pub closed : is_closed v.state ≡ true → v.timers.overriding ≡ None
+
+-- What a tick does.
+
+-- the timer has come whose expiry counts: that of what is outstanding or of the probe
+abbrev pub expires : View → Moment → Bool
+expires v now = has_come v.timers.retransmission now || has_come v.timers.probe now
+
+-- it expired as often as it may without progress: the next expiry ends the connection (RFC 9293 section 3.8.3)
+abbrev pub gives_up : View → Moment → Bool
+gives_up v now = expires v now && nat_le MOST_EXPIRIES v.pace.expiries
+
+abbrev pub retransmission_expired : View → View
+retransmission_expired v = record v { pace = pace_expired v.pace (outstanding v.sending); timers = record v.timers { retransmission = None } }
+
+abbrev pub probe_expired : View → Moment → View
+probe_expired v now = let pace = pace_probes v.pace in record v { pace = pace; timers = record v.timers { probe = Some (after now pace.interval) } }
+
+abbrev pub after_expiry : View → Moment → View
+after_expiry v now =
+    if has_come v.timers.retransmission now then retransmission_expired v
+    else if has_come v.timers.probe now then probe_expired v now
+    else v
+
+abbrev pub delayed_ack_expired : View → Moment → View
+delayed_ack_expired v now = if has_come v.timers.delayed_ack now then record v { owes_ack = v.owes_ack || v.delays_ack } else v
+
+abbrev pub override_expired : View → Moment → View
+override_expired v now =
+    if has_come v.timers.overriding now then record v { pace = record v.pace { overridden = true }; timers = record v.timers { overriding = None } } else v
+
+-- each timer acts whose moment has come, once
+abbrev pub after_timers : View → Moment → View
+after_timers v now = override_expired (delayed_ack_expired (after_expiry v now) now) now
+
+-- a tick ends the connection whose wait is over, and tells nobody, and the one that is given up; else it lets the timers act that have come
+abbrev pub after_tick : View → Moment → View
+after_tick v now =
+    if is_at_end v now then after_stop v
+    else if gives_up v now then after_reset v (Some ETIMEDOUT)
+    else if has_come (next_of v.timers) now then clocked false (after_timers v now) now
+    else v
+
+-- what a timer that acted left to be done: something goes out again, a probe or an acknowledgement goes out, or new octets wait no longer
+abbrev pub wants_out : View → Bool
+wants_out v = is_some v.pace.mark || v.pace.owes_probe || v.owes_ack || v.pace.overridden
+
+-- taken out is what its caller closed, and what a listener opened and is not established
+abbrev pub tick_fate : View → Moment → Fate
+tick_fate v now =
+    if is_at_end v now then (if v.released then Removed else Stays)
+    else if gives_up v now then (if v.released || (v.passive && is_syn_received v.state) then Removed else Stays)
+    else Stays
+
+-- the moment at which a tick does something
+abbrev pub deadline : View → Option Moment
+deadline v = sooner (next_of v.timers) (ends_at v)

@@ -1,0 +1,268 @@
+//! What goes out again, and what the clock measures of a round trip (RFC 6298, RFC 9293 sections 3.8.1 and 3.8.6.1).
+
+ghost use Rattle.std.specs.Prelude.{◌≡◌, ◌<◌, ◌&&◌, if◌then◌else◌, true, false, None};
+ghost use Rattle.tcp_state.specs.Pace.{IsPaced, first_pace, stopped, mark_past, pace_resent, pace_sent, pace_probed, pace_expired, pace_probes, mark_moved, unmarked, is_timed_by, pace_acknowledged};
+
+use clock::Moment;
+use retransmit::Rto;
+use std::marker::Model;
+use tcp_segment::Seq;
+
+/// How often the retransmission timer and the probe timer may expire without progress: the next expiry ends the connection (RFC 9293
+/// section 3.8.3).
+pub(crate) const MOST_EXPIRIES: u32 = 12;
+
+/// The longest wait for a probe's answer, in milliseconds.
+const MOST_INTERVAL: u32 = 60_000;
+
+/// A segment whose round trip is measured.
+#[derive(Clone, Copy, Debug, PartialEq, Eq)]
+pub struct Timed {
+    /// The number behind it.
+    pub end: Seq,
+    /// When it went out.
+    pub since: Moment,
+}
+
+/// The pace of a connection.
+#[derive(Drop)]
+pub(crate) struct Pace {
+    mark: Option<u32>,
+    timeout: Rto,
+    timed: Option<Timed>,
+    expiries: u32,
+    interval: u32,
+    owes_probe: bool,
+    overridden: bool,
+}
+
+impl Model for Pace {
+    ghost use Rattle.tcp_state.specs.Pace.{Pace, IsPaced};
+    ghost use Rattle.tcp_state.specs.PaceInside.{paced};
+
+    ghost Value = { Pace };
+
+    ghost view = { paced };
+
+    ghost invariant = { λ p. IsPaced (paced p) };
+}
+
+impl Pace {
+    /// Nothing has gone out.
+    pub(crate) fn new() -> Pace
+        ensures value { result ≡ first_pace }
+        ensures paced { IsPaced result }
+    {
+        let timeout = Rto::new();
+        let interval = timeout.rto();
+        Pace {
+            mark: None,
+            timeout,
+            timed: None,
+            expiries: 0,
+            interval,
+            owes_probe: false,
+            overridden: false,
+        }
+    }
+
+    /// The resend mark, as a distance past SND.UNA.
+    pub(crate) fn mark(&self) -> Option<u32>
+        ensures { result ≡ self.now.mark }
+    {
+        self.mark
+    }
+
+    /// The retransmission timeout, in milliseconds.
+    pub(crate) fn timeout(&self) -> u32
+        ensures { result ≡ self.now.timeout.rto }
+    {
+        self.timeout.rto()
+    }
+
+    /// How often the timers expired without progress.
+    pub(crate) fn expiries(&self) -> u32
+        ensures { result ≡ self.now.expiries }
+    {
+        self.expiries
+    }
+
+    /// How long the next wait of the probe timer is, in milliseconds.
+    pub(crate) fn interval(&self) -> u32
+        ensures { result ≡ self.now.interval }
+    {
+        self.interval
+    }
+
+    /// Whether a probe of the closed window is due.
+    pub(crate) fn owes_probe(&self) -> bool
+        ensures { result ≡ self.now.owes_probe }
+    {
+        self.owes_probe
+    }
+
+    /// Whether new octets waited for more as long as they may.
+    pub(crate) fn is_overridden(&self) -> bool
+        ensures { result ≡ self.now.overridden }
+    {
+        self.overridden
+    }
+
+    /// Nothing is outstanding or waits any longer.
+    pub(crate) fn stop(&mut self)
+        ensures after { self.new ≡ stopped self.old }
+        ensures paced { IsPaced self.new }
+    {
+        self.mark = None;
+        self.timed = None;
+        self.interval = self.timeout.rto();
+        self.owes_probe = false;
+        self.overridden = false;
+    }
+
+    /// All of so many numbers that are outstanding go out again.
+    pub(crate) fn mark_all(&mut self, outstanding: u32)
+        ensures after { self.new ≡ record self.old { mark = mark_past 0 outstanding } }
+        ensures paced { IsPaced self.new }
+    {
+        self.mark = mark_past(0, outstanding);
+    }
+
+    /// So many numbers are acknowledged, and so many are outstanding still.
+    pub(crate) fn move_mark(&mut self, gained: u32, outstanding: u32)
+        ensures after { self.new ≡ mark_moved self.old gained outstanding }
+        ensures paced { IsPaced self.new }
+    {
+        if let Some(distance) = self.mark {
+            self.mark = mark_past(distance.saturating_sub(gained), outstanding);
+        }
+    }
+
+    /// Nothing is outstanding.
+    pub(crate) fn unmark(&mut self)
+        ensures after { self.new ≡ unmarked self.old }
+        ensures paced { IsPaced self.new }
+    {
+        self.mark = None;
+    }
+
+    /// What was outstanding went out again, up to this distance past SND.UNA.
+    pub(crate) fn note_resent(&mut self, end: u32, outstanding: u32)
+        ensures after { self.new ≡ pace_resent self.old end outstanding }
+        ensures paced { IsPaced self.new }
+    {
+        self.mark = mark_past(end, outstanding);
+        self.timed = None;
+    }
+
+    /// New numbers went out, up to this one.
+    pub(crate) fn note_sent(&mut self, end: Seq, now: Moment)
+        ensures after { self.new ≡ pace_sent self.old end.0 now }
+        ensures paced { IsPaced self.new }
+    {
+        if self.timed.is_none() {
+            self.timed = Some(Timed { end, since: now });
+        }
+    }
+
+    /// New octets went out, so that none wait for more any longer.
+    pub(crate) fn end_override(&mut self)
+        ensures after { self.new ≡ record self.old { overridden = false } }
+        ensures paced { IsPaced self.new }
+    {
+        self.overridden = false;
+    }
+
+    /// New octets waited for more as long as they may.
+    pub(crate) fn begin_override(&mut self)
+        ensures after { self.new ≡ record self.old { overridden = true } }
+        ensures paced { IsPaced self.new }
+    {
+        self.overridden = true;
+    }
+
+    /// The probe that was due went out.
+    pub(crate) fn note_probe(&mut self)
+        ensures after { self.new ≡ pace_probed self.old }
+        ensures paced { IsPaced self.new }
+    {
+        self.owes_probe = false;
+        self.timed = None;
+    }
+
+    /// The retransmission timer expired, while so many numbers are outstanding.
+    pub(crate) fn expire(&mut self, outstanding: u32)
+        requires { self.old.expiries < MOST_EXPIRIES }
+        ensures after { self.new ≡ pace_expired self.old outstanding }
+        ensures paced { IsPaced self.new }
+    {
+        self.mark = mark_past(0, outstanding);
+        self.timeout.expire();
+        self.expiries += 1;
+    }
+
+    /// The probe timer expired.
+    pub(crate) fn probe(&mut self)
+        requires { self.old.expiries < MOST_EXPIRIES }
+        ensures after { self.new ≡ pace_probes self.old }
+        ensures paced { IsPaced self.new }
+    {
+        self.owes_probe = true;
+        self.interval = (2 * self.interval).min(MOST_INTERVAL);
+        self.expiries += 1;
+    }
+
+    /// Numbers that were outstanding are acknowledged, up to `una`; `opens` tells whether one was our SYN's.
+    pub(crate) fn acknowledge(&mut self, una: Seq, opens: bool, now: Moment)
+        ensures after { self.new ≡ pace_acknowledged self.old una.0 opens now }
+        ensures paced { IsPaced self.new }
+    {
+        if let Some(timed) = self.timed
+            && timed.is_by(una)
+        {
+            self.timeout.sample(now.0.saturating_sub(timed.since.0));
+            self.timed = None;
+        }
+        if opens && self.expiries > 0 {
+            self.timeout.established_after_lost_syn();
+        }
+        self.expiries = 0;
+    }
+
+    /// The peer is there.
+    pub(crate) fn progress(&mut self)
+        ensures after { self.new ≡ record self.old { expiries = 0 } }
+        ensures paced { IsPaced self.new }
+    {
+        self.expiries = 0;
+    }
+
+    /// The end of an event, by which the probe timer runs or doesn't; `goes_on` tells whether it ran before.
+    pub(crate) fn clock(&mut self, is_probing: bool, goes_on: bool)
+        ensures after { self.new ≡ record self.old { interval = if is_probing && goes_on then self.old.interval else self.old.timeout.rto; owes_probe = self.old.owes_probe && is_probing } }
+        ensures paced { IsPaced self.new }
+    {
+        if !(is_probing && goes_on) {
+            self.interval = self.timeout.rto();
+        }
+        if !is_probing {
+            self.owes_probe = false;
+        }
+    }
+}
+
+impl Timed {
+    /// Whether SND.UNA is at its end or past it.
+    fn is_by(self, una: Seq) -> bool
+        ensures { result ≡ is_timed_by self una.0 }
+    {
+        !una.is_before(self.end)
+    }
+}
+
+/// The mark behind what went out, where something that is outstanding lies behind it.
+fn mark_past(end: u32, outstanding: u32) -> Option<u32>
+    ensures { result ≡ mark_past end outstanding }
+{
+    (end < outstanding).then_some(end)
+}

@@ -1,0 +1,219 @@
+//! The timers: when each runs, and what a tick does (RFC 6298 section 5, RFC 9293 sections 3.8.1, 3.8.6 and 3.10.8).
+
+ghost use Rattle.std.specs.Prelude.{◌≡◌, false, if◌then◌else◌};
+ghost use Rattle.clock.specs.Moments.{has_come};
+ghost use Rattle.retransmit.specs.Deadlines.{next_of};
+ghost use Rattle.tcp_state.specs.Timing.{has_unacknowledged, probes, retransmits, awaits_second, awaits_more, running, retransmission_timer, probe_timer, delayed_ack_timer, override_timer, clocked, expires, gives_up, retransmission_expired, probe_expired, after_expiry, delayed_ack_expired, override_expired, after_timers, after_tick, tick_fate, deadline};
+
+use crate::calls::Refusal;
+use crate::connection::{Connection, Fate};
+use crate::pace::MOST_EXPIRIES;
+use crate::state::State;
+use clock::{Moment, sooner};
+use retransmit::{TimerKind, Timers};
+
+/// How long an acknowledgement waits for a second segment, in milliseconds (RFC 9293 section 3.8.6.3 allows 500).
+const DELAYED_ACK: u64 = 200;
+
+/// How long new octets wait for more, in milliseconds (RFC 9293 section 3.8.6.2.1: between 100 and 1,000).
+const OVERRIDE: u64 = 500;
+
+impl Connection {
+    /// Whether octets, or the FIN of a closed side, are unacknowledged or unsent.
+    fn has_unacknowledged(&self) -> bool
+        ensures { result ≡ has_unacknowledged self.now }
+    {
+        !self.sender.is_empty() || self.state.awaits_fin_ack()
+    }
+
+    /// Whether the peer's window is closed and probed.
+    pub(crate) fn probes(&self) -> bool
+        ensures { result ≡ probes self.now }
+    {
+        !self.state.is_opening() && self.sender.window() == 0 && self.has_unacknowledged()
+    }
+
+    /// Whether something is outstanding that is not probed with.
+    fn retransmits(&self) -> bool
+        ensures { result ≡ retransmits self.now }
+    {
+        self.sender.outstanding() > 0 && !self.probes()
+    }
+
+    /// Whether new octets wait for more.
+    fn awaits_more(&self) -> bool
+        ensures { result ≡ awaits_more self.now }
+    {
+        !self.state.is_opening() && self.sender.waits_for_more(self.pace.is_overridden())
+    }
+
+    /// At the end of an event: the timers run, stop or begin as the connection wants them. `moved` tells whether the event moved
+    /// SND.UNA.
+    pub(crate) fn clock(&mut self, moved: bool, now: Moment)
+        ensures { self.new ≡ clocked moved self.old now }
+    {
+        let timers = Timers {
+            retransmission: self.retransmission_timer(moved, now),
+            probe: self.probe_timer(now),
+            delayed_ack: self.delayed_ack_timer(now),
+            overriding: self.override_timer(now),
+        };
+        let is_probing = self.probes();
+        self.pace.clock(is_probing, self.timers.probe.is_some());
+        self.timers = timers;
+    }
+
+    /// When the retransmission timer expires from now on.
+    fn retransmission_timer(&self, moved: bool, now: Moment) -> Option<Moment>
+        ensures { result ≡ retransmission_timer self.now moved now }
+    {
+        if !self.retransmits() {
+            return None;
+        }
+        let runs = if moved {
+            None
+        } else {
+            self.timers.retransmission
+        };
+        running(runs, now, u64::from(self.pace.timeout()))
+    }
+
+    /// When the probe timer expires from now on.
+    fn probe_timer(&self, now: Moment) -> Option<Moment>
+        ensures { result ≡ probe_timer self.now now }
+    {
+        if !self.probes() {
+            return None;
+        }
+        running(self.timers.probe, now, u64::from(self.pace.timeout()))
+    }
+
+    /// When the acknowledgement that is delayed is due.
+    fn delayed_ack_timer(&self, now: Moment) -> Option<Moment>
+        ensures { result ≡ delayed_ack_timer self.now now }
+    {
+        if !self.delays_ack || self.owes_ack {
+            return None;
+        }
+        running(self.timers.delayed_ack, now, DELAYED_ACK)
+    }
+
+    /// When new octets have waited long enough.
+    fn override_timer(&self, now: Moment) -> Option<Moment>
+        ensures { result ≡ override_timer self.now now }
+    {
+        if !self.awaits_more() {
+            return self.timers.overriding;
+        }
+        running(self.timers.overriding, now, OVERRIDE)
+    }
+
+    /// Lets the timers act whose moment has come: what is outstanding goes out again, a closed window is probed, an acknowledgement or
+    /// octets that waited are due; or the connection's wait is over, and it is CLOSED without an error; or it is given up, and every
+    /// call reports ETIMEDOUT from now on.
+    ///
+    /// `Removed` where that was the end of one that its caller closed, or that a listener opened and that was not established.
+    pub fn tick(&mut self, now: Moment) -> Fate
+        ensures fate { result ≡ tick_fate self.old now }
+        ensures after { self.new ≡ after_tick self.old now }
+    {
+        if self.is_at_end(now) {
+            self.stop();
+            return left_if(self.is_released);
+        }
+        if self.gives_up(now) {
+            let is_left = self.is_released || (self.is_passive && self.state == State::SynReceived);
+            self.end_with(Some(Refusal::ETIMEDOUT));
+            return left_if(is_left);
+        }
+        if self.has_come(now) {
+            self.tick_timers(now);
+            self.clock(false, now);
+        }
+        Fate::Stays
+    }
+
+    /// Whether the moment of a timer has come.
+    fn has_come(&self, now: Moment) -> bool
+        ensures { result ≡ has_come (next_of self.now.timers) now }
+    {
+        match self.timers.next() {
+            Some(deadline) => deadline <= now,
+            None => false,
+        }
+    }
+
+    /// Whether this would be one expiry without progress too many.
+    fn gives_up(&self, now: Moment) -> bool
+        ensures { result ≡ gives_up self.now now }
+    {
+        let expires = self.timers.due(TimerKind::Retransmission, now)
+            || self.timers.due(TimerKind::Probe, now);
+        expires && MOST_EXPIRIES <= self.pace.expiries()
+    }
+
+    /// Lets each timer act whose moment has come, once.
+    fn tick_timers(&mut self, now: Moment)
+        requires { gives_up self.old now ≡ false }
+        ensures { self.new ≡ after_timers self.old now }
+    {
+        self.tick_expiry(now);
+        self.tick_delayed_ack(now);
+        self.tick_override(now);
+    }
+
+    /// The retransmission timer or the probe timer expires.
+    fn tick_expiry(&mut self, now: Moment)
+        requires { gives_up self.old now ≡ false }
+        ensures { self.new ≡ after_expiry self.old now }
+    {
+        if self.timers.due(TimerKind::Retransmission, now) {
+            self.pace.expire(self.sender.outstanding());
+            self.timers.clear(TimerKind::Retransmission);
+        } else if self.timers.due(TimerKind::Probe, now) {
+            self.pace.probe();
+            let deadline = now.after(u64::from(self.pace.interval()));
+            self.timers.set(TimerKind::Probe, deadline);
+        }
+    }
+
+    /// An acknowledgement has waited long enough.
+    fn tick_delayed_ack(&mut self, now: Moment)
+        ensures { self.new ≡ delayed_ack_expired self.old now }
+    {
+        if self.timers.due(TimerKind::DelayedAck, now) && self.delays_ack {
+            self.owes_ack = true;
+        }
+    }
+
+    /// New octets have waited long enough.
+    fn tick_override(&mut self, now: Moment)
+        ensures { self.new ≡ override_expired self.old now }
+    {
+        if self.timers.due(TimerKind::Override, now) {
+            self.pace.begin_override();
+            self.timers.clear(TimerKind::Override);
+        }
+    }
+
+    /// The moment at which a tick would do something.
+    pub fn deadline(&self) -> Option<Moment>
+        ensures { result ≡ deadline self.now }
+    {
+        sooner(self.timers.next(), self.ends_at())
+    }
+}
+
+/// The place is free where nobody has the connection any more.
+fn left_if(is_left: bool) -> Fate
+    ensures { result ≡ (if is_left then Fate.Removed else Fate.Stays) }
+{
+    if is_left { Fate::Removed } else { Fate::Stays }
+}
+
+/// A timer that goes on where it runs, and else begins.
+fn running(deadline: Option<Moment>, now: Moment, milliseconds: u64) -> Option<Moment>
+    ensures { result ≡ running deadline now milliseconds }
+{
+    Some(deadline.unwrap_or(now.after(milliseconds)))
+}
