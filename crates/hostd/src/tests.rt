@@ -44,6 +44,19 @@ pass 7 -> a 1 b 0
 /// b's caller takes the connection.
 const ACCEPTED: &str = "b accept 1 -> id 2 10.0.0.1 49152\n";
 
+/// 65,535 octets are 44 segments of 1,460, of which three go out at first: the congestion window is 4,380 (RFC 5681 section 3.1), and grows by 1,460 with the acknowledgement of each
+/// pass. The 1,295 octets behind them wait until those are acknowledged: a small segment doesn't go out while others are in flight.
+const SLOW_START: &str = "pass 0 -> a 3 b 1
+pass 0 -> a 4 b 1
+pass 0 -> a 5 b 1
+pass 0 -> a 6 b 1
+pass 0 -> a 7 b 1
+pass 0 -> a 8 b 1
+pass 0 -> a 9 b 1
+pass 0 -> a 2 b 1
+pass 0 -> a 1 b 0
+";
+
 /// All transcripts. Each is a list of parts, in whose lines an arrow parts a script's line from what it prints; a line without
 /// one prints nothing.
 const TRANSCRIPTS: [&[&[&str]]; 13] = [

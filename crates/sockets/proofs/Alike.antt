@@ -10,7 +10,7 @@ use Rattle.tcp_state.specs.View.{View, is_opening, is_syn_received, is_write_clo
 use Rattle.tcp_state.specs.Timing.{clocked, gives_up, after_tick, retransmission_expired, probe_expired, after_expiry, delayed_ack_expired, override_expired, after_timers}
 use Rattle.tcp_state.specs.Calls.{with_octets, send_count, after_send}
 use Rattle.tcp_state.specs.Arrival.{before, timed_by}
-use Rattle.tcp_state.specs.Due.{after_emitted, after_going_out, after_ack_paid, after_numbers, after_resent, after_first_sent, after_new_octets, brings_new_octets, end_of, after_stretch, probe_stretch, after_probe, after_syn_out}
+use Rattle.tcp_state.specs.Due.{after_emitted, after_going_out, after_ack_paid, after_numbers, after_resent, after_first_sent, after_new_octets, brings_new_octets, end_of, after_stretch, probe_stretch, after_probe, after_syn_again, after_syn_out}
 
 pub record IsAlike (v w : View) : Type 0 where
   pub local : w.local ≡ v.local
@@ -80,9 +80,16 @@ alike-paid v w a = record { local = a.local; peer = a.peer; state = a.state; pas
 alike-new : (v w : View) (new : Bool) → IsAlike v w → IsAlike v (if new then after_new_octets w else w)
 alike-new v w new a = alike-either v new (after_new_octets w) w (record { local = a.local; peer = a.peer; state = a.state; passive = a.passive; released = a.released; owes = a.owes }) a
 
+-- for the first time or again
+alike-syn_out : (v : View) (now : Moment) → IsAlike v (after_syn_out v now)
+alike-syn_out v now =
+    let sent = after_numbers v 0 1 now in
+    let a = alike-numbers v 0 1 now in
+    alike-either v (nat_lt 0 (outstanding v.sending)) (after_syn_again sent) sent (record { local = a.local; peer = a.peer; state = a.state; passive = a.passive; released = a.released; owes = a.owes }) a
+
 pub alike-syn : (v : View) (now : Moment) → IsAlike v (after_emitted v Syn now)
 alike-syn v now =
-    let out = alike-numbers v 0 1 now in
+    let out = alike-syn_out v now in
     alike-clocked false v (after_going_out v Syn now) now
     (alike-either v (is_syn_received v.state) (after_ack_paid (after_syn_out v now)) (after_syn_out v now) (alike-paid v (after_syn_out v now) out) out)
 

@@ -10,7 +10,7 @@ use Rattle.tcp_state.specs.Stream.{outstanding, after_sent}
 use Rattle.tcp_state.specs.Windows.{receive_room, has_grown, after_advertisement}
 use Rattle.tcp_state.specs.Pace.{pace_probed}
 use Rattle.tcp_state.specs.Timing.{clocked}
-use Rattle.tcp_state.specs.Due.{probe_stretch, end_of, brings_new_octets, after_ack_paid, after_resent, after_first_sent, after_numbers, after_new_octets, after_stretch, after_probe, after_syn_out, after_going_out, after_emitted}
+use Rattle.tcp_state.specs.Due.{probe_stretch, end_of, brings_new_octets, after_ack_paid, after_resent, after_first_sent, after_numbers, after_new_octets, after_stretch, after_probe, after_syn_again, after_syn_out, after_going_out, after_emitted}
 use Rattle.stream_law.specs.Channel.{Sender, Receiver, Waiting, Synchronised}
 use Rattle.stream_law.specs.ChannelViews.{sender_of, receiver_of, receiving_of}
 use Rattle.stream_law.proofs.ConnectionArrival.{either}
@@ -50,13 +50,23 @@ renewed : (v w : View) (half : SendingHalf) (new : Bool) → GoesOut v w half �
 renewed v w half true g = record { state = g.state; sending = g.sending; receiver = g.receiver; readable = g.readable }
 renewed v w half false g = g
 
+-- whether it is for the first time or not
+syn_numbered : (v : View) (now : Moment) → GoesOut v (after_syn_out v now) (after_sent v.sending 1)
+syn_numbered v now =
+    let half = after_sent v.sending 1 in
+    let sent = after_numbers v 0 1 now in
+    let g = numbered v 0 1 now in
+    either (λ w. GoesOut v w half) (nat_lt 0 (outstanding v.sending)) (after_syn_again sent) sent
+    (λ again. record { state = g.state; sending = g.sending; receiver = g.receiver; readable = g.readable })
+    (λ first. g)
+
 pub syn-out : (v : View) (now : Moment) → GoesOut v (after_emitted v Syn now) (after_sent v.sending 1)
 syn-out v now =
     let half = after_sent v.sending 1 in
     timed v (after_going_out v Syn now) half now
     (either (λ w. GoesOut v w half) (is_syn_received v.state) (after_ack_paid (after_syn_out v now)) (after_syn_out v now)
-    (λ reply. paid v (after_syn_out v now) half (numbered v 0 1 now))
-    (λ alone. numbered v 0 1 now))
+    (λ reply. paid v (after_syn_out v now) half (syn_numbered v now))
+    (λ alone. syn_numbered v now))
 
 pub stretch-out : (v : View) (stretch : Stretch) (now : Moment) → GoesOut v (after_emitted v (Text stretch) now) (after_sent v.sending (end_of stretch))
 stretch-out v stretch now =

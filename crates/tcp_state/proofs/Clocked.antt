@@ -1,5 +1,5 @@
 -- What the clock, and what goes out, leave of a connection as it was.
-use Rattle.std.proofs.Common.{◌≡◌, ℕ, ◌==◌, ◌&&◌, ◌||◌, ◌⊎◌, not, nat_lt, Bool, true, false, if◌then◌else◌, Option, Some, None, is_some, inl, inr, refl, sym, ◌∙◌, ap, subst}
+use Rattle.std.proofs.Common.{◌≡◌, ℕ, ◌-◌, ◌==◌, ◌&&◌, ◌||◌, ◌⊎◌, not, nat_lt, Bool, true, false, if◌then◌else◌, Option, Some, None, is_some, length, inl, inr, refl, sym, ◌∙◌, ap, subst}
 use Rattle.std.proofs.lemmas.Bool.Decides.{eqb_tells}
 use Rattle.clock.specs.declared.moment.Moment.{Moment}
 use Rattle.tcp_segment.specs.Segment.{Segment}
@@ -13,11 +13,15 @@ use Rattle.tcp_state.specs.declared.emission.Due.TheVariants.{Rst, Syn, Text, Pr
 use Rattle.tcp_state.specs.declared.emission.Stretch.{Stretch}
 use Rattle.tcp_state.specs.Stream.{outstanding, after_sent}
 use Rattle.tcp_state.specs.View.{View, is_opening, is_syn_received, is_closed}
-use Rattle.tcp_state.specs.Pace.{Pace, pace_probed, pace_acknowledged}
+use Rattle.tcp_state.specs.Pace.{Pace, pace_probed, pace_acknowledged, pace_lost}
 use Rattle.tcp_state.specs.Timing.{KeepsTime, probes, retransmits, awaits_more, running, retransmission_timer, probe_timer, delayed_ack_timer, override_timer, interval_of, clocked, retransmission_expired, probe_expired, after_expiry, delayed_ack_expired, override_expired, after_timers}
-use Rattle.tcp_state.specs.Arrival.{after_heard, is_rejected, begins_wait, answers_probe, before, since_after, is_moved, pace_after, timed_by, after_segment_at}
-use Rattle.tcp_state.specs.Due.{probe_stretch, end_of, after_ack_paid, after_resent, after_first_sent, after_numbers, after_new_octets, brings_new_octets, after_syn_out, after_stretch, after_probe, after_going_out, after_emitted}
+use Rattle.tcp_state.specs.Arrival.{after_heard, is_rejected, begins_wait, answers_probe, is_duplicate, before, since_after, is_moved, pace_heard, pace_after, congestion_event_of, tells_loss, congestion_after, timed_by, after_segment_at}
+use Rattle.tcp_state.specs.Due.{probe_stretch, end_of, after_ack_paid, after_resent, after_first_sent, after_numbers, after_new_octets, brings_new_octets, after_syn_again, after_syn_out, after_stretch, after_probe, after_going_out, after_emitted}
 use Rattle.tcp_state.specs.Edges.{after_first}
+use Rattle.tcp_state.specs.Congestion.{Signal, after_signal}
+use Rattle.tcp_state.specs.Congestion.Signal.{Begins, Counts, Nothing}
+use Rattle.congestion.specs.Window.{Window}
+use Rattle.congestion.specs.Events.Event.{NewAck, Duplicate}
 
 -- one of two by a test
 pub either : (A : Type 0) (P : A → Type 0) (test : Bool) (v w : A) → (test ≡ true → P v) → (test ≡ false → P w) → P (if test then v else w)
@@ -26,12 +30,12 @@ either A P false v w if_true if_false = if_false refl
 
 -- Timers.
 
--- nothing changed but what is owed, the pace and the timers
+-- nothing changed but what is owed, the pace, the timers and the congestion window
 abbrev pub KeepsTo : View → View → Type 0
-KeepsTo v w = w ≡ record v { owes_ack = w.owes_ack; pace = w.pace; timers = w.timers }
+KeepsTo v w = w ≡ record v { owes_ack = w.owes_ack; pace = w.pace; timers = w.timers; congestion = w.congestion }
 
 keeps_on : (v w x : View) → KeepsTo v w → KeepsTo w x → KeepsTo v x
-keeps_on v w x first then_kept = then_kept ∙ ap (λ (u : View). record u { owes_ack = x.owes_ack; pace = x.pace; timers = x.timers }) first
+keeps_on v w x first then_kept = then_kept ∙ ap (λ (u : View). record u { owes_ack = x.owes_ack; pace = x.pace; timers = x.timers; congestion = x.congestion }) first
 
 expiry_keeps : (v : View) (now : Moment) → KeepsTo v (after_expiry v now)
 expiry_keeps v now =
@@ -78,10 +82,15 @@ probe_emitted v =
     let sent = record v { sending = after_sent v.sending (end_of (probe_stretch v)); pace = pace_probed v.pace } in
     either View (λ w. Emitted v w) (brings_new_octets v (probe_stretch v)) (after_new_octets sent) sent (λ new. refl) (λ old. refl)
 
+-- what holds of a connection whose SYN goes out: it is its number that goes out, and beside that whether it went out again
+pub syn_out : (v : View) (now : Moment) (P : View → Type 0) → P (after_numbers v 0 1 now) → P (after_syn_again (after_numbers v 0 1 now)) → P (after_syn_out v now)
+syn_out v now P first again = either View P (nat_lt 0 (outstanding v.sending)) (after_syn_again (after_numbers v 0 1 now)) (after_numbers v 0 1 now) (λ before. again) (λ new. first)
+
 syn_emitted : (v : View) (now : Moment) → Emitted v (after_going_out v Syn now)
 syn_emitted v now =
     let sent = after_syn_out v now in
-    let all = numbers_emitted v 0 1 now in
+    let numbers = after_numbers v 0 1 now in
+    let all = syn_out v now (λ w. Emitted v w) (numbers_emitted v 0 1 now) (emits_on v numbers (after_syn_again numbers) (numbers_emitted v 0 1 now) refl) in
     either View (λ w. Emitted v w) (is_syn_received v.state) (after_ack_paid sent) sent (λ received. emits_on v sent (after_ack_paid sent) all refl) (λ waits. all)
 
 -- the reset of an abort goes out, or something else
@@ -170,19 +179,50 @@ pub comes_to : (v : View) (s : Segment) (now : Moment) → is_closed v.state ≡
 comes_to v s now lives taken =
     ap (λ b. if b || is_rejected v s then v else timed_by (before v s) (after_heard v s) now) lives ∙ ap (λ b. if b then v else timed_by (before v s) (after_heard v s) now) taken
 
--- what an acknowledgement tells of time leaves what goes out again
-pub marks_kept : (b : Before) (w : View) (now : Moment) → (pace_after b w now).mark ≡ w.pace.mark
-marks_kept b w now =
-    let P : Pace → Type 0 = λ p. p.mark ≡ w.pace.mark in
-    either Pace P (is_moved b w) (pace_acknowledged w.pace w.sending.una (is_opening b.state) now) _ (λ moves. refl)
-    (λ stays. either Pace P b.answers_probe (record w.pace { expiries = 0 }) w.pace (λ answers. refl) (λ other. refl))
+-- what holds of the pace that a segment leaves: it is progress by an ACK, by an answer to a probe, or none ..
+pub heard_paced : (b : Before) (w : View) (now : Moment) (P : Pace → Type 0) → P (pace_acknowledged w.pace w.sending.una (is_opening b.state) now) → P (record w.pace { expiries = 0 }) → P w.pace
+    → P (pace_heard b w now)
+heard_paced b w now P moved answered same =
+    either Pace P (is_moved b w) (pace_acknowledged w.pace w.sending.una (is_opening b.state) now) _ (λ moves. moved)
+    (λ stays. either Pace P b.answers_probe (record w.pace { expiries = 0 }) w.pace (λ answers. answered) (λ other. same))
+
+-- .. with the segment at SND.UNA lost or not
+pub after_paced : (b : Before) (w : View) (now : Moment) (P : Pace → Type 0) → P (pace_heard b w now) → P (pace_lost (pace_heard b w now) (outstanding w.sending)) → P (pace_after b w now)
+after_paced b w now P same lost =
+    either Pace P (tells_loss (congestion_event_of b w) w.congestion) (pace_lost (pace_heard b w now) (outstanding w.sending)) (pace_heard b w now) (λ tells. lost) (λ other. same)
+
+-- what a segment is to the congestion window: nothing, the beginning, an ACK, or a duplicate one
+pub signalled : (b : Before) (w : View) (P : Signal → Type 0) → P Nothing → P Begins → P (Counts (NewAck (b.held - length w.sending.held))) → (b.is_duplicate ≡ true → P (Counts (Duplicate (outstanding w.sending)))) → P (congestion_event_of b w)
+signalled b w P nothing begins acks repeats =
+    either Signal P (is_closed w.state) Nothing _ (λ closed. nothing)
+    (λ lives. either Signal P (is_moved b w) (if is_opening b.state then Begins else Counts (NewAck (b.held - length w.sending.held))) _
+    (λ moves. either Signal P (is_opening b.state) Begins (Counts (NewAck (b.held - length w.sending.held))) (λ opens. begins) (λ opened. acks))
+    (λ stays. either Signal P b.is_duplicate (Counts (Duplicate (outstanding w.sending))) Nothing (λ same. repeats same) (λ other. nothing)))
+
+-- no duplicate ACK tells of a loss ..
+pub tells_none : (b : Before) (w : View) → b.is_duplicate ≡ false → tells_loss (congestion_event_of b w) w.congestion ≡ false
+tells_none b w first = signalled b w (λ e. tells_loss e w.congestion ≡ false) refl refl refl (λ again. let bad : true ≡ false = sym again ∙ first in cc)
+
+-- .. and of a segment that moves nothing either, the congestion window hears nothing
+pub event_none : (b : Before) (w : View) → is_moved b w ≡ false → b.is_duplicate ≡ false → congestion_event_of b w ≡ Nothing
+event_none b w same first =
+    either Signal (λ e. e ≡ Nothing) (is_closed w.state) Nothing _ (λ closed. refl)
+    (λ lives. ap (λ t. if t then (if is_opening b.state then Begins else Counts (NewAck (b.held - length w.sending.held))) else if b.is_duplicate then Counts (Duplicate (outstanding w.sending)) else Nothing) same
+    ∙ ap (λ t. if t then Counts (Duplicate (outstanding w.sending)) else Nothing) first)
+
+pub pace_unlost : (b : Before) (w : View) (now : Moment) → b.is_duplicate ≡ false → pace_after b w now ≡ pace_heard b w now
+pace_unlost b w now first = ap (λ t. if t then pace_lost (pace_heard b w now) (outstanding w.sending) else pace_heard b w now) (tells_none b w first)
+
+-- what an acknowledgement tells of time leaves what goes out again, but for the third duplicate
+pub marks_kept : (b : Before) (w : View) (now : Moment) → b.is_duplicate ≡ false → (pace_after b w now).mark ≡ w.pace.mark
+marks_kept b w now first = ap (λ (p : Pace). p.mark) (pace_unlost b w now first) ∙ heard_paced b w now (λ p. p.mark ≡ w.pace.mark) refl refl refl
 
 -- .. and whether a probe is due
 pub probes_kept : (b : Before) (w : View) (now : Moment) → (pace_after b w now).owes_probe ≡ w.pace.owes_probe
 probes_kept b w now =
     let P : Pace → Type 0 = λ p. p.owes_probe ≡ w.pace.owes_probe in
-    either Pace P (is_moved b w) (pace_acknowledged w.pace w.sending.una (is_opening b.state) now) _ (λ moves. refl)
-    (λ stays. either Pace P b.answers_probe (record w.pace { expiries = 0 }) w.pace (λ answers. refl) (λ other. refl))
+    let heard = heard_paced b w now P refl refl refl in
+    after_paced b w now P heard heard
 
 -- nothing changed but what is owed
 abbrev pub Owing : View → View → Type 0
@@ -196,22 +236,28 @@ OwingAt v w = w ≡ record v { owes_ack = w.owes_ack; since = w.since; timers = 
 pub unmoved : (v : View) → not (v.sending.una == v.sending.una) ≡ false
 unmoved v = ap not (equal v.sending.una)
 
--- a segment that acknowledges nothing new, and does not answer a probe, changes no timer by itself
-pub timed_unmoved : (b : Before) (w : View) (now : Moment) → is_moved b w ≡ false → b.answers_probe ≡ false → timed_by b w now ≡ clocked false (record w { since = since_after b w now }) now
-timed_unmoved b w now same quiet =
+-- a segment that acknowledges nothing new, does not answer a probe, and is no duplicate ACK changes no timer by itself
+pub timed_unmoved : (b : Before) (w : View) (now : Moment) → is_moved b w ≡ false → b.answers_probe ≡ false → b.is_duplicate ≡ false
+    → timed_by b w now ≡ clocked false (record w { since = since_after b w now }) now
+timed_unmoved b w now same quiet first =
     let since = since_after b w now in
     let pace : pace_after b w now ≡ w.pace =
-    ap (λ t. if t then pace_acknowledged w.pace w.sending.una (is_opening b.state) now else if b.answers_probe then record w.pace { expiries = 0 } else w.pace) same
-    ∙ ap (λ t. if t then record w.pace { expiries = 0 } else w.pace) quiet in
-    ap (λ t. clocked t (record w { since = since; pace = pace_after b w now }) now) same ∙ ap (λ (p : Pace). clocked false (record w { since = since; pace = p }) now) pace
+    pace_unlost b w now first
+    ∙ (ap (λ t. if t then pace_acknowledged w.pace w.sending.una (is_opening b.state) now else if b.answers_probe then record w.pace { expiries = 0 } else w.pace) same
+    ∙ ap (λ t. if t then record w.pace { expiries = 0 } else w.pace) quiet) in
+    let congestion : congestion_after b w ≡ w.congestion = ap (λ e. after_signal w.congestion e w.sending.smss w.pace.syn_resent) (event_none b w same first) in
+    ap (λ t. clocked t (record w { since = since; pace = pace_after b w now; congestion = congestion_after b w }) now) same
+    ∙ (ap (λ (p : Pace). clocked false (record w { since = since; pace = p; congestion = congestion_after b w }) now) pace
+    ∙ ap (λ (c : Window). clocked false (record w { since = since; congestion = c }) now) congestion)
 
-timed_owing : (v : View) (s : Segment) (owes : Bool) (now : Moment) → KeepsTime v → answers_probe v s ≡ false → OwingAt v (timed_by (before v s) (record v { owes_ack = owes }) now)
-timed_owing v s owes now keeps quiet =
+timed_owing : (v : View) (s : Segment) (owes : Bool) (now : Moment) → KeepsTime v → answers_probe v s ≡ false → is_duplicate v s ≡ false
+    → OwingAt v (timed_by (before v s) (record v { owes_ack = owes }) now)
+timed_owing v s owes now keeps quiet first =
     let w = record v { owes_ack = owes } in
-    subst (λ x. OwingAt v x) (sym (timed_unmoved (before v s) w now (unmoved v) quiet)) (settles v owes (since_after (before v s) w now) now keeps)
+    subst (λ x. OwingAt v x) (sym (timed_unmoved (before v s) w now (unmoved v) quiet first)) (settles v owes (since_after (before v s) w now) now keeps)
 
 -- a segment that draws an acknowledgement, or nothing
-pub owing_timed : (v : View) (s : Segment) (now : Moment) → KeepsTime v → answers_probe v s ≡ false → Owing v (after_heard v s) → OwingAt v (after_segment_at v s now)
-owing_timed v s now keeps quiet same =
+pub owing_timed : (v : View) (s : Segment) (now : Moment) → KeepsTime v → answers_probe v s ≡ false → is_duplicate v s ≡ false → Owing v (after_heard v s) → OwingAt v (after_segment_at v s now)
+owing_timed v s now keeps quiet first same =
     either View (λ w. OwingAt v w) (is_closed v.state || is_rejected v s) v (timed_by (before v s) (after_heard v s) now) (λ kept. refl)
-    (λ heard. subst (λ w. OwingAt v (timed_by (before v s) w now)) (sym same) (timed_owing v s (after_heard v s).owes_ack now keeps quiet))
+    (λ heard. subst (λ w. OwingAt v (timed_by (before v s) w now)) (sym same) (timed_owing v s (after_heard v s).owes_ack now keeps quiet first))

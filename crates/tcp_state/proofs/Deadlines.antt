@@ -57,6 +57,13 @@ neither : (a b : Bool) → (a || b) ≡ false → (a ≡ false) × (b ≡ false)
 neither true b e = cc
 neither false b e = (refl, e)
 
+-- where no timer has come, that of what is outstanding has not
+pub none_comes : (v : View) (now : Moment) → has_come (next_of v.timers) now ≡ false → has_come v.timers.retransmission now ≡ false
+none_comes v now early =
+    let t = v.timers in
+    let expired = (neither (expires v now) (has_come t.delayed_ack now || has_come t.overriding now) (sym (timers_come v now) ∙ early)).0 in
+    (neither (has_come t.retransmission now) (has_come t.probe now) expired).0
+
 -- before the deadline a tick changes nothing
 pub waits : (v : View) (now : Moment) → has_come (deadline v) now ≡ false → after_tick v now ≡ v
 waits v now early =

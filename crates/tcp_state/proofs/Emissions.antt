@@ -10,7 +10,8 @@ use Rattle.tcp_state.specs.Windows.{has_grown}
 use Rattle.tcp_state.specs.Pace.{pace_probed}
 use Rattle.tcp_state.specs.View.{View, is_opening, is_closed}
 use Rattle.tcp_state.specs.Timing.{probes}
-use Rattle.tcp_state.specs.Due.{probe_stretch, end_of, after_resent, after_first_sent, after_numbers, after_new_octets, brings_new_octets, after_stretch, after_probe, ack_due, again, goes_again, again_from, sends_new, new_octets, sends_fin, fin_alone, new_due, first_due}
+use Rattle.tcp_state.specs.Due.{probe_stretch, end_of, after_resent, after_first_sent, after_numbers, after_new_octets, brings_new_octets, after_syn_out, after_stretch, after_probe, ack_due, again, goes_again, again_from, sends_new, new_octets, sends_fin, fin_alone, new_due, first_due}
+use Rattle.tcp_state.proofs.Clocked.{syn_out}
 use Rattle.tcp_state.proofs.Edges.{either, and_right}
 
 -- an acknowledgement is owed, or tells of a window that has grown
@@ -54,6 +55,9 @@ by_due P v cases =
 pub numbers_send : (v : View) (offset end : ℕ) (now : Moment) → (after_numbers v offset end now).sending ≡ after_sent v.sending end
 numbers_send v offset end now =
     either View (λ w. w.sending ≡ after_sent v.sending end) (nat_lt offset (outstanding v.sending)) (after_resent v end) (after_first_sent v end now) (λ again. refl) (λ first. refl)
+
+pub syn_sends : (v : View) (now : Moment) → (after_syn_out v now).sending ≡ after_sent v.sending 1
+syn_sends v now = let all = numbers_send v 0 1 now in syn_out v now (λ w. w.sending ≡ after_sent v.sending 1) all all
 
 pub stretch_sends : (v : View) (stretch : Stretch) (now : Moment) → (after_stretch v stretch now).sending ≡ after_sent v.sending (end_of stretch)
 stretch_sends v stretch now =

@@ -29,3 +29,6 @@ pub mod Timers
 pub mod Paces
 pub mod Measured
 pub mod SetSoon
+pub mod Congestion
+pub mod Growth
+pub mod Losses

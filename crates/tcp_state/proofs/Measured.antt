@@ -14,10 +14,11 @@ use Rattle.tcp_state.specs.Pace.{Pace, timing_of, pace_probed, is_timed_by, time
 use Rattle.tcp_state.specs.View.{View, is_opening, is_syn_received, is_closed, is_write_closed, is_at_end, after_stop, after_reset}
 use Rattle.tcp_state.specs.Timing.{clocked, gives_up, retransmission_expired, probe_expired, after_expiry, delayed_ack_expired, after_timers}
 use Rattle.tcp_state.specs.Calls.{send_count, shutdown_refusal, after_shutdown, aborted_at, after_release, is_removed_by_close, is_aborted_by_close}
-use Rattle.tcp_state.specs.Arrival.{after_heard, before, is_moved, pace_after, timed_by}
+use Rattle.tcp_state.specs.Arrival.{after_heard, before, pace_heard, pace_after, timed_by}
 use Rattle.tcp_state.specs.Due.{MayGoOut, sends_again, after_emitted, probe_stretch, end_of, after_ack_paid, after_resent, after_first_sent, after_numbers, after_new_octets, brings_new_octets, after_syn_out, after_going_out, first_due}
 use Rattle.tcp_state.specs.Unreachable.{is_unreachable}
 use Rattle.tcp_state.specs.Edges.{Event, Hears, Ticks, Emits, Sends, Receives, Shuts, Closes, Aborts, Unreachable, moment_of, after_first, after_event}
+use Rattle.tcp_state.proofs.Clocked.{syn_out, heard_paced, after_paced}
 use Rattle.tcp_state.proofs.Edges.{either}
 use Rattle.tcp_state.proofs.Unchanged.{clash}
 use Rattle.tcp_state.proofs.Segments.{by_clock}
@@ -33,7 +34,7 @@ pub not_timed : (v : View) (due : Due) (now : Moment) → MayGoOut v due → sen
 not_timed v Rst now may again = cc
 not_timed v Syn now may again =
     let sent = after_syn_out v now in
-    let none = resent v 0 1 now again in
+    let none = syn_out v now (λ w. w.pace.timed ≡ None) (resent v 0 1 now again) (resent v 0 1 now again) in
     either View (λ w. w.pace.timed ≡ None) (is_syn_received v.state) (after_ack_paid sent) sent (λ received. none) (λ waits. none)
 not_timed v (Text stretch) now may again =
     let sent = after_numbers v stretch.offset (end_of stretch) now in
@@ -107,10 +108,10 @@ heard_measures v s now =
     let k = segment_hears v s in
     let estimate : w.pace.timeout.estimate ≡ v.pace.timeout.estimate = ap (λ (t : Timeout). t.estimate) k.timeout in
     let kept : Measures v (Some now) w = elim k.timed [ inl same ↦ keeps v w (Some now) estimate same | inr none ↦ leaves v w (Some now) estimate none ] in
-    let paced : Measures v (Some now) (record w { pace = pace_after b w now }) =
-    either Pace (λ p. Measures v (Some now) (record w { pace = p })) (is_moved b w) _ _ (λ moved. acknowledged v w w.sending.una (is_opening b.state) now estimate k.timed)
-    (λ still. either Pace (λ p. Measures v (Some now) (record w { pace = p })) b.answers_probe (record w.pace { expiries = 0 }) w.pace
-    (λ answers. record { sampled = kept.sampled; begins = kept.begins }) (λ other. record { sampled = kept.sampled; begins = kept.begins })) in
+    let P : Pace → Type 0 = λ p. Measures v (Some now) (record w { pace = p }) in
+    let still : P (record w.pace { expiries = 0 }) = record { sampled = kept.sampled; begins = kept.begins } in
+    let heard : P (pace_heard b w now) = heard_paced b w now P (acknowledged v w w.sending.una (is_opening b.state) now estimate k.timed) still (record { sampled = kept.sampled; begins = kept.begins }) in
+    let paced : P (pace_after b w now) = after_paced b w now P heard (record { sampled = heard.sampled; begins = heard.begins }) in
     record { sampled = paced.sampled; begins = paced.begins }
 
 -- Emissions.

@@ -1,5 +1,5 @@
--- Why new octets and the FIN go out within the peer's window.
-use Rattle.std.proofs.Common.{◌≡◌, ◌≤◌, ◌==◌, ◌&&◌, nat_lt, length, Some, arith, refl, subst}
+-- Why new octets and the FIN go out within the peer's window, and new octets within the congestion window.
+use Rattle.std.proofs.Common.{◌≡◌, ◌<◌, ◌≤◌, ◌==◌, ◌&&◌, nat_lt, length, Some, arith, refl, subst}
 use Rattle.std.proofs.lemmas.Bool.{ltb-true}
 use Rattle.tcp_state.specs.declared.emission.Due.TheVariants.{Text}
 use Rattle.tcp_state.specs.declared.emission.Stretch.{Stretch}
@@ -23,12 +23,31 @@ keeps_window v stretch sound first = by_due (λ o. (t : Stretch) → o ≡ Some 
   once_more = λ opened mark is goes t e. let same : again v mark ≡ t = cc in subst (KeepsWindow v) same (λ past. let within = sound.mark mark is in absurd (omega (arith, past, within)));
   octets = λ opened sends t e.
       let same : new_octets v ≡ t = cc in
-      let some = ltb-true 0 (sendable v.sending) (and_left (nat_lt 0 (sendable v.sending)) (is_worth_sending v.sending v.pace.overridden) sends) in
+      let some = ltb-true 0 (sendable v.sending v.congestion.cwnd) (and_left (nat_lt 0 (sendable v.sending v.congestion.cwnd)) (is_worth_sending v.sending v.congestion.cwnd v.pace.overridden) sends) in
       subst (KeepsWindow v) same (λ past. (refl, omega (arith, some)));
   fin = λ opened sends t e.
       let same : fin_alone v ≡ t = cc in
       let room = ltb-true (outstanding v.sending) v.sending.window (and_right (awaits_fin_ack v.state && (outstanding v.sending == length v.sending.held)) _ sends) in
       subst (KeepsWindow v) same (λ past. (refl, omega (arith, room)));
+  probe = λ opened goes t e. cc;
+  ack = λ owes t e. cc;
+}) stretch first
+
+-- .. and in the congestion window, if it brings octets
+abbrev KeepsCwnd : View → Stretch → Type 0
+KeepsCwnd v stretch = outstanding v.sending ≤ stretch.offset → 0 < stretch.count → end_of stretch ≤ v.congestion.cwnd
+
+pub keeps_cwnd : (v : View) (stretch : Stretch) → IsSound v → first_due v ≡ Some (Text stretch) → outstanding v.sending ≤ stretch.offset → 0 < stretch.count → end_of stretch ≤ v.congestion.cwnd
+keeps_cwnd v stretch sound first = by_due (λ o. (t : Stretch) → o ≡ Some (Text t) → KeepsCwnd v t) v (record {
+  nothing = λ t e. cc;
+  rst = λ owes t e. cc;
+  syn = λ opening t e. cc;
+  once_more = λ opened mark is goes t e. let same : again v mark ≡ t = cc in subst (KeepsCwnd v) same (λ past some. let within = sound.mark mark is in absurd (omega (arith, past, within)));
+  octets = λ opened sends t e.
+      let same : new_octets v ≡ t = cc in
+      let some = ltb-true 0 (sendable v.sending v.congestion.cwnd) (and_left (nat_lt 0 (sendable v.sending v.congestion.cwnd)) (is_worth_sending v.sending v.congestion.cwnd v.pace.overridden) sends) in
+      subst (KeepsCwnd v) same (λ past more. omega (arith, some));
+  fin = λ opened sends t e. let same : fin_alone v ≡ t = cc in subst (KeepsCwnd v) same (λ past more. absurd (omega (arith, more)));
   probe = λ opened goes t e. cc;
   ack = λ owes t e. cc;
 }) stretch first

@@ -20,7 +20,7 @@ use Rattle.tcp_state.specs.Due.{first_due, again, fin_alone, new_octets, probe_s
 use Rattle.tcp_state.specs.Unreachable.{is_unreachable}
 use Rattle.tcp_state.specs.Edges.{Event, Hears, Ticks, Emits, Sends, Receives, Shuts, Closes, Aborts, Unreachable, after_first, after_event}
 use Rattle.tcp_state.specs.Positions.{GoesOn, NeverBack, HasNumber}
-use Rattle.tcp_state.proofs.Clocked.{timers_keep}
+use Rattle.tcp_state.proofs.Clocked.{timers_keep, syn_out}
 use Rattle.tcp_state.proofs.Edges.{either, by_fin, and_right}
 use Rattle.tcp_state.proofs.Keeping.{IsKeeping, sound_keeping, gained_fits}
 use Rattle.tcp_state.proofs.Unchanged.{clash}
@@ -259,8 +259,9 @@ by_probe v sound =
 by_syn : (v : View) (now : Moment) → IsSound v → NeverBack v (after_going_out v Syn now)
 by_syn v now sound =
     let sent = after_syn_out v now in
-    let receiving = numbers_receive v 0 1 now in
-    let on = goes_out v sent 1 sound (omega arith) (numbers_send v 0 1 now) receiving in
+    let receiving = syn_out v now (λ w. w.receiving ≡ v.receiving) (numbers_receive v 0 1 now) (numbers_receive v 0 1 now) in
+    let sending = syn_out v now (λ w. w.sending ≡ after_sent v.sending 1) (numbers_send v 0 1 now) (numbers_send v 0 1 now) in
+    let on = goes_out v sent 1 sound (omega arith) sending receiving in
     either View (λ w. NeverBack v w) (is_syn_received v.state) (after_ack_paid sent) sent (λ received. pays v sent sound receiving on) (λ first. on)
 
 -- a flag takes a number

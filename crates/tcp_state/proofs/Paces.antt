@@ -12,6 +12,7 @@ use Rattle.tcp_state.specs.Pace.{Pace, stopped, timing_of, pace_probed}
 use Rattle.tcp_state.specs.View.{View, is_closed, is_syn_received}
 use Rattle.tcp_state.specs.Arrival.{is_receiving, beyond_fin, fin_acknowledged, after_new_ack, after_ack, after_window, after_text, after_fin, after_heard}
 use Rattle.tcp_state.specs.Due.{probe_stretch, end_of, after_ack_paid, after_resent, after_first_sent, after_numbers, after_new_octets, brings_new_octets, after_stretch, after_probe, after_syn_out, after_going_out}
+use Rattle.tcp_state.proofs.Clocked.{syn_out}
 use Rattle.tcp_state.proofs.Edges.{either, by_fin}
 use Rattle.tcp_state.proofs.Segments.{by_ack, by_hearing}
 
@@ -125,7 +126,8 @@ pub goes_out : (v : View) (due : Due) (now : Moment) → GoesOut v now (after_go
 goes_out v Rst now = record { timeout = refl; timed = inl refl; overriding = inl refl; others = refl }
 goes_out v Syn now =
     let sent = after_syn_out v now in
-    let k = numbers_out v 0 1 now in
+    let n = numbers_out v 0 1 now in
+    let k = syn_out v now (GoesOut v now) n (record { timeout = n.timeout; timed = n.timed; overriding = n.overriding; others = n.others }) in
     either View (GoesOut v now) (is_syn_received v.state) (after_ack_paid sent) sent (λ received. paid_out v sent now k) (λ first. k)
 goes_out v (Text stretch) now = paid_out v (after_stretch v stretch now) now (stretch_out v stretch now)
 goes_out v Probe now = paid_out v (after_probe v) now (probe_out v now)

@@ -13,7 +13,7 @@ use Rattle.tcp_state.specs.Halves.{Receiving}
 use Rattle.tcp_state.specs.Stream.{outstanding, is_new_ack, is_in_window, receive_window, is_acceptable}
 use Rattle.tcp_state.specs.View.{View, IsSound, is_opening, is_syn_sent, is_closed, is_over, is_time_wait, is_write_finished, takes_flag_number, after_reset}
 use Rattle.tcp_state.specs.Timing.{KeepsTime}
-use Rattle.tcp_state.specs.Arrival.{owing_ack, is_acceptable_to, is_acting_reset, is_read, is_lost, after_lost, ends_by_syn, ends_by_reset, ends_opening, acknowledges_unsent, is_rejected, reset_error, after_rst_in_syn_sent, after_rst, after_acceptable_segment, after_segment, is_of_fin, begins_wait, repeats_fin, answers_probe, before, timed_by, after_segment_at, after_heard}
+use Rattle.tcp_state.specs.Arrival.{owing_ack, is_acceptable_to, is_acting_reset, is_read, is_duplicate, is_lost, after_lost, ends_by_syn, ends_by_reset, ends_opening, acknowledges_unsent, is_rejected, reset_error, after_rst_in_syn_sent, after_rst, after_acceptable_segment, after_segment, is_of_fin, begins_wait, repeats_fin, answers_probe, before, timed_by, after_segment_at, after_heard}
 use Rattle.tcp_state.specs.Edges.{Hears, after_event, fate_by, is_removed, is_reset_by, ends_by, ends_by_ack}
 use Rattle.tcp_state.proofs.Clocked.{Owing, OwingAt, owing_timed, starts_none, comes_to}
 use Rattle.tcp_state.proofs.Edges.{either, and_left, and_right, clash}
@@ -104,9 +104,27 @@ unaccepted_is_none v s refused = by (answers_probe v s ≡ false) (answers_probe
     clash (is_acceptable_to v s) (and_right (not (is_opening v.state) && (v.sending.window == 0)) (is_acceptable_to v s) acks) refused)
     (λ none. none)
 
+-- a duplicate ACK is read
+duplicate_is_read : (v : View) (s : Segment) → is_duplicate v s ≡ true → is_read v s ≡ true
+duplicate_is_read v s same =
+    let opened = not (is_opening v.state) in
+    let read = opened && is_read v s in
+    let flies = read && nat_lt 0 (outstanding v.sending) in
+    let bare = flies && (length s.octets == 0) in
+    let goes_on = bare && not s.flags.fin in
+    let at_una = goes_on && (s.acknowledgement == v.sending.una) in
+    and_right opened (is_read v s) (and_left read (nat_lt 0 (outstanding v.sending)) (and_left flies (length s.octets == 0)
+    (and_left bare (not s.flags.fin) (and_left goes_on (s.acknowledgement == v.sending.una) (and_left at_una (s.window == v.sending.window) same)))))
+
+unaccepted_repeats_none : (v : View) (s : Segment) → is_acceptable_to v s ≡ false → is_duplicate v s ≡ false
+unaccepted_repeats_none v s refused = by (is_duplicate v s ≡ false) (is_duplicate v s) (λ same. clash (is_acceptable_to v s) (read_is_accepted v s (duplicate_is_read v s same)) refused) (λ none. none)
+
+rst_repeats_none : (v : View) (s : Segment) → s.flags.rst ≡ true → is_duplicate v s ≡ false
+rst_repeats_none v s rst = by (is_duplicate v s ≡ false) (is_duplicate v s) (λ same. clash s.flags.rst rst (read_is_no_rst v s (duplicate_is_read v s same))) (λ none. none)
+
 pub unaccepted_changes : (v : View) (s : Segment) (now : Moment) → KeepsTime v → is_syn_sent v.state ≡ false → is_acceptable_to v s ≡ false → OwingAt v (after_segment_at v s now)
 unaccepted_changes v s now keeps past_opening refused =
-    owing_timed v s now keeps (unaccepted_is_none v s refused) (either View (λ w. Owing v w) (is_lost v s) (after_lost v s) (after_segment v s)
+    owing_timed v s now keeps (unaccepted_is_none v s refused) (unaccepted_repeats_none v s refused) (either View (λ w. Owing v w) (is_lost v s) (after_lost v s) (after_segment v s)
     (λ lost. clash (is_acceptable_to v s) (read_is_accepted v s (lost_is_read v s lost)) refused)
     (λ kept. unaccepted_segment v s past_opening refused))
 
@@ -154,7 +172,7 @@ elsewhere_changes v s now keeps past_opening rst apart =
     let same : Owing v w = either View (λ x. Owing v x) (is_lost v s) (after_lost v s) (after_segment v s)
     (λ lost. clash s.flags.rst rst (read_is_no_rst v s (lost_is_read v s lost)))
     (λ kept. elsewhere_segment v s past_opening rst apart) in
-    let at : OwingAt v (after_segment_at v s now) = owing_timed v s now keeps (rst_is_none v s rst) same in
+    let at : OwingAt v (after_segment_at v s now) = owing_timed v s now keeps (rst_is_none v s rst) (rst_repeats_none v s rst) same in
     at ∙ ap (λ (n : Moment). record v { owes_ack = (after_segment_at v s now).owes_ack; since = n; timers = record v.timers { delayed_ack = (after_segment_at v s now).timers.delayed_ack } }) (no_wait v s now rst same)
 
 -- A reset at RCV.NXT that takes no numbers acts.

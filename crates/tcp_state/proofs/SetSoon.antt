@@ -16,10 +16,11 @@ use Rattle.tcp_state.specs.Pace.{Pace, is_timed_by, timeout_sampled, pace_acknow
 use Rattle.tcp_state.specs.View.{View, IsSound, is_opening, is_closed, is_fin_wait_2, is_write_closed, is_at_end, after_stop, after_reset}
 use Rattle.tcp_state.specs.Timing.{probes, retransmits, awaits_second, awaits_more, running, clocked, gives_up, retransmission_expired, probe_expired, after_expiry, delayed_ack_expired, after_timers}
 use Rattle.tcp_state.specs.Calls.{send_count, beyond_shutdown, latest, shutdown_refusal, after_shutdown, aborted_at, after_release, is_removed_by_close, is_aborted_by_close}
-use Rattle.tcp_state.specs.Arrival.{after_heard, before, is_moved, since_after, pace_after, timed_by}
+use Rattle.tcp_state.specs.Arrival.{after_heard, before, is_moved, since_after, pace_after, congestion_after, timed_by}
 use Rattle.tcp_state.specs.Due.{first_due, after_going_out}
 use Rattle.tcp_state.specs.Unreachable.{is_unreachable}
 use Rattle.tcp_state.specs.Edges.{Event, Hears, Ticks, Emits, Sends, Receives, Shuts, Closes, Aborts, Unreachable, moment_of, after_first, after_event}
+use Rattle.tcp_state.proofs.Clocked.{heard_paced, after_paced}
 use Rattle.tcp_state.proofs.Edges.{either}
 use Rattle.tcp_state.proofs.Segments.{by_clock}
 use Rattle.tcp_state.proofs.Paces.{segment_hears, goes_out}
@@ -106,8 +107,8 @@ heard_few v s now few =
     let w = after_heard v s in
     let same : w.pace.timeout.rto ≡ v.pace.timeout.rto = ap (λ (t : Timeout). t.rto) (segment_hears v s).timeout in
     let still : w.pace.timeout.rto ≤ 60000 = omega (arith, same, few) in
-    either Pace (λ p. p.timeout.rto ≤ 60000) (is_moved b w) _ _ (λ moved. acknowledged_few w.pace w.sending.una (is_opening b.state) now still)
-    (λ unmoved. either Pace (λ p. p.timeout.rto ≤ 60000) b.answers_probe (record w.pace { expiries = 0 }) w.pace (λ answers. still) (λ other. still))
+    let heard = heard_paced b w now (λ p. p.timeout.rto ≤ 60000) (acknowledged_few w.pace w.sending.una (is_opening b.state) now still) still still in
+    after_paced b w now (λ p. p.timeout.rto ≤ 60000) heard heard
 
 heard_soon : (v : View) (s : Segment) (now : Moment) → v.pace.timeout.rto ≤ 60000 → SetSoon now v.timers (timed_by (before v s) (after_heard v s) now).timers
 heard_soon v s now few =
@@ -117,7 +118,7 @@ heard_soon v s now few =
       | inl same ↦ subst (λ t. SetSoon now v.timers t) (sym same) (unset now v.timers)
       | inr none ↦ subst (λ t. SetSoon now v.timers t) (sym none) (stopped_soon now v.timers)
     ] in
-    clocked_soon (is_moved b w) (record w { since = since_after b w now; pace = pace_after b w now }) now v.timers (heard_few v s now few) kept
+    clocked_soon (is_moved b w) (record w { since = since_after b w now; pace = pace_after b w now; congestion = congestion_after b w }) now v.timers (heard_few v s now few) kept
 
 -- Emissions.
 

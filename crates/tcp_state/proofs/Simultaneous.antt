@@ -10,19 +10,22 @@ use Rattle.tcp_segment.specs.Sent.{sent_segment}
 use Rattle.tcp_segment.specs.Wire.{wire, past}
 use Rattle.retransmit.specs.declared.timers.Timers.{Timers}
 use Rattle.retransmit.specs.Deadlines.{no_timers}
+use Rattle.congestion.specs.Window.{initial_window}
 use Rattle.tcp_state.specs.declared.timing.TheConstants.{OVERRIDE}
 use Rattle.tcp_state.specs.declared.emission.Due.{Due}
 use Rattle.tcp_state.specs.declared.emission.Due.TheVariants.{Syn, Text, Ack}
 use Rattle.tcp_state.specs.declared.state.State.TheVariants.{SynReceived, Established}
 use Rattle.tcp_state.specs.Numbers.{is_before, later_number}
 use Rattle.tcp_state.specs.Halves.{Receiving}
-use Rattle.tcp_state.specs.Stream.{sending_from, receiving_nothing, receive_window, is_in_window, is_acceptable}
+use Rattle.tcp_state.specs.Stream.{outstanding, sending_from, receiving_nothing, receive_window, is_in_window, is_acceptable}
 use Rattle.tcp_state.specs.Windows.{updates_window, is_worth_sending, has_grown, after_advertisement}
-use Rattle.tcp_state.specs.Pace.{Pace, first_pace, mark_past}
+use Rattle.tcp_state.specs.Pace.{Pace, first_pace, mark_past, pace_lost}
 use Rattle.tcp_state.specs.Timing.{clocked}
-use Rattle.tcp_state.specs.View.{View, opened_actively}
-use Rattle.tcp_state.specs.Arrival.{owing_ack, after_establishment, after_window, after_text, after_fin, after_acceptable_segment, is_acceptable_to, acknowledges_unsent, answers_probe, before, timed_by, after_heard}
-use Rattle.tcp_state.specs.Due.{first_due, ack_due, new_octets, head_of, octets_of, after_ack_paid, after_resent, after_first_sent}
+use Rattle.tcp_state.specs.View.{View, first_congestion, opened_actively}
+use Rattle.tcp_state.specs.Congestion.{after_signal}
+use Rattle.tcp_state.specs.Congestion.Signal.{Begins, Nothing}
+use Rattle.tcp_state.specs.Arrival.{owing_ack, after_establishment, after_window, after_text, after_fin, after_acceptable_segment, is_acceptable_to, acknowledges_unsent, answers_probe, before, tells_loss, timed_by, after_heard}
+use Rattle.tcp_state.specs.Due.{first_due, ack_due, new_octets, head_of, octets_of, after_ack_paid, after_resent, after_first_sent, after_syn_again}
 use Rattle.tcp_state.specs.Edges.{Hears, Emits, after_first, after_event}
 use Rattle.tcp_state.specs.Simultaneous.{first_segment, after_coming, Ends, crossed, AnswersSyn, HasOpened}
 use Rattle.tcp_state.proofs.Clocked.{comes_to, unmoved, timed_unmoved}
@@ -64,13 +67,18 @@ again_due here there isn other first = answering here there isn other false (rec
 abbrev again_sent : Endpoint → Endpoint → ℕ → ℕ → Bool → Moment → View
 again_sent here there isn other owes first = answering here there isn other owes first_pace first
 
--- it is open
+-- it is open, and its congestion window begins
 abbrev opened : Endpoint → Endpoint → ℕ → ℕ → View
 opened here there isn other = record (opened_actively here there isn) {
   state = Established;
   sending = record { held = []; una = wire isn 1; nxt = wire isn 1; window = 65535; largest = 65535; wl1 = wire other 1; wl2 = wire isn 1; smss = 1460 };
   receiving = receives other;
+  congestion = initial_window 1460 false;
 }
+
+-- .. but for the clock
+abbrev heard : Endpoint → Endpoint → ℕ → ℕ → Moment → View
+heard here there isn other first = record (opened here there isn other) { timers = runs_from first; congestion = first_congestion }
 
 -- The numbers.
 
@@ -111,11 +119,15 @@ sent_first isn fits =
 abbrev running_if : View → Moment → ℕ → View
 running_if v first out = record v { timers = record no_timers { retransmission = if nat_lt 0 out && true then Some (after first 1000) else None } }
 
+-- it goes out, where so many numbers are outstanding
+abbrev out_again : View → Moment → ℕ → View
+out_again v now out = let sent = if nat_lt 0 out then after_resent v 1 else after_first_sent v 1 now in if nat_lt 0 out then after_syn_again sent else sent
+
 syn_goes : (here there : Endpoint) (isn : ℕ) (now : Moment) → isn < 2 ^ 32 → after_event (opened_actively here there isn) (Emits now) ≡ waiting here there isn now
 syn_goes here there isn now fits =
     let v = opened_actively here there isn in
     ap (λ d. after_first v d now) (first_is_syn here there isn fits)
-    ∙ (ap (λ n. clocked false (if nat_lt 0 n then after_resent v 1 else after_first_sent v 1 now) now) (none_out isn fits)
+    ∙ (ap (λ n. clocked false (out_again v now n) now) (none_out isn fits)
     ∙ (ap (λ n. clocked false (record v { sending = record (sending_from isn) { nxt = n }; pace = record first_pace { timed = Some (record { end = record { 0 = n }; since = now }) } }) now) (sent_first isn fits)
     ∙ ap (running_if (waiting here there isn now) now) (one_out isn fits)))
 
@@ -129,7 +141,7 @@ syn_comes here there isn other first now fits =
     let w = again_due here there isn other first in
     let b = before v (syn_of there here other) in
     ap (λ n. timed_by b (record w { receiving = record w.receiving { edge = (wire other 1 + (if n == 0 then 0 else 65535)) % 2 ^ 32 }; pace = record w.pace { mark = mark_past 0 n } }) now) (one_out isn fits)
-    ∙ (timed_unmoved b w now (unmoved v) refl ∙ ap (running_if w first) (one_out isn fits))
+    ∙ (timed_unmoved b w now (unmoved v) refl refl ∙ ap (running_if w first) (one_out isn fits))
 
 -- The SYN-ACK.
 
@@ -145,7 +157,7 @@ syn_ack_goes here there isn other first now fits other_fits =
     let v = again_due here there isn other first in
     let w = again_sent here there isn other false first in
     ap (λ d. after_first v d now) (first_is_syn_ack here there isn other first fits)
-    ∙ (ap (λ n. clocked false (after_ack_paid (if nat_lt 0 n then after_resent v 1 else after_first_sent v 1 now)) now) (one_out isn fits)
+    ∙ (ap (λ n. clocked false (after_ack_paid (out_again v now n)) now) (one_out isn fits)
     ∙ (ap (λ n. clocked false (after_ack_paid (record w { sending = record w.sending { nxt = n }; pace = record first_pace { mark = mark_past 1 (past n isn) } })) now) (sent_again isn)
     ∙ (ap (λ n. clocked false (after_ack_paid (record w { pace = record first_pace { mark = mark_past 1 n } })) now) (one_out isn fits)
     ∙ (ap (λ r. clocked false (record w { receiving = r }) now) (still_told other other_fits) ∙ ap (running_if w first) (one_out isn fits)))))
@@ -170,7 +182,7 @@ syn_ack_comes here there isn other first now fits other_fits =
     let s = syn_ack_of there here other isn first in
     let b = before v s in
     comes_to v s now refl (and_no (acknowledges_unsent v s) (is_acceptable_to v s && false) (and_no (is_acceptable_to v s) false refl))
-    ∙ (ap (λ a. timed_by b (if a then after_acceptable_segment v s else owing_ack v) now) (unacceptable other other_fits) ∙ (timed_unmoved b w now (unmoved v) refl ∙ ap (running_if w first) (one_out isn fits)))
+    ∙ (ap (λ a. timed_by b (if a then after_acceptable_segment v s else owing_ack v) now) (unacceptable other other_fits) ∙ (timed_unmoved b w now (unmoved v) refl refl ∙ ap (running_if w first) (one_out isn fits)))
 
 -- The acknowledgement.
 
@@ -212,11 +224,11 @@ updates isn other fits =
 
 -- what the acknowledgement makes of the connection without the clock
 ack_heard : (here there : Endpoint) (isn other : ℕ) (first : Moment) → isn < 2 ^ 32 → other < 2 ^ 32
-    → after_heard (again_sent here there isn other false first) (ack_of there here other isn) ≡ record (opened here there isn other) { timers = runs_from first }
+    → after_heard (again_sent here there isn other false first) (ack_of there here other isn) ≡ heard here there isn other first
 ack_heard here there isn other first fits other_fits =
     let v = again_sent here there isn other false first in
     let s = ack_of there here other isn in
-    let w = record (opened here there isn other) { timers = runs_from first } in
+    let w = heard here there isn other first in
     let e = after_establishment v in
     ap (λ b. if b then after_acceptable_segment v s else owing_ack v) (in_order other other_fits)
     ∙ (ap (λ b. if b then after_fin (after_text (after_window (if b then e else v) s) s) s else (if b then e else v)) (acknowledges isn fits)
@@ -231,7 +243,7 @@ at_rest here there isn other first now =
     ap (λ n. record w {
       timers = record no_timers {
         retransmission = if nat_lt 0 n && true then Some (after now 1000) else None;
-        overriding = if nat_lt 0 (min (0 - n) (65535 - n)) && not (is_worth_sending w.sending false) then Some (after now OVERRIDE) else None;
+        overriding = if nat_lt 0 (min (0 - n) (w.congestion.cwnd - n)) && not (is_worth_sending w.sending w.congestion.cwnd false) then Some (after now OVERRIDE) else None;
       };
     }) (none_out (wire isn 1) (omega arith))
 
@@ -241,16 +253,19 @@ ack_comes here there isn other first now fits other_fits =
     let v = again_sent here there isn other false first in
     let s = ack_of there here other isn in
     let b = before v s in
-    let w = record (opened here there isn other) { timers = runs_from first } in
+    let w = heard here there isn other first in
     comes_to v s now refl (ap (λ a. not a && (is_acceptable_to v s && true)) (acknowledges isn fits))
     ∙ (ap (λ x. timed_by b x now) (ack_heard here there isn other first fits other_fits)
-    ∙ (ap (λ m. clocked m (record w { pace = if m then first_pace else if answers_probe v s then first_pace else first_pace }) now) (moves isn fits)
+    ∙ (ap (λ m. clocked m (record w {
+      pace = let pace = if m then first_pace else if answers_probe v s then first_pace else first_pace in if tells_loss (if m then Begins else Nothing) w.congestion then pace_lost pace (outstanding w.sending) else pace;
+      congestion = after_signal w.congestion (if m then Begins else Nothing) 1460 false;
+    }) now) (moves isn fits)
     ∙ at_rest here there isn other first now))
 
 none_left : (here there : Endpoint) (isn other : ℕ) → other < 2 ^ 32 → first_due (opened here there isn other) ≡ None
 none_left here there isn other fits =
     let v = opened here there isn other in
-    ap (λ n. if nat_lt 0 (min (0 - n) (65535 - n)) && is_worth_sending v.sending false then Some (Text (new_octets v)) else ack_due v) (none_out (wire isn 1) (omega arith))
+    ap (λ n. if nat_lt 0 (min (0 - n) (v.congestion.cwnd - n)) && is_worth_sending v.sending v.congestion.cwnd false then Some (Text (new_octets v)) else ack_due v) (none_out (wire isn 1) (omega arith))
     ∙ ap (λ b. if b then Some Ack else None) (full other fits)
 
 -- Both together.

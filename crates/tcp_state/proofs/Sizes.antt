@@ -1,12 +1,11 @@
 -- How long a segment that may go out is.
-use Rattle.std.proofs.Common.{◌≡◌, ℕ, ◌+◌, ◌*◌, ◌≤◌, Bool, true, false, if◌then◌else◌, List, length, take, drop, arith, refl}
+use Rattle.std.proofs.Common.{◌+◌, ◌*◌, ◌≤◌, length, drop, arith}
 use Rattle.std.proofs.lemmas.List.{length-take}
-use Rattle.tcp_segment.specs.Sent.{sent_offset}
 use Rattle.tcp_state.specs.declared.emission.Due.{Due}
 use Rattle.tcp_state.specs.declared.emission.Due.TheVariants.{Rst, Syn, Text, Probe, Ack}
 use Rattle.tcp_state.specs.declared.emission.Stretch.{Stretch}
 use Rattle.tcp_state.specs.View.{View}
-use Rattle.tcp_state.specs.Due.{MayGoOut, IsHeld, octets_of, octets_of_stretch, emitted_len, probe_stretch}
+use Rattle.tcp_state.specs.Due.{MayGoOut, IsHeld, octets_of_stretch, emitted_len, probe_stretch}
 
 stretch_short : (v : View) (stretch : Stretch) → IsHeld v stretch → 4 * 5 + length (octets_of_stretch v stretch) ≤ 1480
 stretch_short v stretch held = omega (arith, length-take stretch.count (drop stretch.offset v.sending.held), held.size)

@@ -14,18 +14,20 @@ use Rattle.tcp_state.specs.declared.emission.Due.TheVariants.{Rst, Syn}
 use Rattle.tcp_state.specs.declared.state.State.{State}
 use Rattle.tcp_state.specs.declared.state.State.TheVariants.{SynSent, SynReceived}
 use Rattle.tcp_state.specs.Numbers.{later_number}
+use Rattle.tcp_state.specs.Halves.{Sending}
 use Rattle.tcp_state.specs.Stream.{outstanding, is_new_ack}
 use Rattle.tcp_state.specs.View.{View, IsSound, is_opening, is_syn_sent, is_syn_received, is_closed, is_over, is_write_closed, after_reset}
 use Rattle.tcp_state.specs.Pace.{mark_past}
 use Rattle.tcp_state.specs.Timing.{probes}
-use Rattle.tcp_state.specs.Arrival.{reset_error, after_rst_in_syn_sent, after_rst, is_acting_reset, ends_by_reset, ends_by_syn, ends_opening, is_acceptable_to, is_simultaneous_syn, after_simultaneous_syn, after_syn_ack, after_segment, is_receiving, is_read, brings_more, is_lost, after_lost, after_heard, before, is_moved, pace_after, timed_by, after_segment_at, is_rejected, fate}
-use Rattle.tcp_state.specs.Due.{first_due, ack_due, after_resent, after_first_sent}
+use Rattle.tcp_state.specs.Arrival.{reset_error, after_rst_in_syn_sent, after_rst, is_acting_reset, ends_by_reset, ends_by_syn, ends_opening, is_acceptable_to, is_simultaneous_syn, after_simultaneous_syn, after_syn_ack, after_segment, is_receiving, is_read, is_duplicate, brings_more, is_lost, after_lost, after_heard, before, is_moved, pace_after, timed_by, after_segment_at, is_rejected, fate}
+use Rattle.tcp_state.specs.Due.{first_due, ack_due}
 use Rattle.tcp_state.specs.Edges.{after_first}
 use Rattle.tcp_state.specs.Simultaneous.{AnswersSyn}
 use Rattle.tcp_state.specs.Unreachable.{IsRefused}
 use Rattle.tcp_state.proofs.Clocked.{comes_to, marks_kept, probes_kept}
 use Rattle.tcp_state.proofs.Edges.{either, clash}
 use Rattle.tcp_state.proofs.Causes.{both, or_left, or_right, of_false}
+use Rattle.tcp_state.proofs.Emissions.{syn_sends}
 use Rattle.tcp_state.proofs.Resets.{one_out, next_accepted, rst_not_lost, rst_not_refused}
 use Rattle.tcp_state.proofs.Unreachable.{none_listed, opening, silent, at_rest}
 
@@ -55,6 +57,11 @@ then_sent una nxt small fits few =
     either ℕ (λ n. n ≡ wire una 1) (nat_le (past nxt una) (past (wire una 1) una)) (wire una 1) nxt
     (λ le. refl) (λ gt. clash (nat_le (past nxt una) (past (wire una 1) una)) (le-leb (past nxt una) (past (wire una 1) una) (omega (arith, small, few))) gt)
 
+-- while the connection opens, no segment is a duplicate ACK
+repeats_none : (v : View) (s : Segment) → is_opening v.state ≡ true → is_duplicate v s ≡ false
+repeats_none v s opens =
+    ap (λ b. not b && is_read v s && nat_lt 0 (outstanding v.sending) && (length s.octets == 0) && not s.flags.fin && (s.acknowledgement == v.sending.una) && (s.window == v.sending.window)) opens
+
 answers : (v : View) (s : Segment) (now : Moment) → IsSound v → v.state ≡ SynSent → AnswersSyn v.sending.una s.number (timed_by (before v s) (after_simultaneous_syn v s) now)
 answers v s now sound opens =
     let u = after_simultaneous_syn v s in
@@ -63,7 +70,7 @@ answers v s now sound opens =
     let o = opening v sound opens in
     let due : first_due w ≡ Some Syn =
     ap (λ b. if b then Some Rst else (if (out == 0) || is_some (pace_after (before v s) u now).mark then Some Syn else ack_due w)) o.quiet
-    ∙ (ap (λ m. if (out == 0) || is_some m then Some Syn else ack_due w) (marks_kept (before v s) u now) ∙ ap (λ b. if b then Some Syn else ack_due w) (goes_at_once out)) in
+    ∙ (ap (λ m. if (out == 0) || is_some m then Some Syn else ack_due w) (marks_kept (before v s) u now (repeats_none v s (ap is_opening opens))) ∙ ap (λ b. if b then Some Syn else ack_due w) (goes_at_once out)) in
     let few : out ≤ 1 = one_out v.state (length v.sending.held) out o.waits sound.held sound.flight in
     record {
       state = refl;
@@ -73,7 +80,7 @@ answers v s now sound opens =
       number = refl;
       expects = refl;
       then_sent = λ later. ap (λ d. (after_first w d later).sending.nxt) due
-          ∙ (either View (λ x. x.sending.nxt ≡ later_number v.sending.una v.sending.nxt (wire v.sending.una 1)) (nat_lt 0 out) (after_resent w 1) (after_first_sent w 1 later) (λ again. refl) (λ first. refl)
+          ∙ (ap (λ (t : Sending). t.nxt) (syn_sends w later)
           ∙ then_sent v.sending.una v.sending.nxt sound.una sound.nxt few);
     }
 
@@ -151,7 +158,7 @@ refused v s now sound is quiet =
       recv = λ len. refl;
       held = refl;
       readable = none_listed v.receiving.readable (subst (λ t. length v.receiving.readable ≤ (if is_opening t then 0 else CAPACITY)) is sound.readable);
-      due = silent v timed.pace quiet (marks_kept b w now) (ap (λ b. b && probes (record w { pace = pace })) (probes_kept b w now));
+      due = silent v timed.pace quiet (marks_kept b w now (repeats_none v s (ap is_opening is))) (ap (λ b. b && probes (record w { pace = pace })) (probes_kept b w now));
       timer = ap (λ t. sooner (next_of t) None) (at_rest v pace (is_moved b w) now sound.nxt);
     }
 

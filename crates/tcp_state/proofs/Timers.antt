@@ -20,7 +20,7 @@ use Rattle.tcp_state.specs.Windows.{sendable, is_worth_sending, updates_window}
 use Rattle.tcp_state.specs.View.{View, IsSound, is_opening, is_closed, is_fin_wait_2, awaits_fin_ack, is_write_closed, is_at_end, after_stop, after_reset, opened_actively}
 use Rattle.tcp_state.specs.Timing.{KeepsTime, probes, retransmits, awaits_second, awaits_more, running, clocked, gives_up, after_expiry, delayed_ack_expired, after_timers}
 use Rattle.tcp_state.specs.Calls.{send_count, beyond_shutdown, shutdown_refusal, after_shutdown, aborted_at, after_release, is_removed_by_close, is_aborted_by_close, latest}
-use Rattle.tcp_state.specs.Arrival.{opened_passively, is_receiving, beyond_end, after_ack, after_window, after_text, after_fin, after_heard, is_moved, since_after, pace_after, before}
+use Rattle.tcp_state.specs.Arrival.{opened_passively, is_receiving, beyond_end, after_ack, after_window, after_text, after_fin, after_heard, is_moved, since_after, pace_after, congestion_after, before}
 use Rattle.tcp_state.specs.Due.{first_due, after_going_out}
 use Rattle.tcp_state.specs.Unreachable.{is_unreachable}
 use Rattle.tcp_state.specs.Edges.{Event, Hears, Ticks, Emits, Sends, Receives, Shuts, Closes, Aborts, Unreachable, after_first, after_event}
@@ -39,8 +39,8 @@ Quiet v = is_closed v.state ≡ true → (v.timers.overriding ≡ None) × (leng
 -- of nothing that is held none waits
 awaits_none : (v : View) → length v.sending.held ≡ 0 → awaits_more v ≡ false
 awaits_none v empty =
-    let none : sendable v.sending ≡ 0 = omega (arith, empty) in
-    ap (λ n. not (is_opening v.state) && (nat_lt 0 n && not (is_worth_sending v.sending v.pace.overridden))) none ∙ and_false (not (is_opening v.state))
+    let none : sendable v.sending v.congestion.cwnd ≡ 0 = omega (arith, empty) in
+    ap (λ n. not (is_opening v.state) && (nat_lt 0 n && not (is_worth_sending v.sending v.congestion.cwnd v.pace.overridden))) none ∙ and_false (not (is_opening v.state))
 
 runs_where : (wants : Bool) (deadline : Option Moment) (now : Moment) (milliseconds : ℕ) → is_some (if wants then running deadline now milliseconds else None) ≡ wants
 runs_where true None now milliseconds = refl
@@ -193,7 +193,7 @@ pub stays_timed : (v : View) (e : Event) → IsSound v → KeepsTime v → Keeps
 stays_timed v (Hears s now) sound keeps =
     let b = before v s in
     let w = after_heard v s in
-    by_clock KeepsTime v s now keeps (λ lives. clocked_keeps (is_moved b w) (record w { since = since_after b w now; pace = pace_after b w now }) now (heard_quiet v s lives))
+    by_clock KeepsTime v s now keeps (λ lives. clocked_keeps (is_moved b w) (record w { since = since_after b w now; pace = pace_after b w now; congestion = congestion_after b w }) now (heard_quiet v s lives))
 stays_timed v (Ticks now) sound keeps =
     either View KeepsTime (is_at_end v now) (after_stop v) _ (λ over. stop_keeps v sound.nxt)
     (λ goes_on. either View KeepsTime (gives_up v now) (after_reset v (Some ETIMEDOUT)) _ (λ given_up. ended v (Some ETIMEDOUT) v.released v.owes_reset v.since sound.nxt)

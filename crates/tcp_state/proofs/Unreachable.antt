@@ -94,8 +94,8 @@ pub silent : (v : View) (pace : Pace) → v.owes_reset ≡ false → pace.mark �
 silent v pace quiet unmarked unprobed =
     let w = record (after_stop v) { pace = record pace { mark = None; owes_probe = false } } in
     let same : record (after_stop v) { pace = pace } ≡ w = rw unmarked (rw unprobed refl) in
-    let least : sendable w.sending ≡ 0 = omega arith in
-    let none_new : sends_new w ≡ false = ap (λ n. nat_lt 0 n && is_worth_sending w.sending w.pace.overridden) least in
+    let least : sendable w.sending w.congestion.cwnd ≡ 0 = omega arith in
+    let none_new : sends_new w ≡ false = ap (λ n. nat_lt 0 n && is_worth_sending w.sending w.congestion.cwnd w.pace.overridden) least in
     ap first_due same ∙ (ap (λ b. if b then Some Rst else new_due w) quiet ∙ ap (λ b. if b then Some (Text (new_octets w)) else None) none_new)
 
 none_run : (resend probe overriding : Option Moment) → resend ≡ None → probe ≡ None → overriding ≡ None
@@ -108,8 +108,8 @@ at_rest v pace moved now fits =
     let w = record (after_stop v) { pace = pace } in
     let idle : probes w ≡ false = and_no (v.sending.window == 0) false refl in
     let none_out : retransmits w ≡ false = ap (λ n. nat_lt 0 n && not (probes w)) (none_outstanding_at v.sending.nxt fits) in
-    let least : sendable w.sending ≡ 0 = omega arith in
-    let content : awaits_more w ≡ false = ap (λ n. nat_lt 0 n && not (is_worth_sending w.sending pace.overridden)) least in
+    let least : sendable w.sending w.congestion.cwnd ≡ 0 = omega arith in
+    let content : awaits_more w ≡ false = ap (λ n. nat_lt 0 n && not (is_worth_sending w.sending w.congestion.cwnd pace.overridden)) least in
     none_run (retransmission_timer w moved now) (probe_timer w now) (override_timer w now)
     (ap (λ b. if b then running (if moved then None else None) now pace.timeout.rto else None) none_out)
     (ap (λ b. if b then running None now pace.timeout.rto else None) idle)

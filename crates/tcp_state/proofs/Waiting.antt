@@ -11,6 +11,7 @@ use Rattle.tcp_state.specs.declared.emission.Due.TheVariants.{Rst, Syn, Text, Pr
 use Rattle.tcp_state.specs.Stream.{outstanding}
 use Rattle.tcp_state.specs.Windows.{sendable, is_worth_sending}
 use Rattle.tcp_state.specs.View.{View, IsSound, is_opening, is_closed, awaits_fin_ack, ends_at}
+use Rattle.tcp_state.specs.Congestion.{KeepsCongestion}
 use Rattle.tcp_state.specs.Timing.{KeepsTime, has_unacknowledged, probes, deadline}
 use Rattle.tcp_state.specs.Due.{first_due, ack_due, again, goes_again, again_from, sends_new, new_octets, sends_fin, fin_alone, new_due}
 use Rattle.tcp_state.specs.Positions.{HasToSend, takes_numbers}
@@ -117,11 +118,11 @@ fin_goes v sends =
     (λ no_octets. either (Option Due) P (sends_fin v) (Some (Text (fin_alone v))) _ (λ fin. refl) (λ no_fin. clash (sends_fin v) sends no_fin))
 
 -- octets may go out, and do or wait for more
-sendable_goes : (v : View) → v.owes_reset ≡ false → KeepsTime v → is_opening v.state ≡ false → 0 < sendable v.sending → (takes_numbers (first_due v) || is_some (deadline v)) ≡ true
+sendable_goes : (v : View) → v.owes_reset ≡ false → KeepsTime v → is_opening v.state ≡ false → 0 < sendable v.sending v.congestion.cwnd → (takes_numbers (first_due v) || is_some (deadline v)) ≡ true
 sendable_goes v none keeps opened some =
-    let goes = nat_lt 0 (sendable v.sending) in
-    let worth = is_worth_sending v.sending v.pace.overridden in
-    let may : goes ≡ true = lt-ltb 0 (sendable v.sending) some in
+    let goes = nat_lt 0 (sendable v.sending v.congestion.cwnd) in
+    let worth = is_worth_sending v.sending v.congestion.cwnd v.pace.overridden in
+    let may : goes ≡ true = lt-ltb 0 (sendable v.sending v.congestion.cwnd) some in
     by ((takes_numbers (first_due v) || is_some (deadline v)) ≡ true) worth
     (λ is. or_left (takes_numbers (first_due v)) (is_some (deadline v)) (new_goes v none opened (octets_go v (both goes worth may is))))
     (λ is_not. or_right (takes_numbers (first_due v)) (is_some (deadline v)) (override_told v (keeps.overriding (both (not (is_opening v.state)) (goes && not worth) (of_false (is_opening v.state) opened) (both goes (not worth) may (of_false worth is_not))))))
@@ -133,16 +134,17 @@ closed_window v keeps opened shut has =
     probe_told v (keeps.probe ∙ both (not (is_opening v.state) && (v.sending.window == 0)) (has_unacknowledged v) both_tests has)
 
 -- the window is open: what is outstanding runs the retransmission timer, and else octets or the FIN may go out
-open_window : (v : View) → IsSound v → v.owes_reset ≡ false → KeepsTime v → is_opening v.state ≡ false → (v.sending.window == 0) ≡ false → has_unacknowledged v ≡ true
+wide_window : (v : View) → IsSound v → v.owes_reset ≡ false → KeepsTime v → KeepsCongestion v → is_opening v.state ≡ false → (v.sending.window == 0) ≡ false → has_unacknowledged v ≡ true
     → (takes_numbers (first_due v) || is_some (deadline v)) ≡ true
-open_window v sound none keeps opened wide has =
+wide_window v sound none keeps network opened wide has =
     let goal : Type 0 = (takes_numbers (first_due v) || is_some (deadline v)) ≡ true in
+    let some_network : 0 < v.congestion.cwnd = omega (arith, network.sound.smss_least, network.sound.cwnd_least) in
     let room : 0 < v.sending.window = elim (eqb_tells v.sending.window 0) [ inl t ↦ clash (v.sending.window == 0) t.0 wide | inr t ↦ omega (arith, t.1) ] in
     let unprobed : probes v ≡ false = ap (λ b. not (is_opening v.state) && b && has_unacknowledged v) wide ∙ ap (λ b. b && has_unacknowledged v) (and_false (not (is_opening v.state))) in
     elim (eqb_tells (outstanding v.sending) 0) [
       | inr some ↦ or_right (takes_numbers (first_due v)) (is_some (deadline v)) (outstanding_told v keeps some.0 unprobed)
       | inl idle ↦ elim (eqb_tells (length v.sending.held) 0) [
-        | inr octets ↦ sendable_goes v none keeps opened (omega (arith, room, idle.1, octets.1))
+        | inr octets ↦ sendable_goes v none keeps opened (omega (arith, room, some_network, idle.1, octets.1))
         | inl empty ↦
             let waits : awaits_fin_ack v.state ≡ true = sym (ap (λ b. not b || awaits_fin_ack v.state) empty.0) ∙ has in
             let all = outstanding v.sending == length v.sending.held in
@@ -163,10 +165,10 @@ unacknowledged v opened has =
       ]
     ]
 
-pub goes_out : (v : View) → IsSound v → KeepsTime v → HasToSend v → (takes_numbers (first_due v) || is_some (deadline v)) ≡ true
-goes_out v sound keeps has =
+pub goes_out : (v : View) → IsSound v → KeepsTime v → KeepsCongestion v → HasToSend v → (takes_numbers (first_due v) || is_some (deadline v)) ≡ true
+goes_out v sound keeps network has =
     let goal : Type 0 = (takes_numbers (first_due v) || is_some (deadline v)) ≡ true in
     by goal (is_opening v.state) (opening_goes v sound keeps has)
     (λ opened. by goal (v.sending.window == 0)
     (λ shut. or_right (takes_numbers (first_due v)) (is_some (deadline v)) (closed_window v keeps opened shut (unacknowledged v opened has)))
-    (λ wide. open_window v sound (no_reset v sound has) keeps opened wide (unacknowledged v opened has)))
+    (λ wide. wide_window v sound (no_reset v sound has) keeps network opened wide (unacknowledged v opened has)))

@@ -1,5 +1,5 @@
 -- What an arriving segment makes of a connection, step by step (RFC 9293 section 3.10.7).
-use Rattle.std.specs.Prelude.{ℕ, ◌+◌, ◌%◌, ◌^◌, ◌==◌, ◌&&◌, ◌||◌, not, nat_lt, Bool, true, false, if◌then◌else◌, length, Option, Some, None}
+use Rattle.std.specs.Prelude.{ℕ, ◌+◌, ◌-◌, ◌%◌, ◌^◌, ◌==◌, ◌&&◌, ◌||◌, not, nat_lt, Bool, true, false, if◌then◌else◌, length, Option, Some, None}
 use Rattle.tcp_state.specs.declared.calls.Refusal.{Refusal}
 use Rattle.tcp_state.specs.declared.calls.Refusal.TheVariants.{ECONNREFUSED, ECONNRESET}
 use Rattle.ipv4.specs.declared.addr.Endpoint.{Endpoint}
@@ -13,8 +13,12 @@ use Rattle.tcp_state.specs.declared.state.State.{State}
 use Rattle.tcp_state.specs.declared.state.State.TheVariants.{SynSent, SynReceived, Established, FinWait1, FinWait2, CloseWait, Closing, LastAck, TimeWait, Closed}
 use Rattle.tcp_state.specs.Stream.{outstanding, is_new_ack, sending_from, receiving_nothing, after_syn_acknowledged, after_acknowledged, is_in_window, is_acceptable, after_syn, after_octets, stands_next, after_end}
 use Rattle.tcp_state.specs.Windows.{after_syn_heard, after_window_update}
-use Rattle.tcp_state.specs.View.{View, is_opening, is_syn_sent, is_syn_received, is_closed, is_fin_wait_2, is_time_wait, awaits_fin_ack, after_reset, is_over}
-use Rattle.tcp_state.specs.Pace.{Pace, first_pace, stopped, mark_past, mark_moved, unmarked, pace_acknowledged}
+use Rattle.tcp_state.specs.View.{View, first_congestion, is_opening, is_syn_sent, is_syn_received, is_closed, is_fin_wait_2, is_time_wait, awaits_fin_ack, after_reset, is_over}
+use Rattle.tcp_state.specs.Pace.{Pace, first_pace, stopped, mark_past, mark_moved, unmarked, pace_acknowledged, pace_lost}
+use Rattle.congestion.specs.Window.{Window, third_is_next}
+use Rattle.congestion.specs.Events.Event.{NewAck, Duplicate}
+use Rattle.tcp_state.specs.Congestion.{Signal, after_signal}
+use Rattle.tcp_state.specs.Congestion.Signal.{Begins, Counts, Nothing}
 use Rattle.tcp_state.specs.Timing.{clocked}
 use Rattle.retransmit.specs.Deadlines.{no_timers}
 use Rattle.stream_buf.specs.Receiving.{ranges}
@@ -38,6 +42,7 @@ opened_passively local peer isn syn = record {
   delays_ack = false;
   pace = first_pace;
   timers = no_timers;
+  congestion = first_congestion;
   pending_error = None;
   released = false;
   owes_reset = false;
@@ -253,7 +258,14 @@ repeats_fin v s = is_time_wait v.state && not s.flags.rst && not (is_acceptable_
 abbrev pub answers_probe : View → Segment → Bool
 answers_probe v s = not (is_opening v.state) && (v.sending.window == 0) && is_acceptable_to v s && s.flags.ack && not s.flags.rst
 
--- what the clock has to know of a connection before a segment and of the segment
+-- A duplicate ACK (RFC 5681 section 2): octets are outstanding, and the segment brings none, nor a SYN or a FIN; it acknowledges what is acknowledged and tells the window that is known.
+abbrev pub is_duplicate : View → Segment → Bool
+is_duplicate v s =
+    not (is_opening v.state) && is_read v s && nat_lt 0 (outstanding v.sending)
+    && (length s.octets == 0) && not s.flags.fin
+    && (s.acknowledgement == v.sending.una) && (s.window == v.sending.window)
+
+-- what the clock and the congestion window have to know of a connection before a segment and of the segment
 abbrev pub before : View → Segment → Before
 before v s = record {
   state = v.state;
@@ -261,6 +273,8 @@ before v s = record {
   owes_reset = v.owes_reset;
   repeats_fin = repeats_fin v s;
   answers_probe = answers_probe v s;
+  is_duplicate = is_duplicate v s;
+  held = length v.sending.held;
 }
 
 abbrev pub since_after : Before → View → Moment → Moment
@@ -270,15 +284,36 @@ since_after b w now = if b.repeats_fin || begins_wait b.state w.state || (w.owes
 abbrev pub is_moved : Before → View → Bool
 is_moved b w = not (b.una.0 == w.sending.una)
 
-abbrev pub pace_after : Before → View → Moment → Pace
-pace_after b w now =
+abbrev pub pace_heard : Before → View → Moment → Pace
+pace_heard b w now =
     if is_moved b w then pace_acknowledged w.pace w.sending.una (is_opening b.state) now
     else if b.answers_probe then record w.pace { expiries = 0 }
     else w.pace
 
+-- What a segment that was heard is to the congestion window: its beginning, where it acknowledges our SYN; an ACK of new octets; or a duplicate one. To what is CLOSED it is nothing.
+abbrev pub congestion_event_of : Before → View → Signal
+congestion_event_of b w =
+    if is_closed w.state then Nothing
+    else if is_moved b w then (if is_opening b.state then Begins else Counts (NewAck (b.held - length w.sending.held)))
+    else if b.is_duplicate then Counts (Duplicate (outstanding w.sending))
+    else Nothing
+
+-- the third duplicate ACK in a row: the segment at SND.UNA goes out again (RFC 5681 section 3.2)
+abbrev pub tells_loss : Signal → Window → Bool
+tells_loss (Counts (Duplicate flight)) window = third_is_next window
+tells_loss _ window = false
+
+abbrev pub pace_after : Before → View → Moment → Pace
+pace_after b w now =
+    let pace = pace_heard b w now in
+    if tells_loss (congestion_event_of b w) w.congestion then pace_lost pace (outstanding w.sending) else pace
+
+abbrev pub congestion_after : Before → View → Window
+congestion_after b w = after_signal w.congestion (congestion_event_of b w) w.sending.smss w.pace.syn_resent
+
 -- what the clock makes of the connection once a segment was heard
 abbrev pub timed_by : Before → View → Moment → View
-timed_by b w now = clocked (is_moved b w) (record w { since = since_after b w now; pace = pace_after b w now }) now
+timed_by b w now = clocked (is_moved b w) (record w { since = since_after b w now; pace = pace_after b w now; congestion = congestion_after b w }) now
 
 -- a segment that is rejected, or comes to what is CLOSED, changes nothing
 abbrev pub after_segment_at : View → Segment → Moment → View

@@ -9,9 +9,9 @@ use Rattle.tcp_state.specs.declared.emission.Due.{Due}
 use Rattle.tcp_state.specs.declared.emission.Due.TheVariants.{Rst, Syn, Text, Probe, Ack}
 use Rattle.tcp_state.specs.declared.emission.Stretch.{Stretch}
 use Rattle.clock.specs.declared.moment.Moment.{Moment}
-use Rattle.tcp_state.specs.Pace.{pace_resent, pace_sent, pace_probed}
+use Rattle.tcp_state.specs.Pace.{pace_resent, pace_sent, pace_probed, pace_syn_again}
 use Rattle.tcp_state.specs.Stream.{outstanding, after_sent, receive_window}
-use Rattle.tcp_state.specs.Windows.{sendable, next_count, is_worth_sending, has_grown, after_advertisement}
+use Rattle.tcp_state.specs.Windows.{open_window, sendable, next_count, is_worth_sending, has_grown, after_advertisement}
 use Rattle.tcp_state.specs.View.{View, is_opening, is_syn_sent, is_syn_received, is_closed, awaits_fin_ack}
 use Rattle.tcp_state.specs.Timing.{probes, clocked}
 
@@ -142,8 +142,11 @@ after_probe v =
     let sent = record v { sending = after_sent v.sending (end_of stretch); pace = pace_probed v.pace } in
     if brings_new_octets v stretch then after_new_octets sent else sent
 
+abbrev pub after_syn_again : View → View
+after_syn_again v = record v { pace = pace_syn_again v.pace }
+
 abbrev pub after_syn_out : View → Moment → View
-after_syn_out v now = after_numbers v 0 1 now
+after_syn_out v now = let sent = after_numbers v 0 1 now in if nat_lt 0 (outstanding v.sending) then after_syn_again sent else sent
 
 -- .. without the timers
 abbrev pub after_going_out : View → Due → Moment → View
@@ -185,20 +188,20 @@ again v mark =
     let count = min (min (length v.sending.held) (outstanding v.sending) - mark) v.sending.smss in
     record { offset = mark; count = count; fin = (mark + count == length v.sending.held) && nat_lt (length v.sending.held) (outstanding v.sending) }
 
--- what goes out again stays within the peer's window, but for what is at SND.UNA
+-- what goes out again stays within the lesser of the peer's window and the congestion window, but for what is at SND.UNA
 abbrev pub goes_again : View → ℕ → Bool
-goes_again v mark = (mark == 0) || nat_lt mark v.sending.window
+goes_again v mark = (mark == 0) || nat_lt mark (open_window v.sending v.congestion.cwnd)
 
 abbrev pub again_from : View → Option ℕ → Option Due
 again_from v None = None
 again_from v (Some mark) = if goes_again v mark then Some (Text (again v mark)) else None
 
--- new octets: the peer's window takes some, and they are worth a segment
+-- new octets: both windows take some, and they are worth a segment
 abbrev pub sends_new : View → Bool
-sends_new v = nat_lt 0 (sendable v.sending) && is_worth_sending v.sending v.pace.overridden
+sends_new v = nat_lt 0 (sendable v.sending v.congestion.cwnd) && is_worth_sending v.sending v.congestion.cwnd v.pace.overridden
 
 abbrev pub new_octets : View → Stretch
-new_octets v = record { offset = outstanding v.sending; count = next_count v.sending; fin = false }
+new_octets v = record { offset = outstanding v.sending; count = next_count v.sending v.congestion.cwnd; fin = false }
 
 -- the FIN of a closed side: all octets went out, and the peer's window takes one number more
 abbrev pub sends_fin : View → Bool

@@ -2,6 +2,10 @@
 use Rattle.std.specs.Prelude.{◌≡◌, ℕ, ◌&&◌, ◌||◌, not, Bool, true, false, if◌then◌else◌, ◌⊎◌, List, Option, Some, None, is_some}
 use Rattle.tcp_segment.specs.Segment.{Segment}
 use Rattle.clock.specs.declared.moment.Moment.{Moment}
+use Rattle.clock.specs.Moments.{has_come}
+use Rattle.congestion.specs.Events.Event.{Expiry}
+use Rattle.tcp_state.specs.Congestion.{Signal}
+use Rattle.tcp_state.specs.Congestion.Signal.{Counts, Nothing}
 use Rattle.tcp_state.specs.declared.emission.Due.{Due}
 use Rattle.tcp_state.specs.declared.connection.Fate.{Fate}
 use Rattle.tcp_state.specs.declared.connection.Fate.TheVariants.{Stays, Removed, Rejected}
@@ -9,11 +13,11 @@ use Rattle.tcp_state.specs.declared.state.State.{State}
 use Rattle.tcp_state.specs.declared.state.State.TheVariants.{Closed, Listen, SynSent, SynReceived, Established, FinWait1, FinWait2, CloseWait, Closing, LastAck, TimeWait}
 use Rattle.tcp_state.specs.declared.calls.Refusal.{Refusal}
 use Rattle.tcp_state.specs.declared.calls.Refusal.TheVariants.{ECONNREFUSED, ECONNRESET, ETIMEDOUT}
-use Rattle.tcp_state.specs.Stream.{is_new_ack}
+use Rattle.tcp_state.specs.Stream.{outstanding, is_new_ack}
 use Rattle.tcp_state.specs.View.{View, is_syn_sent, is_syn_received, is_closed, is_at_end, is_over}
 use Rattle.tcp_state.specs.Timing.{gives_up, after_tick, tick_fate}
 use Rattle.tcp_state.specs.Calls.{after_send, after_recv, shutdown_refusal, after_shutdown, after_abort, abort_fate, is_removed_by_close, is_aborted_by_close, after_close, close_fate}
-use Rattle.tcp_state.specs.Arrival.{is_acting_reset, ends_by_reset, ends_by_syn, is_of_fin, is_lost, is_read, after_segment_at, fate}
+use Rattle.tcp_state.specs.Arrival.{is_acting_reset, ends_by_reset, ends_by_syn, is_of_fin, is_lost, is_read, is_rejected, before, after_heard, congestion_event_of, after_segment_at, fate}
 use Rattle.tcp_state.specs.Due.{first_due, after_emitted}
 use Rattle.tcp_state.specs.Unreachable.{is_unreachable, after_unreachable, unreachable_fate}
 
@@ -91,6 +95,19 @@ after_event v (Shuts now) = if is_some (shutdown_refusal v) then v else after_sh
 after_event v (Closes now) = after_close v now
 after_event v (Aborts now) = after_abort v now
 after_event v (Unreachable number) = after_unreachable v number
+
+-- what a tick is to the congestion window: an event where the retransmission timer expires
+abbrev pub congestion_event_at : View → Moment → Signal
+congestion_event_at v now =
+    if is_at_end v now || gives_up v now then Nothing
+    else if has_come v.timers.retransmission now then Counts (Expiry (outstanding v.sending))
+    else Nothing
+
+-- what an event is to it
+abbrev pub congestion_event_by : View → Event → Signal
+congestion_event_by v (Hears s now) = if is_closed v.state || is_rejected v s then Nothing else congestion_event_of (before v s) (after_heard v s)
+congestion_event_by v (Ticks now) = congestion_event_at v now
+congestion_event_by v _ = Nothing
 
 -- what becomes of its place; it is taken out after an emission where it is over
 abbrev pub fate_by : View → Event → Fate

@@ -14,6 +14,7 @@ view_of c = record {
   delays_ack = c.delays_ack;
   pace = c.pace;
   timers = c.timers;
+  congestion = c.congestion;
   pending_error = c.pending_error;
   released = c.is_released;
   owes_reset = c.owes_reset;

@@ -5,6 +5,7 @@ pub mod Windows
 pub mod Pace
 pub mod PaceInside
 pub mod View
+pub mod Congestion
 pub mod Timing
 pub mod Names
 pub mod Calls

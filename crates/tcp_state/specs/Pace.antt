@@ -1,5 +1,5 @@
 -- The pace of a connection: what goes out again, and what the clock measures of a round trip (RFC 6298, RFC 9293 sections 3.8.1 and 3.8.6.1).
-use Rattle.std.specs.Prelude.{ℕ, suc, ◌-◌, ◌*◌, ◌≤◌, ◌&&◌, nat_lt, min, Bool, true, false, if◌then◌else◌, not, Option, Some, None}
+use Rattle.std.specs.Prelude.{ℕ, suc, ◌-◌, ◌*◌, ◌≤◌, ◌&&◌, ◌||◌, nat_lt, min, Bool, true, false, if◌then◌else◌, not, Option, Some, None}
 use Rattle.clock.specs.declared.moment.Moment.{Moment}
 use Rattle.retransmit.specs.Timeout.{Timeout, first_timeout, after_sample, after_expiry, after_lost_syn}
 use Rattle.tcp_state.specs.Numbers.{is_before}
@@ -9,6 +9,8 @@ use Rattle.tcp_state.specs.declared.pace.Timed.{Timed}
 pub record Pace : Type 0 where
   -- the resend mark, as a distance past SND.UNA: what is outstanding from there on goes out again
   pub mark : Option ℕ
+  -- .. but no more than one segment of it
+  pub once : Bool
   -- the retransmission timeout
   pub timeout : Timeout
   -- the segment whose round trip is measured
@@ -21,6 +23,8 @@ pub record Pace : Type 0 where
   pub owes_probe : Bool
   -- new octets waited for more as long as they may
   pub overridden : Bool
+  -- our SYN expired, and went out again
+  pub syn_resent : Bool
 
 -- the timeout and the wait of a probe last a second at least and a minute at most, and the timers expire twelve times without progress at most
 pub record IsPaced (p : Pace) : Type 0 where
@@ -34,17 +38,19 @@ pub record IsPaced (p : Pace) : Type 0 where
 abbrev pub first_pace : Pace
 first_pace = record {
   mark = None;
+  once = false;
   timeout = first_timeout;
   timed = None;
   expiries = 0;
   interval = first_timeout.rto;
   owes_probe = false;
   overridden = false;
+  syn_resent = false;
 }
 
 -- nothing is outstanding or waits any longer
 abbrev pub stopped : Pace → Pace
-stopped p = record p { mark = None; timed = None; interval = p.timeout.rto; owes_probe = false; overridden = false }
+stopped p = record p { mark = None; once = false; timed = None; interval = p.timeout.rto; owes_probe = false; overridden = false }
 
 -- What goes out.
 
@@ -52,9 +58,13 @@ stopped p = record p { mark = None; timed = None; interval = p.timeout.rto; owes
 abbrev pub mark_past : ℕ → ℕ → Option ℕ
 mark_past end outstanding = if nat_lt end outstanding then Some end else None
 
--- what was outstanding went out again, up to this distance past SND.UNA: what comes back tells no round trip (RFC 6298 section 3)
+-- what was outstanding went out again, up to this distance past SND.UNA: what comes back tells no round trip (RFC 6298 section 3). A mark for one segment is gone.
 abbrev pub pace_resent : Pace → ℕ → ℕ → Pace
-pace_resent p end outstanding = record p { mark = mark_past end outstanding; timed = None }
+pace_resent p end outstanding = record p { mark = if p.once then None else mark_past end outstanding; once = false; timed = None }
+
+-- our SYN went out again: after an expiry as one that may be lost, else in answer to the peer's
+abbrev pub pace_syn_again : Pace → Pace
+pace_syn_again p = record p { syn_resent = p.syn_resent || nat_lt 0 p.expiries }
 
 -- new numbers went out, up to this one: their round trip is measured where no other is
 abbrev pub timing_of : Option Timed → ℕ → Moment → Option Timed
@@ -72,7 +82,7 @@ pace_probed p = record p { owes_probe = false; timed = None }
 
 -- the retransmission timer: all that is outstanding goes out again, from SND.UNA on, and the timeout backs off (RFC 6298 sections 5.4 and 5.5)
 abbrev pub pace_expired : Pace → ℕ → Pace
-pace_expired p outstanding = record p { mark = mark_past 0 outstanding; timeout = after_expiry p.timeout; expiries = suc p.expiries }
+pace_expired p outstanding = record p { mark = mark_past 0 outstanding; once = false; timeout = after_expiry p.timeout; expiries = suc p.expiries }
 
 -- the probe timer: a probe is due, and the next wait is twice as long, a minute at most (RFC 9293 section 3.8.6.1)
 abbrev pub pace_probes : Pace → Pace
@@ -87,6 +97,10 @@ mark_left (Some distance) gained outstanding = mark_past (distance - gained) out
 
 abbrev pub mark_moved : Pace → ℕ → ℕ → Pace
 mark_moved p gained outstanding = record p { mark = mark_left p.mark gained outstanding }
+
+-- the segment at SND.UNA counts as lost: it alone goes out again (RFC 5681 section 3.2)
+abbrev pub pace_lost : Pace → ℕ → Pace
+pace_lost p outstanding = record p { mark = mark_past 0 outstanding; once = true }
 
 -- nothing is outstanding
 abbrev pub unmarked : Pace → Pace

@@ -2,17 +2,18 @@
 use Rattle.std.specs.Prelude.{◌≡◌, ℕ, ◌==◌, ◌&&◌, ◌||◌, not, nat_le, nat_lt, Bool, true, false, if◌then◌else◌, length, Option, Some, None, is_some}
 use Rattle.clock.specs.declared.moment.Moment.{Moment}
 use Rattle.clock.specs.Moments.{after, has_come, sooner}
-use Rattle.retransmit.specs.declared.timers.Timers.{Timers}
 use Rattle.retransmit.specs.Deadlines.{next_of}
+use Rattle.congestion.specs.Events.{after_event}
+use Rattle.congestion.specs.Events.Event.{Expiry}
 use Rattle.tcp_state.specs.declared.calls.Refusal.TheVariants.{ETIMEDOUT}
 use Rattle.tcp_state.specs.declared.connection.Fate.{Fate}
 use Rattle.tcp_state.specs.declared.connection.Fate.TheVariants.{Stays, Removed}
 use Rattle.tcp_state.specs.declared.pace.TheConstants.{MOST_EXPIRIES}
 use Rattle.tcp_state.specs.declared.timing.TheConstants.{DELAYED_ACK, OVERRIDE}
-use Rattle.tcp_state.specs.Pace.{Pace, pace_expired, pace_probes}
+use Rattle.tcp_state.specs.Pace.{pace_expired, pace_probes}
 use Rattle.tcp_state.specs.Stream.{outstanding}
 use Rattle.tcp_state.specs.Windows.{waits_for_more}
-use Rattle.tcp_state.specs.View.{View, is_opening, is_syn_received, is_closed, awaits_fin_ack, ends_at, is_at_end, after_stop, after_reset, is_over}
+use Rattle.tcp_state.specs.View.{View, is_opening, is_syn_received, is_closed, awaits_fin_ack, ends_at, is_at_end, after_stop, after_reset}
 
 -- When each timer runs.
 
@@ -34,7 +35,7 @@ awaits_second v = v.delays_ack && not v.owes_ack
 
 -- new octets wait for more (section 3.8.6.2.1)
 abbrev pub awaits_more : View → Bool
-awaits_more v = not (is_opening v.state) && waits_for_more v.sending v.pace.overridden
+awaits_more v = not (is_opening v.state) && waits_for_more v.sending v.congestion.cwnd v.pace.overridden
 
 -- it goes on where it runs, and else begins
 abbrev pub running : Option Moment → Moment → ℕ → Option Moment
@@ -93,8 +94,13 @@ expires v now = has_come v.timers.retransmission now || has_come v.timers.probe 
 abbrev pub gives_up : View → Moment → Bool
 gives_up v now = expires v now && nat_le MOST_EXPIRIES v.pace.expiries
 
+-- what is outstanding counts as lost, and the congestion window begins again with one segment (RFC 5681 section 3.1)
 abbrev pub retransmission_expired : View → View
-retransmission_expired v = record v { pace = pace_expired v.pace (outstanding v.sending); timers = record v.timers { retransmission = None } }
+retransmission_expired v = record v {
+  pace = pace_expired v.pace (outstanding v.sending);
+  timers = record v.timers { retransmission = None };
+  congestion = after_event v.congestion (Expiry (outstanding v.sending));
+}
 
 abbrev pub probe_expired : View → Moment → View
 probe_expired v now = let pace = pace_probes v.pace in record v { pace = pace; timers = record v.timers { probe = Some (after now pace.interval) } }

@@ -1,7 +1,7 @@
 -- A connection as its callers see it (RFC 9293 section 3.3).
-use Rattle.std.specs.Prelude.{◌≡◌, ℕ, ◌+◌, ◌≤◌, ◌^◌, ◌==◌, ◌&&◌, ◌||◌, ◌<◌, not, nat_le, min, Bool, true, false, if◌then◌else◌, [], length, Option, Some, None, is_some}
+use Rattle.std.specs.Prelude.{◌≡◌, ℕ, ◌+◌, ◌≤◌, ◌^◌, ◌==◌, ◌&&◌, ◌||◌, ◌<◌, not, Bool, true, false, if◌then◌else◌, [], length, Option, Some, None, is_some}
 use Rattle.ipv4.specs.declared.addr.Endpoint.{Endpoint}
-use Rattle.tcp_segment.specs.declared.TheConstants.{MSS, LEAST_MSS}
+use Rattle.tcp_segment.specs.declared.TheConstants.{MSS, DEFAULT_MSS, LEAST_MSS}
 use Rattle.tcp_state.specs.declared.buffers.TheConstants.{CAPACITY}
 use Rattle.tcp_state.specs.declared.state.State.{State}
 use Rattle.tcp_state.specs.declared.state.State.TheVariants.{Closed, Listen, SynSent, SynReceived, FinWait1, FinWait2, CloseWait, Closing, LastAck, TimeWait}
@@ -10,6 +10,7 @@ use Rattle.clock.specs.declared.moment.Moment.{Moment}
 use Rattle.clock.specs.Moments.{after, has_come}
 use Rattle.tcp_state.specs.declared.calls.Refusal.{Refusal}
 use Rattle.retransmit.specs.declared.timers.Timers.{Timers}
+use Rattle.congestion.specs.Window.{Window, initial_window}
 use Rattle.retransmit.specs.Deadlines.{no_timers}
 use Rattle.tcp_state.specs.Pace.{Pace, IsPaced, first_pace, stopped}
 use Rattle.std.specs.Option.{ForSome}
@@ -33,6 +34,8 @@ pub record View : Type 0 where
   pub pace : Pace
   -- the deadlines of its timers
   pub timers : Timers
+  -- the congestion window: how much the network takes
+  pub congestion : Window
   -- the error that every call reports from now on
   pub pending_error : Option Refusal
   -- its caller closed it: no socket names it any more
@@ -138,6 +141,10 @@ is_over v = is_closed v.state && v.released && not v.owes_reset
 abbrev pub reset_since : View → Option Moment
 reset_since v = if v.owes_reset then Some v.since else None
 
+-- the congestion window until our SYN is acknowledged, and its own begins
+abbrev pub first_congestion : Window
+first_congestion = initial_window DEFAULT_MSS false
+
 -- a connection that its caller opens (RFC 9293 section 3.10.1)
 abbrev pub opened_actively : Endpoint → Endpoint → ℕ → View
 opened_actively local peer isn = record {
@@ -151,6 +158,7 @@ opened_actively local peer isn = record {
   delays_ack = false;
   pace = first_pace;
   timers = no_timers;
+  congestion = first_congestion;
   pending_error = None;
   released = false;
   owes_reset = false;

@@ -22,29 +22,33 @@ after_window_update s number ack window = if updates_window s number ack then re
 abbrev pub unsent : Sending → ℕ
 unsent s = length s.held - outstanding s
 
+-- the lesser of the peer's window and the congestion window: how many numbers may be outstanding by new octets (RFC 5681 section 3.1)
+abbrev pub open_window : Sending → ℕ → ℕ
+open_window s cwnd = min s.window cwnd
+
 -- the usable window: how many numbers may go out beside those that are outstanding: U
-abbrev pub usable : Sending → ℕ
-usable s = s.window - outstanding s
+abbrev pub usable : Sending → ℕ → ℕ
+usable s cwnd = open_window s cwnd - outstanding s
 
 -- how many new octets may go out: min (D, U)
-abbrev pub sendable : Sending → ℕ
-sendable s = min (unsent s) (usable s)
+abbrev pub sendable : Sending → ℕ → ℕ
+sendable s cwnd = min (unsent s) (usable s cwnd)
 
 -- those of the next segment
-abbrev pub next_count : Sending → ℕ
-next_count s = min (sendable s) s.smss
+abbrev pub next_count : Sending → ℕ → ℕ
+next_count s cwnd = min (sendable s cwnd) s.smss
 
 -- A segment of new octets is worth its way (section 3.8.6.2.1): it is full; or nothing is outstanding, and it takes all that is held, or half the largest window that the peer ever advertised; or
 -- what is held waited for more as long as it may. So small segments wait for what is outstanding (Nagle, RFC 1122 section 4.2.3.4).
-abbrev pub is_worth_sending : Sending → Bool → Bool
-is_worth_sending s overridden =
-    nat_le s.smss (sendable s)
-    || ((outstanding s == 0) && (nat_le (unsent s) (usable s) || nat_le s.largest (2 * sendable s)))
+abbrev pub is_worth_sending : Sending → ℕ → Bool → Bool
+is_worth_sending s cwnd overridden =
+    nat_le s.smss (sendable s cwnd)
+    || ((outstanding s == 0) && (nat_le (unsent s) (usable s cwnd) || nat_le s.largest (2 * sendable s cwnd)))
     || overridden
 
 -- there are new octets that may go out and are not worth it yet
-abbrev pub waits_for_more : Sending → Bool → Bool
-waits_for_more s overridden = nat_lt 0 (sendable s) && not (is_worth_sending s overridden)
+abbrev pub waits_for_more : Sending → ℕ → Bool → Bool
+waits_for_more s cwnd overridden = nat_lt 0 (sendable s cwnd) && not (is_worth_sending s cwnd overridden)
 
 -- how many octets can still come
 abbrev pub receive_room : Receiving → ℕ

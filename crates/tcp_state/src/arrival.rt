@@ -1,22 +1,27 @@
 //! What an arriving segment does (RFC 9293 section 3.10.7).
 
-ghost use Rattle.std.specs.Prelude.{◌≡◌, ◌≤◌, ◌-◌, [], true, false, ◌&&◌, ◌||◌, not, if◌then◌else◌, IsTrue, ◌==◌};
+ghost use Rattle.std.specs.Prelude.{◌≡◌, ◌≤◌, ◌-◌, [], length, true, false, ◌&&◌, ◌||◌, not, if◌then◌else◌, IsTrue, ◌==◌};
 ghost use Rattle.tcp_state.specs.View.{is_opening, is_syn_sent, is_syn_received, is_closed, awaits_fin_ack, after_reset};
-ghost use Rattle.tcp_state.specs.Arrival.{after_segment, after_syn_ack, owing_ack, after_establishment, after_ack, is_read_on, after_window, after_text, after_acknowledging_segment, after_acceptable_segment, ends_by_syn, is_acceptable_to, fin_acknowledged, after_new_ack, after_fin, reset_error, after_rst_in_syn_sent, after_rst, is_acting_reset, ends_by_reset, is_right_syn_ack, is_simultaneous_syn, after_simultaneous_syn, fate, after_segment_at, after_heard, is_lost, is_read, brings_more, after_lost, repeats_fin, is_rejected, ends_opening, is_of_fin, may_delay, answers_probe, before, timed_by, begins_wait};
+ghost use Rattle.tcp_state.specs.Arrival.{after_segment, after_syn_ack, owing_ack, after_establishment, after_ack, is_read_on, after_window, after_text, after_acknowledging_segment, after_acceptable_segment, ends_by_syn, is_acceptable_to, fin_acknowledged, after_new_ack, after_fin, reset_error, after_rst_in_syn_sent, after_rst, is_acting_reset, ends_by_reset, is_right_syn_ack, is_simultaneous_syn, after_simultaneous_syn, fate, after_segment_at, after_heard, is_lost, is_read, brings_more, after_lost, repeats_fin, is_rejected, ends_opening, is_of_fin, may_delay, answers_probe, is_duplicate, before, is_moved, pace_heard, congestion_event_of, tells_loss, congestion_after, timed_by, begins_wait};
 ghost use Rattle.tcp_state.specs.declared.state.State.{State};
 ghost use Rattle.tcp_segment.specs.Segment.{smss_of};
 ghost use Rattle.tcp_segment.specs.Wire.{past};
 ghost use Rattle.tcp_state.specs.Stream.{outstanding, is_new_ack, after_syn};
 ghost use Rattle.tcp_state.specs.Windows.{after_syn_heard};
+ghost use Rattle.tcp_state.specs.Pace.{pace_lost};
+ghost use Rattle.congestion.specs.Window.{initial_window};
+ghost use Rattle.congestion.specs.Events.{after_event};
+ghost use Rattle.congestion.specs.Events.Event.{NewAck};
 
 use crate::buffers::CAPACITY;
 use crate::connection::{Connection, Fate};
 use crate::state::State;
 use clock::Moment;
+use congestion::Cwnd;
 use retransmit::Timers;
 use tcp_segment::{Seq, TcpView};
 
-/// What the clock has to know of a connection before a segment and of the segment.
+/// What the clock and the congestion window have to know of a connection before a segment and of the segment.
 #[derive(Clone, Copy)]
 pub(crate) struct Before {
     state: State,
@@ -24,6 +29,8 @@ pub(crate) struct Before {
     owes_reset: bool,
     repeats_fin: bool,
     answers_probe: bool,
+    is_duplicate: bool,
+    held: u32,
 }
 
 impl Connection {
@@ -43,7 +50,7 @@ impl Connection {
         fate
     }
 
-    /// What the clock has to know before a segment is heard.
+    /// What the clock and the congestion window have to know before a segment is heard.
     fn before(&self, segment: &TcpView<'_>) -> Before
         ensures { result ≡ before self.now segment.now }
     {
@@ -53,7 +60,22 @@ impl Connection {
             owes_reset: self.owes_reset,
             repeats_fin: self.repeats_fin(segment),
             answers_probe: self.answers_probe(segment),
+            is_duplicate: self.is_duplicate(segment),
+            held: self.sender.held_len() as u32,
         }
+    }
+
+    /// Whether a segment is a duplicate ACK (RFC 5681 section 2).
+    fn is_duplicate(&self, segment: &TcpView<'_>) -> bool
+        ensures { result ≡ is_duplicate self.now segment.now }
+    {
+        !self.state.is_opening()
+            && self.is_read(segment)
+            && self.sender.outstanding() > 0
+            && segment.payload().is_empty()
+            && !segment.flags().fin
+            && segment.acknowledgement() == self.sender.una()
+            && u32::from(segment.window()) == self.sender.window()
     }
 
     /// Whether a segment shows that a peer whose window is closed is there.
@@ -71,17 +93,56 @@ impl Connection {
     fn note_heard(&mut self, before: Before, now: Moment)
         ensures { self.new ≡ timed_by before self.old now }
     {
-        let moved = self.sender.una() != before.una;
+        let moved = before.una != self.sender.una();
+        self.note_progress(before, moved, now);
+        self.note_signal(before, moved);
+        if before.starts_wait(self.state, self.owes_reset) {
+            self.since = now;
+        }
+        self.clock(moved, now);
+    }
+
+    /// A segment that moved SND.UNA is progress, and so is one that answers a probe.
+    fn note_progress(&mut self, before: Before, moved: bool, now: Moment)
+        requires { moved ≡ is_moved before self.old }
+        ensures { self.new ≡ record self.old { pace = pace_heard before self.old now } }
+    {
         if moved {
             self.pace
                 .acknowledge(self.sender.una(), before.state.is_opening(), now);
         } else if before.answers_probe {
             self.pace.progress();
         }
-        if before.starts_wait(self.state, self.owes_reset) {
-            self.since = now;
+    }
+
+    /// The congestion window takes what a segment is to it, and by the third duplicate ACK the segment at SND.UNA goes out again.
+    fn note_signal(&mut self, before: Before, moved: bool)
+        requires { moved ≡ is_moved before self.old }
+        ensures { self.new ≡ record self.old {
+          pace = if tells_loss (congestion_event_of before self.old) self.old.congestion then pace_lost self.old.pace (outstanding self.old.sending) else self.old.pace;
+          congestion = congestion_after before self.old;
+        } }
+    {
+        if self.state == State::Closed {
+            return;
         }
-        self.clock(moved, now);
+        if moved {
+            self.note_acknowledged(before);
+        } else if before.is_duplicate && self.congestion.duplicate(self.sender.outstanding()) {
+            self.pace.mark_lost(self.sender.outstanding());
+        }
+    }
+
+    /// The congestion window begins where our SYN is acknowledged, and else takes the octets that are.
+    fn note_acknowledged(&mut self, before: Before)
+        ensures { self.new ≡ record self.old { congestion = if is_opening before.state then initial_window self.old.sending.smss self.old.pace.syn_resent else after_event self.old.congestion (NewAck (before.held - length self.old.sending.held)) } }
+    {
+        if before.state.is_opening() {
+            self.congestion = Cwnd::new(self.sender.smss() as u16, self.pace.is_syn_resent());
+        } else {
+            let left = self.sender.held_len() as u32;
+            self.congestion.acked(before.held.saturating_sub(left));
+        }
     }
 
     /// Takes a segment, without the clock.
@@ -373,7 +434,7 @@ impl Connection {
         ensures last { result ≡ true → outstanding self.now.sending ≤ past acknowledgement.0 self.now.sending.una }
     {
         let gained = acknowledgement.past(self.sender.una()) as usize;
-        self.state.awaits_fin_ack() && self.sender.held().len() < gained
+        self.state.awaits_fin_ack() && self.sender.held_len() < gained
     }
 
     /// SND.UNA moves to an acknowledgement.

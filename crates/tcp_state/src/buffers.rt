@@ -5,7 +5,7 @@ ghost use Rattle.tcp_state.specs.declared.buffers.TheConstants.{CAPACITY};
 
 use std::alloc::{AllocError, Global};
 use std::marker::Model;
-use stream_buf::RecvBuf;
+use stream_buf::{RecvBuf, SendBuf};
 
 /// The octets that each of a connection's two buffers holds at most.
 pub const CAPACITY: usize = 65_535;
@@ -15,22 +15,22 @@ pub const CAPACITY: usize = 65_535;
 /// A clause sees them as the octets that each has room for.
 #[derive(Drop)]
 pub struct Buffers {
-    pub(crate) send: Vec<u8>,
+    pub(crate) send: SendBuf,
     pub(crate) receive: RecvBuf,
 }
 
 impl Model for Buffers {
-    ghost use Rattle.std.specs.Prelude.{◌≡◌, ◌≤◌, []};
-    ghost use Rattle.std.specs.Vec.{vec_capacity};
+    ghost use Rattle.std.specs.Prelude.{◌≡◌};
+    ghost use Rattle.stream_buf.specs.Sending.{nothing_held};
     ghost use Rattle.stream_buf.specs.Receiving.{nothing_received};
     ghost use Rattle.tcp_state.specs.declared.buffers.TheConstants.{CAPACITY};
     ghost use Rattle.tcp_state.specs.Halves.{Room};
 
     ghost Value = { Room };
 
-    ghost view = { λ b. record { send = vec_capacity b.send; receive = b.receive.capacity } };
+    ghost view = { λ b. record { send = b.send.capacity; receive = b.receive.capacity } };
 
-    ghost invariant = { λ b. (b.send.items ≡ []) × (CAPACITY ≤ vec_capacity b.send) × (b.receive ≡ nothing_received CAPACITY) };
+    ghost invariant = { λ b. (b.send ≡ nothing_held CAPACITY) × (b.receive ≡ nothing_received CAPACITY) };
 }
 
 impl Buffers {
@@ -39,7 +39,7 @@ impl Buffers {
         ensures send { IfOk result (λ buffers. buffers.send ≡ CAPACITY) }
         ensures receive { IfOk result (λ buffers. buffers.receive ≡ CAPACITY) }
     {
-        let send = Vec::with_capacity(alloc, CAPACITY)?;
+        let send = SendBuf::with_capacity(alloc, CAPACITY)?;
         let receive = RecvBuf::with_capacity(alloc, CAPACITY)?;
         Ok(Buffers { send, receive })
     }

@@ -11,10 +11,11 @@ use crate::receiver::Receiver;
 use crate::sender::Sender;
 use crate::state::State;
 use clock::Moment;
+use congestion::Cwnd;
 use ipv4::Endpoint;
 use retransmit::Timers;
 use std::marker::Model;
-use tcp_segment::{Seq, TcpView};
+use tcp_segment::{DEFAULT_MSS, Seq, TcpView};
 
 /// What becomes of a connection's place in the table.
 #[derive(Clone, Copy, Debug, PartialEq, Eq)]
@@ -42,6 +43,7 @@ pub struct Connection {
     pub(crate) delays_ack: bool,
     pub(crate) pace: Pace,
     pub(crate) timers: Timers,
+    pub(crate) congestion: Cwnd,
     pub(crate) pending_error: Option<Refusal>,
     pub(crate) is_released: bool,
     pub(crate) owes_reset: bool,
@@ -77,6 +79,7 @@ impl Connection {
             delays_ack: false,
             pace: Pace::new(),
             timers: Timers::new(),
+            congestion: Cwnd::new(DEFAULT_MSS, false),
             pending_error: None,
             is_released: false,
             owes_reset: false,
@@ -110,6 +113,7 @@ impl Connection {
             delays_ack: false,
             pace: Pace::new(),
             timers: Timers::new(),
+            congestion: Cwnd::new(DEFAULT_MSS, false),
             pending_error: None,
             is_released: false,
             owes_reset: false,

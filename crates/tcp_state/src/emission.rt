@@ -3,8 +3,9 @@
 ghost use Rattle.std.specs.Prelude.{◌≡◌, ◌+◌, ◌<◌, ◌≤◌, ◌++◌, length, drop, IfSome, MatchOption, option_map, is_some, if◌then◌else◌, ◌||◌, ◌==◌, ◌^◌, true, false, Some};
 ghost use Rattle.tcp_state.specs.View.{is_opening, is_syn_sent, most_outstanding};
 ghost use Rattle.tcp_state.specs.Stream.{outstanding};
+ghost use Rattle.tcp_segment.specs.declared.TheConstants.{MSS};
 ghost use Rattle.tcp_state.specs.Timing.{probes};
-ghost use Rattle.tcp_state.specs.Due.{MayGoOut, IsHeld, first_due, ack_due, again, goes_again, again_from, sends_new, new_octets, sends_fin, fin_alone, new_due, probe_stretch, numbers_of, end_of, flags_of, flags_of_stretch, number_of, octets_of, octets_of_stretch, window_of, head_of, segment_octets, emitted_len, after_emitted, after_going_out, after_ack_paid, after_numbers, after_resent, after_first_sent, after_new_octets, brings_new_octets, after_stretch, after_probe, after_syn_out};
+ghost use Rattle.tcp_state.specs.Due.{MayGoOut, IsHeld, first_due, ack_due, again, goes_again, again_from, sends_new, new_octets, sends_fin, fin_alone, new_due, probe_stretch, numbers_of, end_of, flags_of, flags_of_stretch, number_of, octets_of, window_of, head_of, segment_octets, emitted_len, after_emitted, after_going_out, after_ack_paid, after_numbers, after_resent, after_first_sent, after_new_octets, brings_new_octets, after_stretch, after_probe, after_syn_out};
 
 use crate::connection::Connection;
 use crate::state::State;
@@ -93,7 +94,7 @@ impl Connection {
         (self.owes_ack || is_window_told).then_some(Due::Ack)
     }
 
-    /// What goes out again from the resend mark on, within the peer's window.
+    /// What goes out again from the resend mark on, within both windows.
     fn again_due(&self) -> Option<Due>
         requires { is_opening self.now.state ≡ false }
         ensures first { result ≡ again_from self.now self.now.pace.mark }
@@ -107,7 +108,7 @@ impl Connection {
     fn goes_again(&self, mark: u32) -> bool
         ensures { result ≡ goes_again self.now mark }
     {
-        mark == 0 || mark < self.sender.window()
+        mark == 0 || mark < self.sender.open_window(self.congestion.window())
     }
 
     /// What is outstanding from a distance past SND.UNA on, as much as one segment has room for.
@@ -117,7 +118,7 @@ impl Connection {
         ensures value { result ≡ again self.now mark }
         ensures held { IsHeld self.now result }
     {
-        let (held, outstanding) = (self.sender.held().len(), self.sender.outstanding() as usize);
+        let (held, outstanding) = (self.sender.held_len(), self.sender.outstanding() as usize);
         let offset = mark as usize;
         let count = held
             .min(outstanding)
@@ -152,7 +153,11 @@ impl Connection {
     fn sends_new(&self) -> bool
         ensures { result ≡ sends_new self.now }
     {
-        self.sender.sendable() > 0 && self.sender.is_worth_sending(self.pace.is_overridden())
+        let cwnd = self.congestion.window();
+        self.sender.sendable(cwnd) > 0
+            && self
+                .sender
+                .is_worth_sending(cwnd, self.pace.is_overridden())
     }
 
     /// The new octets of the next segment.
@@ -164,7 +169,7 @@ impl Connection {
     {
         Stretch {
             offset: self.sender.outstanding() as usize,
-            count: self.sender.next_count(),
+            count: self.sender.next_count(self.congestion.window()),
             fin: false,
         }
     }
@@ -175,7 +180,7 @@ impl Connection {
     {
         let outstanding = self.sender.outstanding();
         self.state.awaits_fin_ack()
-            && outstanding as usize == self.sender.held().len()
+            && outstanding as usize == self.sender.held_len()
             && outstanding < self.sender.window()
     }
 
@@ -229,10 +234,9 @@ impl Connection {
     {
         let (local, peer) = (self.local.addr, self.peer.addr);
         let head = self.head(due);
-        let octets = self.octets(due);
-        let start = head.len();
-        out[start..start + octets.len()].copy_from_slice(octets);
-        head.emit(local, peer, octets.len(), out)
+        let (start, count) = (head.len(), self.octet_count(due));
+        self.copy_octets(due, &mut out[start..start + count]);
+        head.emit(local, peer, count, out)
     }
 
     /// What a probe brings.
@@ -247,24 +251,30 @@ impl Connection {
         }
     }
 
-    /// The octets of the segment for what is due.
-    fn octets(&self, due: Due) -> &[u8]
+    /// How many octets the segment for what is due brings.
+    fn octet_count(&self, due: Due) -> usize
         requires { MayGoOut self.now due }
-        ensures { result.now ≡ octets_of self.now due }
+        ensures count { result ≡ length (octets_of self.now due) }
+        ensures bound { result ≤ MSS }
     {
         match due {
-            Due::Text(stretch) => self.octets_of(stretch),
-            Due::Probe => self.octets_of(self.probe_stretch()),
-            Due::Rst | Due::Syn | Due::Ack => &[],
+            Due::Text(stretch) => stretch.count,
+            Due::Probe => self.probe_stretch().count,
+            Due::Rst | Due::Syn | Due::Ack => 0,
         }
     }
 
-    /// The octets of a stretch.
-    fn octets_of(&self, stretch: Stretch) -> &[u8]
-        requires { IsHeld self.now stretch }
-        ensures { result.now ≡ octets_of_stretch self.now stretch }
+    /// Fills `out`, which has room for just them, with the octets of the segment for what is due.
+    fn copy_octets(&self, due: Due, out: &mut [u8])
+        requires may { MayGoOut self.now due }
+        requires room { length out.old ≡ length (octets_of self.now due) }
+        ensures { out.new ≡ octets_of self.now due }
     {
-        &self.sender.held()[stretch.offset..stretch.offset + stretch.count]
+        match due {
+            Due::Text(stretch) => self.sender.copy_at(stretch.offset, out),
+            Due::Probe => self.sender.copy_at(0, out),
+            Due::Rst | Due::Syn | Due::Ack => {}
+        }
     }
 
     /// The header of the segment for what is due.
@@ -336,7 +346,7 @@ impl Connection {
         let mut flags = Flags::default();
         flags.ack = true;
         flags.fin = stretch.fin;
-        flags.psh = stretch.count > 0 && stretch.offset + stretch.count == self.sender.held().len();
+        flags.psh = stretch.count > 0 && stretch.offset + stretch.count == self.sender.held_len();
         flags
     }
 
@@ -348,7 +358,7 @@ impl Connection {
         match due {
             Due::Rst => self.owes_reset = false,
             Due::Syn => {
-                self.note_numbers(0, 1, now);
+                self.note_syn(now);
                 if self.state == State::SynReceived {
                     self.pay_ack();
                 }
@@ -362,6 +372,18 @@ impl Connection {
                 self.pay_ack();
             }
             Due::Ack => self.pay_ack(),
+        }
+    }
+
+    /// Our SYN went out at this moment.
+    fn note_syn(&mut self, now: Moment)
+        requires { is_opening self.old.state ≡ true }
+        ensures { self.new ≡ after_syn_out self.old now }
+    {
+        let is_again = self.sender.outstanding() > 0;
+        self.note_numbers(0, 1, now);
+        if is_again {
+            self.pace.note_syn_again();
         }
     }
 
@@ -384,7 +406,7 @@ impl Connection {
         ensures value { result ≡ end_of stretch }
         ensures most { result ≤ most_outstanding self.now }
     {
-        let held = self.sender.held().len();
+        let held = self.sender.held_len();
         (stretch.offset + stretch.numbers()).min(held + 1) as u32
     }
 

@@ -1,6 +1,6 @@
 //! Laws over the definitions alone: functions with nothing to do, whose contracts are the laws.
 
-ghost use Rattle.std.specs.Prelude.{◌≡◌, ℕ, ◌+◌, ◌-◌, ◌<◌, ◌≤◌, ◌==◌, ◌≢◌, nat_lt, ◌^◌, ◌⊎◌, ◌↔◌, ◌||◌, List, ◌++◌, slice_index_or, length, true, false, if◌then◌else◌, Some, None, is_some};
+ghost use Rattle.std.specs.Prelude.{◌≡◌, ℕ, ◌+◌, ◌-◌, ◌<◌, ◌≤◌, ◌==◌, ◌≢◌, nat_lt, ◌^◌, ◌⊎◌, ◌↔◌, ◌||◌, ◌&&◌, List, ◌++◌, slice_index_or, length, true, false, if◌then◌else◌, Some, None, is_some};
 ghost use Rattle.ipv4.specs.declared.addr.Endpoint.{Endpoint};
 ghost use Rattle.tcp_segment.specs.Segment.{Segment, span_of};
 ghost use Rattle.tcp_state.specs.declared.calls.Refusal.{Refusal};
@@ -9,7 +9,7 @@ ghost use Rattle.clock.specs.Moments.{has_come};
 ghost use Rattle.tcp_state.specs.declared.connection.Fate.{Fate};
 ghost use Rattle.tcp_state.specs.declared.state.State.{State};
 ghost use Rattle.tcp_state.specs.declared.emission.Due.{Due};
-ghost use Rattle.tcp_state.specs.View.{View, IsSound, is_closed, is_syn_sent, is_over, is_read_closed, reset_since, opened_actively};
+ghost use Rattle.tcp_state.specs.View.{View, IsSound, is_opening, is_closed, is_syn_sent, is_over, is_read_closed, reset_since, opened_actively};
 ghost use Rattle.tcp_segment.specs.Wire.{wire, IsBefore};
 ghost use Rattle.tcp_state.specs.Numbers.{is_before};
 ghost use Rattle.tcp_state.specs.Halves.{Sending, Receiving};
@@ -23,11 +23,13 @@ ghost use Rattle.retransmit.specs.Deadlines.{deadline_of};
 ghost use Rattle.tcp_state.specs.declared.pace.Timed.{Timed};
 ghost use Rattle.tcp_state.specs.declared.emission.Stretch.{Stretch};
 ghost use Rattle.tcp_state.specs.Timing.{KeepsTime, wants_out, after_tick, deadline};
-ghost use Rattle.tcp_state.specs.Arrival.{opened_passively, fate, is_acceptable_to, is_receiving, is_read, after_ack, after_heard, after_segment_at};
-ghost use Rattle.tcp_state.specs.Due.{MayGoOut, first_due, end_of, sends_again, after_emitted};
+ghost use Rattle.congestion.specs.Window.{is_recovering, third_is_next};
+ghost use Rattle.tcp_state.specs.Congestion.{KeepsCongestion, after_signal};
+ghost use Rattle.tcp_state.specs.Arrival.{opened_passively, fate, is_acceptable_to, is_receiving, is_read, is_duplicate, after_ack, after_heard, after_segment_at};
+ghost use Rattle.tcp_state.specs.Due.{MayGoOut, first_due, end_of, sends_again, again, after_emitted};
 ghost use Rattle.tcp_state.specs.Unreachable.{IsRefused};
 ghost use Rattle.tcp_state.specs.Simultaneous.{crossed, AnswersSyn, HasOpened};
-ghost use Rattle.tcp_state.specs.Edges.{Event, after_event, fate_by, moment_of, state_after, IsEdge, ends_by, is_cause, may_raise};
+ghost use Rattle.tcp_state.specs.Edges.{Event, after_event, fate_by, moment_of, state_after, IsEdge, ends_by, is_cause, may_raise, congestion_event_by};
 
 /// One event joins only states that the table of edges joins, or leaves the state.
 pub fn events_follow_edges()
@@ -163,7 +165,7 @@ pub fn numbers_never_go_back()
 
 /// While our SYN is not acknowledged, octets are held, or our FIN is not acknowledged, a segment that takes numbers is due, or there is a deadline, whatever the peer's window.
 pub fn what_waits_goes_out()
-    ensures { (v : View) → IsSound v → KeepsTime v → HasToSend v → (takes_numbers (first_due v) || is_some (deadline v)) ≡ true }
+    ensures { (v : View) → IsSound v → KeepsTime v → KeepsCongestion v → HasToSend v → (takes_numbers (first_due v) || is_some (deadline v)) ≡ true }
 {}
 
 /// The timers run exactly where something waits for them: when a connection opens, and after each event (RFC 6298 section 5, RFC 9293 sections 3.8.1, 3.8.6.1 and 3.8.6.3).
@@ -181,10 +183,43 @@ pub fn timers_are_set_soon()
         → deadline_of v.timers kind ≡ Some deadline }
 {}
 
-/// New octets and the FIN go out within the window that the peer advertised (RFC 9293 section 3.8.6).
+/// New octets and the FIN go out within the window that the peer advertised (RFC 9293 section 3.8.6), and new octets within the congestion window too (RFC 5681 section 3.1).
 pub fn new_numbers_keep_the_window()
-    ensures { (v : View) (stretch : Stretch) → IsSound v → first_due v ≡ Some (Due.Text stretch) → outstanding v.sending ≤ stretch.offset
+    ensures window { (v : View) (stretch : Stretch) → IsSound v → first_due v ≡ Some (Due.Text stretch) → outstanding v.sending ≤ stretch.offset
         → (stretch.offset ≡ outstanding v.sending) × (end_of stretch ≤ v.sending.window) }
+    ensures congestion { (v : View) (stretch : Stretch) → IsSound v → first_due v ≡ Some (Due.Text stretch) → outstanding v.sending ≤ stretch.offset
+        → 0 < stretch.count → end_of stretch ≤ v.congestion.cwnd }
+{}
+
+/// The congestion window is one that events lead to, and counts in segments of the size that the peer takes: when a connection opens, and after each event. So it is never less than such a segment
+/// once it is open (RFC 5681 section 3.1).
+pub fn the_congestion_window_is_kept()
+    ensures opened { (local peer : Endpoint) (isn : ℕ) → KeepsCongestion (opened_actively local peer isn) }
+    ensures accepted { (local peer : Endpoint) (isn : ℕ) (syn : Segment) → KeepsCongestion (opened_passively local peer isn syn) }
+    ensures stays { (v : View) (e : Event) → IsSound v → KeepsCongestion v → KeepsCongestion (after_event v e) }
+    ensures least { (v : View) → KeepsCongestion v → (is_opening v.state || is_closed v.state) ≡ false → v.sending.smss ≤ v.congestion.cwnd }
+{}
+
+/// Each event of a connection is one event of its congestion window, or none (RFC 5681 sections 3.1 and 3.2): an ACK of new octets, a duplicate one, or the expiry of the retransmission timer. The window begins
+/// where our SYN is acknowledged: with one segment where that expired and went out again.
+pub fn the_congestion_window_moves_by_events()
+    ensures { (v : View) (e : Event) → (after_event v e).congestion ≡ after_signal v.congestion (congestion_event_by v e) (after_event v e).sending.smss (after_event v e).pace.syn_resent }
+{}
+
+/// A segment raises the congestion window by one segment at most, where it begins and ends no recovery (RFC 5681 section 3.1).
+pub fn one_segment_raises_the_window_by_one()
+    ensures { (v : View) (s : Segment) (now : Moment) → KeepsCongestion v → is_opening v.state ≡ false → is_recovering v.congestion ≡ false
+        → is_recovering (after_segment_at v s now).congestion ≡ false → (after_segment_at v s now).congestion.cwnd ≤ v.congestion.cwnd + v.congestion.smss }
+{}
+
+/// The third duplicate ACK in a row, and no other segment, sends the segment at SND.UNA again, and that alone (RFC 5681 section 3.2).
+pub fn the_third_duplicate_resends()
+    ensures third { (v : View) (s : Segment) (now : Moment) → IsSound v → is_closed v.state ≡ false → is_duplicate v s ≡ true → third_is_next v.congestion ≡ true
+        → (first_due (after_segment_at v s now) ≡ Some (Due.Text (again (after_segment_at v s now) 0))) × ((after_segment_at v s now).pace.once ≡ true) }
+    ensures others { (v : View) (s : Segment) (now : Moment) → IsSound v → v.pace.mark ≡ None → is_opening v.state ≡ false → is_duplicate v s && third_is_next v.congestion ≡ false
+        → (after_segment_at v s now).pace.mark ≡ None }
+    ensures alone { (v : View) (stretch : Stretch) (now : Moment) → v.pace.once ≡ true → nat_lt stretch.offset (outstanding v.sending) ≡ true
+        → (after_emitted v (Due.Text stretch) now).pace.mark ≡ None }
 {}
 
 /// What goes out again, or as a probe, is measured no longer (RFC 6298 section 3, Karn's algorithm).

@@ -1,7 +1,7 @@
 //! What goes out again, and what the clock measures of a round trip (RFC 6298, RFC 9293 sections 3.8.1 and 3.8.6.1).
 
-ghost use Rattle.std.specs.Prelude.{◌≡◌, ◌<◌, ◌&&◌, if◌then◌else◌, true, false, None};
-ghost use Rattle.tcp_state.specs.Pace.{IsPaced, first_pace, stopped, mark_past, pace_resent, pace_sent, pace_probed, pace_expired, pace_probes, mark_moved, unmarked, is_timed_by, pace_acknowledged};
+ghost use Rattle.std.specs.Prelude.{◌≡◌, ◌<◌, ◌&&◌, if◌then◌else◌, true, false, None, ◌||◌, nat_lt};
+ghost use Rattle.tcp_state.specs.Pace.{IsPaced, first_pace, stopped, mark_past, pace_resent, pace_syn_again, pace_sent, pace_probed, pace_expired, pace_probes, mark_moved, pace_lost, unmarked, is_timed_by, pace_acknowledged};
 
 use clock::Moment;
 use retransmit::Rto;
@@ -28,12 +28,14 @@ pub struct Timed {
 #[derive(Drop)]
 pub(crate) struct Pace {
     mark: Option<u32>,
+    once: bool,
     timeout: Rto,
     timed: Option<Timed>,
     expiries: u32,
     interval: u32,
     owes_probe: bool,
     overridden: bool,
+    syn_resent: bool,
 }
 
 impl Model for Pace {
@@ -57,12 +59,14 @@ impl Pace {
         let interval = timeout.rto();
         Pace {
             mark: None,
+            once: false,
             timeout,
             timed: None,
             expiries: 0,
             interval,
             owes_probe: false,
             overridden: false,
+            syn_resent: false,
         }
     }
 
@@ -108,12 +112,20 @@ impl Pace {
         self.overridden
     }
 
+    /// Whether our SYN expired, and went out again.
+    pub(crate) fn is_syn_resent(&self) -> bool
+        ensures { result ≡ self.now.syn_resent }
+    {
+        self.syn_resent
+    }
+
     /// Nothing is outstanding or waits any longer.
     pub(crate) fn stop(&mut self)
         ensures after { self.new ≡ stopped self.old }
         ensures paced { IsPaced self.new }
     {
         self.mark = None;
+        self.once = false;
         self.timed = None;
         self.interval = self.timeout.rto();
         self.owes_probe = false;
@@ -138,6 +150,15 @@ impl Pace {
         }
     }
 
+    /// The segment at SND.UNA counts as lost: it alone goes out again, of so many numbers that are outstanding.
+    pub(crate) fn mark_lost(&mut self, outstanding: u32)
+        ensures after { self.new ≡ pace_lost self.old outstanding }
+        ensures paced { IsPaced self.new }
+    {
+        self.mark = mark_past(0, outstanding);
+        self.once = true;
+    }
+
     /// Nothing is outstanding.
     pub(crate) fn unmark(&mut self)
         ensures after { self.new ≡ unmarked self.old }
@@ -151,8 +172,21 @@ impl Pace {
         ensures after { self.new ≡ pace_resent self.old end outstanding }
         ensures paced { IsPaced self.new }
     {
-        self.mark = mark_past(end, outstanding);
+        self.mark = if self.once {
+            None
+        } else {
+            mark_past(end, outstanding)
+        };
+        self.once = false;
         self.timed = None;
+    }
+
+    /// Our SYN went out again.
+    pub(crate) fn note_syn_again(&mut self)
+        ensures after { self.new ≡ pace_syn_again self.old }
+        ensures paced { IsPaced self.new }
+    {
+        self.syn_resent = self.syn_resent || self.expiries > 0;
     }
 
     /// New numbers went out, up to this one.
@@ -197,6 +231,7 @@ impl Pace {
         ensures paced { IsPaced self.new }
     {
         self.mark = mark_past(0, outstanding);
+        self.once = false;
         self.timeout.expire();
         self.expiries += 1;
     }

@@ -1,20 +1,21 @@
 //! The sending half: what the caller gave and the peer has not acknowledged (RFC 9293 section 3.3.1).
 
-ghost use Rattle.std.specs.Prelude.{◌≡◌, ◌≤◌, ◌==◌, ◌++◌, [], length, max};
-ghost use Rattle.std.specs.Vec.{vec_capacity};
+ghost use Rattle.std.specs.Prelude.{◌≡◌, ◌+◌, ◌≤◌, ◌==◌, ◌++◌, [], length, take, drop, max};
+ghost use Rattle.stream_buf.specs.Sending.{nothing_held};
 ghost use Rattle.tcp_segment.specs.Wire.{past};
 ghost use Rattle.tcp_state.specs.Halves.{Sending};
 ghost use Rattle.tcp_state.specs.Stream.{send_room, outstanding, is_new_ack, sending_from, after_syn_acknowledged, after_acknowledged, after_sent};
-ghost use Rattle.tcp_state.specs.Windows.{after_syn_heard, after_window_update, unsent, usable, sendable, next_count, is_worth_sending, waits_for_more};
+ghost use Rattle.tcp_state.specs.Windows.{after_syn_heard, after_window_update, open_window, unsent, usable, sendable, next_count, is_worth_sending, waits_for_more};
 
 use crate::buffers::CAPACITY;
 use std::marker::Model;
+use stream_buf::SendBuf;
 use tcp_segment::{DEFAULT_MSS, Seq};
 
 /// The sending half of a connection.
 #[derive(Drop)]
 pub(crate) struct Sender {
-    held: Vec<u8>,
+    buffer: SendBuf,
     una: Seq,
     nxt: Seq,
     window: u32,
@@ -25,27 +26,25 @@ pub(crate) struct Sender {
 }
 
 impl Model for Sender {
-    ghost use Rattle.std.specs.Prelude.{◌≤◌, length, vec_len};
-    ghost use Rattle.std.specs.Vec.{vec_capacity};
+    ghost use Rattle.std.specs.Prelude.{◌≡◌, ◌≤◌, length};
     ghost use Rattle.tcp_state.specs.Halves.{Sending};
     ghost use Rattle.tcp_state.specs.declared.buffers.TheConstants.{CAPACITY};
 
     ghost Value = { Sending };
 
-    ghost view = { λ s. record { held = s.held.items; una = s.una.0; nxt = s.nxt.0; window = s.window; largest = s.largest; wl1 = s.wl1.0; wl2 = s.wl2.0; smss = s.smss } };
+    ghost view = { λ s. record { held = s.buffer.held; una = s.una.0; nxt = s.nxt.0; window = s.window; largest = s.largest; wl1 = s.wl1.0; wl2 = s.wl2.0; smss = s.smss } };
 
-    ghost invariant = { λ s. (length s.held.items ≤ CAPACITY) × (CAPACITY ≤ vec_capacity s.held) };
+    ghost invariant = { λ s. (s.buffer.capacity ≡ CAPACITY) × (length s.buffer.held ≤ CAPACITY) };
 }
 
 impl Sender {
     /// Nothing is sent, and the SYN will have the number `isn`.
-    pub(crate) fn new(buffer: Vec<u8>, isn: Seq) -> Sender
-        requires empty { buffer.items ≡ [] }
-        requires room { CAPACITY ≤ vec_capacity buffer }
+    pub(crate) fn new(buffer: SendBuf, isn: Seq) -> Sender
+        requires { buffer ≡ nothing_held CAPACITY }
         ensures { result ≡ sending_from isn.0 }
     {
         Sender {
-            held: buffer,
+            buffer,
             una: isn,
             nxt: isn,
             window: 0,
@@ -56,19 +55,27 @@ impl Sender {
         }
     }
 
-    /// The octets that are taken and not acknowledged.
-    pub(crate) fn held(&self) -> &[u8]
-        ensures value { result.now ≡ self.now.held }
-        ensures bound { length result.now ≤ CAPACITY }
+    /// How many octets are taken and not acknowledged.
+    pub(crate) fn held_len(&self) -> usize
+        ensures value { result ≡ length self.now.held }
+        ensures bound { result ≤ CAPACITY }
     {
-        &self.held
+        self.buffer.len()
+    }
+
+    /// Fills `out` with those from a place on.
+    pub(crate) fn copy_at(&self, offset: usize, out: &mut [u8])
+        requires { offset + length out.old ≤ length self.now.held }
+        ensures { out.new ≡ take (length out.old) (drop offset self.now.held) }
+    {
+        self.buffer.copy_at(offset, out);
     }
 
     /// Whether all octets that were taken are acknowledged.
     pub(crate) fn is_empty(&self) -> bool
         ensures { result ≡ (length self.now.held == 0) }
     {
-        self.held.is_empty()
+        self.buffer.is_empty()
     }
 
     /// SND.UNA, the oldest number that is not acknowledged.
@@ -89,7 +96,7 @@ impl Sender {
     pub(crate) fn room(&self) -> usize
         ensures { result ≡ send_room self.now }
     {
-        CAPACITY - self.held.len()
+        self.buffer.room()
     }
 
     /// How many numbers are sent and not acknowledged.
@@ -104,7 +111,7 @@ impl Sender {
         requires { length octets.now ≤ send_room self.old }
         ensures { self.new ≡ record self.old { held = self.old.held ++ octets.now } }
     {
-        self.held.extend_from_slice(octets).unwrap();
+        self.buffer.write(octets);
     }
 
     /// Takes what the peer's SYN says of it: its window and the segments that it takes.
@@ -136,7 +143,7 @@ impl Sender {
     pub(crate) fn abandon(&mut self)
         ensures { self.new ≡ record self.old { held = []; una = self.old.nxt } }
     {
-        self.held.clear();
+        self.buffer.acked(self.buffer.len());
         self.una = self.nxt;
     }
 
@@ -145,7 +152,7 @@ impl Sender {
         ensures { self.new ≡ after_acknowledged self.old acknowledgement.0 }
     {
         let gained = acknowledgement.past(self.una) as usize;
-        self.held.drain(..gained.min(self.held.len()));
+        self.buffer.acked(gained.min(self.buffer.len()));
         self.una = acknowledgement;
     }
 
@@ -189,46 +196,54 @@ impl Sender {
     fn unsent(&self) -> usize
         ensures { result ≡ unsent self.now }
     {
-        self.held.len().saturating_sub(self.outstanding() as usize)
+        self.held_len().saturating_sub(self.outstanding() as usize)
     }
 
-    /// How many numbers the peer's window takes beside those that are outstanding.
-    fn usable(&self) -> usize
-        ensures { result ≡ usable self.now }
+    /// The lesser of the peer's window and the congestion window: how many numbers may be outstanding by new octets.
+    pub(crate) fn open_window(&self, cwnd: u32) -> u32
+        ensures { result ≡ open_window self.now cwnd }
     {
-        self.window.saturating_sub(self.outstanding()) as usize
+        self.window.min(cwnd)
+    }
+
+    /// How many numbers both windows take beside those that are outstanding.
+    fn usable(&self, cwnd: u32) -> usize
+        ensures { result ≡ usable self.now cwnd }
+    {
+        self.open_window(cwnd).saturating_sub(self.outstanding()) as usize
     }
 
     /// How many new octets may go out.
-    pub(crate) fn sendable(&self) -> usize
-        ensures { result ≡ sendable self.now }
+    pub(crate) fn sendable(&self, cwnd: u32) -> usize
+        ensures { result ≡ sendable self.now cwnd }
     {
-        self.unsent().min(self.usable())
+        self.unsent().min(self.usable(cwnd))
     }
 
     /// How many new octets the next segment has.
-    pub(crate) fn next_count(&self) -> usize
-        ensures { result ≡ next_count self.now }
+    pub(crate) fn next_count(&self, cwnd: u32) -> usize
+        ensures { result ≡ next_count self.now cwnd }
     {
-        self.sendable().min(self.smss())
+        self.sendable(cwnd).min(self.smss())
     }
 
     /// Whether a segment of new octets is worth its way (RFC 9293 section 3.8.6.2.1), where they waited as long as they may or didn't.
-    pub(crate) fn is_worth_sending(&self, is_overridden: bool) -> bool
-        ensures { result ≡ is_worth_sending self.now is_overridden }
+    pub(crate) fn is_worth_sending(&self, cwnd: u32, is_overridden: bool) -> bool
+        ensures { result ≡ is_worth_sending self.now cwnd is_overridden }
     {
-        let sendable = self.sendable();
+        let sendable = self.sendable(cwnd);
         let is_idle = self.outstanding() == 0;
         self.smss() <= sendable
-            || is_idle && (self.unsent() <= self.usable() || self.largest as usize <= 2 * sendable)
+            || is_idle
+                && (self.unsent() <= self.usable(cwnd) || self.largest as usize <= 2 * sendable)
             || is_overridden
     }
 
     /// Whether new octets that may go out wait for more.
-    pub(crate) fn waits_for_more(&self, is_overridden: bool) -> bool
-        ensures { result ≡ waits_for_more self.now is_overridden }
+    pub(crate) fn waits_for_more(&self, cwnd: u32, is_overridden: bool) -> bool
+        ensures { result ≡ waits_for_more self.now cwnd is_overridden }
     {
-        self.sendable() > 0 && !self.is_worth_sending(is_overridden)
+        self.sendable(cwnd) > 0 && !self.is_worth_sending(cwnd, is_overridden)
     }
 
     /// So many numbers from the oldest unacknowledged one on went out: SND.NXT is the later of what it was and the number after them.

@@ -44,7 +44,10 @@ impl Connection {
     fn awaits_more(&self) -> bool
         ensures { result ≡ awaits_more self.now }
     {
-        !self.state.is_opening() && self.sender.waits_for_more(self.pace.is_overridden())
+        !self.state.is_opening()
+            && self
+                .sender
+                .waits_for_more(self.congestion.window(), self.pace.is_overridden())
     }
 
     /// At the end of an event: the timers run, stop or begin as the connection wants them. `moved` tells whether the event moved
@@ -168,8 +171,10 @@ impl Connection {
         ensures { self.new ≡ after_expiry self.old now }
     {
         if self.timers.due(TimerKind::Retransmission, now) {
-            self.pace.expire(self.sender.outstanding());
+            let outstanding = self.sender.outstanding();
+            self.pace.expire(outstanding);
             self.timers.clear(TimerKind::Retransmission);
+            self.congestion.timeout(outstanding);
         } else if self.timers.due(TimerKind::Probe, now) {
             self.pace.probe();
             let deadline = now.after(u64::from(self.pace.interval()));

@@ -1,7 +1,7 @@
-//! What the clock does: small segments wait for more, acknowledgements wait for octets to ride on, what is lost goes out again, and a peer
+//! What the clock and the congestion window do: small segments wait for more, acknowledgements wait for octets to ride on, what is lost goes out again, and a peer
 //! that doesn't answer is given up.
 
-use super::{ACCEPTED, OPENING};
+use super::{ACCEPTED, OPENING, SLOW_START};
 
 /// Octets go out at once where nothing is in flight, and are read.
 const HELLO: &str = "a send 1 hello -> sent 5
@@ -95,7 +95,7 @@ a recv 1 10 -> E11 ETIMEDOUT
 a recv 1 10 -> E11 ETIMEDOUT
 ";
 
-/// Three segments are lost. At the expiry they go out again one after the other, from the first on.
+/// Three segments are lost. At the expiry the first goes out again, for which alone the congestion window has room. Its acknowledgement makes room for the others.
 const ALL_AGAIN: &str = "a fill 1 3000 -> sent 3000
 a emit -> frame 5 1514
 a emit -> frame 6 1514
@@ -105,41 +105,108 @@ a emit -> frame 7 134
 a emit -> none
 a tick 1000 -> ok
 a emit -> frame 8 1514
-a emit -> frame 9 1514
-a emit -> frame 10 134
 a emit -> none
-b deliver 9 0 -> taken
-b deliver 10 0 -> taken
-b count 2 9000 -> E8 EAGAIN
 b deliver 8 0 -> taken
-b count 2 9000 -> octets 3000
+b emit -> none
+b tick 200 -> ok
+b emit -> frame 9 60
+a deliver 9 0 -> taken
+a emit -> frame 10 1514
+a emit -> frame 11 134
+a emit -> none
+b deliver 11 0 -> taken
+b count 2 9000 -> octets 1460
+b deliver 10 0 -> taken
+b count 2 9000 -> octets 1540
+";
+
+const FILLED: &str = "a fill 1 65535 -> sent 65535
+";
+
+/// The window is closed. It opens when all is read, but the segment that tells so is lost. A probe goes out after a second, and is taken.
+const UPDATE_LOST: &str = "pass 0 -> a 0 b 0
+b tick 200 -> ok
+pass 0 -> a 0 b 1
+a fill 1 1 -> sent 1
+a emit -> none
+b count 2 65535 -> octets 65535
+b emit -> frame 59 60
+a tick 1000 -> ok
+a emit -> frame 60 60
+b deliver 60 0 -> taken
+b recv 2 10 -> octets x
 ";
 
 /// The window is closed, and a probes it with one octet, at first after the timeout and then after twice the time each. b answers with
 /// the window that it has. The one that opens it is lost, and the next probe finds it open.
-const PROBED: &str = "a fill 1 65535 -> sent 65535
-pass 0 -> a 44 b 1
-pass 0 -> a 1 b 0
-b tick 200 -> ok
+const PROBED: &str = "b tick 200 -> ok
 pass 0 -> a 0 b 1
 a send 1 y -> sent 1
 a emit -> none
 a tick 999 -> ok
 a emit -> none
 a tick 1000 -> ok
-a emit -> frame 52 60
+a emit -> frame 59 60
 a emit -> none
-b deliver 52 0 -> taken
-b emit -> frame 53 60
-a deliver 53 0 -> taken
+b deliver 59 0 -> taken
+b emit -> frame 60 60
+a deliver 60 0 -> taken
 a tick 2999 -> ok
 a emit -> none
 a tick 3000 -> ok
-a emit -> frame 54 60
+a emit -> frame 61 60
 b count 2 65535 -> octets 65535
-b emit -> frame 55 60
-b deliver 54 0 -> taken
+b emit -> frame 62 60
+b deliver 61 0 -> taken
 b count 2 9 -> octets 1
+";
+
+/// The first of three segments is lost. Those behind it, one of them twice, draw the same acknowledgement three times, and the third sends the first again, and it alone. The congestion window is then
+/// 2,920, half of what was in flight or two segments, and three segments more; so a new segment goes out too. Once the first has come, the window is 2,920.
+const FAST_RESEND: &str = "a fill 1 5840 -> sent 5840
+a emit -> frame 5 1514
+a emit -> frame 6 1514
+a emit -> frame 7 1514
+a emit -> none
+b deliver 6 0 -> taken
+b emit -> frame 8 60
+b deliver 7 0 -> taken
+b emit -> frame 9 60
+b deliver 7 0 -> taken
+b emit -> frame 10 60
+a deliver 8 0 -> taken
+a deliver 9 0 -> taken
+a emit -> none
+a deliver 10 0 -> taken
+a emit -> frame 11 1514
+a emit -> frame 12 1514
+a emit -> none
+b deliver 12 0 -> taken
+b emit -> frame 13 60
+a deliver 13 0 -> taken
+a emit -> none
+b deliver 11 0 -> taken
+b count 2 9000 -> octets 5840
+b emit -> frame 14 60
+a deliver 14 0 -> taken
+a fill 1 5840 -> sent 5840
+a emit -> frame 15 1514
+a emit -> frame 16 1514
+a emit -> none
+";
+
+/// Segments with octets of their own acknowledge nothing new, and are no duplicate acknowledgements all the same.
+const NO_DUPLICATES: &str = "a fill 1 100 -> sent 100
+a emit -> frame 5 154
+b fill 2 4380 -> sent 4380
+b emit -> frame 6 1514
+b emit -> frame 7 1514
+b emit -> frame 8 1514
+a deliver 6 0 -> taken
+a deliver 7 0 -> taken
+a deliver 8 0 -> taken
+a emit -> frame 9 60
+a emit -> none
 ";
 
 /// The clock moves what waits, and nothing else.
@@ -152,5 +219,8 @@ pub const TRANSCRIPTS: &[&[&str]] = &[
     &[OPENING, ACCEPTED, SECOND_SEGMENT],
     &[GIVEN_UP],
     &[OPENING, ACCEPTED, ALL_AGAIN],
-    &[OPENING, ACCEPTED, PROBED],
+    &[OPENING, ACCEPTED, FILLED, SLOW_START, PROBED],
+    &[OPENING, ACCEPTED, FILLED, SLOW_START, UPDATE_LOST],
+    &[OPENING, ACCEPTED, FAST_RESEND],
+    &[OPENING, ACCEPTED, NO_DUPLICATES],
 ];

@@ -1,14 +1,13 @@
 //! A reader that doesn't read: the window closes, and the writer waits.
 
-use super::{ACCEPTED, OPENING};
+use super::{ACCEPTED, OPENING, SLOW_START};
 
-/// 65,535 octets are 44 segments of 1,460, which go out at once, and 1,295 more, which wait until those are acknowledged: a small segment
-/// doesn't go out while others are in flight. Its own acknowledgement waits for 200 ms. Then the window is closed.
 const FILLED: &str = "a fill 1 70000 -> sent 65535
 a fill 1 1 -> E8 EAGAIN
-pass 0 -> a 44 b 1
-pass 0 -> a 1 b 0
-b tick 200 -> ok
+";
+
+/// The last acknowledgement waits for 200 ms. Then the window is closed.
+const CLOSED_WINDOW: &str = "b tick 200 -> ok
 pass 0 -> a 0 b 1
 ";
 
@@ -31,8 +30,12 @@ b count 2 2000000 -> E8 EAGAIN
 pass 0 -> a 0 b 1
 ";
 
-/// The other 64,075 octets are 43 segments of 1,460 and one of 1,295. Right behind that the end goes out.
-const READ_AT_LAST: &str = "pass 0 -> a 43 b 1
+/// The congestion window has grown to 18,815 octets: by 1,460 for each of nine acknowledgements, and by 1,295 for the last of those that filled the window. So the other 64,075
+/// octets go out in 12, 13, 14 and 4 segments of 1,460 and one of 1,295. Right behind that the end goes out.
+const READ_AT_LAST: &str = "pass 0 -> a 12 b 1
+pass 0 -> a 13 b 1
+pass 0 -> a 14 b 1
+pass 0 -> a 4 b 1
 pass 0 -> a 2 b 1
 b count 2 2000000 -> octets 64075
 b count 2 2000000 -> end
@@ -45,23 +48,23 @@ b state 2 -> CLOSE-WAIT
 const END_FINDS_NO_PLACE: &str = "a shutdown 1 -> ok
 a emit -> none
 a tick 1000 -> ok
-a emit -> frame 52 60
+a emit -> frame 59 60
 a emit -> none
-b deliver 52 0 -> taken
+b deliver 59 0 -> taken
 b state 2 -> ESTABLISHED
-b emit -> frame 53 60
-a deliver 53 0 -> taken
+b emit -> frame 60 60
+a deliver 60 0 -> taken
 a state 1 -> FIN-WAIT-1
 b count 2 2000000 -> octets 65535
 b count 2 2000000 -> E8 EAGAIN
-b emit -> frame 54 60
-a deliver 54 0 -> taken
+b emit -> frame 61 60
+a deliver 61 0 -> taken
 a emit -> none
 a tick 1999 -> ok
 a emit -> none
 a tick 2000 -> ok
-a emit -> frame 55 60
-b deliver 55 0 -> taken
+a emit -> frame 62 60
+b deliver 62 0 -> taken
 b state 2 -> CLOSE-WAIT
 b count 2 2000000 -> end
 ";
@@ -72,9 +75,18 @@ pub const TRANSCRIPTS: &[&[&str]] = &[
         OPENING,
         ACCEPTED,
         FILLED,
+        SLOW_START,
+        CLOSED_WINDOW,
         WAITING,
         READ_IN_PART,
         READ_AT_LAST,
     ],
-    &[OPENING, ACCEPTED, FILLED, END_FINDS_NO_PLACE],
+    &[
+        OPENING,
+        ACCEPTED,
+        FILLED,
+        SLOW_START,
+        CLOSED_WINDOW,
+        END_FINDS_NO_PLACE,
+    ],
 ];

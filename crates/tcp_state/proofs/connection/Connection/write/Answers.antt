@@ -1,5 +1,5 @@
-use Rattle.std.proofs.Common.{◌≡◌, ◌+◌, ◌-◌, ◌*◌, ◌≤◌, ◌++◌, length, drop, arith, rules, sym, ◌∙◌, ap, subst}
-use Rattle.tcp_state.specs.Due.{MayGoOut, head_of, octets_of, segment_octets, emitted_len}
+use Rattle.std.proofs.Common.{◌≡◌, ◌+◌, ◌-◌, ◌*◌, ◌≤◌, ◌++◌, length, drop, arith, rules, sym, ◌∙◌, ap}
+use Rattle.tcp_state.specs.Due.{head_of, octets_of, segment_octets, emitted_len}
 use Rattle.tcp_state.specs.Inside.{view_of}
 use Rattle.tcp_state.proofs.Framing.{framed}
 use Rattle.tcp_state.proofs.Sizes.{emitted_short}
@@ -13,15 +13,16 @@ returns-clause-bound c =
 
 pub returns-clause-frame : goal.returns-clause-frame
 returns-clause-frame c =
-    let octets = c.copy_from_slice.new.self in
+    let octets = c.copy_octets.new.out in
     let start = c.len-start.result in
+    let count = c.octet_count-count.result in
     let v = view_of c.self.inside in
-    let same : octets ≡ c.octets-octets.result.now = c.copy_from_slice.ensures.after in
-    let count : length octets ≡ length c.octets-octets.result.now = ap length same in
+    let same : octets ≡ octets_of v c.args.due = c.copy_octets.ensures ∙ search rules in
+    let len : length octets ≡ count = ap length c.copy_octets.ensures ∙ sym c.octet_count-count.ensures.count in
     let bound = returns-clause-bound c in
     let room : c.emit.result ≤ length c.args.out.now = omega (arith, bound, c.requires.room) in
     c.emit.ensures.octets
-    ∙ (framed v.local.addr v.peer.addr c.head-head.result (head_of v c.args.due) start c.emit.result (start + length c.octets-octets.result.now - start)
+    ∙ (framed v.local.addr v.peer.addr c.head-head.result (head_of v c.args.due) start c.emit.result (start + count - start)
     (4 * Rattle.tcp_segment.specs.Sent.sent_offset c.head-head.result) c.args.out.now octets (octets_of v c.args.due) (sym c.len-start.ensures)
-    (omega (arith, c.emit.ensures.len, c.len-start.ensures, count)) (omega (arith, c.emit.ensures.len, c.len-start.ensures)) room (search rules) (same ∙ search rules)
+    (omega (arith, c.emit.ensures.len, c.len-start.ensures, len)) (omega (arith, c.emit.ensures.len, c.len-start.ensures)) room (search rules) same
     ∙ ap (λ w. segment_octets w c.args.due ++ drop c.emit.result c.args.out.now) c.self.view_is)

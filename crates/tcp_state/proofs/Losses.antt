@@ -1,0 +1,210 @@
+-- Why the third duplicate ACK in a row, and no other, puts the segment at SND.UNA out again, and that alone.
+use Rattle.std.proofs.Common.{◌≡◌, ℕ, ◌+◌, ◌-◌, ◌%◌, ◌^◌, ◌<◌, ◌==◌, ◌&&◌, ◌||◌, not, nat_lt, nat_le, if◌then◌else◌, Bool, true, false, length, Some, None, is_some, arith, refl, sym, ◌∙◌, ap, subst}
+use Rattle.std.specs.Option.{option_or}
+use Rattle.std.proofs.lemmas.Bool.{eqb-true}
+use Rattle.tcp_segment.specs.Segment.{Segment}
+use Rattle.tcp_segment.specs.Wire.{past}
+use Rattle.clock.specs.declared.moment.Moment.{Moment}
+use Rattle.congestion.specs.Window.{Window, third_is_next}
+use Rattle.congestion.specs.Events.Event.{NewAck, Duplicate}
+use Rattle.tcp_state.specs.declared.arrival.Before.{Before}
+use Rattle.tcp_state.specs.declared.emission.Due.TheVariants.{Rst, Syn, Text}
+use Rattle.tcp_state.specs.declared.emission.Stretch.{Stretch}
+use Rattle.tcp_state.specs.declared.state.State.{State}
+use Rattle.tcp_state.specs.declared.state.State.TheVariants.{SynSent, SynReceived}
+use Rattle.tcp_state.specs.Numbers.{is_before}
+use Rattle.tcp_state.specs.Halves.{Sending}
+use Rattle.tcp_state.specs.Stream.{outstanding, is_new_ack}
+use Rattle.tcp_state.specs.Windows.{updates_window}
+use Rattle.tcp_state.specs.Pace.{Pace, stopped, mark_past, mark_left, pace_lost}
+use Rattle.tcp_state.specs.View.{View, IsSound, is_opening, is_syn_sent, is_syn_received, is_closed}
+use Rattle.tcp_state.specs.Congestion.{Signal}
+use Rattle.tcp_state.specs.Congestion.Signal.{Begins, Counts, Nothing}
+use Rattle.tcp_state.specs.Arrival.{owing_ack, after_establishment, is_receiving, beyond_fin, is_of_fin, fin_acknowledged, after_new_ack, after_ack, is_read, after_window, after_text, counts_fin, after_fin, is_lost, after_lost, after_segment, after_heard, is_duplicate, before, is_moved, pace_heard, pace_after, congestion_event_of, tells_loss, timed_by, after_segment_at}
+use Rattle.tcp_state.specs.Due.{end_of, after_resent, after_first_sent, after_numbers, after_new_octets, brings_new_octets, after_emitted, ack_due, again, again_from, new_due, first_due}
+use Rattle.tcp_state.proofs.Clocked.{comes_to, unmoved, heard_paced, signalled}
+use Rattle.tcp_state.proofs.Edges.{either, by_fin, and_left, and_right}
+use Rattle.tcp_state.proofs.Causes.{both, not_true}
+use Rattle.tcp_state.proofs.Unchanged.{and_false, clash}
+use Rattle.tcp_state.proofs.Segments.{IsRead, read_tells, reads, not_rejected, by_ack, by_hearing, by_clock}
+use Rattle.tcp_state.proofs.Congestion.{window_kept}
+
+-- The third one.
+
+-- a duplicate ACK, past the opening
+record IsTwice (v : View) (s : Segment) : Type 0 where
+  opened : is_opening v.state ≡ false
+  read : IsRead v s
+  some : nat_lt 0 (outstanding v.sending) ≡ true
+  empty : (length s.octets == 0) ≡ true
+  no_fin : s.flags.fin ≡ false
+  same : s.acknowledgement ≡ v.sending.una
+
+twice : (v : View) (s : Segment) → is_duplicate v s ≡ true → IsTwice v s
+twice v s e =
+    let one = not (is_opening v.state) in
+    let two = one && is_read v s in
+    let three = two && nat_lt 0 (outstanding v.sending) in
+    let four = three && (length s.octets == 0) in
+    let five = four && not s.flags.fin in
+    let e6 = and_left (five && (s.acknowledgement == v.sending.una)) (s.window == v.sending.window) e in
+    let e5 = and_left five (s.acknowledgement == v.sending.una) e6 in
+    let e4 = and_left four (not s.flags.fin) e5 in
+    let e3 = and_left three (length s.octets == 0) e4 in
+    let e2 = and_left two (nat_lt 0 (outstanding v.sending)) e3 in
+    record {
+      opened = not_true (is_opening v.state) (and_left one (is_read v s) e2);
+      read = read_tells v s (and_right one (is_read v s) e2);
+      some = and_right two (nat_lt 0 (outstanding v.sending)) e3;
+      empty = and_right three (length s.octets == 0) e4;
+      no_fin = not_true s.flags.fin (and_right four (not s.flags.fin) e5);
+      same = eqb-true s.acknowledgement v.sending.una (and_right five (s.acknowledgement == v.sending.una) e6);
+    }
+
+past_opening : (t : State) → is_opening t ≡ false → (is_syn_sent t ≡ false) × (is_syn_received t ≡ false)
+past_opening SynSent e = cc
+past_opening SynReceived e = cc
+past_opening _ e = (refl, refl)
+
+-- what it acknowledges is acknowledged
+old_ack : (v : View) (s : Segment) → v.sending.una < 2 ^ 32 → IsTwice v s → after_ack v s.acknowledgement ≡ v
+old_ack v s fits t =
+    let received = (past_opening v.state t.opened).1 in
+    let ack = s.acknowledgement in
+    let new = is_new_ack v.sending ack in
+    let gained : past ack v.sending.una ≡ 0 = omega (arith, fits, t.same) in
+    let old : new ≡ false = ap (λ n. nat_lt 0 n && nat_le n (outstanding v.sending)) gained in
+    let within : is_before v.sending.nxt ack ≡ false =
+    not_true (is_before v.sending.nxt ack)
+    (sym (ap (λ b. if b then new else (new || not (is_before v.sending.nxt ack))) received ∙ ap (λ b. b || not (is_before v.sending.nxt ack)) old) ∙ t.read.on) in
+    let past_fin : View = if is_of_fin v ack then fin_acknowledged (after_new_ack v ack) else after_new_ack v ack in
+    ap (λ b. if b then (if new then after_establishment v else v) else if new then past_fin else if is_before v.sending.nxt ack then owing_ack v else v) received
+    ∙ ap (λ b. if b then past_fin else if is_before v.sending.nxt ack then owing_ack v else v) old
+    ∙ ap (λ b. if b then owing_ack v else v) within
+
+-- it tells of the window at most
+told_alone : (v : View) (s : Segment) → v.sending.una < 2 ^ 32 → is_closed v.state ≡ false → IsTwice v s → after_heard v s ≡ after_window v s
+told_alone v s fits lives t =
+    let w = after_window v s in
+    let end = (s.number + length s.octets) % 2 ^ 32 in
+    let kept : is_lost v s ≡ false =
+    ap (λ b. v.released && is_receiving v.state && is_read v s && (not b && is_before v.receiving.rnext end)) t.empty ∙ and_false (v.released && is_receiving v.state && is_read v s) in
+    let text : after_text w s ≡ w = either View (λ x. x ≡ w) ((length s.octets == 0) || not (is_receiving w.state)) w _ (λ none. refl)
+    (λ some. clash (length s.octets == 0) t.empty (first_false (length s.octets == 0) (not (is_receiving w.state)) some)) in
+    let fin : after_fin w s ≡ w = either View (λ x. x ≡ w) (counts_fin w s) _ _
+    (λ counts. clash s.flags.fin (and_left s.flags.fin (is_receiving w.state) (and_left (s.flags.fin && is_receiving w.state) _ counts)) t.no_fin)
+    (λ other. either View (λ x. x ≡ w) (s.flags.fin && is_receiving w.state) (owing_ack w) w (λ ahead. clash s.flags.fin (and_left s.flags.fin (is_receiving w.state) ahead) t.no_fin) (λ none. refl)) in
+    ap (λ b. if b then after_lost v s else after_segment v s) kept
+    ∙ reads v s lives (past_opening v.state t.opened).0 t.read
+    ∙ ap (λ x. after_fin (after_text (after_window x s) s) s) (old_ack v s fits t)
+    ∙ ap (λ x. after_fin x s) text
+    ∙ fin
+  where
+    first_false : (a b : Bool) → (a || b) ≡ false → a ≡ false
+    first_false true b e = cc
+    first_false false b e = refl
+
+-- the numbers stay
+numbers_stay : (v : View) (s : Segment) → ((after_window v s).sending.una ≡ v.sending.una) × (outstanding (after_window v s).sending ≡ outstanding v.sending)
+numbers_stay v s =
+    either Sending (λ t. (t.una ≡ v.sending.una) × (outstanding t ≡ outstanding v.sending)) (updates_window v.sending s.number s.acknowledgement) _ v.sending
+    (λ tells. (refl, refl)) (λ none. (refl, refl))
+
+-- by it the segment at SND.UNA is lost
+loses : (v : View) (s : Segment) (now : Moment) → is_closed v.state ≡ false → is_duplicate v s ≡ true → third_is_next v.congestion ≡ true
+    → (let b = before v s in let w = after_window v s in pace_after b w now ≡ pace_lost (pace_heard b w now) (outstanding w.sending))
+loses v s now lives is third =
+    let b = before v s in
+    let w = after_window v s in
+    let signal : Signal = if is_moved b w then (if is_opening b.state then Begins else Counts (NewAck (b.held - length w.sending.held))) else if b.is_duplicate then Counts (Duplicate (outstanding w.sending)) else Nothing in
+    let still : is_moved b w ≡ false = ap (λ n. not (v.sending.una == n)) (numbers_stay v s).0 ∙ unmoved v in
+    let event : congestion_event_of b w ≡ Counts (Duplicate (outstanding w.sending)) =
+    ap (λ t. if t then Nothing else signal) lives
+    ∙ ap (λ t. if t then (if is_opening b.state then Begins else Counts (NewAck (b.held - length w.sending.held))) else if b.is_duplicate then Counts (Duplicate (outstanding w.sending)) else Nothing) still
+    ∙ ap (λ t. if t then Counts (Duplicate (outstanding w.sending)) else Nothing) is in
+    let pace = pace_heard b w now in
+    ap (λ g. if tells_loss g w.congestion then pace_lost pace (outstanding w.sending) else pace) event ∙ ap (λ t. if t then pace_lost pace (outstanding w.sending) else pace) third
+
+-- what is owed of a reset is so only where all is closed
+unowed : (owes closed left : Bool) → closed ≡ false → (owes && not (closed && left)) ≡ false → owes ≡ false
+unowed true true left c e = cc
+unowed true false left c e = cc
+unowed false closed left c e = refl
+
+pub third_resends : (v : View) (s : Segment) (now : Moment) → IsSound v → is_closed v.state ≡ false → is_duplicate v s ≡ true → third_is_next v.congestion ≡ true
+    → (first_due (after_segment_at v s now) ≡ Some (Text (again (after_segment_at v s now) 0))) × ((after_segment_at v s now).pace.once ≡ true)
+third_resends v s now sound lives is third =
+    let t = twice v s is in
+    let opened = past_opening v.state t.opened in
+    let w = after_window v s in
+    let x = timed_by (before v s) w now in
+    let at : after_segment_at v s now ≡ x = comes_to v s now lives (not_rejected v s opened.0 opened.1) ∙ ap (λ u. timed_by (before v s) u now) (told_alone v s sound.una lives t) in
+    let lost = loses v s now lives is third in
+    let mark : x.pace.mark ≡ Some 0 =
+    ap (λ (p : Pace). p.mark) lost ∙ ap (λ n. mark_past 0 n) (numbers_stay v s).1 ∙ ap (λ b. if b then Some 0 else None) t.some in
+    let due : first_due x ≡ Some (Text (again x 0)) =
+    ap (λ b. if b then Some Rst else if is_opening v.state then (if (outstanding x.sending == 0) || is_some x.pace.mark then Some Syn else ack_due x) else option_or (again_from x x.pace.mark) (new_due x))
+    (unowed v.owes_reset (is_closed v.state) v.released lives sound.reset)
+    ∙ ap (λ b. if b then (if (outstanding x.sending == 0) || is_some x.pace.mark then Some Syn else ack_due x) else option_or (again_from x x.pace.mark) (new_due x)) t.opened
+    ∙ ap (λ m. option_or (again_from x m) (new_due x)) mark in
+    subst (λ u. (first_due u ≡ Some (Text (again u 0))) × (u.pace.once ≡ true)) (sym at) (due, ap (λ (p : Pace). p.once) lost)
+
+-- No other.
+
+-- past the opening a segment puts nothing out again
+ack_marks_none : (v : View) (ack : ℕ) → v.pace.mark ≡ None → (after_ack v ack).pace.mark ≡ None
+ack_marks_none v ack none =
+    let left : (gained out : ℕ) → mark_left v.pace.mark gained out ≡ None = λ gained out. ap (λ m. mark_left m gained out) none in
+    let sending = (after_new_ack v ack).sending in
+    by_ack (λ w. w.pace.mark ≡ None) v ack (record {
+      old = none;
+      beyond = none;
+      opens = λ new. refl;
+      octets = λ new. left (past ack v.sending.una) (outstanding sending);
+      fin = λ new fin. let p = (after_new_ack v ack).pace in
+          either Pace (λ q. q.mark ≡ None) (is_closed (beyond_fin v.state)) (stopped p) p (λ closed. refl) (λ lives. left (past ack v.sending.una) (outstanding sending));
+    })
+
+heard_marks_none : (v : View) (s : Segment) → is_opening v.state ≡ false → v.pace.mark ≡ None → (after_heard v s).pace.mark ≡ None
+heard_marks_none v s opened none =
+    let told = after_window (after_ack v s.acknowledgement) s in
+    let text = after_text told s in
+    let acked = ack_marks_none v s.acknowledgement none in
+    by_hearing (λ w. w.pace.mark ≡ None) v s refl (record {
+      dropped = none;
+      drawn = none;
+      reset = refl;
+      crossed = λ waits. clash (is_syn_sent v.state) waits (past_opening v.state opened).0;
+      opened = λ waits right. refl;
+      acknowledged = acked;
+      read =
+          let read : text.pace.mark ≡ None = either View (λ w. w.pace.mark ≡ None) ((length s.octets == 0) || not (is_receiving told.state)) told _ (λ none. acked) (λ some. acked) in
+          by_fin (λ w. w.pace.mark ≡ None) text s (λ counts. read) read read;
+    })
+
+-- a loss is told by a third duplicate ACK alone
+told_by_third : (b : Before) (w : View) (c : Window) → tells_loss (congestion_event_of b w) c ≡ true → (b.is_duplicate && third_is_next c) ≡ true
+told_by_third b w c =
+    signalled b w (λ g. tells_loss g c ≡ true → (b.is_duplicate && third_is_next c) ≡ true) (λ none. cc) (λ none. cc) (λ none. cc) (λ twice third. both b.is_duplicate (third_is_next c) twice third)
+
+pub others_resend_none : (v : View) (s : Segment) (now : Moment) → IsSound v → v.pace.mark ≡ None → is_opening v.state ≡ false → (is_duplicate v s && third_is_next v.congestion) ≡ false
+    → (after_segment_at v s now).pace.mark ≡ None
+others_resend_none v s now sound none opened other =
+    let b = before v s in
+    let w = after_heard v s in
+    let pace = pace_heard b w now in
+    by_clock (λ x. x.pace.mark ≡ None) v s now none
+    (λ lives. either Pace (λ p. p.mark ≡ None) (tells_loss (congestion_event_of b w) w.congestion) (pace_lost pace (outstanding w.sending)) pace
+    (λ lost. clash (is_duplicate v s && third_is_next v.congestion) (sym (ap (λ c. is_duplicate v s && third_is_next c) (window_kept v s)) ∙ told_by_third b w w.congestion lost) other)
+    (λ kept. heard_paced b w now (λ p. p.mark ≡ w.pace.mark) refl refl refl ∙ heard_marks_none v s opened none))
+
+-- That segment alone.
+
+pub resends_alone : (v : View) (stretch : Stretch) (now : Moment) → v.pace.once ≡ true → nat_lt stretch.offset (outstanding v.sending) ≡ true → (after_emitted v (Text stretch) now).pace.mark ≡ None
+resends_alone v stretch now once again =
+    let P : View → Type 0 = λ w. w.pace.mark ≡ None in
+    let sent = after_numbers v stretch.offset (end_of stretch) now in
+    let resent = after_resent v (end_of stretch) in
+    let none : P sent = either View P (nat_lt stretch.offset (outstanding v.sending)) resent (after_first_sent v (end_of stretch) now)
+    (λ before. ap (λ b. if b then None else mark_past (end_of stretch) (outstanding resent.sending)) once) (λ first. clash (nat_lt stretch.offset (outstanding v.sending)) again first) in
+    either View P (brings_new_octets v stretch) (after_new_octets sent) sent (λ new. none) (λ old. none)
