@@ -52,12 +52,3 @@ ends_next before places i is_kept below is =
     let one : i + 1 ≡ suc i = omega arith in
     let more : take (i + 1) places ≡ first ++ place ∷ [] = ap (λ (n : ℕ). take n places) one ∙ take-suc places i None below in
     ap (λ (xs : List (Option ℕ)). ends_kept before xs) more ∙ ends_kept-append before first (place ∷ []) ∙ one_end (ends_kept before first) place ∙ sym is
-
-pub one_begun : (before is_kept : Bool) → before ≡ false → is_kept ≡ true → ranges_begun before is_kept ≡ 1
-one_begun before is_kept gap kept = ap (λ (b : Bool). ranges_begun b is_kept) gap ∙ ap (λ (b : Bool). ranges_begun false b) kept
-
-pub none_begun : (before is_kept : Bool) → before ≡ true → is_kept ≡ true → ranges_begun before is_kept ≡ 0
-none_begun before is_kept on kept = ap (λ (b : Bool). ranges_begun b is_kept) on ∙ ap (λ (b : Bool). ranges_begun true b) kept
-
-pub none_begun_empty : (before is_kept : Bool) → is_kept ≡ false → ranges_begun before is_kept ≡ 0
-none_begun_empty before is_kept empty = ap (λ (b : Bool). ranges_begun before b) empty

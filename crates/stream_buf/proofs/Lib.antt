@@ -1,4 +1,3 @@
-pub mod Laying
 pub mod Counting
 pub mod Inserting
 pub mod Taking
@@ -8,3 +7,8 @@ pub mod Gapless
 pub mod Touching
 pub mod Beginnings
 pub mod Receptions
+pub mod Joining
+pub mod Gathering
+pub mod Filling
+pub mod Storing
+pub mod Viewing

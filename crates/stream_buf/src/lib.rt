@@ -3,8 +3,9 @@
 #![tactic(auto)]
 
 pub mod laws;
-mod places;
+mod ranges;
 mod receive;
+mod ring;
 mod send;
 
 pub use receive::{MOST_RANGES, RecvBuf};

@@ -1,9 +1,11 @@
 //! The octets that came.
 
-ghost use Rattle.std.specs.Prelude.{◌≡◌, ℕ, ◌+◌, ◌<◌, ◌≤◌, ◌++◌, true, List, length, drop, IfOk};
-ghost use Rattle.stream_buf.specs.Receiving.{nothing_received, ranges, laid, is_taken, joined, after_insert, read_count, read_octets, after_read, forgotten, after_forgetting, IsReceiving};
+ghost use Rattle.std.specs.Prelude.{◌≡◌, ◌+◌, ◌<◌, ◌≤◌, ◌++◌, true, length, drop, IfOk};
+ghost use Rattle.stream_buf.specs.Receiving.{nothing_received, ranges, is_taken, joined, after_insert, read_count, read_octets, after_read, after_forgetting, IsReceiving};
 
-use crate::places::{copy_front, lay, ranges_in};
+use crate::ranges::{Range, Ranges};
+use crate::ring::lay;
+use circular_buffer::HeapCircularBuffer;
 use std::alloc::{AllocError, Global};
 use std::marker::Model;
 
@@ -14,23 +16,21 @@ pub const MOST_RANGES: usize = 32;
 /// takes memory.
 #[derive(Drop)]
 pub struct RecvBuf {
-    readable: Vec<u8>,
-    kept: Vec<Option<u8>>,
-    capacity: usize,
-    // Where this is set, no place keeps an octet.
-    is_gapless: bool,
+    // Those in order stand in front. Behind them each that is kept has its own place, and filler stands at the others.
+    octets: HeapCircularBuffer<u8>,
+    readable: usize,
+    ranges: Ranges,
 }
 
 impl Model for RecvBuf {
-    ghost use Rattle.std.specs.Prelude.{◌≡◌, ◌≤◌, true};
-    ghost use Rattle.std.specs.Vec.{vec_capacity};
-    ghost use Rattle.stream_buf.specs.Receiving.{ReceiveView, forgotten, IsReceiving};
+    ghost use Rattle.stream_buf.specs.Receiving.{ReceiveView};
+    ghost use Rattle.stream_buf.specs.Stored.{receive_view, IsStored};
 
     ghost Value = { ReceiveView };
 
-    ghost view = { λ b. record { readable = b.readable.items; kept = b.kept.items; capacity = b.capacity } };
+    ghost view = { λ b. receive_view b.octets b.readable b.ranges };
 
-    ghost invariant = { λ b. IsReceiving (record { readable = b.readable.items; kept = b.kept.items; capacity = b.capacity }) × (b.capacity ≤ vec_capacity b.readable) × (b.capacity ≤ vec_capacity b.kept) × (b.is_gapless ≡ true → b.kept.items ≡ forgotten b.kept.items) };
+    ghost invariant = { λ b. IsStored b.octets b.readable b.ranges };
 }
 
 impl RecvBuf {
@@ -38,14 +38,11 @@ impl RecvBuf {
     pub fn with_capacity(alloc: Global, capacity: usize) -> Result<RecvBuf, AllocError>
         ensures { IfOk result (λ buffer. buffer ≡ nothing_received capacity) }
     {
-        let readable = Vec::with_capacity(alloc, capacity)?;
-        let mut kept = Vec::with_capacity(alloc, capacity)?;
-        kept.resize(capacity, None)?;
+        let octets = HeapCircularBuffer::with_capacity(alloc, capacity)?;
         Ok(RecvBuf {
-            readable,
-            kept,
-            capacity,
-            is_gapless: true,
+            octets,
+            readable: 0,
+            ranges: Ranges::new(),
         })
     }
 
@@ -57,13 +54,16 @@ impl RecvBuf {
         ensures count { result ≡ length (joined self.old distance octets.now) }
         ensures after { self.new ≡ after_insert self.old distance octets.now }
     {
-        if distance == 0 && self.is_gapless {
-            return self.append(octets);
-        }
-        if !self.takes(distance, octets) {
+        let _ = &self.ranges;
+        if octets.is_empty() || !self.takes(distance, octets) {
             return 0;
         }
-        self.insert_among(distance, octets)
+        if distance == 0 {
+            self.append(octets)
+        } else {
+            self.keep(distance, octets);
+            0
+        }
     }
 
     /// Whether octets at a distance from RCV.NXT, for which there is room, are taken: no 33rd range would have to be kept.
@@ -71,7 +71,15 @@ impl RecvBuf {
         requires { distance + length octets.now ≤ length self.now.kept }
         ensures { result ≡ is_taken self.now distance octets.now }
     {
-        distance == 0 || self.ranges_with(distance, octets.len()) <= MOST_RANGES
+        let _ = &self.ranges;
+        if distance == 0 || octets.is_empty() {
+            return true;
+        }
+        let new = Range {
+            start: distance,
+            end: distance + octets.len(),
+        };
+        self.ranges.len_with(new) <= MOST_RANGES
     }
 
     /// Moves as many readable octets into `out` as it has room for, from the first on, and says how many. What is kept stays at its
@@ -81,10 +89,9 @@ impl RecvBuf {
         ensures out { out.new ≡ read_octets self.old (length out.old) ++ drop result out.old }
         ensures after { self.new ≡ after_read self.old (length out.old) }
     {
-        let count = out.len().min(self.readable.len());
-        out[..count].copy_from_slice(&self.readable[..count]);
-        self.readable.drain(..count);
-        self.kept.resize(self.kept.len() + count, None).unwrap();
+        let count = out.len().min(self.readable);
+        self.octets.read_into(&mut out[..count]);
+        self.readable -= count;
         count
     }
 
@@ -92,10 +99,8 @@ impl RecvBuf {
     pub fn forget_kept(&mut self)
         ensures { self.new ≡ after_forgetting self.old }
     {
-        if !self.is_gapless {
-            self.kept.fill(None);
-            self.is_gapless = true;
-        }
+        self.octets.truncate_back(self.readable);
+        self.ranges.clear();
     }
 
     /// How many octets may still come: the distance from RCV.NXT that an octet stays below.
@@ -103,68 +108,57 @@ impl RecvBuf {
         ensures room { result ≡ length self.now.kept }
         ensures limits { IsReceiving self.now }
     {
-        self.kept.len()
+        self.octets.capacity() - self.readable
     }
 
     /// How many octets can be read.
     pub fn readable_len(&self) -> usize
         ensures { result ≡ length self.now.readable }
     {
-        self.readable.len()
+        self.readable
     }
 
     /// How many ranges of octets are kept ahead of a gap.
     pub fn ranges(&self) -> usize
         ensures { result ≡ ranges self.now.kept }
     {
-        ranges_in(false, &self.kept).0
+        self.ranges.len()
     }
 
     /// How many octets it holds at most.
     pub fn capacity(&self) -> usize
         ensures { result ≡ self.now.capacity }
     {
-        self.capacity
+        self.octets.capacity()
     }
 
-    /// Takes octets at RCV.NXT where nothing is kept: they alone join what is readable. No place moves, since all are alike.
+    /// Takes octets at RCV.NXT, and says how many join what is readable: they, and what is kept up to the first gap behind them.
     fn append(&mut self, octets: &[u8]) -> usize
         requires within { length octets.now ≤ length self.old.kept }
-        requires gapless { self.old.kept ≡ forgotten self.old.kept }
+        requires some { 0 < length octets.now }
         ensures count { result ≡ length (joined self.old 0 octets.now) }
         ensures after { self.new ≡ after_insert self.old 0 octets.now }
     {
-        self.readable.extend_from_slice(octets).unwrap();
-        self.kept.truncate(self.kept.len() - octets.len());
-        octets.len()
-    }
-
-    /// Takes octets that are laid among those that may be kept.
-    fn insert_among(&mut self, distance: usize, octets: &[u8]) -> usize
-        requires within { distance + length octets.now ≤ length self.old.kept }
-        requires taken { is_taken self.old distance octets.now ≡ true }
-        ensures count { result ≡ length (joined self.old distance octets.now) }
-        ensures after { self.new ≡ after_insert self.old distance octets.now }
-    {
-        lay(&mut self.kept, distance, octets);
-        let count = copy_front(&self.kept, &mut self.readable);
-        self.kept.drain(..count);
-        self.is_gapless = count > 0 && ranges_in(false, &self.kept).0 == 0;
+        lay(&mut self.octets, self.readable, octets);
+        let count = self.ranges.join_front(octets.len());
+        self.readable += count;
         count
     }
 
-    /// How many ranges there would be with so many octets at a distance.
-    fn ranges_with(&self, distance: usize, count: usize) -> usize
-        requires { distance + count ≤ length self.now.kept }
-        ensures ranges { (octets : List ℕ) → length octets ≡ count → result ≡ ranges (laid self.now.kept distance octets) }
-        ensures limits { IsReceiving self.now }
+    /// Keeps octets ahead of a gap.
+    fn keep(&mut self, distance: usize, octets: &[u8])
+        requires ahead { 0 < distance }
+        requires within { distance + length octets.now ≤ length self.old.kept }
+        requires some { 0 < length octets.now }
+        requires taken { is_taken self.old distance octets.now ≡ true }
+        ensures count { length (joined self.old distance octets.now) ≡ 0 }
+        ensures after { self.new ≡ after_insert self.old distance octets.now }
     {
-        if count == 0 {
-            return ranges_in(false, &self.kept).0;
-        }
-        let (below, is_kept) = ranges_in(false, &self.kept[..distance]);
-        let (above, _) = ranges_in(true, &self.kept[distance + count..]);
-        below + usize::from(!is_kept) + above
+        lay(&mut self.octets, self.readable + distance, octets);
+        self.ranges.add(Range {
+            start: distance,
+            end: distance + octets.len(),
+        });
     }
 }
 

@@ -3,26 +3,23 @@
 ghost use Rattle.std.specs.Prelude.{◌≡◌, ◌+◌, ◌≤◌, ◌==◌, length, IfOk};
 ghost use Rattle.stream_buf.specs.Sending.{nothing_held, send_room, written_count, after_write, after_acked, copied};
 
+use crate::ring;
+use circular_buffer::HeapCircularBuffer;
 use std::alloc::{AllocError, Global};
 use std::marker::Model;
 
 /// The octets that were written and are not acknowledged, in order. Only the making takes memory.
 #[derive(Drop)]
 pub struct SendBuf {
-    held: Vec<u8>,
-    capacity: usize,
+    held: HeapCircularBuffer<u8>,
 }
 
 impl Model for SendBuf {
-    ghost use Rattle.std.specs.Prelude.{◌≤◌, length};
-    ghost use Rattle.std.specs.Vec.{vec_capacity};
     ghost use Rattle.stream_buf.specs.Sending.{SendView};
 
     ghost Value = { SendView };
 
-    ghost view = { λ b. record { held = b.held.items; capacity = b.capacity } };
-
-    ghost invariant = { λ b. (length b.held.items ≤ b.capacity) × (b.capacity ≤ vec_capacity b.held) };
+    ghost view = { λ b. record { held = b.held.items; capacity = b.held.capacity } };
 }
 
 impl SendBuf {
@@ -30,8 +27,8 @@ impl SendBuf {
     pub fn with_capacity(alloc: Global, capacity: usize) -> Result<SendBuf, AllocError>
         ensures { IfOk result (λ buffer. buffer ≡ nothing_held capacity) }
     {
-        let held = Vec::with_capacity(alloc, capacity)?;
-        Ok(SendBuf { held, capacity })
+        let held = HeapCircularBuffer::with_capacity(alloc, capacity)?;
+        Ok(SendBuf { held })
     }
 
     /// Takes as many of the octets as there is room for, from the first on, and says how many.
@@ -39,9 +36,7 @@ impl SendBuf {
         ensures count { result ≡ written_count self.old octets.now }
         ensures after { self.new ≡ after_write self.old octets.now }
     {
-        let count = octets.len().min(self.room());
-        self.held.extend_from_slice(&octets[..count]).unwrap();
-        count
+        self.held.fill_from_slice(octets)
     }
 
     /// The first `count` octets are acknowledged, and held no longer.
@@ -49,7 +44,7 @@ impl SendBuf {
         requires { count ≤ length self.old.held }
         ensures { self.new ≡ after_acked self.old count }
     {
-        self.held.drain(..count);
+        self.held.truncate_front(self.held.len() - count);
     }
 
     /// Fills `out` with the octets that are held from the place `offset` on. They stay.
@@ -57,7 +52,7 @@ impl SendBuf {
         requires { offset + length out.old ≤ length self.now.held }
         ensures { out.new ≡ copied self.now offset (length out.old) }
     {
-        out.copy_from_slice(&self.held[offset..offset + out.len()]);
+        ring::copy_at(&self.held, offset, out);
     }
 
     /// How many octets can still be taken.
@@ -65,7 +60,7 @@ impl SendBuf {
         ensures room { result ≡ send_room self.now }
         ensures all { length self.now.held + result ≡ self.now.capacity }
     {
-        self.capacity - self.held.len()
+        self.held.capacity() - self.held.len()
     }
 
     /// How many octets are held.
@@ -86,7 +81,7 @@ impl SendBuf {
     pub fn capacity(&self) -> usize
         ensures { result ≡ self.now.capacity }
     {
-        self.capacity
+        self.held.capacity()
     }
 }
 

@@ -1,41 +1,53 @@
-use Rattle.std.proofs.Common.{rules, arith, ◌≡◌, ℕ, ◌-◌, ◌≤◌, ◌++◌, List, length, take, Option, refl, sym, ◌∙◌, ap, subst}
-use Rattle.stream_buf.specs.Receiving.{ReceiveView, IsReceiving, front, behind_front, laid, after_insert, forgotten}
-use Rattle.stream_buf.proofs.Inserting.{receives_laid}
-use Rattle.stream_buf.proofs.Taking.{taken_first, few_left}
-use Rattle.stream_buf.proofs.Gapless.{front_in_order, behind_in_order, fewer_free}
+use Rattle.std.proofs.Common.{ℕ, ◌+◌, ◌≤◌, length, sym, ◌∙◌, ap, subst, arith}
+use Rattle.circular_buffer.specs.Buffer.{Buffer}
+use Rattle.stream_buf.specs.Receiving.{ReceiveView, joined, after_insert}
+use Rattle.stream_buf.specs.Stored.{receive_view, IsStored}
+use Rattle.stream_buf.proofs.Viewing.{room_viewed, count_appended, viewed_appended, stored_appended}
 use Rattle.stream_buf.proofs.receive.RecvBuf.append.Goals as goal
+
+pub lay-requires : goal.lay-requires
+lay-requires c =
+    let seen = ap (λ (b : ReceiveView). length b.kept) c.self.view_is in
+    let room = room_viewed c.self.inside.octets c.self.inside.readable c.self.inside.ranges c.self.invariant in
+    omega (arith, seen, room, c.requires.within, c.self.invariant.there, c.self.invariant.fits.0)
+
+pub overflow_add-self : goal.overflow_add-self
+overflow_add-self c =
+    let octets : Buffer ℕ = c.self.inside.octets in
+    let n : ℕ = c.self.inside.readable in
+    let within : length c.args.octets.now ≤ length (receive_view octets n c.self.inside.ranges).kept =
+    subst (λ (b : ReceiveView). length c.args.octets.now ≤ length b.kept) (sym c.self.view_is) c.requires.within in
+    let stored = stored_appended octets n c.self.inside.ranges c.self.invariant c.args.octets.now within c.requires.some c.join_front-count.result c.join_front-count.new.self
+    c.join_front-count.ensures.ranges c.join_front-count.ensures.apart c.join_front-count.ensures.few in
+    omega (arith, stored.there, stored.fits.0, stored.fits.1)
 
 pub invariant_of-self : goal.invariant_of-self
 invariant_of-self c =
-    let b : ReceiveView = record { readable = c.self.inside.readable.items; kept = c.self.inside.kept.items; capacity = c.self.inside.capacity } in
-    let octets : List ℕ = c.args.octets.now in
-    let places : List (Option ℕ) = laid b.kept 0 octets in
-    let free : b.kept ≡ forgotten b.kept = subst (λ (v : ReceiveView). v.kept ≡ forgotten v.kept) (sym c.self.view_is) c.requires.gapless in
-    let within : length octets ≤ length b.kept = subst (λ (v : ReceiveView). length octets ≤ length v.kept) (sym c.self.view_is) c.requires.within in
-    let more : c.extend_from_slice.new.self.items ≡ b.readable ++ octets = search rules in
-    let cut : c.truncate.new.self.items ≡ take (length b.kept - length octets) b.kept = search rules in
-    let readable : c.extend_from_slice.new.self.items ≡ b.readable ++ front places = more ∙ ap (λ (xs : List ℕ). b.readable ++ xs) (sym (front_in_order b.kept octets free)) in
-    let kept : c.truncate.new.self.items ≡ behind_front places = cut ∙ sym (behind_in_order b.kept octets free) in (
-      subst (λ (ps : List (Option ℕ)). IsReceiving (record { readable = c.extend_from_slice.new.self.items; kept = ps; capacity = b.capacity })) (sym kept)
-          (subst (λ (xs : List ℕ). IsReceiving (record { readable = xs; kept = behind_front places; capacity = b.capacity })) (sym readable)
-          (receives_laid b 0 octets (omega (arith, within)) (few_left b 0 octets c.self.invariant.0 (taken_first b 0 octets refl)) c.self.invariant.0)),
-      search rules,
-      search rules,
-      λ set. subst (λ (ps : List (Option ℕ)). ps ≡ forgotten ps) (sym cut) (fewer_free (length octets) b.kept free),
-    )
+    let octets : Buffer ℕ = c.self.inside.octets in
+    let n : ℕ = c.self.inside.readable in
+    let within : length c.args.octets.now ≤ length (receive_view octets n c.self.inside.ranges).kept =
+    subst (λ (b : ReceiveView). length c.args.octets.now ≤ length b.kept) (sym c.self.view_is) c.requires.within in
+    subst (λ (b : Buffer ℕ). IsStored b (n + c.join_front-count.result) c.join_front-count.new.self) (sym c.lay.ensures)
+    (stored_appended octets n c.self.inside.ranges c.self.invariant c.args.octets.now within c.requires.some c.join_front-count.result c.join_front-count.new.self
+    c.join_front-count.ensures.ranges c.join_front-count.ensures.apart c.join_front-count.ensures.few)
 
 pub returns-clause-count : goal.returns-clause-count
-returns-clause-count c = ap (λ (xs : List ℕ). length xs) (sym (front_in_order c.args.self.now.kept c.args.octets.now c.requires.gapless))
+returns-clause-count c =
+    let octets : Buffer ℕ = c.self.inside.octets in
+    let n : ℕ = c.self.inside.readable in
+    let within : length c.args.octets.now ≤ length (receive_view octets n c.self.inside.ranges).kept =
+    subst (λ (b : ReceiveView). length c.args.octets.now ≤ length b.kept) (sym c.self.view_is) c.requires.within in
+    count_appended octets n c.self.inside.ranges c.self.invariant c.args.octets.now within c.requires.some c.join_front-count.result c.join_front-count.new.self
+    c.join_front-count.ensures.ranges c.join_front-count.ensures.apart
+    ∙ ap (λ (b : ReceiveView). length (joined b 0 c.args.octets.now)) c.self.view_is
 
 pub returns-clause-after : goal.returns-clause-after
 returns-clause-after c =
-    let b : ReceiveView = record { readable = c.self.inside.readable.items; kept = c.self.inside.kept.items; capacity = c.self.inside.capacity } in
-    let octets : List ℕ = c.args.octets.now in
-    let places : List (Option ℕ) = laid b.kept 0 octets in
-    let free : b.kept ≡ forgotten b.kept = subst (λ (v : ReceiveView). v.kept ≡ forgotten v.kept) (sym c.self.view_is) c.requires.gapless in
-    let more : c.extend_from_slice.new.self.items ≡ b.readable ++ octets = search rules in
-    let cut : c.truncate.new.self.items ≡ take (length b.kept - length octets) b.kept = search rules in
-    ap (λ (xs : List ℕ). record { readable = xs; kept = c.truncate.new.self.items; capacity = b.capacity })
-    (more ∙ ap (λ (xs : List ℕ). b.readable ++ xs) (sym (front_in_order b.kept octets free)))
-    ∙ ap (λ (ps : List (Option ℕ)). record { readable = b.readable ++ front places; kept = ps; capacity = b.capacity }) (cut ∙ sym (behind_in_order b.kept octets free))
-    ∙ ap (λ (v : ReceiveView). after_insert v 0 octets) c.self.view_is
+    let octets : Buffer ℕ = c.self.inside.octets in
+    let n : ℕ = c.self.inside.readable in
+    let within : length c.args.octets.now ≤ length (receive_view octets n c.self.inside.ranges).kept =
+    subst (λ (b : ReceiveView). length c.args.octets.now ≤ length b.kept) (sym c.self.view_is) c.requires.within in
+    ap (λ (b : Buffer ℕ). receive_view b (n + c.join_front-count.result) c.join_front-count.new.self) c.lay.ensures
+    ∙ viewed_appended octets n c.self.inside.ranges c.self.invariant c.args.octets.now within c.requires.some c.join_front-count.result c.join_front-count.new.self
+    c.join_front-count.ensures.ranges c.join_front-count.ensures.apart
+    ∙ ap (λ (b : ReceiveView). after_insert b 0 c.args.octets.now) c.self.view_is

@@ -1,14 +1,16 @@
-use Rattle.std.proofs.Common.{rules, ◌≡◌, ℕ, length, List, Option, sym, subst}
-use Rattle.stream_buf.specs.Receiving.{ReceiveView, IsReceiving, forgotten}
-use Rattle.stream_buf.proofs.Gapless.{all_free, receives_forgotten}
+use Rattle.std.proofs.Common.{ℕ, List, take, ◌∙◌, ap}
+use Rattle.circular_buffer.specs.Buffer.{Buffer, buffer}
+use Rattle.stream_buf.specs.declared.ranges.Range.{Range}
+use Rattle.stream_buf.specs.Receiving.{ReceiveView, after_forgetting}
+use Rattle.stream_buf.specs.Stored.{receive_view}
+use Rattle.stream_buf.proofs.Viewing.{viewed_forgotten}
 use Rattle.stream_buf.proofs.receive.RecvBuf.forget_kept.Goals as goal
 
-pub invariant_of-self : goal.invariant_of-self
-invariant_of-self c =
-    let b : ReceiveView = record { readable = c.self.inside.readable.items; kept = c.self.inside.kept.items; capacity = c.self.inside.capacity } in
-    let filled : c.fill.new.self.items ≡ forgotten b.kept = search rules in (
-      subst (λ (ps : List (Option ℕ)). IsReceiving (record { readable = b.readable; kept = ps; capacity = b.capacity })) (sym filled) (receives_forgotten b c.self.invariant.0),
-      search rules,
-      search rules,
-      λ set. subst (λ (ps : List (Option ℕ)). ps ≡ forgotten ps) (sym filled) (all_free (length b.kept)),
-    )
+pub returns : goal.returns
+returns c =
+    let octets : Buffer ℕ = c.self.inside.octets in
+    let n : ℕ = c.self.inside.readable in
+    ap (λ (b : Buffer ℕ). receive_view b n c.clear.new.self) c.truncate_back.ensures
+    ∙ ap (λ (rs : List Range). receive_view (buffer (take n octets.items) octets.capacity) n rs) c.clear.ensures
+    ∙ viewed_forgotten octets n c.self.inside.ranges c.self.invariant
+    ∙ ap (λ (b : ReceiveView). after_forgetting b) c.self.view_is

@@ -1,26 +1,19 @@
-use Rattle.std.proofs.Common.{rules, ◌≡◌, ℕ, ◌+◌, ◌-◌, ◌++◌, List, length, vec_len, take, drop, Option, None, replicate, sym, ◌∙◌, ap, subst, arith}
-use Rattle.std.proofs.lemmas.List.{take_all}
-use Rattle.stream_buf.specs.Receiving.{ReceiveView, forgotten, IsReceiving}
-use Rattle.stream_buf.proofs.Inserting.{receives_read}
-use Rattle.stream_buf.proofs.Gapless.{more_free}
+use Rattle.std.proofs.Common.{◌≡◌, ℕ, ◌-◌, length, drop, ◌∙◌, ap, arith}
+use Rattle.std.proofs.lemmas.List.{length-take}
+use Rattle.circular_buffer.specs.Buffer.{Buffer, buffer}
+use Rattle.stream_buf.specs.Receiving.{ReceiveView, after_read}
+use Rattle.stream_buf.specs.Stored.{receive_view}
+use Rattle.stream_buf.proofs.Viewing.{viewed_read}
 use Rattle.stream_buf.proofs.receive.RecvBuf.read.Goals as goal
 
-pub invariant_of-self : goal.invariant_of-self
-invariant_of-self c =
-    let n : ℕ = c.min-count.result in
-    let b : ReceiveView = record { readable = c.self.inside.readable.items; kept = c.self.inside.kept.items; capacity = c.self.inside.capacity } in
-    let readable : c.drop-drain.new.self.0.items ≡ drop n b.readable = search rules in
-    let more : ℕ = c.len-2.result + n in
-    let len : vec_len c.self.inside.kept ≡ length b.kept = search rules in
-    let resized : c.resize.new.self.items ≡ take more b.kept ++ replicate (more - vec_len c.self.inside.kept) None = rw c.unwrap.ensures at c.resize.ensures.items in
-    let count : more - vec_len c.self.inside.kept ≡ n = omega (arith, c.len-2.ensures) in
-    let kept : c.resize.new.self.items ≡ b.kept ++ replicate n None =
-    resized ∙ ap (λ (ps : List (Option ℕ)). ps ++ replicate (more - vec_len c.self.inside.kept) None) (take_all more b.kept (omega (arith, c.len-2.ensures, len)))
-    ∙ ap (λ (m : ℕ). b.kept ++ replicate m None) count in (
-      subst (λ (ps : List (Option ℕ)). IsReceiving (record { readable = c.drop-drain.new.self.0.items; kept = ps; capacity = b.capacity })) (sym kept)
-          (subst (λ (xs : List ℕ). IsReceiving (record { readable = xs; kept = b.kept ++ replicate n None; capacity = b.capacity })) (sym readable)
-          (receives_read b n (omega (arith, c.min-count.ensures, c.len.ensures)) c.self.invariant.0)),
-      search rules,
-      search rules,
-      λ set. subst (λ (ps : List (Option ℕ)). ps ≡ forgotten ps) (sym kept) (more_free n b.kept (c.self.invariant.3 set)),
-    )
+pub returns-clause-after : goal.returns-clause-after
+returns-clause-after c =
+    let octets : Buffer ℕ = c.self.inside.octets in
+    let n : ℕ = c.self.inside.readable in
+    let count : ℕ = c.min-count.result in
+    let all : c.read_into-self-inside.result ≡ count =
+    omega (arith, c.read_into-self-inside.ensures.count, c.min-count.ensures, c.self.invariant.there, length-take count c.args.out.now) in
+    ap (λ (b : Buffer ℕ). receive_view b (n - count) c.self.inside.ranges)
+    (c.read_into-self-inside.ensures.items ∙ ap (λ (k : ℕ). buffer (drop k octets.items) octets.capacity) all)
+    ∙ viewed_read octets n c.self.inside.ranges c.self.invariant (length c.args.out.now) count c.min-count.ensures
+    ∙ ap (λ (b : ReceiveView). after_read b (length c.args.out.now)) c.self.view_is

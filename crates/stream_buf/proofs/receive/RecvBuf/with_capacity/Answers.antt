@@ -1,17 +1,12 @@
-use Rattle.std.proofs.Common.{rules, ◌≡◌, ℕ, List, [], Option, None, replicate, sym, subst}
-use Rattle.stream_buf.specs.Receiving.{forgotten, IsReceiving}
-use Rattle.stream_buf.proofs.Inserting.{receives_nothing}
-use Rattle.stream_buf.proofs.Gapless.{all_free}
+use Rattle.std.proofs.Common.{ℕ, [], List, ◌∙◌, ap}
+use Rattle.circular_buffer.specs.Buffer.{Buffer, buffer}
+use Rattle.stream_buf.specs.declared.ranges.Range.{Range}
+use Rattle.stream_buf.specs.Stored.{receive_view}
+use Rattle.stream_buf.proofs.Viewing.{viewed_new}
 use Rattle.stream_buf.proofs.receive.RecvBuf.with_capacity.Goals as goal
 
-pub invariant_of-result : goal.invariant_of-result
-invariant_of-result c =
-    let n : ℕ = c.args.capacity in
-    let readable : c.in_ok-readable.readable.items ≡ [] = c.in_ok-readable.ensures.items in
-    let kept : c.resize.new.self.items ≡ replicate n None = search rules in (
-      subst (λ (ps : List (Option ℕ)). IsReceiving (record { readable = c.in_ok-readable.readable.items; kept = ps; capacity = n })) (sym kept)
-          (subst (λ (xs : List ℕ). IsReceiving (record { readable = xs; kept = replicate n None; capacity = n })) (sym readable) (receives_nothing n)),
-      search rules,
-      search rules,
-      λ set. subst (λ (ps : List (Option ℕ)). ps ≡ forgotten ps) (sym kept) (all_free n),
-    )
+pub returns : goal.returns
+returns c =
+    ap (λ (b : Buffer ℕ). receive_view b 0 c.new.result) (c.in_ok-octets.ensures)
+    ∙ ap (λ (rs : List Range). receive_view (buffer [] c.args.capacity) 0 rs) c.new.ensures
+    ∙ viewed_new c.args.capacity
