@@ -1,5 +1,6 @@
 //! Tables of vectors, a module for each format or part. Octets stand in them as byte strings.
 
+mod buffers;
 mod datagrams;
 mod fragments;
 mod heard;
@@ -8,6 +9,7 @@ mod lines;
 mod link;
 mod messages;
 mod packets;
+mod plain;
 mod prefixes;
 mod segments;
 mod sums;
