@@ -5,12 +5,12 @@ use Rattle.inet_sum.specs.Sum.{word_sum, ones_complement, sum_of, sum_behind}
 use Rattle.inet_sum.proofs.Words.{word_sum-append, ones_complement-add, ones_complement-ones_complement}
 
 -- 65,535 changes no number in one's complement but 0
-whole_turns : (n turns : ℕ) → 0 < n → ones_complement (n + 65535 * turns) ≡ ones_complement n
+pub whole_turns : (n turns : ℕ) → 0 < n → ones_complement (n + 65535 * turns) ≡ ones_complement n
 whole_turns zero turns some = absurd (omega (arith, some))
 whole_turns (suc n) turns some = grind arith
 
 -- the words of octets of which the first stands low
-abbrev shifted : List ℕ → ℕ
+abbrev pub shifted : List ℕ → ℕ
 shifted [] = 0
 shifted (low ∷ rest) = low + word_sum rest
 
@@ -38,18 +38,18 @@ times_256 (high ∷ low ∷ next ∷ rest) =
     let further = times_256 (next ∷ rest) in
     (omega (arith, further.0), omega (arith, further.1))
 
-shifted_is : (octets : List ℕ) → ones_complement (256 * word_sum octets) ≡ ones_complement (shifted octets)
+pub shifted_is : (octets : List ℕ) → ones_complement (256 * word_sum octets) ≡ ones_complement (shifted octets)
 shifted_is octets = by_cases (word_sum octets) (shifted octets) (highs octets) (times_256 octets).0 (times_256 octets).1
   where
     by_cases : (words low high : ℕ) → 256 * words ≡ low + 65535 * high → high ≤ low → ones_complement (256 * words) ≡ ones_complement low
     by_cases words zero high is most = let none : 256 * words ≡ 0 = omega (arith, is, most) in ap ones_complement none
     by_cases words (suc low) high is most = ap ones_complement is ∙ whole_turns (suc low) high (omega arith)
 
-abbrev exchanged : ℕ → ℕ
+abbrev pub exchanged : ℕ → ℕ
 exchanged n = 256 * (n % 256) + n / 256
 
 -- a number with its octets exchanged is 256 times as much, in one's complement
-exchanged_is : (n : ℕ) → ones_complement (256 * n) ≡ ones_complement (exchanged (ones_complement n))
+pub exchanged_is : (n : ℕ) → ones_complement (256 * n) ≡ ones_complement (exchanged (ones_complement n))
 exchanged_is zero = refl
 exchanged_is (suc n) =
     let number : ℕ = 1 + n % 65535 in

@@ -1,3 +1,6 @@
 pub mod Words
 pub mod Complements
 pub mod Joining
+pub mod Exchanging
+pub mod Halves
+pub mod Parts

@@ -1,1 +1,2 @@
 pub mod Sum
+pub mod Lanes

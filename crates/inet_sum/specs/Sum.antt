@@ -22,6 +22,13 @@ sum_of octets = ones_complement (word_sum octets)
 abbrev pub sum_behind : Bool → ℕ → ℕ
 sum_behind odd sum = if odd then 256 * (sum % 256) + sum / 256 else sum
 
+-- The whole-number sum of the words where each is read with its first octet low, as a processor reads them whose numbers begin with
+-- their lowest octet. In one's complement it is the sum with its octets exchanged, whatever the order (RFC 1071 section 2).
+abbrev pub low_word_sum : List ℕ → ℕ
+low_word_sum [] = 0
+low_word_sum (low ∷ []) = low
+low_word_sum (low ∷ high ∷ rest) = low + 256 * high + low_word_sum rest
+
 -- the checksum that is sent: the one's complement of the sum
 abbrev pub checksum_of : List ℕ → ℕ
 checksum_of octets = 65535 - sum_of octets

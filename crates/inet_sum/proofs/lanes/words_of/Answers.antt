@@ -1,0 +1,22 @@
+use Rattle.std.proofs.Common.{arith}
+use Rattle.inet_sum.proofs.Parts.{wide_bound, next_block, part_summed}
+use Rattle.inet_sum.proofs.lanes.words_of.Goals as goal
+
+pub loop-i-preserved : goal.loop-i-preserved
+loop-i-preserved c = next_block c.loop-i.totals c.with-totals.result c.loop-i.i c.args.part.now c.loop-i.invariant c.with-totals.ensures
+
+pub overflow_add-result : goal.overflow_add-result
+overflow_add-result c =
+    let summed = part_summed c.args.part.now c.loop-i.totals c.loop-i.i c.sum.result c.rest_of.result c.type_inv.part c.requires c.loop-i-test.false c.loop-i.auto.i-end
+    c.loop-i.invariant c.sum.ensures c.rest_of.ensures.sum in
+    record { fits = omega (arith, summed, wide_bound c.args.part.now c.type_inv.part) }
+
+pub returns-clause-sum : goal.returns-clause-sum
+returns-clause-sum c = part_summed c.args.part.now c.loop-i.totals c.loop-i.i c.sum.result c.rest_of.result c.type_inv.part c.requires c.loop-i-test.false c.loop-i.auto.i-end
+    c.loop-i.invariant c.sum.ensures c.rest_of.ensures.sum
+
+pub returns-clause-bound : goal.returns-clause-bound
+returns-clause-bound c =
+    let summed = part_summed c.args.part.now c.loop-i.totals c.loop-i.i c.sum.result c.rest_of.result c.type_inv.part c.requires c.loop-i-test.false c.loop-i.auto.i-end
+    c.loop-i.invariant c.sum.ensures c.rest_of.ensures.sum in
+    omega (arith, summed, wide_bound c.args.part.now c.type_inv.part)
