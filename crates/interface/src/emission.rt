@@ -126,7 +126,7 @@ impl Interface {
         match reply {
             Reply::Arp(packet) => emit_arp(packet, out),
             Reply::Reset { to, head } => {
-                let segment_len = head.head().emit(self.addr, *to, 0, &mut out[HEADS..]);
+                let segment_len = head.head().emit(self.addr, *to, 0, 0, &mut out[HEADS..]);
                 self.emit_segment(mac, *to, segment_len, out)
             }
             Reply::Echo {

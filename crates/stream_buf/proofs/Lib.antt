@@ -10,5 +10,6 @@ pub mod Receptions
 pub mod Joining
 pub mod Gathering
 pub mod Filling
+pub mod Copying
 pub mod Storing
 pub mod Viewing

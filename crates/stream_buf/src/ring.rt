@@ -1,10 +1,12 @@
 //! Octets in a ring, by their places from the front.
 
-ghost use Rattle.std.specs.Prelude.{◌≡◌, ◌+◌, ◌^◌, ◌<◌, ◌≤◌, ◌++◌, length, slice_range};
+ghost use Rattle.std.specs.Prelude.{◌≡◌, ◌+◌, ◌^◌, ◌<◌, ◌≤◌, ◌++◌, length, take, slice_range};
+ghost use Rattle.inet_sum.specs.Sum.{sum_of};
 ghost use Rattle.circular_buffer.specs.Buffer.{buffer};
 ghost use Rattle.stream_buf.specs.Stored.{overlaid, filled_to, laid_at};
 
 use circular_buffer::HeapCircularBuffer;
+use inet_sum::{copy_sum, join};
 
 /// What stands at places for which nothing came.
 const FILLER: [u8; 512] = [0; 512];
@@ -44,29 +46,41 @@ fn overlay(ring: &mut HeapCircularBuffer<u8>, at: usize, octets: &[u8])
     }
 }
 
-/// Fills `out` with the octets from the place `at` on.
-pub(crate) fn copy_at(ring: &HeapCircularBuffer<u8>, at: usize, out: &mut [u8])
+/// Fills `out` with the octets from the place `at` on, and answers their one's complement sum.
+pub(crate) fn copy_at(ring: &HeapCircularBuffer<u8>, at: usize, out: &mut [u8]) -> u16
     requires { at + length out.old ≤ length ring.now.items }
-    ensures { out.new ≡ slice_range ring.now.items at (at + length out.old) }
+    ensures octets { out.new ≡ slice_range ring.now.items at (at + length out.old) }
+    ensures sum { result ≡ sum_of out.new }
 {
     let (front, back) = ring.as_slices();
-    copy_of_parts(front, back, at, out);
+    copy_of_parts(front, back, at, out)
 }
 
-/// Fills `out` with the octets from the place `at` on of two parts of a ring.
-fn copy_of_parts(front: &[u8], back: &[u8], at: usize, out: &mut [u8])
+/// Fills `out` with the octets from the place `at` on of two parts of a ring, and answers their one's complement sum.
+fn copy_of_parts(front: &[u8], back: &[u8], at: usize, out: &mut [u8]) -> u16
     requires { at + length out.old ≤ length (front.now ++ back.now) }
-    ensures { out.new ≡ slice_range (front.now ++ back.now) at (at + length out.old) }
+    ensures octets { out.new ≡ slice_range (front.now ++ back.now) at (at + length out.old) }
+    ensures sum { result ≡ sum_of out.new }
 {
     if front.len() <= at {
         let begin = at - front.len();
-        out.copy_from_slice(&back[begin..begin + out.len()]);
+        copy_sum(&back[begin..begin + out.len()], out)
     } else if out.len() <= front.len() - at {
-        out.copy_from_slice(&front[at..at + out.len()]);
+        copy_sum(&front[at..at + out.len()], out)
     } else {
-        let from_front = front.len() - at;
-        let from_back = out.len() - from_front;
-        out[..from_front].copy_from_slice(&front[at..]);
-        out[from_front..].copy_from_slice(&back[..from_back]);
+        copy_across(&front[at..], back, out)
     }
+}
+
+/// Fills `out` with all octets of one part and the first ones of another, and answers their one's complement sum.
+fn copy_across(front: &[u8], back: &[u8], out: &mut [u8]) -> u16
+    requires front { length front.now ≤ length out.old }
+    requires back { length out.old ≤ length (front.now ++ back.now) }
+    ensures octets { out.new ≡ take (length out.old) (front.now ++ back.now) }
+    ensures sum { result ≡ sum_of out.new }
+{
+    let (first, second) = out.split_at_mut(front.len());
+    let left = copy_sum(front, first);
+    let right = copy_sum(&back[..second.len()], second);
+    join(left, right, front.len() % 2 == 1)
 }

@@ -1,6 +1,7 @@
 //! The octets on their way out.
 
 ghost use Rattle.std.specs.Prelude.{◌≡◌, ◌+◌, ◌≤◌, ◌==◌, length, IfOk};
+ghost use Rattle.inet_sum.specs.Sum.{sum_of};
 ghost use Rattle.stream_buf.specs.Sending.{nothing_held, send_room, written_count, after_write, after_acked, copied};
 
 use crate::ring;
@@ -47,12 +48,14 @@ impl SendBuf {
         self.held.truncate_front(self.held.len() - count);
     }
 
-    /// Fills `out` with the octets that are held from the place `offset` on. They stay.
-    pub fn copy_at(&self, offset: usize, out: &mut [u8])
+    /// Fills `out` with the octets that are held from the place `offset` on, and answers their one's complement sum (RFC 1071), which
+    /// is taken while they are copied. They stay.
+    pub fn copy_at(&self, offset: usize, out: &mut [u8]) -> u16
         requires { offset + length out.old ≤ length self.now.held }
-        ensures { out.new ≡ copied self.now offset (length out.old) }
+        ensures octets { out.new ≡ copied self.now offset (length out.old) }
+        ensures sum { result ≡ sum_of out.new }
     {
-        ring::copy_at(&self.held, offset, out);
+        ring::copy_at(&self.held, offset, out)
     }
 
     /// How many octets can still be taken.

@@ -1,13 +1,15 @@
 -- How a segment is written.
-use Rattle.std.proofs.Common.{◌≡◌, ℕ, ◌+◌, ◌-◌, ◌*◌, ◌≤◌, Bool, true, false, List, [], ◌∷◌, ◌++◌, length, drop, take, slice_range, cond, if◌then◌else◌, refl, sym, ◌∙◌, ap, append_assoc, length-append, arith}
+use Rattle.std.proofs.Common.{◌≡◌, ℕ, ◌+◌, ◌-◌, ◌*◌, ◌<◌, ◌≤◌, ◌/◌, ◌%◌, Bool, true, false, List, [], ◌∷◌, ◌++◌, length, drop, take, slice_range, cond, if◌then◌else◌, refl, sym, ◌∙◌, ap, append_assoc, length-append, arith}
 use Rattle.std.proofs.lemmas.List.{append-nil, take_at, drop_at, drop-drop, take-append-drop, length-take, length-drop}
 use borrow.Rule.Slice.PartMut.{put_mid}
-use Rattle.byteorder.specs.Endian.{big_bytes}
-use Rattle.inet_sum.specs.Sum.{sum_of}
+use Rattle.inet_sum.specs.Sum.{word_sum, ones_complement, sum_of}
+use Rattle.inet_sum.proofs.Words.{word_sum-append, ones_complement-add, ones_complement-ones_complement}
+use Rattle.inet_sum.proofs.Exchanging.{few_turns}
 use Rattle.ipv4.specs.declared.addr.Addr.{Addr}
+use Rattle.tcp_segment.specs.declared.flags.Flags.{Flags}
 use Rattle.tcp_segment.specs.declared.head.Head.{Head}
 use Rattle.tcp_segment.specs.Options.{joined, MaximumSegmentSize}
-use Rattle.tcp_segment.specs.Segment.{fixed_fields, summed_octets}
+use Rattle.tcp_segment.specs.Segment.{FieldsFit, bit, control_bits, fixed_fields, summed_octets}
 use Rattle.tcp_segment.specs.Sent.{sent_segment, sent_offset, sent_with, sent_octets}
 
 one_of : (b : Bool) (m n : ℕ) → m ≤ n → m ≤ cond b n m
@@ -24,21 +26,21 @@ put_options first last out f l =
     rw (take_at first (drop 20 out) 20 f, drop_at first (drop 20 out) 20 f, drop-drop 4 20 out) (sym (append_assoc first last (drop 24 out)))
 
 -- what is written of a header with SYN
-pub with_option : (head : Head) (first last out : List ℕ) → head.flags.syn ≡ true
-    → first ≡ fixed_fields (sent_segment head []) (sent_offset head) 0 0 → last ≡ 2 ∷ 4 ∷ 5 ∷ 180 ∷ []
-    → put_mid 20 4 (first ++ drop 20 out) last ≡ sent_with head [] 0 ++ drop (4 * sent_offset head) out
-with_option head first last out syn f l =
-    let header : first ++ last ≡ sent_with head [] 0 = rw (f, l, syn) refl in
+pub with_option : (head : Head) (checksum : ℕ) (first last out : List ℕ) → head.flags.syn ≡ true
+    → first ≡ fixed_fields (sent_segment head []) (sent_offset head) 0 checksum → last ≡ 2 ∷ 4 ∷ 5 ∷ 180 ∷ []
+    → put_mid 20 4 (first ++ drop 20 out) last ≡ sent_with head [] checksum ++ drop (4 * sent_offset head) out
+with_option head checksum first last out syn f l =
+    let header : first ++ last ≡ sent_with head [] checksum = rw (f, l, syn) refl in
     let len : 24 ≡ 4 * sent_offset head = rw syn refl in
     put_options first last out (ap length f) (ap length l)
-    ∙ ap (λ (xs : List ℕ). xs ++ drop 24 out) header ∙ ap (λ (n : ℕ). sent_with head [] 0 ++ drop n out) len
+    ∙ ap (λ (xs : List ℕ). xs ++ drop 24 out) header ∙ ap (λ (n : ℕ). sent_with head [] checksum ++ drop n out) len
 
 pub option_len : (b : Bool) → 20 + length (joined (if b then MaximumSegmentSize 1460 ∷ [] else []) ++ []) ≡ 4 * (if b then 6 else 5)
 option_len true = refl
 option_len false = refl
 
 -- the length of a header
-sent_len : (head : Head) (checksum : ℕ) → length (sent_with head [] checksum) ≡ 4 * sent_offset head
+pub sent_len : (head : Head) (checksum : ℕ) → length (sent_with head [] checksum) ≡ 4 * sent_offset head
 sent_len head checksum =
     omega (arith, option_len head.flags.syn, ap length (append-nil (joined (sent_segment head []).options ++ [])))
 
@@ -53,36 +55,65 @@ pub whole_len : (head : Head) (octets : List ℕ) (checksum : ℕ) → length (s
 whole_len head octets checksum =
     ap length (sent_before head octets checksum) ∙ omega (arith, length-append (sent_with head [] checksum) octets, sent_len head checksum)
 
--- a checksum is put into a header whose checksum is zero
-put_checksum : (head : Head) (checksum : ℕ) (out : List ℕ) → put_mid 16 2 (sent_with head [] 0 ++ out) (big_bytes 2 checksum) ≡ sent_with head [] checksum ++ out
-put_checksum head checksum out = refl
+bit_fits : (set : Bool) (worth : ℕ) → bit set worth ≤ worth
+bit_fits true worth = omega arith
+bit_fits false worth = omega arith
 
--- The header is written with a checksum of zero, and then the checksum of that is put into it.
-pub emitted : (src dst : Addr) (head : Head) (sum len : ℕ) (out first second checksum : List ℕ)
-    → first ≡ sent_with head [] 0 ++ drop (4 * sent_offset head) out
-    → sum ≡ sum_of (summed_octets src dst (take len first))
-    → checksum ≡ big_bytes 2 (65535 - sum)
-    → second ≡ put_mid 16 2 first checksum
-    → 4 * sent_offset head ≤ len → len ≤ length out
-    → second ≡ sent_octets src dst head (slice_range out (4 * sent_offset head) len) ++ drop len out
+bits_fit : (flags : Flags) → control_bits flags < 64
+bits_fit flags =
+    omega (arith, bit_fits flags.fin 1, bit_fits flags.syn 2, bit_fits flags.rst 4, bit_fits flags.psh 8, bit_fits flags.ack 16, bit_fits flags.urg 32)
+
+-- The words of a header: a number of 32 bits is its two words, and the options are two words or none.
+header_words : (head : Head) (syn : Bool) → head.flags.syn ≡ syn → FieldsFit (sent_segment head [])
+    → word_sum (sent_with head [] 0) ≡ head.source + head.destination + (head.number.0 / 65536 + head.number.0 % 65536) + (head.acknowledgement.0 / 65536 + head.acknowledgement.0 % 65536)
+    + (4096 * sent_offset head + control_bits head.flags) + head.window + cond head.flags.syn 1976 0
+header_words head true is fit = rw is (omega (arith, fit.source, fit.destination, fit.number, fit.acknowledgement, fit.window, bits_fit head.flags))
+header_words head false is fit = rw is (omega (arith, fit.source, fit.destination, fit.number, fit.acknowledgement, fit.window, bits_fit head.flags))
+
+pub words_are : (head : Head) (result : ℕ) → FieldsFit (sent_segment head [])
+    → result ≡ head.source + head.destination + (head.number.0 + head.acknowledgement.0) + (4096 * sent_offset head + control_bits head.flags + head.window) + cond head.flags.syn 1976 0
+    → (more : ℕ) → ones_complement (result + more) ≡ ones_complement (word_sum (sent_with head [] 0) + more)
+words_are head result fit is more =
+    let turns : ℕ = head.number.0 / 65536 + head.acknowledgement.0 / 65536 in
+    let words : ℕ = word_sum (sent_with head [] 0) in
+    let are = header_words head head.flags.syn refl fit in
+    let split : result + more ≡ words + more + 65535 * turns = omega (arith, is, are) in
+    ap ones_complement split ∙ few_turns (words + more) turns (omega (arith, are))
+
+-- the header and the payload, whose sum is known
+pub words_with_payload : (head : Head) (payload : List ℕ) (words sum : ℕ)
+    → ((more : ℕ) → ones_complement (words + more) ≡ ones_complement (word_sum (sent_with head [] 0) + more))
+    → sum ≡ sum_of payload → ones_complement (words + sum) ≡ sum_of (sent_with head payload 0)
+words_with_payload head payload words sum are is_sum =
+    let header : ℕ = word_sum (sent_with head [] 0) in
+    let even : length (sent_with head [] 0) ≡ 2 * (2 * sent_offset head) = sent_len head 0 ∙ omega arith in
+    let both : word_sum (sent_with head payload 0) ≡ header + word_sum payload = ap word_sum (sent_before head payload 0) ∙ word_sum-append (sent_with head [] 0) (2 * sent_offset head) payload even in
+    let turned : (a b : ℕ) → a + b ≡ b + a = λ a b. omega arith in
+    are sum ∙ ap (λ (n : ℕ). ones_complement (header + n)) is_sum ∙ ap ones_complement (turned header (sum_of payload))
+    ∙ ones_complement-add (sum_of payload) (word_sum payload) header (ones_complement-ones_complement (word_sum payload))
+    ∙ ap ones_complement (turned (word_sum payload) header ∙ sym both)
+
+-- The header is written with the checksum of the header with a checksum of zero and of the payload.
+pub emitted : (src dst : Addr) (head : Head) (sum len : ℕ) (out new : List ℕ)
+    → sum ≡ sum_of (summed_octets src dst (sent_with head (slice_range out (4 * sent_offset head) len) 0))
+    → new ≡ sent_with head [] (65535 - sum) ++ drop (4 * sent_offset head) out
+    → 4 * sent_offset head ≤ len
+    → new ≡ sent_octets src dst head (slice_range out (4 * sent_offset head) len) ++ drop len out
 unfolding sent_octets
-emitted src dst head sum len out first second checksum is_first is_sum is_checksum is_second long room =
+emitted src dst head sum len out new is_sum is_new long =
     let header : ℕ = 4 * sent_offset head in
     let payload : List ℕ = slice_range out header len in
     let end : header + (len - header) ≡ len = omega arith in
     let parts : drop header out ≡ payload ++ drop len out =
     sym (take-append-drop (len - header) (drop header out))
     ∙ ap (λ (xs : List ℕ). payload ++ xs) (drop-drop (len - header) header out ∙ ap (λ (n : ℕ). drop n out) end) in
-    let whole : (checksum : ℕ) → sent_with head [] checksum ++ drop header out ≡ sent_with head payload checksum ++ drop len out =
-    λ checksum. ap (λ (xs : List ℕ). sent_with head [] checksum ++ xs) parts
-    ∙ sym (append_assoc (sent_with head [] checksum) payload (drop len out))
-    ∙ ap (λ (xs : List ℕ). xs ++ drop len out) (sym (sent_before head payload checksum)) in
-    let payload_len : length payload ≡ len - header = omega (arith, length-take (len - header) (drop header out), length-drop header out) in
-    let len_is : length (sent_with head payload 0) ≡ len = omega (arith, whole_len head payload 0, payload_len) in
-    let taken : take len first ≡ sent_with head payload 0 =
-    ap (λ (xs : List ℕ). take len xs) (is_first ∙ whole 0) ∙ take_at (sent_with head payload 0) (drop len out) len len_is in
-    let sum_is : sum ≡ sum_of (summed_octets src dst (sent_with head payload 0)) =
-    is_sum ∙ ap (λ (xs : List ℕ). sum_of (summed_octets src dst xs)) taken in
-    is_second ∙ ap (λ (xs : List ℕ). put_mid 16 2 first xs) is_checksum ∙ ap (λ (xs : List ℕ). put_mid 16 2 xs (big_bytes 2 (65535 - sum))) is_first
-    ∙ put_checksum head (65535 - sum) (drop header out) ∙ whole (65535 - sum)
-    ∙ ap (λ (n : ℕ). sent_with head payload (65535 - n) ++ drop len out) sum_is
+    is_new ∙ ap (λ (xs : List ℕ). sent_with head [] (65535 - sum) ++ xs) parts
+    ∙ sym (append_assoc (sent_with head [] (65535 - sum)) payload (drop len out))
+    ∙ ap (λ (xs : List ℕ). xs ++ drop len out) (sym (sent_before head payload (65535 - sum)))
+    ∙ ap (λ (n : ℕ). sent_with head payload (65535 - n) ++ drop len out) is_sum
+
+-- how many octets a payload has that stands behind a header
+pub payload_len : (head : Head) (len : ℕ) (out : List ℕ) → 4 * sent_offset head + len ≤ length out
+    → length (slice_range out (4 * sent_offset head) (4 * sent_offset head + len)) ≡ len
+payload_len head len out room =
+    omega (arith, length-take (4 * sent_offset head + len - 4 * sent_offset head) (drop (4 * sent_offset head) out), length-drop (4 * sent_offset head) out)

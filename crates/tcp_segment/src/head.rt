@@ -1,13 +1,14 @@
 //! What this stack puts into a header.
 
-ghost use Rattle.std.specs.Prelude.{◌≡◌, ◌+◌, ◌*◌, ◌<◌, ◌≤◌, ◌^◌, [], ◌++◌, length, drop, slice_range};
-ghost use Rattle.tcp_segment.specs.Segment.{FieldsFit, fixed_fields};
+ghost use Rattle.std.specs.Prelude.{◌≡◌, ℕ, ◌+◌, ◌*◌, ◌<◌, ◌≤◌, ◌^◌, [], ◌++◌, length, drop, slice_range, if◌then◌else◌};
+ghost use Rattle.inet_sum.specs.Sum.{word_sum, ones_complement, sum_of};
+ghost use Rattle.tcp_segment.specs.Segment.{FieldsFit, control_bits, fixed_fields};
 ghost use Rattle.tcp_segment.specs.Sent.{CanBeSent, sent_segment, sent_offset, sent_with, sent_octets};
 
 use crate::flags::{Flags, octet_of};
 use crate::options::MAXIMUM_SEGMENT_SIZE;
 use crate::seq::Seq;
-use crate::sum::sum_between;
+use crate::sum::sum_of_words;
 use crate::{FIXED_LEN, MSS};
 use ipv4::Addr;
 
@@ -32,9 +33,6 @@ pub struct Head {
 /// The length of the MSS option, in octets.
 const MSS_OPTION_LEN: usize = 4;
 
-/// Where the two octets of the checksum stand in a header (RFC 9293 section 3.1).
-const CHECKSUM: usize = 16;
-
 impl Head {
     /// The length of the header, in octets: with SYN it has the MSS option.
     pub fn len(&self) -> usize
@@ -47,20 +45,28 @@ impl Head {
         }
     }
 
-    /// Writes the header before the payload, which stands at `out[self.len()..]` already, and
-    /// answers the length of the segment, in octets. What stands behind it in `out` stays.
-    pub fn emit(&self, src: Addr, dst: Addr, payload_len: usize, out: &mut [u8]) -> usize
+    /// Writes the header before the payload, which stands at `out[self.len()..]` already and whose
+    /// one's complement sum is `payload_sum`, and answers the length of the segment, in octets. The
+    /// payload isn't read again. What stands behind it in `out` stays.
+    pub fn emit(
+        &self,
+        src: Addr,
+        dst: Addr,
+        payload_len: usize,
+        payload_sum: u16,
+        out: &mut [u8],
+    ) -> usize
         requires room { 4 * sent_offset self.now + payload_len ≤ length out.old }
         requires len { 4 * sent_offset self.now + payload_len < 2 ^ 16 }
+        requires sum { payload_sum ≡ sum_of (slice_range out.old (4 * sent_offset self.now) (4 * sent_offset self.now + payload_len)) }
         ensures len { result ≡ 4 * sent_offset self.now + payload_len }
         ensures sendable { CanBeSent src dst self.now (slice_range out.old (4 * sent_offset self.now) result) }
         ensures octets { let payload = slice_range out.old (4 * sent_offset self.now) result in
             out.new ≡ sent_octets src dst self.now payload ++ drop result out.old }
     {
         let len = self.len() + payload_len;
-        self.write(out);
-        let checksum = u16::MAX - sum_between(src, dst, &out[..len]);
-        out[CHECKSUM..CHECKSUM + 2].copy_from_slice(&checksum.to_be_bytes());
+        let words = self.words() + u64::from(payload_sum);
+        self.write(u16::MAX - sum_of_words(src, dst, len as u16, words), out);
         len
     }
 
@@ -71,13 +77,43 @@ impl Head {
         self.flags.syn
     }
 
-    /// Writes the header with a checksum of 0.
-    fn write(&self, out: &mut [u8])
+    /// What the words of the header come to where the checksum is 0, in one's complement: a number of 32 bits counts as its two words.
+    fn words(&self) -> u64
+        ensures value { (more : ℕ) → ones_complement (result + more) ≡ ones_complement (word_sum (sent_with self.now [] 0) + more) }
+        ensures bound { result < 2 ^ 62 }
+    {
+        let ports = u64::from(self.source) + u64::from(self.destination);
+        let numbers = u64::from(self.number.0) + u64::from(self.acknowledgement.0);
+        let control = u64::from(self.control()) + u64::from(self.window);
+        ports + numbers + control + u64::from(self.option_words())
+    }
+
+    /// What the words of the options come to.
+    fn option_words(&self) -> u16
+        ensures { result ≡ (if self.now.flags.syn then 1976 else 0) }
+    {
+        if self.tells_mss() {
+            u16::from_be_bytes([MAXIMUM_SEGMENT_SIZE, MSS_OPTION_LEN as u8]) + MSS
+        } else {
+            0
+        }
+    }
+
+    /// The word of the data offset and the control bits.
+    fn control(&self) -> u16
+        ensures { result ≡ 4096 * sent_offset self.now + control_bits self.now.flags }
+    {
+        let offset: u16 = if self.tells_mss() { 6 } else { 5 };
+        4096 * offset + u16::from(octet_of(self.flags))
+    }
+
+    /// Writes the header with this checksum.
+    fn write(&self, checksum: u16, out: &mut [u8])
         requires { 4 * sent_offset self.now ≤ length out.old }
-        ensures octets { out.new ≡ sent_with self.now [] 0 ++ drop (4 * sent_offset self.now) out.old }
+        ensures octets { out.new ≡ sent_with self.now [] checksum ++ drop (4 * sent_offset self.now) out.old }
         ensures fit { FieldsFit (sent_segment self.now []) }
     {
-        out[..FIXED_LEN].copy_from_slice(&self.fixed());
+        out[..FIXED_LEN].copy_from_slice(&self.fixed(checksum));
         if self.tells_mss() {
             let [high, low] = MSS.to_be_bytes();
             let option = [MAXIMUM_SEGMENT_SIZE, MSS_OPTION_LEN as u8, high, low];
@@ -85,9 +121,9 @@ impl Head {
         }
     }
 
-    /// The fields of the header before its options, with a checksum of 0.
-    fn fixed(&self) -> [u8; FIXED_LEN]
-        ensures octets { result ≡ fixed_fields (sent_segment self.now []) (sent_offset self.now) 0 0 }
+    /// The fields of the header before its options, with this checksum.
+    fn fixed(&self, checksum: u16) -> [u8; FIXED_LEN]
+        ensures octets { result ≡ fixed_fields (sent_segment self.now []) (sent_offset self.now) 0 checksum }
         ensures fit { FieldsFit (sent_segment self.now []) }
     {
         let Head {
@@ -95,15 +131,15 @@ impl Head {
             destination,
             number: Seq(number),
             acknowledgement: Seq(acknowledgement),
-            flags,
             window,
+            ..
         } = *self;
         let [source_high, source_low] = source.to_be_bytes();
         let [destination_high, destination_low] = destination.to_be_bytes();
         let [n0, n1, n2, n3] = number.to_be_bytes();
         let [a0, a1, a2, a3] = acknowledgement.to_be_bytes();
-        let offset = if self.tells_mss() { 0x60 } else { 0x50 };
-        let flags = octet_of(flags);
+        let [offset, flags] = self.control().to_be_bytes();
+        let [checksum_high, checksum_low] = checksum.to_be_bytes();
         let [window_high, window_low] = window.to_be_bytes();
         [
             source_high,
@@ -122,8 +158,8 @@ impl Head {
             flags,
             window_high,
             window_low,
-            0,
-            0,
+            checksum_high,
+            checksum_low,
             0,
             0,
         ]

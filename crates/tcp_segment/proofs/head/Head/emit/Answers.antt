@@ -1,21 +1,36 @@
-use Rattle.std.proofs.Common.{◌+◌, ◌-◌, ◌*◌, drop, refl, ◌∙◌, arith}
-use Rattle.std.proofs.lemmas.List.{length-take, length-drop}
-use Rattle.tcp_segment.specs.Sent.{sent_offset}
-use Rattle.tcp_segment.proofs.Sending.{emitted}
+use Rattle.std.proofs.Common.{◌≡◌, ◌+◌, ◌-◌, ◌*◌, ◌<◌, ◌^◌, ℕ, List, length, drop, slice_range, refl, sym, ◌∙◌, ap, arith}
+use Rattle.inet_sum.specs.Sum.{ones_complement, sum_of}
+use Rattle.tcp_segment.specs.Segment.{summed_octets}
+use Rattle.tcp_segment.specs.Sent.{sent_offset, sent_with}
+use Rattle.tcp_segment.proofs.Sending.{emitted, payload_len, whole_len, words_with_payload}
 use Rattle.tcp_segment.proofs.head.Head.emit.Goals as goal
 
 pub returns-clause-octets : goal.returns-clause-octets
 returns-clause-octets c =
-    emitted c.args.src c.args.dst c.args.self.now c.sum_between-checksum.result _ c.args.out.now c.write.new.out _ c.copy_from_slice.new.self
-    c.write.ensures.octets c.sum_between-checksum.ensures.sum (c.copy_from_slice.ensures.after ∙ c.to_be_bytes.ensures) refl (omega arith) (omega arith)
+    let head = c.args.self.now in
+    let header : ℕ = 4 * sent_offset head in
+    let len : ℕ = c.len.result + c.args.payload_len in
+    let len_is : len ≡ header + c.args.payload_len = omega (arith, c.len.ensures) in
+    let payload : List ℕ = slice_range c.args.out.now header len in
+    let payload_is : payload ≡ slice_range c.args.out.now header (header + c.args.payload_len) = ap (λ (n : ℕ). slice_range c.args.out.now header n) len_is in
+    let size : length payload ≡ c.args.payload_len = ap length payload_is ∙ payload_len head c.args.payload_len c.args.out.now c.requires.room in
+    let whole : length (sent_with head payload 0) ≡ len = whole_len head payload 0 ∙ omega (arith, size, len_is) in
+    let sum : c.args.payload_sum ≡ sum_of payload = c.requires.sum ∙ ap sum_of (sym payload_is) in
+    let words : ones_complement (c.words.result + c.from.result) ≡ sum_of (sent_with head payload 0) =
+    words_with_payload head payload c.words.result c.from.result c.words.ensures.value (c.from.ensures ∙ sum) in
+    emitted c.args.src c.args.dst head c.sum_of_words.result len c.args.out.now c.write.new.out (c.sum_of_words.ensures.sum (sent_with head payload 0) whole words) c.write.ensures.octets (omega (arith, len_is))
 
 pub returns-clause-sendable : goal.returns-clause-sendable
 returns-clause-sendable c =
     let fit = c.write.ensures.fit in
-    let sum = c.sum_between-checksum.ensures in
+    let sum = c.sum_of_words.ensures in
+    let header : ℕ = 4 * sent_offset c.args.self.now in
+    let len_is : c.len.result + c.args.payload_len ≡ header + c.args.payload_len = omega (arith, c.len.ensures) in
+    let size : length (slice_range c.args.out.now header (c.len.result + c.args.payload_len)) ≡ c.args.payload_len =
+    ap (λ (n : ℕ). length (slice_range c.args.out.now header n)) len_is ∙ payload_len c.args.self.now c.args.payload_len c.args.out.now c.requires.room in
     record {
       src_octets = sum.src_octets;
       dst_octets = sum.dst_octets;
       fields = record { source = fit.source; destination = fit.destination; number = fit.number; acknowledgement = fit.acknowledgement; window = fit.window; urgent = fit.urgent };
-      len = omega (arith, length-take (c.len.result + c.args.payload_len - 4 * sent_offset c.args.self.now) (drop (4 * sent_offset c.args.self.now) c.args.out.now), length-drop (4 * sent_offset c.args.self.now) c.args.out.now);
+      len = omega (arith, size, c.requires.len);
     }

@@ -9,6 +9,6 @@ copy_from_slice-requires c =
 
 pub returns-then-tells_mss-clause-octets : goal.returns-then-tells_mss-clause-octets
 returns-then-tells_mss-clause-octets c =
-    with_option c.args.self.now c.copy_from_slice.new.self c.copy_from_slice-then-tells_mss.new.self c.args.out.now (sym c.tells_mss.ensures ∙ c.if-tells_mss.true)
+    with_option c.args.self.now c.args.checksum c.copy_from_slice.new.self c.copy_from_slice-then-tells_mss.new.self c.args.out.now (sym c.tells_mss.ensures ∙ c.if-tells_mss.true)
     (c.copy_from_slice.ensures.after ∙ c.fixed.ensures.octets)
     (c.copy_from_slice-then-tells_mss.ensures.after ∙ ap (λ (octets : List ℕ). 2 ∷ 4 ∷ get_or octets 0 0 ∷ get_or octets 1 0 ∷ []) c.to_be_bytes.ensures)
