@@ -22,11 +22,7 @@ use Rattle.tcp_state.specs.Congestion.{Signal, after_signal}
 use Rattle.tcp_state.specs.Congestion.Signal.{Begins, Counts, Nothing}
 use Rattle.congestion.specs.Window.{Window}
 use Rattle.congestion.specs.Events.Event.{NewAck, Duplicate}
-
--- one of two by a test
-pub either : (A : Type 0) (P : A → Type 0) (test : Bool) (v w : A) → (test ≡ true → P v) → (test ≡ false → P w) → P (if test then v else w)
-either A P true v w if_true if_false = if_true refl
-either A P false v w if_true if_false = if_false refl
+use Rattle.tcp_state.proofs.Choices.{either}
 
 -- Timers.
 

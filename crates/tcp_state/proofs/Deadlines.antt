@@ -41,7 +41,7 @@ sooner_comes (Some a) (Some b) now = elim (leb_tells a.0 b.0) [
 ]
 
 -- the timers of which one has come
-timers_come : (v : View) (now : Moment)
+pub timers_come : (v : View) (now : Moment)
     → has_come (next_of v.timers) now ≡ ((has_come v.timers.retransmission now || has_come v.timers.probe now) || (has_come v.timers.delayed_ack now || has_come v.timers.overriding now))
 timers_come v now =
     let t = v.timers in
@@ -49,11 +49,11 @@ timers_come v now =
     ∙ ap (λ b. b || has_come (sooner t.delayed_ack t.overriding) now) (sooner_comes t.retransmission t.probe now)
     ∙ ap (λ b. (has_come t.retransmission now || has_come t.probe now) || b) (sooner_comes t.delayed_ack t.overriding now)
 
-come_runs : (deadline : Option Moment) (now : Moment) → has_come deadline now ≡ true → is_some deadline ≡ true
+pub come_runs : (deadline : Option Moment) (now : Moment) → has_come deadline now ≡ true → is_some deadline ≡ true
 come_runs None now e = cc
 come_runs (Some moment) now e = refl
 
-neither : (a b : Bool) → (a || b) ≡ false → (a ≡ false) × (b ≡ false)
+pub neither : (a b : Bool) → (a || b) ≡ false → (a ≡ false) × (b ≡ false)
 neither true b e = cc
 neither false b e = (refl, e)
 

@@ -18,7 +18,7 @@ use Rattle.tcp_state.specs.Due.{first_due}
 use Rattle.tcp_state.specs.Unreachable.{is_unreachable}
 use Rattle.tcp_state.specs.Edges.{IsEdge, Event, Hears, Ticks, Emits, Sends, Receives, Shuts, Closes, Aborts, Unreachable, after_first, after_event, fate_by, is_removed, left_by, state_after}
 use Rattle.tcp_state.proofs.Clocked.{timers_keep, emission_keeps}
-pub use Rattle.tcp_state.proofs.Clocked.{either}
+pub use Rattle.tcp_state.proofs.Choices.{either}
 
 -- what a FIN makes of a connection: it counts, or draws an acknowledgement, or there is none
 pub by_fin : (P : View → Type 0) (w : View) (s : Segment) → (counts_fin w s ≡ true → P (record w { state = beyond_end w.state; receiving = after_end w.receiving; owes_ack = true }))
@@ -33,10 +33,6 @@ and_left false b e = cc
 pub and_right : (a b : Bool) → (a && b) ≡ true → b ≡ true
 and_right true b e = e
 and_right false b e = cc
-
-pub clash : {C : Type 0} (b : Bool) → b ≡ true → b ≡ false → C
-clash true e f = cc
-clash false e f = cc
 
 -- any state may end
 closes : (t : State) → IsEdge t Closed

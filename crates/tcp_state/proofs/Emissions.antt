@@ -20,7 +20,7 @@ is_ack_due v = v.owes_ack || (not (is_opening v.state) && not (is_closed v.state
 
 -- what may be due first
 pub record ByDue (P : Option Due → Type 0) (v : View) : Type 0 where
-  pub nothing : P None
+  pub nothing : is_ack_due v ≡ false → P None
   pub rst : v.owes_reset ≡ true → P (Some Rst)
   pub syn : is_opening v.state ≡ true → P (Some Syn)
   pub once_more : is_opening v.state ≡ false → (mark : ℕ) → v.pace.mark ≡ Some mark → goes_again v mark ≡ true → P (Some (Text (again v mark)))
@@ -30,7 +30,7 @@ pub record ByDue (P : Option Due → Type 0) (v : View) : Type 0 where
   pub ack : is_ack_due v ≡ true → P (Some Ack)
 
 by_ack_due : (P : Option Due → Type 0) (v : View) → ByDue P v → P (ack_due v)
-by_ack_due P v cases = either (Option Due) P (is_ack_due v) (Some Ack) None cases.ack (λ none. cases.nothing)
+by_ack_due P v cases = either (Option Due) P (is_ack_due v) (Some Ack) None cases.ack cases.nothing
 
 by_new_due : (P : Option Due → Type 0) (v : View) → ByDue P v → is_opening v.state ≡ false → P (new_due v)
 by_new_due P v cases opened =

@@ -100,7 +100,7 @@ keeps_alone v s now = (takes_alone v s now).1
 
 -- A segment that is read.
 
-receiving_lives : (t : State) → is_receiving t ≡ true → (is_closed t ≡ false) × (is_syn_sent t ≡ false) × (is_syn_received t ≡ false)
+pub receiving_lives : (t : State) → is_receiving t ≡ true → (is_closed t ≡ false) × (is_syn_sent t ≡ false) × (is_syn_received t ≡ false)
 receiving_lives Established e = (refl, refl, refl)
 receiving_lives FinWait1 e = (refl, refl, refl)
 receiving_lives FinWait2 e = (refl, refl, refl)

@@ -117,7 +117,7 @@ ack_may v sound due =
 -- what goes out first may go out
 pub due-may : (v : View) (due : Due) → IsSound v → first_due v ≡ Some due → MayGoOut v due
 due-may v due sound first = by_due (λ o. (d : Due) → o ≡ Some d → MayGoOut v d) v (record {
-  nothing = λ d e. cc;
+  nothing = λ quiet d e. cc;
   rst = λ owes d e. let same : Rst ≡ d = cc in subst (MayGoOut v) same owes;
   syn = λ opening d e. let same : Syn ≡ d = cc in subst (MayGoOut v) same opening;
   once_more = λ opened mark is goes d e. let same : Text (again v mark) ≡ d = cc in subst (MayGoOut v) same (held_again v mark sound opened (sound.mark mark is));

@@ -1,5 +1,6 @@
 pub mod Framing
 pub mod Sizes
+pub mod Choices
 pub mod GoesOut
 pub mod Clocked
 pub mod Edges
@@ -32,3 +33,9 @@ pub mod SetSoon
 pub mod Congestion
 pub mod Growth
 pub mod Losses
+pub mod Again
+pub mod SmallSegments
+pub mod SecondSegments
+pub mod Told
+pub mod Clocks
+pub mod Expiries

@@ -126,7 +126,7 @@ loses v s now lives is third =
     ap (λ g. if tells_loss g w.congestion then pace_lost pace (outstanding w.sending) else pace) event ∙ ap (λ t. if t then pace_lost pace (outstanding w.sending) else pace) third
 
 -- what is owed of a reset is so only where all is closed
-unowed : (owes closed left : Bool) → closed ≡ false → (owes && not (closed && left)) ≡ false → owes ≡ false
+pub unowed : (owes closed left : Bool) → closed ≡ false → (owes && not (closed && left)) ≡ false → owes ≡ false
 unowed true true left c e = cc
 unowed true false left c e = cc
 unowed false closed left c e = refl

@@ -275,7 +275,7 @@ by_emission v now sound =
     let text : (stretch : Stretch) → end_of stretch < 2 ^ 17 → NeverBack v (after_first v (Some (Text stretch)) now) = λ stretch small.
     let out = after_ack_paid (after_stretch v stretch now) in alike v out (clocked false out now) refl refl (by_text v stretch now sound small) in
     by_due (λ o. NeverBack v (after_first v o now)) v (record {
-      nothing = still v v refl refl refl;
+      nothing = λ quiet. still v v refl refl refl;
       rst = λ owes. still v _ refl refl refl;
       syn = λ opening. let out = after_going_out v Syn now in alike v out (clocked false out now) refl refl (by_syn v now sound);
       once_more = λ opened mark is goes.

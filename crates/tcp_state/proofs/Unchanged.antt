@@ -16,6 +16,7 @@ use Rattle.tcp_state.specs.Timing.{probes}
 use Rattle.tcp_state.specs.Arrival.{owing_ack, after_establishment, after_ack, is_read_on, after_acknowledging_segment, after_acceptable_segment, ends_opening, is_acceptable_to, is_right_syn_ack, after_syn_ack, is_simultaneous_syn, after_simultaneous_syn, after_segment, is_lost, after_lost, after_heard, acknowledges_unsent, is_rejected, before, timed_by, after_segment_at, fate}
 use Rattle.tcp_state.specs.Due.{first_due, again_from, new_due, ack_due, sends_fin, new_octets, fin_alone}
 use Rattle.tcp_state.proofs.Edges.{either, and_left, and_right}
+pub use Rattle.tcp_state.proofs.Choices.{clash}
 use Rattle.tcp_state.proofs.Causes.{or_else, or_right, not_true}
 
 -- the tests of a fate that rejects
@@ -58,10 +59,6 @@ unsent v s e =
         )
       ];
     }
-
-pub clash : {C : Type 0} (b : Bool) → b ≡ true → b ≡ false → C
-clash true e f = cc
-clash false e f = cc
 
 pub unsent_leaves : (v : View) (s : Segment) → IsUnsent v s → after_segment v s ≡ v
 unsent_leaves v s u =

@@ -64,7 +64,7 @@ closed_has_none v sound closed has =
       | inr sends ↦ elim sends [ inl some ↦ omega (arith, none, some) | inr waits ↦ clash (awaits_fin_ack v.state) waits plain.1 ]
     ]
 
-owed_where_closed : (owes closed released : Bool) → (owes && not (closed && released)) ≡ false → owes ≡ true → closed ≡ true
+pub owed_where_closed : (owes closed released : Bool) → (owes && not (closed && released)) ≡ false → owes ≡ true → closed ≡ true
 owed_where_closed true true released e f = refl
 owed_where_closed true false released e f = cc
 owed_where_closed false closed released e f = cc

@@ -1,6 +1,7 @@
 //! What is due, and how it goes out (RFC 9293 section 3.8).
 
 ghost use Rattle.std.specs.Prelude.{◌≡◌, ◌+◌, ◌<◌, ◌≤◌, ◌++◌, length, drop, IfSome, MatchOption, option_map, is_some, if◌then◌else◌, ◌||◌, ◌==◌, ◌^◌, true, false, Some};
+ghost use Rattle.inet_sum.specs.Sum.{sum_of};
 ghost use Rattle.tcp_state.specs.View.{is_opening, is_syn_sent, most_outstanding};
 ghost use Rattle.tcp_state.specs.Stream.{outstanding};
 ghost use Rattle.tcp_segment.specs.declared.TheConstants.{MSS};
@@ -235,8 +236,8 @@ impl Connection {
         let (local, peer) = (self.local.addr, self.peer.addr);
         let head = self.head(due);
         let (start, count) = (head.len(), self.octet_count(due));
-        self.copy_octets(due, &mut out[start..start + count]);
-        head.emit(local, peer, count, out)
+        let sum = self.copy_octets(due, &mut out[start..start + count]);
+        head.emit(local, peer, count, sum, out)
     }
 
     /// What a probe brings.
@@ -264,16 +265,17 @@ impl Connection {
         }
     }
 
-    /// Fills `out`, which has room for just them, with the octets of the segment for what is due.
-    fn copy_octets(&self, due: Due, out: &mut [u8])
+    /// Fills `out`, which has room for just them, with the octets of the segment for what is due, and answers their one's complement sum.
+    fn copy_octets(&self, due: Due, out: &mut [u8]) -> u16
         requires may { MayGoOut self.now due }
         requires room { length out.old ≡ length (octets_of self.now due) }
-        ensures { out.new ≡ octets_of self.now due }
+        ensures octets { out.new ≡ octets_of self.now due }
+        ensures sum { result ≡ sum_of out.new }
     {
         match due {
             Due::Text(stretch) => self.sender.copy_at(stretch.offset, out),
             Due::Probe => self.sender.copy_at(0, out),
-            Due::Rst | Due::Syn | Due::Ack => {}
+            Due::Rst | Due::Syn | Due::Ack => 0,
         }
     }
 

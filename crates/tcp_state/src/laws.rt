@@ -1,16 +1,16 @@
 //! Laws over the definitions alone: functions with nothing to do, whose contracts are the laws.
 
-ghost use Rattle.std.specs.Prelude.{◌≡◌, ℕ, ◌+◌, ◌-◌, ◌<◌, ◌≤◌, ◌==◌, ◌≢◌, nat_lt, ◌^◌, ◌⊎◌, ◌↔◌, ◌||◌, ◌&&◌, List, ◌++◌, slice_index_or, length, true, false, if◌then◌else◌, Some, None, is_some};
+ghost use Rattle.std.specs.Prelude.{◌≡◌, ℕ, ◌+◌, ◌-◌, ◌*◌, ◌%◌, ◌<◌, ◌≤◌, ◌==◌, ◌≢◌, nat_lt, min, ◌^◌, ◌⊎◌, ◌↔◌, ◌||◌, ◌&&◌, List, ◌++◌, slice_index_or, length, true, false, if◌then◌else◌, Some, None, is_some};
 ghost use Rattle.ipv4.specs.declared.addr.Endpoint.{Endpoint};
 ghost use Rattle.tcp_segment.specs.Segment.{Segment, span_of};
 ghost use Rattle.tcp_state.specs.declared.calls.Refusal.{Refusal};
 ghost use Rattle.clock.specs.declared.moment.Moment.{Moment};
-ghost use Rattle.clock.specs.Moments.{has_come};
+ghost use Rattle.clock.specs.Moments.{after, has_come};
 ghost use Rattle.tcp_state.specs.declared.connection.Fate.{Fate};
 ghost use Rattle.tcp_state.specs.declared.state.State.{State};
 ghost use Rattle.tcp_state.specs.declared.emission.Due.{Due};
-ghost use Rattle.tcp_state.specs.View.{View, IsSound, is_opening, is_closed, is_syn_sent, is_over, is_read_closed, reset_since, opened_actively};
-ghost use Rattle.tcp_segment.specs.Wire.{wire, IsBefore};
+ghost use Rattle.tcp_state.specs.View.{View, IsSound, is_opening, is_closed, is_syn_sent, is_at_end, is_over, is_read_closed, reset_since, opened_actively};
+ghost use Rattle.tcp_segment.specs.Wire.{wire, past, IsBefore};
 ghost use Rattle.tcp_state.specs.Numbers.{is_before};
 ghost use Rattle.tcp_state.specs.Halves.{Sending, Receiving};
 ghost use Rattle.std.specs.Option.{option_or};
@@ -22,11 +22,11 @@ ghost use Rattle.retransmit.specs.declared.timers.TimerKind.{TimerKind};
 ghost use Rattle.retransmit.specs.Deadlines.{deadline_of};
 ghost use Rattle.tcp_state.specs.declared.pace.Timed.{Timed};
 ghost use Rattle.tcp_state.specs.declared.emission.Stretch.{Stretch};
-ghost use Rattle.tcp_state.specs.Timing.{KeepsTime, wants_out, after_tick, deadline};
+ghost use Rattle.tcp_state.specs.Timing.{KeepsTime, probes, expires, wants_out, after_tick, deadline};
 ghost use Rattle.congestion.specs.Window.{is_recovering, third_is_next};
 ghost use Rattle.tcp_state.specs.Congestion.{KeepsCongestion, after_signal};
 ghost use Rattle.tcp_state.specs.Arrival.{opened_passively, fate, is_acceptable_to, is_receiving, is_read, is_duplicate, after_ack, after_heard, after_segment_at};
-ghost use Rattle.tcp_state.specs.Due.{MayGoOut, first_due, end_of, sends_again, again, after_emitted};
+ghost use Rattle.tcp_state.specs.Due.{MayGoOut, first_due, end_of, flags_of, sends_again, again, after_emitted};
 ghost use Rattle.tcp_state.specs.Unreachable.{IsRefused};
 ghost use Rattle.tcp_state.specs.Simultaneous.{crossed, AnswersSyn, HasOpened};
 ghost use Rattle.tcp_state.specs.Edges.{Event, after_event, fate_by, moment_of, state_after, IsEdge, ends_by, is_cause, may_raise, congestion_event_by};
@@ -263,4 +263,92 @@ pub fn simultaneous_syns_are_answered()
         → AnswersSyn v.sending.una s.number (after_segment_at v s now) × (fate v s ≡ Fate.Stays) }
     ensures reset { (v : View) (s : Segment) (now : Moment) → IsSound v → v.state ≡ State.SynReceived → v.passive ≡ false → s.flags.rst ≡ true → s.number ≡ v.receiving.rnext → span_of s ≡ 0
         → IsRefused (after_segment_at v s now) × (fate v s ≡ Fate.Stays) }
+{}
+
+/// What goes out again went out before (RFC 9293 section 3.8.1): it is one segment's octets at most and ends at SND.NXT, or before it where it is a full segment. SND.NXT stays. It begins within the peer's
+/// window and the congestion window, or at SND.UNA (RFC 5681 section 3.1); the resend mark then moves on to its end, and is gone where that is SND.NXT.
+pub fn what_goes_out_again_went_out_before()
+    ensures ends { (v : View) (stretch : Stretch) → IsSound v → first_due v ≡ Some (Due.Text stretch) → stretch.offset < outstanding v.sending
+        → (stretch.count ≤ v.sending.smss) × (end_of stretch ≤ outstanding v.sending) × ((end_of stretch ≡ outstanding v.sending) ⊎ (stretch.count ≡ v.sending.smss)) }
+    ensures stays { (v : View) (stretch : Stretch) (now : Moment) → IsSound v → first_due v ≡ Some (Due.Text stretch) → stretch.offset < outstanding v.sending
+        → (after_event v (Event.Emits now)).sending.nxt ≡ v.sending.nxt }
+    ensures within { (v : View) (stretch : Stretch) → first_due v ≡ Some (Due.Text stretch) → stretch.offset < outstanding v.sending
+        → (stretch.offset ≡ 0) ⊎ ((stretch.offset < v.sending.window) × (stretch.offset < v.congestion.cwnd)) }
+    ensures moves_on { (v : View) (stretch : Stretch) (now : Moment) → IsSound v → v.pace.once ≡ false → first_due v ≡ Some (Due.Text stretch) → stretch.offset < outstanding v.sending
+        → (after_event v (Event.Emits now)).pace.mark ≡ (if nat_lt (end_of stretch) (outstanding v.sending) then Some (end_of stretch) else None) }
+{}
+
+/// A segment of new octets that isn't full waits for what is outstanding (Nagle, RFC 1122 section 4.2.3.4). Where nothing is, it takes all that is held, or is half of the largest window that the peer ever
+/// advertised (RFC 9293 section 3.8.6.2.1). The wait is over otherwise only by the clock, at the deadline of the override,
+/// 500 ms after the event by which that began.
+pub fn small_segments_wait()
+    ensures waits { (v : View) (stretch : Stretch) → IsSound v → first_due v ≡ Some (Due.Text stretch) → outstanding v.sending ≤ stretch.offset → 0 < stretch.count → stretch.count < v.sending.smss → v.pace.overridden ≡ false
+        → (outstanding v.sending ≡ 0) × ((stretch.count ≡ length v.sending.held) ⊎ (v.sending.largest ≤ 2 * stretch.count)) }
+    ensures overridden { (v : View) (e : Event) → v.pace.overridden ≡ false → (after_event v e).pace.overridden ≡ true → (now : Moment) × (e ≡ Event.Ticks now) × (has_come v.timers.overriding now ≡ true) }
+    ensures begins { (v : View) (e : Event) (deadline : Moment) → v.timers.overriding ≡ None → (after_event v e).timers.overriding ≡ Some deadline → (now : Moment) × (moment_of e ≡ Some now) × (deadline ≡ after now 500) }
+{}
+
+/// Octets that come are acknowledged at the second segment that brings some, and within half a second of the first (RFC 1122 section 4.2.3.2): where an acknowledgement waits already, another segment with
+/// octets makes one owed at once, and one that is owed goes out with whatever is due first.
+pub fn second_segments_are_acknowledged()
+    ensures second { (v : View) (s : Segment) (now : Moment) → v.released ≡ false → is_receiving v.state ≡ true → is_read v s ≡ true → 0 < length s.octets → v.delays_ack ≡ true
+        → (after_segment_at v s now).owes_ack ≡ true }
+    ensures first { (v : View) (s : Segment) (now : Moment) → KeepsTime v → v.released ≡ false → is_receiving v.state ≡ true → is_read v s ≡ true → 0 < length s.octets
+        → ((after_segment_at v s now).owes_ack ≡ true) ⊎ ((deadline : Moment) × ((after_segment_at v s now).timers.delayed_ack ≡ Some deadline) × (deadline.0 < now.0 + 500)) }
+    ensures owed { (v : View) → IsSound v → v.owes_ack ≡ true → (due : Due) × (first_due v ≡ Some due) × ((let f = flags_of v due in f.ack) ≡ true) }
+{}
+
+/// The window is told in steps of a segment at least (RFC 1122 section 4.2.3.3, RFC 9293 section 3.8.6.2.2): its right edge stays, or moves on by 1,460 or more, up to the end of the free room. Such a step
+/// is told with what goes out next.
+pub fn windows_are_told_in_whole_steps()
+    ensures steps { (v : View) (e : Event) → IsSound v → is_syn_sent v.state ≡ false → v.receiving.edge < 2 ^ 32 → ((after_event v e).receiving.edge ≡ v.receiving.edge)
+        ⊎ ((1460 ≤ past (after_event v e).receiving.edge v.receiving.edge) × ((after_event v e).receiving.edge ≡ (v.receiving.rnext + (65535 - length v.receiving.readable)) % 2 ^ 32)) }
+    ensures told { (v : View) (now : Moment) → IsSound v → (is_opening v.state || is_closed v.state) ≡ false → past v.receiving.edge v.receiving.rnext + 1460 + length v.receiving.readable ≤ 65535
+        → (after_event v (Event.Emits now)).receiving.edge ≡ (v.receiving.rnext + (65535 - length v.receiving.readable)) % 2 ^ 32 }
+{}
+
+/// The retransmission timer (RFC 6298 sections 5.1 and 5.3): an acknowledgement that moves SND.UNA starts it anew where something stays outstanding that isn't probed with, and so does any event by which it
+/// begins: for the timeout, from that moment on. No other event moves it while it runs, but a tick that has come to it.
+pub fn new_acknowledgements_restart_the_timer()
+    ensures restarts { (v : View) (s : Segment) (now : Moment) → (after_event v (Event.Hears s now)).sending.una ≢ v.sending.una → 0 < outstanding (after_event v (Event.Hears s now)).sending
+        → probes (after_event v (Event.Hears s now)) ≡ false → (after_event v (Event.Hears s now)).timers.retransmission ≡ Some (after now (after_event v (Event.Hears s now)).pace.timeout.rto) }
+    ensures begins { (v : View) (e : Event) (deadline : Moment) → v.timers.retransmission ≡ None → (after_event v e).timers.retransmission ≡ Some deadline
+        → (now : Moment) × (moment_of e ≡ Some now) × (deadline ≡ after now (after_event v e).pace.timeout.rto) }
+    ensures runs_on { (v : View) (e : Event) (was is : Moment) → is_closed (after_event v e).state ≡ false → v.timers.retransmission ≡ Some was → (after_event v e).timers.retransmission ≡ Some is
+        → (is ≡ was) ⊎ (((after_event v e).sending.una ≢ v.sending.una) ⊎ ((now : Moment) × (e ≡ Event.Ticks now) × (was.0 ≤ now.0))) }
+{}
+
+/// An expiry of the retransmission timer, unless it ends the connection, puts out again all that is outstanding, from SND.UNA on, wherever the resend mark stood; and it doubles the timeout, up to a minute,
+/// and starts the timer anew for that (RFC 6298 sections 5.4 to 5.6).
+pub fn expiries_resend_from_una()
+    ensures resends { (v : View) (now : Moment) → IsSound v → KeepsTime v → has_come v.timers.retransmission now ≡ true → is_closed (after_tick v now).state ≡ false
+        → ((after_tick v now).pace.mark ≡ Some 0) × ((after_tick v now).pace.once ≡ false) × ((first_due (after_tick v now) ≡ Some Due.Syn) ⊎ (first_due (after_tick v now) ≡ Some (Due.Text (again (after_tick v now) 0)))) }
+    ensures backs_off { (v : View) (now : Moment) → KeepsTime v → has_come v.timers.retransmission now ≡ true → is_closed (after_tick v now).state ≡ false
+        → (let timeout = min 60000 (2 * v.pace.timeout.rto) in ((after_tick v now).pace.timeout.rto ≡ timeout) × ((after_tick v now).timers.retransmission ≡ Some (after now timeout))) }
+{}
+
+/// The probe of a closed window (RFC 9293 section 3.8.6.1): the first waits for the timeout, and each further one twice as long as the one before, up to a minute. A probe leaves the timeout, the congestion
+/// window and the resend mark as they are.
+pub fn probes_wait_twice_as_long()
+    ensures first { (v : View) (e : Event) (deadline : Moment) → v.timers.probe ≡ None → (after_event v e).timers.probe ≡ Some deadline
+        → ((after_event v e).pace.interval ≡ (after_event v e).pace.timeout.rto) × ((now : Moment) × (moment_of e ≡ Some now) × (deadline ≡ after now (after_event v e).pace.timeout.rto)) }
+    ensures next { (v : View) (now : Moment) → KeepsTime v → has_come v.timers.probe now ≡ true → is_closed (after_tick v now).state ≡ false
+        → (let wait = min 60000 (2 * v.pace.interval) in ((after_tick v now).pace.interval ≡ wait) × ((after_tick v now).timers.probe ≡ Some (after now wait)) × ((after_tick v now).pace.owes_probe ≡ true)) }
+    ensures alone { (v : View) (now : Moment) → KeepsTime v → has_come v.timers.probe now ≡ true → is_closed (after_tick v now).state ≡ false
+        → ((after_tick v now).pace.timeout ≡ v.pace.timeout) × ((after_tick v now).congestion ≡ v.congestion) × ((after_tick v now).pace.mark ≡ v.pace.mark) }
+    ensures runs_on { (v : View) (e : Event) (was is : Moment) → is_closed (after_event v e).state ≡ false → v.timers.probe ≡ Some was → (after_event v e).timers.probe ≡ Some is
+        → ((is ≡ was) × ((after_event v e).pace.interval ≡ v.pace.interval)) ⊎ ((now : Moment) × (e ≡ Event.Ticks now) × (was.0 ≤ now.0)) }
+{}
+
+/// The clock ends a connection, but at the end of its wait, at the thirteenth expiry without progress and at no other (RFC 9293 section 3.8.3), and then every call reports ETIMEDOUT. Each expiry counts,
+/// and only progress begins the count anew: SND.UNA moved, or a peer whose window is closed acknowledged.
+pub fn the_thirteenth_expiry_ends()
+    ensures ends { (v : View) (now : Moment) → IsSound v → is_closed v.state ≡ false → is_at_end v now ≡ false → is_closed (after_tick v now).state ≡ true
+        → (v.pace.expiries ≡ 12) × (expires v now ≡ true) × ((after_tick v now).pending_error ≡ Some Refusal.ETIMEDOUT) }
+    ensures thirteenth { (v : View) (now : Moment) → v.pace.expiries ≡ 12 → expires v now ≡ true → is_closed (after_tick v now).state ≡ true }
+    ensures each { (v : View) (now : Moment) → expires v now ≡ true → is_closed (after_tick v now).state ≡ false → (after_tick v now).pace.expiries ≡ v.pace.expiries + 1 }
+    ensures counted { (v : View) (e : Event) → ((after_event v e).pace.expiries ≡ v.pace.expiries)
+        ⊎ ((((after_event v e).pace.expiries ≡ 0) × (((after_event v e).sending.una ≢ v.sending.una) ⊎ (v.sending.window ≡ 0)))
+        ⊎ ((now : Moment) × (e ≡ Event.Ticks now) × (expires v now ≡ true) × ((after_event v e).pace.expiries ≡ v.pace.expiries + 1))) }
+    ensures progress { (v : View) (s : Segment) (now : Moment) → (after_event v (Event.Hears s now)).sending.una ≢ v.sending.una → (after_event v (Event.Hears s now)).pace.expiries ≡ 0 }
 {}

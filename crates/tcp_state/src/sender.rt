@@ -1,6 +1,7 @@
 //! The sending half: what the caller gave and the peer has not acknowledged (RFC 9293 section 3.3.1).
 
 ghost use Rattle.std.specs.Prelude.{◌≡◌, ◌+◌, ◌≤◌, ◌==◌, ◌++◌, [], length, take, drop, max};
+ghost use Rattle.inet_sum.specs.Sum.{sum_of};
 ghost use Rattle.stream_buf.specs.Sending.{nothing_held};
 ghost use Rattle.tcp_segment.specs.Wire.{past};
 ghost use Rattle.tcp_state.specs.Halves.{Sending};
@@ -63,12 +64,13 @@ impl Sender {
         self.buffer.len()
     }
 
-    /// Fills `out` with those from a place on.
-    pub(crate) fn copy_at(&self, offset: usize, out: &mut [u8])
+    /// Fills `out` with those from a place on, and answers their one's complement sum.
+    pub(crate) fn copy_at(&self, offset: usize, out: &mut [u8]) -> u16
         requires { offset + length out.old ≤ length self.now.held }
-        ensures { out.new ≡ take (length out.old) (drop offset self.now.held) }
+        ensures octets { out.new ≡ take (length out.old) (drop offset self.now.held) }
+        ensures sum { result ≡ sum_of out.new }
     {
-        self.buffer.copy_at(offset, out);
+        self.buffer.copy_at(offset, out)
     }
 
     /// Whether all octets that were taken are acknowledged.

@@ -13,12 +13,12 @@ returns-clause-bound c =
 
 pub returns-clause-frame : goal.returns-clause-frame
 returns-clause-frame c =
-    let octets = c.copy_octets.new.out in
+    let octets = c.copy_octets-sum.new.out in
     let start = c.len-start.result in
     let count = c.octet_count-count.result in
     let v = view_of c.self.inside in
-    let same : octets ≡ octets_of v c.args.due = c.copy_octets.ensures ∙ search rules in
-    let len : length octets ≡ count = ap length c.copy_octets.ensures ∙ sym c.octet_count-count.ensures.count in
+    let same : octets ≡ octets_of v c.args.due = c.copy_octets-sum.ensures.octets ∙ search rules in
+    let len : length octets ≡ count = ap length c.copy_octets-sum.ensures.octets ∙ sym c.octet_count-count.ensures.count in
     let bound = returns-clause-bound c in
     let room : c.emit.result ≤ length c.args.out.now = omega (arith, bound, c.requires.room) in
     c.emit.ensures.octets

@@ -1,0 +1,138 @@
+-- Why what goes out again ends at SND.NXT, or before it with a full segment.
+use Rattle.std.proofs.Common.{◌≡◌, ℕ, suc, ◌+◌, ◌%◌, ◌^◌, ◌<◌, ◌≤◌, ◌==◌, ◌&&◌, ◌⊎◌, nat_le, nat_lt, if◌then◌else◌, Bool, true, false, length, Some, None, inl, inr, arith, refl, ◌∙◌, ap, subst}
+use Rattle.std.proofs.lemmas.Bool.{leb-true, eqb-true, eq-eqb, ltb-true, lt-ltb}
+use Rattle.std.proofs.lemmas.Bool.Decides.{leb_tells}
+use Rattle.tcp_segment.specs.Wire.{past}
+use Rattle.clock.specs.declared.moment.Moment.{Moment}
+use Rattle.tcp_state.specs.declared.emission.Due.TheVariants.{Text}
+use Rattle.tcp_state.specs.declared.emission.Stretch.{Stretch}
+use Rattle.tcp_state.specs.Numbers.{later_number}
+use Rattle.tcp_state.specs.Halves.{Sending}
+use Rattle.tcp_state.specs.Stream.{outstanding, after_sent}
+use Rattle.tcp_state.specs.Windows.{open_window}
+use Rattle.tcp_state.specs.Pace.{mark_past}
+use Rattle.tcp_state.specs.View.{View, IsSound, takes_flag_number}
+use Rattle.tcp_state.specs.Due.{first_due, end_of, after_resent, after_first_sent, after_numbers, after_new_octets, brings_new_octets, after_emitted, again, goes_again, new_octets, fin_alone}
+use Rattle.tcp_state.specs.Edges.{Emits, after_first, after_event}
+use Rattle.tcp_state.proofs.Choices.{either, clash}
+use Rattle.tcp_state.proofs.Edges.{and_left}
+use Rattle.tcp_state.proofs.Causes.{both, or_else, by}
+use Rattle.tcp_state.proofs.Unchanged.{and_false}
+use Rattle.tcp_state.proofs.Emissions.{by_due, stretch_sends}
+
+-- a stretch that begins with what went out has one segment's octets, and ends with what went out, or before it where it is full
+abbrev EndsSent : View → Stretch → Type 0
+EndsSent v t = t.offset < outstanding v.sending → (t.count ≤ v.sending.smss) × (end_of t ≤ outstanding v.sending) × ((end_of t ≡ outstanding v.sending) ⊎ (t.count ≡ v.sending.smss))
+
+flag_number : (b : Bool) → (if b then 1 else 0) ≤ 1
+flag_number true = omega arith
+flag_number false = omega arith
+
+-- a FIN beyond its octets goes out again with the last of them, where it had gone out
+again_ends : (v : View) (mark : ℕ) → IsSound v → EndsSent v (again v mark)
+again_ends v mark sound within =
+    let held = length v.sending.held in
+    let o = outstanding v.sending in
+    let t = again v mark in
+    let most : o ≤ held + 1 = omega (arith, sound.flight, flag_number (takes_flag_number v.state)) in
+    let number : ℕ = if t.fin then 1 else 0 in
+    let size : t.count ≤ v.sending.smss = omega arith in
+    elim (leb_tells (suc held) o) [
+      | inl more ↦ by ((t.count ≤ v.sending.smss) × (end_of t ≤ o) × ((end_of t ≡ o) ⊎ (t.count ≡ v.sending.smss))) t.fin
+          (λ ends.
+          let one : number ≡ 1 = ap (λ b. if b then 1 else 0) ends in
+          let last : mark + t.count ≡ held = eqb-true (mark + t.count) held (and_left (mark + t.count == held) (nat_lt held o) ends) in
+          (size, omega (arith, one, last, most, more.1), inl (omega (arith, one, last, most, more.1))))
+          (λ goes_on.
+          let zero : number ≡ 0 = ap (λ b. if b then 1 else 0) goes_on in
+          (size, omega (arith, zero, within, most), inr (full v mark most within more.0 more.1 goes_on)))
+      | inr all ↦
+          let none : t.fin ≡ false = ap (λ b. (mark + t.count == held) && b) all.0 ∙ and_false (mark + t.count == held) in
+          let zero : number ≡ 0 = ap (λ b. if b then 1 else 0) none in
+          (size, omega (arith, zero, within, all.1), elim (leb_tells v.sending.smss t.count) [ inl many ↦ inr (omega (arith, size, many.1)) | inr few ↦ inl (omega (arith, zero, within, all.1, few.1)) ])
+    ]
+  where
+    -- octets stay behind it
+    full : (v : View) (mark : ℕ) → outstanding v.sending ≤ length v.sending.held + 1 → mark < outstanding v.sending → nat_lt (length v.sending.held) (outstanding v.sending) ≡ true → length v.sending.held < outstanding v.sending
+        → (let t = again v mark in t.fin ≡ false) → (let t = again v mark in t.count ≡ v.sending.smss)
+    full v mark most within sent more goes_on =
+        let held = length v.sending.held in
+        let t = again v mark in
+        elim (leb_tells v.sending.smss t.count) [
+          | inl many ↦ omega (arith, many.1)
+          | inr few ↦
+              let last : mark + t.count ≡ held = omega (arith, few.1, within, most, more) in
+              clash t.fin (both (mark + t.count == held) (nat_lt held (outstanding v.sending)) (eq-eqb (mark + t.count) held last) sent) goes_on
+        ]
+
+pub ends_sent : (v : View) (stretch : Stretch) → IsSound v → first_due v ≡ Some (Text stretch) → stretch.offset < outstanding v.sending
+    → (stretch.count ≤ v.sending.smss) × (end_of stretch ≤ outstanding v.sending) × ((end_of stretch ≡ outstanding v.sending) ⊎ (stretch.count ≡ v.sending.smss))
+ends_sent v stretch sound first = by_due (λ o. (t : Stretch) → o ≡ Some (Text t) → EndsSent v t) v (record {
+  nothing = λ quiet t e. cc;
+  rst = λ owes t e. cc;
+  syn = λ opening t e. cc;
+  once_more = λ opened mark is goes t e. let same : again v mark ≡ t = cc in subst (EndsSent v) same (again_ends v mark sound);
+  octets = λ opened sends t e. let same : new_octets v ≡ t = cc in subst (EndsSent v) same (λ before. absurd (omega (arith, before)));
+  fin = λ opened sends t e. let same : fin_alone v ≡ t = cc in subst (EndsSent v) same (λ before. absurd (omega (arith, before)));
+  probe = λ opened goes t e. cc;
+  ack = λ owes t e. cc;
+}) stretch first
+
+-- SND.NXT stays
+next_stays : (una nxt end : ℕ) → una < 2 ^ 32 → nxt < 2 ^ 32 → end ≤ past nxt una → later_number una nxt ((una + end) % 2 ^ 32) ≡ nxt
+next_stays una nxt end u n within =
+    let b = (una + end) % 2 ^ 32 in
+    either ℕ (λ m. m ≡ nxt) (nat_le (past nxt una) (past b una)) b nxt
+    (λ reaches. let most : past nxt una ≤ past b una = leb-true (past nxt una) (past b una) reaches in omega (arith, u, n, within, most))
+    (λ before. refl)
+
+pub nothing_new : (v : View) (stretch : Stretch) (now : Moment) → IsSound v → first_due v ≡ Some (Text stretch) → stretch.offset < outstanding v.sending
+    → (after_event v (Emits now)).sending.nxt ≡ v.sending.nxt
+nothing_new v stretch now sound first before =
+    let ends = ends_sent v stretch sound first before in
+    ap (λ o. (after_first v o now).sending.nxt) first
+    ∙ ap (λ (s : Sending). s.nxt) (stretch_sends v stretch now)
+    ∙ next_stays v.sending.una v.sending.nxt (end_of stretch) sound.una sound.nxt ends.1
+
+-- within both windows, but for what stands at SND.UNA
+abbrev Within : View → Stretch → Type 0
+Within v t = t.offset < outstanding v.sending → (t.offset ≡ 0) ⊎ ((t.offset < v.sending.window) × (t.offset < v.congestion.cwnd))
+
+again_within : (v : View) (mark : ℕ) → goes_again v mark ≡ true → Within v (again v mark)
+again_within v mark goes before = elim (or_else (mark == 0) (nat_lt mark (open_window v.sending v.congestion.cwnd)) goes) [
+  | inl first ↦ inl (eqb-true mark 0 first)
+  | inr fits ↦ let below = ltb-true mark (open_window v.sending v.congestion.cwnd) fits in inr (omega (arith, below), omega (arith, below))
+]
+
+pub keeps_within : (v : View) (stretch : Stretch) → first_due v ≡ Some (Text stretch) → stretch.offset < outstanding v.sending
+    → (stretch.offset ≡ 0) ⊎ ((stretch.offset < v.sending.window) × (stretch.offset < v.congestion.cwnd))
+keeps_within v stretch first = by_due (λ o. (t : Stretch) → o ≡ Some (Text t) → Within v t) v (record {
+  nothing = λ quiet t e. cc;
+  rst = λ owes t e. cc;
+  syn = λ opening t e. cc;
+  once_more = λ opened mark is goes t e. let same : again v mark ≡ t = cc in subst (Within v) same (again_within v mark goes);
+  octets = λ opened sends t e. let same : new_octets v ≡ t = cc in subst (Within v) same (λ before. absurd (omega (arith, before)));
+  fin = λ opened sends t e. let same : fin_alone v ≡ t = cc in subst (Within v) same (λ before. absurd (omega (arith, before)));
+  probe = λ opened goes t e. cc;
+  ack = λ owes t e. cc;
+}) stretch first
+
+-- The mark moves on, and is gone where all that is outstanding went out again.
+
+moved_on : (v : View) (stretch : Stretch) (now : Moment) → IsSound v → v.pace.once ≡ false → first_due v ≡ Some (Text stretch) → stretch.offset < outstanding v.sending
+    → (after_emitted v (Text stretch) now).pace.mark ≡ (if nat_lt (end_of stretch) (outstanding v.sending) then Some (end_of stretch) else None)
+moved_on v stretch now sound all first before =
+    let o = outstanding v.sending in
+    let end = end_of stretch in
+    let ends = ends_sent v stretch sound first before in
+    let P : View → Type 0 = λ w. w.pace.mark ≡ mark_past end o in
+    let sent = after_numbers v stretch.offset end now in
+    let same : outstanding (after_sent v.sending end) ≡ o = ap (λ n. past n v.sending.una) (next_stays v.sending.una v.sending.nxt end sound.una sound.nxt ends.1) in
+    let marked : P sent = either View P (nat_lt stretch.offset o) (after_resent v end) (after_first_sent v end now)
+    (λ again. ap (λ b. if b then None else mark_past end (outstanding (after_sent v.sending end))) all ∙ ap (mark_past end) same)
+    (λ new. clash (nat_lt stretch.offset o) (lt-ltb stretch.offset o before) new) in
+    either View P (brings_new_octets v stretch) (after_new_octets sent) sent (λ new. marked) (λ old. marked)
+
+pub mark_moves_on : (v : View) (stretch : Stretch) (now : Moment) → IsSound v → v.pace.once ≡ false → first_due v ≡ Some (Text stretch) → stretch.offset < outstanding v.sending
+    → (after_event v (Emits now)).pace.mark ≡ (if nat_lt (end_of stretch) (outstanding v.sending) then Some (end_of stretch) else None)
+mark_moves_on v stretch now sound all first before = ap (λ o. (after_first v o now).pace.mark) first ∙ moved_on v stretch now sound all first before

@@ -1,0 +1,522 @@
+-- How an event leaves the timers of what is outstanding and of the probe, the count of expiries, and the override.
+use Rattle.std.proofs.Common.{◌≡◌, ℕ, ◌+◌, ◌<◌, ◌≤◌, ◌==◌, ◌||◌, ◌&&◌, ◌⊎◌, ◌≢◌, not, nat_lt, if◌then◌else◌, Bool, true, false, length, take, ◌++◌, Option, Some, None, is_some, inl, inr, arith, refl, sym, ◌∙◌, ap}
+use Rattle.std.proofs.lemmas.Bool.{leb-true, eqb-true, eq-eqb, lt-ltb}
+use Rattle.std.proofs.lemmas.Bool.Decides.{eqb_tells}
+use Rattle.tcp_segment.specs.Segment.{Segment}
+use Rattle.clock.specs.declared.moment.Moment.{Moment}
+use Rattle.clock.specs.Moments.{after, has_come}
+use Rattle.retransmit.specs.declared.timers.Timers.{Timers}
+use Rattle.retransmit.specs.Deadlines.{no_timers, next_of}
+use Rattle.tcp_state.specs.declared.calls.Refusal.TheVariants.{ECONNREFUSED, ETIMEDOUT}
+use Rattle.tcp_state.specs.declared.emission.Due.{Due}
+use Rattle.tcp_state.specs.declared.emission.Due.TheVariants.{Rst, Syn, Text, Probe, Ack}
+use Rattle.tcp_state.specs.declared.emission.Stretch.{Stretch}
+use Rattle.tcp_state.specs.Stream.{outstanding, after_sent}
+use Rattle.tcp_state.specs.Pace.{Pace, stopped, pace_probed, pace_acknowledged}
+use Rattle.tcp_state.specs.View.{View, is_opening, is_syn_received, is_closed, is_fin_wait_2, is_write_closed, is_at_end, after_stop, after_reset}
+use Rattle.tcp_state.specs.Timing.{probes, retransmits, awaits_more, running, clocked, expires, gives_up, retransmission_expired, probe_expired, after_expiry, delayed_ack_expired, after_timers}
+use Rattle.tcp_state.specs.Calls.{send_count, beyond_shutdown, latest, shutdown_refusal, after_shutdown, aborted_at, after_release, is_removed_by_close, is_aborted_by_close}
+use Rattle.tcp_state.specs.Arrival.{is_receiving, beyond_fin, fin_acknowledged, after_new_ack, after_ack, after_window, after_text, after_fin, after_heard, is_acceptable_to, answers_probe, before, since_after, is_moved, pace_heard, pace_after, congestion_after}
+use Rattle.tcp_state.specs.Due.{first_due, probe_stretch, end_of, after_ack_paid, after_resent, after_first_sent, after_numbers, after_new_octets, brings_new_octets, after_stretch, after_probe, after_syn_out, after_going_out}
+use Rattle.tcp_state.specs.Unreachable.{is_unreachable}
+use Rattle.tcp_state.specs.Edges.{Event, Hears, Ticks, Emits, Sends, Receives, Shuts, Closes, Aborts, Unreachable, moment_of, after_first, after_event}
+use Rattle.tcp_state.proofs.Choices.{either, clash}
+use Rattle.tcp_state.proofs.Clocked.{syn_out, heard_paced, after_paced}
+use Rattle.tcp_state.proofs.Edges.{by_fin, and_left, and_right}
+use Rattle.tcp_state.proofs.Causes.{both, or_left, or_right, not_true, of_false}
+use Rattle.tcp_state.proofs.Segments.{by_ack, by_hearing, by_clock}
+use Rattle.tcp_state.proofs.Gains.{receiving_lives}
+use Rattle.tcp_state.proofs.Paces.{goes_out}
+
+-- a timer began at the moment of the event, for the timeout
+abbrev pub BeginsAt : Event → View → Moment → Type 0
+BeginsAt e w deadline = (now : Moment) × (moment_of e ≡ Some now) × (deadline ≡ after now w.pace.timeout.rto)
+
+-- the event is a tick that has come to a deadline
+abbrev pub HasCome : Event → Moment → Type 0
+HasCome e deadline = (now : Moment) × (e ≡ Ticks now) × (deadline.0 ≤ now.0)
+
+-- .. at which one more expiry counts
+abbrev pub Counts : View → Event → View → Type 0
+Counts v e w = (now : Moment) × (e ≡ Ticks now) × (expires v now ≡ true) × (w.pace.expiries ≡ v.pace.expiries + 1)
+
+-- there was progress
+abbrev pub Progress : View → View → Type 0
+Progress v w = (w.sending.una ≢ v.sending.una) ⊎ (v.sending.window ≡ 0)
+
+-- .. to the override's
+abbrev pub Overrides : View → Event → Type 0
+Overrides v e = (now : Moment) × (e ≡ Ticks now) × (has_come v.timers.overriding now ≡ true)
+
+-- after an event
+pub record Clocks (v : View) (e : Event) (w : View) : Type 0 where
+  pub runs_on : is_closed w.state ≡ false → (was is : Moment) → v.timers.retransmission ≡ Some was → w.timers.retransmission ≡ Some is → (is ≡ was) ⊎ ((w.sending.una ≢ v.sending.una) ⊎ HasCome e was)
+  pub begins : (deadline : Moment) → v.timers.retransmission ≡ None → w.timers.retransmission ≡ Some deadline → BeginsAt e w deadline
+  pub probe_on : is_closed w.state ≡ false → (was is : Moment) → v.timers.probe ≡ Some was → w.timers.probe ≡ Some is → ((is ≡ was) × (w.pace.interval ≡ v.pace.interval)) ⊎ HasCome e was
+  pub probe_begins : (deadline : Moment) → v.timers.probe ≡ None → w.timers.probe ≡ Some deadline → (w.pace.interval ≡ w.pace.timeout.rto) × BeginsAt e w deadline
+  pub expiries : (w.pace.expiries ≡ v.pace.expiries) ⊎ (((w.pace.expiries ≡ 0) × Progress v w) ⊎ Counts v e w)
+  pub overridden : v.pace.overridden ≡ false → w.pace.overridden ≡ true → Overrides v e
+  pub override_begins : (deadline : Moment) → v.timers.overriding ≡ None → w.timers.overriding ≡ Some deadline → (now : Moment) × (moment_of e ≡ Some now) × (deadline ≡ after now 500)
+
+-- .. before its clock is set
+record Unset (v : View) (e : Event) (x : View) : Type 0 where
+  pub runs : is_closed x.state ≡ false → (was : Moment) → v.timers.retransmission ≡ Some was → (x.timers.retransmission ≡ Some was) ⊎ HasCome e was
+  pub none_runs : v.timers.retransmission ≡ None → x.timers.retransmission ≡ None
+  pub probe : is_closed x.state ≡ false → (was : Moment) → v.timers.probe ≡ Some was → ((x.timers.probe ≡ Some was) × (x.pace.interval ≡ v.pace.interval)) ⊎ HasCome e was
+  pub no_probe : v.timers.probe ≡ None → x.timers.probe ≡ None
+  pub expiries : (x.pace.expiries ≡ v.pace.expiries) ⊎ (((x.pace.expiries ≡ 0) × Progress v x) ⊎ Counts v e x)
+  pub overridden : v.pace.overridden ≡ false → x.pace.overridden ≡ true → Overrides v e
+  pub no_override : v.timers.overriding ≡ None → x.timers.overriding ≡ None
+
+-- The clock.
+
+one : (a b : Moment) → Some a ≡ Some b → a ≡ b
+one a b e = cc
+
+unless_none : {C : Type 0} (o : Option Moment) (deadline : Moment) → o ≡ None → o ≡ Some deadline → C
+unless_none None deadline e f = cc
+unless_none (Some moment) deadline e f = cc
+
+still : (wants : Bool) (was is : Moment) (o : Option Moment) (now : Moment) (milliseconds : ℕ) → o ≡ Some was → (if wants then running o now milliseconds else None) ≡ Some is → is ≡ was
+still true was is (Some moment) now milliseconds e f = one is was (sym f ∙ e)
+still true was is None now milliseconds e f = cc
+still false was is o now milliseconds e f = cc
+
+begun : (wants : Bool) (deadline : Moment) (o : Option Moment) (now : Moment) (milliseconds : ℕ) → o ≡ None → (if wants then running o now milliseconds else None) ≡ Some deadline → deadline ≡ after now milliseconds
+begun true deadline None now milliseconds e f = sym (one (after now milliseconds) deadline f)
+begun true deadline (Some moment) now milliseconds e f = cc
+begun false deadline o now milliseconds e f = cc
+
+goes_on : {C : Type 0} (moved wants : Bool) (was is : Moment) (o : Option Moment) (now : Moment) (milliseconds : ℕ) → o ≡ Some was
+    → (if wants then running (if moved then None else o) now milliseconds else None) ≡ Some is → (moved ≡ true → C) → (is ≡ was) ⊎ C
+goes_on true wants was is o now milliseconds e f moves = inr (moves refl)
+goes_on false wants was is o now milliseconds e f moves = inl (still wants was is o now milliseconds e f)
+
+none_still : (moved : Bool) (o : Option Moment) → o ≡ None → (if moved then None else o) ≡ None
+none_still true o e = refl
+none_still false o e = e
+
+interval_on : (wants : Bool) (was is : Moment) (o : Option Moment) (now : Moment) (interval rto : ℕ) → o ≡ Some was → (if wants then running o now rto else None) ≡ Some is → (if wants && is_some o then interval else rto) ≡ interval
+interval_on true was is (Some moment) now interval rto e f = refl
+interval_on true was is None now interval rto e f = cc
+interval_on false was is o now interval rto e f = cc
+
+first_interval : (wants : Bool) (o : Option Moment) (interval rto : ℕ) → o ≡ None → (if wants && is_some o then interval else rto) ≡ rto
+first_interval true None interval rto e = refl
+first_interval true (Some moment) interval rto e = cc
+first_interval false o interval rto e = refl
+
+begun_once : (wants : Bool) (deadline : Moment) (o : Option Moment) (now : Moment) (milliseconds : ℕ) → o ≡ None → (if wants then running o now milliseconds else o) ≡ Some deadline → deadline ≡ after now milliseconds
+begun_once true deadline None now milliseconds e f = sym (one (after now milliseconds) deadline f)
+begun_once true deadline (Some moment) now milliseconds e f = cc
+begun_once false deadline o now milliseconds e f = unless_none o deadline e f
+
+sets : (v x : View) (e : Event) (moved : Bool) (now : Moment) → moment_of e ≡ Some now → (moved ≡ true → x.sending.una ≢ v.sending.una) → Unset v e x → Clocks v e (clocked moved x now)
+sets v x e moved now at moves u =
+    let t = x.timers in
+    let rto = x.pace.timeout.rto in
+    record {
+      runs_on = λ lives was is runs set. elim (u.runs lives was runs) [
+        | inl same ↦ goes_on moved (retransmits x) was is t.retransmission now rto same set (λ moves_it. inl (moves moves_it))
+        | inr comes ↦ inr (inr comes)
+      ];
+      begins = λ deadline none set. (now, at, begun (retransmits x) deadline (if moved then None else t.retransmission) now rto (none_still moved t.retransmission (u.none_runs none)) set);
+      probe_on = λ lives was is runs set. elim (u.probe lives was runs) [
+        | inl same ↦ inl (still (probes x) was is t.probe now rto same.0 set, interval_on (probes x) was is t.probe now x.pace.interval rto same.0 set ∙ same.1)
+        | inr comes ↦ inr comes
+      ];
+      probe_begins = λ deadline none set. (first_interval (probes x) t.probe x.pace.interval rto (u.no_probe none), (now, at, begun (probes x) deadline t.probe now rto (u.no_probe none) set));
+      expiries = u.expiries;
+      overridden = u.overridden;
+      override_begins = λ deadline none set. (now, at, begun_once (awaits_more x) deadline t.overriding now 500 (u.no_override none) set);
+    }
+
+-- nothing is set
+stays : (v w : View) (e : Event) → w.timers ≡ v.timers → w.pace ≡ v.pace → Clocks v e w
+stays v w e timers pace =
+    let retransmission = ap (λ (t : Timers). t.retransmission) timers in
+    let probe = ap (λ (t : Timers). t.probe) timers in
+    record {
+      runs_on = λ lives was is runs set. inl (one is was (sym set ∙ retransmission ∙ runs));
+      begins = λ deadline none set. unless_none w.timers.retransmission deadline (retransmission ∙ none) set;
+      probe_on = λ lives was is runs set. inl (one is was (sym set ∙ probe ∙ runs), ap (λ (p : Pace). p.interval) pace);
+      probe_begins = λ deadline none set. unless_none w.timers.probe deadline (probe ∙ none) set;
+      expiries = inl (ap (λ (p : Pace). p.expiries) pace);
+      overridden = λ none over. let bad : true ≡ false = sym over ∙ ap (λ (p : Pace). p.overridden) pace ∙ none in cc;
+      override_begins = λ deadline none set. unless_none w.timers.overriding deadline (ap (λ (t : Timers). t.overriding) timers ∙ none) set;
+    }
+
+-- the timers stop
+stops : (v w : View) (e : Event) → w.timers ≡ no_timers → w.pace.expiries ≡ v.pace.expiries → w.pace.overridden ≡ false → Clocks v e w
+stops v w e timers expiries overridden =
+    let retransmission : w.timers.retransmission ≡ None = ap (λ (t : Timers). t.retransmission) timers in
+    let probe : w.timers.probe ≡ None = ap (λ (t : Timers). t.probe) timers in
+    record {
+      runs_on = λ lives was is runs set. unless_none w.timers.retransmission is retransmission set;
+      begins = λ deadline none set. unless_none w.timers.retransmission deadline retransmission set;
+      probe_on = λ lives was is runs set. unless_none w.timers.probe is probe set;
+      probe_begins = λ deadline none set. unless_none w.timers.probe deadline probe set;
+      expiries = inl expiries;
+      overridden = λ none over. let bad : true ≡ false = sym over ∙ overridden in cc;
+      override_begins = λ deadline none set. unless_none w.timers.overriding deadline (ap (λ (t : Timers). t.overriding) timers) set;
+    }
+
+-- the timers and the pace are as they were
+as_before : (v x : View) (e : Event) → x.timers ≡ v.timers → x.pace ≡ v.pace → Unset v e x
+as_before v x e timers pace = record {
+  runs = λ lives was runs. inl (ap (λ (t : Timers). t.retransmission) timers ∙ runs);
+  none_runs = λ none. ap (λ (t : Timers). t.retransmission) timers ∙ none;
+  probe = λ lives was runs. inl (ap (λ (t : Timers). t.probe) timers ∙ runs, ap (λ (p : Pace). p.interval) pace);
+  no_probe = λ none. ap (λ (t : Timers). t.probe) timers ∙ none;
+  expiries = inl (ap (λ (p : Pace). p.expiries) pace);
+  overridden = λ none over. let bad : true ≡ false = sym over ∙ ap (λ (p : Pace). p.overridden) pace ∙ none in cc;
+  no_override = λ none. ap (λ (t : Timers). t.overriding) timers ∙ none;
+}
+
+-- Segments.
+
+record Heard (v w : View) : Type 0 where
+  pub timers : (w.timers ≡ v.timers) ⊎ ((w.timers ≡ no_timers) × (is_closed w.state ≡ true))
+  pub expiries : w.pace.expiries ≡ v.pace.expiries
+  pub interval : (w.pace.interval ≡ v.pace.interval) ⊎ (is_closed w.state ≡ true)
+  pub overridden : (w.pace.overridden ≡ v.pace.overridden) ⊎ (w.pace.overridden ≡ false)
+
+hears_on : (v w : View) → w.timers ≡ v.timers → w.pace.expiries ≡ v.pace.expiries → w.pace.interval ≡ v.pace.interval → w.pace.overridden ≡ v.pace.overridden → Heard v w
+hears_on v w timers expiries interval overridden = record { timers = inl timers; expiries = expiries; interval = inl interval; overridden = inl overridden }
+
+ends : (v w : View) → w.timers ≡ no_timers → is_closed w.state ≡ true → w.pace.expiries ≡ v.pace.expiries → w.pace.overridden ≡ false → Heard v w
+ends v w timers closed expiries overridden = record { timers = inr (timers, closed); expiries = expiries; interval = inr closed; overridden = inr overridden }
+
+fin_heard : (v : View) (ack : ℕ) → Heard v (fin_acknowledged (after_new_ack v ack))
+fin_heard v ack = chosen (is_closed (beyond_fin v.state)) refl
+  where
+    chosen : (closed : Bool) → is_closed (beyond_fin v.state) ≡ closed → Heard v (record (after_new_ack v ack) {
+      state = beyond_fin v.state;
+      owes_ack = v.owes_ack && not closed;
+      delays_ack = v.delays_ack && not closed;
+      pace = let p = after_new_ack v ack in if closed then stopped p.pace else p.pace;
+      timers = if closed then no_timers else v.timers;
+    })
+    chosen true closed = record { timers = inr (refl, closed); expiries = refl; interval = inr closed; overridden = inr refl }
+    chosen false lives = record { timers = inl refl; expiries = refl; interval = inl refl; overridden = inl refl }
+
+ack_heard : (v : View) (ack : ℕ) → Heard v (after_ack v ack)
+ack_heard v ack = by_ack (Heard v) v ack (record {
+  old = hears_on v v refl refl refl refl;
+  beyond = hears_on v _ refl refl refl refl;
+  opens = λ new. hears_on v _ refl refl refl refl;
+  octets = λ new. hears_on v _ refl refl refl refl;
+  fin = λ new fin. fin_heard v ack;
+})
+
+-- nothing else of a segment is of the timers or the pace
+on : (v w x : View) → x.timers ≡ w.timers → x.pace ≡ w.pace → (is_closed w.state ≡ true → is_closed x.state ≡ true) → Heard v w → Heard v x
+on v w x timers pace closes k = record {
+  timers = elim k.timers [ inl same ↦ inl (timers ∙ same) | inr stop ↦ inr (timers ∙ stop.0, closes stop.1) ];
+  expiries = ap (λ (p : Pace). p.expiries) pace ∙ k.expiries;
+  interval = elim k.interval [ inl same ↦ inl (ap (λ (p : Pace). p.interval) pace ∙ same) | inr closed ↦ inr (closes closed) ];
+  overridden = elim k.overridden [ inl same ↦ inl (ap (λ (p : Pace). p.overridden) pace ∙ same) | inr none ↦ inr (ap (λ (p : Pace). p.overridden) pace ∙ none) ];
+}
+
+fin_on : (v w : View) (s : Segment) → Heard v w → Heard v (after_fin w s)
+fin_on v w s k =
+    by_fin (Heard v) w s
+    (λ counts. on v w _ refl refl (λ closed. clash (is_closed w.state) closed (receiving_lives w.state (and_right s.flags.fin (is_receiving w.state) (and_left (s.flags.fin && is_receiving w.state) _ counts))).0) k)
+    (on v w _ refl refl (λ closed. closed) k) k
+
+heard : (v : View) (s : Segment) → Heard v (after_heard v s)
+heard v s =
+    let acked = after_ack v s.acknowledgement in
+    let told = after_window acked s in
+    let k = ack_heard v s.acknowledgement in
+    let window : Heard v told = on v acked told refl refl (λ closed. closed) k in
+    let text : Heard v (after_text told s) = either View (Heard v) ((length s.octets == 0) || not (is_receiving told.state)) told _ (λ none. window) (λ some. on v told _ refl refl (λ closed. closed) window) in
+    by_hearing (Heard v) v s (ends v _ refl refl k.expiries refl) (record {
+      dropped = hears_on v v refl refl refl refl;
+      drawn = hears_on v _ refl refl refl refl;
+      reset = ends v _ refl refl refl refl;
+      crossed = λ waits. hears_on v _ refl refl refl refl;
+      opened = λ waits right. hears_on v _ refl refl refl refl;
+      acknowledged = k;
+      read = fin_on v (after_text told s) s text;
+    })
+
+apart : (a b : ℕ) → not (a == b) ≡ true → b ≢ a
+apart a b e same = clash (a == b) (eq-eqb a b (sym same)) (not_true (a == b) e)
+
+-- an answer to a probe comes while the peer's window is closed
+closed_window : (v : View) (s : Segment) → answers_probe v s ≡ true → v.sending.window ≡ 0
+closed_window v s e =
+    let one = not (is_opening v.state) in
+    let two = one && (v.sending.window == 0) in
+    let three = two && is_acceptable_to v s in
+    let four = three && s.flags.ack in
+    eqb-true v.sending.window 0 (and_right one (v.sending.window == 0) (and_left two (is_acceptable_to v s) (and_left three s.flags.ack (and_left four (not s.flags.rst) e))))
+
+heard_unset : (v : View) (s : Segment) (now : Moment)
+    → (let b = before v s in let w = after_heard v s in Unset v (Hears s now) (record w { since = since_after b w now; pace = pace_after b w now; congestion = congestion_after b w }))
+heard_unset v s now =
+    let b = before v s in
+    let w = after_heard v s in
+    let h = heard v s in
+    let pace = pace_after b w now in
+    let interval_kept = heard_paced b w now (λ p. p.interval ≡ w.pace.interval) refl refl refl in
+    let interval : pace.interval ≡ w.pace.interval = after_paced b w now (λ p. p.interval ≡ w.pace.interval) interval_kept interval_kept in
+    let override_kept = heard_paced b w now (λ p. p.overridden ≡ w.pace.overridden) refl refl refl in
+    let overridden : pace.overridden ≡ w.pace.overridden = after_paced b w now (λ p. p.overridden ≡ w.pace.overridden) override_kept override_kept in
+    let P : Pace → Type 0 = λ p. (p.expiries ≡ v.pace.expiries) ⊎ (((p.expiries ≡ 0) × Progress v w) ⊎ Counts v (Hears s now) (record w { pace = p })) in
+    let counted : P (pace_heard b w now) = either Pace P (is_moved b w) (pace_acknowledged w.pace w.sending.una (is_opening b.state) now) _ (λ moves. inr (inl (refl, inl (apart v.sending.una w.sending.una moves))))
+    (λ unmoved. either Pace P b.answers_probe (record w.pace { expiries = 0 }) w.pace (λ answers. inr (inl (refl, inr (closed_window v s answers)))) (λ other. inl h.expiries)) in
+    record {
+      runs = λ lives was runs. elim h.timers [ inl same ↦ inl (ap (λ (t : Timers). t.retransmission) same ∙ runs) | inr stop ↦ clash (is_closed w.state) stop.1 lives ];
+      none_runs = λ none. elim h.timers [ inl same ↦ ap (λ (t : Timers). t.retransmission) same ∙ none | inr stop ↦ ap (λ (t : Timers). t.retransmission) stop.0 ];
+      probe = λ lives was runs. elim h.timers [
+        | inl same ↦ elim h.interval [ inl kept ↦ inl (ap (λ (t : Timers). t.probe) same ∙ runs, interval ∙ kept) | inr closed ↦ clash (is_closed w.state) closed lives ]
+        | inr stop ↦ clash (is_closed w.state) stop.1 lives
+      ];
+      no_probe = λ none. elim h.timers [ inl same ↦ ap (λ (t : Timers). t.probe) same ∙ none | inr stop ↦ ap (λ (t : Timers). t.probe) stop.0 ];
+      expiries = after_paced b w now P counted counted;
+      overridden = λ none over. elim h.overridden [
+        | inl same ↦ let bad : true ≡ false = sym over ∙ overridden ∙ same ∙ none in cc
+        | inr not_over ↦ let bad : true ≡ false = sym over ∙ overridden ∙ not_over in cc
+      ];
+      no_override = λ none. elim h.timers [ inl same ↦ ap (λ (t : Timers). t.overriding) same ∙ none | inr stop ↦ ap (λ (t : Timers). t.overriding) stop.0 ];
+    }
+
+-- Emissions.
+
+record Goes (v w : View) : Type 0 where
+  pub expiries : w.pace.expiries ≡ v.pace.expiries
+  pub interval : w.pace.interval ≡ v.pace.interval
+  pub overridden : (w.pace.overridden ≡ v.pace.overridden) ⊎ (w.pace.overridden ≡ false)
+
+numbers_go : (v : View) (offset end : ℕ) (now : Moment) → Goes v (after_numbers v offset end now)
+numbers_go v offset end now =
+    either View (Goes v) (nat_lt offset (outstanding v.sending)) (after_resent v end) (after_first_sent v end now)
+    (λ again. record { expiries = refl; interval = refl; overridden = inl refl })
+    (λ first. record { expiries = refl; interval = refl; overridden = inl refl })
+
+-- octets that are new end their wait
+new_go : (v w : View) → Goes v w → Goes v (after_new_octets w)
+new_go v w k = record { expiries = k.expiries; interval = k.interval; overridden = inr refl }
+
+paid_go : (v w : View) → Goes v w → Goes v (after_ack_paid w)
+paid_go v w k = record { expiries = k.expiries; interval = k.interval; overridden = k.overridden }
+
+stretch_goes : (v : View) (stretch : Stretch) (now : Moment) → Goes v (after_stretch v stretch now)
+stretch_goes v stretch now =
+    let sent = after_numbers v stretch.offset (end_of stretch) now in
+    let k = numbers_go v stretch.offset (end_of stretch) now in
+    either View (Goes v) (brings_new_octets v stretch) (after_new_octets sent) sent (λ new. new_go v sent k) (λ old. k)
+
+probe_goes : (v : View) → Goes v (after_probe v)
+probe_goes v =
+    let sent = record v { sending = after_sent v.sending (end_of (probe_stretch v)); pace = pace_probed v.pace } in
+    let k : Goes v sent = record { expiries = refl; interval = refl; overridden = inl refl } in
+    either View (Goes v) (brings_new_octets v (probe_stretch v)) (after_new_octets sent) sent (λ new. new_go v sent k) (λ old. k)
+
+goes : (v : View) (due : Due) (now : Moment) → Goes v (after_going_out v due now)
+goes v Rst now = record { expiries = refl; interval = refl; overridden = inl refl }
+goes v Syn now =
+    let sent = after_syn_out v now in
+    let n = numbers_go v 0 1 now in
+    let k = syn_out v now (Goes v) n (record { expiries = n.expiries; interval = n.interval; overridden = n.overridden }) in
+    either View (Goes v) (is_syn_received v.state) (after_ack_paid sent) sent (λ received. paid_go v sent k) (λ first. k)
+goes v (Text stretch) now = paid_go v (after_stretch v stretch now) (stretch_goes v stretch now)
+goes v Probe now = paid_go v (after_probe v) (probe_goes v)
+goes v Ack now = record { expiries = refl; interval = refl; overridden = inl refl }
+
+sent_unset : (v : View) (due : Due) (now : Moment) → Unset v (Emits now) (after_going_out v due now)
+sent_unset v due now =
+    let others = (goes_out v due now).others in
+    let g = goes v due now in
+    record {
+      runs = λ lives was runs. inl (ap (λ (t : Timers). t.retransmission) others ∙ runs);
+      none_runs = λ none. ap (λ (t : Timers). t.retransmission) others ∙ none;
+      probe = λ lives was runs. inl (ap (λ (t : Timers). t.probe) others ∙ runs, g.interval);
+      no_probe = λ none. ap (λ (t : Timers). t.probe) others ∙ none;
+      expiries = inl g.expiries;
+      overridden = λ none over. elim g.overridden [
+        | inl same ↦ let bad : true ≡ false = sym over ∙ same ∙ none in cc
+        | inr not_over ↦ let bad : true ≡ false = sym over ∙ not_over in cc
+      ];
+      no_override = λ none. elim (goes_out v due now).overriding [ inl same ↦ same ∙ none | inr stopped ↦ stopped ];
+    }
+
+emission_clocks : (v : View) (o : Option Due) (now : Moment) → Clocks v (Emits now) (after_first v o now)
+emission_clocks v None now = stays v v (Emits now) refl refl
+emission_clocks v (Some due) now = sets v (after_going_out v due now) (Emits now) false now refl (λ moves. cc) (sent_unset v due now)
+
+-- Ticks.
+
+came : (o : Option Moment) (was now : Moment) → o ≡ Some was → has_come o now ≡ true → was.0 ≤ now.0
+came o was now e comes = leb-true was.0 now.0 (ap (λ (m : Option Moment). has_come m now) (sym e) ∙ comes)
+
+record Expires (v : View) (now : Moment) (w : View) : Type 0 where
+  pub runs : (was : Moment) → v.timers.retransmission ≡ Some was → (w.timers.retransmission ≡ Some was) ⊎ (was.0 ≤ now.0)
+  pub none_runs : v.timers.retransmission ≡ None → w.timers.retransmission ≡ None
+  pub probe : (was : Moment) → v.timers.probe ≡ Some was → ((w.timers.probe ≡ Some was) × (w.pace.interval ≡ v.pace.interval)) ⊎ (was.0 ≤ now.0)
+  pub no_probe : v.timers.probe ≡ None → w.timers.probe ≡ None
+  pub expiries : (w.pace.expiries ≡ v.pace.expiries) ⊎ ((expires v now ≡ true) × (w.pace.expiries ≡ v.pace.expiries + 1))
+  pub overridden : w.pace.overridden ≡ v.pace.overridden
+  pub overriding : w.timers.overriding ≡ v.timers.overriding
+
+expiry_expires : (v : View) (now : Moment) → Expires v now (after_expiry v now)
+expiry_expires v now =
+    let t = v.timers in
+    either View (Expires v now) (has_come t.retransmission now) (retransmission_expired v) _
+    (λ comes. record {
+      runs = λ was runs. inr (came t.retransmission was now runs comes);
+      none_runs = λ none. refl;
+      probe = λ was runs. inl (runs, refl);
+      no_probe = λ none. none;
+      expiries = inr (or_left (has_come t.retransmission now) (has_come t.probe now) comes, omega arith);
+      overridden = refl;
+      overriding = refl;
+    })
+    (λ early. either View (Expires v now) (has_come t.probe now) (probe_expired v now) v
+    (λ comes. record {
+      runs = λ was runs. inl runs;
+      none_runs = λ none. none;
+      probe = λ was runs. inr (came t.probe was now runs comes);
+      no_probe = λ none. clash (has_come t.probe now) comes (ap (λ (m : Option Moment). has_come m now) none);
+      expiries = inr (or_right (has_come t.retransmission now) (has_come t.probe now) comes, omega arith);
+      overridden = refl;
+      overriding = refl;
+    })
+    (λ late. record { runs = λ was runs. inl runs; none_runs = λ none. none; probe = λ was runs. inl (runs, refl); no_probe = λ none. none; expiries = inl refl; overridden = refl; overriding = refl }))
+
+tick_unset : (v : View) (now : Moment) → Unset v (Ticks now) (after_timers v now)
+tick_unset v now =
+    let first = after_expiry v now in
+    let second = delayed_ack_expired first now in
+    let a = expiry_expires v now in
+    let b : Expires v now second = either View (Expires v now) (has_come first.timers.delayed_ack now) _ first
+    (λ comes. record { runs = a.runs; none_runs = a.none_runs; probe = a.probe; no_probe = a.no_probe; expiries = a.expiries; overridden = a.overridden; overriding = a.overriding }) (λ early. a) in
+    let counted : (second.pace.expiries ≡ v.pace.expiries) ⊎ Counts v (Ticks now) second = elim b.expiries [ inl same ↦ inl same | inr expired ↦ inr (now, refl, expired.0, expired.1) ] in
+    let runs : (was : Moment) → v.timers.retransmission ≡ Some was → (second.timers.retransmission ≡ Some was) ⊎ HasCome (Ticks now) was = λ was is. elim (b.runs was is) [ inl same ↦ inl same | inr comes ↦ inr (now, refl, comes) ] in
+    let probe : (was : Moment) → v.timers.probe ≡ Some was → ((second.timers.probe ≡ Some was) × (second.pace.interval ≡ v.pace.interval)) ⊎ HasCome (Ticks now) was = λ was is. elim (b.probe was is) [ inl same ↦ inl same | inr comes ↦ inr (now, refl, comes) ] in
+    either View (Unset v (Ticks now)) (has_come second.timers.overriding now) _ second
+    (λ comes. record {
+      runs = λ lives was is. runs was is;
+      none_runs = b.none_runs;
+      probe = λ lives was is. probe was is;
+      no_probe = b.no_probe;
+      expiries = elim counted [ inl same ↦ inl same | inr expired ↦ inr (inr expired) ];
+      overridden = λ none over. (now, refl, ap (λ (m : Option Moment). has_come m now) (sym b.overriding) ∙ comes);
+      no_override = λ none. refl;
+    })
+    (λ early. record {
+      runs = λ lives was is. runs was is;
+      none_runs = b.none_runs;
+      probe = λ lives was is. probe was is;
+      no_probe = b.no_probe;
+      expiries = elim counted [ inl same ↦ inl same | inr expired ↦ inr (inr expired) ];
+      overridden = λ none over. let bad : true ≡ false = sym over ∙ b.overridden ∙ none in cc;
+      no_override = λ none. b.overriding ∙ none;
+    })
+
+-- Every event.
+
+clocks : (v : View) (e : Event) → Clocks v e (after_event v e)
+clocks v (Hears s now) =
+    let b = before v s in
+    let w = after_heard v s in
+    let e = Hears s now in
+    by_clock (Clocks v e) v s now (stays v v e refl refl)
+    (λ lives. sets v (record w { since = since_after b w now; pace = pace_after b w now; congestion = congestion_after b w }) e (is_moved b w) now refl (λ moves. apart v.sending.una w.sending.una moves) (heard_unset v s now))
+clocks v (Ticks now) =
+    let e = Ticks now in
+    either View (Clocks v e) (is_at_end v now) (after_stop v) _ (λ over. stops v _ e refl refl refl)
+    (λ lives. either View (Clocks v e) (gives_up v now) (after_reset v (Some ETIMEDOUT)) _ (λ given_up. stops v _ e refl refl refl)
+    (λ remains. either View (Clocks v e) (has_come (next_of v.timers) now) (clocked false (after_timers v now) now) v (λ comes. sets v (after_timers v now) e false now refl (λ moves. cc) (tick_unset v now)) (λ early. stays v v e refl refl)))
+clocks v (Emits now) = emission_clocks v (first_due v) now
+clocks v (Sends octets now) =
+    let e = Sends octets now in
+    let taken = take (send_count v octets) octets in
+    let x = record v { sending = record v.sending { held = v.sending.held ++ taken } } in
+    either View (Clocks v e) (is_some v.pending_error || is_opening v.state || is_write_closed v.state) v _ (λ refused. stays v v e refl refl)
+    (λ takes. either View (Clocks v e) (length taken == 0) v _ (λ none. stays v v e refl refl) (λ some. sets v x e false now refl (λ moves. cc) (as_before v x e refl refl)))
+clocks v (Receives len) =
+    let e = Receives len in
+    either View (Clocks v e) (is_some v.pending_error || is_opening v.state || (length v.receiving.readable == 0)) v _ (λ nothing. stays v v e refl refl) (λ some. stays v _ e refl refl)
+clocks v (Shuts now) =
+    let e = Shuts now in
+    let x = record v { state = beyond_shutdown v.state } in
+    either View (Clocks v e) (is_some (shutdown_refusal v)) v (after_shutdown v now) (λ refused. stays v v e refl refl) (λ shuts. sets v x e false now refl (λ moves. cc) (as_before v x e refl refl))
+clocks v (Closes now) =
+    let e = Closes now in
+    let x = record v { state = beyond_shutdown v.state; released = true; since = if is_fin_wait_2 v.state then latest v.since now else v.since } in
+    either View (Clocks v e) (is_removed_by_close v) v _ (λ removed. stays v v e refl refl)
+    (λ remains. either View (Clocks v e) (is_aborted_by_close v) (aborted_at v now) (after_release v now) (λ aborts. stops v _ e refl refl refl) (λ leaves. sets v x e false now refl (λ moves. cc) (as_before v x e refl refl)))
+clocks v (Aborts now) =
+    let e = Aborts now in
+    either View (Clocks v e) (is_closed v.state) v (aborted_at v now) (λ closed. stays v v e refl refl) (λ aborts. stops v _ e refl refl refl)
+clocks v (Unreachable number) =
+    let e = Unreachable number in
+    either View (Clocks v e) (is_unreachable v number) (after_reset v (Some ECONNREFUSED)) v (λ refused. stops v _ e refl refl refl) (λ other. stays v v e refl refl)
+
+-- the retransmission timer
+pub runs_on : (v : View) (e : Event) (was is : Moment) → is_closed (after_event v e).state ≡ false → v.timers.retransmission ≡ Some was → (after_event v e).timers.retransmission ≡ Some is
+    → (is ≡ was) ⊎ (((after_event v e).sending.una ≢ v.sending.una) ⊎ ((now : Moment) × (e ≡ Ticks now) × (was.0 ≤ now.0)))
+runs_on v e was is lives = (clocks v e).runs_on lives was is
+
+pub begins : (v : View) (e : Event) (deadline : Moment) → v.timers.retransmission ≡ None → (after_event v e).timers.retransmission ≡ Some deadline
+    → (now : Moment) × (moment_of e ≡ Some now) × (deadline ≡ after now (after_event v e).pace.timeout.rto)
+begins v e = (clocks v e).begins
+
+-- the probe timer
+pub probe_on : (v : View) (e : Event) (was is : Moment) → is_closed (after_event v e).state ≡ false → v.timers.probe ≡ Some was → (after_event v e).timers.probe ≡ Some is
+    → ((is ≡ was) × ((after_event v e).pace.interval ≡ v.pace.interval)) ⊎ ((now : Moment) × (e ≡ Ticks now) × (was.0 ≤ now.0))
+probe_on v e was is lives = (clocks v e).probe_on lives was is
+
+pub probe_begins : (v : View) (e : Event) (deadline : Moment) → v.timers.probe ≡ None → (after_event v e).timers.probe ≡ Some deadline
+    → ((after_event v e).pace.interval ≡ (after_event v e).pace.timeout.rto) × ((now : Moment) × (moment_of e ≡ Some now) × (deadline ≡ after now (after_event v e).pace.timeout.rto))
+probe_begins v e = (clocks v e).probe_begins
+
+-- expiries without progress
+pub counted : (v : View) (e : Event) → ((after_event v e).pace.expiries ≡ v.pace.expiries)
+    ⊎ ((((after_event v e).pace.expiries ≡ 0) × (((after_event v e).sending.una ≢ v.sending.una) ⊎ (v.sending.window ≡ 0)))
+    ⊎ ((now : Moment) × (e ≡ Ticks now) × (expires v now ≡ true) × ((after_event v e).pace.expiries ≡ v.pace.expiries + 1)))
+counted v e = (clocks v e).expiries
+
+pub overrides : (v : View) (e : Event) → v.pace.overridden ≡ false → (after_event v e).pace.overridden ≡ true → (now : Moment) × (e ≡ Ticks now) × (has_come v.timers.overriding now ≡ true)
+overrides v e = (clocks v e).overridden
+
+pub override_begins : (v : View) (e : Event) (deadline : Moment) → v.timers.overriding ≡ None → (after_event v e).timers.overriding ≡ Some deadline → (now : Moment) × (moment_of e ≡ Some now) × (deadline ≡ after now 500)
+override_begins v e = (clocks v e).override_begins
+
+-- Segments that acknowledge.
+
+-- one that moves SND.UNA starts the timer anew
+pub restarts : (v : View) (s : Segment) (now : Moment) → (after_event v (Hears s now)).sending.una ≢ v.sending.una → 0 < outstanding (after_event v (Hears s now)).sending → probes (after_event v (Hears s now)) ≡ false
+    → (after_event v (Hears s now)).timers.retransmission ≡ Some (after now (after_event v (Hears s now)).pace.timeout.rto)
+restarts v s now = by_clock (λ w. w.sending.una ≢ v.sending.una → 0 < outstanding w.sending → probes w ≡ false → w.timers.retransmission ≡ Some (after now w.pace.timeout.rto)) v s now
+    (λ moves some unprobed. absurd (moves refl))
+    (λ lives moves some unprobed.
+    let b = before v s in
+    let w = after_heard v s in
+    let x = record w { since = since_after b w now; pace = pace_after b w now; congestion = congestion_after b w } in
+    let moved : is_moved b w ≡ true = of_false (v.sending.una == w.sending.una) (apart_test v.sending.una w.sending.una moves) in
+    let runs : retransmits x ≡ true = both (nat_lt 0 (outstanding x.sending)) (not (probes x)) (lt-ltb 0 (outstanding x.sending) some) (of_false (probes x) unprobed) in
+    anew (retransmits x) (is_moved b w) x.timers.retransmission now x.pace.timeout.rto runs moved)
+  where
+    apart_test : (a b : ℕ) → b ≢ a → (a == b) ≡ false
+    apart_test a b other = elim (eqb_tells a b) [ inl same ↦ absurd (other (sym same.1)) | inr differ ↦ differ.0 ]
+
+    anew : (wants moved : Bool) (o : Option Moment) (now : Moment) (milliseconds : ℕ) → wants ≡ true → moved ≡ true → (if wants then running (if moved then None else o) now milliseconds else None) ≡ Some (after now milliseconds)
+    anew true true o now milliseconds w m = refl
+    anew true false o now milliseconds w m = cc
+    anew false moved o now milliseconds w m = cc
+
+-- .. and is progress
+pub acknowledged : (v : View) (s : Segment) (now : Moment) → (after_event v (Hears s now)).sending.una ≢ v.sending.una → (after_event v (Hears s now)).pace.expiries ≡ 0
+acknowledged v s now = by_clock (λ w. w.sending.una ≢ v.sending.una → w.pace.expiries ≡ 0) v s now
+    (λ moves. absurd (moves refl))
+    (λ lives moves.
+    let b = before v s in
+    let w = after_heard v s in
+    let P : Pace → Type 0 = λ p. p.expiries ≡ 0 in
+    let heard : P (pace_heard b w now) = either Pace P (is_moved b w) (pace_acknowledged w.pace w.sending.una (is_opening b.state) now) _ (λ moved. refl)
+    (λ unmoved. elim (eqb_tells v.sending.una w.sending.una) [ inl same ↦ absurd (moves (sym same.1)) | inr differ ↦ clash (not (v.sending.una == w.sending.una)) (of_false (v.sending.una == w.sending.una) differ.0) unmoved ]) in
+    after_paced b w now P heard heard)

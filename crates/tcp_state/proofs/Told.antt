@@ -1,0 +1,147 @@
+-- Why the window is told in steps of a segment at least, and such a step with what goes out next.
+use Rattle.std.proofs.Common.{◌≡◌, ℕ, ◌+◌, ◌-◌, ◌%◌, ◌^◌, ◌<◌, ◌≤◌, ◌==◌, ◌&&◌, ◌||◌, ◌⊎◌, not, if◌then◌else◌, true, false, length, take, Option, Some, None, is_some, inl, inr, arith, refl, ◌∙◌, ap}
+use Rattle.std.proofs.lemmas.Bool.{leb-true, le-leb}
+use Rattle.tcp_segment.specs.Segment.{Segment}
+use Rattle.tcp_segment.specs.Wire.{past}
+use Rattle.clock.specs.declared.moment.Moment.{Moment}
+use Rattle.clock.specs.Moments.{has_come}
+use Rattle.retransmit.specs.Deadlines.{next_of}
+use Rattle.tcp_state.specs.declared.calls.Refusal.TheVariants.{ECONNREFUSED, ETIMEDOUT}
+use Rattle.tcp_state.specs.declared.emission.Due.{Due}
+use Rattle.tcp_state.specs.declared.emission.Due.TheVariants.{Rst, Syn, Text, Probe, Ack}
+use Rattle.tcp_state.specs.declared.emission.Stretch.{Stretch}
+use Rattle.tcp_state.specs.Halves.{Receiving}
+use Rattle.tcp_state.specs.Windows.{receive_room, has_grown, after_advertisement}
+use Rattle.tcp_state.specs.View.{View, IsSound, is_opening, is_syn_sent, is_syn_received, is_closed, is_write_closed, is_at_end, after_stop, after_reset}
+use Rattle.tcp_state.specs.Timing.{gives_up, clocked, after_timers}
+use Rattle.tcp_state.specs.Calls.{send_count, shutdown_refusal, after_shutdown, aborted_at, after_release, is_removed_by_close, is_aborted_by_close}
+use Rattle.tcp_state.specs.Arrival.{is_receiving, after_ack, after_window, after_text, after_heard}
+use Rattle.tcp_state.specs.Due.{first_due, again, new_octets, fin_alone, after_ack_paid, after_syn_out, after_stretch, after_probe, after_emitted}
+use Rattle.tcp_state.specs.Unreachable.{is_unreachable}
+use Rattle.tcp_state.specs.Edges.{Event, Hears, Ticks, Emits, Sends, Receives, Shuts, Closes, Aborts, Unreachable, after_first, after_event}
+use Rattle.tcp_state.proofs.Choices.{either, clash}
+use Rattle.tcp_state.proofs.Clocked.{timers_keep, syn_out}
+use Rattle.tcp_state.proofs.Edges.{by_fin}
+use Rattle.tcp_state.proofs.Causes.{or_right, both, of_false}
+use Rattle.tcp_state.proofs.Segments.{by_hearing, by_clock, ack_receives}
+use Rattle.tcp_state.proofs.Deadlines.{neither}
+use Rattle.tcp_state.proofs.Waiting.{owed_where_closed}
+use Rattle.tcp_state.proofs.Emissions.{is_ack_due, by_due, numbers_receive, stretch_receives, probe_receives}
+
+-- What goes out, but a reset and a SYN alone, advertises the window.
+
+abbrev Advertises : View → View → Type 0
+Advertises v w = (w.receiving ≡ v.receiving) ⊎ (w.receiving ≡ after_advertisement v.receiving)
+
+syn_receives : (v : View) (now : Moment) → (after_syn_out v now).receiving ≡ v.receiving
+syn_receives v now = syn_out v now (λ w. w.receiving ≡ v.receiving) (numbers_receive v 0 1 now) (numbers_receive v 0 1 now)
+
+told : (v w : View) → w.receiving ≡ v.receiving → (after_ack_paid w).receiving ≡ after_advertisement v.receiving
+told v w same = ap after_advertisement same
+
+emitted : (v : View) (due : Due) (now : Moment) → Advertises v (after_emitted v due now)
+emitted v Rst now = inl refl
+emitted v Syn now =
+    let sent = after_syn_out v now in
+    either View (Advertises v) (is_syn_received v.state) (after_ack_paid sent) sent (λ received. inr (told v sent (syn_receives v now))) (λ first. inl (syn_receives v now))
+emitted v (Text stretch) now = inr (told v (after_stretch v stretch now) (stretch_receives v stretch now))
+emitted v Probe now = inr (told v (after_probe v) (probe_receives v))
+emitted v Ack now = inr refl
+
+-- A step.
+
+abbrev Steps : View → View → Type 0
+Steps v w = (w.receiving.edge ≡ v.receiving.edge)
+    ⊎ ((1460 ≤ past w.receiving.edge v.receiving.edge) × (w.receiving.edge ≡ (v.receiving.rnext + (65535 - length v.receiving.readable)) % 2 ^ 32))
+
+-- the end of the free room lies as far past the edge as the window has grown
+grown : (rnext edge room : ℕ) → rnext < 2 ^ 32 → edge < 2 ^ 32 → room ≤ 65535 → past edge rnext + 1460 ≤ room → 1460 ≤ past ((rnext + room) % 2 ^ 32) edge
+grown rnext edge room r e few much = omega (arith, r, e, few, much)
+
+advertised : (v w : View) → IsSound v → v.receiving.edge < 2 ^ 32 → w.receiving ≡ after_advertisement v.receiving → Steps v w
+advertised v w sound small same =
+    let r = v.receiving in
+    let P : Receiving → Type 0 = λ t. w.receiving ≡ t → Steps v w in
+    either Receiving P (has_grown r) (record r { edge = (r.rnext + receive_room r) % 2 ^ 32 }) r
+    (λ has is.
+    let much : past r.edge r.rnext + 1460 ≤ receive_room r = leb-true (past r.edge r.rnext + 1460) (receive_room r) has in
+    let edge : w.receiving.edge ≡ (r.rnext + receive_room r) % 2 ^ 32 = ap (λ (t : Receiving). t.edge) is in
+    let step = grown r.rnext r.edge (receive_room r) sound.rnext small (omega arith) much in
+    inr (subst_step (past w.receiving.edge r.edge) (past ((r.rnext + receive_room r) % 2 ^ 32) r.edge) (ap (λ n. past n r.edge) edge) step, edge))
+    (λ keeps is. inl (ap (λ (t : Receiving). t.edge) is)) same
+  where
+    subst_step : (a b : ℕ) → a ≡ b → 1460 ≤ b → 1460 ≤ a
+    subst_step a b e most = omega (arith, e, most)
+
+-- A segment leaves the edge, past SYN-SENT.
+
+heard_edge : (v : View) (s : Segment) → is_syn_sent v.state ≡ false → (after_heard v s).receiving.edge ≡ v.receiving.edge
+heard_edge v s past_opening =
+    let P : View → Type 0 = λ w. w.receiving.edge ≡ v.receiving.edge in
+    let acked : P (after_ack v s.acknowledgement) = ap (λ (r : Receiving). r.edge) (ack_receives v s.acknowledgement) in
+    let heard = after_window (after_ack v s.acknowledgement) s in
+    let text : P (after_text heard s) = either View P ((length s.octets == 0) || not (is_receiving heard.state)) heard _ (λ none. acked) (λ some. acked) in
+    by_hearing P v s acked (record {
+      dropped = refl;
+      drawn = refl;
+      reset = refl;
+      crossed = λ waits. clash (is_syn_sent v.state) waits past_opening;
+      opened = λ waits right. clash (is_syn_sent v.state) waits past_opening;
+      acknowledged = acked;
+      read = by_fin P (after_text heard s) s (λ counts. text) text text;
+    })
+
+-- Every event.
+
+pub in_steps : (v : View) (e : Event) → IsSound v → is_syn_sent v.state ≡ false → v.receiving.edge < 2 ^ 32 → Steps v (after_event v e)
+in_steps v (Hears s now) sound past_opening small = by_clock (Steps v) v s now (inl refl) (λ lives. inl (heard_edge v s past_opening))
+in_steps v (Ticks now) sound past_opening small =
+    either View (Steps v) (is_at_end v now) (after_stop v) _ (λ over. inl refl)
+    (λ goes_on. either View (Steps v) (gives_up v now) (after_reset v (Some ETIMEDOUT)) _ (λ given_up. inl refl)
+    (λ lives. either View (Steps v) (has_come (next_of v.timers) now) (clocked false (after_timers v now) now) v
+    (λ comes. inl (ap (λ (w : View). w.receiving.edge) (timers_keep v now))) (λ early. inl refl)))
+in_steps v (Emits now) sound past_opening small = sent (first_due v)
+  where
+    sent : (o : Option Due) → Steps v (after_first v o now)
+    sent None = inl refl
+    sent (Some due) = elim (emitted v due now) [
+      | inl same ↦ inl (ap (λ (r : Receiving). r.edge) same)
+      | inr tells ↦ advertised v (after_emitted v due now) sound small tells
+    ]
+in_steps v (Sends octets now) sound past_opening small =
+    either View (Steps v) (is_some v.pending_error || is_opening v.state || is_write_closed v.state) v _ (λ refused. inl refl)
+    (λ takes. either View (Steps v) (length (take (send_count v octets) octets) == 0) v _ (λ none. inl refl) (λ some. inl refl))
+in_steps v (Receives len) sound past_opening small =
+    either View (Steps v) (is_some v.pending_error || is_opening v.state || (length v.receiving.readable == 0)) v _ (λ nothing. inl refl) (λ some. inl refl)
+in_steps v (Shuts now) sound past_opening small = either View (Steps v) (is_some (shutdown_refusal v)) v (after_shutdown v now) (λ refused. inl refl) (λ shuts. inl refl)
+in_steps v (Closes now) sound past_opening small =
+    either View (Steps v) (is_removed_by_close v) v _ (λ removed. inl refl)
+    (λ remains. either View (Steps v) (is_aborted_by_close v) (aborted_at v now) (after_release v now) (λ aborts. inl refl) (λ leaves. inl refl))
+in_steps v (Aborts now) sound past_opening small = either View (Steps v) (is_closed v.state) v (aborted_at v now) (λ closed. inl refl) (λ aborts. inl refl)
+in_steps v (Unreachable number) sound past_opening small =
+    either View (Steps v) (is_unreachable v number) (after_reset v (Some ECONNREFUSED)) v (λ refused. inl refl) (λ other. inl refl)
+
+-- A step that can be told is told with what goes out next.
+
+pub told_next : (v : View) (now : Moment) → IsSound v → (is_opening v.state || is_closed v.state) ≡ false → past v.receiving.edge v.receiving.rnext + 1460 + length v.receiving.readable ≤ 65535
+    → (after_event v (Emits now)).receiving.edge ≡ (v.receiving.rnext + (65535 - length v.receiving.readable)) % 2 ^ 32
+told_next v now sound opened much =
+    let r = v.receiving in
+    let lives = neither (is_opening v.state) (is_closed v.state) opened in
+    let has : has_grown r ≡ true = le-leb (past r.edge r.rnext + 1460) (receive_room r) (omega (arith, much)) in
+    let due : is_ack_due v ≡ true =
+    or_right v.owes_ack (not (is_opening v.state) && not (is_closed v.state) && has_grown r)
+    (both (not (is_opening v.state) && not (is_closed v.state)) (has_grown r) (both (not (is_opening v.state)) (not (is_closed v.state)) (of_false (is_opening v.state) lives.0) (of_false (is_closed v.state) lives.1)) has) in
+    let P : Option Due → Type 0 = λ o. (after_first v o now).receiving ≡ after_advertisement r in
+    let text : (stretch : Stretch) → P (Some (Text stretch)) = λ stretch. told v (after_stretch v stretch now) (stretch_receives v stretch now) in
+    let all : P (first_due v) = by_due P v (record {
+      nothing = λ quiet. clash (is_ack_due v) due quiet;
+      rst = λ owes. clash (is_closed v.state) (owed_where_closed v.owes_reset (is_closed v.state) v.released sound.reset owes) lives.1;
+      syn = λ opening. clash (is_opening v.state) opening lives.0;
+      once_more = λ past mark is goes. text (again v mark);
+      octets = λ past sends. text (new_octets v);
+      fin = λ past sends. text (fin_alone v);
+      probe = λ past goes. told v (after_probe v) (probe_receives v);
+      ack = λ owes. refl;
+    }) in
+    ap (λ (t : Receiving). t.edge) all ∙ ap (λ b. let t = if b then record r { edge = (r.rnext + receive_room r) % 2 ^ 32 } else r in t.edge) has
