@@ -42,3 +42,6 @@ pub mod OfferTurns
 pub mod OfferAccepted
 pub mod Filed
 pub mod KeptFiled
+pub mod ResetWaits
+pub mod Places
+pub mod ErrorsFirst

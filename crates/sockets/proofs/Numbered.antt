@@ -1,6 +1,7 @@
--- Why the id given last never goes back.
-use Rattle.std.proofs.Common.{◌≡◌, ℕ, ◌≤◌, Bool, true, false, List, Option, Some, None, Result, Ok, Err, refl, arith}
+-- Why the id given last never goes back, nor the kept moment.
+use Rattle.std.proofs.Common.{◌≡◌, ℕ, suc, ◌≤◌, nat_lt, Bool, true, false, List, Option, Some, None, Result, Ok, Err, refl, arith}
 use Rattle.std.specs.List.{find}
+use Rattle.std.proofs.lemmas.Bool.{ltb-true, leb-false}
 use Rattle.ipv4.specs.declared.addr.Addr.{Addr}
 use Rattle.ipv4.specs.declared.addr.Endpoint.{Endpoint}
 use Rattle.udp.specs.Datagram.{UserDatagram}
@@ -17,6 +18,7 @@ use Rattle.sockets.specs.declared.entry.Entry.{Entry}
 use Rattle.sockets.specs.declared.role.Role.{Role}
 use Rattle.sockets.specs.Entries.{is_between, is_listening_at, sends, fate_of}
 use Rattle.sockets.specs.SocketsView.{SocketsView, role_of}
+use Rattle.sockets.specs.Ticks.{after_tick}
 use Rattle.sockets.specs.Emission.{after_segment_sent}
 use Rattle.sockets.specs.Unreachable.{after_unreachable}
 use Rattle.sockets.specs.Calls.{port_bound, after_bind, port_connected, after_connect, after_socket_closed}
@@ -24,12 +26,13 @@ use Rattle.sockets.specs.Datagrams.{end_sent_from, after_sendto, reception, afte
 use Rattle.sockets.specs.Arrival.{local_end, peer_end, is_opening as opens, has_no_place, arrival_with_reply, arrival, arrival_alone}
 use Rattle.sockets.specs.Replies.{reset_at_ack, answer_to, answer_at_listener}
 use Rattle.sockets.specs.Causes.{Event, Makes, MakesDatagrams, Binds, Listens, Accepts, Connects, Sends, Receives, Shuts, Closes, Ticks, Hears, Emits, GivesUp, Unreachable, SendsTo, ReceivesFrom, HearsDatagram, after_arrival, after_event}
+use Rattle.sockets.proofs.Followed.{by_test}
 
 abbrev NotBefore : SocketsView → SocketsView → Type 0
-NotBefore h w = h.last_id ≤ w.last_id
+NotBefore h w = (h.last_id ≤ w.last_id) × (h.kept.0 ≤ w.kept.0)
 
 as_before : (h : SocketsView) → NotBefore h h
-as_before h = omega arith
+as_before h = (omega arith, omega arith)
 
 bind_numbered : (h : SocketsView) (id : SocketId) (local : Endpoint) → NotBefore h (after_bind h id local)
 bind_numbered h id local = by_port (port_bound h id local) refl
@@ -61,7 +64,7 @@ alone_numbered h isn source s = by_listener (find (is_listening_at s.destination
   where
     by_place : (listener : Entry) → find (is_listening_at s.destination) h.entries ≡ Some listener → opens s.flags ≡ true → (b : Bool) → has_no_place h listener ≡ b → NotBefore h (after_arrival h (arrival_alone h isn source s))
     by_place listener found opened true full = rw (found, opened, full) (as_before h)
-    by_place listener found opened false full = rw (found, opened, full) (omega arith)
+    by_place listener found opened false full = rw (found, opened, full) (omega arith, omega arith)
 
     by_flags : (listener : Entry) → find (is_listening_at s.destination) h.entries ≡ Some listener → (b : Bool) → opens s.flags ≡ b → NotBefore h (after_arrival h (arrival_alone h isn source s))
     by_flags listener found true opened = by_place listener found opened (has_no_place h listener) refl
@@ -112,22 +115,38 @@ datagram_numbered h source d = by_reception (reception h d) refl
     by_reception NoRoom given = rw given (as_before h)
     by_reception NoSocket given = rw given (as_before h)
 
-pub never_back : (h : SocketsView) (e : Event) → NotBefore h (after_event h e)
-never_back h (Makes buffers) = omega arith
-never_back h (Connects isn id peer routed) = connect_numbered h isn id peer routed
-never_back h (Closes id) = close_numbered h id
-never_back h (Hears now isn source s) = segment_numbered h now isn source s
-never_back h (Emits goes now) = emission_numbered h goes now
-never_back h (Unreachable local peer number) = error_numbered h local peer number
-never_back h (GivesUp lost now) = as_before h
-never_back h (Binds id local) = bind_numbered h id local
-never_back h (Listens id backlog) = as_before h
-never_back h (Accepts id) = as_before h
-never_back h (Sends id octets) = as_before h
-never_back h (Receives id len) = as_before h
-never_back h (Shuts id) = as_before h
-never_back h (Ticks now) = as_before h
-never_back h MakesDatagrams = omega arith
-never_back h (SendsTo id peer octets routed) = sendto_numbered h id peer octets routed
-never_back h (ReceivesFrom id len) = as_before h
-never_back h (HearsDatagram source d) = datagram_numbered h source d
+-- a tick keeps the later of its moment and the kept one
+tick_kept : (h : SocketsView) (now : Moment) → (let after = after_tick h now in (h.kept.0 ≤ after.kept.0) × (now.0 ≤ after.kept.0))
+tick_kept h now =
+    by_test (nat_lt h.kept.0 now.0)
+    (λ later. rw later (omega (arith, ltb-true h.kept.0 now.0 later), omega arith))
+    (λ earlier. rw earlier (omega arith, omega (arith, leb-false (suc h.kept.0) now.0 earlier)))
+
+not_before : (h : SocketsView) (e : Event) → NotBefore h (after_event h e)
+not_before h (Makes buffers) = (omega arith, omega arith)
+not_before h (Connects isn id peer routed) = connect_numbered h isn id peer routed
+not_before h (Closes id) = close_numbered h id
+not_before h (Hears now isn source s) = segment_numbered h now isn source s
+not_before h (Emits goes now) = emission_numbered h goes now
+not_before h (Unreachable local peer number) = error_numbered h local peer number
+not_before h (GivesUp lost now) = as_before h
+not_before h (Binds id local) = bind_numbered h id local
+not_before h (Listens id backlog) = as_before h
+not_before h (Accepts id) = as_before h
+not_before h (Sends id octets) = as_before h
+not_before h (Receives id len) = as_before h
+not_before h (Shuts id) = as_before h
+not_before h (Ticks now) = (omega arith, (tick_kept h now).0)
+not_before h MakesDatagrams = (omega arith, omega arith)
+not_before h (SendsTo id peer octets routed) = sendto_numbered h id peer octets routed
+not_before h (ReceivesFrom id len) = as_before h
+not_before h (HearsDatagram source d) = datagram_numbered h source d
+
+pub never_back : (h : SocketsView) (e : Event) → (let after = after_event h e in h.last_id ≤ after.last_id)
+never_back h e = (not_before h e).0
+
+pub moment_kept : (h : SocketsView) (e : Event) → (let after = after_event h e in h.kept.0 ≤ after.kept.0)
+moment_kept h e = (not_before h e).1
+
+pub tick_told : (h : SocketsView) (now : Moment) → (let after = after_tick h now in now.0 ≤ after.kept.0)
+tick_told h now = (tick_kept h now).1

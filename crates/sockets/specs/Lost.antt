@@ -1,5 +1,5 @@
 -- What is given up since it can't go out: resets of aborts, and datagrams. How long they wait is this stack's own.
-use Rattle.std.specs.Prelude.{Bool, false, ◌&&◌, if◌then◌else◌, Option, Some, None}
+use Rattle.std.specs.Prelude.{◌+◌, nat_le, Bool, false, ◌&&◌, not, if◌then◌else◌, List, filter_map, Option, Some, None}
 use Rattle.ipv4.specs.declared.addr.Addr.{Addr}
 use Rattle.ipv4.specs.declared.addr.Endpoint.{Endpoint}
 use Rattle.clock.specs.declared.moment.Moment.{Moment}
@@ -35,6 +35,14 @@ role_after_giving_up lost now (Idle buffers bound) = Idle buffers bound
 -- all else stays, in order
 abbrev pub after_giving_up : SocketsView → (Addr → Bool) → Moment → SocketsView
 after_giving_up h lost now = record h { entries = entries_after_steps (give_up_fate_of lost (later_moment h now)) (role_after_giving_up lost (later_moment h now)) h.entries }
+
+-- the resets that wait to go out, in the table's order: to whom, and since when
+abbrev pub waiting_resets : SocketsView → List (Endpoint × Moment)
+waiting_resets h = filter_map (λ e. reset_wait e.role) h.entries
+
+-- one of them that has not waited for 3,000 milliseconds, or whose address is not lost
+abbrev pub waits_still : (Addr → Bool) → Moment → Endpoint × Moment → Bool
+waits_still lost now wait = let peer = wait.0 in let since = wait.1 in not (nat_le (since.0 + 3000) now.0 && lost peer.addr)
 
 -- the moment from which something of an entry is given up: None where all that waits is for addresses that are not lost
 abbrev pub give_up_at : (Addr → Bool) → Role → Option Moment

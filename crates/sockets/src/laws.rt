@@ -1,6 +1,6 @@
 //! Laws over the definitions alone: functions with nothing to do, whose contracts are the laws.
 
-ghost use Rattle.std.specs.Prelude.{◌≡◌, ℕ, ◌+◌, ◌%◌, ◌^◌, ◌≤◌, ◌<◌, Bool, true, false, not, List, [], length, Option, Some, None, is_some, is_ok, option_map};
+ghost use Rattle.std.specs.Prelude.{◌≡◌, ◌⊎◌, ℕ, ◌+◌, ◌-◌, ◌%◌, ◌^◌, ◌≤◌, ◌<◌, ◌==◌, Bool, true, false, not, List, [], length, count_by, filter, find, Option, Some, None, Err, is_some, is_ok, option_map};
 ghost use Rattle.ipv4.specs.declared.addr.Addr.{Addr};
 ghost use Rattle.udp_socket.specs.SocketView.{SocketView, with_sent};
 ghost use Rattle.ipv4.specs.declared.addr.Endpoint.{Endpoint};
@@ -11,14 +11,18 @@ ghost use Rattle.tcp_segment.specs.Segment.{Segment, FieldsFit};
 ghost use Rattle.tcp_segment.specs.Sent.{CanBeSent};
 ghost use Rattle.clock.specs.declared.moment.Moment.{Moment};
 ghost use Rattle.clock.specs.Moments.{has_come};
+ghost use Rattle.tcp_state.specs.View.{View};
+ghost use Rattle.tcp_state.specs.declared.calls.Refusal.{Refusal as Error};
 ghost use Rattle.sockets.specs.declared.entry.SocketId.{SocketId};
+ghost use Rattle.sockets.specs.declared.entry.Entry.{Entry};
+ghost use Rattle.sockets.specs.Entries.{is_listening_at, is_waiting_at, backlog_of};
 ghost use Rattle.sockets.specs.SocketsView.{SocketsView, holder_id, new_sockets, later_moment, role_of};
 ghost use Rattle.sockets.specs.Ticks.{after_tick, least_deadline, IsLeastDeadline, HasNoDeadline};
-ghost use Rattle.sockets.specs.Lost.{role_after_giving_up, after_giving_up};
-ghost use Rattle.sockets.specs.Arrival.{Opens, Answers, local_end, peer_end, arrival, opened_by, pair_opened};
-ghost use Rattle.sockets.specs.declared.role.Role.TheVariants.{Datagrams};
+ghost use Rattle.sockets.specs.Lost.{role_after_giving_up, after_giving_up, waiting_resets, waits_still};
+ghost use Rattle.sockets.specs.Arrival.{Opens, NoPlace, Answers, local_end, peer_end, arrival, opened_by, pair_opened};
+ghost use Rattle.sockets.specs.declared.role.Role.TheVariants.{Connected, Datagrams};
 ghost use Rattle.sockets.specs.Datagrams.{sendto_answer, after_sendto, sending_end};
-ghost use Rattle.sockets.specs.Calls.{connect_refusal, after_connect, pair_connected};
+ghost use Rattle.sockets.specs.Calls.{refusal_of, connect_refusal, after_connect, send_answer, recv_answer, shutdown_refusal, pair_connected};
 ghost use Rattle.sockets.specs.Pairs.{socket_pair};
 ghost use Rattle.sockets.specs.Sound.{IsSoundTable, NoneIsOver};
 ghost use Rattle.sockets.specs.Ports.{first_port, IsDynamic, IsFirstBehind};
@@ -107,4 +111,34 @@ pub fn identifications_are_drawn_in_turn()
     ensures taken { (h : SocketsView) (id : SocketId) (peer : Endpoint) (octets : List ℕ) (routed : Bool) (bound : Option Endpoint) (socket : SocketView) → role_of h id ≡ Some (Datagrams bound socket)
         → is_ok (sendto_answer h id peer octets routed) ≡ true → role_of (after_sendto h id peer octets routed) id ≡ Some (Datagrams (sending_end h bound) (with_sent socket h.kept peer h.identification octets)) }
     ensures counted { (h : SocketsView) (events : List Event) → h.identification < 2 ^ 16 → let after = after_events h events in after.identification ≡ (h.identification + datagrams_taken_in h events) % 2 ^ 16 }
+{}
+
+/// A SYN finds no place only at a listener at which as many connections wait as its backlog allows, or where the table has 64 entries, or the last id is given.
+pub fn places_are_given_while_there_are_any()
+    ensures { (h : SocketsView) (now : Moment) (isn : ℕ) (source : Addr) (s : Segment) → arrival h now isn source s ≡ NoPlace → (listener : Entry) × (find (is_listening_at s.destination) h.entries ≡ Some listener)
+        × ((backlog_of listener.role ≤ count_by (is_waiting_at listener.id) h.entries) ⊎ ((length h.entries ≡ 64) ⊎ (h.last_id + 1 ≡ 2 ^ 64))) }
+{}
+
+/// Of the resets that wait to go out those are given up that have waited for 3,000 ms for an address that is lost, and no other: those that are left wait as they did, in order.
+pub fn resets_are_given_up_in_time()
+    ensures { (h : SocketsView) (lost : Addr → Bool) (now : Moment) → (let later = later_moment h now in later.0 < 2 ^ 64 - 1)
+        → waiting_resets (after_giving_up h lost now) ≡ filter (waits_still lost (later_moment h now)) (waiting_resets h) }
+{}
+
+/// The error that a connection tells, one that was refused, reset, or whose peer was silent, comes before all else that a call would tell of it: of its state, and of octets that are not read.
+pub fn errors_are_told_first()
+    ensures connect { (h : SocketsView) (id : SocketId) (c : View) (listener : Option SocketId) (error : Error) (peer : Endpoint) (routed : Bool) → role_of h id ≡ Some (Connected c listener) → c.pending_error ≡ Some error
+        → connect_refusal h id peer routed ≡ Some (refusal_of error) }
+    ensures send { (h : SocketsView) (id : SocketId) (c : View) (listener : Option SocketId) (error : Error) (octets : List ℕ) → role_of h id ≡ Some (Connected c listener) → c.pending_error ≡ Some error
+        → send_answer h id octets ≡ Err (refusal_of error) }
+    ensures recv { (h : SocketsView) (id : SocketId) (c : View) (listener : Option SocketId) (error : Error) (len : ℕ) → role_of h id ≡ Some (Connected c listener) → c.pending_error ≡ Some error → (len == 0) ≡ false
+        → recv_answer h id len ≡ Err (refusal_of error) }
+    ensures shutdown { (h : SocketsView) (id : SocketId) (c : View) (listener : Option SocketId) (error : Error) → role_of h id ≡ Some (Connected c listener) → c.pending_error ≡ Some error
+        → shutdown_refusal h id ≡ Some (refusal_of error) }
+{}
+
+/// The kept moment never goes back, whatever happens, and a tick keeps its own unless that is earlier: timers and waits see moments in order.
+pub fn moments_never_go_back()
+    ensures kept { (h : SocketsView) (e : Event) → let after = after_event h e in h.kept.0 ≤ after.kept.0 }
+    ensures told { (h : SocketsView) (now : Moment) → let after = after_tick h now in now.0 ≤ after.kept.0 }
 {}

@@ -1,0 +1,55 @@
+-- Why a reset is given up exactly where it has waited for 3,000 milliseconds for an address that is lost.
+use Rattle.std.proofs.Common.{◌≡◌, ℕ, ◌+◌, ◌-◌, ◌^◌, ◌<◌, ◌&&◌, nat_le, min, Bool, true, false, List, [], ◌∷◌, Option, Some, None, inl, inr, arith, refl, sym, ◌∙◌, ap}
+use Rattle.std.specs.List.{filter, filter_map}
+use Rattle.std.proofs.lemmas.Bool.Decides.{leb_tells}
+use Rattle.ipv4.specs.declared.addr.Addr.{Addr}
+use Rattle.ipv4.specs.declared.addr.Endpoint.{Endpoint}
+use Rattle.clock.specs.declared.moment.Moment.{Moment}
+use Rattle.clock.specs.Moments.{after, has_come}
+use Rattle.sockets.specs.declared.entry.Entry.{Entry}
+use Rattle.sockets.specs.declared.role.Role.{Role}
+use Rattle.sockets.specs.declared.role.Role.TheVariants.{Idle, Listener, Connected, Datagrams}
+use Rattle.sockets.specs.Entries.{reset_wait, entries_after_steps}
+use Rattle.sockets.specs.SocketsView.{SocketsView, later_moment}
+use Rattle.sockets.specs.Lost.{is_given_up, give_up_fate_of, role_after_giving_up, after_giving_up, waiting_resets, waits_still}
+use Rattle.sockets.proofs.Followed.{by_test}
+
+-- the wait's end comes so many milliseconds after its beginning, before the last moment
+comes_after : (since now : Moment) → now.0 < 2 ^ 64 - 1 → has_come (Some (after since 3000)) now ≡ nat_le (since.0 + 3000) now.0
+comes_after since now before_last = by_sum (since.0 + 3000) now.0 before_last
+  where
+    by_sum : (sum moment : ℕ) → moment < 2 ^ 64 - 1 → nat_le (min sum (2 ^ 64 - 1)) moment ≡ nat_le sum moment
+    by_sum sum moment few = elim (leb_tells (min sum (2 ^ 64 - 1)) moment) [
+      | inl capped ↦ elim (leb_tells sum moment) [ inl come ↦ capped.0 ∙ sym come.0 | inr early ↦ absurd (omega (arith, capped.1, early.1, few)) ]
+      | inr capped ↦ elim (leb_tells sum moment) [ inl come ↦ absurd (omega (arith, capped.1, come.1, few)) | inr early ↦ capped.0 ∙ sym early.0 ]
+    ]
+
+-- what stays waits as before
+still_waits : (lost : Addr → Bool) (now : Moment) (role : Role) → reset_wait (role_after_giving_up lost now role) ≡ reset_wait role
+still_waits lost now (Idle buffers bound) = refl
+still_waits lost now (Listener local backlog) = refl
+still_waits lost now (Connected c listener) = refl
+still_waits lost now (Datagrams bound socket) = refl
+
+-- the resets that wait in some entries, and those that wait once others were given up
+abbrev waiting : List Entry → List (Endpoint × Moment)
+waiting xs = filter_map (λ (e : Entry). reset_wait e.role) xs
+
+abbrev Leaves : (Addr → Bool) → Moment → List Entry → Type 0
+Leaves lost now xs = waiting (entries_after_steps (give_up_fate_of lost now) (role_after_giving_up lost now) xs) ≡ filter (waits_still lost now) (waiting xs)
+
+left_waiting : (lost : Addr → Bool) (now : Moment) → now.0 < 2 ^ 64 - 1 → (xs : List Entry) → Leaves lost now xs
+left_waiting lost now few [] = refl
+left_waiting lost now few (x ∷ xs) = by_wait (reset_wait x.role) refl (left_waiting lost now few xs)
+  where
+    by_wait : (o : Option (Endpoint × Moment)) → reset_wait x.role ≡ o → Leaves lost now xs → Leaves lost now (x ∷ xs)
+    by_wait None is rest = rw (is, still_waits lost now x.role, is) rest
+    by_wait (Some (peer, since)) is rest =
+        let told : is_given_up lost now x.role ≡ (nat_le (since.0 + 3000) now.0 && lost peer.addr) = rw is (ap (λ b. b && lost peer.addr) (comes_after since now few)) in
+        by_test (nat_le (since.0 + 3000) now.0 && lost peer.addr)
+        (λ over. let gone : is_given_up lost now x.role ≡ true = told ∙ over in rw (gone, is, over) rest)
+        (λ waits. let kept : is_given_up lost now x.role ≡ false = told ∙ waits in rw (kept, still_waits lost now x.role, is, waits) (ap (λ (r : List (Endpoint × Moment)). (peer, since) ∷ r) rest))
+
+pub given_up_in_time : (h : SocketsView) (lost : Addr → Bool) (now : Moment) → (let later = later_moment h now in later.0 < 2 ^ 64 - 1)
+    → waiting_resets (after_giving_up h lost now) ≡ filter (waits_still lost (later_moment h now)) (waiting_resets h)
+given_up_in_time h lost now few = left_waiting lost (later_moment h now) few h.entries
