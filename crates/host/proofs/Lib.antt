@@ -11,3 +11,4 @@ pub mod Causes
 pub mod Messages
 pub mod Reporting
 pub mod Gathering
+pub mod Unusable

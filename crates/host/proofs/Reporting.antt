@@ -182,7 +182,7 @@ asks-so : (m : Message) → IsEchoRequest m → told_by m ≡ Asks
 asks-so m is =
     ap (λ k. cond (k == 8 && m.code == 0) Asks (told_by_quote (refused_quote m))) is.kind ∙ ap (λ k. cond (k == 0) Asks (told_by_quote (refused_quote m))) is.code
 
-queued-so : (i : InterfaceView) (moment : Moment) (to : Addr) (r : Reply) → is_routed i to ≡ true → Ok tt ≡ queue_answer (owed_answer (is_routed i to) i) → owed (is_routed i to) moment r i ≡ queued moment r i
+pub queued-so : (i : InterfaceView) (moment : Moment) (to : Addr) (r : Reply) → is_routed i to ≡ true → Ok tt ≡ queue_answer (owed_answer (is_routed i to) i) → owed (is_routed i to) moment r i ≡ queued moment r i
 queued-so i moment to r routed e = by_tests (is_routed i to) (is_full i) routed e
   where
     by_tests : (led full : Bool) → led ≡ true → Ok tt ≡ queue_answer (cond (led && full) (Err fault.NoRoom) (Ok tt)) → cond (led && not full) (queued moment r i) i ≡ queued moment r i

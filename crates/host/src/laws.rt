@@ -1,6 +1,6 @@
 //! Laws of the definitions that the contracts of this crate cite: each is the contract of a function that does nothing.
 
-ghost use Rattle.std.specs.Prelude.{◌≡◌, ◌≢◌, ℕ, ◌||◌, false, IsTrue, List, [], ◌∷◌, ◌++◌, find, slice_get, Option, Some, None, option_map, Result, Ok, Err};
+ghost use Rattle.std.specs.Prelude.{◌≡◌, ◌≢◌, ℕ, ◌||◌, false, IsTrue, List, [], ◌∷◌, ◌++◌, find, slice_get, take, Option, Some, None, option_map, Result, Ok, Err};
 ghost use Rattle.std.specs.List.{list_any};
 ghost use Rattle.ether.specs.declared.mac.Mac.{Mac};
 ghost use Rattle.ether.specs.Frame.{Frame};
@@ -12,6 +12,7 @@ ghost use Rattle.clock.specs.declared.moment.Moment.{Moment};
 ghost use Rattle.clock.specs.Moments.{has_come};
 ghost use Rattle.arp.specs.Cache.{after_age};
 ghost use Rattle.icmp.specs.declared.error.Reason.{Reason};
+ghost use Rattle.icmp.specs.declared.error.Reason.TheVariants.{ProtocolUnreachable, PortUnreachable};
 ghost use Rattle.icmp.specs.MayAnswer.{MayAnswer};
 ghost use Rattle.icmp.specs.Message.{Message, IsEchoRequest};
 ghost use Rattle.icmp.specs.Sent.{RepliesTo, error_for};
@@ -24,13 +25,13 @@ ghost use Rattle.frames.specs.declared.meaning.Meaning.{Meaning};
 ghost use Rattle.frames.specs.declared.meaning.Meaning.TheVariants.{Tcp, Icmp, Udp, Other, UdpFragment};
 ghost use Rattle.frames.specs.Meaning.{heard, broadcast};
 ghost use Rattle.frames.specs.Pairs.{pair_in, pair_between};
-ghost use Rattle.interface.specs.declared.reply.Reply.TheVariants.{Echo};
+ghost use Rattle.interface.specs.declared.reply.Reply.TheVariants.{Echo, Error};
 ghost use Rattle.interface.specs.declared.reply.Waiting.{Waiting};
 ghost use Rattle.interface.specs.Ways.{is_routed};
 ghost use Rattle.interface.specs.Timing.{least_deadline as reply_deadline};
 ghost use Rattle.reassembly.specs.Places.{next_deadline as pool_deadline};
 ghost use Rattle.sockets.specs.declared.entry.Entry.{Entry};
-ghost use Rattle.sockets.specs.Entries.{due_peer, sends};
+ghost use Rattle.sockets.specs.Entries.{due_peer, is_datagrams_at, sends};
 ghost use Rattle.sockets.specs.Order.{IsOrdered};
 ghost use Rattle.sockets.specs.SocketsView.{later_moment};
 ghost use Rattle.sockets.specs.Ticks.{least_deadline as timer_deadline};
@@ -140,4 +141,17 @@ pub fn errors_have_causes()
         → Runs c events h → IsSoundHost h → IsOrdered h.sockets → heard mac ours (emission_octets h now) ≡ Ok (Icmp error) → error.message.kind ≢ 0
         → (reason : Reason) × (d : Datagram) × (meaning : Meaning) × IsAbout reason d meaning × WasHeard c events meaning × (d.source ≡ ours)
         × (error.message ≡ error_for reason (header_octets d) d.payload) }
+{}
+
+/// A datagram for which a host has no use is reported to its source, where a route leads there: one of a protocol that it hasn't, and a whole user datagram to whose port no socket is bound (RFC 1122
+/// sections 3.2.2.1 and 4.1.3.1). Once it is taken, the error stands behind all other replies that wait, and quotes its header and 8 octets behind it.
+pub fn unusable_datagrams_are_reported()
+    ensures protocol { (h : HostView) (now : Moment) (isn : ℕ) (octets : List ℕ) (d : Datagram) (new : HostView) → heard_by h octets ≡ Ok (Other d)
+        → IsTrue (is_routed h.interface d.source) → IsDelivered h now isn octets (Ok tt) new
+        → let reply = Error d.source ProtocolUnreachable (header_octets d ++ take 8 d.payload) in
+        new.interface.replies ≡ h.interface.replies ++ record { since = later_moment h.sockets now; reply = reply } ∷ [] }
+    ensures port { (h : HostView) (now : Moment) (isn : ℕ) (octets : List ℕ) (u : UserReceived) (new : HostView) → heard_by h octets ≡ Ok (Udp u)
+        → find (is_datagrams_at u.datagram.destination) h.sockets.entries ≡ None → IsTrue (is_routed h.interface u.carrier.source) → IsDelivered h now isn octets (Ok tt) new
+        → let reply = Error u.carrier.source PortUnreachable (header_octets u.carrier ++ take 8 u.carrier.payload) in
+        new.interface.replies ≡ h.interface.replies ++ record { since = later_moment h.sockets now; reply = reply } ∷ [] }
 {}
