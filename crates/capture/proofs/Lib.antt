@@ -5,3 +5,4 @@ pub mod Beginnings
 pub mod Spelled
 pub mod Ours
 pub mod Opening
+pub mod Lengths

@@ -17,17 +17,26 @@ pub const MOST_OCTETS: usize = 262_144;
 /// How many seconds the format can tell apart: its seconds have 32 bits, and begin again at 0.
 const SECONDS_TOLD: u64 = 1 << 32;
 
+/// How many lengths the format can tell apart.
+const LENGTHS_TOLD: usize = 1 << 32;
+
 /// What stands before the octets of a frame that went out at this moment, and has so many octets: seconds modulo 2^32,
-/// microseconds, and the length twice, the lowest octet first.
+/// microseconds, and the length twice, modulo 2^32, the lowest octet first. Only a frame of `MOST_OCTETS` at most is read back.
 pub fn record_head(moment: Moment, len: usize) -> [u8; RECORD_HEAD_LEN]
-    requires { len ≤ MOST_OCTETS }
+    ensures { (octets : List ℕ) → length octets ≡ len → result ≡ entry_head Little (entry_of (record { moment = moment; octets = octets })) }
+{
+    head_of(moment, (len % LENGTHS_TOLD) as u32)
+}
+
+/// The same of a length of 32 bits.
+fn head_of(moment: Moment, len: u32) -> [u8; RECORD_HEAD_LEN]
     ensures { (octets : List ℕ) → length octets ≡ len → result ≡ entry_head Little (entry_of (record { moment = moment; octets = octets })) }
 {
     let seconds = (moment.0 / 1_000 % SECONDS_TOLD) as u32;
     let microseconds = (moment.0 % 1_000) as u32 * 1_000;
     let [s0, s1, s2, s3] = seconds.to_le_bytes();
     let [m0, m1, m2, m3] = microseconds.to_le_bytes();
-    let [l0, l1, l2, l3] = (len as u32).to_le_bytes();
+    let [l0, l1, l2, l3] = len.to_le_bytes();
     [
         s0, s1, s2, s3, m0, m1, m2, m3, l0, l1, l2, l3, l0, l1, l2, l3,
     ]

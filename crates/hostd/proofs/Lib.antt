@@ -6,3 +6,4 @@ pub mod PlayLemmas
 pub mod RunLemmas
 pub mod HexLemmas
 pub mod CapturedLemmas
+pub mod RecordingLemmas

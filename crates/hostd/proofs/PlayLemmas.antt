@@ -1,5 +1,6 @@
 -- What the commands of a script print, command by command.
 use Rattle.std.proofs.Common.{◌≡◌, ℕ, ◌+◌, ◌<◌, ◌⊎◌, inl, inr, List, [], ◌∷◌, ◌++◌, length, map, take, drop, get_or, Option, Some, None, append_assoc, append-nil, Result, Ok, Err, refl, ap, sym, subst, ◌∙◌, add-one, arith}
+use Rattle.std.specs.Result.{OnErr}
 use Rattle.std.proofs.Math.Seq.{take-suc}
 use Rattle.std.proofs.lemmas.List.{map-append, take_more_set}
 use Rattle.std.proofs.Math.ListN.{set, length-set}
@@ -14,13 +15,14 @@ use Rattle.wire_sim.specs.WorldView.{WorldView}
 use Rattle.wire_sim.proofs.RunGiven.{runs-added}
 use Rattle.wire_sim.specs.declared.event.Answer.TheVariants.{Frame}
 use Rattle.std.specs.Io.KnownBytes.{Keeps}
-use Rattle.std.proofs.lemmas.List.{take-append-drop}
+use Rattle.std.proofs.lemmas.List.{take-append-drop, drop_more}
 use Rattle.script.specs.declared.lines.Command.{Command}
+use Rattle.script.specs.declared.lines.Command.TheVariants.{At, Pass}
 use Rattle.hostd.specs.declared.fault.TextFault.{TextFault}
 use Rattle.hostd.specs.declared.fault.TextFault.TheVariants.{Write, NoMemory}
 use Rattle.hostd.specs.Streams.{TakesFront, TakesAllBut}
 use Rattle.hostd.proofs.StreamLemmas.{Appends-more, Keeps-appends}
-use Rattle.hostd.specs.Play.{HasEmitted, goes_out, passes, starts, goes_on, Delivers, HasPrinted, Prints, IsPlayed, IsCutShort}
+use Rattle.hostd.specs.Play.{HasEmitted, goes_out, passes, starts, goes_on, Delivers, HasPrinted, Does, Prints, IsPlayed, IsLeftBefore, IsCutShort}
 
 -- the first frames, and one more
 one_more_of : {X : Type 0} (f : ℕ → X) (frames : List ℕ) (i : ℕ) → i < length frames →
@@ -114,18 +116,37 @@ played_more world m v commands i command line before waiting waiting' old mid ne
   added_more old mid new before so_far.0 line waiting waiting' so_far.2 added,
 )
 
+-- the world stays where no more is done
+pub stayed : (rest : List Command) (w : WorldView) → IsLeftBefore rest w w
+stayed [] w = refl
+stayed (next ∷ rest) w = inl refl
+
+-- the world where the next command's line was not printed
+left_next : (commands : List Command) (i : ℕ) (command : Command) (w after : WorldView) → i < length commands → command ≡ get_or commands i command →
+    (after ≡ w) ⊎ Does command w after → IsLeftBefore (drop i commands) w after
+left_next commands i command w after within is left =
+    let first : drop i commands ≡ command ∷ drop (i + 1) commands = drop_more commands i command within ∙ ap (λ c. c ∷ drop (i + 1) commands) (sym is) in
+    subst (λ l. IsLeftBefore l w after) (sym first) left
+
+-- what a command that printed a line did
+does_of : (command : Command) (line : List ℕ) (w v : WorldView) → Prints command line w v → Does command w v
+does_of (At side action) line w v p = (p.0, p.1, p.2, p.3)
+does_of (Pass isn) line w v p = (p.0, p.1, p.2, p.3, p.4)
+
 -- memory ran out before a line was added
-pub cut_by_memory : (world w : WorldView) (commands : List Command) (i : ℕ) (before waiting waiting' : List ℕ) (old mid new : Option (List ℕ))
-    (fault : TextFault) → fault ≡ NoMemory → waiting' ≡ waiting → new ≡ mid → IsPlayed world w (take i commands) old mid before waiting →
-    IsCutShort fault world commands old new before waiting'
-cut_by_memory world w commands i before waiting waiting' old mid new fault is same kept so_far =
-    rw (is, same, kept) (take i commands, drop i commands, so_far.0, w, sym (take-append-drop i commands), so_far.1, so_far.2)
+pub cut_by_memory : (world w after : WorldView) (commands : List Command) (i : ℕ) (command : Command) (before waiting waiting' : List ℕ)
+    (old mid new : Option (List ℕ)) (fault : TextFault) → fault ≡ NoMemory → waiting' ≡ waiting → new ≡ mid → i < length commands →
+    command ≡ get_or commands i command → (after ≡ w) ⊎ Does command w after → IsPlayed world w (take i commands) old mid before waiting →
+    IsCutShort fault world after commands old new before waiting'
+cut_by_memory world w after commands i command before waiting waiting' old mid new fault is same kept within at left so_far =
+    rw (is, same, kept)
+    (take i commands, drop i commands, so_far.0, w, sym (take-append-drop i commands), so_far.1, so_far.2, left_next commands i command w after within at left)
 
 -- the sink failed at a line
 cut_by_sink : (world m v : WorldView) (commands : List Command) (i : ℕ) (command : Command) (line before waiting waiting' : List ℕ)
     (old mid new : Option (List ℕ)) (fault : TextFault) → fault ≡ Write → i < length commands → command ≡ get_or commands i command →
     IsPlayed world m (take i commands) old mid before waiting → Prints command line m v → TakesFront mid new (waiting ++ line) →
-    IsCutShort fault world commands old new before waiting'
+    IsCutShort fault world v commands old new before waiting'
 cut_by_sink world m v commands i command line before waiting waiting' old mid new fault is_sink within is so_far one front =
     rw is_sink (
       take (i + 1) commands,
@@ -135,6 +156,7 @@ cut_by_sink world m v commands i command line before waiting waiting' old mid ne
       sym (take-append-drop (i + 1) commands),
       printed_more world m v commands i command so_far.0 line within is so_far.1 one,
       added_front old mid new before so_far.0 line waiting so_far.2 front,
+      stayed (drop (i + 1) commands) v,
     )
 
 -- a line could not be added
@@ -142,8 +164,14 @@ pub cut_at_line : (world m v : WorldView) (commands : List Command) (i : ℕ) (c
     (old mid new : Option (List ℕ)) (fault : TextFault) → i < length commands → command ≡ get_or commands i command →
     IsPlayed world m (take i commands) old mid before waiting → Prints command line m v →
     (fault ≡ Write) ⊎ ((fault ≡ NoMemory) × (waiting' ≡ waiting) × (new ≡ mid)) → (fault ≡ Write → TakesFront mid new (waiting ++ line)) →
-    IsCutShort fault world commands old new before waiting'
+    IsCutShort fault world v commands old new before waiting'
 cut_at_line world m v commands i command line before waiting waiting' old mid new fault within is so_far one (inl sink) front =
     cut_by_sink world m v commands i command line before waiting waiting' old mid new fault sink within is so_far one (front sink)
 cut_at_line world m v commands i command line before waiting waiting' old mid new fault within is so_far one (inr memory) front =
-    cut_by_memory world m commands i before waiting waiting' old mid new fault memory.0 memory.1 memory.2 so_far
+    cut_by_memory world m v commands i command before waiting waiting' old mid new fault memory.0 memory.1 memory.2 within is
+    (inr (does_of command line m v one)) so_far
+
+-- what holds anyhow holds where a call failed
+pub on_err : {T E : Type 0} (r : Result T E) (P : Type 0) → P → OnErr r P
+on_err (Ok x) P holds = tt
+on_err (Err e) P holds = holds

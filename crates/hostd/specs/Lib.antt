@@ -4,3 +4,4 @@ pub mod Line
 pub mod Play
 pub mod Hex
 pub mod Captured
+pub mod Recording

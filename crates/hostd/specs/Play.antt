@@ -18,10 +18,12 @@ use Rattle.script.specs.declared.answer.Style.{Style}
 use Rattle.script.specs.declared.lines.Command.{Command}
 use Rattle.script.specs.declared.lines.Command.TheVariants.{At, Pass}
 use Rattle.hostd.specs.declared.fault.TextFault.{TextFault}
+use Rattle.hostd.specs.declared.sim.Ends.{Ends}
 use Rattle.hostd.specs.declared.fault.TextFault.TheVariants.{Write}
 use Rattle.script.specs.Words.{lines_of}
 use Rattle.script.specs.Script.{limit_of, commands_of}
 use Rattle.hostd.specs.Streams.{TakesFront, TakesAllBut}
+use Rattle.hostd.specs.Recording.{TakesCapture}
 use Rattle.host.specs.ConfigView.{ConfigView}
 use Rattle.script.specs.Hosts.{IsSetUp}
 use Rattle.script.specs.Events.{IsEventOf}
@@ -64,6 +66,12 @@ Carries side isn count old new =
 abbrev pub pass_line : ℕ → ℕ → List ℕ
 pass_line from_a from_b = codes "a " ++ decimal from_a ++ codes " b " ++ decimal from_b ++ codes "\n"
 
+-- what a command does: its event has an outcome, or it carries frames of a and then of b
+abbrev pub Does : Command → WorldView → WorldView → Type 0
+Does (At side action) old new =
+    (happens : Event) × (outcome : Result Answer Unfair) × IsEventOf side action happens × IsOutcome happens outcome old new
+Does (Pass isn) old new = (from_a : ℕ) × (from_b : ℕ) × (w : WorldView) × Carries A isn from_a old w × Carries B isn from_b w new
+
 -- a command prints this line: what is shown of the outcome of its event, or how many frames of a and of b it carried
 abbrev pub Prints : Command → List ℕ → WorldView → WorldView → Type 0
 Prints (At side action) line old new =
@@ -83,11 +91,16 @@ abbrev pub IsLeft : TextFault → Option (List ℕ) → Option (List ℕ) → Li
 IsLeft Write old new octets waiting = TakesFront old new octets
 IsLeft fault old new octets waiting = TakesAllBut old new octets waiting
 
+-- the world where a fault ended a run: as it was before these commands, or as the first of them left it, whose line was not printed
+abbrev pub IsLeftBefore : List Command → WorldView → WorldView → Type 0
+IsLeftBefore [] w after = after ≡ w
+IsLeftBefore (next ∷ rest) w after = (after ≡ w) ⊎ Does next w after
+
 -- A fault ended a run of commands. The first of them were run, and what they printed is on its way behind what waited before.
-abbrev pub IsCutShort : TextFault → WorldView → List Command → Option (List ℕ) → Option (List ℕ) → List ℕ → List ℕ → Type 0
-IsCutShort fault world commands old new before waiting =
+abbrev pub IsCutShort : TextFault → WorldView → WorldView → List Command → Option (List ℕ) → Option (List ℕ) → List ℕ → List ℕ → Type 0
+IsCutShort fault world after commands old new before waiting =
     (part : List Command) × (rest : List Command) × (text : List ℕ) × (w : WorldView) × (commands ≡ part ++ rest)
-    × HasPrinted world part text w × IsLeft fault old new (before ++ text) waiting
+    × HasPrinted world part text w × IsLeft fault old new (before ++ text) waiting × IsLeftBefore rest w after
 
 -- all commands were run, and what they printed is on its way behind what waited before
 abbrev pub IsPlayed : WorldView → WorldView → List Command → Option (List ℕ) → Option (List ℕ) → List ℕ → List ℕ → Type 0
@@ -117,6 +130,11 @@ abbrev pub IsPrinted : Option ℕ → List Command → List ℕ → Type 0
 IsPrinted limit commands printed =
     (text : List ℕ) × (first : WorldView) × (w : WorldView) × IsFirst limit first × HasPrinted first commands text w × (printed ≡ limit_line limit ++ text)
 
+-- what a script with this limit prints by these commands, and the world that they lead to
+abbrev pub IsPrintedTo : Option ℕ → List Command → List ℕ → WorldView → Type 0
+IsPrintedTo limit commands printed w =
+    (text : List ℕ) × (first : WorldView) × IsFirst limit first × HasPrinted first commands text w × (printed ≡ limit_line limit ++ text)
+
 -- what a fault lets a sink take of what was printed: all or nothing, but a front where the sink fails
 abbrev pub IsTold : TextFault → Option (List ℕ) → Option (List ℕ) → List ℕ → Type 0
 IsTold Write old new printed = TakesFront old new printed
@@ -130,6 +148,18 @@ TakesPrinted (Err fault) limit commands old new =
     (part : List Command) × (rest : List Command) × (printed : List ℕ) × (commands ≡ part ++ rest) × IsPrinted limit part printed
     × IsTold fault old new printed
 
+-- the same, and the world in which the run ended
+abbrev pub TakesRun : Result (Unit {0}) TextFault → Option ℕ → List Command → WorldView → Option (List ℕ) → Option (List ℕ) → Type 0
+TakesRun (Ok done) limit commands after old new = (printed : List ℕ) × IsPrintedTo limit commands printed after × Appends old new printed
+TakesRun (Err fault) limit commands after old new =
+    (part : List Command) × (rest : List Command) × (printed : List ℕ) × (w : WorldView) × (commands ≡ part ++ rest)
+    × IsPrintedTo limit part printed w × IsTold fault old new printed × IsLeftBefore rest w after
+
 -- what a script's octets make a sink take
 abbrev pub TakesPrintedBy : List ℕ → Result (Unit {0}) TextFault → Option (List ℕ) → Option (List ℕ) → Type 0
 TakesPrintedBy octets result old new = TakesPrinted result (limit_of octets) (commands_of (lines_of octets)) old new
+
+-- What a run with a capture makes both sinks take: the first what the run prints, and the other the capture of the world in which it ended.
+abbrev pub TakesBoth : List ℕ → Ends → Option (List ℕ) → Option (List ℕ) → Option (List ℕ) → Option (List ℕ) → Type 0
+TakesBoth octets ends old new old_capture new_capture =
+    (w : WorldView) × TakesRun ends.run (limit_of octets) (commands_of (lines_of octets)) w old new × TakesCapture ends.capture w old_capture new_capture

@@ -4,6 +4,7 @@ use Rattle.script.specs.Script.{first_bad_line}
 use Rattle.script.specs.declared.fault.ScriptFault.{ScriptFault}
 use Rattle.script.specs.declared.fault.ScriptFault.TheVariants as script
 use Rattle.hostd.specs.declared.fault.TextFault.{TextFault}
+use Rattle.hostd.specs.declared.sim.Ends.{Ends}
 use Rattle.hostd.specs.declared.fault.TextFault.TheVariants.{Line, TooLong, NotHex, Header, Record, Read, Write, NoMemory}
 
 -- why octets are not run as a script, by why they are none
@@ -73,3 +74,17 @@ is_before_run (Record fault) = true
 is_before_run Read = true
 is_before_run Write = false
 is_before_run NoMemory = false
+
+-- how a run with a capture ended, and how its capture did, which was none where nothing was run
+abbrev pub run_in_all : Result Ends TextFault → Result (Unit {0}) TextFault
+run_in_all (Ok ends) = ends.run
+run_in_all (Err fault) = Err fault
+
+abbrev pub capture_in_all : Result Ends TextFault → Result (Unit {0}) TextFault
+capture_in_all (Ok ends) = ends.capture
+capture_in_all (Err fault) = Ok tt
+
+-- the first fault of two outcomes
+abbrev pub first_fault : Result (Unit {0}) TextFault → Result (Unit {0}) TextFault → Result (Unit {0}) TextFault
+first_fault (Err fault) second = Err fault
+first_fault (Ok done) second = second

@@ -5,7 +5,7 @@ ghost use Rattle.clap.specs.declared.builder.command.Command.TheViews.{out-Comma
 ghost use Rattle.clap.specs.Words.{app_of, subcommand_rows_of};
 ghost use Rattle.clap.specs.Faults.{fault_of};
 ghost use Rattle.clap.specs.Kinds.{HasKind};
-ghost use Rattle.hostd.specs.Line.{hostd_command, file_command, with_flag, value_of, is_set, asked_of, asked_in, asked_by};
+ghost use Rattle.hostd.specs.Line.{hostd_command, file_command, with_flag, with_option, value_of, is_set, asked_of, asked_in, asked_by};
 
 use crate::request::Line;
 use clap::error::ErrorKind;
@@ -40,6 +40,13 @@ fn hostd<'a>(alloc: Global) -> Result<Command<'a>, AllocError>
         "Runs a script on a world of two hosts and prints what they answer",
         "SCRIPT",
         "The file of the script",
+    )?;
+    let sim = with_option(
+        alloc,
+        sim,
+        "pcap",
+        "FILE",
+        "Writes every frame that goes out to this file, as a capture in libpcap's classic format",
     )?;
     let decode = file_command(
         alloc,
@@ -93,12 +100,31 @@ fn with_flag<'a>(
     command.arg(flag)
 }
 
+/// A command with an option more, which may be there with one value, or not.
+fn with_option<'a>(
+    alloc: Global,
+    command: Command<'a>,
+    name: &'a str,
+    value: &'a str,
+    help: &'a str,
+) -> Result<Command<'a>, AllocError>
+    ensures words { IfOk result (λ more. app_of more ≡ with_option name.now (app_of command.entry)) }
+    ensures local { IfOk result (λ more. (fields_of more).has_globals ≡ (fields_of command.entry).has_globals) }
+{
+    let option = Arg::new(alloc, name)
+        .long(name)
+        .value_name(value)
+        .help(help);
+    command.arg(option)
+}
+
 /// What the command that was met asks for.
 fn asked<'a>(matches: &ArgMatches<'a>) -> Option<Line<'a>>
     ensures { option_map asked_by result ≡ asked_of (subcommand_rows_of matches.now) }
 {
     if let Some(script) = value_in(matches, "sim", "SCRIPT") {
-        return Some(Line::Sim { script });
+        let capture = value_in(matches, "sim", "pcap");
+        return Some(Line::Sim { script, capture });
     }
     let file = value_in(matches, "decode", "FILE")?;
     if is_set(value_in(matches, "decode", "pcap")) {

@@ -8,6 +8,7 @@ mod frame;
 mod input;
 mod line;
 mod output;
+mod recording;
 mod request;
 mod sim;
 mod streams;
@@ -44,7 +45,7 @@ fn words(rt: &HostRuntime) -> io::Result<Vec<String>> {
 /// Does what the words of the command line ask for.
 fn run(rt: &HostRuntime, words: &[String]) -> ExitCode {
     match line::line(rt.alloc(), words) {
-        Ok(Line::Sim { script }) => run_script(rt, script),
+        Ok(Line::Sim { script, capture }) => run_script(rt, script, capture),
         Ok(Line::Decode { hex }) => print_frame(rt, hex),
         Ok(Line::DecodeAll { capture }) => print_frames(rt, capture),
         Err(error) if error.kind() == ErrorKind::OutOfMemory => report(rt, TextFault::NoMemory),
@@ -55,15 +56,22 @@ fn run(rt: &HostRuntime, words: &[String]) -> ExitCode {
     }
 }
 
-/// Runs the script in a file and prints what it prints.
-fn run_script(rt: &HostRuntime, path: &str) -> ExitCode {
+/// Runs the script in a file and prints what it prints, and writes a capture of its frames to another file, if one is told.
+fn run_script(rt: &HostRuntime, path: &str, capture: Option<&str>) -> ExitCode {
     let Ok(file) = fs::open(rt, path) else {
         return report(rt, format_args!("cannot open {path}"));
     };
     let mut script = Reading::new(file);
     let mut out = Writing::new(io::writer(rt));
-    match sim::sim(rt.alloc(), &mut script, &mut out) {
-        Ok(()) => ExitCode::SUCCESS,
+    let Some(capture) = capture else {
+        return ended(rt, sim::sim(rt.alloc(), &mut script, &mut out));
+    };
+    let Ok(file) = fs::create(rt, capture) else {
+        return report(rt, TextFault::Write);
+    };
+    let mut capture = Writing::new(file);
+    match sim::sim_captured(rt.alloc(), &mut script, &mut out, &mut capture) {
+        Ok(ends) => ended(rt, ends.whole()),
         Err(fault) => report(rt, fault),
     }
 }
@@ -89,7 +97,12 @@ fn print_frames(rt: &HostRuntime, path: &str) -> ExitCode {
     };
     let mut capture = Reading::new(file);
     let mut out = Writing::new(io::writer(rt));
-    match captured::decode(rt.alloc(), &mut capture, &mut out) {
+    ended(rt, captured::decode(rt.alloc(), &mut capture, &mut out))
+}
+
+/// The status of a command that ended so, whose fault is printed.
+fn ended(rt: &HostRuntime, outcome: Result<(), TextFault>) -> ExitCode {
+    match outcome {
         Ok(()) => ExitCode::SUCCESS,
         Err(fault) => report(rt, fault),
     }

@@ -3,10 +3,17 @@
 /// What a command line asks for.
 #[derive(Clone, Copy, Debug, PartialEq, Eq)]
 pub enum Line<'a> {
-    /// To run the script in this file.
-    Sim { script: &'a str },
+    /// To run the script in this file, and to write a capture of its frames to the other, if one is told.
+    Sim {
+        script: &'a str,
+        capture: Option<&'a str>,
+    },
     /// To print what the frame in this file says.
-    Decode { hex: &'a str },
+    Decode {
+        hex: &'a str,
+    },
     /// To print what the frames of the capture in this file say.
-    DecodeAll { capture: &'a str },
+    DecodeAll {
+        capture: &'a str,
+    },
 }

@@ -1,15 +1,16 @@
 //! `hostd sim`: runs a script on a world of two hosts and prints what they answer.
 
-ghost use Rattle.std.specs.Prelude.{◌≡◌, true, false, ◌≤◌, ◌<◌, ◌^◌, length, take, string_bytes, IfOk, IfErr, IfSome, OnOk, OnErr};
+ghost use Rattle.std.specs.Prelude.{◌≡◌, ◌⊎◌, true, false, ◌≤◌, ◌<◌, ◌^◌, length, take, string_bytes, IfOk, IfErr, IfSome, OnOk, OnErr};
 ghost use Rattle.std.specs.Option.{ForSome};
 ghost use Rattle.hostd.specs.Streams.{counted};
-ghost use Rattle.hostd.specs.Sim.{read_fails, write_fails_in, is_before_run, IsDue, IsFaultDue};
+ghost use Rattle.hostd.specs.Sim.{read_fails, write_fails_in, is_before_run, run_in_all, capture_in_all, first_fault, IsDue, IsFaultDue};
 ghost use Rattle.script.specs.Text.{style_of};
-ghost use Rattle.hostd.specs.Play.{line_of_outcome, Emits, Delivers, Carries, Prints, pass_line, IsPlayed, IsCutShort, IsFirst, limit_line, TakesPrinted, TakesPrintedBy};
+ghost use Rattle.hostd.specs.Play.{line_of_outcome, Emits, Delivers, Carries, Does, Prints, pass_line, IsPlayed, IsCutShort, IsFirst, limit_line, TakesRun, TakesPrinted, TakesPrintedBy, TakesBoth};
 
 use crate::fault::TextFault;
 use crate::input::whole_script;
 use crate::output::{add_line, finish, is_write_fault};
+use crate::recording::record;
 use crate::streams::{Sink, Source};
 use script::{Action, Command, Script, Style, config, event, show, show_unfair};
 use std::alloc::{AllocError, Global};
@@ -34,6 +35,52 @@ pub fn sim<R: Source, W: Sink>(alloc: Global, script: &mut R, out: &mut W) -> Re
     run(alloc, &script, out)
 }
 
+/// How a run with a capture ended.
+#[derive(Clone, Copy, Debug, PartialEq, Eq)]
+pub struct Ends {
+    /// How the run itself did.
+    pub run: Result<(), TextFault>,
+    /// How the capture did.
+    pub capture: Result<(), TextFault>,
+}
+
+impl Ends {
+    /// The fault of the run, or else that of the capture.
+    pub fn whole(self) -> Result<(), TextFault>
+        ensures { result ≡ first_fault self.run self.capture }
+    {
+        match self.run {
+            Ok(()) => self.capture,
+            Err(fault) => Err(fault),
+        }
+    }
+}
+
+/// As `sim`, and then writes the capture of every frame that went out to `capture`, also where a fault ended the run. Of what is printed nothing
+/// is changed by that. An error says that nothing was run, and that neither sink took anything.
+pub fn sim_captured<R: Source, W: Sink, C: Sink>(
+    alloc: Global,
+    script: &mut R,
+    out: &mut W,
+    capture: &mut C,
+) -> Result<Ends, TextFault>
+    ensures read { R.failures script.new ≡ counted (read_fails result) (R.failures script.old) }
+    ensures written { W.failures out.new ≡ counted (write_fails_in (run_in_all result)) (W.failures out.old) }
+    ensures captured { C.failures capture.new ≡ counted (write_fails_in (capture_in_all result)) (C.failures capture.old) }
+    ensures silent { IfErr result (λ fault. (out.new ≡ out.old) × (capture.new ≡ capture.old)) }
+    ensures due { IfSome (R.remaining script.old) (λ octets. IsDue octets (run_in_all result)) }
+    ensures printed { IfSome (R.remaining script.old) (λ octets. TakesPrintedBy octets (run_in_all result) (W.taken out.old) (W.taken out.new)) }
+    ensures told { IfOk result (λ ends. IfSome (R.remaining script.old)
+        (λ octets. TakesBoth octets ends (W.taken out.old) (W.taken out.new) (C.taken capture.old) (C.taken capture.new))) }
+{
+    let octets = whole_script(alloc, script)?;
+    let script = Script::parse(alloc, octets.as_slice())?;
+    let mut world = new_world(alloc, script.limit)?;
+    let run = run_in(alloc, &script, &mut world, out);
+    let capture = record(&world, capture);
+    Ok(Ends { run, capture })
+}
+
 /// Runs a script's commands, and hands on what they print, also where a fault ends the run.
 fn run<W: Sink>(alloc: Global, script: &Script<'_>, out: &mut W) -> Result<(), TextFault>
     ensures written { W.failures out.new ≡ counted (write_fails_in result) (W.failures out.old) }
@@ -54,7 +101,7 @@ fn run_in<W: Sink>(
     requires { IsFirst script.now.limit world.old.seen }
     ensures written { W.failures out.new ≡ counted (write_fails_in result) (W.failures out.old) }
     ensures faults { IfErr result (λ fault. is_before_run fault ≡ false) }
-    ensures printed { TakesPrinted result script.now.limit script.now.commands.items (W.taken out.old) (W.taken out.new) }
+    ensures printed { TakesRun result script.now.limit script.now.commands.items world.new.seen (W.taken out.old) (W.taken out.new) }
 {
     let mut lines = first_lines(alloc, script.limit)?;
     let outcome = play(alloc, script.commands.as_slice(), world, &mut lines, out);
@@ -87,7 +134,7 @@ fn play<W: Sink>(
     ensures written { W.failures out.new ≡ counted (write_fails_in result) (W.failures out.old) }
     ensures faults { IfErr result (λ fault. is_before_run fault ≡ false) }
     ensures played { OnOk result (IsPlayed world.old.seen world.new.seen commands.now (W.taken out.old) (W.taken out.new) (string_bytes lines.old) (string_bytes lines.new)) }
-    ensures cut { IfErr result (λ fault. IsCutShort fault world.old.seen commands.now (W.taken out.old) (W.taken out.new) (string_bytes lines.old) (string_bytes lines.new)) }
+    ensures cut { IfErr result (λ fault. IsCutShort fault world.old.seen world.new.seen commands.now (W.taken out.old) (W.taken out.new) (string_bytes lines.old) (string_bytes lines.new)) }
 {
     for command in commands {
         let line = execute(alloc, command, world)?;
@@ -116,7 +163,8 @@ pub(crate) fn execute(
     command: &Command<'_>,
     world: &mut World,
 ) -> Result<String, AllocError>
-    ensures { IfOk result (λ line. Prints command.now (string_bytes line) world.old.seen world.new.seen) }
+    ensures printed { IfOk result (λ line. Prints command.now (string_bytes line) world.old.seen world.new.seen) }
+    ensures left { OnErr result ((world.new.seen ≡ world.old.seen) ⊎ Does command.now world.old.seen world.new.seen) }
 {
     match command {
         Command::At(side, action) => act(alloc, *side, action, world),
@@ -131,7 +179,8 @@ fn act(
     action: &Action<'_>,
     world: &mut World,
 ) -> Result<String, AllocError>
-    ensures { IfOk result (λ line. Prints (Command.At side action.now) (string_bytes line) world.old.seen world.new.seen) }
+    ensures printed { IfOk result (λ line. Prints (Command.At side action.now) (string_bytes line) world.old.seen world.new.seen) }
+    ensures left { OnErr result ((world.new.seen ≡ world.old.seen) ⊎ Does (Command.At side action.now) world.old.seen world.new.seen) }
 {
     let outcome = world.step(event(alloc, side, action)?);
     line_of(alloc, &outcome, style(action))
@@ -139,7 +188,8 @@ fn act(
 
 /// Frames go from a to b, then from b to a. Answers the line that says how many.
 fn pass(alloc: Global, isn: Seq, world: &mut World) -> Result<String, AllocError>
-    ensures { IfOk result (λ line. Prints (Command.Pass isn) (string_bytes line) world.old.seen world.new.seen) }
+    ensures printed { IfOk result (λ line. Prints (Command.Pass isn) (string_bytes line) world.old.seen world.new.seen) }
+    ensures left { OnErr result (Does (Command.Pass isn) world.old.seen world.new.seen) }
 {
     let from_a = carry(world, Side::A, isn);
     let from_b = carry(world, Side::B, isn);

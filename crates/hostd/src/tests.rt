@@ -11,6 +11,7 @@ mod examples;
 mod hops;
 mod lines;
 mod losses;
+mod recordings;
 mod refusals;
 mod resets;
 mod scripts;

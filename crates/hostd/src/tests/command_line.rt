@@ -6,11 +6,26 @@ use clap::error::ErrorKind;
 
 #[test]
 fn words_ask_for_a_command_or_are_refused(rt: HostRuntime) {
-    let rows: [(&[&str], Result<Line<'_>, ErrorKind>); 16] = [
+    let rows: [(&[&str], Result<Line<'_>, ErrorKind>); 19] = [
         (
             &["hostd", "sim", "first.txt"],
             Ok(Line::Sim {
                 script: "first.txt",
+                capture: None,
+            }),
+        ),
+        (
+            &["hostd", "sim", "first.txt", "--pcap", "run.pcap"],
+            Ok(Line::Sim {
+                script: "first.txt",
+                capture: Some("run.pcap"),
+            }),
+        ),
+        (
+            &["hostd", "sim", "--pcap", "run.pcap", "first.txt"],
+            Ok(Line::Sim {
+                script: "first.txt",
+                capture: Some("run.pcap"),
             }),
         ),
         (
@@ -52,8 +67,12 @@ fn words_ask_for_a_command_or_are_refused(rt: HostRuntime) {
             Err(ErrorKind::MissingRequiredArgument),
         ),
         (
-            &["hostd", "sim", "--pcap", "lo.pcap"],
-            Err(ErrorKind::UnknownArgument),
+            &["hostd", "sim", "--pcap", "run.pcap"],
+            Err(ErrorKind::MissingRequiredArgument),
+        ),
+        (
+            &["hostd", "sim", "first.txt", "--pcap"],
+            Err(ErrorKind::InvalidValue),
         ),
         (&["hostd", "--help"], Err(ErrorKind::DisplayHelp)),
         (&["hostd", "sim", "--help"], Err(ErrorKind::DisplayHelp)),

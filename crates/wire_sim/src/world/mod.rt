@@ -1,6 +1,6 @@
 //! A world: two hosts and all that happened to them.
 
-ghost use Rattle.std.specs.Prelude.{◌≡◌, ◌⊎◌, ◌<◌, ◌≤◌, ◌+◌, true, false, [], ◌∷◌, ◌++◌, length, take, drop, ◌^◌, ◌↔◌, vec_len, vec_capacity, None, IsOk, OnOk, OnErr, IfOk, IfErr, MatchOption};
+ghost use Rattle.std.specs.Prelude.{◌≡◌, ◌⊎◌, ◌<◌, ◌≤◌, ◌+◌, true, false, [], ◌∷◌, ◌++◌, length, take, drop, ◌^◌, ◌↔◌, vec_len, vec_capacity, slice_get, option_map, None, IsOk, OnOk, OnErr, IfOk, IfErr, MatchOption};
 ghost use Rattle.wire_sim.specs.declared.event.Answer.{Answer};
 ghost use Rattle.wire_sim.specs.Steps.{event_recv_len, is_emission};
 ghost use Rattle.wire_sim.specs.WorldView.{network_view};
@@ -153,6 +153,13 @@ impl World {
         ensures reached { IsReached self.now.seen.network.limit self.now.seen }
     {
         self.network.openings()
+    }
+
+    /// The octets of the frame with this index: the frames that went out are numbered from 0 on, in order.
+    pub fn frame(&self, index: usize) -> Option<&[u8]>
+        ensures { option_map (λ octets. octets.now) result ≡ option_map (λ f. f.octets.items) (slice_get self.now.seen.network.frames index) }
+    {
+        self.network.frame(index)
     }
 
     /// The events that were taken, with their answers, in order.

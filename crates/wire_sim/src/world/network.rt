@@ -1,6 +1,6 @@
 //! Two hosts, the frames that they emitted, and the openings of their connections.
 
-ghost use Rattle.std.specs.Prelude.{◌≡◌, ℕ, ◌<◌, ◌≤◌, ◌+◌, ◌^◌, true, None, take, vec_len, vec_capacity, slice_index_or, option_map, option_and_then, OnOk, IsOk, IfOk};
+ghost use Rattle.std.specs.Prelude.{◌≡◌, ℕ, ◌<◌, ◌≤◌, ◌+◌, ◌^◌, true, None, take, vec_len, vec_capacity, slice_get, slice_index_or, option_map, option_and_then, OnOk, IsOk, IfOk};
 ghost use Rattle.std.specs.Result.{result_err};
 
 mod fairness;
@@ -57,6 +57,13 @@ impl Network {
         ensures { result.now ≡ self.now.ledger.openings.items }
     {
         self.ledger.openings()
+    }
+
+    /// The octets of the frame with this index.
+    pub(super) fn frame(&self, index: usize) -> Option<&[u8]>
+        ensures { option_map (λ octets. octets.now) result ≡ option_map (λ f. f.octets.items) (slice_get self.now.bag.items index) }
+    {
+        Some(self.bag.get(index)?.octets.as_slice())
     }
 
     /// The host of a side, with its clock.
