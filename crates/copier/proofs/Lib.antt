@@ -1,0 +1,5 @@
+pub mod Passing
+pub mod Streaming
+pub mod Moving
+pub mod Feeding
+pub mod Turning

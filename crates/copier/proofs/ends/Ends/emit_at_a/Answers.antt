@@ -1,0 +1,23 @@
+use Rattle.std.proofs.Common.{◌≡◌, ℕ, length, rules, sym, ◌∙◌, ap}
+use Rattle.host.specs.HostView.{HostView}
+use Rattle.host.specs.Emission.{after_emission}
+use Rattle.wire_sim.proofs.emission.NothingGoesOut.{nothing-left}
+use Rattle.copier.specs.declared.ends.Ends.{Ends}
+use Rattle.copier.proofs.Passing.{if_none}
+use Rattle.copier.proofs.Moving.{emits-at_a}
+use Rattle.copier.proofs.ends.Ends.emit_at_a.Goals as goal
+
+pub returns-in_err-len-clause-none : goal.returns-in_err-len-clause-none
+returns-in_err-len-clause-none c =
+    let e : Ends = c.args.self.now in
+    if_none c.from_residual.result (ap (λ (h : HostView). let x : Ends = record e { a = h } in x)
+    (c.next_frame.ensures.after ∙ nothing-left e.a e.clock (sym c.next_frame.ensures.answer ∙ c.in_err-len.was)))
+
+pub returns-clause-emits : goal.returns-clause-emits
+returns-clause-emits c =
+    let e : Ends = c.args.self.now in
+    let long : length c.args.frame.now ≡ 1514 = search rules in
+    emits-at_a e _ c.args.frame.now c.next_frame.new.out c.in_ok-len.len c.sound.ensures.a c.sound.ensures.b (sym c.next_frame.ensures.answer ∙ c.in_ok-len.was) c.next_frame.ensures.frame
+    long c.next_frame.array_long c.in_ok-len.ensures.bounds.1
+    (ap (λ (h : HostView). let x : Ends = record e { a = h; allowance = c.more_allowed-self.result } in x) c.next_frame.ensures.after
+    ∙ ap (λ (n : ℕ). let x : Ends = record e { a = after_emission e.a e.clock; allowance = n } in x) c.more_allowed-self.ensures)

@@ -1,0 +1,10 @@
+use Rattle.std.proofs.Common.{◌≡◌}
+use Rattle.copier.specs.Moves.{KeepsTold, Carries}
+use Rattle.copier.proofs.ends.Ends.take_in_all.Given as goal
+
+abbrev pub invariant-loop : goal.invariant-loop
+invariant-loop g l = record {
+  failed : g.L.Link.failures l.link ≡ g.L.Link.failures l.fn.link;
+  told : KeepsTold (g.L.Link.told l.fn.link) (g.L.Link.told l.link);
+  carries : Carries (g.L.Link.told l.fn.link) (g.L.Link.told l.link) l.fn.self l.self;
+}

@@ -1,0 +1,30 @@
+use Rattle.std.proofs.Common.{Ok, Err, Some, rules}
+use Rattle.copier.specs.declared.fault.CopyFault.TheVariants.{Stalled}
+use Rattle.copier.proofs.Turning.{left_err, left-unmoved, under-at, under-left, turned, going_next, any_fault}
+use Rattle.copier.proofs.turns.copy.Goals as goal
+
+pub returns-in_err-copier-clause-copies : goal.returns-in_err-copier-clause-copies
+returns-in_err-copier-clause-copies g c = λ gave had passed is_given is_taken is_first is_told fair.
+    left_err c.from_residual.result gave had _ _ _ c.from_residual.ensures.0 (λ fault. left-unmoved fault gave had _ _ _ is_given is_taken)
+
+pub returns-clause-copies : goal.returns-clause-copies
+returns-clause-copies g c = λ gave had passed is_given is_taken is_first is_told fair.
+    under-left Stalled gave had _ _ _ c.loop.copier passed (under-at _ _ _ _ _ _ _ c.loop.copier c.loop.invariant.going gave had passed is_given is_taken is_first is_told fair)
+
+pub returns-in_err-count-clause-copies : goal.returns-in_err-count-clause-copies
+returns-in_err-count-clause-copies g c = λ gave had passed is_given is_taken is_first is_told fair.
+    left_err c.from_residual-in_err-count.result gave had _ _ _ c.from_residual-in_err-count.ensures.0
+    (λ fault. any_fault c.in_err-count.field-0.0 fault gave had _ _ _
+    (turned (Err c.in_err-count.field-0.0) _ _ _ _ _ _ _ _ _ _ _ c.loop.copier c.turn.new.self c.loop.invariant.going c.in_err-count.ensures.told c.in_err-count.ensures.turns gave had passed is_given is_taken is_first is_told fair))
+
+pub returns-in-Some-clause-copies : goal.returns-in-Some-clause-copies
+returns-in-Some-clause-copies g c = λ gave had passed is_given is_taken is_first is_told fair.
+    turned (Ok (Some c.in-Some.count)) _ _ _ _ _ _ _ _ _ _ _ c.loop.copier c.turn.new.self c.loop.invariant.going c.in_ok-count.ensures.told (rw c.in-Some.is at c.in_ok-count.ensures.turns) gave had passed is_given is_taken is_first is_told fair
+
+pub loop-preserved : goal.loop-preserved
+loop-preserved g c = record {
+  read = search rules;
+  written = search rules;
+  carried = search rules;
+  going = going_next _ _ _ _ _ _ _ _ _ _ _ c.loop.copier c.turn.new.self c.loop.invariant.going c.in_ok-count.ensures.told (rw c.in-None.is at c.in_ok-count.ensures.turns);
+}

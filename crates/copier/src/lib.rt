@@ -1,0 +1,12 @@
+//! A copier: octets of a source go over a connection of two hosts, which a link joins, into a sink.
+#![tactic(auto)]
+
+mod ends;
+mod fault;
+mod feed;
+#[cfg(test)]
+mod tests;
+mod turns;
+
+pub use fault::CopyFault;
+pub use turns::copy;

@@ -1,0 +1,2 @@
+pub mod CopyView
+pub mod Course

@@ -1,0 +1,144 @@
+//! Where octets come from and where they go: devices that count their failures.
+
+ghost use Rattle.std.specs.Prelude.{◌≡◌, ℕ, ◌≤◌, List, Option, Some, None, is_err, take, drop, length};
+ghost use Rattle.std.specs.Io.{ReadsAtMost, WritesAtMost};
+ghost use Rattle.std.specs.Io.KnownBytes.{Keeps, ReadConsumes, WriteAppends};
+ghost use Rattle.devices.specs.Streams.{counted, write_fails, ReadGives};
+
+pub mod memory;
+
+use std::io::{Read, Result, Write};
+
+/// Gives octets, as std's `Read` does, and counts its failures.
+pub trait Source {
+    // How many calls have failed.
+    ghost failures: { Self → ℕ };
+
+    // The octets given so far, where the source makes them known.
+    ghost given: { Self → Option (List ℕ) } = { λ _. None };
+
+    // The octets still to come, where the source makes them known.
+    ghost remaining: { Self → Option (List ℕ) } = { λ _. None };
+
+    /// Puts octets at the front of `buffer` and answers how many; none of a buffer with room says that the source is at
+    /// its end. An error is a failure, and gives nothing.
+    fn read(&mut self, buffer: &mut [u8]) -> Result<usize>
+        ensures bound { ReadsAtMost result buffer.new }
+        ensures failures { failures self.new ≡ counted (is_err result) (failures self.old) }
+        ensures given { ReadGives (given self.old) (given self.new) result buffer.new }
+        ensures remaining { ReadConsumes (remaining self.old) (remaining self.new) result buffer.new };
+
+    /// How many calls have failed. At its last value the count stays.
+    fn failures(&self) -> u64
+        ensures { result ≡ failures self.now };
+}
+
+/// Takes octets, as std's `Write` does, and counts its failures.
+pub trait Sink {
+    // How many calls have failed.
+    ghost failures: { Self → ℕ };
+
+    // The octets taken so far, where the sink makes them known.
+    ghost taken: { Self → Option (List ℕ) } = { λ _. None };
+
+    /// Takes octets from the front of `octets` and answers how many. An error is a failure, and takes nothing; to take
+    /// none of some octets is a failure too.
+    fn write(&mut self, octets: &[u8]) -> Result<usize>
+        ensures bound { WritesAtMost result octets.now }
+        ensures failures { failures self.new ≡ counted (write_fails result octets.now) (failures self.old) }
+        ensures taken { WriteAppends (taken self.old) (taken self.new) result octets.now };
+
+    /// Hands on what was taken, where the sink holds any back. An error is a failure.
+    fn flush(&mut self) -> Result<()>
+        ensures failures { failures self.new ≡ counted (is_err result) (failures self.old) }
+        ensures taken { Keeps (taken self.old) (taken self.new) };
+
+    /// How many calls have failed. At its last value the count stays.
+    fn failures(&self) -> u64
+        ensures { result ≡ failures self.now };
+}
+
+/// A reader of std, as an open file: of its octets it makes known what the reader does.
+#[derive(Debug, Drop)]
+pub struct Reading<R> {
+    reader: R,
+    failures: u64,
+}
+
+impl<R> Reading<R> {
+    /// A source of what `reader` gives, with no failure so far.
+    pub fn new(reader: R) -> Self
+        ensures reader { result.reader ≡ reader }
+        ensures failures { result.failures ≡ 0 }
+    {
+        Reading {
+            reader,
+            failures: 0,
+        }
+    }
+}
+
+impl<R: Read> Source for Reading<R> {
+    ghost failures = { λ source. source.failures };
+
+    ghost remaining = { λ source. R.remaining source.reader };
+
+    fn read(&mut self, buffer: &mut [u8]) -> Result<usize> {
+        let outcome = self.reader.read(buffer);
+        if outcome.is_err() {
+            self.failures = self.failures.saturating_add(1);
+        }
+        outcome
+    }
+
+    fn failures(&self) -> u64 {
+        self.failures
+    }
+}
+
+/// A writer of std, as standard output: of its octets it makes known what the writer does.
+#[derive(Debug, Drop)]
+pub struct Writing<W> {
+    writer: W,
+    failures: u64,
+}
+
+impl<W> Writing<W> {
+    /// A sink that hands all to `writer`, with no failure so far.
+    pub fn new(writer: W) -> Self
+        ensures writer { result.writer ≡ writer }
+        ensures failures { result.failures ≡ 0 }
+    {
+        Writing {
+            writer,
+            failures: 0,
+        }
+    }
+}
+
+impl<W: Write> Sink for Writing<W> {
+    ghost failures = { λ sink. sink.failures };
+
+    ghost taken = { λ sink. W.contents sink.writer };
+
+    fn write(&mut self, octets: &[u8]) -> Result<usize> {
+        let outcome = self.writer.write(octets);
+        let takes_nothing = matches!(outcome, Ok(0)) && !octets.is_empty();
+        if outcome.is_err() || takes_nothing {
+            self.failures = self.failures.saturating_add(1);
+        }
+        outcome
+    }
+
+    fn flush(&mut self) -> Result<()> {
+        let outcome = self.writer.flush();
+        if outcome.is_err() {
+            self.failures = self.failures.saturating_add(1);
+        }
+        outcome
+    }
+
+    fn failures(&self) -> u64 {
+        self.failures
+    }
+}
