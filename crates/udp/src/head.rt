@@ -21,20 +21,26 @@ pub struct Head {
 }
 
 impl Head {
-    /// Writes the header before a payload of so many octets, which stands at `out[8..]` already, and answers the length of
-    /// the user datagram, in octets. There is always a checksum: one that is computed as 0 goes out as 0xFFFF. What stands
-    /// behind it in `out` stays.
-    pub fn emit(&self, src: Addr, dst: Addr, payload_len: usize, out: &mut [u8]) -> usize
+    /// Writes the header before a payload of so many octets, which stands at `out[8..]` already and whose one's complement sum is
+    /// `payload_sum`, and answers the length of the user datagram, in octets. The payload isn't read again. There is always a
+    /// checksum: one that is computed as 0 goes out as 0xFFFF. What stands behind it in `out` stays.
+    pub fn emit(
+        &self,
+        src: Addr,
+        dst: Addr,
+        payload_len: usize,
+        payload_sum: u16,
+        out: &mut [u8],
+    ) -> usize
         requires room { 8 + payload_len ≤ length out.old }
         requires len { 8 + payload_len < 2 ^ 16 }
+        requires sum { payload_sum ≡ sum_of (slice_range out.old 8 (8 + payload_len)) }
         ensures len { result ≡ 8 + payload_len }
         ensures octets { out.new ≡ spelling (sent src dst self.now (slice_range out.old 8 result)) ++ drop result out.old }
         ensures sendable { CanBeSent src dst self.now (slice_range out.old 8 result) }
     {
-        let len = HEADER_LEN + payload_len;
-        let payload_sum = inet_sum::sum(&out[HEADER_LEN..len]);
         self.emit_summed(src, dst, payload_len, payload_sum, out);
-        len
+        HEADER_LEN + payload_len
     }
 
     /// Writes the header before a payload that isn't here into the first 8 octets of `out`, from the payload's length, in octets,

@@ -1,6 +1,7 @@
 //! The two ends of a connection, what is done at each, and what that tells.
 
 use clock::Moment;
+use inet_sum::sum;
 use ipv4::{Addr, Endpoint};
 use std::alloc::Global;
 use std::process::Abort;
@@ -222,7 +223,9 @@ impl End {
             window: 0,
         };
         let mut frame = [0; MOST_SEGMENT];
-        let len = head.emit(peer.addr, local.addr, count.min(2), &mut frame);
+        let (begin, count) = (head.len(), count.min(2));
+        let payload_sum = sum(&frame[begin..begin + count]);
+        let len = head.emit(peer.addr, local.addr, count, payload_sum, &mut frame);
         self.hear(0, &frame[..len])
     }
 

@@ -1,6 +1,7 @@
 //! Segments of TCP and its sequence numbers (RFC 9293 sections 3.1 and 3.4).
 
 use super::{A, B};
+use inet_sum::sum;
 use tcp_segment::{Flags, Head, SegmentFault, Seq, TcpView};
 
 /// The told, the counted and the used maximum segment size, and the length in sequence numbers.
@@ -71,7 +72,8 @@ fn segments_are_written_and_read_again(rt: HostRuntime) {
         assert!(rt; begin + payload.len() <= 27);
         let mut out = [7; 27];
         out[begin..begin + payload.len()].copy_from_slice(payload);
-        let len = head.emit(A, B, payload.len(), &mut out);
+        let payload_sum = sum(&out[begin..begin + payload.len()]);
+        let len = head.emit(A, B, payload.len(), payload_sum, &mut out);
         assert!(rt; (begin + payload.len(), len, out) == (want_len, want_len, want));
         let Ok(view) = TcpView::parse(A, B, &out[..len]) else {
             panic!(&rt; "what was written is a segment")

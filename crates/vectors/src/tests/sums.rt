@@ -1,6 +1,6 @@
 //! The Internet checksum (RFC 1071).
 
-use inet_sum::{Pseudo, checksum, join, sum};
+use inet_sum::{Pseudo, checksum, copy_sum, join, sum};
 
 /// Octets and their sum; the first are those of RFC 1071 section 3.
 const SUMS: [(&[u8], u16); 3] = [
@@ -42,5 +42,57 @@ fn sums(rt: HostRuntime) {
 fn sums_are_joined(rt: HostRuntime) {
     for (left, right, left_odd, want) in JOINED {
         assert!(rt; join(left, right, left_odd) == want);
+    }
+}
+
+/// The most octets that are summed word by word beside `sum`.
+const MOST: usize = 200;
+
+/// A word is added, and the carry comes back (RFC 1071 section 1).
+fn added(sum: u16, word: u16) -> u16 {
+    let (sum, is_carried) = sum.overflowing_add(word);
+    sum.wrapping_add(u16::from(is_carried))
+}
+
+/// The sum, one word after the other: what `sum` is compared with.
+fn plain_sum(octets: &[u8]) -> u16 {
+    let mut total = 0;
+    for word in octets.chunks(2) {
+        total = match word {
+            [high, low] => added(total, u16::from_be_bytes([*high, *low])),
+            [high] => added(total, u16::from_be_bytes([*high, 0])),
+            _ => total,
+        };
+    }
+    total
+}
+
+/// Octets of a pattern that no two neighbouring words of which are alike, and so many of one kind.
+fn patterns() -> [[u8; MOST]; 4] {
+    let mut mixed = [0; MOST];
+    let mut octet: u8 = 1;
+    for place in &mut mixed {
+        *place = octet;
+        octet = octet.wrapping_mul(167).wrapping_add(13);
+    }
+    [mixed, [0; MOST], [0xff; MOST], [0x80; MOST]]
+}
+
+/// For each length `sum` answers what the words sum to one by one, and `copy_sum` the same, with the octets copied and none behind them.
+#[test]
+fn sums_of_each_length(rt: HostRuntime) {
+    for octets in patterns() {
+        for len in 0..=MOST {
+            let octets = &octets[..len];
+            let want = plain_sum(octets);
+            let mut copied = [0x55; MOST + 1];
+            assert!(rt; sum(octets) == want, "{len} octets");
+            assert!(rt;
+                copy_sum(octets, &mut copied[..len]) == want,
+                "{len} octets"
+            );
+            assert!(rt; &copied[..len] == octets, "{len} octets");
+            assert!(rt; copied[len] == 0x55, "{len} octets");
+        }
     }
 }

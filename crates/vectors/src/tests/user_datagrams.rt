@@ -74,7 +74,8 @@ fn datagrams_are_written(rt: HostRuntime) {
     for (payload, want) in SENT {
         let mut out = [7; 12];
         out[8..10].copy_from_slice(&payload);
-        let len = head.emit(A, B, 2, &mut out);
+        let payload_sum = sum(&out[8..10]);
+        let len = head.emit(A, B, 2, payload_sum, &mut out);
         assert!(rt; (len, out) == (10, want));
         let mut header = [7; 9];
         head.emit_summed(A, B, 2, sum(&payload), &mut header);

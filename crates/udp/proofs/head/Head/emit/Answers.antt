@@ -9,7 +9,7 @@ pub returns-clause-octets : goal.returns-clause-octets
 returns-clause-octets c =
     let payload : List ℕ = slice_range c.args.out.now 8 (8 + c.args.payload_len) in
     let checksum : ℕ = told_checksum (checksum_of (summed c.args.src c.args.dst (spelling (sent_with c.args.self.now payload 0)))) in
-    c.emit_summed.ensures.octets payload (payload-length c.args.out.now c.args.payload_len c.requires.room) c.sum-payload_sum.ensures
+    c.emit_summed.ensures.octets payload (payload-length c.args.out.now c.args.payload_len c.requires.room) c.requires.sum
     ∙ before c.args.self.now c.args.out.now c.args.payload_len checksum
 
 pub returns-clause-sendable : goal.returns-clause-sendable
