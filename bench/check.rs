@@ -28,6 +28,9 @@ fn same_sums() {
 fn same_sum(octets: &[u8]) {
     let sum = proved::sum(octets);
     assert_eq!(sum, plain::sum(octets));
+    let mut copied = vec![0; octets.len()];
+    assert_eq!(proved::copy_sum(octets, &mut copied), sum);
+    assert_eq!(copied, octets);
 }
 
 fn samples() -> [Fields; 4] {

@@ -24,6 +24,7 @@ fn main() {
     let segment = full_segment();
     let mut measurements = Vec::new();
     measurements.extend(sums(&segment[HEADER_LEN..]));
+    measurements.extend(copies(&segment[HEADER_LEN..]));
     measurements.extend(parsings(&segment));
     measurements.extend(emissions(&segment));
     measurements.push(world());
@@ -38,6 +39,20 @@ fn sums(octets: &[u8]) -> [Measurement<'_>; 2] {
         Measurement::new("sum", side, move || sum(black_box(octets))).of_octets(PAYLOAD_LEN)
     };
     [of("proved", proved::sum), of("Rust", plain::sum)]
+}
+
+fn copies(octets: &[u8]) -> [Measurement<'_>; 2] {
+    let of = |side, copy_sum: fn(&[u8], &mut [u8]) -> u16| {
+        let mut to = vec![0; octets.len()];
+        Measurement::new("copy", side, move || {
+            copy_sum(black_box(octets), black_box(&mut to))
+        })
+        .of_octets(PAYLOAD_LEN)
+    };
+    [
+        of("proved", proved::copy_sum),
+        of("Rust", plain::copy_sum),
+    ]
 }
 
 fn parsings(segment: &[u8]) -> [Measurement<'_>; 2] {

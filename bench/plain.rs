@@ -15,6 +15,13 @@ pub fn sum(octets: &[u8]) -> u16 {
     folded(words(octets))
 }
 
+/// Copies `from` to `to`, which has as many octets, and answers the one's complement sum of what was copied.
+#[inline(never)]
+pub fn copy_sum(from: &[u8], to: &mut [u8]) -> u16 {
+    to.copy_from_slice(from);
+    sum(from)
+}
+
 /// What a segment from `src` for `dst` says, where it is well-formed.
 #[inline(never)]
 pub fn parse(src: u32, dst: u32, segment: &[u8]) -> Option<Fields> {

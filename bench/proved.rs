@@ -16,6 +16,7 @@ pub struct Tally {
 // Nothing compares these declarations with `lib.rattle`. A slice crosses as a pointer and a length, and an allocator as nothing.
 unsafe extern "C" {
     fn bench_sum(octets: *const u8, len: usize) -> u16;
+    fn bench_copy(from: *const u8, from_len: usize, to: *mut u8, to_len: usize) -> u16;
     fn bench_parse(src: u32, dst: u32, segment: *const u8, len: usize, fields: &mut Fields)
     -> bool;
     fn bench_emit(src: u32, dst: u32, fields: &Fields, out: *mut u8, len: usize) -> usize;
@@ -26,6 +27,12 @@ unsafe extern "C" {
 pub fn sum(octets: &[u8]) -> u16 {
     // SAFETY: the pointer and the length are those of `octets`, which is lent for the call.
     unsafe { bench_sum(octets.as_ptr(), octets.len()) }
+}
+
+/// Copies `from` to `to`, which has as many octets, and answers the one's complement sum of what was copied.
+pub fn copy_sum(from: &[u8], to: &mut [u8]) -> u16 {
+    // SAFETY: the pointers and the lengths are those of `from` and `to`, which are lent for the call, `to` to it alone.
+    unsafe { bench_copy(from.as_ptr(), from.len(), to.as_mut_ptr(), to.len()) }
 }
 
 /// What a segment from `src` for `dst` says, where it is well-formed.
