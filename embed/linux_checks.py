@@ -1,6 +1,7 @@
 """The checks of embed/try-linux: Linux's sockets and programs converse with embed/tap. They run in the namespace that try-linux made.
 
-linux_checks.py TAP DEVICE FOLDER WORD: the program, its device, where captures go, and a word that the names of the checks must have, or ''.
+linux_checks.py TAP DEVICE FOLDER WORD LONG: the program, its device, where captures go, a word that the names of the checks must have, or '', and
+whether the long checks are made and no others: long, or ''.
 """
 
 import fcntl
@@ -17,16 +18,19 @@ import termios
 import threading
 import time
 
+import linux_pair
+
 OURS = "10.0.0.2"  # the host's address
 LINUX = "10.0.0.1"  # Linux's
 FAR = "10.1.0.1"  # another of Linux's, off the link
 MEGABYTE = 1 << 20
+LONG, LONGEST = 300, 3000  # how many seconds a check may take, and one that is asked for as a long one
 NO_ABORT = (
     "(1) No call of a host resets a connection whose octets are all read, so the program can only close it, and what the client sends then "
     "is answered by a reset."
 )
 
-program, device, folder, word = sys.argv[1:]
+program, device, folder, word, is_long = sys.argv[1:]
 rows = []
 captures = []
 
@@ -311,7 +315,7 @@ def to_host(size, *words, send=socket.socket.sendall):
     with listener() as server, tempfile.TemporaryFile() as output:
         with Tap("--connect", LINUX, server.getsockname()[1], *words, stdin=subprocess.DEVNULL, stdout=output) as tap:
             with accepted(server) as connection:
-                connection.settimeout(120)
+                connection.settimeout(LONGEST)  # of the whole, not of a call
                 send(connection, data)
                 connection.shutdown(socket.SHUT_WR)
                 want(read_to_end(connection) == b"", "octets of an empty input")
@@ -325,7 +329,8 @@ def to_host_in_turn(size, *words):
     return to_host(size, *words, send=send_in_turn)
 
 
-def from_host(size, *words):
+def read_from_host(size, *words):
+    """Linux reads what the host sends. The program's status and words."""
     data = octets(size)
     with listener() as server, tempfile.TemporaryFile() as given:
         given.write(data)
@@ -334,8 +339,54 @@ def from_host(size, *words):
             with accepted(server) as connection:
                 came = read_to_end(connection)
             status = tap.result(20)
-    want(status == (0, "") and came == data, f"{len(came)} octets come, or others, or {status}")
+    want(came == data, f"{len(came)} octets come, or others, and {status}")
+    return status
+
+
+def from_host(size, *words):
+    status = read_from_host(size, *words)
+    want(status == (0, ""), f"{status}")
     return "equal"
+
+
+def segments_of(is_of_host):
+    """The segments of the last capture in one direction, and how many frames they are among."""
+    segments, frames = linux_pair.Segments(), 0
+    with open(captures[-1], "rb") as file:
+        file.read(24)
+        while head := file.read(16):
+            frame = file.read(struct.unpack("<I", head[8:12])[0])
+            if (frame[6:8] == b"\x02\x00") == is_of_host:
+                frames += 1
+                segments.add(frame)
+    return segments, frames
+
+
+def again(filled, resent):
+    return f"equal; {filled:,} segments, {resent:,} of them again"
+
+
+def to_host_counted(size, *words):
+    """A capture has what Linux sends before any of it is lost."""
+    to_host(size, *words)
+    segments, _ = segments_of(is_of_host=False)
+    return again(segments.filled, segments.resent)
+
+
+def from_host_counted(size, *words):
+    """A capture has what the host sends but what is lost, of which the program knows the number. All numbers come at last."""
+    status, said = read_from_host(size, "--verbose", *words)
+    sent = re.search(r"(\d+) out;", said)
+    want(status == 0 and sent, f"{status}, {said}")
+    segments, frames = segments_of(is_of_host=True)
+    filled = segments.filled + int(sent.group(1)) - frames
+    return again(filled, filled - len(segments.numbers))
+
+
+def linux_alone(size, one_in):
+    equal, filled, resent = linux_pair.transfer(size, one_in)
+    want(equal, "other octets come")
+    return again(filled, resent)
 
 
 def from_host_late(size):
@@ -461,12 +512,14 @@ CHECKS = [
     ("10 MB to the host, every 101st frame in lost", to_host, (10 * MEGABYTE, "--lose", "in:101"), ""),
     ("1 MB from the host, every 11th frame in lost", from_host, (MEGABYTE, "--lose", "in:11"), ""),
     ("1 MB from the host, every 11th frame out lost", from_host, (MEGABYTE, "--lose", "out:11"), ""),
-    ("100 MB to the host", to_host, (100 * MEGABYTE,), ""),
-    ("100 MB from the host", from_host, (100 * MEGABYTE,), ""),
+    ("100 MB to the host", to_host_counted, (100 * MEGABYTE,), ""),
+    ("100 MB from the host", from_host_counted, (100 * MEGABYTE,), ""),
+    ("100 MB from Linux to Linux", linux_alone, (100 * MEGABYTE, 0), ""),
     ("100 MB to the host, every 101st frame in lost", to_host, (100 * MEGABYTE, "--lose", "in:101"), ""),
     ("100 MB from the host, every 101st frame out lost", from_host, (100 * MEGABYTE, "--lose", "out:101"), ""),
-    ("100 MB to the host, one frame in 100 lost at random", to_host, (100 * MEGABYTE, "--drop", "100"), ""),
-    ("100 MB from the host, one frame in 100 lost at random", from_host, (100 * MEGABYTE, "--drop", "100"), ""),
+    ("100 MB to the host, one frame in 100 lost at random", to_host_counted, (100 * MEGABYTE, "--drop", "100"), ""),
+    ("100 MB from the host, one frame in 100 lost at random", from_host_counted, (100 * MEGABYTE, "--drop", "100"), ""),
+    ("100 MB from Linux to Linux, one frame in 100 lost at random", linux_alone, (100 * MEGABYTE, 100), ""),
     ("1 MB from the host, Linux doesn't read for a minute", from_host_late, (MEGABYTE,), ""),
     ("a page by curl through --forward", page, (), ""),
     ("--forward to a port without a listener", forward_refused, (), ""),
@@ -475,14 +528,19 @@ CHECKS = [
     ("tcpdump reads the captures", captures_read, (), ""),
 ]
 
+LONG_CHECKS = [
+    ("100 MB to the host, every 11th frame in lost", to_host_counted, (100 * MEGABYTE, "--lose", "in:11"), ""),
+    ("100 MB from the host, every 11th frame out lost", from_host_counted, (100 * MEGABYTE, "--lose", "out:11"), ""),
+]
+
 
 def on_alarm(*_):
-    raise Wrong("it takes over 300 s")
+    raise Wrong("it takes too long")
 
 
 def check(name, body, arguments, remark):
     began = time.monotonic()
-    signal.alarm(300)
+    signal.alarm(LONGEST if is_long else LONG)
     try:
         holds, result = True, body(*arguments)
     except (Wrong, OSError, subprocess.SubprocessError) as fault:
@@ -505,7 +563,7 @@ def print_table():
 def main():
     signal.signal(signal.SIGALRM, on_alarm)
     signal.signal(signal.SIGTERM, lambda *_: sys.exit(1))
-    for name, body, arguments, remark in CHECKS:
+    for name, body, arguments, remark in LONG_CHECKS if is_long else CHECKS:
         if word in name:
             check(name, body, arguments, remark)
     print_table()
