@@ -116,10 +116,11 @@ fn scripts_without_frames(rt: HostRuntime) {
     );
 }
 
-/// The capture's sink fails at each of its calls, each of which takes an octet: it keeps what it took before, and all is printed.
+/// The capture's sink takes an octet a call, and fails in and at the ends of the header, of a record's head and of its frame: it keeps what it took before, and all
+/// is printed.
 #[test]
 fn captures_fail(rt: HostRuntime) {
-    for call in 0..CAPTURE.len() {
+    for call in [0, 1, 23, 24, 39, 40, 99, 100, 191, 251] {
         let capture = Device {
             most: 1,
             fails_at: call as u64 + 1,
