@@ -21,6 +21,7 @@ pub mod ResetAges
 pub mod Unreachable
 pub mod Simultaneous
 pub mod SynAnswers
+pub mod ThreeSteps
 pub mod Segments
 pub mod Rejecting
 pub mod Emissions
@@ -33,6 +34,7 @@ pub mod SetSoon
 pub mod Congestion
 pub mod Growth
 pub mod Losses
+pub mod Marks
 pub mod Again
 pub mod SmallSegments
 pub mod SecondSegments

@@ -61,7 +61,7 @@ twice v s e =
       same = eqb-true s.acknowledgement v.sending.una (and_right five (s.acknowledgement == v.sending.una) e6);
     }
 
-past_opening : (t : State) → is_opening t ≡ false → (is_syn_sent t ≡ false) × (is_syn_received t ≡ false)
+pub past_opening : (t : State) → is_opening t ≡ false → (is_syn_sent t ≡ false) × (is_syn_received t ≡ false)
 past_opening SynSent e = cc
 past_opening SynReceived e = cc
 past_opening _ e = (refl, refl)
@@ -183,7 +183,7 @@ heard_marks_none v s opened none =
     })
 
 -- a loss is told by a third duplicate ACK alone
-told_by_third : (b : Before) (w : View) (c : Window) → tells_loss (congestion_event_of b w) c ≡ true → (b.is_duplicate && third_is_next c) ≡ true
+pub told_by_third : (b : Before) (w : View) (c : Window) → tells_loss (congestion_event_of b w) c ≡ true → (b.is_duplicate && third_is_next c) ≡ true
 told_by_third b w c =
     signalled b w (λ g. tells_loss g c ≡ true → (b.is_duplicate && third_is_next c) ≡ true) (λ none. cc) (λ none. cc) (λ none. cc) (λ twice third. both b.is_duplicate (third_is_next c) twice third)
 

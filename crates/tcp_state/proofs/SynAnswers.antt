@@ -52,7 +52,7 @@ goes_at_once out = elim (eqb_tells out 0) [
 ]
 
 -- SND.NXT is the number behind the SYN, whether that had gone out or goes out now
-then_sent : (una nxt : ℕ) → una < 2 ^ 32 → nxt < 2 ^ 32 → past nxt una ≤ 1 → later_number una nxt (wire una 1) ≡ wire una 1
+pub then_sent : (una nxt : ℕ) → una < 2 ^ 32 → nxt < 2 ^ 32 → past nxt una ≤ 1 → later_number una nxt (wire una 1) ≡ wire una 1
 then_sent una nxt small fits few =
     either ℕ (λ n. n ≡ wire una 1) (nat_le (past nxt una) (past (wire una 1) una)) (wire una 1) nxt
     (λ le. refl) (λ gt. clash (nat_le (past nxt una) (past (wire una 1) una)) (le-leb (past nxt una) (past (wire una 1) una) (omega (arith, small, few))) gt)

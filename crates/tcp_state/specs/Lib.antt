@@ -17,3 +17,4 @@ pub mod Positions
 pub mod Received
 pub mod Inside
 pub mod Simultaneous
+pub mod Opening

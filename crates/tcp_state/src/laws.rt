@@ -1,6 +1,6 @@
 //! Laws over the definitions alone: functions with nothing to do, whose contracts are the laws.
 
-ghost use Rattle.std.specs.Prelude.{◌≡◌, ℕ, ◌+◌, ◌-◌, ◌*◌, ◌%◌, ◌<◌, ◌≤◌, ◌==◌, ◌≢◌, nat_lt, min, ◌^◌, ◌⊎◌, ◌↔◌, ◌||◌, ◌&&◌, List, ◌++◌, slice_index_or, length, true, false, if◌then◌else◌, Some, None, is_some};
+ghost use Rattle.std.specs.Prelude.{◌≡◌, ℕ, ◌+◌, ◌-◌, ◌*◌, ◌%◌, ◌<◌, ◌≤◌, ◌==◌, ◌≢◌, nat_lt, min, ◌^◌, ◌⊎◌, ◌↔◌, ◌||◌, ◌&&◌, List, ◌++◌, slice_index_or, length, true, false, if◌then◌else◌, Some, None, is_some, []};
 ghost use Rattle.ipv4.specs.declared.addr.Endpoint.{Endpoint};
 ghost use Rattle.tcp_segment.specs.Segment.{Segment, span_of};
 ghost use Rattle.tcp_state.specs.declared.calls.Refusal.{Refusal};
@@ -29,6 +29,7 @@ ghost use Rattle.tcp_state.specs.Arrival.{opened_passively, fate, is_acceptable_
 ghost use Rattle.tcp_state.specs.Due.{MayGoOut, first_due, end_of, flags_of, sends_again, again, after_emitted};
 ghost use Rattle.tcp_state.specs.Unreachable.{IsRefused};
 ghost use Rattle.tcp_state.specs.Simultaneous.{crossed, AnswersSyn, HasOpened};
+ghost use Rattle.tcp_state.specs.Opening.{OpenedBy, Confirmed};
 ghost use Rattle.tcp_state.specs.Edges.{Event, after_event, fate_by, moment_of, state_after, IsEdge, ends_by, is_cause, may_raise, congestion_event_by};
 
 /// One event joins only states that the table of edges joins, or leaves the state.
@@ -222,6 +223,15 @@ pub fn the_third_duplicate_resends()
         → (after_emitted v (Due.Text stretch) now).pace.mark ≡ None }
 {}
 
+/// The resend mark keeps its number (RFC 6298 section 5.4): an acknowledgement that moves SND.UNA brings it as much nearer to that, or to it, and takes it away only where nothing is outstanding past it.
+/// The third duplicate ACK alone puts it back.
+pub fn the_mark_keeps_its_number()
+    ensures stays { (v : View) (s : Segment) (now : Moment) (distance left : ℕ) → IsSound v → is_opening v.state ≡ false → (is_duplicate v s && third_is_next v.congestion) ≡ false → v.pace.mark ≡ Some distance
+        → is_closed (after_segment_at v s now).state ≡ false → (after_segment_at v s now).pace.mark ≡ Some left → left ≡ distance - past (after_segment_at v s now).sending.una v.sending.una }
+    ensures goes { (v : View) (s : Segment) (now : Moment) (distance : ℕ) → IsSound v → is_opening v.state ≡ false → (is_duplicate v s && third_is_next v.congestion) ≡ false → v.pace.mark ≡ Some distance
+        → is_closed (after_segment_at v s now).state ≡ false → (after_segment_at v s now).pace.mark ≡ None → outstanding (after_segment_at v s now).sending ≤ distance - past (after_segment_at v s now).sending.una v.sending.una }
+{}
+
 /// What goes out again, or as a probe, is measured no longer (RFC 6298 section 3, Karn's algorithm).
 pub fn resent_segments_are_not_timed()
     ensures { (v : View) (due : Due) (now : Moment) → MayGoOut v due → sends_again v due ≡ true → (after_emitted v due now).pace.timed ≡ None }
@@ -254,6 +264,16 @@ pub fn simultaneous_openings_meet()
     ensures opens { (here there : Endpoint) (isn other : ℕ) (first second third : Moment) → isn < 2 ^ 32 → other < 2 ^ 32
         → (let ends = crossed (crossed (crossed (record { one = opened_actively here there isn; other = opened_actively there here other }) first) second) third in
         HasOpened isn other ends.one × HasOpened other isn ends.other) }
+{}
+
+/// The three steps of an opening (RFC 9293 section 3.5, figure 6): what a SYN opens at a listener is to answer that by a SYN-ACK; a SYN-ACK that acknowledges our SYN opens the connection, and is to be
+/// acknowledged; and the acknowledgement of our SYN-ACK opens the listener's.
+pub fn openings_take_three_steps()
+    ensures answers { (local peer : Endpoint) (isn : ℕ) (syn : Segment) → isn < 2 ^ 32 → AnswersSyn isn syn.number (opened_passively local peer isn syn) }
+    ensures opens { (v : View) (s : Segment) (now : Moment) → IsSound v → v.state ≡ State.SynSent → v.sending.nxt ≢ v.sending.una → s.flags.rst ≡ false → s.flags.syn ≡ true → s.flags.ack ≡ true
+        → s.acknowledgement ≡ v.sending.nxt → OpenedBy s v (after_segment_at v s now) }
+    ensures confirms { (v : View) (s : Segment) (now : Moment) → IsSound v → v.state ≡ State.SynReceived → v.sending.nxt ≢ v.sending.una → s.flags.rst ≡ false → s.flags.syn ≡ false → s.flags.fin ≡ false → s.flags.ack ≡ true
+        → s.acknowledgement ≡ v.sending.nxt → s.octets ≡ [] → is_acceptable_to v s ≡ true → Confirmed v (after_segment_at v s now) }
 {}
 
 /// A SYN without ACK that comes to a connection in SYN-SENT draws a SYN-ACK with the number of its own SYN, whether that has gone out or not (RFC 9293 section

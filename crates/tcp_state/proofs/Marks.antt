@@ -1,0 +1,124 @@
+-- Why the resend mark keeps its number, whatever a segment acknowledges.
+use Rattle.std.proofs.Common.{◌≡◌, ℕ, ◌-◌, ◌^◌, ◌<◌, ◌≤◌, ◌==◌, ◌&&◌, ◌||◌, not, nat_lt, if◌then◌else◌, Bool, true, false, length, Option, Some, None, arith, refl, sym, ◌∙◌, ap}
+use Rattle.std.proofs.lemmas.Bool.{lt-ltb, ltb-false}
+use Rattle.tcp_segment.specs.Segment.{Segment}
+use Rattle.tcp_segment.specs.Wire.{past}
+use Rattle.clock.specs.declared.moment.Moment.{Moment}
+use Rattle.congestion.specs.Window.{third_is_next}
+use Rattle.tcp_state.specs.declared.state.State.{State}
+use Rattle.tcp_state.specs.declared.state.State.TheVariants.{Closed}
+use Rattle.tcp_state.specs.Halves.{Sending}
+use Rattle.tcp_state.specs.Stream.{outstanding, is_new_ack}
+use Rattle.tcp_state.specs.Windows.{updates_window}
+use Rattle.tcp_state.specs.Pace.{Pace, stopped, mark_past, mark_left, pace_lost}
+use Rattle.tcp_state.specs.View.{View, IsSound, is_opening, is_syn_sent, is_syn_received, is_closed}
+use Rattle.tcp_state.specs.Numbers.{is_before}
+use Rattle.tcp_state.specs.Arrival.{owing_ack, is_receiving, is_of_fin, beyond_fin, beyond_end, fin_acknowledged, after_new_ack, after_ack, after_window, after_text, is_duplicate, before, pace_heard, congestion_event_of, tells_loss, after_heard, after_segment_at}
+use Rattle.tcp_state.proofs.Clocked.{heard_paced}
+use Rattle.tcp_state.proofs.Edges.{either, by_fin}
+use Rattle.tcp_state.proofs.Unchanged.{clash}
+use Rattle.tcp_state.proofs.Segments.{by_hearing, by_clock}
+use Rattle.tcp_state.proofs.Congestion.{window_kept}
+use Rattle.tcp_state.proofs.Losses.{past_opening, told_by_third}
+
+-- what a connection has of a mark that stood at this distance past this SND.UNA, unless it is CLOSED
+abbrev Left : ℕ → ℕ → View → Type 0
+Left una distance w = is_closed w.state ≡ false → w.pace.mark ≡ mark_past (distance - past w.sending.una una) (outstanding w.sending)
+
+abbrev value : Option ℕ → ℕ
+value (Some n) = n
+value None = 0
+
+none_past : (una : ℕ) → una < 2 ^ 32 → past una una ≡ 0
+none_past una fits = omega (arith, fits)
+
+-- it stands where it stood, where SND.UNA doesn't move
+left_there : (una distance out : ℕ) → una < 2 ^ 32 → distance < out → Some distance ≡ mark_past (distance - past una una) out
+left_there una distance out fits within =
+    let here : distance - past una una ≡ distance = omega (arith, none_past una fits) in
+    sym (ap (λ n. mark_past n out) here ∙ ap (λ b. if b then Some distance else None) (lt-ltb distance out within))
+
+stays : (v : View) (distance : ℕ) → IsSound v → v.pace.mark ≡ Some distance → Left v.sending.una distance v
+stays v distance sound mark lives = mark ∙ left_there v.sending.una distance (outstanding v.sending) sound.una (sound.mark distance mark)
+
+ack_leaves : (v : View) (ack distance : ℕ) → IsSound v → is_opening v.state ≡ false → v.pace.mark ≡ Some distance → Left v.sending.una distance (after_ack v ack)
+ack_leaves v ack distance sound opened mark =
+    let P : View → Type 0 = Left v.sending.una distance in
+    let acked = after_new_ack v ack in
+    let gained = past ack v.sending.una in
+    let out = outstanding acked.sending in
+    let moved : acked.pace.mark ≡ mark_past (distance - gained) out = ap (λ m. mark_left m gained out) mark in
+    let closed = is_closed (beyond_fin v.state) in
+    let same : P v = stays v distance sound mark in
+    either View P (is_syn_received v.state) _ _
+    (λ received. clash (is_syn_received v.state) received (past_opening v.state opened).1)
+    (λ past. either View P (is_new_ack v.sending ack) _ _
+    (λ new. either View P (is_of_fin v ack) (fin_acknowledged acked) acked
+    (λ fin lives. either Pace (λ q. q.mark ≡ mark_past (distance - gained) out) closed (stopped acked.pace) acked.pace (λ ends. clash closed ends lives) (λ goes_on. moved))
+    (λ octets lives. moved))
+    (λ old. either View P (is_before v.sending.nxt ack) (owing_ack v) v (λ beyond. same) (λ within. same)))
+
+still_closed : (t : State) → is_closed (beyond_end t) ≡ false → is_closed t ≡ false
+still_closed Closed e = cc
+still_closed _ e = refl
+
+heard_leaves : (v : View) (s : Segment) (distance : ℕ) → IsSound v → is_opening v.state ≡ false → v.pace.mark ≡ Some distance → Left v.sending.una distance (after_heard v s)
+heard_leaves v s distance sound opened mark =
+    let P : View → Type 0 = Left v.sending.una distance in
+    let acked = after_ack v s.acknowledgement in
+    let told = after_window acked s in
+    let text = after_text told s in
+    let waits_not = (past_opening v.state opened).0 in
+    let same : P v = stays v distance sound mark in
+    let answered : P acked = ack_leaves v s.acknowledgement distance sound opened mark in
+    by_hearing P v s (λ lives. cc) (record {
+      dropped = same;
+      drawn = same;
+      reset = λ lives. cc;
+      crossed = λ waits. clash (is_syn_sent v.state) waits waits_not;
+      opened = λ waits right. clash (is_syn_sent v.state) waits waits_not;
+      acknowledged = answered;
+      read =
+          let heard : P told = either Sending (λ t. P (record acked { sending = t })) (updates_window acked.sending s.number s.acknowledgement) _ acked.sending (λ newer. answered) (λ older. answered) in
+          let read : P text = either View P ((length s.octets == 0) || not (is_receiving told.state)) told _ (λ none. heard) (λ some. heard) in
+          by_fin P text s (λ counts lives. read (still_closed text.state lives)) read read;
+    })
+
+-- .. and with the clock
+mark_left_by : (v : View) (s : Segment) (now : Moment) (distance : ℕ) → IsSound v → is_opening v.state ≡ false → (is_duplicate v s && third_is_next v.congestion) ≡ false → v.pace.mark ≡ Some distance
+    → Left v.sending.una distance (after_segment_at v s now)
+mark_left_by v s now distance sound opened other mark =
+    let b = before v s in
+    let w = after_heard v s in
+    let pace = pace_heard b w now in
+    by_clock (Left v.sending.una distance) v s now (stays v distance sound mark)
+    (λ lives. λ ends_not. let M : Pace → Type 0 = λ p. p.mark ≡ mark_past (distance - past w.sending.una v.sending.una) (outstanding w.sending) in
+    either Pace M (tells_loss (congestion_event_of b w) w.congestion) (pace_lost pace (outstanding w.sending)) pace
+    (λ lost. clash (is_duplicate v s && third_is_next v.congestion) (sym (ap (λ c. is_duplicate v s && third_is_next c) (window_kept v s)) ∙ told_by_third b w w.congestion lost) other)
+    (λ kept. heard_paced b w now (λ p. p.mark ≡ w.pace.mark) refl refl refl ∙ heard_leaves v s distance sound opened mark ends_not))
+
+stood : (m : Option ℕ) (rest out left : ℕ) → m ≡ mark_past rest out → m ≡ Some left → left ≡ rest
+stood m rest out left is some = told (nat_lt rest out) (sym is ∙ some)
+  where
+    told : (b : Bool) → (if b then Some rest else None) ≡ Some left → left ≡ rest
+    told true e = sym (ap value e)
+    told false e = cc
+
+passed : (m : Option ℕ) (rest out : ℕ) → m ≡ mark_past rest out → m ≡ None → out ≤ rest
+passed m rest out is none = ltb-false rest out (told (nat_lt rest out) (sym is ∙ none))
+  where
+    told : (b : Bool) → (if b then Some rest else None) ≡ None → b ≡ false
+    told true e = cc
+    told false e = refl
+
+pub mark_stays : (v : View) (s : Segment) (now : Moment) (distance left : ℕ) → IsSound v → is_opening v.state ≡ false → (is_duplicate v s && third_is_next v.congestion) ≡ false → v.pace.mark ≡ Some distance
+    → is_closed (after_segment_at v s now).state ≡ false → (after_segment_at v s now).pace.mark ≡ Some left → left ≡ distance - past (after_segment_at v s now).sending.una v.sending.una
+mark_stays v s now distance left sound opened other mark lives some =
+    let w = after_segment_at v s now in
+    stood w.pace.mark (distance - past w.sending.una v.sending.una) (outstanding w.sending) left (mark_left_by v s now distance sound opened other mark lives) some
+
+pub mark_goes : (v : View) (s : Segment) (now : Moment) (distance : ℕ) → IsSound v → is_opening v.state ≡ false → (is_duplicate v s && third_is_next v.congestion) ≡ false → v.pace.mark ≡ Some distance
+    → is_closed (after_segment_at v s now).state ≡ false → (after_segment_at v s now).pace.mark ≡ None → outstanding (after_segment_at v s now).sending ≤ distance - past (after_segment_at v s now).sending.una v.sending.una
+mark_goes v s now distance sound opened other mark lives none =
+    let w = after_segment_at v s now in
+    passed w.pace.mark (distance - past w.sending.una v.sending.una) (outstanding w.sending) (mark_left_by v s now distance sound opened other mark lives) none

@@ -1,0 +1,22 @@
+-- The opening of a connection by one end to another that listens, once each has the other's segment (RFC 9293 section 3.5, figure 6).
+use Rattle.std.specs.Prelude.{◌≡◌, true}
+use Rattle.tcp_segment.specs.Segment.{Segment}
+use Rattle.tcp_segment.specs.Wire.{wire}
+use Rattle.tcp_state.specs.declared.state.State.TheVariants.{Established}
+use Rattle.tcp_state.specs.View.{View}
+
+-- A SYN-ACK opened it: our SYN is acknowledged, the number behind the peer's SYN comes next, the peer's window is known, and an acknowledgement is owed.
+pub record OpenedBy (s : Segment) (before after : View) : Type 0 where
+  pub state : after.state ≡ Established
+  pub una : after.sending.una ≡ before.sending.nxt
+  pub nxt : after.sending.nxt ≡ before.sending.nxt
+  pub expects : after.receiving.rnext ≡ wire s.number 1
+  pub window : after.sending.window ≡ s.window
+  pub owes : after.owes_ack ≡ true
+
+-- The acknowledgement of our SYN-ACK opened it: what comes next is what came next.
+pub record Confirmed (before after : View) : Type 0 where
+  pub state : after.state ≡ Established
+  pub una : after.sending.una ≡ before.sending.nxt
+  pub nxt : after.sending.nxt ≡ before.sending.nxt
+  pub receiving : after.receiving ≡ before.receiving
