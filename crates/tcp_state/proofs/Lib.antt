@@ -37,6 +37,7 @@ pub mod Losses
 pub mod Marks
 pub mod Again
 pub mod SmallSegments
+pub mod Pushing
 pub mod SecondSegments
 pub mod Told
 pub mod Clocks

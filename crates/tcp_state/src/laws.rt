@@ -1,6 +1,6 @@
 //! Laws over the definitions alone: functions with nothing to do, whose contracts are the laws.
 
-ghost use Rattle.std.specs.Prelude.{◌≡◌, ℕ, ◌+◌, ◌-◌, ◌*◌, ◌%◌, ◌<◌, ◌≤◌, ◌==◌, ◌≢◌, nat_lt, min, ◌^◌, ◌⊎◌, ◌↔◌, ◌||◌, ◌&&◌, List, ◌++◌, slice_index_or, length, true, false, if◌then◌else◌, Some, None, is_some, []};
+ghost use Rattle.std.specs.Prelude.{◌≡◌, ℕ, ◌+◌, ◌-◌, ◌*◌, ◌%◌, ◌<◌, ◌≤◌, ◌==◌, ◌≢◌, nat_lt, min, ◌^◌, ◌⊎◌, ◌↔◌, ◌||◌, ◌&&◌, List, ◌++◌, slice_index_or, length, drop, true, false, if◌then◌else◌, Some, None, is_some, []};
 ghost use Rattle.ipv4.specs.declared.addr.Endpoint.{Endpoint};
 ghost use Rattle.tcp_segment.specs.Segment.{Segment, span_of};
 ghost use Rattle.tcp_state.specs.declared.calls.Refusal.{Refusal};
@@ -26,7 +26,7 @@ ghost use Rattle.tcp_state.specs.Timing.{KeepsTime, probes, expires, wants_out, 
 ghost use Rattle.congestion.specs.Window.{is_recovering, third_is_next};
 ghost use Rattle.tcp_state.specs.Congestion.{KeepsCongestion, after_signal};
 ghost use Rattle.tcp_state.specs.Arrival.{opened_passively, fate, is_acceptable_to, is_receiving, is_read, is_duplicate, after_ack, after_heard, after_segment_at};
-ghost use Rattle.tcp_state.specs.Due.{MayGoOut, first_due, end_of, flags_of, sends_again, again, after_emitted};
+ghost use Rattle.tcp_state.specs.Due.{MayGoOut, first_due, end_of, flags_of, octets_of, sends_again, again, after_emitted};
 ghost use Rattle.tcp_state.specs.Unreachable.{IsRefused};
 ghost use Rattle.tcp_state.specs.Simultaneous.{crossed, AnswersSyn, HasOpened};
 ghost use Rattle.tcp_state.specs.Opening.{OpenedBy, Confirmed};
@@ -306,6 +306,13 @@ pub fn small_segments_wait()
         → (outstanding v.sending ≡ 0) × ((stretch.count ≡ length v.sending.held) ⊎ (v.sending.largest ≤ 2 * stretch.count)) }
     ensures overridden { (v : View) (e : Event) → v.pace.overridden ≡ false → (after_event v e).pace.overridden ≡ true → (now : Moment) × (e ≡ Event.Ticks now) × (has_come v.timers.overriding now ≡ true) }
     ensures begins { (v : View) (e : Event) (deadline : Moment) → v.timers.overriding ≡ None → (after_event v e).timers.overriding ≡ Some deadline → (now : Moment) × (moment_of e ≡ Some now) × (deadline ≡ after now 500) }
+{}
+
+/// PSH stands on each segment that brings octets and behind which nothing that is held is left, and on no other (RFC 9293 section 3.9.1.2).
+pub fn the_last_octet_is_pushed()
+    ensures last { (v : View) (stretch : Stretch) → MayGoOut v (Due.Text stretch) → 0 < stretch.count
+        → ((let f = flags_of v (Due.Text stretch) in f.psh) ≡ true) ↔ (drop (stretch.offset + stretch.count) v.sending.held ≡ []) }
+    ensures none { (v : View) (due : Due) → MayGoOut v due → octets_of v due ≡ [] → (let f = flags_of v due in f.psh) ≡ false }
 {}
 
 /// Octets that come are acknowledged at the second segment that brings some, and within half a second of the first (RFC 1122 section 4.2.3.2): where an acknowledgement waits already, another segment with
