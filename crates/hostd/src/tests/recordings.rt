@@ -105,16 +105,12 @@ fn each_frame_is_captured_once_with_its_moment(rt: HostRuntime) {
 fn scripts_without_frames(rt: HostRuntime) {
     let bad = run_to(rt.alloc(), b"a emit\na emits\n", GOOD, GOOD);
     assert_eq!(rt; bad.answer, Err(TextFault::Line(2)));
-    assert_eq!(rt;
-        (bad.out.taken(), bad.capture.taken()),
-        (b"".as_slice(), b"".as_slice())
-    );
+    assert_eq!(rt; bad.out.taken(), b"".as_slice());
+    assert_eq!(rt; bad.capture.taken(), b"".as_slice());
     let none = run_to(rt.alloc(), b"a emit\n", GOOD, GOOD);
     let (header, _) = CAPTURE.split_at(24);
-    assert_eq!(rt;
-        (none.out.taken(), none.capture.taken()),
-        (b"none\n".as_slice(), header)
-    );
+    assert_eq!(rt; none.out.taken(), b"none\n".as_slice());
+    assert_eq!(rt; none.capture.taken(), header);
 }
 
 /// A call that begins or ends the header, a record's head or its frame.
