@@ -25,10 +25,13 @@ operation_text Request = codes "request"
 operation_text Reply = codes "reply"
 
 -- `arp request MAC ADDRESS MAC ADDRESS`, or `reply`: the sender's, and then the target's
-abbrev pub arp_line : ArpPacket → List ℕ
-arp_line p =
+abbrev pub packet_text : ArpPacket → List ℕ
+packet_text p =
     codes "arp " ++ (operation_text p.operation ++ (codes " " ++ (parted (mac_text p.sender_mac) (addr_text p.sender_addr)
-    ++ (codes " " ++ (parted (mac_text p.target_mac) (addr_text p.target_addr) ++ codes "\n")))))
+    ++ (codes " " ++ parted (mac_text p.target_mac) (addr_text p.target_addr)))))
+
+abbrev pub arp_line : ArpPacket → List ℕ
+arp_line p = packet_text p ++ codes "\n"
 
 -- `ipv4 SOURCE DESTINATION proto P ttl T id I off OCTETS flags F payload N`
 abbrev pub ipv4_line : Datagram → List ℕ
@@ -39,14 +42,18 @@ ipv4_line d =
     ++ (codes " payload " ++ (decimal (length d.payload) ++ codes "\n")))))))))))))
 
 -- `icmp type T code C data N`
+abbrev pub message_text : Message → List ℕ
+message_text m = codes "icmp type " ++ (decimal m.kind ++ (codes " code " ++ (decimal m.code ++ (codes " data " ++ decimal (length m.payload)))))
+
 abbrev pub icmp_line : Message → List ℕ
-icmp_line m =
-    codes "icmp type " ++ (decimal m.kind ++ (codes " code " ++ (decimal m.code ++ (codes " data " ++ (decimal (length m.payload) ++ codes "\n")))))
+icmp_line m = message_text m ++ codes "\n"
 
 -- `udp SOURCE DESTINATION data N`
+abbrev pub user_text : UserDatagram → List ℕ
+user_text d = codes "udp " ++ (decimal d.source ++ (codes " " ++ (decimal d.destination ++ (codes " data " ++ decimal (length d.payload)))))
+
 abbrev pub udp_line : UserDatagram → List ℕ
-udp_line d =
-    codes "udp " ++ (decimal d.source ++ (codes " " ++ (decimal d.destination ++ (codes " data " ++ (decimal (length d.payload) ++ codes "\n")))))
+udp_line d = user_text d ++ codes "\n"
 
 -- `tcp SOURCE DESTINATION seq S ack A flags F win W mss M data N`
 abbrev pub tcp_line : Segment → List ℕ

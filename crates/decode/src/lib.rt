@@ -11,4 +11,6 @@ mod words;
 
 pub use drop::DropCause;
 pub use layers::decode;
+pub use lines::{push_message, push_packet, push_user};
 pub use pairs::{HexFault, octets_of};
+pub use words::{fragment_name, push_flags};

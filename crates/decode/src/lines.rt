@@ -2,7 +2,7 @@
 
 ghost use Rattle.std.specs.Prelude.{◌≡◌, ◌++◌, OnOk, string_bytes};
 ghost use Rattle.decode.specs.Words.{mac_text, addr_text};
-ghost use Rattle.decode.specs.Lines.{parted, ether_line, arp_line, operation_text, ipv4_line, icmp_line, udp_line, tcp_line};
+ghost use Rattle.decode.specs.Lines.{parted, ether_line, arp_line, packet_text, operation_text, ipv4_line, icmp_line, message_text, udp_line, user_text, tcp_line};
 
 use crate::words::{fragment_name, push_addr, push_flags, push_hex_of_two, push_mac, push_told};
 use arp::{ArpPacket, Operation};
@@ -37,11 +37,19 @@ fn push_macs(first: Mac, second: Mac, lines: &mut String) -> Result<(), AllocErr
 pub(crate) fn push_arp(packet: &ArpPacket, lines: &mut String) -> Result<(), AllocError>
     ensures { OnOk result (string_bytes lines.new ≡ string_bytes lines.old ++ arp_line packet.now) }
 {
-    write!(lines, "arp {} ", operation_name(packet.operation))?;
-    push_station(packet.sender_mac, packet.sender_addr, lines)?;
-    lines.push_str(" ")?;
-    push_station(packet.target_mac, packet.target_addr, lines)?;
+    push_packet(packet, lines)?;
     lines.push_str("\n")
+}
+
+/// Adds what an ARP packet says, with no newline: `arp request` or `arp reply`, the sender's MAC and address, and the target's (RFC 826). An error
+/// is want of memory.
+pub fn push_packet(packet: &ArpPacket, text: &mut String) -> Result<(), AllocError>
+    ensures { OnOk result (string_bytes text.new ≡ string_bytes text.old ++ packet_text packet.now) }
+{
+    write!(text, "arp {} ", operation_name(packet.operation))?;
+    push_station(packet.sender_mac, packet.sender_addr, text)?;
+    text.push_str(" ")?;
+    push_station(packet.target_mac, packet.target_addr, text)
 }
 
 /// Adds a MAC and an address, parted by a blank.
@@ -94,9 +102,17 @@ fn push_addrs(first: Addr, second: Addr, lines: &mut String) -> Result<(), Alloc
 pub(crate) fn push_icmp(message: &IcmpView<'_>, lines: &mut String) -> Result<(), AllocError>
     ensures { OnOk result (string_bytes lines.new ≡ string_bytes lines.old ++ icmp_line message.now) }
 {
+    push_message(message, lines)?;
+    lines.push_str("\n")
+}
+
+/// Adds what an ICMP message says, with no newline: its type, its code, and the octets of its data (RFC 792). An error is want of memory.
+pub fn push_message(message: &IcmpView<'_>, text: &mut String) -> Result<(), AllocError>
+    ensures { OnOk result (string_bytes text.new ≡ string_bytes text.old ++ message_text message.now) }
+{
     write!(
-        lines,
-        "icmp type {} code {} data {}\n",
+        text,
+        "icmp type {} code {} data {}",
         message.kind().0,
         message.code(),
         message.payload().len()
@@ -107,9 +123,17 @@ pub(crate) fn push_icmp(message: &IcmpView<'_>, lines: &mut String) -> Result<()
 pub(crate) fn push_udp(datagram: &UdpView<'_>, lines: &mut String) -> Result<(), AllocError>
     ensures { OnOk result (string_bytes lines.new ≡ string_bytes lines.old ++ udp_line datagram.now) }
 {
+    push_user(datagram, lines)?;
+    lines.push_str("\n")
+}
+
+/// Adds what a user datagram says, with no newline: its ports, and the octets of its data (RFC 768). An error is want of memory.
+pub fn push_user(datagram: &UdpView<'_>, text: &mut String) -> Result<(), AllocError>
+    ensures { OnOk result (string_bytes text.new ≡ string_bytes text.old ++ user_text datagram.now) }
+{
     write!(
-        lines,
-        "udp {} {} data {}\n",
+        text,
+        "udp {} {} data {}",
         datagram.source(),
         datagram.destination(),
         datagram.payload().len()

@@ -60,7 +60,7 @@ pub(crate) fn push_addr(addr: Addr, line: &mut String) -> Result<(), AllocError>
 
 /// The flags of a datagram.
 #[tactic(auto, unfolding(crate::specs::Words::fragment_flags))]
-pub(crate) fn fragment_name<'a>(dont_fragment: bool, more_fragments: bool) -> &'a str
+pub fn fragment_name<'a>(dont_fragment: bool, more_fragments: bool) -> &'a str
     ensures { result.now ≡ fragment_flags dont_fragment more_fragments }
 {
     match (dont_fragment, more_fragments) {
@@ -73,7 +73,7 @@ pub(crate) fn fragment_name<'a>(dont_fragment: bool, more_fragments: bool) -> &'
 
 /// Adds the letters of the control bits that are set, or a dash.
 #[tactic(auto, unfolding(crate::specs::Words::flags_text))]
-pub(crate) fn push_flags(flags: Flags, line: &mut String) -> Result<(), AllocError>
+pub fn push_flags(flags: Flags, line: &mut String) -> Result<(), AllocError>
     ensures { OnOk result (string_bytes line.new ≡ string_bytes line.old ++ flags_text flags) }
 {
     if flags == Flags::default() {

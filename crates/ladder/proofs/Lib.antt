@@ -1,0 +1,3 @@
+pub mod Syns
+pub mod Told
+pub mod Widths

@@ -1,0 +1,6 @@
+pub mod Numbers
+pub mod Text
+pub mod Passages
+pub mod Arrivals
+pub mod Rungs
+pub mod Ladder

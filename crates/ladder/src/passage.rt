@@ -1,0 +1,112 @@
+//! What happens to the frames of a run.
+
+ghost use Rattle.std.specs.Prelude.{◌≡◌};
+ghost use Rattle.ladder.specs.Passages.{brings, brought, errand_of, fate_of, passage_on, reaches};
+
+use frames::DropCause;
+use wire_sim::{Answer, Event, Side, Unfair};
+
+/// What a frame came to that was brought to a host.
+#[derive(Clone, Copy, Debug, PartialEq, Eq)]
+pub enum Fate {
+    /// The host took it.
+    Taken,
+    /// The host dropped it.
+    Dropped(DropCause),
+    /// The world didn't let the host have it.
+    Refused(Unfair),
+}
+
+impl Fate {
+    /// Whether the frame reached the host.
+    pub(crate) fn reaches(self) -> bool
+        ensures { result ≡ reaches self }
+    {
+        match self {
+            Fate::Taken => true,
+            Fate::Dropped(_) => true,
+            Fate::Refused(_) => false,
+        }
+    }
+}
+
+/// What happened to a frame.
+#[derive(Clone, Copy, Debug, PartialEq, Eq)]
+pub enum Passage {
+    /// A side's host sent the frame with this number in the bag.
+    Sent(Side, usize),
+    /// The frame with this number was brought to a side's host.
+    Brought(Side, usize, Fate),
+}
+
+impl Passage {
+    /// Whether the frame with the number `index` reaches a host by this.
+    pub(crate) fn brings(&self, index: usize) -> bool
+        ensures { result ≡ brings index self.now }
+    {
+        match self {
+            Passage::Sent(..) => false,
+            Passage::Brought(_, number, fate) => *number == index && fate.reaches(),
+        }
+    }
+}
+
+/// What an event is about, as far as frames go.
+#[derive(Clone, Copy, Debug, PartialEq, Eq)]
+pub enum Errand {
+    /// A side's host may send a frame.
+    ToSend(Side),
+    /// The frame with this number is brought to a side's host.
+    ToBring(Side, usize),
+    /// Neither.
+    Neither,
+}
+
+impl Errand {
+    /// What this event is about.
+    pub fn of(event: &Event) -> Errand
+        ensures { result ≡ errand_of event.now }
+    {
+        match event {
+            Event::Emit(side) => Errand::ToSend(*side),
+            Event::Deliver(side, index, _) => Errand::ToBring(*side, *index),
+            _ => Errand::Neither,
+        }
+    }
+
+    /// What happened to a frame by an event about this, which had this outcome; nothing where no frame went out, or none was brought.
+    pub fn passage(self, outcome: &Result<Answer, Unfair>) -> Option<Passage>
+        ensures { result ≡ passage_on self outcome.now }
+    {
+        match self {
+            Errand::ToSend(side) => sent(side, outcome),
+            Errand::ToBring(side, index) => {
+                let fate = fate_of(outcome)?;
+                Some(Passage::Brought(side, index, fate))
+            }
+            Errand::Neither => None,
+        }
+    }
+}
+
+/// The frame that a side sent, if it did.
+fn sent(side: Side, outcome: &Result<Answer, Unfair>) -> Option<Passage>
+    ensures { result ≡ passage_on (Errand.ToSend side) outcome.now }
+{
+    match outcome {
+        Ok(Answer::Frame { index, .. }) => Some(Passage::Sent(side, *index)),
+        _ => None,
+    }
+}
+
+/// What a frame came to that was brought to a host.
+fn fate_of(outcome: &Result<Answer, Unfair>) -> Option<Fate>
+    ensures { result ≡ fate_of outcome.now }
+{
+    match outcome {
+        Ok(Answer::Taken) => Some(Fate::Taken),
+        Ok(Answer::Dropped(cause)) => Some(Fate::Dropped(*cause)),
+        Ok(_) => None,
+        Err(refusal) => Some(Fate::Refused(*refusal)),
+    }
+}
