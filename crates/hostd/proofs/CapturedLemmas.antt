@@ -10,7 +10,8 @@ use Rattle.capture.proofs.Steps.{ended}
 use Rattle.hostd.specs.declared.fault.TextFault.{TextFault}
 use Rattle.hostd.specs.declared.fault.TextFault.TheVariants.{Line, TooLong, NotHex, Header as OfHeader, Record as OfRecord, Read, Write, NoMemory}
 use Rattle.hostd.specs.Captured.{AreShown, starts, goes_on, IsOnItsWay, IsPrinted, IsPrintedFirst, IsTextOf, TakesShown}
-use Rattle.hostd.specs.Streams.{TakesFront, TakesAllBut}
+use Rattle.devices.specs.Streams.{TakesFront}
+use Rattle.hostd.specs.Moved.{TakesAllBut}
 use Rattle.hostd.proofs.PlayLemmas.{added_front, added_more}
 use Rattle.hostd.proofs.RunLemmas.{all_taken, front_taken, kept}
 use Rattle.hostd.proofs.SimLemmas.{passed_on}

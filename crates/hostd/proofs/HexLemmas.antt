@@ -4,7 +4,7 @@ use Rattle.std.specs.Result.{IsErrAnd}
 use Rattle.decode.specs.declared.drop.DropCause.{DropCause}
 use Rattle.hostd.specs.declared.fault.TextFault.{TextFault}
 use Rattle.hostd.specs.declared.fault.TextFault.TheVariants.{Write}
-use Rattle.hostd.specs.Streams.{TakesFront}
+use Rattle.devices.specs.Streams.{TakesFront}
 use Rattle.hostd.specs.Hex.{IsPrinted, TakesPrinted}
 use Rattle.hostd.proofs.SimLemmas.{passed_on}
 

@@ -1,5 +1,4 @@
 pub mod LineLemmas
-pub mod MemoryLemmas
 pub mod SimLemmas
 pub mod StreamLemmas
 pub mod PlayLemmas

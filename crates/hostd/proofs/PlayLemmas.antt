@@ -20,7 +20,8 @@ use Rattle.script.specs.declared.lines.Command.{Command}
 use Rattle.script.specs.declared.lines.Command.TheVariants.{At, Pass}
 use Rattle.hostd.specs.declared.fault.TextFault.{TextFault}
 use Rattle.hostd.specs.declared.fault.TextFault.TheVariants.{Write, NoMemory}
-use Rattle.hostd.specs.Streams.{TakesFront, TakesAllBut}
+use Rattle.devices.specs.Streams.{TakesFront}
+use Rattle.hostd.specs.Moved.{TakesAllBut}
 use Rattle.hostd.proofs.StreamLemmas.{Appends-more, Keeps-appends}
 use Rattle.hostd.specs.Play.{HasEmitted, goes_out, passes, starts, goes_on, Delivers, HasPrinted, Does, Prints, IsPlayed, IsLeftBefore, IsCutShort}
 

@@ -21,7 +21,7 @@ use Rattle.wire_sim.specs.WorldView.{WorldView}
 use Rattle.hostd.specs.declared.fault.TextFault.{TextFault}
 use Rattle.hostd.specs.declared.fault.TextFault.TheVariants.{Write}
 use Rattle.hostd.specs.declared.recording.Clocks.{Clocks}
-use Rattle.hostd.specs.Streams.{TakesFront}
+use Rattle.devices.specs.Streams.{TakesFront}
 use Rattle.hostd.specs.Recording.{no_time, captured_at, clock_in, clocks_after, clocks_behind, frame_out, frames_out, frames_of, octets_of_record, records_of, TakesCapture}
 use Rattle.hostd.proofs.RunLemmas.{kept}
 use Rattle.hostd.proofs.SimLemmas.{passed_on}

@@ -12,7 +12,8 @@ use Rattle.std.specs.Option.{IsSomeAnd}
 use Rattle.script.specs.Words.{lines_of}
 use Rattle.script.specs.Script.{limit_of, limits_of, commands_of}
 use Rattle.hostd.specs.Sim.{write_fails_in, is_before_run, run_in_all}
-use Rattle.hostd.specs.Streams.{TakesFront, TakesAllBut}
+use Rattle.devices.specs.Streams.{TakesFront}
+use Rattle.hostd.specs.Moved.{TakesAllBut}
 use Rattle.hostd.specs.Play.{HasPrinted, starts, IsPlayed, IsCutShort, IsLeft, IsFirst, limit_by, limit_line, IsPrinted, IsPrintedTo, IsTold, TakesRun, TakesPrinted, TakesPrintedBy, TakesBoth}
 use Rattle.hostd.specs.Recording.{TakesCapture}
 use Rattle.hostd.specs.declared.sim.Ends.{Ends}

@@ -1,7 +1,7 @@
 -- Octets that are moved in several calls.
 use Rattle.std.proofs.Common.{◌≡◌, ℕ, ◌<◌, Ok, arith, List, [], ◌++◌, Option, Some, None, take, drop, ap, sym, ◌∙◌, append_assoc, append-nil}
 use Rattle.std.proofs.lemmas.List.{take-append-drop}
-use Rattle.hostd.specs.Streams.{TakesFront, counted, write_fails}
+use Rattle.devices.specs.Streams.{TakesFront, counted, write_fails}
 use Rattle.std.proofs.lemmas.Grind.{common_steps}
 use Rattle.std.specs.Io.KnownBytes.{Appends, Keeps}
 

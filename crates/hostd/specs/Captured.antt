@@ -8,7 +8,8 @@ use Rattle.decode.specs.declared.drop.DropCause.{DropCause}
 use Rattle.decode.specs.Layers.{Decodes}
 use Rattle.hostd.specs.declared.fault.TextFault.{TextFault}
 use Rattle.hostd.specs.declared.fault.TextFault.TheVariants.{Line, TooLong, NotHex, Header, Record as OfRecord, Read, Write, NoMemory}
-use Rattle.hostd.specs.Streams.{TakesFront, TakesAllBut}
+use Rattle.devices.specs.Streams.{TakesFront}
+use Rattle.hostd.specs.Moved.{TakesAllBut}
 
 -- how many octets of a frame were captured, of how many that it had on the link: nothing is said where these are no more
 abbrev pub cut_words : ℕ → ℕ → List ℕ

@@ -8,7 +8,7 @@ use Rattle.decode.specs.Pairs.{octets_in}
 use Rattle.decode.specs.Layers.{Decodes}
 use Rattle.hostd.specs.declared.fault.TextFault.{TextFault}
 use Rattle.hostd.specs.declared.fault.TextFault.TheVariants.{Line, TooLong, NotHex, Header, Record, Read, Write, NoMemory}
-use Rattle.hostd.specs.Streams.{TakesFront}
+use Rattle.devices.specs.Streams.{TakesFront}
 
 -- why a text gives no octets
 abbrev pub fault_by : HexFault → TextFault

@@ -1,4 +1,5 @@
-pub mod Streams
+pub use Rattle.devices.specs.Streams
+pub mod Moved
 pub mod Sim
 pub mod Line
 pub mod Play

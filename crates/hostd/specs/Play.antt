@@ -22,7 +22,8 @@ use Rattle.hostd.specs.declared.sim.Ends.{Ends}
 use Rattle.hostd.specs.declared.fault.TextFault.TheVariants.{Write}
 use Rattle.script.specs.Words.{lines_of}
 use Rattle.script.specs.Script.{limit_of, commands_of}
-use Rattle.hostd.specs.Streams.{TakesFront, TakesAllBut}
+use Rattle.devices.specs.Streams.{TakesFront}
+use Rattle.hostd.specs.Moved.{TakesAllBut}
 use Rattle.hostd.specs.Recording.{TakesCapture}
 use Rattle.host.specs.ConfigView.{ConfigView}
 use Rattle.script.specs.Hosts.{IsSetUp}

@@ -17,7 +17,7 @@ use Rattle.wire_sim.specs.WorldView.{WorldView}
 use Rattle.hostd.specs.declared.fault.TextFault.{TextFault}
 use Rattle.hostd.specs.declared.fault.TextFault.TheVariants.{Write}
 use Rattle.hostd.specs.declared.recording.Clocks.{Clocks}
-use Rattle.hostd.specs.Streams.{TakesFront}
+use Rattle.devices.specs.Streams.{TakesFront}
 
 -- the clocks before anything happened
 abbrev pub no_time : Clocks

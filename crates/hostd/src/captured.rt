@@ -1,15 +1,15 @@
 //! `hostd decode --pcap`: prints what the frames of a capture say.
 
 ghost use Rattle.std.specs.Prelude.{◌≡◌, ◌<◌, ◌^◌, ◌++◌, true, length, string_bytes, IfOk, IfErr, IfSome, OnOk};
-ghost use Rattle.hostd.specs.Streams.{counted};
+ghost use Rattle.devices.specs.Streams.{counted};
 ghost use Rattle.hostd.specs.Sim.{read_fails, write_fails_in};
 ghost use Rattle.hostd.specs.Captured.{frame_line, is_before_print, IsTextOf, IsOnItsWay, TakesShown, TakesPrinted};
 
 use crate::fault::TextFault;
 use crate::input::whole;
 use crate::output::{add_line, finish, is_write_fault};
-use crate::streams::{Sink, Source};
 use capture::{Reader, RecordView};
+use devices::{Sink, Source};
 use std::alloc::{AllocError, Global};
 
 /// Reads a capture, of any length, and prints of each frame in it, in order, a line with its number from 0 on and its moment in milliseconds, and

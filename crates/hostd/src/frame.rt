@@ -1,15 +1,15 @@
 //! `hostd decode`: prints what a frame says.
 
 ghost use Rattle.std.specs.Prelude.{◌≡◌, false, IfOk, IfErr, IfSome, string_bytes};
-ghost use Rattle.hostd.specs.Streams.{counted};
+ghost use Rattle.devices.specs.Streams.{counted};
 ghost use Rattle.hostd.specs.Sim.{read_fails, write_fails_in};
 ghost use Rattle.hostd.specs.Hex.{IsPrinted, IsUnspelled, TakesPrinted};
 
 use crate::fault::TextFault;
 use crate::input::whole;
 use crate::output::finish;
-use crate::streams::{Sink, Source};
 use decode::{DropCause, octets_of};
+use devices::{Sink, Source};
 use std::alloc::Global;
 
 /// Reads the hexadecimal digits of a frame, in a text of any length, and prints what it says, a line a layer. The answer is why a layer of it can't

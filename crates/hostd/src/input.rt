@@ -1,11 +1,12 @@
 //! The octets of a text on their way from a source.
 
 ghost use Rattle.std.specs.Prelude.{◌≡◌, ◌⊎◌, true, ◌≤◌, ◌<◌, length, vec_len, IfOk, IfErr, IfSome};
-ghost use Rattle.hostd.specs.Streams.{counted, AddsRead};
+ghost use Rattle.devices.specs.Streams.{counted};
+ghost use Rattle.hostd.specs.Moved.{AddsRead};
 ghost use Rattle.hostd.specs.Sim.{read_fails, is_before_run, IsFaultDue, IsUnread, IsScriptUnread};
 
 use crate::fault::TextFault;
-use crate::streams::Source;
+use devices::Source;
 use std::alloc::Global;
 
 /// The most octets of a script.

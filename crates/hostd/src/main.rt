@@ -11,14 +11,13 @@ mod output;
 mod recording;
 mod request;
 mod sim;
-mod streams;
 
 use clap::error::ErrorKind;
+use devices::{Reading, Writing};
 use fault::TextFault;
 use request::Line;
 use std::process::ExitCode;
 use std::{env, fmt, fs, io};
-use streams::{Reading, Writing};
 
 #[cfg(test)]
 mod tests;

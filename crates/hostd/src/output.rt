@@ -2,11 +2,12 @@
 
 ghost use Rattle.std.specs.Prelude.{◌≡◌, ◌⊎◌, [], ◌++◌, Err, OnOk, IfErr, string_bytes};
 ghost use Rattle.std.specs.Io.KnownBytes.{Appends};
-ghost use Rattle.hostd.specs.Streams.{counted, TakesFront, TakesAllBut};
+ghost use Rattle.devices.specs.Streams.{counted, TakesFront};
+ghost use Rattle.hostd.specs.Moved.{TakesAllBut};
 ghost use Rattle.hostd.specs.Sim.{write_fails_in};
 
 use crate::fault::TextFault;
-use crate::streams::Sink;
+use devices::Sink;
 
 /// Where so many octets of printed lines wait, they are handed to the sink.
 const FULL: usize = 8192;

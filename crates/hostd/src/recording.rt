@@ -2,15 +2,15 @@
 
 ghost use Rattle.std.specs.Prelude.{◌≡◌, OnOk, IfErr};
 ghost use Rattle.std.specs.Io.KnownBytes.{Appends};
-ghost use Rattle.hostd.specs.Streams.{counted, TakesFront};
+ghost use Rattle.devices.specs.Streams.{counted, TakesFront};
 ghost use Rattle.hostd.specs.Sim.{write_fails_in};
 ghost use Rattle.hostd.specs.Recording.{clock_in, clocks_after, no_time, octets_of_record, records_of, frame_out, later, TakesCapture};
 
 use crate::fault::TextFault;
 use crate::output::write_all;
-use crate::streams::Sink;
 use capture::{file_head, record_head};
 use clock::Moment;
+use devices::Sink;
 use wire_sim::{Answer, Event, Happening, Side, World};
 
 /// The clocks of both sides.

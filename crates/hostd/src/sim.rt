@@ -2,7 +2,7 @@
 
 ghost use Rattle.std.specs.Prelude.{◌≡◌, ◌⊎◌, true, false, ◌≤◌, ◌<◌, ◌^◌, length, take, string_bytes, IfOk, IfErr, IfSome, OnOk, OnErr};
 ghost use Rattle.std.specs.Option.{ForSome};
-ghost use Rattle.hostd.specs.Streams.{counted};
+ghost use Rattle.devices.specs.Streams.{counted};
 ghost use Rattle.hostd.specs.Sim.{read_fails, write_fails_in, is_before_run, run_in_all, capture_in_all, first_fault, IsDue, IsFaultDue};
 ghost use Rattle.script.specs.Text.{style_of};
 ghost use Rattle.hostd.specs.Play.{line_of_outcome, Emits, Delivers, Carries, Does, Prints, pass_line, IsPlayed, IsCutShort, IsFirst, limit_line, TakesRun, TakesPrinted, TakesPrintedBy, TakesBoth};
@@ -11,7 +11,7 @@ use crate::fault::TextFault;
 use crate::input::whole_script;
 use crate::output::{add_line, finish, is_write_fault};
 use crate::recording::record;
-use crate::streams::{Sink, Source};
+use devices::{Sink, Source};
 use script::{Action, Command, Script, Style, config, event, show, show_unfair};
 use std::alloc::{AllocError, Global};
 use tcp_segment::Seq;

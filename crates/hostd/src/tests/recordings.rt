@@ -4,8 +4,7 @@ use super::{Device, GOOD};
 use crate::captured;
 use crate::fault::TextFault;
 use crate::sim::{Ends, sim, sim_captured};
-use crate::streams::Sink;
-use crate::streams::memory::{MemorySink, MemorySource};
+use devices::{MemorySink, MemorySource, Sink};
 use std::alloc::Global;
 use std::process::Abort;
 
