@@ -1,0 +1,5 @@
+pub use Rattle.devices.specs.Streams
+pub use Rattle.devices.specs.Passages
+pub mod Steps
+pub mod Fates
+pub mod Datagrams

@@ -1,0 +1,17 @@
+//! A link between two hosts of this process over two UDP sockets of the machine, one for each host. It loses frames and sends frames twice by
+//! their numbers.
+#![tactic(auto)]
+
+mod every;
+mod link;
+mod losses;
+mod peer;
+mod socket;
+#[cfg(test)]
+mod tests;
+
+pub use every::{Every, LEAST_STEP, MOST_STEP};
+pub use link::SocketLink;
+pub use losses::{Fate, Losses};
+pub use peer::{PeerSocket, pair};
+pub use socket::DatagramSocket;
