@@ -1,4 +1,5 @@
 pub mod LineLemmas
+pub mod StepLemmas
 pub mod SimLemmas
 pub mod StreamLemmas
 pub mod PlayLemmas

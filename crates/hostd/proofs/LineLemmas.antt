@@ -6,14 +6,15 @@ use Rattle.std.proofs.lemmas.Slice.Eq.{bytes_eq-Decides}
 use Rattle.std.specs.Box.{box_value}
 use Rattle.clap.specs.Simple.{subcommand_rows}
 use Rattle.clap.specs.declared.parser.matches.ArgMatches.TheViews.{out-SubCommand}
-use Rattle.clap.specs.Words.{App, Row, Text, first_of, subcommand_name_of, subcommand_rows_of, is_simple}
+use Rattle.clap.specs.Words.{App, Row, Text, HasMatchesOf, first_of, subcommand_name_of, subcommand_rows_of, is_simple}
 use Rattle.clap.specs.Faults.{fault_of, is_simple_and_free}
 use Rattle.clap.specs.Kinds.{HasKind}
 use Rattle.clap.specs.declared.error.Error.{Error}
 use Rattle.clap.proofs.OnLiterals.{clap_on_literals}
 use Rattle.clap.specs.declared.parser.matches.ArgMatches.{ArgMatches}
 use Rattle.clap.specs.declared.parser.matches.ArgMatches.TheViews.{out-ArgMatches}
-use Rattle.hostd.specs.Line.{hostd_command, value_of}
+use Rattle.hostd.specs.declared.request.Line.{Line}
+use Rattle.hostd.specs.Line.{hostd_command, value_of, asked_of, asked_in, asked_by}
 
 pub simple : is_simple hostd_command ≡ true
 unfolding clap_on_literals
@@ -70,3 +71,11 @@ none_along a b words same none = let P : App → Type 0 = λ x. fault_of x words
 pub or_false : (b : Bool) → (b || false) ≡ b
 or_false true = refl
 or_false false = refl
+
+-- where nothing is asked by what clap met, the words ask for nothing
+pub asked_nothing : (a : App) (words : List Text) (m : ArgMatches) (line : Option Line) → a ≡ hostd_command → HasMatchesOf a words m
+    → option_map asked_by line ≡ asked_of (subcommand_rows_of m) → line ≡ None → asked_in words ≡ None
+asked_nothing a words m line is has asks none =
+    let P : App → Type 0 = λ x. HasMatchesOf x words m in
+    let met = subst P is has simple in
+    ap asked_of (sym met.1) ∙ sym asks ∙ ap (option_map asked_by) none

@@ -6,3 +6,4 @@ pub mod Play
 pub mod Hex
 pub mod Captured
 pub mod Recording
+pub mod Progress

@@ -5,13 +5,15 @@ ghost use Rattle.clap.specs.declared.builder.command.Command.TheViews.{out-Comma
 ghost use Rattle.clap.specs.Words.{app_of, subcommand_rows_of};
 ghost use Rattle.clap.specs.Faults.{fault_of};
 ghost use Rattle.clap.specs.Kinds.{HasKind};
-ghost use Rattle.hostd.specs.Line.{hostd_command, file_command, with_flag, with_option, value_of, is_set, asked_of, asked_in, asked_by};
+ghost use Rattle.hostd.specs.Line.{hostd_command, sim_command, decode_command, copy_command, file_command, with_file, with_flag, with_option, with_step, value_of, is_set, step_of, step_in, step_by, sim_in, decode_in, copy_in, asked_of, asked_in, asked_by};
 
 use crate::request::Line;
+use clap::builder::ValueParser;
 use clap::error::ErrorKind;
 use clap::{Arg, ArgAction, ArgMatches, Command, Error};
 use std::alloc::{AllocError, Global};
 use std::convert::AsStr;
+use udp_link::{Every, LEAST_STEP, Losses, MOST_STEP};
 
 /// Reads the words of a command line, the program's name first. An error is a usage fault or the help that was asked for,
 /// with clap's text, or its kind is `OutOfMemory`.
@@ -34,6 +36,22 @@ pub fn line<'a, S: AsStr>(alloc: Global, words: &'a [S]) -> Result<Line<'a>, Err
 fn hostd<'a>(alloc: Global) -> Result<Command<'a>, AllocError>
     ensures { IfOk result (λ command. app_of command ≡ hostd_command) }
 {
+    let sim = sim_command(alloc)?;
+    let decode = decode_command(alloc)?;
+    let copy = copy_command(alloc)?;
+    Command::new(alloc, "hostd")
+        .about("Two IPv4 hosts with TCP sockets, joined by a bag of frames or by two UDP sockets")
+        .subcommand_required(true)
+        .subcommand(sim)?
+        .subcommand(decode)?
+        .subcommand(copy)
+}
+
+/// The command that runs a script.
+fn sim_command<'a>(alloc: Global) -> Result<Command<'a>, AllocError>
+    ensures words { IfOk result (λ command. app_of command ≡ sim_command) }
+    ensures local { IfOk result (λ command. (fields_of command).has_globals ≡ false) }
+{
     let sim = file_command(
         alloc,
         "sim",
@@ -41,13 +59,20 @@ fn hostd<'a>(alloc: Global) -> Result<Command<'a>, AllocError>
         "SCRIPT",
         "The file of the script",
     )?;
-    let sim = with_option(
+    with_option(
         alloc,
         sim,
         "pcap",
         "FILE",
         "Writes every frame that goes out to this file, as a capture in libpcap's classic format",
-    )?;
+    )
+}
+
+/// The command that prints what frames say.
+fn decode_command<'a>(alloc: Global) -> Result<Command<'a>, AllocError>
+    ensures words { IfOk result (λ command. app_of command ≡ decode_command) }
+    ensures local { IfOk result (λ command. (fields_of command).has_globals ≡ false) }
+{
     let decode = file_command(
         alloc,
         "decode",
@@ -55,17 +80,45 @@ fn hostd<'a>(alloc: Global) -> Result<Command<'a>, AllocError>
         "FILE",
         "The file of the frame, in hexadecimal digits, or of the capture",
     )?;
-    let decode = with_flag(
+    with_flag(
         alloc,
         decode,
         "pcap",
         "The file is a capture in libpcap's classic format",
+    )
+}
+
+/// The command that copies a file.
+fn copy_command<'a>(alloc: Global) -> Result<Command<'a>, AllocError>
+    ensures words { IfOk result (λ command. app_of command ≡ copy_command) }
+    ensures local { IfOk result (λ command. (fields_of command).has_globals ≡ false) }
+{
+    let copy = file_command(
+        alloc,
+        "copy",
+        "Copies a file over a connection of two hosts, whose frames go over two UDP sockets on 127.0.0.1",
+        "SRC",
+        "The file to copy",
     )?;
-    Command::new(alloc, "hostd")
-        .about("Two IPv4 hosts with TCP sockets, joined by a bag of frames")
-        .subcommand_required(true)
-        .subcommand(sim)?
-        .subcommand(decode)
+    let copy = with_file(alloc, copy, "DST", "The file to write, made anew")?;
+    let copy = with_step(
+        alloc,
+        copy,
+        "lose",
+        "Every N-th frame is lost, from 2 to 1000000",
+    )?;
+    let copy = with_step(
+        alloc,
+        copy,
+        "repeat",
+        "Every N-th frame is sent twice, if it is not lost, from 2 to 1000000",
+    )?;
+    with_flag(
+        alloc,
+        copy,
+        "progress",
+        "Says on standard error how far the copy is while it runs",
+    )
 }
 
 /// A command with one file, which must be given.
@@ -79,8 +132,22 @@ fn file_command<'a>(
     ensures words { IfOk result (λ command. app_of command ≡ file_command name.now file.now) }
     ensures local { IfOk result (λ command. (fields_of command).has_globals ≡ false) }
 {
+    let command = Command::new(alloc, name).about(about);
+    with_file(alloc, command, file, help)
+}
+
+/// A command with a file more, which must be given.
+fn with_file<'a>(
+    alloc: Global,
+    command: Command<'a>,
+    file: &'a str,
+    help: &'a str,
+) -> Result<Command<'a>, AllocError>
+    ensures words { IfOk result (λ more. app_of more ≡ with_file file.now (app_of command.entry)) }
+    ensures local { IfOk result (λ more. (fields_of more).has_globals ≡ (fields_of command.entry).has_globals) }
+{
     let file = Arg::new(alloc, file).required(true).help(help);
-    Command::new(alloc, name).about(about).arg(file)
+    command.arg(file)
 }
 
 /// A command with a flag more, which may be there or not.
@@ -118,19 +185,93 @@ fn with_option<'a>(
     command.arg(option)
 }
 
+/// A command with an option more, which may be there with a number that a step may be, or not.
+fn with_step<'a>(
+    alloc: Global,
+    command: Command<'a>,
+    name: &'a str,
+    help: &'a str,
+) -> Result<Command<'a>, AllocError>
+    ensures words { IfOk result (λ more. app_of more ≡ with_step name.now (app_of command.entry)) }
+    ensures local { IfOk result (λ more. (fields_of more).has_globals ≡ (fields_of command.entry).has_globals) }
+{
+    let option = Arg::new(alloc, name)
+        .long(name)
+        .value_name("N")
+        .value_parser(ValueParser::Unsigned(LEAST_STEP, MOST_STEP))
+        .help(help);
+    command.arg(option)
+}
+
 /// What the command that was met asks for.
 fn asked<'a>(matches: &ArgMatches<'a>) -> Option<Line<'a>>
     ensures { option_map asked_by result ≡ asked_of (subcommand_rows_of matches.now) }
 {
-    if let Some(script) = value_in(matches, "sim", "SCRIPT") {
-        let capture = value_in(matches, "sim", "pcap");
-        return Some(Line::Sim { script, capture });
+    if let Some(line) = asked_of_sim(matches) {
+        return Some(line);
     }
+    if let Some(line) = asked_of_decode(matches) {
+        return Some(line);
+    }
+    asked_of_copy(matches)
+}
+
+/// What is asked of `sim`, where that is the command that was met.
+fn asked_of_sim<'a>(matches: &ArgMatches<'a>) -> Option<Line<'a>>
+    ensures { option_map asked_by result ≡ sim_in (subcommand_rows_of matches.now) }
+{
+    let script = value_in(matches, "sim", "SCRIPT")?;
+    let capture = value_in(matches, "sim", "pcap");
+    Some(Line::Sim { script, capture })
+}
+
+/// What is asked of `decode`, where that is the command that was met.
+fn asked_of_decode<'a>(matches: &ArgMatches<'a>) -> Option<Line<'a>>
+    ensures { option_map asked_by result ≡ decode_in (subcommand_rows_of matches.now) }
+{
     let file = value_in(matches, "decode", "FILE")?;
     if is_set(value_in(matches, "decode", "pcap")) {
         Some(Line::DecodeAll { capture: file })
     } else {
         Some(Line::Decode { hex: file })
+    }
+}
+
+/// What is asked of `copy`, where that is the command that was met.
+fn asked_of_copy<'a>(matches: &ArgMatches<'a>) -> Option<Line<'a>>
+    ensures { option_map asked_by result ≡ copy_in (subcommand_rows_of matches.now) }
+{
+    let source = value_in(matches, "copy", "SRC")?;
+    let destination = value_in(matches, "copy", "DST")?;
+    let lose = step_in(value_in(matches, "copy", "lose"))?;
+    let repeat = step_in(value_in(matches, "copy", "repeat"))?;
+    let progress = is_set(value_in(matches, "copy", "progress"));
+    let losses = Losses { lose, repeat };
+    Some(Line::Copy {
+        source,
+        destination,
+        losses,
+        progress,
+    })
+}
+
+/// Of how many frames one is meant by the value of an option that may be there. None where it is no such number.
+fn step_in(value: Option<&str>) -> Option<Option<Every>>
+    ensures { option_map step_by result ≡ step_in (option_map (λ text. text.now) value.entry) }
+{
+    match value {
+        Some(text) => Some(Some(step_of(text)?)),
+        None => Some(None),
+    }
+}
+
+/// Of how many frames one is meant by a text.
+fn step_of(text: &str) -> Option<Every>
+    ensures { step_by result ≡ step_of text.now }
+{
+    match text.parse::<u64>() {
+        Ok(step) => Every::new(step),
+        Err(_) => None,
     }
 }
 

@@ -1,23 +1,30 @@
 //! `hostd`: runs a script of socket calls, ticks and frames on a world of two hosts, and prints what they answer; or prints what a frame says,
-//! or what the frames of a capture say.
+//! or what the frames of a capture say; or copies a file over two hosts.
 #![tactic(auto)]
 
 mod captured;
+mod copying;
 mod fault;
 mod frame;
 mod input;
 mod line;
 mod output;
+mod progress;
 mod recording;
 mod request;
 mod sim;
 
 use clap::error::ErrorKind;
+use copier::CopyFault;
+use copying::{Broken, Counting, TURNS};
 use devices::{Reading, Writing};
 use fault::TextFault;
+use progress::Progress;
 use request::Line;
+use std::fs::{File, OpenFile};
 use std::process::ExitCode;
 use std::{env, fmt, fs, io};
+use udp_link::{Losses, PeerSocket, SocketLink, pair};
 
 #[cfg(test)]
 mod tests;
@@ -47,6 +54,14 @@ fn run(rt: &HostRuntime, words: &[String]) -> ExitCode {
         Ok(Line::Sim { script, capture }) => run_script(rt, script, capture),
         Ok(Line::Decode { hex }) => print_frame(rt, hex),
         Ok(Line::DecodeAll { capture }) => print_frames(rt, capture),
+        Ok(
+            Line::Copy {
+                source,
+                destination,
+                losses,
+                progress,
+            },
+        ) => copy_file(rt, (source, destination), losses, progress),
         Err(error) if error.kind() == ErrorKind::OutOfMemory => report(rt, TextFault::NoMemory),
         Err(error) => {
             let _ = eprint!(rt; "{error}");
@@ -97,6 +112,55 @@ fn print_frames(rt: &HostRuntime, path: &str) -> ExitCode {
     let mut capture = Reading::new(file);
     let mut out = Writing::new(io::writer(rt));
     ended(rt, captured::decode(rt.alloc(), &mut capture, &mut out))
+}
+
+/// Copies a file to another, which is made anew, over two hosts that two UDP sockets join.
+fn copy_file(rt: &HostRuntime, paths: (&str, &str), losses: Losses, progress: bool) -> ExitCode {
+    let (source, destination) = paths;
+    let Ok(src) = fs::open(rt, source) else {
+        return report(rt, format_args!("cannot open {source}"));
+    };
+    let Ok(dst) = fs::create(rt, destination) else {
+        return report(rt, format_args!("cannot create {destination}"));
+    };
+    let Ok(sockets) = pair(rt) else {
+        return report(rt, CopyFault::Link);
+    };
+    let progress = if progress {
+        let out = Writing::new(rt.stderr());
+        Some(Progress::new(rt.alloc(), out, length(&src)))
+    } else {
+        None
+    };
+    let dst = Counting::new(Writing::new(dst), progress);
+    copy(rt, Reading::new(src), dst, (sockets, losses))
+}
+
+/// How many octets a file has, if it is no pipe or device.
+fn length(file: &File) -> Option<u64> {
+    match file.metadata() {
+        Ok(metadata) if metadata.is_file() => Some(metadata.len()),
+        _ => None,
+    }
+}
+
+/// Copies what a file has to another, and prints how many octets that are.
+fn copy(
+    rt: &HostRuntime,
+    mut src: Reading<File>,
+    mut dst: Counting<Writing<File>, Writing<io::Stderr>>,
+    way: ((PeerSocket, PeerSocket), Losses),
+) -> ExitCode {
+    let ((a, b), losses) = way;
+    let mut link = SocketLink::new(a, b, losses);
+    let outcome = copier::copy(rt.alloc(), &mut src, &mut dst, &mut link, TURNS);
+    dst.end();
+    let written = dst.written();
+    match outcome {
+        Ok(count) if println!(rt; "copied {count} octets").is_ok() => ExitCode::SUCCESS,
+        Ok(_) => report(rt, TextFault::Write),
+        Err(fault) => report(rt, Broken { fault, written }),
+    }
 }
 
 /// The status of a command that ended so, whose fault is printed.

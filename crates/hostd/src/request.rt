@@ -1,5 +1,7 @@
 //! What the user may ask for.
 
+use udp_link::Losses;
+
 /// What a command line asks for.
 #[derive(Clone, Copy, Debug, PartialEq, Eq)]
 pub enum Line<'a> {
@@ -15,5 +17,13 @@ pub enum Line<'a> {
     /// To print what the frames of the capture in this file say.
     DecodeAll {
         capture: &'a str,
+    },
+    /// To copy the first file to the other over two hosts, whose frames are lost and sent twice so, and to say meanwhile how far it is, if so
+    /// asked.
+    Copy {
+        source: &'a str,
+        destination: &'a str,
+        losses: Losses,
+        progress: bool,
     },
 }

@@ -4,6 +4,7 @@ mod backlog;
 mod captures;
 mod closing;
 mod command_line;
+mod copying;
 mod datagrams;
 mod drops;
 mod examples;

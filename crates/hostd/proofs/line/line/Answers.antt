@@ -1,6 +1,6 @@
-use Rattle.std.proofs.Common.{inl, ap, ◌∙◌}
+use Rattle.std.proofs.Common.{inl, inr, ap, ◌∙◌}
 use Rattle.clap.specs.Faults.{is_simple_and_free}
-use Rattle.hostd.proofs.LineLemmas.{simple_and_free, err_passed, kind_along, none_along}
+use Rattle.hostd.proofs.LineLemmas.{simple_and_free, err_passed, kind_along, none_along, asked_nothing}
 use Rattle.hostd.proofs.line.line.Goals as goal
 
 pub returns-in_err-matches-clause-err : goal.returns-in_err-matches-clause-err
@@ -13,3 +13,12 @@ pub returns-in-Some-clause-sound : goal.returns-in-Some-clause-sound
 returns-in-Some-clause-sound g c =
     let is = c.in_ok-hostd.ensures in
     none_along _ _ _ is (c.in_ok-matches.ensures.kinds (ap is_simple_and_free is ∙ simple_and_free))
+
+pub returns-clause-err : goal.returns-clause-err
+returns-clause-err g c =
+    let is = c.in_ok-hostd.ensures in
+    inr (
+      asked_nothing _ _ _ _ is c.in_ok-matches.ensures.ok.2 c.asked.ensures c.in-None.is,
+      none_along _ _ _ is (c.in_ok-matches.ensures.kinds (ap is_simple_and_free is ∙ simple_and_free)),
+      inr (inl c.in_ok-error-in-None.ensures.kind),
+    )
