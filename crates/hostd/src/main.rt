@@ -22,6 +22,7 @@ use fault::TextFault;
 use progress::Progress;
 use request::Line;
 use std::fs::{File, OpenFile};
+use std::os::unix::fs::MetadataExt;
 use std::process::ExitCode;
 use std::{env, fmt, fs, io};
 use udp_link::{Losses, PeerSocket, SocketLink, pair};
@@ -114,12 +115,19 @@ fn print_frames(rt: &HostRuntime, path: &str) -> ExitCode {
     ended(rt, captured::decode(rt.alloc(), &mut capture, &mut out))
 }
 
-/// Copies a file to another, which is made anew, over two hosts that two UDP sockets join.
+/// Copies a file to another, which is made anew, over two hosts that two UDP sockets join. A file is not copied to itself: making it anew would
+/// empty it.
 fn copy_file(rt: &HostRuntime, paths: (&str, &str), losses: Losses, progress: bool) -> ExitCode {
     let (source, destination) = paths;
     let Ok(src) = fs::open(rt, source) else {
         return report(rt, format_args!("cannot open {source}"));
     };
+    if is_same_file(rt, &src, destination) {
+        return report(
+            rt,
+            format_args!("{source} and {destination} are the same file"),
+        );
+    }
     let Ok(dst) = fs::create(rt, destination) else {
         return report(rt, format_args!("cannot create {destination}"));
     };
@@ -134,6 +142,14 @@ fn copy_file(rt: &HostRuntime, paths: (&str, &str), losses: Losses, progress: bo
     };
     let dst = Counting::new(Writing::new(dst), progress);
     copy(rt, Reading::new(src), dst, (sockets, losses))
+}
+
+/// Whether a path leads to the file that is open, under whatever name.
+fn is_same_file(rt: &HostRuntime, open: &File, path: &str) -> bool {
+    match (open.metadata(), fs::metadata(rt, path)) {
+        (Ok(one), Ok(other)) => (one.dev(), one.ino()) == (other.dev(), other.ino()),
+        _ => false,
+    }
 }
 
 /// How many octets a file has, if it is no pipe or device.
