@@ -7,3 +7,4 @@ pub mod RunLemmas
 pub mod HexLemmas
 pub mod CapturedLemmas
 pub mod RecordingLemmas
+pub mod LadderLemmas

@@ -218,7 +218,7 @@ pub no_write_of_memory : (fault : TextFault) → fault ≡ NoMemory → fault �
 no_write_of_memory fault memory is = cc
 
 -- the limit of a script is the one that its lines say
-limit_said_once : (limit : Option ℕ) → limit ≡ slice_get (option_to_list limit) 0
+pub limit_said_once : (limit : Option ℕ) → limit ≡ slice_get (option_to_list limit) 0
 limit_said_once None = refl
 limit_said_once (Some n) = refl
 

@@ -6,4 +6,5 @@ pub mod Play
 pub mod Hex
 pub mod Captured
 pub mod Recording
+pub mod Laddered
 pub mod Progress

@@ -6,6 +6,8 @@ use Rattle.std.specs.Str.Parse.{digits_value, without_leading_plus}
 use Rattle.clap.specs.Words.{App, Row, Text, first_of, new_app, new_rule, with_rule, with_subcommand, subcommand_of}
 use Rattle.clap.specs.ValueTests.{is_unsigned_in}
 use Rattle.clap.specs.declared.builder.action.ArgAction.TheVariants.{SetTrue}
+use Rattle.ladder.specs.declared.numbers.Numbering.{Numbering}
+use Rattle.ladder.specs.declared.numbers.Numbering.TheVariants.{Relative, Absolute}
 use Rattle.clap.specs.declared.builder.value_parser.ValueParser.TheVariants.{Unsigned}
 use Rattle.udp_link.specs.declared.every.Every.{Every}
 use Rattle.udp_link.specs.declared.losses.Losses.{Losses}
@@ -32,9 +34,9 @@ with_option name command = with_rule command (record (new_rule name) { long = So
 abbrev pub with_step : Text → App → App
 with_step name command = with_rule command (record (new_rule name) { long = Some name; value_names = 1; parser = Some (Unsigned 2 1000000) })
 
--- `sim SCRIPT`, and it may have `--pcap FILE`
+-- `sim SCRIPT`, and it may have `--pcap FILE`, `--ladder` and `--absolute`
 abbrev pub sim_command : App
-sim_command = with_option (codes "pcap") (file_command (codes "sim") (codes "SCRIPT"))
+sim_command = with_flag (codes "absolute") (with_flag (codes "ladder") (with_option (codes "pcap") (file_command (codes "sim") (codes "SCRIPT"))))
 
 -- `decode FILE`, or `decode --pcap FILE`
 abbrev pub decode_command : App
@@ -69,11 +71,11 @@ abbrev pub step_in : Option Text → Option (Option ℕ)
 step_in None = Some None
 step_in (Some text) = option_map Some (step_of text)
 
--- what may be asked for: to run the script in a file, and to write a capture of it to another, if one is told; to print what the frame in a file
--- says, or what the frames of the capture in one say; to copy a file to another, where one of so many frames is lost and one of so many is sent
--- twice, and to say meanwhile how far it is
+-- what may be asked for: to run the script in a file, to write a capture of it to another, if one is told, and to print its ladder, if its numbers
+-- are asked for; to print what the frame in a file says, or what the frames of the capture in one say; to copy a file to another, where one of so
+-- many frames is lost and one of so many is sent twice, and to say meanwhile how far it is
 pub data Asked : Type 0 where
-  ToRun : Text → Option Text → Asked
+  ToRun : Text → Option Text → Option Numbering → Asked
   ToDecode : Text → Asked
   ToDecodeAll : Text → Asked
   ToCopy : Text → Text → Option ℕ → Option ℕ → Bool → Asked
@@ -83,9 +85,18 @@ abbrev pub decode_asked : Bool → Text → Asked
 decode_asked true file = ToDecodeAll file
 decode_asked false file = ToDecode file
 
+-- how the numbers of a ladder are told, where one is asked for: by `--ladder` or by `--absolute`
+abbrev pub numbering_asked : Bool → Bool → Option Numbering
+numbering_asked ladder true = Some Absolute
+numbering_asked true false = Some Relative
+numbering_asked false false = None
+
 -- what is asked by each command, where it is the one that was met
 abbrev pub sim_in : Option (Text × List Row) → Option Asked
-sim_in met = option_map (λ script. ToRun script (value_of (codes "sim") (codes "pcap") met)) (value_of (codes "sim") (codes "SCRIPT") met)
+sim_in met =
+    option_map (λ script. ToRun script (value_of (codes "sim") (codes "pcap") met)
+    (numbering_asked (is_set (value_of (codes "sim") (codes "ladder") met)) (is_set (value_of (codes "sim") (codes "absolute") met))))
+    (value_of (codes "sim") (codes "SCRIPT") met)
 
 abbrev pub decode_in : Option (Text × List Row) → Option Asked
 decode_in met = option_map (decode_asked (is_set (value_of (codes "decode") (codes "pcap") met))) (value_of (codes "decode") (codes "FILE") met)
@@ -117,7 +128,7 @@ step_by every = option_map (λ every. every.step) every
 
 -- what a line asks for
 abbrev pub asked_by : Line → Asked
-asked_by (Sim script capture) = ToRun script.now (option_map (λ file. file.now) capture)
+asked_by (Sim script capture ladder) = ToRun script.now (option_map (λ file. file.now) capture) ladder
 asked_by (Decode hex) = ToDecode hex.now
 asked_by (DecodeAll capture) = ToDecodeAll capture.now
 asked_by (Copy source destination losses progress) = ToCopy source.now destination.now (step_by losses.lose) (step_by losses.repeat) progress

@@ -64,8 +64,11 @@ Carries side isn count old new =
     (frames : List ℕ) × (w : WorldView) × (count ≡ length frames) × Emits side frames old w × Delivers (other_side side) isn frames w new
 
 -- the line that says how many frames went from a to b, and how many from b to a
+abbrev pub pass_text : ℕ → ℕ → List ℕ
+pass_text from_a from_b = codes "a " ++ decimal from_a ++ codes " b " ++ decimal from_b
+
 abbrev pub pass_line : ℕ → ℕ → List ℕ
-pass_line from_a from_b = codes "a " ++ decimal from_a ++ codes " b " ++ decimal from_b ++ codes "\n"
+pass_line from_a from_b = pass_text from_a from_b ++ codes "\n"
 
 -- what a command does: its event has an outcome, or it carries frames of a and then of b
 abbrev pub Does : Command → WorldView → WorldView → Type 0

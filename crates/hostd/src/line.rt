@@ -5,12 +5,13 @@ ghost use Rattle.clap.specs.declared.builder.command.Command.TheViews.{out-Comma
 ghost use Rattle.clap.specs.Words.{app_of, subcommand_rows_of};
 ghost use Rattle.clap.specs.Faults.{fault_of};
 ghost use Rattle.clap.specs.Kinds.{HasKind};
-ghost use Rattle.hostd.specs.Line.{hostd_command, sim_command, decode_command, copy_command, file_command, with_file, with_flag, with_option, with_step, value_of, is_set, step_of, step_in, step_by, sim_in, decode_in, copy_in, asked_of, asked_in, asked_by};
+ghost use Rattle.hostd.specs.Line.{hostd_command, sim_command, decode_command, copy_command, file_command, with_file, with_flag, with_option, with_step, value_of, is_set, numbering_asked, step_of, step_in, step_by, sim_in, decode_in, copy_in, asked_of, asked_in, asked_by};
 
 use crate::request::Line;
 use clap::builder::ValueParser;
 use clap::error::ErrorKind;
 use clap::{Arg, ArgAction, ArgMatches, Command, Error};
+use ladder::Numbering;
 use std::alloc::{AllocError, Global};
 use std::convert::AsStr;
 use udp_link::{Every, LEAST_STEP, Losses, MOST_STEP};
@@ -59,12 +60,24 @@ fn sim_command<'a>(alloc: Global) -> Result<Command<'a>, AllocError>
         "SCRIPT",
         "The file of the script",
     )?;
-    with_option(
+    let sim = with_option(
         alloc,
         sim,
         "pcap",
         "FILE",
         "Writes every frame that goes out to this file, as a capture in libpcap's classic format",
+    )?;
+    let sim = with_flag(
+        alloc,
+        sim,
+        "ladder",
+        "Prints the script's lines, too, and between them what happens to each frame",
+    )?;
+    with_flag(
+        alloc,
+        sim,
+        "absolute",
+        "Prints the ladder with sequence numbers as they are, and not relative to the initial ones",
     )
 }
 
@@ -222,7 +235,15 @@ fn asked_of_sim<'a>(matches: &ArgMatches<'a>) -> Option<Line<'a>>
 {
     let script = value_in(matches, "sim", "SCRIPT")?;
     let capture = value_in(matches, "sim", "pcap");
-    Some(Line::Sim { script, capture })
+    let ladder = numbering(
+        is_set(value_in(matches, "sim", "ladder")),
+        is_set(value_in(matches, "sim", "absolute")),
+    );
+    Some(Line::Sim {
+        script,
+        capture,
+        ladder,
+    })
 }
 
 /// What is asked of `decode`, where that is the command that was met.
@@ -289,5 +310,16 @@ fn is_set(value: Option<&str>) -> bool
     match value {
         Some(text) => text == "true",
         None => false,
+    }
+}
+
+/// How the numbers of a ladder are told, where one is asked for: by either flag.
+fn numbering(has_ladder: bool, is_absolute: bool) -> Option<Numbering>
+    ensures { result ≡ numbering_asked has_ladder is_absolute }
+{
+    match (has_ladder, is_absolute) {
+        (_, true) => Some(Numbering::Absolute),
+        (true, false) => Some(Numbering::Relative),
+        (false, false) => None,
     }
 }

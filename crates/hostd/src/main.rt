@@ -7,6 +7,7 @@ mod copying;
 mod fault;
 mod frame;
 mod input;
+mod laddered;
 mod line;
 mod output;
 mod progress;
@@ -17,10 +18,13 @@ mod sim;
 use clap::error::ErrorKind;
 use copier::CopyFault;
 use copying::{Broken, Counting, TURNS};
-use devices::{Reading, Writing};
+use devices::{Reading, Sink, Source, Writing};
 use fault::TextFault;
+use ladder::Numbering;
 use progress::Progress;
 use request::Line;
+use sim::Ends;
+use std::alloc::Global;
 use std::fs::{File, OpenFile};
 use std::os::unix::fs::MetadataExt;
 use std::process::ExitCode;
@@ -52,7 +56,13 @@ fn words(rt: &HostRuntime) -> io::Result<Vec<String>> {
 /// Does what the words of the command line ask for.
 fn run(rt: &HostRuntime, words: &[String]) -> ExitCode {
     match line::line(rt.alloc(), words) {
-        Ok(Line::Sim { script, capture }) => run_script(rt, script, capture),
+        Ok(
+            Line::Sim {
+                script,
+                capture,
+                ladder,
+            },
+        ) => run_script(rt, script, capture, ladder),
         Ok(Line::Decode { hex }) => print_frame(rt, hex),
         Ok(Line::DecodeAll { capture }) => print_frames(rt, capture),
         Ok(
@@ -71,23 +81,56 @@ fn run(rt: &HostRuntime, words: &[String]) -> ExitCode {
     }
 }
 
-/// Runs the script in a file and prints what it prints, and writes a capture of its frames to another file, if one is told.
-fn run_script(rt: &HostRuntime, path: &str, capture: Option<&str>) -> ExitCode {
+/// Runs the script in a file and prints what it prints, or the ladder of its run if its numbers are asked for, and writes a capture of its frames to
+/// another file, if one is told.
+fn run_script(
+    rt: &HostRuntime,
+    path: &str,
+    capture: Option<&str>,
+    ladder: Option<Numbering>,
+) -> ExitCode {
     let Ok(file) = fs::open(rt, path) else {
         return report(rt, format_args!("cannot open {path}"));
     };
     let mut script = Reading::new(file);
     let mut out = Writing::new(io::writer(rt));
     let Some(capture) = capture else {
-        return ended(rt, sim::sim(rt.alloc(), &mut script, &mut out));
+        return ended(rt, played(rt.alloc(), &mut script, ladder, &mut out));
     };
     let Ok(file) = fs::create(rt, capture) else {
         return report(rt, TextFault::Write);
     };
     let mut capture = Writing::new(file);
-    match sim::sim_captured(rt.alloc(), &mut script, &mut out, &mut capture) {
+    match captured_too(rt.alloc(), &mut script, ladder, &mut out, &mut capture) {
         Ok(ends) => ended(rt, ends.whole()),
         Err(fault) => report(rt, fault),
+    }
+}
+
+/// Runs a script and prints what it prints, or its ladder.
+fn played<R: Source, W: Sink>(
+    alloc: Global,
+    script: &mut R,
+    ladder: Option<Numbering>,
+    out: &mut W,
+) -> Result<(), TextFault> {
+    match ladder {
+        Some(numbering) => laddered::sim_ladder(alloc, script, numbering, out),
+        None => sim::sim(alloc, script, out),
+    }
+}
+
+/// The same, and writes a capture of its frames.
+fn captured_too<R: Source, W: Sink, C: Sink>(
+    alloc: Global,
+    script: &mut R,
+    ladder: Option<Numbering>,
+    out: &mut W,
+    capture: &mut C,
+) -> Result<Ends, TextFault> {
+    match ladder {
+        Some(numbering) => { laddered::sim_ladder_captured(alloc, script, numbering, out, capture) }
+        None => sim::sim_captured(alloc, script, out, capture),
     }
 }
 

@@ -1,14 +1,17 @@
 //! What the user may ask for.
 
+use ladder::Numbering;
 use udp_link::Losses;
 
 /// What a command line asks for.
 #[derive(Clone, Copy, Debug, PartialEq, Eq)]
 pub enum Line<'a> {
-    /// To run the script in this file, and to write a capture of its frames to the other, if one is told.
+    /// To run the script in this file, to write a capture of its frames to the other, if one is told, and to print the ladder of the run, if its
+    /// numbers are asked for.
     Sim {
         script: &'a str,
         capture: Option<&'a str>,
+        ladder: Option<Numbering>,
     },
     /// To print what the frame in this file says.
     Decode {

@@ -5,7 +5,7 @@ ghost use Rattle.std.specs.Option.{ForSome};
 ghost use Rattle.devices.specs.Streams.{counted};
 ghost use Rattle.hostd.specs.Sim.{read_fails, write_fails_in, is_before_run, run_in_all, capture_in_all, first_fault, IsDue, IsFaultDue};
 ghost use Rattle.script.specs.Text.{style_of};
-ghost use Rattle.hostd.specs.Play.{line_of_outcome, Emits, Delivers, Carries, Does, Prints, pass_line, IsPlayed, IsCutShort, IsFirst, limit_line, TakesRun, TakesPrinted, TakesPrintedBy, TakesBoth};
+ghost use Rattle.hostd.specs.Play.{text_of_outcome, line_of_outcome, Emits, Delivers, Carries, Does, Prints, pass_text, pass_line, IsPlayed, IsCutShort, IsFirst, limit_line, TakesRun, TakesPrinted, TakesPrintedBy, TakesBoth};
 
 use crate::fault::TextFault;
 use crate::input::whole_script;
@@ -18,7 +18,7 @@ use tcp_segment::Seq;
 use wire_sim::{Answer, Event, Side, Unfair, World};
 
 /// The most frames of one side that a `pass` moves.
-const MOST_FRAMES: usize = 64;
+pub(crate) const MOST_FRAMES: usize = 64;
 
 /// Reads the whole script, then runs it and prints a line for each command. `Line` or `TooLong` where the script is bad,
 /// and then nothing is run; `Read` or `Write` where a device fails; `NoMemory` for want of memory. What was printed before
@@ -200,10 +200,22 @@ fn pass(alloc: Global, isn: Seq, world: &mut World) -> Result<String, AllocError
 fn line_of_pass(alloc: Global, from_a: usize, from_b: usize) -> Result<String, AllocError>
     ensures { IfOk result (λ line. string_bytes line ≡ pass_line from_a from_b) }
 {
-    let mut line = String::new(alloc);
-    write!(line, "a {from_a} b {from_b}")?;
+    let mut line = text_of_pass(alloc, from_a, from_b)?;
     line.push('\n')?;
     Ok(line)
+}
+
+/// What is printed of a pass, without the end of the line.
+pub(crate) fn text_of_pass(
+    alloc: Global,
+    from_a: usize,
+    from_b: usize,
+) -> Result<String, AllocError>
+    ensures { IfOk result (λ text. string_bytes text ≡ pass_text from_a from_b) }
+{
+    let mut text = String::new(alloc);
+    write!(text, "a {from_a} b {from_b}")?;
+    Ok(text)
 }
 
 /// The line that shows an outcome.
@@ -214,17 +226,29 @@ fn line_of(
 ) -> Result<String, AllocError>
     ensures { IfOk result (λ line. string_bytes line ≡ line_of_outcome style outcome.now) }
 {
-    let mut line = String::new(alloc);
-    match outcome {
-        Ok(answer) => show(answer, style, &mut line)?,
-        Err(unfair) => show_unfair(*unfair, &mut line)?,
-    }
+    let mut line = text_of(alloc, outcome, style)?;
     line.push('\n')?;
     Ok(line)
 }
 
+/// What is printed of an outcome, without the end of the line.
+pub(crate) fn text_of(
+    alloc: Global,
+    outcome: &Result<Answer, Unfair>,
+    style: Style,
+) -> Result<String, AllocError>
+    ensures { IfOk result (λ text. string_bytes text ≡ text_of_outcome style outcome.now) }
+{
+    let mut text = String::new(alloc);
+    match outcome {
+        Ok(answer) => show(answer, style, &mut text)?,
+        Err(unfair) => show_unfair(*unfair, &mut text)?,
+    }
+    Ok(text)
+}
+
 /// How the octets that an action reads are printed.
-fn style(action: &Action<'_>) -> Style
+pub(crate) fn style(action: &Action<'_>) -> Style
     ensures { result ≡ style_of action.now }
 {
     match action {
@@ -247,7 +271,7 @@ fn carry(world: &mut World, from: Side, isn: Seq) -> usize
 
 /// One side emits until it has no frame, or was asked 64 times. A refusal is passed over. The indices of its frames go to
 /// the front of `frames`, and it answers how many there are.
-fn emit(world: &mut World, from: Side, frames: &mut [usize; MOST_FRAMES]) -> usize
+pub(crate) fn emit(world: &mut World, from: Side, frames: &mut [usize; MOST_FRAMES]) -> usize
     ensures few { result ≤ MOST_FRAMES }
     ensures emitted { Emits from (take result frames.new) world.old.seen world.new.seen }
 {

@@ -10,6 +10,7 @@ mod drops;
 mod examples;
 mod failures;
 mod hops;
+mod ladders;
 mod lines;
 mod losses;
 mod recordings;

@@ -21,7 +21,7 @@ pub fn address(side: Side) -> Addr
 }
 
 /// The MAC of a side's host.
-fn mac(side: Side) -> Mac
+pub fn mac(side: Side) -> Mac
     ensures { result ≡ mac_of side }
 {
     match side {

@@ -13,5 +13,6 @@ pub use action::Action;
 pub use answer::{Style, show, show_unfair};
 pub use events::event;
 pub use fault::ScriptFault;
-pub use hosts::{address, config};
-pub use lines::{Command, Script};
+pub use hosts::{address, config, mac};
+pub use lines::{Command, Item, Script};
+pub use words::split_lines;

@@ -7,7 +7,7 @@ ghost use Rattle.script.specs.Words.{is_ascii_line, lines_of};
 
 use crate::action::{Action, initial};
 use crate::fault::ScriptFault;
-use crate::words::{is_ascii, number, split};
+use crate::words::{is_ascii, number, split, split_lines};
 use std::alloc::{AllocError, Global};
 use tcp_segment::Seq;
 use wire_sim::Side;
@@ -140,7 +140,7 @@ impl<'a> Script<'a> {
         ensures bad { IfErr result (λ fault. (fault ≡ ScriptFault.NoMemory)
             ⊎ IsSomeAnd (first_bad_line octets.entry.now) (λ n. fault ≡ ScriptFault.Line n)) }
     {
-        let lines = split(alloc, octets, b'\n')?;
+        let lines = split_lines(alloc, octets)?;
         let mut script = Script {
             limit: None,
             commands: Vec::new(alloc),

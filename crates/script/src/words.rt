@@ -5,7 +5,7 @@ ghost use Rattle.std.specs.List.{slice_split, list_all};
 ghost use Rattle.std.specs.Option.{SomeIff};
 ghost use Rattle.std.specs.Char.{is_ascii_digit, is_ascii_graphic};
 ghost use Rattle.std.specs.Str.Parse.{digits_value};
-ghost use Rattle.script.specs.Words.{number_of, text_of, is_ascii_line};
+ghost use Rattle.script.specs.Words.{number_of, text_of, is_ascii_line, lines_of};
 
 use std::alloc::{AllocError, Global};
 use std::marker::Model;
@@ -47,6 +47,13 @@ fn all_graphic(word: &[u8]) -> bool
     ensures { result ≡ list_all is_ascii_graphic word.now }
 {
     word.iter().all(|octet| octet.is_ascii_graphic())
+}
+
+/// The lines of a script: what stands before, between and after its newlines. An error is want of memory.
+pub fn split_lines(alloc: Global, octets: &[u8]) -> Result<Vec<&[u8]>, AllocError>
+    ensures { IfOk result (λ lines. map (λ line. line.now) lines.items ≡ lines_of octets.now) }
+{
+    split(alloc, octets, b'\n')
 }
 
 /// What stands before, between and after the octets of `octets` that are `separator`.

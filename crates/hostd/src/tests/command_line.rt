@@ -3,16 +3,18 @@
 use crate::line::line;
 use crate::request::Line;
 use clap::error::ErrorKind;
+use ladder::Numbering;
 use udp_link::{Every, Losses};
 
 #[test]
 fn words_ask_for_a_command_or_are_refused(rt: HostRuntime) {
-    let rows: [(&[&str], Result<Line<'_>, ErrorKind>); 18] = [
+    let rows: [(&[&str], Result<Line<'_>, ErrorKind>); 23] = [
         (
             &["hostd", "sim", "first.txt"],
             Ok(Line::Sim {
                 script: "first.txt",
                 capture: None,
+                ladder: None,
             }),
         ),
         (
@@ -20,6 +22,7 @@ fn words_ask_for_a_command_or_are_refused(rt: HostRuntime) {
             Ok(Line::Sim {
                 script: "first.txt",
                 capture: Some("run.pcap"),
+                ladder: None,
             }),
         ),
         (
@@ -27,6 +30,46 @@ fn words_ask_for_a_command_or_are_refused(rt: HostRuntime) {
             Ok(Line::Sim {
                 script: "first.txt",
                 capture: Some("run.pcap"),
+                ladder: None,
+            }),
+        ),
+        (
+            &["hostd", "sim", "first.txt", "--ladder"],
+            Ok(Line::Sim {
+                script: "first.txt",
+                capture: None,
+                ladder: Some(Numbering::Relative),
+            }),
+        ),
+        (
+            &["hostd", "sim", "--ladder", "first.txt", "--absolute"],
+            Ok(Line::Sim {
+                script: "first.txt",
+                capture: None,
+                ladder: Some(Numbering::Absolute),
+            }),
+        ),
+        (
+            &["hostd", "sim", "first.txt", "--absolute"],
+            Ok(Line::Sim {
+                script: "first.txt",
+                capture: None,
+                ladder: Some(Numbering::Absolute),
+            }),
+        ),
+        (
+            &[
+                "hostd",
+                "sim",
+                "--ladder",
+                "first.txt",
+                "--pcap",
+                "run.pcap",
+            ],
+            Ok(Line::Sim {
+                script: "first.txt",
+                capture: Some("run.pcap"),
+                ladder: Some(Numbering::Relative),
             }),
         ),
         (
@@ -70,6 +113,10 @@ fn words_ask_for_a_command_or_are_refused(rt: HostRuntime) {
         (
             &["hostd", "sim", "first.txt", "--pcap"],
             Err(ErrorKind::InvalidValue),
+        ),
+        (
+            &["hostd", "decode", "syn.hex", "--ladder"],
+            Err(ErrorKind::UnknownArgument),
         ),
         (&["hostd", "--help"], Err(ErrorKind::DisplayHelp)),
         (&["hostd", "sim", "--help"], Err(ErrorKind::DisplayHelp)),
