@@ -1,5 +1,5 @@
 -- The initial number of a direction, SYN by SYN.
-use Rattle.std.proofs.Common.{◌≡◌, ◌+◌, ◌<◌, ◌≤◌, List, ℕ, Option, Some, None, length, drop, get_or, refl, sym, ap, ◌∙◌}
+use Rattle.std.proofs.Common.{◌≡◌, ◌+◌, ◌<◌, ◌≤◌, List, ℕ, Option, Some, None, length, drop, get_or, refl, ap, ◌∙◌}
 use Rattle.std.proofs.lemmas.List.{drop_more, drop_all}
 use Rattle.tcp_segment.specs.declared.seq.Seq.{Seq}
 use Rattle.ladder.specs.declared.numbers.Direction.{Direction}

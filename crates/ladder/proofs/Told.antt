@@ -1,12 +1,11 @@
 -- The ladder of a run, thing by thing.
 use Rattle.std.proofs.Common.{◌≡◌, ◌++◌, ◌+◌, ◌<◌, ◌≤◌, ◌||◌, Bool, true, false, List, ℕ, [], ◌∷◌, length, map, take, drop, get_or, refl, sym, ap, ap₂, ◌∙◌, append_assoc, append-nil}
-use Rattle.std.proofs.lemmas.List.{drop_more, drop_all, take_more, take_all}
+use Rattle.std.proofs.lemmas.List.{drop_more, drop_all, take_more}
 use Rattle.std.proofs.lemmas.List.Folds.{list_any-append}
 use Rattle.std.proofs.lemmas.Grind.{flat_map-append}
-use Rattle.std.specs.List.{flat_map, list_any}
+use Rattle.std.specs.List.{flat_map}
 use Rattle.ladder.specs.declared.numbers.Syn.{Syn}
 use Rattle.ladder.specs.declared.passage.Passage.{Passage}
-use Rattle.ladder.specs.declared.passage.Passage.TheVariants.{Sent, Brought}
 use Rattle.ladder.specs.declared.happened.Happened.{Happened}
 use Rattle.ladder.specs.declared.happened.Happened.TheVariants.{Said, Passed, Printed}
 use Rattle.ladder.specs.Passages.{number_of}

@@ -1,13 +1,12 @@
 -- The width of a ladder's lines, and the numbers in them.
-use Rattle.std.proofs.Common.{◌≡◌, ◌++◌, ◌+◌, ◌-◌, ◌%◌, ◌^◌, ◌<◌, ◌≤◌, ℕ, Bool, true, false, List, codes, length, take, get_or, [], ◌∷◌, nat_le, ap, refl, sym, subst, arith, if◌then◌else◌, Some}
+use Rattle.std.proofs.Common.{◌≡◌, ◌++◌, ◌^◌, ◌<◌, ◌≤◌, ℕ, Bool, true, false, List, codes, length, take, get_or, [], ◌∷◌, nat_le, ap, refl, arith, if◌then◌else◌}
 use Rattle.std.proofs.lemmas.List.{length-take-le, length-append}
 use Rattle.std.proofs.lemmas.List.Elements.{All-map}
 use Rattle.std.proofs.lemmas.Bool.{leb-true, leb-false}
-use Rattle.std.specs.List.{All}
 use Rattle.std.specs.Fmt.{decimal}
 use Rattle.tcp_segment.specs.declared.seq.Seq.{Seq}
 use Rattle.tcp_segment.specs.Wire.{past, wire}
-use Rattle.ladder.specs.Ladder.{RunView, EveryLineFits, fitted, ladder_lines, lines_from, names_line}
+use Rattle.ladder.specs.Ladder.{EveryLineFits, fitted, lines_from, names_line}
 
 width-by : (short : Bool) (line : List ℕ) → (short ≡ true → length line ≤ 80) → (short ≡ false → 80 < length line) →
     length (if short then line else take 78 line ++ codes "..") ≤ 80

@@ -1,4 +1,4 @@
-use Rattle.std.proofs.Common.{sym, ◌≤◌, length, arith}
+use Rattle.std.proofs.Common.{sym, arith}
 use Rattle.std.proofs.lemmas.List.{length-take-le}
 use Rattle.ladder.proofs.record.push_line.Goals as goal
 
