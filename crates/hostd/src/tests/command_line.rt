@@ -145,51 +145,74 @@ fn copy(lose: u64, repeat: u64, progress: bool) -> Line<'static> {
 #[test]
 fn words_ask_for_a_copy_or_are_refused(rt: HostRuntime) {
     let rows: [(&[&str], Result<Line<'_>, ErrorKind>); 16] = [
-        (&["one", "two"], Ok(copy(0, 0, false))),
-        (&["one", "two", "--lose", "7"], Ok(copy(7, 0, false))),
+        (&["hostd", "copy", "one", "two"], Ok(copy(0, 0, false))),
         (
-            &["--repeat", "5", "one", "--lose=7", "two"],
+            &["hostd", "copy", "one", "two", "--lose", "7"],
+            Ok(copy(7, 0, false)),
+        ),
+        (
+            &["hostd", "copy", "--repeat", "5", "one", "--lose=7", "two"],
             Ok(copy(7, 5, false)),
         ),
-        (&["--progress", "one", "two"], Ok(copy(0, 0, true))),
-        (&["one", "two", "--lose", "2"], Ok(copy(2, 0, false))),
         (
-            &["one", "two", "--repeat", "1000000"],
+            &["hostd", "copy", "--progress", "one", "two"],
+            Ok(copy(0, 0, true)),
+        ),
+        (
+            &["hostd", "copy", "one", "two", "--lose", "2"],
+            Ok(copy(2, 0, false)),
+        ),
+        (
+            &["hostd", "copy", "one", "two", "--repeat", "1000000"],
             Ok(copy(0, 1_000_000, false)),
         ),
         (
-            &["one", "two", "--lose", "1"],
+            &["hostd", "copy", "one", "two", "--lose", "1"],
             Err(ErrorKind::ValueValidation),
         ),
         (
-            &["one", "two", "--repeat", "1"],
+            &["hostd", "copy", "one", "two", "--repeat", "1"],
             Err(ErrorKind::ValueValidation),
         ),
         (
-            &["one", "two", "--lose", "0"],
+            &["hostd", "copy", "one", "two", "--lose", "0"],
             Err(ErrorKind::ValueValidation),
         ),
         (
-            &["one", "two", "--lose", "1000001"],
+            &["hostd", "copy", "one", "two", "--lose", "1000001"],
             Err(ErrorKind::ValueValidation),
         ),
         (
-            &["one", "two", "--lose", "seven"],
+            &["hostd", "copy", "one", "two", "--lose", "seven"],
             Err(ErrorKind::ValueValidation),
         ),
         (
-            &["one", "two", "--lose", "18446744073709551618"],
+            &[
+                "hostd",
+                "copy",
+                "one",
+                "two",
+                "--lose",
+                "18446744073709551618",
+            ],
             Err(ErrorKind::ValueValidation),
         ),
-        (&["one"], Err(ErrorKind::MissingRequiredArgument)),
-        (&["one", "two", "three"], Err(ErrorKind::UnknownArgument)),
-        (&["one", "two", "--lose"], Err(ErrorKind::InvalidValue)),
-        (&["--help"], Err(ErrorKind::DisplayHelp)),
+        (
+            &["hostd", "copy", "one"],
+            Err(ErrorKind::MissingRequiredArgument),
+        ),
+        (
+            &["hostd", "copy", "one", "two", "three"],
+            Err(ErrorKind::UnknownArgument),
+        ),
+        (
+            &["hostd", "copy", "one", "two", "--lose"],
+            Err(ErrorKind::InvalidValue),
+        ),
+        (&["hostd", "copy", "--help"], Err(ErrorKind::DisplayHelp)),
     ];
     for (words, want) in rows {
-        let mut all = ["hostd", "copy", "", "", "", "", "", ""];
-        all[2..2 + words.len()].copy_from_slice(words);
-        let asked = line(rt.alloc(), &all[..2 + words.len()]).map_err(|error| error.kind());
+        let asked = line(rt.alloc(), words).map_err(|error| error.kind());
         assert_eq!(rt; asked, want, "{words:?}");
     }
 }
