@@ -2,6 +2,7 @@
 
 ghost use Rattle.std.specs.Prelude.{◌≡◌, ◌≤◌, ◌+◌, ◌<◌, ◌^◌, false, [], length, take, min, None, Some, Ok, is_some, IfOk, IfErr, OnOk, OnErr, IfSome, IfNone};
 ghost use Rattle.devices.specs.Streams.{counted};
+ghost use Rattle.devices.specs.Time.{IsToldTime};
 ghost use Rattle.copier.specs.Faults.{link_fails, IsOfHosts};
 ghost use Rattle.copier.specs.Moves.{copy_of, GoesOn, Emits, Hears, Writes, Closes, Reads, GivesFront, KeepsTold, Carries};
 ghost use Rattle.copy_law.specs.Course.{IsCourse, holds_pair_of, MakesSocket, Listens, Connects, clock_after};
@@ -97,6 +98,7 @@ impl Ends {
         ensures bound { IfSome result (λ len. len ≤ 1514) }
         ensures emits { IfSome result (λ len. Emits from (take len frame.new) self.old self.new) }
         ensures none { IfNone result (self.new ≡ self.old) }
+        ensures clock { self.new.clock ≡ self.old.clock }
     {
         match from {
             Side::A => self.emit_at_a(frame),
@@ -109,6 +111,7 @@ impl Ends {
         ensures bound { IfSome result (λ len. len ≤ 1514) }
         ensures emits { IfSome result (λ len. Emits Side.A (take len frame.new) self.old self.new) }
         ensures none { IfNone result (self.new ≡ self.old) }
+        ensures clock { self.new.clock ≡ self.old.clock }
     {
         self.sound();
         let len = self.a.next_frame(self.clock, frame)?;
@@ -121,6 +124,7 @@ impl Ends {
         ensures bound { IfSome result (λ len. len ≤ 1514) }
         ensures emits { IfSome result (λ len. Emits Side.B (take len frame.new) self.old self.new) }
         ensures none { IfNone result (self.new ≡ self.old) }
+        ensures clock { self.new.clock ≡ self.old.clock }
     {
         self.sound();
         let len = self.b.next_frame(self.clock, frame)?;
@@ -173,9 +177,12 @@ impl Ends {
 
     /// Hands a frame of a side's host to the link, and answers whether there was one.
     fn hand_over<L: Link>(&mut self, from: Side, link: &mut L) -> Result<bool, CopyFault>
+        requires { IsToldTime (L.clock link.old) self.old.clock }
+        ensures time { IsToldTime (L.clock link.new) self.new.clock }
         ensures failed { L.failures link.new ≡ counted (link_fails result) (L.failures link.old) }
         ensures fault { IfErr result (λ fault. fault ≡ CopyFault.Link) }
         ensures told { KeepsTold (L.told link.old) (L.told link.new) }
+        ensures leads { L.leads_to link.old link.new }
         ensures carries { OnOk result (Carries (L.told link.old) (L.told link.new) self.old self.new) }
     {
         let mut frame = [0; MOST_FRAME];
@@ -193,6 +200,7 @@ impl Ends {
         ensures failed { L.failures link.new ≡ counted (link_fails result) (L.failures link.old) }
         ensures fault { IfErr result (λ fault. fault ≡ CopyFault.Link) }
         ensures told { KeepsTold (L.told link.old) (L.told link.new) }
+        ensures leads { L.leads_to link.old link.new }
         ensures carries { OnOk result (Carries (L.told link.old) (L.told link.new) self.old self.new) }
     {
         let mut frame = [0; MOST_FRAME];
@@ -208,9 +216,12 @@ impl Ends {
 
     /// Hands the frames of a side's host to the link, at most 64, and answers whether there were any.
     fn hand_over_all<L: Link>(&mut self, from: Side, link: &mut L) -> Result<bool, CopyFault>
+        requires { IsToldTime (L.clock link.old) self.old.clock }
+        ensures time { IsToldTime (L.clock link.new) self.new.clock }
         ensures failed { L.failures link.new ≡ counted (link_fails result) (L.failures link.old) }
         ensures fault { IfErr result (λ fault. fault ≡ CopyFault.Link) }
         ensures told { KeepsTold (L.told link.old) (L.told link.new) }
+        ensures leads { L.leads_to link.old link.new }
         ensures carries { OnOk result (Carries (L.told link.old) (L.told link.new) self.old self.new) }
     {
         let mut moved = false;
@@ -228,6 +239,7 @@ impl Ends {
         ensures failed { L.failures link.new ≡ counted (link_fails result) (L.failures link.old) }
         ensures fault { IfErr result (λ fault. fault ≡ CopyFault.Link) }
         ensures told { KeepsTold (L.told link.old) (L.told link.new) }
+        ensures leads { L.leads_to link.old link.new }
         ensures carries { OnOk result (Carries (L.told link.old) (L.told link.new) self.old self.new) }
     {
         let mut moved = false;
@@ -240,13 +252,15 @@ impl Ends {
         Ok(moved)
     }
 
-    /// Frames of a, then of b, go into the link, and then out of it to b and to a. Answers whether any moved.
+    /// The link hears which moment it is; frames of a, then of b, go into it, and then out of it to b and to a. Answers whether any moved.
     pub(crate) fn carry<L: Link>(&mut self, link: &mut L) -> Result<bool, CopyFault>
         ensures failed { L.failures link.new ≡ counted (link_fails result) (L.failures link.old) }
         ensures fault { IfErr result (λ fault. fault ≡ CopyFault.Link) }
         ensures told { KeepsTold (L.told link.old) (L.told link.new) }
+        ensures leads { L.leads_to link.old link.new }
         ensures carries { OnOk result (Carries (L.told link.old) (L.told link.new) self.old self.new) }
     {
+        link.tick(self.clock);
         let from_a = self.hand_over_all(Side::A, link)?;
         let from_b = self.hand_over_all(Side::B, link)?;
         let to_b = self.take_in_all(Side::B, link)?;

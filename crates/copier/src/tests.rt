@@ -41,6 +41,7 @@ fn copies(rt: &impl Abort, alloc: Global, len: usize, treatments: &[Treatment]) 
     let copied = copy(alloc, &mut src, &mut dst, &mut link, TURNS);
     assert_eq!(rt; copied, Ok(len as u64));
     assert_eq!(rt; dst.taken(), octets.as_slice());
+    assert!(rt; dst.is_flushed());
     assert_eq!(rt;
         (src.failures(), dst.failures(), link.failures()),
         (0, 0, 0)

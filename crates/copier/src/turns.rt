@@ -1,12 +1,12 @@
 //! The copy itself.
 
-ghost use Rattle.std.specs.Prelude.{◌≡◌, ◌+◌, ◌≤◌, ◌<◌, [], false, length, Some, IfOk, IfErr, OnOk, OnErr};
-ghost use Rattle.std.specs.Io.KnownBytes.{Appends};
+ghost use Rattle.std.specs.Prelude.{◌≡◌, ◌+◌, ◌≤◌, ◌<◌, [], true, false, length, Some, is_some, IfOk, IfErr, OnOk, OnErr};
+ghost use Rattle.std.specs.Io.KnownBytes.{Appends, Keeps};
 ghost use Rattle.devices.specs.Streams.{counted, TakesFront};
 ghost use Rattle.copier.specs.Faults.{read_fails, write_fails, link_fails, IsOfHosts, IsOfSink};
 ghost use Rattle.copier.specs.Moves.{copy_of, KeepsTold};
 ghost use Rattle.copier.specs.Feeding.{pending};
-ghost use Rattle.copier.specs.Copying.{Copies, Turns, DrainsTo, LeavesDrained};
+ghost use Rattle.copier.specs.Copying.{Copies, Turns, DrainsTo, LeavesDrained, is_end};
 ghost use Rattle.copy_law.specs.Course.{IsCourse};
 
 use crate::ends::{Arrival, Ends};
@@ -22,7 +22,8 @@ const MOST_WRITTEN: usize = 4_096;
 ///
 /// In a turn up to 4,096 octets are read once the last are sent, and sent; frames of the first host, then of the second, go into the link, and
 /// then out of it to the second and to the first, at most 64 each; and what the second host received is written. A turn in which nothing moved
-/// advances both clocks to the first moment that a host waits for.
+/// advances both clocks to the first moment that a host waits for. At the end of the stream the sink is flushed. The link hears which moment it
+/// is before a turn's frames go into it.
 ///
 /// Read, Write or Link where that device fails; Host where a host refuses a call; Stalled where `turns` are used up, or nothing moves and
 /// neither host waits for a moment. What was written then begins what was read.
@@ -36,6 +37,8 @@ pub fn copy<R: Source, W: Sink, L: Link>(
     ensures read { R.failures src.new ≡ counted (read_fails result) (R.failures src.old) }
     ensures written { W.failures dst.new ≡ counted (write_fails result) (W.failures dst.old) }
     ensures carried { L.failures link.new ≡ counted (link_fails result) (L.failures link.old) }
+    ensures flushed { OnOk result (W.is_flushed dst.new ≡ true) }
+    ensures leads { L.leads_to link.old link.new }
     ensures copies { Copies result (R.given src.old) (R.given src.new) (R.remaining src.new) (W.taken dst.old) (W.taken dst.new) (L.told link.old) (L.told link.new) }
 {
     let mut copier = Copier::new(alloc)?;
@@ -92,6 +95,8 @@ impl Copier {
         ensures written { W.failures dst.new ≡ counted (write_fails result) (W.failures dst.old) }
         ensures carried { L.failures link.new ≡ counted (link_fails result) (L.failures link.old) }
         ensures told { KeepsTold (L.told link.old) (L.told link.new) }
+        ensures leads { L.leads_to link.old link.new }
+        ensures flushed { IfOk result (λ ended. is_some ended ≡ true → W.is_flushed dst.new ≡ true) }
         ensures turns { Turns result (R.given src.old) (R.remaining src.old) (R.given src.new) (R.remaining src.new) (W.taken dst.old) (W.taken dst.new) (L.told link.old) (L.told link.new) self.old self.new }
     {
         let fed = self.feed.feed(src, &mut self.ends)?;
@@ -111,6 +116,7 @@ impl Copier {
         ensures failed { W.failures dst.new ≡ counted (write_fails result) (W.failures dst.old) }
         ensures fault { IfErr result IsOfSink }
         ensures feed { self.new.feed ≡ self.old.feed }
+        ensures flushed { IfOk result (λ drained. is_end drained ≡ true → W.is_flushed dst.new ≡ true) }
         ensures drains { IfOk result (λ drained. DrainsTo drained (W.taken dst.old) (W.taken dst.new) self.old self.new) }
         ensures left { OnErr result (LeavesDrained (W.taken dst.old) (W.taken dst.new) self.old) }
     {
@@ -122,10 +128,10 @@ impl Copier {
                 self.written = self.written.saturating_add(count as u64);
                 Ok(Drained::Moved)
             }
-            Arrival::End => match dst.flush() {
-                Ok(()) => Ok(Drained::End),
-                Err(_) => Err(CopyFault::Write),
-            },
+            Arrival::End => {
+                flush(dst)?;
+                Ok(Drained::End)
+            }
             Arrival::Nothing if accepted => Ok(Drained::Moved),
             Arrival::Nothing => Ok(Drained::Still),
         }
@@ -139,12 +145,21 @@ fn write_all<W: Sink>(dst: &mut W, octets: &[u8]) -> Result<(), CopyFault>
     ensures ok { OnOk result (Appends (W.taken dst.old) (W.taken dst.new) octets.now) }
     ensures err { OnErr result (TakesFront (W.taken dst.old) (W.taken dst.new) octets.now) }
 {
-    let mut rest = octets;
-    while !rest.is_empty() {
-        match dst.write(rest) {
-            Ok(count) if count > 0 => (_, rest) = rest.split_at(count),
-            _ => return Err(CopyFault::Write),
-        }
+    match devices::write_all(dst, octets) {
+        Ok(()) => Ok(()),
+        Err(_) => Err(CopyFault::Write),
     }
-    Ok(())
+}
+
+/// Has the sink hand on all that it took. Write where it fails.
+fn flush<W: Sink>(dst: &mut W) -> Result<(), CopyFault>
+    ensures failed { W.failures dst.new ≡ counted (write_fails result) (W.failures dst.old) }
+    ensures fault { IfErr result (λ fault. fault ≡ CopyFault.Write) }
+    ensures taken { Keeps (W.taken dst.old) (W.taken dst.new) }
+    ensures flushed { OnOk result (W.is_flushed dst.new ≡ true) }
+{
+    match dst.flush() {
+        Ok(()) => Ok(()),
+        Err(_) => Err(CopyFault::Write),
+    }
 }

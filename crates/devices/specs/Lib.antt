@@ -1,3 +1,4 @@
 pub mod Streams
 pub mod Passages
 pub mod Told
+pub mod Time

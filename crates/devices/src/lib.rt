@@ -8,4 +8,4 @@ mod streams;
 pub use link::memory::{MemoryLink, Passage, Treatment};
 pub use link::{Link, LinkFault, MOST_FRAME};
 pub use streams::memory::{MemorySink, MemorySource};
-pub use streams::{Reading, Sink, Source, Writing};
+pub use streams::{Reading, Sink, Source, Writing, write_all};

@@ -1,13 +1,13 @@
 //! Where octets come from and where they go: devices that count their failures.
 
-ghost use Rattle.std.specs.Prelude.{◌≡◌, ℕ, ◌≤◌, List, Option, Some, None, is_err, take, drop, length};
+ghost use Rattle.std.specs.Prelude.{◌≡◌, ℕ, ◌≤◌, Bool, true, List, Option, Some, None, is_err, OnOk, OnErr, take, drop, length};
 ghost use Rattle.std.specs.Io.{ReadsAtMost, WritesAtMost};
-ghost use Rattle.std.specs.Io.KnownBytes.{Keeps, ReadConsumes, WriteAppends};
-ghost use Rattle.devices.specs.Streams.{counted, write_fails, ReadGives};
+ghost use Rattle.std.specs.Io.KnownBytes.{Appends, Keeps, ReadConsumes, WriteAppends};
+ghost use Rattle.devices.specs.Streams.{counted, write_fails, written_on, handed_on, ReadGives, TakesFront};
 
 pub mod memory;
 
-use std::io::{Read, Result, Write};
+use std::io::{Error, ErrorKind, Read, Result, Write};
 
 /// Gives octets, as std's `Read` does, and counts its failures.
 pub trait Source {
@@ -41,21 +41,44 @@ pub trait Sink {
     // The octets taken so far, where the sink makes them known.
     ghost taken: { Self → Option (List ℕ) } = { λ _. None };
 
+    // Whether all that it took is handed on: whether a flush succeeded since octets were taken last.
+    ghost is_flushed: { Self → Bool };
+
     /// Takes octets from the front of `octets` and answers how many. An error is a failure, and takes nothing; to take
     /// none of some octets is a failure too.
     fn write(&mut self, octets: &[u8]) -> Result<usize>
         ensures bound { WritesAtMost result octets.now }
         ensures failures { failures self.new ≡ counted (write_fails result octets.now) (failures self.old) }
-        ensures taken { WriteAppends (taken self.old) (taken self.new) result octets.now };
+        ensures taken { WriteAppends (taken self.old) (taken self.new) result octets.now }
+        ensures flushed { is_flushed self.new ≡ written_on result (is_flushed self.old) };
 
     /// Hands on what was taken, where the sink holds any back. An error is a failure.
     fn flush(&mut self) -> Result<()>
         ensures failures { failures self.new ≡ counted (is_err result) (failures self.old) }
-        ensures taken { Keeps (taken self.old) (taken self.new) };
+        ensures taken { Keeps (taken self.old) (taken self.new) }
+        ensures flushed { is_flushed self.new ≡ handed_on result (is_flushed self.old) };
 
     /// How many calls have failed. At its last value the count stays.
     fn failures(&self) -> u64
         ensures { result ≡ failures self.now };
+}
+
+/// Writes all of these octets, in as many writes as it takes. An error is a failure of the sink, and then it took a front of them; where it took
+/// nothing of some octets, the error is `WriteZero`.
+pub fn write_all<W: Sink>(sink: &mut W, octets: &[u8]) -> Result<()>
+    ensures failures { W.failures sink.new ≡ counted (is_err result) (W.failures sink.old) }
+    ensures ok { OnOk result (Appends (W.taken sink.old) (W.taken sink.new) octets.now) }
+    ensures err { OnErr result (TakesFront (W.taken sink.old) (W.taken sink.new) octets.now) }
+{
+    let mut rest = octets;
+    while !rest.is_empty() {
+        let count = sink.write(rest)?;
+        if count == 0 {
+            return Err(Error::from(ErrorKind::WriteZero));
+        }
+        (_, rest) = rest.split_at(count);
+    }
+    Ok(())
 }
 
 /// A reader of std, as an open file: of its octets it makes known what the reader does.
@@ -101,6 +124,7 @@ impl<R: Read> Source for Reading<R> {
 pub struct Writing<W> {
     writer: W,
     failures: u64,
+    is_flushed: bool,
 }
 
 impl<W> Writing<W> {
@@ -108,10 +132,12 @@ impl<W> Writing<W> {
     pub fn new(writer: W) -> Self
         ensures writer { result.writer ≡ writer }
         ensures failures { result.failures ≡ 0 }
+        ensures flushed { result.is_flushed ≡ true }
     {
         Writing {
             writer,
             failures: 0,
+            is_flushed: true,
         }
     }
 }
@@ -121,19 +147,23 @@ impl<W: Write> Sink for Writing<W> {
 
     ghost taken = { λ sink. W.contents sink.writer };
 
+    ghost is_flushed = { λ sink. sink.is_flushed };
+
     fn write(&mut self, octets: &[u8]) -> Result<usize> {
         let outcome = self.writer.write(octets);
-        let takes_nothing = matches!(outcome, Ok(0)) && !octets.is_empty();
-        if outcome.is_err() || takes_nothing {
-            self.failures = self.failures.saturating_add(1);
+        match outcome {
+            Ok(0) if octets.is_empty() => {}
+            Ok(count) if count > 0 => self.is_flushed = false,
+            _ => self.failures = self.failures.saturating_add(1),
         }
         outcome
     }
 
     fn flush(&mut self) -> Result<()> {
         let outcome = self.writer.flush();
-        if outcome.is_err() {
-            self.failures = self.failures.saturating_add(1);
+        match outcome {
+            Ok(()) => self.is_flushed = true,
+            Err(_) => self.failures = self.failures.saturating_add(1),
         }
         outcome
     }

@@ -15,7 +15,7 @@ use Rattle.hostd.specs.Moved.{TakesAllBut}
 use Rattle.hostd.proofs.PlayLemmas.{added_front, added_more}
 use Rattle.hostd.proofs.RunLemmas.{all_taken, front_taken, kept}
 use Rattle.hostd.proofs.SimLemmas.{passed_on}
-use Rattle.hostd.proofs.StreamLemmas.{Keeps-appends}
+use Rattle.devices.proofs.Moving.{Keeps-appends}
 
 -- a record takes octets
 pub shorter : (h : Header) (octets : List ℕ) (r : Record) → answer_in h octets ≡ Some (Ok r) → length (rest_in h octets) + 1 ≤ length octets

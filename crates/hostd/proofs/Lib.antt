@@ -1,7 +1,6 @@
 pub mod LineLemmas
 pub mod StepLemmas
 pub mod SimLemmas
-pub mod StreamLemmas
 pub mod PlayLemmas
 pub mod RunLemmas
 pub mod HexLemmas

@@ -72,10 +72,10 @@ pub or_false : (b : Bool) → (b || false) ≡ b
 or_false true = refl
 or_false false = refl
 
--- where nothing is asked by what clap met, the words ask for nothing
-pub asked_nothing : (a : App) (words : List Text) (m : ArgMatches) (line : Option Line) → a ≡ hostd_command → HasMatchesOf a words m
-    → option_map asked_by line ≡ asked_of (subcommand_rows_of m) → line ≡ None → asked_in words ≡ None
-asked_nothing a words m line is has asks none =
+-- the words ask for what is asked by what clap met
+pub asked_along : (a : App) (words : List Text) (m : ArgMatches) (line : Option Line) → a ≡ hostd_command → HasMatchesOf a words m
+    → option_map asked_by line ≡ asked_of (subcommand_rows_of m) → asked_in words ≡ option_map asked_by line
+asked_along a words m line is has asks =
     let P : App → Type 0 = λ x. HasMatchesOf x words m in
     let met = subst P is has simple in
-    ap asked_of (sym met.1) ∙ sym asks ∙ ap (option_map asked_by) none
+    ap asked_of (sym met.1) ∙ sym asks

@@ -22,7 +22,7 @@ use Rattle.hostd.specs.declared.fault.TextFault.{TextFault}
 use Rattle.hostd.specs.declared.fault.TextFault.TheVariants.{Write, NoMemory}
 use Rattle.devices.specs.Streams.{TakesFront}
 use Rattle.hostd.specs.Moved.{TakesAllBut}
-use Rattle.hostd.proofs.StreamLemmas.{Appends-more, Keeps-appends}
+use Rattle.devices.proofs.Moving.{Appends-more, Keeps-appends}
 use Rattle.hostd.specs.Play.{HasEmitted, goes_out, passes, starts, goes_on, Delivers, HasPrinted, Does, Prints, IsPlayed, IsLeftBefore, IsCutShort}
 
 -- the first frames, and one more

@@ -5,7 +5,7 @@ use Rattle.std.specs.List.{flat_map}
 use Rattle.std.specs.List.{slice_get}
 use Rattle.std.specs.Result.{IfErr, IsErrAnd, OnOk}
 use Rattle.clock.specs.declared.moment.Moment.{Moment}
-use Rattle.std.specs.Io.KnownBytes.{Appends}
+use Rattle.std.specs.Io.KnownBytes.{Appends, Keeps}
 use Rattle.std.proofs.lemmas.List.{map-append, take-append-drop, take_all, drop_more}
 use Rattle.std.proofs.lemmas.Grind.{flat_map-append}
 use Rattle.capture.specs.declared.format.Order.TheVariants.{Little}
@@ -22,10 +22,11 @@ use Rattle.hostd.specs.declared.fault.TextFault.{TextFault}
 use Rattle.hostd.specs.declared.fault.TextFault.TheVariants.{Write}
 use Rattle.hostd.specs.declared.recording.Clocks.{Clocks}
 use Rattle.devices.specs.Streams.{TakesFront}
-use Rattle.hostd.specs.Recording.{no_time, captured_at, clock_in, clocks_after, clocks_behind, frame_out, frames_out, frames_of, octets_of_record, records_of, TakesCapture}
+use Rattle.recorder.specs.Captured.{record_octets}
+use Rattle.hostd.specs.Recording.{no_time, captured_at, clock_in, clocks_after, clocks_behind, frame_out, frames_out, frames_of, records_of, TakesCapture}
 use Rattle.hostd.proofs.RunLemmas.{kept}
 use Rattle.hostd.proofs.SimLemmas.{passed_on}
-use Rattle.hostd.proofs.StreamLemmas.{Appends-more, Keeps-appends}
+use Rattle.devices.proofs.Moving.{Appends-more, Keeps-appends}
 
 -- the clocks after one thing more
 clocks_more : (c : Clocks) (hs : List Happening) (h : Happening) → clocks_behind c (hs ++ h ∷ []) ≡ clocks_after (clocks_behind c hs) h.event
@@ -145,40 +146,27 @@ all_recorded w hs i clocks old begun new head is_trace past ours begun_so so_far
     Appends-more old begun new our_header_octets (records_of (frames_of w)) (subst (λ l. Appends old begun l) ours begun_so)
     (subst (λ l. Appends begun new (records_of (frames_out w.network.frames no_time l))) all so_far.taken)
 
--- a record whose two parts were taken, or a front of it
-pub whole_record : {T E : Type 0} (r : Result T E) (old mid new : Option (List ℕ)) (told head octets : List ℕ) → told ≡ head → Appends old mid told →
-    OnOk r (Appends mid new octets) → OnOk r (Appends old new (head ++ octets))
-whole_record (Err e) old mid new told head octets is first second = tt
-whole_record (Ok x) old mid new told head octets is first second =
-    subst (λ l. Appends old new (l ++ octets)) is (Appends-more old mid new told octets first second)
+appended : (old mid new : Option (List ℕ)) (octets : List ℕ) → Appends old mid octets → Keeps mid new → Appends old new octets
+appended old mid new octets taken kept = subst (Appends old new) (append-nil octets) (Appends-more old mid new octets [] taken (Keeps-appends mid new kept))
 
-pub cut_head : (r : Result (Unit {0}) TextFault) (fault : TextFault) (old new : Option (List ℕ)) (told head octets : List ℕ) → IsErrAnd r (λ e. e ≡ fault) →
-    told ≡ head → (fault ≡ Write) × TakesFront old new told → IfErr r (λ f. (f ≡ Write) × TakesFront old new (head ++ octets))
-cut_head r fault old new told head octets passes is cut =
-    let front = cut.1 in
-    let parts : head ++ octets ≡ front.0 ++ (front.1 ++ octets) = ap (λ l. l ++ octets) (sym is ∙ front.2) ∙ append_assoc front.0 front.1 octets in
-    rw (passed_on r fault passes) (cut.0, (front.0, front.1 ++ octets, parts, front.3))
-
-pub cut_octets : (r : Result (Unit {0}) TextFault) (old mid new : Option (List ℕ)) (told head octets : List ℕ) → told ≡ head → Appends old mid told →
-    IfErr r (λ f. (f ≡ Write) × TakesFront mid new octets) → IfErr r (λ f. (f ≡ Write) × TakesFront old new (head ++ octets))
-cut_octets (Ok done) old mid new told head octets is first cut = tt
-cut_octets (Err fault) old mid new told head octets is first cut =
-    let front = cut.1 in
-    let parts : head ++ octets ≡ (told ++ front.0) ++ front.1 =
-    ap (λ l. l ++ octets) (sym is) ∙ ap (λ l. told ++ l) front.2 ∙ sym (append_assoc told front.0 front.1) in
-    (cut.0, (told ++ front.0, front.1, parts, Appends-more old mid new told front.0 first front.3))
+-- the capture that the sink took whole, whether it was handed on or not
+pub whole_taken : (r : Result (Unit {0}) TextFault) (w : WorldView) (old mid new : Option (List ℕ)) → Appends old mid (capture_of (frames_of w)) → Keeps mid new →
+    IfErr r (λ fault. fault ≡ Write) → TakesCapture r w old new
+whole_taken (Ok done) w old mid new taken kept fault = appended old mid new (capture_of (frames_of w)) taken kept
+whole_taken (Err e) w old mid new taken kept fault =
+    rw fault (capture_of (frames_of w), [], sym (append-nil (capture_of (frames_of w))), appended old mid new (capture_of (frames_of w)) taken kept)
 
 -- the records of the frame that went out are its one
 record_of_frame : (o : Option Frame) (moment clock : Moment) (octets : List ℕ) → Some octets ≡ option_map (λ (f : Frame). f.octets.items) o → moment ≡ clock →
-    records_of (captured_at clock o) ≡ octets_of_record moment octets
+    records_of (captured_at clock o) ≡ record_octets moment octets
 record_of_frame None moment clock octets is at = cc
 record_of_frame (Some f) moment clock octets is at =
     let same : octets ≡ f.octets.items = cc in
-    rw (at, same) (append-nil (octets_of_record clock f.octets.items))
+    rw (at, same) (append-nil (record_octets clock f.octets.items))
 
 pub record_of_event : (frames : List Frame) (clocks : Clocks) (e : Event) (a : Answer) (side : Side) (index len : ℕ) (moment : Moment) (octets : List ℕ) →
     e ≡ event.Emit side → a ≡ answer.Frame index len → Some octets ≡ option_map (λ (f : Frame). f.octets.items) (slice_get frames index) →
-    moment ≡ clock_in clocks side → records_of (frame_out frames clocks e a) ≡ octets_of_record moment octets
+    moment ≡ clock_in clocks side → records_of (frame_out frames clocks e a) ≡ record_octets moment octets
 record_of_event frames clocks e a side index len moment octets is_event is_answer there at =
     rw (is_event, is_answer) (record_of_frame (slice_get frames index) moment (clock_in clocks side) octets there at)
 

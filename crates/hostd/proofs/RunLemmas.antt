@@ -18,7 +18,7 @@ use Rattle.hostd.specs.Play.{HasPrinted, starts, IsPlayed, IsCutShort, IsLeft, I
 use Rattle.hostd.specs.Recording.{TakesCapture}
 use Rattle.hostd.specs.declared.sim.Ends.{Ends}
 use Rattle.hostd.proofs.PlayLemmas.{stayed}
-use Rattle.hostd.proofs.StreamLemmas.{Appends-more, Keeps-appends}
+use Rattle.devices.proofs.Moving.{Appends-more, Keeps-appends}
 
 pub kept : (o : Option (List ℕ)) → Keeps o o
 kept None = tt

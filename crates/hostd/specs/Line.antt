@@ -42,9 +42,9 @@ sim_command = with_flag (codes "absolute") (with_flag (codes "ladder") (with_opt
 abbrev pub decode_command : App
 decode_command = with_flag (codes "pcap") (file_command (codes "decode") (codes "FILE"))
 
--- `copy SRC DST`, and it may have `--lose N`, `--repeat N` and `--progress`
+-- `copy SRC DST`, and it may have `--lose N`, `--repeat N`, `--pcap FILE` and `--progress`
 abbrev pub copy_command : App
-copy_command = with_flag (codes "progress") (with_step (codes "repeat") (with_step (codes "lose") (with_file (codes "DST") (file_command (codes "copy") (codes "SRC")))))
+copy_command = with_flag (codes "progress") (with_option (codes "pcap") (with_step (codes "repeat") (with_step (codes "lose") (with_file (codes "DST") (file_command (codes "copy") (codes "SRC"))))))
 
 -- `hostd`, without its commands
 abbrev pub bare_command : App
@@ -72,13 +72,13 @@ step_in None = Some None
 step_in (Some text) = option_map Some (step_of text)
 
 -- what may be asked for: to run the script in a file, to write a capture of it to another, if one is told, and to print its ladder, if its numbers
--- are asked for; to print what the frame in a file says, or what the frames of the capture in one say; to copy a file to another, where one of so
--- many frames is lost and one of so many is sent twice, and to say meanwhile how far it is
+-- are asked for; to print what the frame in a file says, or what the frames of the capture in one say; to copy a file to another, to write a capture
+-- of its frames to a third, if one is told, where one of so many frames is lost and one of so many is sent twice, and to say meanwhile how far it is
 pub data Asked : Type 0 where
   ToRun : Text → Option Text → Option Numbering → Asked
   ToDecode : Text → Asked
   ToDecodeAll : Text → Asked
-  ToCopy : Text → Text → Option ℕ → Option ℕ → Bool → Asked
+  ToCopy : Text → Text → Option Text → Option ℕ → Option ℕ → Bool → Asked
 
 -- what is asked of a file for `decode`, with `--pcap` or without it
 abbrev pub decode_asked : Bool → Text → Asked
@@ -104,7 +104,7 @@ decode_in met = option_map (decode_asked (is_set (value_of (codes "decode") (cod
 abbrev pub copy_in : Option (Text × List Row) → Option Asked
 copy_in met =
     option_and_then (λ source. option_and_then (λ destination. option_and_then (λ lose. option_map (λ repeat.
-    ToCopy source destination lose repeat (is_set (value_of (codes "copy") (codes "progress") met)))
+    ToCopy source destination (value_of (codes "copy") (codes "pcap") met) lose repeat (is_set (value_of (codes "copy") (codes "progress") met)))
     (step_in (value_of (codes "copy") (codes "repeat") met)))
     (step_in (value_of (codes "copy") (codes "lose") met)))
     (value_of (codes "copy") (codes "DST") met))
@@ -131,4 +131,4 @@ abbrev pub asked_by : Line → Asked
 asked_by (Sim script capture ladder) = ToRun script.now (option_map (λ file. file.now) capture) ladder
 asked_by (Decode hex) = ToDecode hex.now
 asked_by (DecodeAll capture) = ToDecodeAll capture.now
-asked_by (Copy source destination losses progress) = ToCopy source.now destination.now (step_by losses.lose) (step_by losses.repeat) progress
+asked_by (Copy source destination capture losses progress) = ToCopy source.now destination.now (option_map (λ file. file.now) capture) (step_by losses.lose) (step_by losses.repeat) progress

@@ -62,10 +62,7 @@ frames_out frames c (h ∷ hs) = frame_out frames c h.event h.answer ++ frames_o
 abbrev pub frames_of : WorldView → List Captured
 frames_of w = frames_out w.network.frames no_time w.trace
 
--- the octets of a record, and of records in turn
-abbrev pub octets_of_record : Moment → List ℕ → List ℕ
-octets_of_record moment octets = entry_octets Little (entry_of (record { moment = moment; octets = octets }))
-
+-- the octets of records in turn
 abbrev pub records_of : List Captured → List ℕ
 records_of frames = flat_map (entry_octets Little) (map entry_of frames)
 

@@ -24,6 +24,7 @@ pub fn decode<R: Source, W: Sink>(
     ensures read { R.failures capture.new ≡ counted (read_fails result) (R.failures capture.old) }
     ensures written { W.failures out.new ≡ counted (write_fails_in result) (W.failures out.old) }
     ensures silent { IfErr result (λ fault. is_before_print fault ≡ true → out.new ≡ out.old) }
+    ensures flushed { OnOk result (W.is_flushed out.new ≡ true) }
     ensures printed { IfSome (R.remaining capture.old) (λ octets. TakesPrinted octets result (W.taken out.old) (W.taken out.new)) }
 {
     let octets = whole(alloc, capture)?;
@@ -35,6 +36,7 @@ pub fn decode<R: Source, W: Sink>(
 fn show<W: Sink>(alloc: Global, capture: &mut Reader<'_>, out: &mut W) -> Result<(), TextFault>
     requires { length capture.now.octets < 2 ^ 64 }
     ensures written { W.failures out.new ≡ counted (write_fails_in result) (W.failures out.old) }
+    ensures flushed { OnOk result (W.is_flushed out.new ≡ true) }
     ensures shown { TakesShown capture.old result (W.taken out.old) (W.taken out.new) }
 {
     let mut lines = String::new(alloc);

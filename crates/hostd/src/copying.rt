@@ -1,20 +1,55 @@
 //! `hostd copy`: the sink of a copy, which counts its octets, and how a copy that failed is told.
 
-ghost use Rattle.std.specs.Prelude.{◌≡◌, IfOk, OnErr, is_err};
+ghost use Rattle.std.specs.Prelude.{◌≡◌, true, IfOk, OnOk, OnErr, is_err};
 ghost use Rattle.std.specs.Io.{WritesAtMost};
 ghost use Rattle.std.specs.Io.KnownBytes.{Keeps, WriteAppends};
-ghost use Rattle.devices.specs.Streams.{counted, write_fails};
+ghost use Rattle.devices.specs.Streams.{counted, write_fails, written_on, handed_on};
+ghost use Rattle.copier.specs.Faults.{read_fails, write_fails as write_fails_in, link_fails};
+ghost use Rattle.copier.specs.Copying.{Copies};
+ghost use Rattle.recorder.specs.Captured.{GoesOn};
 ghost use Rattle.hostd.specs.Progress.{more};
 
 use crate::progress::Progress;
-use copier::CopyFault;
-use devices::Sink;
+use copier::{CopyFault, copy};
+use devices::{Link, Sink, Source};
 use host::Refusal;
-use std::fmt;
-use std::io::Result;
+use recorder::{CaptureFault, RecordedLink};
+use std::alloc::Global;
+use std::{fmt, io};
 
 /// The turns that a copy has.
 pub const TURNS: u64 = 10_000_000;
+
+/// How a copy with a capture ended.
+#[derive(Clone, Copy, Debug, PartialEq, Eq)]
+pub struct CopyEnds {
+    /// How the copy itself did.
+    pub copy: Result<u64, CopyFault>,
+    /// How the capture did.
+    pub capture: Result<(), CaptureFault>,
+}
+
+/// As `copy`, over a link whose frames are captured, and then has the capture's sink hand on what it took, also where a fault ended the copy. Behind
+/// what the sink had taken before, it took the records of the frames that the link took meanwhile, or where it failed a front of these.
+pub fn copy_captured<R: Source, W: Sink, L: Link, C: Sink>(
+    alloc: Global,
+    src: &mut R,
+    dst: &mut W,
+    link: &mut RecordedLink<L, C>,
+    turns: u64,
+) -> CopyEnds
+    ensures read { R.failures src.new ≡ counted (read_fails result.copy) (R.failures src.old) }
+    ensures written { W.failures dst.new ≡ counted (write_fails_in result.copy) (W.failures dst.old) }
+    ensures carried { L.failures link.new.link ≡ counted (link_fails result.copy) (L.failures link.old.link) }
+    ensures flushed { OnOk result.copy (W.is_flushed dst.new ≡ true) }
+    ensures copies { Copies result.copy (R.given src.old) (R.given src.new) (R.remaining src.new) (W.taken dst.old) (W.taken dst.new) (L.told link.old.link) (L.told link.new.link) }
+    ensures captures { GoesOn link.old.is_whole link.new.is_whole (C.taken link.old.capture) (C.taken link.new.capture) (L.told link.old.link) (L.told link.new.link) }
+    ensures whole { OnOk result.capture ((link.new.is_whole ≡ true) × (C.is_flushed link.new.capture ≡ true)) }
+{
+    let copy = copy(alloc, src, dst, link, turns);
+    let capture = link.finish();
+    CopyEnds { copy, capture }
+}
 
 /// A sink that hands octets on to another and counts them, and says how far the copy is, if so asked.
 #[derive(Debug, Drop)]
@@ -77,10 +112,13 @@ impl<W: Sink, E: Sink> Sink for Counting<W, E> {
 
     ghost taken = { λ counting. W.taken counting.sink };
 
-    fn write(&mut self, octets: &[u8]) -> Result<usize>
+    ghost is_flushed = { λ counting. W.is_flushed counting.sink };
+
+    fn write(&mut self, octets: &[u8]) -> io::Result<usize>
         ensures bound { WritesAtMost result octets.now }
         ensures failures { W.failures self.new.sink ≡ counted (write_fails result octets.now) (W.failures self.old.sink) }
         ensures taken { WriteAppends (W.taken self.old.sink) (W.taken self.new.sink) result octets.now }
+        ensures flushed { W.is_flushed self.new.sink ≡ written_on result (W.is_flushed self.old.sink) }
         ensures count { IfOk result (λ n. self.new.written ≡ more self.old.written n) }
         ensures none { OnErr result (self.new.written ≡ self.old.written) }
     {
@@ -91,9 +129,10 @@ impl<W: Sink, E: Sink> Sink for Counting<W, E> {
         outcome
     }
 
-    fn flush(&mut self) -> Result<()>
+    fn flush(&mut self) -> io::Result<()>
         ensures failures { W.failures self.new.sink ≡ counted (is_err result) (W.failures self.old.sink) }
         ensures taken { Keeps (W.taken self.old.sink) (W.taken self.new.sink) }
+        ensures flushed { W.is_flushed self.new.sink ≡ handed_on result (W.is_flushed self.old.sink) }
         ensures written { self.new.written ≡ self.old.written }
     {
         self.sink.flush()

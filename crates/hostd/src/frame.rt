@@ -1,6 +1,6 @@
 //! `hostd decode`: prints what a frame says.
 
-ghost use Rattle.std.specs.Prelude.{◌≡◌, false, IfOk, IfErr, IfSome, string_bytes};
+ghost use Rattle.std.specs.Prelude.{◌≡◌, true, false, IfOk, IfErr, IfSome, OnOk, string_bytes};
 ghost use Rattle.devices.specs.Streams.{counted};
 ghost use Rattle.hostd.specs.Sim.{read_fails, write_fails_in};
 ghost use Rattle.hostd.specs.Hex.{IsPrinted, IsUnspelled, TakesPrinted};
@@ -23,6 +23,7 @@ pub fn decode<R: Source, W: Sink>(
     ensures read { R.failures hex.new ≡ counted (read_fails result) (R.failures hex.old) }
     ensures written { W.failures out.new ≡ counted (write_fails_in result) (W.failures out.old) }
     ensures silent { write_fails_in result ≡ false → IfErr result (λ fault. out.new ≡ out.old) }
+    ensures flushed { OnOk result (W.is_flushed out.new ≡ true) }
     ensures printed { IfSome (R.remaining hex.old) (λ text. TakesPrinted text result (W.taken out.old) (W.taken out.new)) }
 {
     let text = whole(alloc, hex)?;

@@ -1,6 +1,6 @@
 //! `hostd sim --ladder`: runs a script, and prints its lines, what each printed, and between them what happened to each frame.
 
-ghost use Rattle.std.specs.Prelude.{◌≡◌, ◌⊎◌, ◌≤◌, false, [], ◌++◌, ℕ, List, Some, codes, length, map, take, option_to_list, string_bytes, IfOk, IfErr, IfSome, OnOk, OnErr};
+ghost use Rattle.std.specs.Prelude.{◌≡◌, ◌⊎◌, ◌≤◌, true, false, [], ◌++◌, ℕ, List, Some, codes, length, map, take, option_to_list, string_bytes, IfOk, IfErr, IfSome, OnOk, OnErr};
 ghost use Rattle.std.specs.List.{flat_map};
 ghost use Rattle.std.specs.Io.KnownBytes.{Appends};
 ghost use Rattle.script.specs.Words.{lines_of};
@@ -17,7 +17,7 @@ ghost use Rattle.hostd.specs.Laddered.{carried_by, ladder_in, node_at, recorded,
 
 use crate::fault::TextFault;
 use crate::input::whole_script;
-use crate::output::write_all;
+use crate::output::{flush, write_all};
 use crate::recording::record;
 use crate::sim::{Ends, MOST_FRAMES, emit, new_world, style, text_of, text_of_pass};
 use devices::{Sink, Source};
@@ -37,6 +37,7 @@ pub fn sim_ladder<R: Source, W: Sink>(
 ) -> Result<(), TextFault>
     ensures read { R.failures script.new ≡ counted (read_fails result) (R.failures script.old) }
     ensures written { W.failures out.new ≡ counted (write_fails_in result) (W.failures out.old) }
+    ensures flushed { OnOk result (W.is_flushed out.new ≡ true) }
     ensures due { IfSome (R.remaining script.old) (λ octets. IsDue octets result) }
     ensures silent { IfErr result (λ fault. (fault ≡ TextFault.Write) ⊎ (out.new ≡ out.old)) }
     ensures told { IfSome (R.remaining script.old) (λ octets. TakesLadderOf octets result numbering (W.taken out.old) (W.taken out.new)) }
@@ -60,6 +61,7 @@ pub fn sim_ladder_captured<R: Source, W: Sink, C: Sink>(
     ensures written { W.failures out.new ≡ counted (write_fails_in (run_in_all result)) (W.failures out.old) }
     ensures captured { C.failures capture.new ≡ counted (write_fails_in (capture_in_all result)) (C.failures capture.old) }
     ensures silent { IfErr result (λ fault. (out.new ≡ out.old) × (capture.new ≡ capture.old)) }
+    ensures flushed { IfOk result (λ ends. OnOk ends.run (W.is_flushed out.new ≡ true) × OnOk ends.capture (C.is_flushed capture.new ≡ true)) }
     ensures due { IfSome (R.remaining script.old) (λ octets. IsDue octets (run_in_all result)) }
     ensures told { IfOk result (λ ends. IfSome (R.remaining script.old)
         (λ octets. TakesBothOf octets ends numbering (W.taken out.old) (W.taken out.new) (C.taken capture.old) (C.taken capture.new))) }
@@ -83,6 +85,7 @@ fn run<W: Sink>(
     ensures written { W.failures out.new ≡ counted (write_fails_in result) (W.failures out.old) }
     ensures faults { IfErr result (λ fault. is_before_run fault ≡ false) }
     ensures silent { IfErr result (λ fault. (fault ≡ TextFault.Write) ⊎ (out.new ≡ out.old)) }
+    ensures flushed { OnOk result (W.is_flushed out.new ≡ true) }
     ensures told { TakesLadder result numbering (lines_of octets.now) world.old.seen world.new.seen (W.taken out.old) (W.taken out.new) }
 {
     let ladder = drawn(alloc, octets, numbering, world)?;
@@ -115,14 +118,12 @@ fn drawn(
 /// Hands all of a ladder to `out` for good; `Write` where the sink fails.
 fn hand_over<W: Sink>(ladder: &[u8], out: &mut W) -> Result<(), TextFault>
     ensures failures { W.failures out.new ≡ counted (write_fails_in result) (W.failures out.old) }
+    ensures flushed { OnOk result (W.is_flushed out.new ≡ true) }
     ensures taken { OnOk result (Appends (W.taken out.old) (W.taken out.new) ladder.now) }
     ensures faults { IfErr result (λ fault. (fault ≡ TextFault.Write) × TakesFront (W.taken out.old) (W.taken out.new) ladder.now) }
 {
     write_all(out, ladder)?;
-    match out.flush() {
-        Ok(()) => Ok(()),
-        Err(_) => Err(TextFault::Write),
-    }
+    flush(out)
 }
 
 /// The two hosts of a script, as frames name them.

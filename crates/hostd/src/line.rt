@@ -1,6 +1,6 @@
 //! The command line.
 
-ghost use Rattle.std.specs.Prelude.{◌≡◌, ◌⊎◌, false, [], ◌∷◌, Some, None, map, option_map, IfOk, IfErr};
+ghost use Rattle.std.specs.Prelude.{◌≡◌, ◌⊎◌, false, [], ◌∷◌, Some, None, codes, map, option_map, IfOk, IfErr};
 ghost use Rattle.clap.specs.declared.builder.command.Command.TheViews.{out-Command as fields_of};
 ghost use Rattle.clap.specs.Words.{app_of, subcommand_rows_of};
 ghost use Rattle.clap.specs.Faults.{fault_of};
@@ -60,13 +60,7 @@ fn sim_command<'a>(alloc: Global) -> Result<Command<'a>, AllocError>
         "SCRIPT",
         "The file of the script",
     )?;
-    let sim = with_option(
-        alloc,
-        sim,
-        "pcap",
-        "FILE",
-        "Writes every frame that goes out to this file, as a capture in libpcap's classic format",
-    )?;
+    let sim = with_capture(alloc, sim)?;
     let sim = with_flag(
         alloc,
         sim,
@@ -126,6 +120,7 @@ fn copy_command<'a>(alloc: Global) -> Result<Command<'a>, AllocError>
         "repeat",
         "Every N-th frame is sent twice, if it is not lost, from 2 to 1000000",
     )?;
+    let copy = with_capture(alloc, copy)?;
     with_flag(
         alloc,
         copy,
@@ -178,6 +173,20 @@ fn with_flag<'a>(
         .action(ArgAction::SetTrue)
         .help(help);
     command.arg(flag)
+}
+
+/// A command with the file of a capture more, which may be told or not.
+fn with_capture<'a>(alloc: Global, command: Command<'a>) -> Result<Command<'a>, AllocError>
+    ensures words { IfOk result (λ more. app_of more ≡ with_option (codes "pcap") (app_of command.entry)) }
+    ensures local { IfOk result (λ more. (fields_of more).has_globals ≡ (fields_of command.entry).has_globals) }
+{
+    with_option(
+        alloc,
+        command,
+        "pcap",
+        "FILE",
+        "Writes every frame that goes out to this file, as a capture in libpcap's classic format",
+    )
 }
 
 /// A command with an option more, which may be there with one value, or not.
@@ -266,11 +275,13 @@ fn asked_of_copy<'a>(matches: &ArgMatches<'a>) -> Option<Line<'a>>
     let destination = value_in(matches, "copy", "DST")?;
     let lose = step_in(value_in(matches, "copy", "lose"))?;
     let repeat = step_in(value_in(matches, "copy", "repeat"))?;
+    let capture = value_in(matches, "copy", "pcap");
     let progress = is_set(value_in(matches, "copy", "progress"));
     let losses = Losses { lose, repeat };
     Some(Line::Copy {
         source,
         destination,
+        capture,
         losses,
         progress,
     })

@@ -17,19 +17,24 @@ mod sim;
 
 use clap::error::ErrorKind;
 use copier::CopyFault;
-use copying::{Broken, Counting, TURNS};
+use copying::{Broken, Counting, TURNS, copy_captured};
 use devices::{Reading, Sink, Source, Writing};
 use fault::TextFault;
 use ladder::Numbering;
 use progress::Progress;
+use recorder::RecordedLink;
 use request::Line;
 use sim::Ends;
 use std::alloc::Global;
 use std::fs::{File, OpenFile};
+use std::io::BufWriter;
 use std::os::unix::fs::MetadataExt;
 use std::process::ExitCode;
 use std::{env, fmt, fs, io};
 use udp_link::{Losses, PeerSocket, SocketLink, pair};
+
+/// A new file, whose octets are handed on many at a time.
+type FileSink = Writing<BufWriter<File>>;
 
 #[cfg(test)]
 mod tests;
@@ -69,10 +74,11 @@ fn run(rt: &HostRuntime, words: &[String]) -> ExitCode {
             Line::Copy {
                 source,
                 destination,
+                capture,
                 losses,
                 progress,
             },
-        ) => copy_file(rt, (source, destination), losses, progress),
+        ) => copy_file(rt, (source, destination, capture), losses, progress),
         Err(error) if error.kind() == ErrorKind::OutOfMemory => report(rt, TextFault::NoMemory),
         Err(error) => {
             let _ = eprint!(rt; "{error}");
@@ -97,10 +103,12 @@ fn run_script(
     let Some(capture) = capture else {
         return ended(rt, played(rt.alloc(), &mut script, ladder, &mut out));
     };
-    let Ok(file) = fs::create(rt, capture) else {
+    if are_same_file(rt, path, capture) {
+        return report(rt, format_args!("{path} and {capture} are the same file"));
+    }
+    let Ok(mut capture) = create(rt, capture) else {
         return report(rt, TextFault::Write);
     };
-    let mut capture = Writing::new(file);
     match captured_too(rt.alloc(), &mut script, ladder, &mut out, &mut capture) {
         Ok(ends) => ended(rt, ends.whole()),
         Err(fault) => report(rt, fault),
@@ -158,23 +166,34 @@ fn print_frames(rt: &HostRuntime, path: &str) -> ExitCode {
     ended(rt, captured::decode(rt.alloc(), &mut capture, &mut out))
 }
 
-/// Copies a file to another, which is made anew, over two hosts that two UDP sockets join. A file is not copied to itself: making it anew would
-/// empty it.
-fn copy_file(rt: &HostRuntime, paths: (&str, &str), losses: Losses, progress: bool) -> ExitCode {
-    let (source, destination) = paths;
+/// The sink of a new file at this path.
+fn create(rt: &HostRuntime, path: &str) -> io::Result<FileSink> {
+    let file = fs::create(rt, path)?;
+    Ok(Writing::new(BufWriter::new(rt.alloc(), file)?))
+}
+
+/// Copies a file to another, which is made anew, over two hosts that two UDP sockets join, and writes a capture of their frames to a third, if one
+/// is told. No two of them may be the same file: making it anew would empty it.
+fn copy_file(
+    rt: &HostRuntime,
+    paths: (&str, &str, Option<&str>),
+    losses: Losses,
+    progress: bool,
+) -> ExitCode {
+    let (source, destination, capture) = paths;
     let Ok(src) = fs::open(rt, source) else {
         return report(rt, format_args!("cannot open {source}"));
     };
-    if is_same_file(rt, &src, destination) {
-        return report(
-            rt,
-            format_args!("{source} and {destination} are the same file"),
-        );
+    if let Some((one, other)) = twice_meant(rt, source, destination, capture) {
+        return report(rt, format_args!("{one} and {other} are the same file"));
     }
     let Ok(dst) = fs::create(rt, destination) else {
         return report(rt, format_args!("cannot create {destination}"));
     };
-    let Ok(sockets) = pair(rt) else {
+    let Ok(capture) = create_told(rt, capture) else {
+        return report(rt, TextFault::Write);
+    };
+    let Ok((a, b)) = pair(rt) else {
         return report(rt, CopyFault::Link);
     };
     let progress = if progress {
@@ -184,14 +203,49 @@ fn copy_file(rt: &HostRuntime, paths: (&str, &str), losses: Losses, progress: bo
         None
     };
     let dst = Counting::new(Writing::new(dst), progress);
-    copy(rt, Reading::new(src), dst, (sockets, losses))
+    copy(
+        rt,
+        Reading::new(src),
+        dst,
+        SocketLink::new(a, b, losses),
+        capture,
+    )
 }
 
-/// Whether a path leads to the file that is open, under whatever name.
-fn is_same_file(rt: &HostRuntime, open: &File, path: &str) -> bool {
-    match (open.metadata(), fs::metadata(rt, path)) {
-        (Ok(one), Ok(other)) => (one.dev(), one.ino()) == (other.dev(), other.ino()),
-        _ => false,
+/// Two of the paths of a copy that lead to one file, if any do.
+fn twice_meant<'a>(
+    rt: &HostRuntime,
+    source: &'a str,
+    destination: &'a str,
+    capture: Option<&'a str>,
+) -> Option<(&'a str, &'a str)> {
+    if are_same_file(rt, source, destination) {
+        return Some((source, destination));
+    }
+    let capture = capture?;
+    for path in [source, destination] {
+        if are_same_file(rt, path, capture) {
+            return Some((path, capture));
+        }
+    }
+    None
+}
+
+/// Whether two paths lead to one file, under whatever names.
+fn are_same_file(rt: &HostRuntime, one: &str, other: &str) -> bool {
+    match (fs::metadata(rt, one), fs::metadata(rt, other)) {
+        (Ok(one), Ok(other)) => {
+            one.is_file() && (one.dev(), one.ino()) == (other.dev(), other.ino())
+        }
+        _ => one == other,
+    }
+}
+
+/// The sink of a new file, if a path of one is told.
+fn create_told(rt: &HostRuntime, path: Option<&str>) -> io::Result<Option<FileSink>> {
+    match path {
+        Some(path) => Ok(Some(create(rt, path)?)),
+        None => Ok(None),
     }
 }
 
@@ -203,20 +257,33 @@ fn length(file: &File) -> Option<u64> {
     }
 }
 
-/// Copies what a file has to another, and prints how many octets that are.
+/// Copies what a file has to another, and prints how many octets that are. Where the capture's sink fails, the copy goes on, and the fault is told
+/// behind what it printed.
 fn copy(
     rt: &HostRuntime,
     mut src: Reading<File>,
     mut dst: Counting<Writing<File>, Writing<io::Stderr>>,
-    way: ((PeerSocket, PeerSocket), Losses),
+    mut link: SocketLink<PeerSocket>,
+    capture: Option<FileSink>,
 ) -> ExitCode {
-    let ((a, b), losses) = way;
-    let mut link = SocketLink::new(a, b, losses);
-    let outcome = copier::copy(rt.alloc(), &mut src, &mut dst, &mut link, TURNS);
+    let alloc = rt.alloc();
+    let (outcome, captured) = match capture {
+        None => (
+            copier::copy(alloc, &mut src, &mut dst, &mut link, TURNS),
+            Ok(()),
+        ),
+        Some(capture) => {
+            let mut link = RecordedLink::new(link, capture);
+            let ends = copy_captured(alloc, &mut src, &mut dst, &mut link, TURNS);
+            (ends.copy, ends.capture)
+        }
+    };
     dst.end();
     let written = dst.written();
     match outcome {
-        Ok(count) if println!(rt; "copied {count} octets").is_ok() => ExitCode::SUCCESS,
+        Ok(count) if println!(rt; "copied {count} octets").is_ok() => {
+            ended(rt, captured.map_err(|_| TextFault::Write))
+        }
         Ok(_) => report(rt, TextFault::Write),
         Err(fault) => report(rt, Broken { fault, written }),
     }

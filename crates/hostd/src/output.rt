@@ -1,7 +1,7 @@
 //! Printed text on its way to a sink.
 
-ghost use Rattle.std.specs.Prelude.{◌≡◌, ◌⊎◌, [], ◌++◌, Err, OnOk, IfErr, string_bytes};
-ghost use Rattle.std.specs.Io.KnownBytes.{Appends};
+ghost use Rattle.std.specs.Prelude.{◌≡◌, ◌⊎◌, true, [], ◌++◌, Err, OnOk, IfErr, string_bytes};
+ghost use Rattle.std.specs.Io.KnownBytes.{Appends, Keeps};
 ghost use Rattle.devices.specs.Streams.{counted, TakesFront};
 ghost use Rattle.hostd.specs.Moved.{TakesAllBut};
 ghost use Rattle.hostd.specs.Sim.{write_fails_in};
@@ -12,21 +12,17 @@ use devices::Sink;
 /// Where so many octets of printed lines wait, they are handed to the sink.
 const FULL: usize = 8192;
 
-/// Hands all of `octets` to `out`, in as many writes as it takes; `Write` where the sink fails, and then it took a part of
+/// Hands all of `octets` to `out`; `Write` where the sink fails, and then it took a part of
 /// the front.
 pub fn write_all<W: Sink>(out: &mut W, octets: &[u8]) -> Result<(), TextFault>
     ensures failures { W.failures out.new ≡ counted (write_fails_in result) (W.failures out.old) }
     ensures ok { OnOk result (Appends (W.taken out.old) (W.taken out.new) octets.now) }
     ensures err { IfErr result (λ fault. (fault ≡ TextFault.Write) × TakesFront (W.taken out.old) (W.taken out.new) octets.now) }
 {
-    let mut rest = octets;
-    while !rest.is_empty() {
-        match out.write(rest) {
-            Ok(count) if count > 0 => (_, rest) = rest.split_at(count),
-            _ => return Err(TextFault::Write),
-        }
+    match devices::write_all(out, octets) {
+        Ok(()) => Ok(()),
+        Err(_) => Err(TextFault::Write),
     }
-    Ok(())
 }
 
 /// Hands `lines` to `out` and empties them; `Write` where the sink fails.
@@ -61,12 +57,20 @@ pub fn finish<W: Sink>(lines: &mut String, out: &mut W) -> Result<(), TextFault>
     ensures failures { W.failures out.new ≡ counted (write_fails_in result) (W.failures out.old) }
     ensures taken { OnOk result (Appends (W.taken out.old) (W.taken out.new) (string_bytes lines.old)) }
     ensures faults { IfErr result (λ fault. (fault ≡ TextFault.Write) × TakesFront (W.taken out.old) (W.taken out.new) (string_bytes lines.old)) }
+    ensures flushed { OnOk result (W.is_flushed out.new ≡ true) }
 {
     hand_on(lines, out)?;
-    match out.flush() {
-        Ok(()) => Ok(()),
-        Err(_) => Err(TextFault::Write),
-    }
+    flush(out)
+}
+
+/// Has `out` hand on all that it took; `Write` where it fails.
+pub fn flush<W: Sink>(out: &mut W) -> Result<(), TextFault>
+    ensures failures { W.failures out.new ≡ counted (write_fails_in result) (W.failures out.old) }
+    ensures taken { Keeps (W.taken out.old) (W.taken out.new) }
+    ensures flushed { OnOk result (W.is_flushed out.new ≡ true) }
+    ensures fault { IfErr result (λ fault. fault ≡ TextFault.Write) }
+{
+    out.flush().map_err(|_| TextFault::Write)
 }
 
 /// Whether the sink failed.

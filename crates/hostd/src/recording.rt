@@ -1,14 +1,15 @@
 //! The capture of a run: every frame that went out, with the moment at which it did.
 
-ghost use Rattle.std.specs.Prelude.{◌≡◌, OnOk, IfErr};
+ghost use Rattle.std.specs.Prelude.{◌≡◌, true, OnOk, IfErr};
 ghost use Rattle.std.specs.Io.KnownBytes.{Appends};
 ghost use Rattle.devices.specs.Streams.{counted, TakesFront};
 ghost use Rattle.hostd.specs.Sim.{write_fails_in};
-ghost use Rattle.hostd.specs.Recording.{clock_in, clocks_after, no_time, octets_of_record, records_of, frame_out, later, TakesCapture};
+ghost use Rattle.recorder.specs.Captured.{record_octets};
+ghost use Rattle.hostd.specs.Recording.{clock_in, clocks_after, no_time, records_of, frame_out, later, TakesCapture};
 
 use crate::fault::TextFault;
-use crate::output::write_all;
-use capture::{file_head, record_head};
+use crate::output::{flush, write_all};
+use capture::file_head;
 use clock::Moment;
 use devices::Sink;
 use wire_sim::{Answer, Event, Happening, Side, World};
@@ -60,9 +61,10 @@ impl Clocks {
 }
 
 /// Writes the capture of every frame that went out in a world, in order, each once and with the moment that its sender's clock told then, in
-/// milliseconds. `Write` where the sink fails, and then it took a part of the front.
+/// milliseconds, and has the sink hand it on. `Write` where the sink fails, and then it took a part of the front.
 pub fn record<W: Sink>(world: &World, out: &mut W) -> Result<(), TextFault>
     ensures failures { W.failures out.new ≡ counted (write_fails_in result) (W.failures out.old) }
+    ensures flushed { OnOk result (W.is_flushed out.new ≡ true) }
     ensures taken { TakesCapture result world.now.seen (W.taken out.old) (W.taken out.new) }
 {
     write_all(out, &file_head())?;
@@ -71,7 +73,7 @@ pub fn record<W: Sink>(world: &World, out: &mut W) -> Result<(), TextFault>
         record_one(world, clocks, happening, out)?;
         clocks = clocks.after(&happening.event);
     }
-    Ok(())
+    flush(out)
 }
 
 /// Writes the record of the frame that went out, if one did.
@@ -100,11 +102,13 @@ fn record_one<W: Sink>(
 /// Writes the record of a frame: its head, and its octets.
 fn write_record<W: Sink>(moment: Moment, octets: &[u8], out: &mut W) -> Result<(), TextFault>
     ensures failures { W.failures out.new ≡ counted (write_fails_in result) (W.failures out.old) }
-    ensures ok { OnOk result (Appends (W.taken out.old) (W.taken out.new) (octets_of_record moment octets.now)) }
-    ensures err { IfErr result (λ fault. (fault ≡ TextFault.Write) × TakesFront (W.taken out.old) (W.taken out.new) (octets_of_record moment octets.now)) }
+    ensures ok { OnOk result (Appends (W.taken out.old) (W.taken out.new) (record_octets moment octets.now)) }
+    ensures err { IfErr result (λ fault. (fault ≡ TextFault.Write) × TakesFront (W.taken out.old) (W.taken out.new) (record_octets moment octets.now)) }
 {
-    write_all(out, &record_head(moment, octets.len()))?;
-    write_all(out, octets)
+    match recorder::write_record(moment, octets, out) {
+        Ok(()) => Ok(()),
+        Err(_) => Err(TextFault::Write),
+    }
 }
 
 /// The later of two moments.

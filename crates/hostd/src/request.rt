@@ -21,11 +21,12 @@ pub enum Line<'a> {
     DecodeAll {
         capture: &'a str,
     },
-    /// To copy the first file to the other over two hosts, whose frames are lost and sent twice so, and to say meanwhile how far it is, if so
-    /// asked.
+    /// To copy the first file to the other over two hosts, to write a capture of their frames to the third, if one is told, to lose frames and
+    /// send them twice so, and to say meanwhile how far it is, if so asked.
     Copy {
         source: &'a str,
         destination: &'a str,
+        capture: Option<&'a str>,
         losses: Losses,
         progress: bool,
     },

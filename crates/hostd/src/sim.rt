@@ -27,6 +27,7 @@ pub fn sim<R: Source, W: Sink>(alloc: Global, script: &mut R, out: &mut W) -> Re
     ensures read { R.failures script.new ≡ counted (read_fails result) (R.failures script.old) }
     ensures written { W.failures out.new ≡ counted (write_fails_in result) (W.failures out.old) }
     ensures silent { IfErr result (λ fault. is_before_run fault ≡ true → out.new ≡ out.old) }
+    ensures flushed { OnOk result (W.is_flushed out.new ≡ true) }
     ensures due { IfSome (R.remaining script.old) (λ octets. IsDue octets result) }
     ensures printed { IfSome (R.remaining script.old) (λ octets. TakesPrintedBy octets result (W.taken out.old) (W.taken out.new)) }
 {
@@ -68,6 +69,7 @@ pub fn sim_captured<R: Source, W: Sink, C: Sink>(
     ensures written { W.failures out.new ≡ counted (write_fails_in (run_in_all result)) (W.failures out.old) }
     ensures captured { C.failures capture.new ≡ counted (write_fails_in (capture_in_all result)) (C.failures capture.old) }
     ensures silent { IfErr result (λ fault. (out.new ≡ out.old) × (capture.new ≡ capture.old)) }
+    ensures flushed { IfOk result (λ ends. OnOk ends.run (W.is_flushed out.new ≡ true) × OnOk ends.capture (C.is_flushed capture.new ≡ true)) }
     ensures due { IfSome (R.remaining script.old) (λ octets. IsDue octets (run_in_all result)) }
     ensures printed { IfSome (R.remaining script.old) (λ octets. TakesPrintedBy octets (run_in_all result) (W.taken out.old) (W.taken out.new)) }
     ensures told { IfOk result (λ ends. IfSome (R.remaining script.old)
@@ -85,6 +87,7 @@ pub fn sim_captured<R: Source, W: Sink, C: Sink>(
 fn run<W: Sink>(alloc: Global, script: &Script<'_>, out: &mut W) -> Result<(), TextFault>
     ensures written { W.failures out.new ≡ counted (write_fails_in result) (W.failures out.old) }
     ensures faults { IfErr result (λ fault. is_before_run fault ≡ false) }
+    ensures flushed { OnOk result (W.is_flushed out.new ≡ true) }
     ensures printed { TakesPrinted result script.now.limit script.now.commands.items (W.taken out.old) (W.taken out.new) }
 {
     let mut world = new_world(alloc, script.limit)?;
@@ -101,6 +104,7 @@ fn run_in<W: Sink>(
     requires { IsFirst script.now.limit world.old.seen }
     ensures written { W.failures out.new ≡ counted (write_fails_in result) (W.failures out.old) }
     ensures faults { IfErr result (λ fault. is_before_run fault ≡ false) }
+    ensures flushed { OnOk result (W.is_flushed out.new ≡ true) }
     ensures printed { TakesRun result script.now.limit script.now.commands.items world.new.seen (W.taken out.old) (W.taken out.new) }
 {
     let mut lines = first_lines(alloc, script.limit)?;

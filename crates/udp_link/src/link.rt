@@ -9,6 +9,7 @@ ghost use Rattle.udp_link.specs.Datagrams.{HandsOver, Receives, Sends, at_side};
 
 use crate::losses::{Fate, Losses};
 use crate::socket::DatagramSocket;
+use clock::Moment;
 use devices::{Link, LinkFault};
 use wire_sim::Side;
 
@@ -70,6 +71,12 @@ fn sent<S: DatagramSocket>(socket: &mut S, frame: &[u8]) -> Result<(), LinkFault
 
 impl<S: DatagramSocket> Link for SocketLink<S> {
     ghost failures = { λ link. link.failures };
+
+    ghost leads_to_itself = { λ l. tt };
+
+    ghost leads_on = { λ l m n first second. tt };
+
+    fn tick(&mut self, _moment: Moment) {}
 
     fn send(&mut self, from: Side, frame: &[u8]) -> Result<(), LinkFault>
         ensures failures { self.new.failures ≡ counted (is_err result) self.old.failures }

@@ -5,6 +5,7 @@ ghost use Rattle.devices.specs.Streams.{counted};
 
 use super::{Link, LinkFault, MOST_FRAME};
 use crate::plan::Plan;
+use clock::Moment;
 use std::alloc::{AllocError, Global};
 use wire_sim::Side;
 
@@ -181,6 +182,12 @@ impl Link for MemoryLink<'_> {
     ghost failures = { λ link. link.failures };
 
     ghost told = { λ link. Some (told_of link.passages.items) };
+
+    ghost leads_to_itself = { λ l. tt };
+
+    ghost leads_on = { λ l m n first second. tt };
+
+    fn tick(&mut self, _moment: Moment) {}
 
     fn send(&mut self, from: Side, frame: &[u8]) -> Result<(), LinkFault> {
         if self.plan.fails_next() || self.take(from, frame).is_err() {

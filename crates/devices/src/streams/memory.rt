@@ -1,6 +1,6 @@
 //! A source and a sink in memory, whose octets are known and which can be made to fail.
 
-ghost use Rattle.std.specs.Prelude.{◌≡◌, ◌≤◌, ◌++◌, [], Some, IfOk, OnErr, is_ok, if◌then◌else◌, take, drop, length, min};
+ghost use Rattle.std.specs.Prelude.{◌≡◌, ◌≤◌, ◌++◌, [], true, Some, IfOk, OnErr, is_ok, if◌then◌else◌, take, drop, length, min};
 
 use super::{Sink, Source};
 use crate::plan::Plan;
@@ -94,6 +94,7 @@ fn copy_front(from: &[u8], to: &mut [u8], most: usize) -> usize
 #[derive(Debug, Drop)]
 pub struct MemorySink {
     taken: Vec<u8>,
+    is_flushed: bool,
     most: usize,
     plan: Plan,
     failures: u64,
@@ -103,10 +104,12 @@ impl MemorySink {
     /// An empty sink, with no failure so far and none planned.
     pub fn new(alloc: Global) -> Self
         ensures taken { result.taken.items ≡ [] }
+        ensures flushed { result.is_flushed ≡ true }
         ensures failures { result.failures ≡ 0 }
     {
         MemorySink {
             taken: Vec::new(alloc),
+            is_flushed: true,
             most: usize::MAX,
             plan: Plan::none(),
             failures: 0,
@@ -136,6 +139,13 @@ impl MemorySink {
         self.taken.as_slice()
     }
 
+    /// Whether a flush succeeded since octets were taken last.
+    pub fn is_flushed(&self) -> bool
+        ensures { result ≡ self.now.is_flushed }
+    {
+        self.is_flushed
+    }
+
     /// Keeps all of `octets`, or none where there is no memory.
     fn keep(&mut self, octets: &[u8]) -> Result<usize>
         ensures ok { IfOk result (λ n. (n ≡ length octets.now) × (self.new ≡ record self.old { taken = self.new.taken })) }
@@ -152,6 +162,8 @@ impl Sink for MemorySink {
 
     ghost taken = { λ sink. Some sink.taken.items };
 
+    ghost is_flushed = { λ sink. sink.is_flushed };
+
     fn write(&mut self, octets: &[u8]) -> Result<usize> {
         let count = octets.len().min(self.most);
         let outcome = if self.plan.fails_next() {
@@ -159,8 +171,10 @@ impl Sink for MemorySink {
         } else {
             self.keep(&octets[..count])
         };
-        if outcome.is_err() || (count == 0 && !octets.is_empty()) {
-            self.failures = self.failures.saturating_add(1);
+        match outcome {
+            Ok(0) if octets.is_empty() => {}
+            Ok(count) if count > 0 => self.is_flushed = false,
+            _ => self.failures = self.failures.saturating_add(1),
         }
         outcome
     }
@@ -170,6 +184,7 @@ impl Sink for MemorySink {
             self.failures = self.failures.saturating_add(1);
             return Err(Error::other("planned"));
         }
+        self.is_flushed = true;
         Ok(())
     }
 

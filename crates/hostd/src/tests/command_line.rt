@@ -128,6 +128,21 @@ fn words_ask_for_a_command_or_are_refused(rt: HostRuntime) {
     }
 }
 
+/// A copy of one file to another, with a capture.
+fn copy_captured(lose: u64, progress: bool) -> Line<'static> {
+    let losses = Losses {
+        lose: Every::new(lose),
+        repeat: None,
+    };
+    Line::Copy {
+        source: "one",
+        destination: "two",
+        capture: Some("run.pcap"),
+        losses,
+        progress,
+    }
+}
+
 /// A copy of one file to another, where one of so many frames is lost and one of so many is sent twice; 0 is none.
 fn copy(lose: u64, repeat: u64, progress: bool) -> Line<'static> {
     let losses = Losses {
@@ -137,6 +152,7 @@ fn copy(lose: u64, repeat: u64, progress: bool) -> Line<'static> {
     Line::Copy {
         source: "one",
         destination: "two",
+        capture: None,
         losses,
         progress,
     }
@@ -144,7 +160,7 @@ fn copy(lose: u64, repeat: u64, progress: bool) -> Line<'static> {
 
 #[test]
 fn words_ask_for_a_copy_or_are_refused(rt: HostRuntime) {
-    let rows: [(&[&str], Result<Line<'_>, ErrorKind>); 16] = [
+    let rows: [(&[&str], Result<Line<'_>, ErrorKind>); 19] = [
         (&["hostd", "copy", "one", "two"], Ok(copy(0, 0, false))),
         (
             &["hostd", "copy", "one", "two", "--lose", "7"],
@@ -157,6 +173,26 @@ fn words_ask_for_a_copy_or_are_refused(rt: HostRuntime) {
         (
             &["hostd", "copy", "--progress", "one", "two"],
             Ok(copy(0, 0, true)),
+        ),
+        (
+            &["hostd", "copy", "one", "--pcap", "run.pcap", "two"],
+            Ok(copy_captured(0, false)),
+        ),
+        (
+            &[
+                "hostd",
+                "copy",
+                "one",
+                "two",
+                "--progress",
+                "--pcap=run.pcap",
+                "--lose=7",
+            ],
+            Ok(copy_captured(7, true)),
+        ),
+        (
+            &["hostd", "copy", "one", "two", "--pcap"],
+            Err(ErrorKind::InvalidValue),
         ),
         (
             &["hostd", "copy", "one", "two", "--lose", "2"],

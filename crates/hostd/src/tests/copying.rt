@@ -1,10 +1,13 @@
 //! Copies from memory to memory, over a link in memory and over two real sockets, and what is said of them.
 
-use crate::copying::{Broken, Counting};
+use crate::copying::{Broken, CopyEnds, Counting, copy_captured};
 use crate::progress::Progress;
+use capture::Reader;
+use clock::Moment;
 use copier::{CopyFault, copy};
-use devices::{Link, MemoryLink, MemorySink, MemorySource, Sink, Treatment};
+use devices::{Link, MemoryLink, MemorySink, MemorySource, Passage, Sink, Treatment};
 use host::Refusal;
+use recorder::{CaptureFault, RecordedLink};
 use std::alloc::Global;
 use std::process::Abort;
 use std::test::Fail;
@@ -38,13 +41,14 @@ fn copied<L: Link>(
     let taken = dst.sink().taken();
     assert!(rt; octets.starts_with(taken));
     assert_eq!(rt; dst.written(), taken.len() as u64);
+    assert!(rt; outcome.is_err() || dst.sink().is_flushed());
     outcome
 }
 
 /// Frames are lost and sent twice on their way over two sockets of the machine.
 #[test]
 fn octets_are_copied_over_sockets(rt: HostRuntime) -> Result<(), Fail> {
-    for len in [0, 1, 20_000] {
+    for len in [0, 1, 1_000_000] {
         let (a, b) = pair(&rt)?;
         let losses = Losses {
             lose: Every::new(7),
@@ -66,6 +70,82 @@ fn what_was_written_before_a_fault_is_counted(rt: HostRuntime) -> Result<(), Fai
         let mut link = MemoryLink::new(rt.alloc(), &[]);
         let end = copied(&rt, rt.alloc(), octets.as_slice(), call, &mut link);
         assert_eq!(rt; end, Err(CopyFault::Write));
+    }
+    Ok(())
+}
+
+/// Each of these is done to one of the first frames.
+const TREATED: [Treatment; 3] = [
+    Treatment::Lose(4),
+    Treatment::Repeat(6),
+    Treatment::HoldBack(8, 2),
+];
+
+/// A link in memory, captured to a sink that fails at this call, if it isn't 0.
+fn recorded(alloc: Global, fails_at: u64) -> RecordedLink<MemoryLink<'static>, MemorySink> {
+    let sink = MemorySink::new(alloc).failing_at(fails_at);
+    RecordedLink::new(MemoryLink::new(alloc, &TREATED), sink)
+}
+
+/// How a copy of octets over such a link ended, and its capture. The sink took all of the octets.
+fn captured(
+    rt: &impl Abort,
+    alloc: Global,
+    octets: &[u8],
+    link: &mut RecordedLink<MemoryLink<'static>, MemorySink>,
+) -> CopyEnds {
+    let mut src = MemorySource::new(octets);
+    let mut dst = MemorySink::new(alloc);
+    let ends = copy_captured(alloc, &mut src, &mut dst, link, TURNS);
+    assert_eq!(rt; dst.taken(), octets);
+    ends
+}
+
+/// The capture of a copy has each frame that went out once, in order, whatever becomes of it; one that goes out again after a second has a later moment.
+#[test]
+fn frames_of_a_copy_are_captured(rt: HostRuntime) -> Result<(), Fail> {
+    let octets = octets(rt.alloc(), 3_000)?;
+    let mut link = recorded(rt.alloc(), 0);
+    let ends = captured(&rt, rt.alloc(), octets.as_slice(), &mut link);
+    assert_eq!(rt; (ends.copy, ends.capture), (Ok(3_000), Ok(())));
+    assert!(rt; link.capture().is_flushed());
+    let mut capture = Reader::new(link.capture().taken()).expect(&rt, "a capture");
+    let mut last = Moment(0);
+    for passage in link.link().passages() {
+        if let Passage::Taken(_, frame) = passage {
+            let record = capture.next_record().expect(&rt, "a record");
+            let record = record.expect(&rt, "no fault");
+            assert_eq!(rt; record.octets(), frame.as_slice());
+            assert_eq!(rt; record.original() as usize, frame.len());
+            assert!(rt; record.moment() >= last);
+            last = record.moment();
+        }
+    }
+    assert!(rt; capture.next_record().is_none());
+    assert!(rt; last >= Moment(1_000));
+    Ok(())
+}
+
+/// A copy goes on where its capture fails, at whatever call, and what was captured is a front of the whole capture.
+#[test]
+fn a_copy_goes_on_without_its_capture(rt: HostRuntime) -> Result<(), Fail> {
+    let octets = octets(rt.alloc(), 3_000)?;
+    let mut whole = recorded(rt.alloc(), 0);
+    let ends = captured(&rt, rt.alloc(), octets.as_slice(), &mut whole);
+    assert_eq!(rt; (ends.copy, ends.capture), (Ok(3_000), Ok(())));
+    // The header, two writes a frame, and behind these the flush.
+    let mut writes: u64 = 1;
+    for passage in whole.link().passages() {
+        if let Passage::Taken(..) = passage {
+            writes = writes.saturating_add(2);
+        }
+    }
+    for call in [1, 2, 3, 4, writes, writes.saturating_add(1)] {
+        let mut link = recorded(rt.alloc(), call);
+        let ends = captured(&rt, rt.alloc(), octets.as_slice(), &mut link);
+        assert_eq!(rt; (ends.copy, ends.capture), (Ok(3_000), Err(CaptureFault)));
+        assert_eq!(rt; link.capture().failures(), 1);
+        assert!(rt; whole.capture().taken().starts_with(link.capture().taken()));
     }
     Ok(())
 }

@@ -26,5 +26,18 @@ loop-preserved g c = record {
   read = search rules;
   written = search rules;
   carried = search rules;
+  leads = g.met.L.Link.leads_on _ _ _ c.loop.invariant.leads c.in_ok-count.ensures.leads;
   going = going_next _ _ _ _ _ _ _ _ _ _ _ c.loop.copier c.turn.new.self c.loop.invariant.going c.in_ok-count.ensures.told (rw c.in-None.is at c.in_ok-count.ensures.turns);
 }
+
+pub loop-init : goal.loop-init
+loop-init g c = record {
+  read = search rules;
+  written = search rules;
+  carried = search rules;
+  leads = g.met.L.Link.leads_to_itself c.args.link.now;
+  going = search rules;
+}
+
+pub returns-in-Some-clause-leads : goal.returns-in-Some-clause-leads
+returns-in-Some-clause-leads g c = g.met.L.Link.leads_on _ _ _ c.loop.invariant.leads c.in_ok-count.ensures.leads

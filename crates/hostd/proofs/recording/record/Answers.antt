@@ -1,5 +1,5 @@
 use Rattle.std.proofs.Common.{refl, ◌∙◌}
-use Rattle.hostd.proofs.RecordingLemmas.{none_recorded, recorded_more, record_cut, header_cut, all_recorded}
+use Rattle.hostd.proofs.RecordingLemmas.{none_recorded, recorded_more, record_cut, header_cut, all_recorded, whole_taken}
 use Rattle.hostd.proofs.recording.record.Goals as goal
 
 pub loop-happening-init : goal.loop-happening-init
@@ -24,5 +24,7 @@ loop-happening-preserved g c = record {
 
 pub returns-clause-taken : goal.returns-clause-taken
 returns-clause-taken g c =
-    all_recorded c.args.world.now.seen c.trace-happening-items.result.now _ _ _ _ _ c.file_head.result c.trace-happening-items.ensures.trace
-    c.loop-happening-test.false c.file_head.ensures c.in_ok-write_all.ensures.ok c.loop-happening.invariant.recorded
+    whole_taken c.flush.result c.args.world.now.seen _ _ _
+    (all_recorded c.args.world.now.seen c.trace-happening-items.result.now _ _ _ _ _ c.file_head.result c.trace-happening-items.ensures.trace
+    c.loop-happening-test.false c.file_head.ensures c.in_ok-write_all.ensures.ok c.loop-happening.invariant.recorded)
+    c.flush.ensures.taken c.flush.ensures.fault

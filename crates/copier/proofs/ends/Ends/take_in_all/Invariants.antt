@@ -6,5 +6,6 @@ abbrev pub invariant-loop : goal.invariant-loop
 invariant-loop g l = record {
   failed : g.L.Link.failures l.link ≡ g.L.Link.failures l.fn.link;
   told : KeepsTold (g.L.Link.told l.fn.link) (g.L.Link.told l.link);
+  leads : g.L.Link.leads_to l.fn.link l.link;
   carries : Carries (g.L.Link.told l.fn.link) (g.L.Link.told l.link) l.fn.self l.self;
 }

@@ -15,5 +15,5 @@ returns-in_err-write_all-in-Octets-clause-left g c =
     on_err c.from_residual-in_err-write_all-in-Octets.result
     (drained-front _ _ c.args.self.now c.accept.new.self c.receive.new.self (take c.in-Octets.count c.receive.new.buffer) c.in_ok-accepted.ensures.course reads.1 c.in_err-write_all-in-Octets.ensures.err)
 
-pub returns-in-Err-clause-left : goal.returns-in-Err-clause-left
-returns-in-Err-clause-left g c = drained-kept _ _ c.args.self.now c.flush.ensures.taken
+pub returns-in_err-flush-in-End-clause-left : goal.returns-in_err-flush-in-End-clause-left
+returns-in_err-flush-in-End-clause-left g c = on_err c.from_residual-in_err-flush-in-End.result (drained-kept _ _ c.args.self.now c.in_err-flush-in-End.ensures.taken)
