@@ -10,6 +10,7 @@ use Rattle.tcp_state.specs.Stream.{receive_window, ReceivingFits}
 use Rattle.tcp_state.specs.Windows.{receive_room, has_grown, after_advertisement}
 use Rattle.tcp_state.specs.View.{View, IsSound}
 use Rattle.tcp_state.specs.Due.{MayGoOut, IsHeld, probe_stretch, head_of, octets_of, octets_of_stretch, number_of, flags_of, window_of}
+use Rattle.tcp_state.proofs.AckNumbers.{ack_fits}
 use Rattle.sockets.specs.Sound.{IsSoundConnection}
 
 number_fits : (v : View) (due : Due) → IsSound v → number_of v due < 2 ^ 32
@@ -17,7 +18,7 @@ number_fits v Rst sound = sound.nxt
 number_fits v Syn sound = sound.una
 number_fits v (Text stretch) sound = omega arith
 number_fits v Probe sound = sound.una
-number_fits v Ack sound = sound.nxt
+number_fits v Ack sound = ack_fits v sound
 
 acknowledgement_fits : (b : Bool) (n : ℕ) → n < 2 ^ 32 → (if b then n else 0) < 2 ^ 32
 acknowledgement_fits true n fits = fits

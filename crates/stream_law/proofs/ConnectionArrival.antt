@@ -109,7 +109,7 @@ opening_flight v sound opening =
     let most : outstanding v.sending ≤ length v.sending.held + 1 = subst (λ b. outstanding v.sending ≤ length v.sending.held + (if b || awaits_fin_ack v.state then 1 else 0)) opening sound.flight in
     omega (arith, none, most)
 
-opened_flight : (v : View) → IsSound v → is_opening v.state ≡ false → outstanding v.sending ≤ length v.sending.held + number_of (awaits_fin_ack v.state)
+pub opened_flight : (v : View) → IsSound v → is_opening v.state ≡ false → outstanding v.sending ≤ length v.sending.held + number_of (awaits_fin_ack v.state)
 opened_flight v sound opened = subst (λ b. outstanding v.sending ≤ length v.sending.held + (if b || awaits_fin_ack v.state then 1 else 0)) opened sound.flight
 
 pub opened_held : (v : View) → IsSound v → is_opening v.state ≡ false → length v.sending.held ≤ 65535

@@ -1,23 +1,26 @@
 -- What a connection takes from its caller, and what it sends, is a step of each of its two channels.
-use Rattle.std.proofs.Common.{◌≡◌, ℕ, ◌+◌, ◌-◌, ◌<◌, ◌≤◌, ◌^◌, ◌%◌, ◌||◌, ◌==◌, min, if◌then◌else◌, not, Bool, true, false, List, [], ◌∷◌, ◌++◌, length, take, drop, is_some, arith, refl, sym, ◌∙◌, ap, subst, append-nil, append_assoc, length-append, length-drop}
+use Rattle.std.proofs.Common.{◌≡◌, ℕ, ◌+◌, ◌-◌, ◌<◌, ◌≤◌, ◌^◌, ◌%◌, ◌||◌, ◌==◌, min, nat_le, if◌then◌else◌, not, inl, inr, Bool, true, false, List, [], ◌∷◌, ◌++◌, length, take, drop, is_some, arith, refl, sym, ◌∙◌, ap, subst, append-nil, append_assoc, length-append, length-drop}
 use Rattle.std.proofs.lemmas.Bool.{eqb-true}
+use Rattle.std.proofs.lemmas.Bool.Decides.{leb_tells}
 use Rattle.std.proofs.lemmas.List.{length-take, take-append-drop}
 use Rattle.tcp_segment.specs.Wire.{past}
 use Rattle.tcp_segment.specs.Sent.{sent_segment}
 use Rattle.clock.specs.declared.moment.Moment.{Moment}
-use Rattle.tcp_state.specs.declared.emission.Due.TheVariants.{Syn, Text, Probe}
+use Rattle.tcp_state.specs.declared.emission.Due.TheVariants.{Syn, Text, Probe, Ack as AckAlone}
 use Rattle.tcp_state.specs.declared.emission.Stretch.{Stretch}
-use Rattle.tcp_state.specs.View.{View, is_opening, is_syn_sent, is_write_finished, is_write_closed}
+use Rattle.tcp_state.specs.declared.state.State.{State}
+use Rattle.tcp_state.specs.declared.state.State.TheVariants.{FinWait1, Closing, LastAck}
+use Rattle.tcp_state.specs.View.{View, IsSound, is_opening, is_syn_sent, is_write_finished, is_write_closed, awaits_fin_ack}
 use Rattle.tcp_state.specs.Numbers.{later_number}
 use Rattle.tcp_state.specs.Stream.{outstanding}
 use Rattle.tcp_state.specs.Timing.{clocked}
 use Rattle.tcp_state.specs.Calls.{send_count, with_octets, after_send}
 use Rattle.tcp_state.specs.Due.{IsHeld, probe_stretch, end_of, octets_of_stretch, head_of, octets_of}
-use Rattle.stream_law.specs.Channel.{Open, Waiting, Synchronised, Channel}
-use Rattle.stream_law.specs.ChannelSteps.{Step, writes, emits_syn, emits_text, emits_ack, span}
+use Rattle.stream_law.specs.Channel.{Open, Waiting, Synchronised, Channel, number_of}
+use Rattle.stream_law.specs.ChannelSteps.{Step, writes, emits_syn, emits_text, emits_bare, emits_ack, span}
 use Rattle.stream_law.specs.ChannelViews.{sender_of, receiver_of, SendsInto, ReceivesFrom, frame_of}
 use Rattle.stream_law.proofs.KeepingText.{chosen}
-use Rattle.stream_law.proofs.ConnectionArrival.{either}
+use Rattle.stream_law.proofs.ConnectionArrival.{either, opened_flight}
 
 -- octets that the caller gives stand behind those that are held, and of the rest of both streams nothing changed
 pub record Takes (v w : View) (more : List ℕ) : Type 0 where
@@ -134,6 +137,80 @@ emits-probe cap limit v c unfinished una is shows =
     at_una : (none : Bool) → (if none then alone else oldest).offset ≡ 0
     at_una true = refl
     at_una false = refl
+
+-- An acknowledgement alone goes out at SND.NXT. Where the peer's window ends before, it goes out there, behind octets that are held: as a stretch
+-- of none, which leaves SND.NXT.
+pub emits-alone : (cap limit : ℕ) (v : View) (c : Channel) → IsSound v → SendsInto v c
+    → Step cap limit c (record c {
+      sending = Open (sender_of v);
+      frames = frame_of (sent_segment (head_of v AckAlone) (octets_of v AckAlone)) (length c.written) ∷ c.frames;
+    })
+emits-alone cap limit v c sound shows = by (is_opening v.state) (nat_le (outstanding v.sending) v.sending.window) refl refl
+  where
+    Alone : ℕ → Type 0
+    Alone n = Step cap limit c (record c {
+      sending = Open (sender_of v);
+      frames = record { number = n; octets = []; syn = false; fin = false; written_at = length c.written } ∷ c.frames;
+    })
+
+    at_next : Alone v.sending.nxt
+    at_next =
+        subst (λ x. Step cap limit c (record c { sending = x; frames = record { number = v.sending.nxt; octets = []; syn = false; fin = false; written_at = length c.written } ∷ c.frames }))
+        shows.sending (emits_bare c (sender_of v) shows.sending)
+
+    unawaited : (t : State) → is_write_finished t ≡ true → awaits_fin_ack t ≡ false
+    unawaited FinWait1 e = cc
+    unawaited Closing e = cc
+    unawaited LastAck e = cc
+    unawaited _ e = refl
+
+    one_at_most : (b : Bool) → number_of b ≤ 1
+    one_at_most true = omega arith
+    one_at_most false = omega arith
+
+    -- something is outstanding, so our FIN is not acknowledged
+    unfinished : is_opening v.state ≡ false → v.sending.window < outstanding v.sending → (b : Bool) → is_write_finished v.state ≡ b → b ≡ false
+    unfinished opened beyond false e = refl
+    unfinished opened beyond true e =
+        let some : length v.sending.held ≤ (if is_write_finished v.state then 0 else 65535) = subst (λ b. length v.sending.held ≤ (if b || is_write_finished v.state then 0 else 65535)) opened sound.held in
+        let none : length v.sending.held ≤ 0 = subst (λ b. length v.sending.held ≤ (if b then 0 else 65535)) e some in
+        let flight : outstanding v.sending ≤ length v.sending.held + 0 = subst (λ b. outstanding v.sending ≤ length v.sending.held + number_of b) (unawaited v.state e) (opened_flight v sound opened) in
+        absurd (omega (arith, none, flight, beyond))
+
+    at_edge : is_opening v.state ≡ false → v.sending.window < outstanding v.sending → Alone ((v.sending.una + v.sending.window) % 2 ^ 32)
+    at_edge opened beyond =
+        let s = sender_of v in
+        let w = v.sending.window in
+        let before = take w s.held in
+        let after = drop w s.held in
+        let flight = opened_flight v sound opened in
+        let fin = one_at_most (awaits_fin_ack v.state) in
+        let first : length before ≡ w = length-take w s.held ∙ omega (arith, flight, fin, beyond) in
+        let cut : s.held ≡ (before ++ []) ++ after = sym (take-append-drop w s.held) ∙ ap (λ l. l ++ after) (sym (append-nil before)) in
+        let acked : s.syn_acked ≡ true = ap not opened in
+        let una = sound.una in
+        let nxt = sound.nxt in
+        let end = (s.una + (length before + span [] false)) % 2 ^ 32 in
+        let reach : past end s.una ≡ w = omega (arith, first, una, nxt, beyond) in
+        let stays : later_number s.una s.nxt end ≡ s.nxt = chosen (past s.nxt s.una) (past end s.una) s.nxt end s.nxt (λ le. absurd (omega (arith, le, reach, beyond))) (λ lt. refl) in
+        subst (λ n. Step cap limit c (record c {
+          sending = Open (record s { nxt = n });
+          frames = record { number = (s.una + w) % 2 ^ 32; octets = []; syn = false; fin = false; written_at = length c.written } ∷ c.frames;
+        })) stays
+        (subst (λ n. Step cap limit c (record c {
+          sending = Open (record s { nxt = later_number s.una s.nxt end });
+          frames = record { number = (s.una + n) % 2 ^ 32; octets = []; syn = false; fin = false; written_at = length c.written } ∷ c.frames;
+        })) first
+        (emits_text c s before [] after false shows.sending acked (unfinished opened beyond (is_write_finished v.state) refl) cut (λ t. cc)))
+
+    by : (opening within : Bool) → is_opening v.state ≡ opening → nat_le (outstanding v.sending) v.sending.window ≡ within
+        → Alone (if opening || within then v.sending.nxt else (v.sending.una + v.sending.window) % 2 ^ 32)
+    by true within opens fits = at_next
+    by false true opened fits = at_next
+    by false false opened fits =
+        let beyond : v.sending.window < outstanding v.sending =
+        elim (leb_tells (outstanding v.sending) v.sending.window) [ inl le ↦ let bad : true ≡ false = sym le.0 ∙ fits in cc | inr lt ↦ lt.1 ] in
+        at_edge opened beyond
 
 -- a segment with ACK acknowledges
 pub emits-ack : (cap limit : ℕ) (v : View) (d : Channel) → is_syn_sent v.state ≡ false → ReceivesFrom v d

@@ -13,10 +13,10 @@ use Rattle.tcp_state.specs.Halves.{Sending as SendingHalf}
 use Rattle.tcp_state.specs.Stream.{outstanding, after_sent}
 use Rattle.tcp_state.specs.Due.{MayGoOut, IsHeld, probe_stretch, end_of, flags_of, head_of, octets_of, after_emitted}
 use Rattle.stream_law.specs.Channel.{Channel, Ack, Open, IsAmong, here, there}
-use Rattle.stream_law.specs.ChannelSteps.{Step, steps, emits_bare}
+use Rattle.stream_law.specs.ChannelSteps.{Step, steps}
 use Rattle.stream_law.specs.ChannelViews.{Leads, stays, goes, sender_of, receiving_of, SendsInto, ReceivesFrom, IsOfWidth, frame_of, ack_of}
 use Rattle.stream_law.specs.Pairing.{Present, Emission, Pairing, with_connection}
-use Rattle.stream_law.proofs.ConnectionSends.{emits-syn, emits-stretch, emits-probe, emits-ack}
+use Rattle.stream_law.proofs.ConnectionSends.{emits-syn, emits-stretch, emits-probe, emits-alone, emits-ack}
 use Rattle.stream_law.proofs.Emitted.{GoesOut, syn-out, stretch-out, probe-out, ack-out, sender-out, receiving-out}
 use Rattle.stream_law.proofs.PairingInvariant.{Shown, runs_on, other_stays, connected, living, receives}
 
@@ -170,11 +170,11 @@ went-probe cap limit v into now sound is shows =
     went-out cap limit v (after_emitted v Probe now) into (sent_segment (head_of v Probe) (octets_of v Probe)) (after_sent v.sending (end_of (probe_stretch v))) (probe-out v now)
     (emits-probe cap limit v into (unfinished v (probe_stretch v) sound is) sound.una is shows) (λ e. (opened_past v.state is.opened, refl))
 
-went-ack : (cap limit : ℕ) (v : View) (into : Channel) (now : Moment) → is_syn_sent v.state ≡ false → SendsInto v into
+went-ack : (cap limit : ℕ) (v : View) (into : Channel) (now : Moment) → IsSound v → is_syn_sent v.state ≡ false → SendsInto v into
     → Went cap limit v (after_emitted v AckAlone now) into (sent_segment (head_of v AckAlone) (octets_of v AckAlone))
-went-ack cap limit v into now past shows =
+went-ack cap limit v into now sound past shows =
     went-out cap limit v (after_emitted v AckAlone now) into (sent_segment (head_of v AckAlone) (octets_of v AckAlone)) v.sending (ack-out v now)
-    (subst (λ x. Step cap limit into (record into { sending = x; frames = frame_of (sent_segment (head_of v AckAlone) []) (length into.written) ∷ into.frames })) shows.sending (emits_bare into (sender_of v) shows.sending))
+    (emits-alone cap limit v into sound shows)
     (λ e. (past, refl))
 
 neither : (a b : Bool) → (a || b) ≡ false → (a ≡ false) × (b ≡ false)
@@ -212,4 +212,4 @@ moves-emits cap limit p v due now is sound may unreset width h =
     went Syn may reset shows = went-syn cap limit v h.into now sound may shows
     went (Text stretch) may reset shows = went-text cap limit v h.into stretch now sound may shows
     went Probe may reset shows = went-probe cap limit v h.into now sound may shows
-    went AckAlone may reset shows = went-ack cap limit v h.into now (neither (is_syn_sent v.state) (is_closed v.state) may).0 shows
+    went AckAlone may reset shows = went-ack cap limit v h.into now sound (neither (is_syn_sent v.state) (is_closed v.state) may).0 shows

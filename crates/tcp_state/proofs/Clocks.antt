@@ -1,5 +1,5 @@
 -- How an event leaves the timers of what is outstanding and of the probe, the count of expiries, and the override.
-use Rattle.std.proofs.Common.{◌≡◌, ℕ, ◌+◌, ◌<◌, ◌≤◌, ◌==◌, ◌||◌, ◌&&◌, ◌⊎◌, ◌≢◌, not, nat_lt, if◌then◌else◌, Bool, true, false, length, take, ◌++◌, Option, Some, None, is_some, inl, inr, arith, refl, sym, ◌∙◌, ap}
+use Rattle.std.proofs.Common.{◌≡◌, ℕ, ◌+◌, ◌<◌, ◌≤◌, ◌==◌, ◌||◌, ◌&&◌, ◌⊎◌, ◌≢◌, not, nat_lt, if◌then◌else◌, Bool, true, false, length, take, ◌++◌, Option, Some, None, is_some, inl, inr, arith, refl, sym, ◌∙◌, ap, ap₂, subst}
 use Rattle.std.proofs.lemmas.Bool.{leb-true, eqb-true, eq-eqb, lt-ltb}
 use Rattle.std.proofs.lemmas.Bool.Decides.{eqb_tells}
 use Rattle.tcp_segment.specs.Segment.{Segment}
@@ -8,15 +8,17 @@ use Rattle.clock.specs.Moments.{after, has_come}
 use Rattle.retransmit.specs.declared.timers.Timers.{Timers}
 use Rattle.retransmit.specs.Deadlines.{no_timers, next_of}
 use Rattle.tcp_state.specs.declared.calls.Refusal.TheVariants.{ECONNREFUSED, ETIMEDOUT}
+use Rattle.tcp_state.specs.declared.state.State.{State}
+use Rattle.tcp_state.specs.declared.state.State.TheVariants.{SynSent, SynReceived}
 use Rattle.tcp_state.specs.declared.emission.Due.{Due}
 use Rattle.tcp_state.specs.declared.emission.Due.TheVariants.{Rst, Syn, Text, Probe, Ack}
 use Rattle.tcp_state.specs.declared.emission.Stretch.{Stretch}
 use Rattle.tcp_state.specs.Stream.{outstanding, after_sent}
 use Rattle.tcp_state.specs.Pace.{Pace, stopped, pace_probed, pace_acknowledged}
-use Rattle.tcp_state.specs.View.{View, is_opening, is_syn_received, is_closed, is_fin_wait_2, is_write_closed, is_at_end, after_stop, after_reset}
+use Rattle.tcp_state.specs.View.{View, is_opening, is_syn_sent, is_syn_received, is_closed, is_fin_wait_2, is_write_closed, is_at_end, after_stop, after_reset}
 use Rattle.tcp_state.specs.Timing.{probes, retransmits, awaits_more, running, clocked, expires, gives_up, retransmission_expired, probe_expired, after_expiry, delayed_ack_expired, after_timers}
 use Rattle.tcp_state.specs.Calls.{send_count, beyond_shutdown, latest, shutdown_refusal, after_shutdown, aborted_at, after_release, is_removed_by_close, is_aborted_by_close}
-use Rattle.tcp_state.specs.Arrival.{is_receiving, beyond_fin, fin_acknowledged, after_new_ack, after_ack, after_window, after_text, after_fin, after_heard, is_acceptable_to, answers_probe, before, since_after, is_moved, pace_heard, pace_after, congestion_after}
+use Rattle.tcp_state.specs.Arrival.{is_receiving, beyond_fin, fin_acknowledged, after_new_ack, after_ack, after_window, after_text, after_fin, after_heard, acknowledges_unsent, is_rejected, is_acceptable_to, answers_probe, timed_by, before, since_after, is_moved, pace_heard, pace_after, congestion_after}
 use Rattle.tcp_state.specs.Due.{first_due, probe_stretch, end_of, after_ack_paid, after_resent, after_first_sent, after_numbers, after_new_octets, brings_new_octets, after_stretch, after_probe, after_syn_out, after_going_out}
 use Rattle.tcp_state.specs.Unreachable.{is_unreachable}
 use Rattle.tcp_state.specs.Edges.{Event, Hears, Ticks, Emits, Sends, Receives, Shuts, Closes, Aborts, Unreachable, moment_of, after_first, after_event}
@@ -520,3 +522,28 @@ acknowledged v s now = by_clock (λ w. w.sending.una ≢ v.sending.una → w.pac
     let heard : P (pace_heard b w now) = either Pace P (is_moved b w) (pace_acknowledged w.pace w.sending.una (is_opening b.state) now) _ (λ moved. refl)
     (λ unmoved. elim (eqb_tells v.sending.una w.sending.una) [ inl same ↦ absurd (moves (sym same.1)) | inr differ ↦ clash (not (v.sending.una == w.sending.una)) (of_false (v.sending.una == w.sending.una) differ.0) unmoved ]) in
     after_paced b w now P heard heard)
+
+-- a connection that opens no more rejects nothing
+unrejected : (a x y : Bool) (t : State) → is_opening t ≡ false → (a && (is_syn_sent t || (is_syn_received t && x && y))) ≡ false
+unrejected false x y t e = refl
+unrejected true x y SynSent e = cc
+unrejected true x y SynReceived e = cc
+unrejected true x y _ e = refl
+
+-- .. and so is the answer of a peer whose window is closed
+pub answered : (v : View) (s : Segment) (now : Moment) → is_closed v.state ≡ false → is_opening v.state ≡ false → v.sending.window ≡ 0 → is_acceptable_to v s ≡ true → s.flags.ack ≡ true → s.flags.rst ≡ false
+    → (after_event v (Hears s now)).pace.expiries ≡ 0
+answered v s now lives opened shut fits acks unreset =
+    let b = before v s in
+    let w = after_heard v s in
+    let P : Pace → Type 0 = λ p. p.expiries ≡ 0 in
+    let quiet : (is_closed v.state || is_rejected v s) ≡ false = ap₂ (λ x y. x || y) lives (unrejected (acknowledges_unsent v s) (is_acceptable_to v s) (not s.flags.syn) v.state opened) in
+    let told : answers_probe v s ≡ true =
+    subst (λ x. (not x && (v.sending.window == 0) && is_acceptable_to v s && s.flags.ack && not s.flags.rst) ≡ true) (sym opened)
+    (subst (λ n. (true && (n == 0) && is_acceptable_to v s && s.flags.ack && not s.flags.rst) ≡ true) (sym shut)
+    (subst (λ x. (true && true && x && s.flags.ack && not s.flags.rst) ≡ true) (sym fits)
+    (subst (λ x. (true && true && true && x && not s.flags.rst) ≡ true) (sym acks)
+    (subst (λ x. (true && true && true && true && not x) ≡ true) (sym unreset) refl)))) in
+    let heard : P (pace_heard b w now) = either Pace P (is_moved b w) (pace_acknowledged w.pace w.sending.una (is_opening b.state) now) _ (λ moved. refl)
+    (λ unmoved. either Pace P (answers_probe v s) (record w.pace { expiries = 0 }) w.pace (λ answers. refl) (λ silent. clash (answers_probe v s) told silent)) in
+    either View (λ x. x.pace.expiries ≡ 0) (is_closed v.state || is_rejected v s) v (timed_by b w now) (λ is. clash (is_closed v.state || is_rejected v s) is quiet) (λ goes. after_paced b w now P heard heard)

@@ -26,6 +26,7 @@ pub mod Segments
 pub mod Rejecting
 pub mod Emissions
 pub mod NewNumbers
+pub mod AckNumbers
 pub mod Deadlines
 pub mod Timers
 pub mod Paces

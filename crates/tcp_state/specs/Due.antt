@@ -1,5 +1,5 @@
 -- What goes out, and what that makes of a connection (RFC 9293 section 3.8).
-use Rattle.std.specs.Prelude.{◌≡◌, ℕ, ◌+◌, ◌-◌, ◌*◌, ◌%◌, ◌^◌, ◌<◌, ◌≤◌, ◌==◌, ◌&&◌, ◌||◌, not, nat_lt, min, Bool, true, false, if◌then◌else◌, List, [], length, take, drop, Option, Some, None, is_some}
+use Rattle.std.specs.Prelude.{◌≡◌, ℕ, ◌+◌, ◌-◌, ◌*◌, ◌%◌, ◌^◌, ◌<◌, ◌≤◌, ◌==◌, ◌&&◌, ◌||◌, not, nat_le, nat_lt, min, Bool, true, false, if◌then◌else◌, List, [], length, take, drop, Option, Some, None, is_some}
 use Rattle.std.specs.Option.{option_or}
 use Rattle.tcp_segment.specs.declared.TheConstants.{MSS}
 use Rattle.tcp_segment.specs.declared.flags.Flags.{Flags}
@@ -55,12 +55,17 @@ flags_of v (Text stretch) = flags_of_stretch v stretch
 flags_of v Probe = flags_of_stretch v (probe_stretch v)
 flags_of v Ack = record { fin = false; syn = false; rst = false; psh = false; ack = true; urg = false }
 
+-- The number of an acknowledgement alone: SND.NXT; or where a probe brought numbers past the peer's window, the end of that window, since the peer hears
+-- nothing from further on (sections 3.8.6.1 and 3.10.7.4). While the connection opens no window bounds it.
+abbrev pub ack_number : View → ℕ
+ack_number v = if is_opening v.state || nat_le (outstanding v.sending) v.sending.window then v.sending.nxt else (v.sending.una + v.sending.window) % 2 ^ 32
+
 abbrev pub number_of : View → Due → ℕ
 number_of v Rst = v.sending.nxt
 number_of v Syn = v.sending.una
 number_of v (Text stretch) = (v.sending.una + stretch.offset) % 2 ^ 32
 number_of v Probe = v.sending.una
-number_of v Ack = v.sending.nxt
+number_of v Ack = ack_number v
 
 abbrev pub octets_of_stretch : View → Stretch → List ℕ
 octets_of_stretch v stretch = take stretch.count (drop stretch.offset v.sending.held)

@@ -6,7 +6,7 @@ ghost use Rattle.tcp_state.specs.View.{is_opening, is_syn_sent, most_outstanding
 ghost use Rattle.tcp_state.specs.Stream.{outstanding};
 ghost use Rattle.tcp_segment.specs.declared.TheConstants.{MSS};
 ghost use Rattle.tcp_state.specs.Timing.{probes};
-ghost use Rattle.tcp_state.specs.Due.{MayGoOut, IsHeld, first_due, ack_due, again, goes_again, again_from, sends_new, new_octets, sends_fin, fin_alone, new_due, probe_stretch, numbers_of, end_of, flags_of, flags_of_stretch, number_of, octets_of, window_of, head_of, segment_octets, emitted_len, after_emitted, after_going_out, after_ack_paid, after_numbers, after_resent, after_first_sent, after_new_octets, brings_new_octets, after_stretch, after_probe, after_syn_out};
+ghost use Rattle.tcp_state.specs.Due.{MayGoOut, IsHeld, first_due, ack_due, again, goes_again, again_from, sends_new, new_octets, sends_fin, fin_alone, new_due, probe_stretch, numbers_of, end_of, flags_of, flags_of_stretch, ack_number, number_of, octets_of, window_of, head_of, segment_octets, emitted_len, after_emitted, after_going_out, after_ack_paid, after_numbers, after_resent, after_first_sent, after_new_octets, brings_new_octets, after_stretch, after_probe, after_syn_out};
 
 use crate::connection::Connection;
 use crate::state::State;
@@ -307,7 +307,20 @@ impl Connection {
         match due {
             Due::Syn | Due::Probe => self.sender.una(),
             Due::Text(stretch) => self.sender.una() + stretch.offset as u32,
-            Due::Rst | Due::Ack => self.sender.nxt(),
+            Due::Rst => self.sender.nxt(),
+            Due::Ack => self.ack_number(),
+        }
+    }
+
+    /// The number of an acknowledgement alone: SND.NXT, or the end of the peer's window where a probe brought numbers past it.
+    fn ack_number(&self) -> Seq
+        ensures { result.0 ≡ ack_number self.now }
+    {
+        let window = self.sender.window();
+        if self.state.is_opening() || self.sender.outstanding() <= window {
+            self.sender.nxt()
+        } else {
+            self.sender.una() + window
         }
     }
 

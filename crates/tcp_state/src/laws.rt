@@ -3,6 +3,10 @@
 ghost use Rattle.std.specs.Prelude.{◌≡◌, ℕ, ◌+◌, ◌-◌, ◌*◌, ◌%◌, ◌<◌, ◌≤◌, ◌==◌, ◌≢◌, nat_lt, min, ◌^◌, ◌⊎◌, ◌↔◌, ◌||◌, ◌&&◌, List, ◌++◌, slice_index_or, length, drop, true, false, if◌then◌else◌, Some, None, is_some, []};
 ghost use Rattle.ipv4.specs.declared.addr.Endpoint.{Endpoint};
 ghost use Rattle.tcp_segment.specs.Segment.{Segment, span_of};
+ghost use Rattle.tcp_segment.specs.declared.TheConstants.{DEFAULT_MSS, LEAST_MSS, MSS};
+ghost use Rattle.tcp_state.specs.declared.buffers.TheConstants.{CAPACITY};
+ghost use Rattle.tcp_state.specs.declared.ending.TheConstants.{TIME_WAIT, FIN_WAIT_2};
+ghost use Rattle.tcp_state.specs.declared.timing.TheConstants.{DELAYED_ACK};
 ghost use Rattle.tcp_state.specs.declared.calls.Refusal.{Refusal};
 ghost use Rattle.clock.specs.declared.moment.Moment.{Moment};
 ghost use Rattle.clock.specs.Moments.{after, has_come};
@@ -15,7 +19,7 @@ ghost use Rattle.tcp_state.specs.Numbers.{is_before};
 ghost use Rattle.tcp_state.specs.Halves.{Sending, Receiving};
 ghost use Rattle.std.specs.Option.{option_or};
 ghost use Rattle.stream_buf.specs.Receiving.{ranges, IsReceiving};
-ghost use Rattle.tcp_state.specs.Stream.{outstanding, buffer_of, octets_gained, after_octets};
+ghost use Rattle.tcp_state.specs.Stream.{outstanding, receive_window, is_acceptable, buffer_of, octets_gained, after_octets};
 ghost use Rattle.tcp_state.specs.Windows.{updates_window};
 ghost use Rattle.tcp_state.specs.Positions.{ReceivesAt, IsNear, MeetsWindow, AreNear, brought, known_at, places_after, takes_octets, kept_with, AreFree, NeverBack, HasNumber, HasToSend, takes_numbers};
 ghost use Rattle.retransmit.specs.declared.timers.TimerKind.{TimerKind};
@@ -26,11 +30,23 @@ ghost use Rattle.tcp_state.specs.Timing.{KeepsTime, probes, expires, wants_out, 
 ghost use Rattle.congestion.specs.Window.{is_recovering, third_is_next};
 ghost use Rattle.tcp_state.specs.Congestion.{KeepsCongestion, after_signal};
 ghost use Rattle.tcp_state.specs.Arrival.{opened_passively, fate, is_acceptable_to, is_receiving, is_read, is_duplicate, after_ack, after_heard, after_segment_at};
-ghost use Rattle.tcp_state.specs.Due.{MayGoOut, first_due, end_of, flags_of, octets_of, sends_again, again, after_emitted};
+ghost use Rattle.tcp_state.specs.Due.{MayGoOut, first_due, number_of, end_of, flags_of, octets_of, sends_again, again, after_emitted};
 ghost use Rattle.tcp_state.specs.Unreachable.{IsRefused};
 ghost use Rattle.tcp_state.specs.Simultaneous.{crossed, AnswersSyn, HasOpened};
 ghost use Rattle.tcp_state.specs.Opening.{OpenedBy, Confirmed};
 ghost use Rattle.tcp_state.specs.Edges.{Event, after_event, fate_by, moment_of, state_after, IsEdge, ends_by, is_cause, may_raise, congestion_event_by};
+
+/// The constants have their values: TIME-WAIT lasts twice the two minutes that a segment may live (RFC 9293 section 3.4.2), a peer's segments are taken to have room for 536 octets where its SYN doesn't say for
+/// how many (section 3.7.1), and an acknowledgement waits for less than half a second (RFC 1122 section 4.2.3.2); the others are this stack's own.
+pub fn constants()
+    ensures time_wait { TIME_WAIT ≡ 240000 }
+    ensures fin_wait { FIN_WAIT_2 ≡ 60000 }
+    ensures delayed_ack { DELAYED_ACK ≡ 200 }
+    ensures default_size { DEFAULT_MSS ≡ 536 }
+    ensures least_size { LEAST_MSS ≡ 64 }
+    ensures size { MSS ≡ 1460 }
+    ensures capacity { CAPACITY ≡ 65535 }
+{}
 
 /// One event joins only states that the table of edges joins, or leaves the state.
 pub fn events_follow_edges()
@@ -157,6 +173,15 @@ pub fn no_older_window_is_believed()
         → (((after_segment_at v s now).sending.window ≡ v.sending.window) × ((after_segment_at v s now).sending.wl1 ≡ v.sending.wl1))
         ⊎ (((after_segment_at v s now).sending.window ≡ s.window) × ((after_segment_at v s now).sending.wl1 ≡ s.number)
         × ((is_syn_sent v.state ≡ true) ⊎ ((updates_window (after_ack v s.acknowledgement).sending s.number s.acknowledgement ≡ true) × ((after_segment_at v s now).sending.wl2 ≡ s.acknowledgement)))) }
+{}
+
+/// An acknowledgement alone is heard by a peer that has probed, or was probed (RFC 9293 sections 3.4 and 3.8.6.1). Once a connection is open it goes out at SND.NXT, or at the end of the peer's
+/// window where a probe brought numbers past that. So a peer whose window is closed, and that stands at SND.UNA, takes it for acceptable (section 3.10.7.4, first), and with it what it
+/// acknowledges and the window that it advertises.
+pub fn acknowledgements_are_heard()
+    ensures within { (v : View) → IsSound v → is_opening v.state ≡ false → past (number_of v Due.Ack) v.sending.una ≡ min (outstanding v.sending) v.sending.window }
+    ensures closed { (v : View) (peer : Receiving) → IsSound v → is_opening v.state ≡ false → v.sending.window ≡ 0 → peer.rnext ≡ v.sending.una → receive_window peer ≡ 0
+        → is_acceptable peer (number_of v Due.Ack) 0 ≡ true }
 {}
 
 /// SND.UNA, SND.NXT, RCV.NXT and the right edge of the window advertised never go back (RFC 9293 sections 3.4 and 3.8.6), whatever happens to a connection.
@@ -368,7 +393,7 @@ pub fn probes_wait_twice_as_long()
 {}
 
 /// The clock ends a connection, but at the end of its wait, at the thirteenth expiry without progress and at no other (RFC 9293 section 3.8.3), and then every call reports ETIMEDOUT. Each expiry counts,
-/// and only progress begins the count anew: SND.UNA moved, or a peer whose window is closed acknowledged.
+/// and only progress begins the count anew: SND.UNA moved, or a peer whose window is closed acknowledged. Either always does: a peer that answers the probes of its closed window is never given up.
 pub fn the_thirteenth_expiry_ends()
     ensures ends { (v : View) (now : Moment) → IsSound v → is_closed v.state ≡ false → is_at_end v now ≡ false → is_closed (after_tick v now).state ≡ true
         → (v.pace.expiries ≡ 12) × (expires v now ≡ true) × ((after_tick v now).pending_error ≡ Some Refusal.ETIMEDOUT) }
@@ -378,4 +403,6 @@ pub fn the_thirteenth_expiry_ends()
         ⊎ ((((after_event v e).pace.expiries ≡ 0) × (((after_event v e).sending.una ≢ v.sending.una) ⊎ (v.sending.window ≡ 0)))
         ⊎ ((now : Moment) × (e ≡ Event.Ticks now) × (expires v now ≡ true) × ((after_event v e).pace.expiries ≡ v.pace.expiries + 1))) }
     ensures progress { (v : View) (s : Segment) (now : Moment) → (after_event v (Event.Hears s now)).sending.una ≢ v.sending.una → (after_event v (Event.Hears s now)).pace.expiries ≡ 0 }
+    ensures answered { (v : View) (s : Segment) (now : Moment) → is_closed v.state ≡ false → is_opening v.state ≡ false → v.sending.window ≡ 0 → is_acceptable_to v s ≡ true
+        → s.flags.ack ≡ true → s.flags.rst ≡ false → (after_event v (Event.Hears s now)).pace.expiries ≡ 0 }
 {}
