@@ -1,5 +1,5 @@
 -- A turn of a copy, and all turns.
-use Rattle.std.proofs.Common.{◌≡◌, ℕ, ◌+◌, ◌-◌, ◌<◌, ◌≤◌, ◌^◌, min, Bool, true, false, List, [], ◌∷◌, ◌++◌, length, take, Option, Some, None, Result, Ok, Err, arith, refl, sym, ◌∙◌, ap, subst, append_assoc, append-nil}
+use Rattle.std.proofs.Common.{◌≡◌, ℕ, ◌+◌, ◌-◌, ◌<◌, ◌≤◌, ◌^◌, min, Bool, true, false, List, [], ◌∷◌, ◌++◌, length, take, Option, Some, None, Result, Ok, Err, IfOk, arith, refl, sym, ◌∙◌, ap, subst, append_assoc, append-nil}
 use Rattle.std.proofs.lemmas.List.{length-append}
 use Rattle.std.specs.Io.KnownBytes.{IsAtEnd, Keeps, Appends}
 use Rattle.std.specs.Result.{IsErr}
@@ -16,7 +16,7 @@ use Rattle.copier.specs.declared.turns.Drained.{Drained}
 use Rattle.copier.specs.declared.turns.Drained.TheVariants.{Still, Moved, End}
 use Rattle.copier.specs.Moves.{copy_of, GoesOn, KeepsTold}
 use Rattle.copier.specs.Feeding.{pending, IsFed, IsBegun, KeepsFed, LeavesBegun}
-use Rattle.copier.specs.Copying.{count_of, is_end, IsDrained, DrainsTo, BeginsSent, LeavesDrained, IsLeft, IsUnderWay, TurnsTo, Turns}
+use Rattle.copier.specs.Copying.{count_of, is_end, IsDrained, DrainsTo, BeginsSent, LeavesDrained, IsLeft, CameOver, IsUnderWay, TurnsTo, Turns}
 use Rattle.copier.proofs.Passing.{some_same}
 use Rattle.copier.proofs.Feeding.{kept-some, appended-some, begun}
 
@@ -144,22 +144,30 @@ turn-moved gave had given_0 remaining_0 given_1 remaining_1 taken_0 taken_1 c d 
 
 pub turn-ended : (gave had : List ℕ) (given_0 remaining_0 given_1 remaining_1 taken_0 taken_1 : Option (List ℕ)) (c d : Copier) (f : Feed) (a b : Ends) (told longer : List Passage) → KeepsFed given_0 remaining_0 given_1 remaining_1 c.feed f c.ends a
     → ((sent read : List ℕ) (closed ended : Bool) → IsCourse (copy_of a told sent read closed ended) → IsCourse (copy_of b longer sent read closed ended)) → DrainsTo End taken_0 taken_1 (record { ends = b; feed = f; written = c.written }) d
-    → IsUnderWay gave had given_0 remaining_0 taken_0 c told → IsLeft (Ok d.written) had gave given_1 remaining_1 taken_1
+    → IsUnderWay gave had given_0 remaining_0 taken_0 c told → IsLeft (Ok d.written) had gave given_1 remaining_1 taken_1 × CameOver longer had taken_1
 turn-ended gave had given_0 remaining_0 given_1 remaining_1 taken_0 taken_1 c d f a b told longer keeps brings drains u =
     let fed = carried-fed gave given_1 remaining_1 f a b told longer u.read brings (keeps gave told u.read u.fed) in
     let x = drains had longer fed.sent f.closed (drained-of gave had given_1 remaining_1 taken_0 c.written f b longer u.read fed u.taken_is u.count) in
     let l = course_lawful (copy_of d.ends longer fed.sent x.read f.closed true) x.course in
     let whole = l.end refl in
     let at_end = fed.at_end (fed.closed whole.0) in
-    let all : fed.sent ++ pending f ≡ x.read = ap (λ p. fed.sent ++ p) at_end.1 ∙ (append-nil fed.sent ∙ sym whole.1) in
-    record {
-      read = fed.sent ++ pending f;
-      written = x.read;
-      given_is = fed.given_is;
-      taken_is = x.taken_is;
-      begins = begins_more x.read fed.sent (pending f) l.begins;
-      whole = (sym all, at_end.0, x.count);
-    }
+    let all : fed.sent ++ pending f ≡ x.read = ap (λ p. fed.sent ++ p) at_end.1 ∙ (append-nil fed.sent ∙ sym whole.1) in (
+      record {
+        read = fed.sent ++ pending f;
+        written = x.read;
+        given_is = fed.given_is;
+        taken_is = x.taken_is;
+        begins = begins_more x.read fed.sent (pending f) l.begins;
+        whole = (sym all, at_end.0, x.count);
+      },
+      record {
+        copy = copy_of d.ends longer fed.sent x.read f.closed true;
+        course = x.course;
+        told_is = refl;
+        taken_is = x.taken_is;
+        ended = refl;
+      },
+    )
 
 -- the clock went on
 pub under-later : (gave had : List ℕ) (given remaining taken : Option (List ℕ)) (c d : Copier) (told : List Passage) → GoesOn c.ends d.ends → d.feed ≡ c.feed → d.written ≡ c.written → IsUnderWay gave had given remaining taken c told → IsUnderWay gave had given remaining taken d told
@@ -206,9 +214,10 @@ pub turns_err : (r : Result (Option ℕ) CopyFault) (gave had : List ℕ) (given
 turns_err (Ok x) gave had given remaining taken c told e all = cc
 turns_err (Err fault) gave had given remaining taken c told e all = all fault
 
-pub left_err : (r : Result ℕ CopyFault) (gave had : List ℕ) (given remaining taken : Option (List ℕ)) → IsErr r → ((fault : CopyFault) → IsLeft (Err fault) had gave given remaining taken) → IsLeft r had gave given remaining taken
-left_err (Ok x) gave had given remaining taken e all = cc
-left_err (Err fault) gave had given remaining taken e all = all fault
+pub left_err : (r : Result ℕ CopyFault) (gave had : List ℕ) (given remaining taken : Option (List ℕ)) (passed : List Passage) → IsErr r → ((fault : CopyFault) → IsLeft (Err fault) had gave given remaining taken)
+    → IsLeft r had gave given remaining taken × IfOk r (λ count. CameOver passed had taken)
+left_err (Ok x) gave had given remaining taken passed e all = cc
+left_err (Err fault) gave had given remaining taken passed e all = (all fault, tt)
 
 -- nothing was moved
 pub left-unmoved : (fault : CopyFault) (gave had : List ℕ) (given remaining taken : Option (List ℕ)) → given ≡ Some gave → taken ≡ Some had → IsLeft (Err fault) had gave given remaining taken

@@ -3,6 +3,7 @@ use Rattle.std.specs.Prelude.{◌≡◌, ℕ, ◌-◌, ◌^◌, min, Bool, true,
 use Rattle.std.specs.Io.KnownBytes.{IsAtEnd}
 use Rattle.devices.specs.Passages.{Passage, IsFairLink}
 use Rattle.stream_law.specs.Begins.{Begins}
+use Rattle.copy_law.specs.CopyView.{CopyView}
 use Rattle.copy_law.specs.Course.{IsCourse}
 use Rattle.copier.specs.declared.fault.CopyFault.{CopyFault}
 use Rattle.copier.specs.declared.ends.Ends.{Ends}
@@ -52,11 +53,20 @@ pub record IsLeft (result : Result ℕ CopyFault) (had gave : List ℕ) (given r
   pub begins : Begins written read
   pub whole : IfOk result (λ count. (written ≡ read) × IsAtEnd remaining × (count ≡ count_of written))
 
--- so it is where source, sink and link tell what they move, nothing passed through the link before, and the link is fair
+-- It came over: the sink took what the second of two hosts gave, whose connection with the first one has ended, and the link's passages are those of
+-- their frames.
+pub record CameOver (told : List Passage) (had : List ℕ) (taken : Option (List ℕ)) : Type 0 where
+  pub copy : CopyView
+  pub course : IsCourse copy
+  pub told_is : copy.told ≡ told
+  pub taken_is : taken ≡ Some (had ++ copy.read)
+  pub ended : copy.ended ≡ true
+
+-- so it is, and came over where a number is answered, where source, sink and link tell what they move, nothing passed through the link before, and the link is fair
 abbrev pub Copies : Result ℕ CopyFault → Option (List ℕ) → Option (List ℕ) → Option (List ℕ) → Option (List ℕ) → Option (List ℕ) → Option (List Passage) → Option (List Passage) → Type 0
 Copies result given_before given remaining taken_before taken told_before told =
     (gave had : List ℕ) (passed : List Passage) → given_before ≡ Some gave → taken_before ≡ Some had → told_before ≡ Some [] → told ≡ Some passed → IsFairLink passed
-    → IsLeft result had gave given remaining taken
+    → IsLeft result had gave given remaining taken × IfOk result (λ count. CameOver passed had taken)
 
 -- A copy under way: the source gave what was sent and what waits to be sent, and the sink took what b gave.
 pub record IsUnderWay (gave had : List ℕ) (given remaining taken : Option (List ℕ)) (c : Copier) (told : List Passage) : Type 0 where
@@ -68,7 +78,7 @@ pub record IsUnderWay (gave had : List ℕ) (given remaining taken : Option (Lis
 -- what a turn makes of a copy under way: it is under way, or it has come to its end or to a fault
 abbrev pub TurnsTo : Result (Option ℕ) CopyFault → List ℕ → List ℕ → Option (List ℕ) → Option (List ℕ) → Option (List ℕ) → Copier → List Passage → Type 0
 TurnsTo (Ok None) gave had given remaining taken c told = IsUnderWay gave had given remaining taken c told
-TurnsTo (Ok (Some count)) gave had given remaining taken c told = IsLeft (Ok count) had gave given remaining taken
+TurnsTo (Ok (Some count)) gave had given remaining taken c told = IsLeft (Ok count) had gave given remaining taken × CameOver told had taken
 TurnsTo (Err fault) gave had given remaining taken c told = IsLeft (Err fault) had gave given remaining taken
 
 abbrev pub Turns : Result (Option ℕ) CopyFault → Option (List ℕ) → Option (List ℕ) → Option (List ℕ) → Option (List ℕ) → Option (List ℕ) → Option (List ℕ) → Option (List Passage) → Option (List Passage) → Copier → Copier → Type 0

@@ -5,15 +5,15 @@ use Rattle.copier.proofs.turns.copy.Goals as goal
 
 pub returns-in_err-copier-clause-copies : goal.returns-in_err-copier-clause-copies
 returns-in_err-copier-clause-copies g c = λ gave had passed is_given is_taken is_first is_told fair.
-    left_err c.from_residual.result gave had _ _ _ c.from_residual.ensures.0 (λ fault. left-unmoved fault gave had _ _ _ is_given is_taken)
+    left_err c.from_residual.result gave had _ _ _ passed c.from_residual.ensures.0 (λ fault. left-unmoved fault gave had _ _ _ is_given is_taken)
 
 pub returns-clause-copies : goal.returns-clause-copies
 returns-clause-copies g c = λ gave had passed is_given is_taken is_first is_told fair.
-    under-left Stalled gave had _ _ _ c.loop.copier passed (under-at _ _ _ _ _ _ _ c.loop.copier c.loop.invariant.going gave had passed is_given is_taken is_first is_told fair)
+    (under-left Stalled gave had _ _ _ c.loop.copier passed (under-at _ _ _ _ _ _ _ c.loop.copier c.loop.invariant.going gave had passed is_given is_taken is_first is_told fair), tt)
 
 pub returns-in_err-count-clause-copies : goal.returns-in_err-count-clause-copies
 returns-in_err-count-clause-copies g c = λ gave had passed is_given is_taken is_first is_told fair.
-    left_err c.from_residual-in_err-count.result gave had _ _ _ c.from_residual-in_err-count.ensures.0
+    left_err c.from_residual-in_err-count.result gave had _ _ _ passed c.from_residual-in_err-count.ensures.0
     (λ fault. any_fault c.in_err-count.field-0.0 fault gave had _ _ _
     (turned (Err c.in_err-count.field-0.0) _ _ _ _ _ _ _ _ _ _ _ c.loop.copier c.turn.new.self c.loop.invariant.going c.in_err-count.ensures.told c.in_err-count.ensures.turns gave had passed is_given is_taken is_first is_told fair))
 
