@@ -8,8 +8,6 @@ mod header;
 pub mod laws;
 mod reader;
 mod record;
-#[cfg(test)]
-mod tests;
 
 pub use fault::{HeaderFault, RecordFault};
 pub use format::{Format, Fraction, Order};

@@ -4,8 +4,6 @@
 mod ends;
 mod fault;
 mod feed;
-#[cfg(test)]
-mod tests;
 mod turns;
 
 pub use fault::CopyFault;

@@ -2,29 +2,17 @@
 //! or what the frames of a capture say; or copies a file over two hosts.
 #![tactic(auto)]
 
-mod captured;
-mod copying;
-mod fault;
-mod frame;
-mod input;
-mod laddered;
-mod line;
-mod output;
-mod progress;
-mod recording;
-mod request;
-mod sim;
-
 use clap::error::ErrorKind;
+use commands::copying::{Broken, Counting, TURNS, copy_captured};
+use commands::fault::TextFault;
+use commands::progress::Progress;
+use commands::request::Line;
+use commands::sim::Ends;
+use commands::{captured, frame, laddered, line, sim};
 use copier::CopyFault;
-use copying::{Broken, Counting, TURNS, copy_captured};
 use devices::{Reading, Sink, Source, Writing};
-use fault::TextFault;
 use ladder::Numbering;
-use progress::Progress;
 use recorder::RecordedLink;
-use request::Line;
-use sim::Ends;
 use std::alloc::Global;
 use std::fs::{File, OpenFile};
 use std::io::BufWriter;
@@ -35,9 +23,6 @@ use udp_link::{Losses, PeerSocket, SocketLink, pair};
 
 /// A new file, whose octets are handed on many at a time.
 type FileSink = Writing<BufWriter<File>>;
-
-#[cfg(test)]
-mod tests;
 
 /// The status after a usage fault, and after help.
 const USAGE: u8 = 2;
@@ -190,6 +175,10 @@ fn copy_file(
     let Ok(dst) = fs::create(rt, destination) else {
         return report(rt, format_args!("cannot create {destination}"));
     };
+    // Two names of a new file lead to one only now that it is there.
+    if let Some((one, other)) = twice_meant(rt, source, destination, capture) {
+        return report(rt, format_args!("{one} and {other} are the same file"));
+    }
     let Ok(capture) = create_told(rt, capture) else {
         return report(rt, TextFault::Write);
     };

@@ -11,8 +11,6 @@ mod numbers;
 mod passage;
 mod record;
 mod rung;
-#[cfg(test)]
-mod tests;
 mod text;
 
 pub use happened::{Happened, Line, Text};

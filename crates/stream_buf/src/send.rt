@@ -87,36 +87,3 @@ impl SendBuf {
         self.held.capacity()
     }
 }
-
-#[cfg(test)]
-mod tests {
-    use super::*;
-
-    /// The two octets that are held from a place on; None where there are fewer.
-    fn two_at(buffer: &SendBuf, offset: usize) -> Option<[u8; 2]> {
-        let mut out = [b'.'; 2];
-        if buffer.len() < 2 || offset > buffer.len() - 2 {
-            return None;
-        }
-        buffer.copy_at(offset, &mut out);
-        Some(out)
-    }
-
-    /// Octets wait in order until they are acknowledged, which makes room for more.
-    #[test]
-    fn holds_until_acknowledged(rt: HostRuntime) -> Result<(), AllocError> {
-        let mut buffer = SendBuf::with_capacity(rt.alloc(), 4)?;
-        assert!(rt; buffer.is_empty());
-        assert_eq!(rt; buffer.write(b"abcde"), 4);
-        assert_eq!(rt; two_at(&buffer, 2), Some(*b"cd"));
-        if buffer.len() >= 3 {
-            buffer.acked(3);
-        }
-        assert_eq!(rt; buffer.room(), 3);
-        assert_eq!(rt; buffer.write(b"e"), 1);
-        assert_eq!(rt; two_at(&buffer, 0), Some(*b"de"));
-        assert_eq!(rt; two_at(&buffer, 1), None);
-        assert_eq!(rt; buffer.capacity(), 4);
-        Ok(())
-    }
-}

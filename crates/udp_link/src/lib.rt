@@ -7,8 +7,6 @@ mod link;
 mod losses;
 mod peer;
 mod socket;
-#[cfg(test)]
-mod tests;
 
 pub use every::{Every, LEAST_STEP, MOST_STEP};
 pub use link::SocketLink;

@@ -1,6 +1,7 @@
 //! Tables of vectors, a module for each format or part. Octets stand in them as byte strings.
 
 mod buffers;
+mod captures;
 mod datagrams;
 mod fragments;
 mod heard;
@@ -12,6 +13,7 @@ mod packets;
 mod plain;
 mod prefixes;
 mod segments;
+mod streams;
 mod sums;
 mod texts;
 mod timeouts;

@@ -1,4 +1,4 @@
-//! A run of a world beside its steps. Whole scripts are run by `hostd`'s tests.
+//! A run of a world beside its steps. Whole scripts are run by the tests of `transcripts`.
 
 use super::stations::{self, ONE, SERVER, TWO, config};
 use ether::Mac;

@@ -1,0 +1,303 @@
+//! `hostd sim`: runs a script on a world of two hosts and prints what they answer.
+
+ghost use Rattle.std.specs.Prelude.{◌≡◌, ◌⊎◌, true, false, ◌≤◌, ◌<◌, ◌^◌, length, take, string_bytes, IfOk, IfErr, IfSome, OnOk, OnErr};
+ghost use Rattle.std.specs.Option.{ForSome};
+ghost use Rattle.devices.specs.Streams.{counted};
+ghost use Rattle.commands.specs.Sim.{read_fails, write_fails_in, is_before_run, run_in_all, capture_in_all, first_fault, IsDue, IsFaultDue};
+ghost use Rattle.script.specs.Text.{style_of};
+ghost use Rattle.commands.specs.Play.{text_of_outcome, line_of_outcome, Emits, Delivers, Carries, Does, Prints, pass_text, pass_line, IsPlayed, IsCutShort, IsFirst, limit_line, TakesRun, TakesPrinted, TakesPrintedBy, TakesBoth};
+
+use crate::fault::TextFault;
+use crate::input::whole_script;
+use crate::output::{add_line, finish, is_write_fault};
+use crate::recording::record;
+use devices::{Sink, Source};
+use script::{Action, Command, Script, Style, config, event, show, show_unfair};
+use std::alloc::{AllocError, Global};
+use tcp_segment::Seq;
+use wire_sim::{Answer, Event, Side, Unfair, World};
+
+/// The most frames of one side that a `pass` moves.
+pub(crate) const MOST_FRAMES: usize = 64;
+
+/// Reads the whole script, then runs it and prints a line for each command. `Line` or `TooLong` where the script is bad,
+/// and then nothing is run; `Read` or `Write` where a device fails; `NoMemory` for want of memory. What was printed before
+/// a fault stays printed.
+pub fn sim<R: Source, W: Sink>(alloc: Global, script: &mut R, out: &mut W) -> Result<(), TextFault>
+    ensures read { R.failures script.new ≡ counted (read_fails result) (R.failures script.old) }
+    ensures written { W.failures out.new ≡ counted (write_fails_in result) (W.failures out.old) }
+    ensures silent { IfErr result (λ fault. is_before_run fault ≡ true → out.new ≡ out.old) }
+    ensures flushed { OnOk result (W.is_flushed out.new ≡ true) }
+    ensures due { IfSome (R.remaining script.old) (λ octets. IsDue octets result) }
+    ensures printed { IfSome (R.remaining script.old) (λ octets. TakesPrintedBy octets result (W.taken out.old) (W.taken out.new)) }
+{
+    let octets = whole_script(alloc, script)?;
+    let script = Script::parse(alloc, octets.as_slice())?;
+    run(alloc, &script, out)
+}
+
+/// How a run with a capture ended.
+#[derive(Clone, Copy, Debug, PartialEq, Eq)]
+pub struct Ends {
+    /// How the run itself did.
+    pub run: Result<(), TextFault>,
+    /// How the capture did.
+    pub capture: Result<(), TextFault>,
+}
+
+impl Ends {
+    /// The fault of the run, or else that of the capture.
+    pub fn whole(self) -> Result<(), TextFault>
+        ensures { result ≡ first_fault self.run self.capture }
+    {
+        match self.run {
+            Ok(()) => self.capture,
+            Err(fault) => Err(fault),
+        }
+    }
+}
+
+/// As `sim`, and then writes the capture of every frame that went out to `capture`, also where a fault ended the run. Of what is printed nothing
+/// is changed by that. An error says that nothing was run, and that neither sink took anything.
+pub fn sim_captured<R: Source, W: Sink, C: Sink>(
+    alloc: Global,
+    script: &mut R,
+    out: &mut W,
+    capture: &mut C,
+) -> Result<Ends, TextFault>
+    ensures read { R.failures script.new ≡ counted (read_fails result) (R.failures script.old) }
+    ensures written { W.failures out.new ≡ counted (write_fails_in (run_in_all result)) (W.failures out.old) }
+    ensures captured { C.failures capture.new ≡ counted (write_fails_in (capture_in_all result)) (C.failures capture.old) }
+    ensures silent { IfErr result (λ fault. (out.new ≡ out.old) × (capture.new ≡ capture.old)) }
+    ensures flushed { IfOk result (λ ends. OnOk ends.run (W.is_flushed out.new ≡ true) × OnOk ends.capture (C.is_flushed capture.new ≡ true)) }
+    ensures due { IfSome (R.remaining script.old) (λ octets. IsDue octets (run_in_all result)) }
+    ensures printed { IfSome (R.remaining script.old) (λ octets. TakesPrintedBy octets (run_in_all result) (W.taken out.old) (W.taken out.new)) }
+    ensures told { IfOk result (λ ends. IfSome (R.remaining script.old)
+        (λ octets. TakesBoth octets ends (W.taken out.old) (W.taken out.new) (C.taken capture.old) (C.taken capture.new))) }
+{
+    let octets = whole_script(alloc, script)?;
+    let script = Script::parse(alloc, octets.as_slice())?;
+    let mut world = new_world(alloc, script.limit)?;
+    let run = run_in(alloc, &script, &mut world, out);
+    let capture = record(&world, capture);
+    Ok(Ends { run, capture })
+}
+
+/// Runs a script's commands, and hands on what they print, also where a fault ends the run.
+fn run<W: Sink>(alloc: Global, script: &Script<'_>, out: &mut W) -> Result<(), TextFault>
+    ensures written { W.failures out.new ≡ counted (write_fails_in result) (W.failures out.old) }
+    ensures faults { IfErr result (λ fault. is_before_run fault ≡ false) }
+    ensures flushed { OnOk result (W.is_flushed out.new ≡ true) }
+    ensures printed { TakesPrinted result script.now.limit script.now.commands.items (W.taken out.old) (W.taken out.new) }
+{
+    let mut world = new_world(alloc, script.limit)?;
+    run_in(alloc, script, &mut world, out)
+}
+
+/// Runs a script's commands in a world in which nothing happened yet, and hands on what they print, also where a fault ends the run.
+fn run_in<W: Sink>(
+    alloc: Global,
+    script: &Script<'_>,
+    world: &mut World,
+    out: &mut W,
+) -> Result<(), TextFault>
+    requires { IsFirst script.now.limit world.old.seen }
+    ensures written { W.failures out.new ≡ counted (write_fails_in result) (W.failures out.old) }
+    ensures faults { IfErr result (λ fault. is_before_run fault ≡ false) }
+    ensures flushed { OnOk result (W.is_flushed out.new ≡ true) }
+    ensures printed { TakesRun result script.now.limit script.now.commands.items world.new.seen (W.taken out.old) (W.taken out.new) }
+{
+    let mut lines = first_lines(alloc, script.limit)?;
+    let outcome = play(alloc, script.commands.as_slice(), world, &mut lines, out);
+    if is_write_fault(&outcome) {
+        return outcome;
+    }
+    finish(&mut lines, out)?;
+    outcome
+}
+
+/// What is printed of a limit.
+fn first_lines(alloc: Global, limit: Option<u64>) -> Result<String, AllocError>
+    ensures { IfOk result (λ lines. string_bytes lines ≡ limit_line limit) }
+{
+    let mut lines = String::new(alloc);
+    if limit.is_some() {
+        lines.push_str("ok\n")?;
+    }
+    Ok(lines)
+}
+
+/// Runs commands in order and adds what they print to `lines`, which go to the sink whenever they are many.
+fn play<W: Sink>(
+    alloc: Global,
+    commands: &[Command<'_>],
+    world: &mut World,
+    lines: &mut String,
+    out: &mut W,
+) -> Result<(), TextFault>
+    ensures written { W.failures out.new ≡ counted (write_fails_in result) (W.failures out.old) }
+    ensures faults { IfErr result (λ fault. is_before_run fault ≡ false) }
+    ensures played { OnOk result (IsPlayed world.old.seen world.new.seen commands.now (W.taken out.old) (W.taken out.new) (string_bytes lines.old) (string_bytes lines.new)) }
+    ensures cut { IfErr result (λ fault. IsCutShort fault world.old.seen world.new.seen commands.now (W.taken out.old) (W.taken out.new) (string_bytes lines.old) (string_bytes lines.new)) }
+{
+    for command in commands {
+        let line = execute(alloc, command, world)?;
+        add_line(line.as_str(), lines, out)?;
+    }
+    Ok(())
+}
+
+/// A fresh world. The two hosts differ in address and MAC, so it is made unless there is no memory.
+pub fn new_world(alloc: Global, limit: Option<u64>) -> Result<World, TextFault>
+    requires { ForSome limit (λ n. (1 ≤ n) × (n ≤ 2 ^ 30)) }
+    ensures world { IfOk result (λ world. IsFirst limit world.seen) }
+    ensures faults { IfErr result (λ fault. fault ≡ TextFault.NoMemory) }
+{
+    let (a, b) = (config(Side::A), config(Side::B));
+    let made = match limit {
+        Some(limit) => World::with_limit(alloc, a, b, limit),
+        None => World::new(alloc, a, b),
+    };
+    made.map_err(|_| TextFault::NoMemory)
+}
+
+/// Runs one command and answers the line that it prints.
+pub fn execute(
+    alloc: Global,
+    command: &Command<'_>,
+    world: &mut World,
+) -> Result<String, AllocError>
+    ensures printed { IfOk result (λ line. Prints command.now (string_bytes line) world.old.seen world.new.seen) }
+    ensures left { OnErr result ((world.new.seen ≡ world.old.seen) ⊎ Does command.now world.old.seen world.new.seen) }
+{
+    match command {
+        Command::At(side, action) => act(alloc, *side, action, world),
+        Command::Pass(isn) => pass(alloc, *isn, world),
+    }
+}
+
+/// One host does something. Answers the line that shows what comes of it.
+fn act(
+    alloc: Global,
+    side: Side,
+    action: &Action<'_>,
+    world: &mut World,
+) -> Result<String, AllocError>
+    ensures printed { IfOk result (λ line. Prints (Command.At side action.now) (string_bytes line) world.old.seen world.new.seen) }
+    ensures left { OnErr result ((world.new.seen ≡ world.old.seen) ⊎ Does (Command.At side action.now) world.old.seen world.new.seen) }
+{
+    let outcome = world.step(event(alloc, side, action)?);
+    line_of(alloc, &outcome, style(action))
+}
+
+/// Frames go from a to b, then from b to a. Answers the line that says how many.
+fn pass(alloc: Global, isn: Seq, world: &mut World) -> Result<String, AllocError>
+    ensures printed { IfOk result (λ line. Prints (Command.Pass isn) (string_bytes line) world.old.seen world.new.seen) }
+    ensures left { OnErr result (Does (Command.Pass isn) world.old.seen world.new.seen) }
+{
+    let from_a = carry(world, Side::A, isn);
+    let from_b = carry(world, Side::B, isn);
+    line_of_pass(alloc, from_a, from_b)
+}
+
+/// The line that says how many frames went from a to b, and how many from b to a.
+fn line_of_pass(alloc: Global, from_a: usize, from_b: usize) -> Result<String, AllocError>
+    ensures { IfOk result (λ line. string_bytes line ≡ pass_line from_a from_b) }
+{
+    let mut line = text_of_pass(alloc, from_a, from_b)?;
+    line.push('\n')?;
+    Ok(line)
+}
+
+/// What is printed of a pass, without the end of the line.
+pub(crate) fn text_of_pass(
+    alloc: Global,
+    from_a: usize,
+    from_b: usize,
+) -> Result<String, AllocError>
+    ensures { IfOk result (λ text. string_bytes text ≡ pass_text from_a from_b) }
+{
+    let mut text = String::new(alloc);
+    write!(text, "a {from_a} b {from_b}")?;
+    Ok(text)
+}
+
+/// The line that shows an outcome.
+fn line_of(
+    alloc: Global,
+    outcome: &Result<Answer, Unfair>,
+    style: Style,
+) -> Result<String, AllocError>
+    ensures { IfOk result (λ line. string_bytes line ≡ line_of_outcome style outcome.now) }
+{
+    let mut line = text_of(alloc, outcome, style)?;
+    line.push('\n')?;
+    Ok(line)
+}
+
+/// What is printed of an outcome, without the end of the line.
+pub(crate) fn text_of(
+    alloc: Global,
+    outcome: &Result<Answer, Unfair>,
+    style: Style,
+) -> Result<String, AllocError>
+    ensures { IfOk result (λ text. string_bytes text ≡ text_of_outcome style outcome.now) }
+{
+    let mut text = String::new(alloc);
+    match outcome {
+        Ok(answer) => show(answer, style, &mut text)?,
+        Err(unfair) => show_unfair(*unfair, &mut text)?,
+    }
+    Ok(text)
+}
+
+/// How the octets that an action reads are printed.
+pub(crate) fn style(action: &Action<'_>) -> Style
+    ensures { result ≡ style_of action.now }
+{
+    match action {
+        Action::Count { .. } | Action::CountFrom { .. } => Style::Count,
+        _ => Style::Text,
+    }
+}
+
+/// One side emits until it has no frame, or was asked 64 times, and the other side takes these frames in order. Answers how
+/// many there were.
+fn carry(world: &mut World, from: Side, isn: Seq) -> usize
+    ensures few { result ≤ MOST_FRAMES }
+    ensures carried { Carries from isn result world.old.seen world.new.seen }
+{
+    let mut frames = [0usize; MOST_FRAMES];
+    let count = emit(world, from, &mut frames);
+    deliver(world, from.other(), &frames[..count], isn);
+    count
+}
+
+/// One side emits until it has no frame, or was asked 64 times. A refusal is passed over. The indices of its frames go to
+/// the front of `frames`, and it answers how many there are.
+pub(crate) fn emit(world: &mut World, from: Side, frames: &mut [usize; MOST_FRAMES]) -> usize
+    ensures few { result ≤ MOST_FRAMES }
+    ensures emitted { Emits from (take result frames.new) world.old.seen world.new.seen }
+{
+    let mut count = 0;
+    for _ in 0..MOST_FRAMES {
+        match world.step(Event::Emit(from)) {
+            Ok(Answer::Frame { index, .. }) => {
+                frames[count] = index;
+                count += 1;
+            }
+            Ok(_) => return count,
+            Err(_) => {}
+        }
+    }
+    count
+}
+
+/// One side takes these frames in order, whatever comes of each.
+fn deliver(world: &mut World, to: Side, frames: &[usize], isn: Seq)
+    ensures { Delivers to isn frames.now world.old.seen world.new.seen }
+{
+    for index in frames {
+        let _ = world.step(Event::Deliver(to, *index, isn));
+    }
+}

@@ -1,6 +1,0 @@
-use Rattle.std.proofs.Common.{map, take}
-use Rattle.hostd.specs.Laddered.{HasRun}
-use Rattle.hostd.proofs.laddered.run_lines.Given as goal
-
-abbrev pub invariant-loop-line : goal.invariant-loop-line
-invariant-loop-line l = HasRun l.initial.world.seen (map (λ line. line.now) (take l.line-index l.lines)) l.happened.items l.world.seen

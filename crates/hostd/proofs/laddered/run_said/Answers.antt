@@ -1,7 +1,0 @@
-use Rattle.std.proofs.Common.{inr}
-use Rattle.hostd.proofs.PlayLemmas.{on_err}
-use Rattle.hostd.proofs.LadderLemmas.{does_by}
-use Rattle.hostd.proofs.laddered.run_said.Goals as goal
-
-pub returns-in_err-push-2-clause-err : goal.returns-in_err-push-2-clause-err
-returns-in_err-push-2-clause-err c = on_err c.from_residual-in_err-push-2.result _ (inr (does_by _ _ _ _ _ c.in_ok-text.ensures.told.1))

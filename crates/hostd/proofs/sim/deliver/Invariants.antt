@@ -1,6 +1,0 @@
-use Rattle.std.proofs.Common.{take}
-use Rattle.hostd.specs.Play.{Delivers}
-use Rattle.hostd.proofs.sim.deliver.Given as goal
-
-abbrev pub invariant-loop-index : goal.invariant-loop-index
-invariant-loop-index l = Delivers l.to l.isn (take l.index-index l.frames) l.initial.world.seen l.world.seen

@@ -1,9 +1,0 @@
-use Rattle.std.proofs.Common.{◌≤◌, take}
-use Rattle.hostd.specs.Play.{HasEmitted}
-use Rattle.hostd.proofs.sim.emit.Given as goal
-
-abbrev pub invariant-loop : goal.invariant-loop
-invariant-loop l = record {
-  few : l.count ≤ l.counter;
-  emitted : HasEmitted l.from l.initial.world.seen l.counter (take l.count l.frames) l.world.seen;
-}
