@@ -49,6 +49,12 @@ static void give_up(struct tap *tap, const char *what, const char *why)
     fail(tap, what, why);
 }
 
+/* Since when the peer is silent: nothing of it was heard, and no octet moved. */
+static uint64_t silent_since(const struct tap *tap)
+{
+    return tap->heard > joint.moved ? tap->heard : joint.moved;
+}
+
 /* Whether something of ours waits for the peer: an opening, octets, or an end. */
 static bool waits_for_peer(struct tap *tap)
 {
@@ -99,7 +105,7 @@ static void step(struct tap *tap)
     } else if (!is_opening(tap)) {
         joint_steps(tap);
     }
-    if (tap->status < 0 && waits_for_peer(tap) && later(joint.moved, tap->options.patience) <= tap->now) {
+    if (tap->status < 0 && waits_for_peer(tap) && later(silent_since(tap), tap->options.patience) <= tap->now) {
         give_up(tap, "connection", "the peer is silent");
     }
 }
@@ -109,12 +115,13 @@ static uint64_t deadline(struct tap *tap)
     if (lingers != 0) {
         return lingers;
     }
-    return waits_for_peer(tap) ? later(joint.moved, tap->options.patience) : NEVER;
+    return waits_for_peer(tap) ? later(silent_since(tap), tap->options.patience) : NEVER;
 }
 
+/* The peer is told that the run ends; where the connection is over already, nothing is. */
 static void end(struct tap *tap)
 {
-    (void)tap;
+    host_close(&tap->host, joint.id);
 }
 
 const struct work connecting = {begin, wants, step, deadline, end};

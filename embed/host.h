@@ -24,12 +24,13 @@
  * POINTERS. What a pointer leads to is yours. The library reads or writes it in the call alone and keeps none. No pointer is NULL, also where
  * its length is 0; there it may lead to anything. No two of a call overlap. A length is at most INT64_MAX.
  *
- * THREADS. A handle is used by one thread at a time, and a host stays on the thread that made it. Handles share nothing, so each may have a
- * thread of its own. Make no call in a signal handler, nor in the forked child of a process with threads.
+ * THREADS. A handle is used by one thread at a time. It may be handed to another thread, under a lock, as any memory of malloc; no proof speaks of
+ * threads. Handles share nothing, so each may have a thread of its own. Make no call in a signal handler, nor in the forked child of a process with threads.
  *
- * MEMORY. The library takes memory of malloc and realloc and gives it back by free: in host_new (some 550 kB), in host_socket and in a
- * host_deliver that opens a connection (two buffers of 65,535 octets each, and 131,070 octets for those that may come ahead of a gap). No
- * other call takes any. Where memory is refused the call is refused (HOST_ENOMEM, HOST_DROP_NO_ROOM), and the program goes on. host_free
+ * MEMORY. The library takes memory of malloc and realloc and gives it back by free: in host_new (some 610 kB), in host_socket and in a
+ * host_deliver that opens a connection (131,070 octets for a connection, 134,142 for a UDP socket: its two buffers). No other call takes any. So a
+ * host takes some 9.2 MB at the most. Of the stack host_new wants some 365 kB, since it makes the host there before it moves it to its place; every
+ * other call wants less than 4 kB. Where memory is refused the call is refused (HOST_ENOMEM, HOST_DROP_NO_ROOM), and the program goes on. host_free
  * gives all of it back. Of the C library the calls use these three and memcpy, memmove, memset and memcmp, and no variable of their own
  * outlives a call.
  */
@@ -172,8 +173,8 @@ int64_t host_listen(struct host *host, uint64_t id, size_t backlog);
 int64_t host_accept(struct host *host, uint64_t id, struct host_endpoint *peer);
 
 /* Begins to open a connection to `port` of `addr`: answers 0 at once. `isn` is its initial number (docs/EMBEDDING.md says what it should be).
- * It is open once host_state is HOST_STATE_ESTABLISHED; until then host_send and host_recv are HOST_EAGAIN. A socket that isn't bound gets a
- * dynamic port, from 49152 on. Once the peer has refused or reset the connection, or was silent up to the
+ * It is open once host_state is neither HOST_STATE_SYN_SENT nor HOST_STATE_SYN_RECEIVED (it may be HOST_STATE_CLOSE_WAIT at once, or have ended
+ * in HOST_STATE_CLOSED); until then host_send and host_recv are HOST_EAGAIN. A socket that isn't bound gets a dynamic port, from 49152 on. Once the peer has refused or reset the connection, or was silent up to the
  * thirteenth expiry of a timer, this call, host_send, host_recv and host_shutdown_write tell HOST_ECONNREFUSED, HOST_ECONNRESET or
  * HOST_ETIMEDOUT, whatever is unread, until host_close.
  *
@@ -202,8 +203,10 @@ int64_t host_recv(struct host *host, uint64_t id, uint8_t *buffer, size_t len);
  * is opening. */
 int64_t host_shutdown_write(struct host *host, uint64_t id);
 
-/* Takes the socket away: its id is HOST_EBADF from now on. What was given to a connection still goes out, and its end behind it; one with
- * octets that nobody read is reset. What waits at a listener is reset, and what waits in a UDP socket is gone. It answers 0.
+/* Takes the socket away: its id is HOST_EBADF from now on. What was given to a connection still goes out, and its end behind it, unless the peer
+ * sends octets after this call: then it is reset, and what has not gone out is lost. So use host_shutdown_write and read to the end where the peer
+ * may still send. A connection with octets that nobody read is reset at once. What waits at a listener is reset, and what waits in a UDP socket is
+ * gone. It answers 0.
  *
  * HOST_EBADF. */
 int64_t host_close(struct host *host, uint64_t id);

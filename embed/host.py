@@ -199,7 +199,8 @@ class Host:
 
     def send(self, id, octets):
         """Gives octets to a connection: how many it took, the first that find room."""
-        return self._call("host_send", _id(id), bytes(octets), len(octets))
+        octets = bytes(octets)
+        return self._call("host_send", _id(id), octets, len(octets))
 
     def recv(self, id, size):
         """The next octets of a connection, at most `size`; b"" is the end of the stream."""
@@ -217,7 +218,8 @@ class Host:
 
     def sendto(self, id, peer, octets):
         """Gives a datagram to a UDP socket: its length."""
-        return self._call("host_sendto", _id(id), *_ends(peer), bytes(octets), len(octets))
+        octets = bytes(octets)
+        return self._call("host_sendto", _id(id), *_ends(peer), octets, len(octets))
 
     def recvfrom(self, id, size=DATAGRAM_SIZE):
         """The first datagram that came, cut to `size` octets, and the endpoint that it is from."""
@@ -250,8 +252,8 @@ class Host:
 
     def would_open(self, frame):
         """The two endpoints of the connection that delivering this frame would open; None where it would open none."""
-        pair = (_Endpoint * 2)()
-        return tuple(map(tuple, pair)) if self._call("host_would_open", bytes(frame), len(frame), pair) else None
+        frame, pair = bytes(frame), (_Endpoint * 2)()
+        return tuple(map(tuple, pair)) if self._call("host_would_open", frame, len(frame), pair) else None
 
     # Time and frames.
 
@@ -266,7 +268,8 @@ class Host:
 
     def deliver(self, now, isn, frame):
         """Hands a frame that arrived to the host: None where it was taken, else the Drop. `isn` is used where it opens a connection."""
-        answer = _LIBRARY.host_deliver(self._handle, _moment(now), _isn(isn), bytes(frame), len(frame))
+        frame = bytes(frame)
+        answer = _LIBRARY.host_deliver(self._handle, _moment(now), _isn(isn), frame, len(frame))
         return None if answer == 0 else Drop(-answer)
 
     def next_frame(self, now):

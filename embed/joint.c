@@ -96,7 +96,7 @@ static enum joint_state opening_step(struct joint *joint)
 /* From the system's descriptor into the passage up. */
 static enum joint_state read_step(struct joint *joint)
 {
-    if ((joint->from_events & (POLLIN | POLLHUP | POLLERR)) == 0 || !has_room(&joint->up)) {
+    if ((joint->from_events & (POLLIN | POLLHUP | POLLERR | POLLNVAL)) == 0 || !has_room(&joint->up)) {
         return JOINT_GOES_ON;
     }
     joint->from_events = 0;
@@ -152,7 +152,7 @@ static enum joint_state recv_step(struct joint *joint, struct tap *tap)
 static enum joint_state write_step(struct joint *joint)
 {
     struct passage *down = &joint->down;
-    if (!has_octets(down) || (joint->to_events & (POLLOUT | POLLERR | POLLHUP)) == 0) {
+    if (!has_octets(down) || (joint->to_events & (POLLOUT | POLLERR | POLLHUP | POLLNVAL)) == 0) {
         return JOINT_GOES_ON;
     }
     const size_t waits = down->to - down->from;

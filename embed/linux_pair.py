@@ -2,6 +2,7 @@
 seconds and the frames resent of Linux's own TCP can stand beside those of the stack, under the same losses.
 """
 
+import contextlib
 import ctypes
 import fcntl
 import os
@@ -19,6 +20,7 @@ PORT = 5000
 TUNSETIFF = 0x400454CA
 IFF_TAP, IFF_NO_PI = 2, 0x1000
 CLONE_NEWNET = 0x40000000
+PR_SET_PDEATHSIG = 1
 
 
 class Segments:
@@ -53,7 +55,8 @@ def open_tap(name, address):
     """A device of the namespace that this process is in, with an address and a carrier."""
     device = os.open("/dev/net/tun", os.O_RDWR)
     fcntl.ioctl(device, TUNSETIFF, struct.pack("16sH22x", name.encode(), IFF_TAP | IFF_NO_PI))
-    with open(f"/proc/sys/net/ipv6/conf/{name}/disable_ipv6", "w") as file:
+    # A kernel without IPv6 has no such file.
+    with contextlib.suppress(FileNotFoundError), open(f"/proc/sys/net/ipv6/conf/{name}/disable_ipv6", "w") as file:
         file.write("1")
     subprocess.run(["ip", "addr", "add", address + "/24", "dev", name], check=True)
     subprocess.run(["ip", "link", "set", name, "up"], check=True)
@@ -99,6 +102,8 @@ def child(body, *arguments):
     if process == 0:
         status = 1
         try:
+            # It ends with its parent, also where that is killed.
+            ctypes.CDLL(None).prctl(PR_SET_PDEATHSIG, signal.SIGKILL)
             signal.alarm(0)
             body(*arguments)
             status = 0

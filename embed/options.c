@@ -239,6 +239,9 @@ static void word_fault(int which, char **argv)
     if (which == ':') {
         usage_fault("%s wants a word", argv[optind - 1]);
     }
+    if (optopt > HELP) {
+        usage_fault("no such option: '-%c'", optopt);
+    }
     usage_fault("no such option: '%s'", argv[optind - 1]);
 }
 

@@ -194,7 +194,11 @@ static uint64_t deadline(struct tap *tap)
 
 static void end(struct tap *tap)
 {
-    (void)tap;
+    for (size_t i = 0; i < CONNECTIONS; i++) {
+        if (at.all[i].id != 0) {
+            end_one(&at.all[i], tap, "the program ends");
+        }
+    }
 }
 
 const struct work serving = {begin, wants, step, deadline, end};

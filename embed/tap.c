@@ -2,12 +2,14 @@
 #include "tap.h"
 
 #include <errno.h>
+#include <fcntl.h>
 #include <inttypes.h>
 #include <signal.h>
 #include <stdlib.h>
 #include <string.h>
 #include <sys/random.h>
 #include <time.h>
+#include <unistd.h>
 
 enum { SENT_MOST = 256 };        /* frames that one drain sends */
 
@@ -151,6 +153,12 @@ static bool act(struct tap *tap, const struct work *work)
     return drain(tap);
 }
 
+/* Whether a frame has a datagram from this address (RFC 894, RFC 791 section 3.1). */
+static bool is_from(const uint8_t *frame, size_t len, uint32_t addr)
+{
+    return len >= 34 && frame[12] == 0x08 && frame[13] == 0x00 && HOST_ADDR(frame[26], frame[27], frame[28], frame[29]) == addr;
+}
+
 /* Each frame that came is delivered alone, so that what it draws goes out before the next one needs the room. */
 static bool hear(struct tap *tap, const struct work *work)
 {
@@ -161,6 +169,9 @@ static bool hear(struct tap *tap, const struct work *work)
         fail(tap, tap->options.device, strerror(errno));
     }
     while (tap->status < 0 && (len = link_recv(&tap->link, tap->now, frame)) != 0) {
+        if (tap->options.connects && is_from(frame, len, tap->options.peer.addr)) {
+            tap->heard = tap->now;
+        }
         count(tap, host_deliver(&tap->host, tap->now, fresh_isn(), frame, len));
         all = act(tap, work) && all;
     }
@@ -247,10 +258,21 @@ static void close_capture(struct tap *tap)
     }
 }
 
+/* A descriptor of the three that is closed would be given to the device or the capture, and then be read or written as the standard one. */
+static void take_standard_descriptors(void)
+{
+    for (int descriptor = 0; descriptor < 3; descriptor++) {
+        if (fcntl(descriptor, F_GETFD) < 0 && open("/dev/null", O_RDWR) < 0) {
+            _exit(1);
+        }
+    }
+}
+
 int main(int argc, char **argv)
 {
     static struct tap tap = {.status = -1, .link = {.device = -1}};
     sigset_t waiting;
+    take_standard_descriptors();
     options_read(&tap.options, argc, argv);
     const struct work *work = tap.options.connects ? &connecting : tap.options.forward_count != 0 ? &forwarding : &serving;
     heed_signals(&waiting);

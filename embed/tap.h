@@ -95,6 +95,7 @@ struct tap {
     uint64_t now;
     int status;
     struct pollfd *polled;        /* what the work waits for, after the device's own place */
+    uint64_t heard;               /* when a datagram of the peer of --connect came last */
     uint64_t came, went, dropped[12];
 };
 
