@@ -7,3 +7,4 @@ pub mod HexLemmas
 pub mod CapturedLemmas
 pub mod RecordingLemmas
 pub mod LadderLemmas
+pub mod ProgressLemmas

@@ -1,6 +1,6 @@
 //! How far a copy is, said while it runs.
 
-ghost use Rattle.std.specs.Prelude.{◌≡◌, ◌⊎◌, ◌++◌, true, false, Ok, OnOk, IfErr, IfOk, string_bytes};
+ghost use Rattle.std.specs.Prelude.{◌≡◌, ◌⊎◌, ◌++◌, true, false, Ok, OnOk, IfErr, IfOk, codes, string_bytes};
 ghost use Rattle.std.specs.Io.KnownBytes.{Appends};
 ghost use Rattle.devices.specs.Streams.{TakesFront};
 ghost use Rattle.commands.specs.Progress.{share_of, text_with, text_of, progress_text, is_due};
@@ -57,10 +57,22 @@ impl<E: Sink> Progress<E> {
     }
 
     /// Says how many octets were written in all, and ends the line. What can't be said is left out.
-    pub fn end(&mut self, written: u64) {
-        if self.say(written).is_ok() {
-            let _ = write_all(&mut self.out, b"\n");
-        }
+    pub fn end(&mut self, written: u64)
+        ensures front { TakesFront (E.taken self.old.out) (E.taken self.new.out) (progress_text written self.old.whole ++ codes "\n") }
+        ensures kept { (self.new.whole ≡ self.old.whole) × (self.new.told ≡ self.old.told) }
+    {
+        let _ = self.say_last(written);
+    }
+
+    /// Says how many octets were written in all, and ends the line.
+    fn say_last(&mut self, written: u64) -> Result<(), TextFault>
+        ensures ok { OnOk result (Appends (E.taken self.old.out) (E.taken self.new.out) (progress_text written self.old.whole ++ codes "\n")) }
+        ensures front { IfErr result (λ fault. TakesFront (E.taken self.old.out) (E.taken self.new.out) (progress_text written self.old.whole ++ codes "\n")) }
+        ensures kept { (self.new.whole ≡ self.old.whole) × (self.new.told ≡ self.old.told) }
+    {
+        let mut text = line(self.alloc, written, share(written, self.whole))?;
+        text.push('\n')?;
+        write_all(&mut self.out, text.as_bytes())
     }
 
     /// Says how many octets were written.
