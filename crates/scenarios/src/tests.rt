@@ -2,6 +2,7 @@
 
 mod calls;
 mod closing;
+mod copies;
 mod datagrams;
 mod documents;
 mod drops;
@@ -10,11 +11,13 @@ mod ends;
 mod fragments;
 mod gateways;
 mod hops;
+mod links;
 mod messages;
 mod names;
 mod octets;
 mod opening;
 mod resets;
+mod rungs;
 mod segments;
 mod simultaneous;
 mod stations;

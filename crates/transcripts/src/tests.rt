@@ -1,10 +1,9 @@
-//! Whole scripts, frames, captures, ladders and copies, from memory to memory. The expected lines are those that the documents of the project give.
+//! Whole scripts, frames, captures and copies, from memory to memory. The expected lines are those that the documents of the project give.
 
 mod backlog;
 mod captures;
 mod closing;
 mod command_line;
-mod copies;
 mod copying;
 mod datagrams;
 mod drops;
@@ -13,12 +12,10 @@ mod failures;
 mod hops;
 mod ladders;
 mod lines;
-mod links;
 mod losses;
 mod recordings;
 mod refusals;
 mod resets;
-mod rungs;
 mod scripts;
 mod simultaneous;
 mod table;
