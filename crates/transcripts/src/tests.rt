@@ -1,4 +1,4 @@
-//! Whole scripts, frames, captures and copies, from memory to memory. The expected lines are those that the documents of the project give.
+//! Whole scripts, frames, captures and copies, from memory to memory. The expected texts are those that the documents of the project give.
 
 mod backlog;
 mod captures;
@@ -12,7 +12,6 @@ mod failures;
 mod hops;
 mod ladders;
 mod lines;
-mod losses;
 mod recordings;
 mod refusals;
 mod resets;
@@ -23,10 +22,12 @@ mod timers;
 mod windows;
 
 use commands::fault::TextFault;
-use commands::sim::sim;
+use commands::laddered::{sim_ladder, sim_ladder_captured};
+use commands::sim::{Ends, sim, sim_captured};
 use commands::{captured, frame};
 use decode::DropCause;
 use devices::{MemorySink, MemorySource, Sink, Source};
+use ladder::Numbering;
 use std::alloc::Global;
 use std::process::Abort;
 use std::test::Fail;
@@ -77,10 +78,14 @@ const TRANSCRIPTS: [&[&[&str]]; 13] = [
     windows::TRANSCRIPTS,
 ];
 
-/// What is asked of the program: to run a text as a script, or to print what the frame says that it spells, or what those of a capture say.
+/// What is asked of the program: to run a text as a script and to print its lines or its ladder, with a capture or without one, or to print what the
+/// frame says that it spells, or what those of a capture say.
 #[derive(Clone, Copy)]
 enum Asked {
     Sim,
+    Captured,
+    Ladder(Numbering),
+    CapturedLadder(Numbering),
     Decode,
     DecodeAll,
 }
@@ -97,59 +102,144 @@ const GOOD: Device = Device {
     fails_at: 0,
 };
 
-/// How a command ended: its answer, how often its source and its sink failed, and what the sink took.
-type Told<'a> = (Result<Option<DropCause>, TextFault>, (u64, u64), &'a [u8]);
-
-#[derive(Drop)]
-struct End {
-    answer: Result<Option<DropCause>, TextFault>,
-    failures: (u64, u64),
-    sink: MemorySink,
+/// The source of a command, the sink of what it prints, and that of its capture.
+#[derive(Clone, Copy)]
+struct Devices {
+    source: Device,
+    out: Device,
+    capture: Device,
 }
 
-/// Does what is asked of a text.
-fn ended(alloc: Global, asked: Asked, text: &[u8], from: Device, to: Device) -> End {
-    let mut source = MemorySource::new(text)
-        .in_pieces(from.most.max(1))
-        .failing_at(from.fails_at);
-    let mut sink = MemorySink::new(alloc)
-        .in_pieces(to.most)
-        .failing_at(to.fails_at);
-    let answer = match asked {
-        Asked::Sim => match sim(alloc, &mut source, &mut sink) {
-            Ok(()) => Ok(None),
-            Err(fault) => Err(fault),
-        },
-        Asked::Decode => frame::decode(alloc, &mut source, &mut sink),
-        Asked::DecodeAll => match captured::decode(alloc, &mut source, &mut sink) {
-            Ok(()) => Ok(None),
-            Err(fault) => Err(fault),
-        },
-    };
-    End {
-        answer,
-        failures: (source.failures(), sink.failures()),
-        sink,
+const ALL_GOOD: Devices = Devices {
+    source: GOOD,
+    out: GOOD,
+    capture: GOOD,
+};
+
+/// How a command does, and how its capture does.
+type Answers = (Result<Option<DropCause>, TextFault>, Result<(), TextFault>);
+
+/// How a command ended: its answers, how often each of its devices failed, and what its sinks took.
+#[derive(Drop)]
+struct End {
+    answers: Answers,
+    failures: (u64, u64, u64),
+    out: MemorySink,
+    capture: MemorySink,
+}
+
+/// What is told of that.
+#[derive(Clone, Copy)]
+struct Told<'a> {
+    answers: Answers,
+    failures: (u64, u64, u64),
+    prints: &'a [u8],
+    captures: &'a [u8],
+}
+
+/// What is asked of a text, how it ends, and what it prints and captures.
+#[derive(Clone, Copy)]
+struct Row {
+    asked: Asked,
+    text: &'static [u8],
+    ends: Result<Option<DropCause>, TextFault>,
+    prints: &'static [u8],
+    captures: &'static [u8],
+}
+
+impl Row {
+    /// What is told of it on devices that are good.
+    fn told(self) -> Told<'static> {
+        Told {
+            answers: (self.ends, Ok(())),
+            failures: (0, 0, 0),
+            prints: self.prints,
+            captures: self.captures,
+        }
     }
 }
 
-/// Does what is asked of a text, from one device to another, and compares how it ends.
+/// The answers of a command without a capture.
+fn plain(answer: Result<(), TextFault>) -> Answers {
+    match answer {
+        Ok(()) => (Ok(None), Ok(())),
+        Err(fault) => (Err(fault), Ok(())),
+    }
+}
+
+/// Those of one with a capture. Where nothing was run there is none.
+fn both(answer: Result<Ends, TextFault>) -> Answers {
+    match answer {
+        Ok(ends) => (plain(ends.run).0, ends.capture),
+        Err(fault) => (Err(fault), Ok(())),
+    }
+}
+
+/// A sink of that kind.
+fn sink(alloc: Global, device: Device) -> MemorySink {
+    MemorySink::new(alloc)
+        .in_pieces(device.most)
+        .failing_at(device.fails_at)
+}
+
+/// Does what is asked of a text.
+fn ended(alloc: Global, asked: Asked, text: &[u8], devices: Devices) -> End {
+    let mut source = MemorySource::new(text)
+        .in_pieces(devices.source.most.max(1))
+        .failing_at(devices.source.fails_at);
+    let mut out = sink(alloc, devices.out);
+    let mut capture = sink(alloc, devices.capture);
+    let answers = match asked {
+        Asked::Sim => plain(sim(alloc, &mut source, &mut out)),
+        Asked::Captured => both(sim_captured(alloc, &mut source, &mut out, &mut capture)),
+        Asked::Ladder(numbering) => plain(sim_ladder(alloc, &mut source, numbering, &mut out)),
+        Asked::CapturedLadder(numbering) => both(sim_ladder_captured(
+            alloc,
+            &mut source,
+            numbering,
+            &mut out,
+            &mut capture,
+        )),
+        Asked::Decode => (frame::decode(alloc, &mut source, &mut out), Ok(())),
+        Asked::DecodeAll => plain(captured::decode(alloc, &mut source, &mut out)),
+    };
+    End {
+        answers,
+        failures: (source.failures(), out.failures(), capture.failures()),
+        out,
+        capture,
+    }
+}
+
+/// Does what is asked of a text, and compares how it ends.
 fn ends(
     rt: &impl Abort,
     alloc: Global,
-    (asked, text): (Asked, &str),
-    devices: (Device, Device),
-    told: Told<'_>,
+    (asked, text): (Asked, &[u8]),
+    devices: Devices,
+    told: &Told<'_>,
 ) {
-    let (from, to) = devices;
-    let end = ended(alloc, asked, text.as_bytes(), from, to);
-    assert_eq!(rt;
-        (end.answer, end.failures, end.sink.taken()),
-        told,
-        "{text} {} {}",
-        from.fails_at,
-        to.fails_at
+    let end = ended(alloc, asked, text, devices);
+    let is_told = end.answers == told.answers
+        && end.failures == told.failures
+        && end.out.taken() == told.prints
+        && end.capture.taken() == told.captures;
+    assert!(rt;
+        is_told,
+        "{}",
+        str::from_utf8(end.out.taken()).unwrap_or("no text")
     );
+}
+
+/// Does what is asked of a script that is good, and compares what is printed.
+fn prints(rt: &impl Abort, alloc: Global, (asked, script): (Asked, &str), want: &str) {
+    let told = Told {
+        answers: (Ok(None), Ok(())),
+        failures: (0, 0, 0),
+        prints: want.as_bytes(),
+        captures: b"",
+    };
+    ends(rt, alloc, (asked, script.as_bytes()), ALL_GOOD, &told);
 }
 
 /// Plays a transcript.
@@ -167,8 +257,7 @@ fn plays(rt: &impl Abort, alloc: Global, parts: &[&str]) -> Result<(), Fail> {
             }
         }
     }
-    let told = (Ok(None), (0, 0), want.as_bytes());
-    ends(rt, alloc, (Asked::Sim, script.as_str()), (GOOD, GOOD), told);
+    prints(rt, alloc, (Asked::Sim, script.as_str()), want.as_str());
     Ok(())
 }
 

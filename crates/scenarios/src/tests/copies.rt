@@ -39,13 +39,12 @@ fn copies(rt: &impl Abort, alloc: Global, len: usize, treatments: &[Treatment]) 
     let mut dst = MemorySink::new(alloc);
     let mut link = MemoryLink::new(alloc, treatments);
     let copied = copy(alloc, &mut src, &mut dst, &mut link, TURNS);
-    assert_eq!(rt; copied, Ok(len as u64));
-    assert_eq!(rt; dst.taken(), octets.as_slice());
-    assert!(rt; dst.is_flushed());
-    assert_eq!(rt;
-        (src.failures(), dst.failures(), link.failures()),
-        (0, 0, 0)
+    assert!(rt; copied == Ok(len as u64), "{len} octets");
+    assert!(rt;
+        dst.taken() == octets.as_slice() && dst.is_flushed(),
+        "{len} octets"
     );
+    assert!(rt; src.failures() == 0 && dst.failures() == 0 && link.failures() == 0);
 }
 
 #[test]
@@ -65,45 +64,45 @@ fn each_frame_is_lost_in_turn(rt: HostRuntime) {
 #[test]
 fn frames_are_repeated_and_held_back(rt: HostRuntime) {
     for n in 1..=FRAMES {
-        copies(&rt, rt.alloc(), 5_000, &[Treatment::Repeat(n)]);
-        copies(&rt, rt.alloc(), 5_000, &[Treatment::HoldBack(n, 3)]);
+        for treatment in [Treatment::Repeat(n), Treatment::HoldBack(n, 3)] {
+            copies(&rt, rt.alloc(), 5_000, &[treatment]);
+        }
     }
     copies(&rt, rt.alloc(), 30_000, &MIXED);
 }
 
-/// A copy of 10,000 octets whose source, sink and link fail at these calls; 0 is no call.
-fn fails(rt: &impl Abort, alloc: Global, at: (u64, u64, u64), want: CopyFault) {
+/// How often each of the devices of a copy of 10,000 octets is called at least. The source is read four times, the last time at its end; the sink is written
+/// to and flushed. Without a turn nothing is moved.
+const FAULTS: [(CopyFault, u64); 4] = [
+    (CopyFault::Read, 4),
+    (CopyFault::Write, 3),
+    (CopyFault::Link, 40),
+    (CopyFault::Stalled, 1),
+];
+
+/// A copy of 10,000 octets ends with a fault, where it is a device's at this call of it.
+fn ends_with(rt: &impl Abort, alloc: Global, fault: CopyFault, call: u64) {
+    let (read, write, carry, turns) = match fault {
+        CopyFault::Read => (call, 0, 0, TURNS),
+        CopyFault::Write => (0, call, 0, TURNS),
+        CopyFault::Link => (0, 0, call, TURNS),
+        _ => (0, 0, 0, 0),
+    };
     let octets = octets(rt, alloc, 10_000);
-    let mut src = MemorySource::new(octets.as_slice()).failing_at(at.0);
-    let mut dst = MemorySink::new(alloc).failing_at(at.1);
-    let mut link = MemoryLink::new(alloc, &[]).failing_at(at.2);
-    let copied = copy(alloc, &mut src, &mut dst, &mut link, TURNS);
-    assert_eq!(rt; copied, Err(want));
+    let mut src = MemorySource::new(octets.as_slice()).failing_at(read);
+    let mut dst = MemorySink::new(alloc).failing_at(write);
+    let mut link = MemoryLink::new(alloc, &[]).failing_at(carry);
+    let copied = copy(alloc, &mut src, &mut dst, &mut link, turns);
+    assert!(rt; copied == Err(fault), "call {call}");
     assert!(rt; octets.as_slice().starts_with(dst.taken()));
+    assert!(rt; turns > 0 || dst.taken().is_empty() && link.passages().is_empty());
 }
 
-/// The source is read four times, the last time at its end; the sink is written to and flushed.
 #[test]
 fn devices_that_fail_are_told(rt: HostRuntime) {
-    for call in 1..=4 {
-        fails(&rt, rt.alloc(), (call, 0, 0), CopyFault::Read);
+    for (fault, calls) in FAULTS {
+        for call in 1..=calls {
+            ends_with(&rt, rt.alloc(), fault, call);
+        }
     }
-    for call in 1..=3 {
-        fails(&rt, rt.alloc(), (0, call, 0), CopyFault::Write);
-    }
-    for call in 1..=40 {
-        fails(&rt, rt.alloc(), (0, 0, call), CopyFault::Link);
-    }
-}
-
-/// Without a turn nothing is moved.
-#[test]
-fn no_turn_moves_nothing(rt: HostRuntime) {
-    let mut src = MemorySource::new(b"a");
-    let mut dst = MemorySink::new(rt.alloc());
-    let mut link = MemoryLink::new(rt.alloc(), &[]);
-    let copied = copy(rt.alloc(), &mut src, &mut dst, &mut link, 0);
-    assert_eq!(rt; copied, Err(CopyFault::Stalled));
-    assert_eq!(rt; dst.taken(), b"".as_slice());
-    assert!(rt; link.passages().is_empty());
 }

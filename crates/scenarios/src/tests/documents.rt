@@ -58,7 +58,7 @@ impl Link for Station {
     }
 
     fn send(&mut self, frame: &[u8]) {
-        self.hear(7, frame);
+        let _ = self.hear(7, frame);
     }
 }
 
@@ -76,10 +76,10 @@ fn meet(alloc: Global, listener: &mut Station) -> Option<(SocketState, (SocketId
 #[test]
 fn the_documents_connect_two_hosts(rt: HostRuntime) {
     let mut listener = Station::new(&rt, rt.alloc(), config(&rt, Side::B));
-    listener.socket(Kind::Tcp);
-    assert_eq!(rt; listener.host.bind(ONE, SERVER), Ok(()));
-    assert_eq!(rt; listener.host.listen(ONE, 1), Ok(()));
+    assert!(rt; listener.host.socket(Kind::Tcp) == Ok(ONE));
+    assert!(rt; listener.host.bind(ONE, SERVER) == Ok(()));
+    assert!(rt; listener.host.listen(ONE, 1) == Ok(()));
     let met = meet(rt.alloc(), &mut listener);
     let established = SocketState::Stream(State::Established);
-    assert_eq!(rt; met, Some((established, (TWO, CLIENT))));
+    assert!(rt; met == Some((established, (TWO, CLIENT))));
 }

@@ -1,8 +1,7 @@
 //! Where sockets are, and their peers.
 
 use super::stations::Side::{A, B};
-use super::stations::Start::{Fresh, Listening};
-use super::stations::{Act, CLIENT, ONE, SERVER, Scenario, Step, THREE, TWO, Told, plays};
+use super::stations::{Act, CLIENT, FRESH, LISTENING, ONE, SERVER, Scenario, Step, THREE, TWO};
 use host::Refusal;
 use ipv4::{Addr, Endpoint};
 
@@ -35,109 +34,104 @@ const WAITING: Endpoint = Endpoint {
 
 /// What is asked of a socket that was made and not bound.
 const UNBOUND: &[Step] = &[
-    (A, Act::SockName(ONE), Told::End(NOWHERE)),
-    (A, Act::PeerName(ONE), Told::Refused(Refusal::ENOTCONN)),
-    (A, Act::SockName(TWO), Told::Refused(Refusal::EBADF)),
-    (A, Act::PeerName(TWO), Told::Refused(Refusal::EBADF)),
+    (A, Act::SockName(ONE, Ok(NOWHERE))),
+    (A, Act::PeerName(ONE, Err(Refusal::ENOTCONN))),
+    (A, Act::SockName(TWO, Err(Refusal::EBADF))),
+    (A, Act::PeerName(TWO, Err(Refusal::EBADF))),
 ];
 
-const STREAM: &[Step] = &[(A, Act::Socket, Told::Id(ONE))];
+const STREAM: &[Step] = &[(A, Act::Socket(ONE))];
 
-const DATAGRAMS: &[Step] = &[(A, Act::DatagramSocket, Told::Id(ONE))];
+const DATAGRAMS: &[Step] = &[(A, Act::DatagramSocket(ONE))];
 
 /// It is bound to port 0, and so is another one of the other kind; a third one is bound at every address.
 const BOUND: &[Step] = &[
-    (A, Act::Bind(ONE, ANY_PORT), Told::Done),
-    (A, Act::SockName(ONE), Told::End(CLIENT)),
-    (A, Act::PeerName(ONE), Told::Refused(Refusal::ENOTCONN)),
+    (A, Act::Bind(ONE, ANY_PORT, Ok(()))),
+    (A, Act::SockName(ONE, Ok(CLIENT))),
+    (A, Act::PeerName(ONE, Err(Refusal::ENOTCONN))),
 ];
 
 const ALSO_BOUND: &[Step] = &[
-    (A, Act::Bind(TWO, ANY_PORT), Told::Done),
-    (A, Act::SockName(TWO), Told::End(SECOND)),
-    (A, Act::Socket, Told::Id(THREE)),
-    (A, Act::Bind(THREE, NOWHERE), Told::Done),
-    (A, Act::SockName(THREE), Told::End(THIRD)),
-    (A, Act::SockName(ONE), Told::End(CLIENT)),
-    (A, Act::Close(ONE), Told::Done),
-    (A, Act::SockName(ONE), Told::Refused(Refusal::EBADF)),
-    (A, Act::PeerName(ONE), Told::Refused(Refusal::EBADF)),
+    (A, Act::Bind(TWO, ANY_PORT, Ok(()))),
+    (A, Act::SockName(TWO, Ok(SECOND))),
+    (A, Act::Socket(THREE)),
+    (A, Act::Bind(THREE, NOWHERE, Ok(()))),
+    (A, Act::SockName(THREE, Ok(THIRD))),
+    (A, Act::SockName(ONE, Ok(CLIENT))),
+    (A, Act::Close(ONE)),
+    (A, Act::SockName(ONE, Err(Refusal::EBADF))),
+    (A, Act::PeerName(ONE, Err(Refusal::EBADF))),
 ];
 
-const ANOTHER_STREAM: &[Step] = &[(A, Act::Socket, Told::Id(TWO))];
+const ANOTHER_STREAM: &[Step] = &[(A, Act::Socket(TWO))];
 
-const MORE_DATAGRAMS: &[Step] = &[(A, Act::DatagramSocket, Told::Id(TWO))];
+const MORE_DATAGRAMS: &[Step] = &[(A, Act::DatagramSocket(TWO))];
 
 /// A datagram is sent from a port that is given then, and has no lasting peer.
 const SENT: &[Step] = &[
-    (A, Act::SendTo(ONE, WAITING, b"hi"), Told::Count(2)),
-    (A, Act::SockName(ONE), Told::End(CLIENT)),
-    (A, Act::PeerName(ONE), Told::Refused(Refusal::ENOTCONN)),
+    (A, Act::SendTo(ONE, WAITING, b"hi", Ok(2))),
+    (A, Act::SockName(ONE, Ok(CLIENT))),
+    (A, Act::PeerName(ONE, Err(Refusal::ENOTCONN))),
 ];
 
 /// A calls, and its call is under way. The connection that it opens at B has no socket yet.
 const CALLED: &[Step] = &[
-    (B, Act::SockName(ONE), Told::End(SERVER)),
-    (B, Act::PeerName(ONE), Told::Refused(Refusal::ENOTCONN)),
-    (A, Act::Connect(5, ONE, SERVER), Told::Done),
-    (A, Act::SockName(ONE), Told::End(CLIENT)),
-    (A, Act::PeerName(ONE), Told::End(SERVER)),
-    (A, Act::Pass(0), Told::Done),
-    (B, Act::Pass(0), Told::Done),
-    (A, Act::Pass(7), Told::Done),
-    (B, Act::SockName(TWO), Told::Refused(Refusal::EBADF)),
-    (B, Act::PeerName(TWO), Told::Refused(Refusal::EBADF)),
+    (B, Act::SockName(ONE, Ok(SERVER))),
+    (B, Act::PeerName(ONE, Err(Refusal::ENOTCONN))),
+    (A, Act::Connect(5, ONE, SERVER, Ok(()))),
+    (A, Act::SockName(ONE, Ok(CLIENT))),
+    (A, Act::PeerName(ONE, Ok(SERVER))),
+    (A, Act::Pass(0)),
+    (B, Act::Pass(0)),
+    (A, Act::Pass(7)),
+    (B, Act::SockName(TWO, Err(Refusal::EBADF))),
+    (B, Act::PeerName(TWO, Err(Refusal::EBADF))),
 ];
 
 /// Each end of the connection is the other's peer, and the listener has none.
 const ACCEPTED: &[Step] = &[
-    (B, Act::Pass(0), Told::Done),
-    (A, Act::Pass(0), Told::Done),
-    (B, Act::Accept(ONE), Told::Accepted(TWO, CLIENT)),
-    (A, Act::SockName(ONE), Told::End(CLIENT)),
-    (A, Act::PeerName(ONE), Told::End(SERVER)),
-    (B, Act::SockName(TWO), Told::End(SERVER)),
-    (B, Act::PeerName(TWO), Told::End(CLIENT)),
-    (B, Act::SockName(ONE), Told::End(SERVER)),
-    (B, Act::PeerName(ONE), Told::Refused(Refusal::ENOTCONN)),
+    (B, Act::Pass(0)),
+    (A, Act::Pass(0)),
+    (B, Act::Accept(ONE, TWO, CLIENT)),
+    (A, Act::SockName(ONE, Ok(CLIENT))),
+    (A, Act::PeerName(ONE, Ok(SERVER))),
+    (B, Act::SockName(TWO, Ok(SERVER))),
+    (B, Act::PeerName(TWO, Ok(CLIENT))),
+    (B, Act::SockName(ONE, Ok(SERVER))),
+    (B, Act::PeerName(ONE, Err(Refusal::ENOTCONN))),
 ];
 
 /// B's caller leaves A's octets unread, so that A's connection is reset. It is CLOSED, and its ends are as they were.
 const RESET: &[Step] = &[
-    (A, Act::Send(ONE, b"hello"), Told::Count(5)),
-    (A, Act::Pass(0), Told::Done),
-    (B, Act::Close(TWO), Told::Done),
-    (B, Act::PeerName(TWO), Told::Refused(Refusal::EBADF)),
-    (B, Act::Pass(0), Told::Done),
-    (A, Act::Recv(ONE), Told::Refused(Refusal::ECONNRESET)),
-    (A, Act::SockName(ONE), Told::End(CLIENT)),
-    (A, Act::PeerName(ONE), Told::End(SERVER)),
+    (A, Act::Send(ONE, b"hello", Ok(5))),
+    (A, Act::Pass(0)),
+    (B, Act::Close(TWO)),
+    (B, Act::PeerName(TWO, Err(Refusal::EBADF))),
+    (B, Act::Pass(0)),
+    (A, Act::Recv(ONE, Err(Refusal::ECONNRESET))),
+    (A, Act::SockName(ONE, Ok(CLIENT))),
+    (A, Act::PeerName(ONE, Ok(SERVER))),
 ];
 
-const SCENARIOS: &[Scenario] = &[
-    (
-        "TCP sockets are where they are bound",
-        Fresh,
-        &[STREAM, UNBOUND, BOUND, MORE_DATAGRAMS, ALSO_BOUND],
-    ),
-    (
-        "UDP sockets are where they are bound",
-        Fresh,
-        &[DATAGRAMS, UNBOUND, BOUND, ANOTHER_STREAM, ALSO_BOUND],
-    ),
-    (
-        "datagrams give a socket a port and no peer",
-        Fresh,
-        &[DATAGRAMS, SENT],
-    ),
-    (
-        "connections have two ends",
-        Listening,
-        &[CALLED, ACCEPTED, RESET],
-    ),
+pub(super) const SCENARIOS: &[Scenario] = &[
+    Scenario {
+        name: "TCP sockets are where they are bound",
+        ways: FRESH,
+        parts: &[STREAM, UNBOUND, BOUND, MORE_DATAGRAMS, ALSO_BOUND],
+    },
+    Scenario {
+        name: "UDP sockets are where they are bound",
+        ways: FRESH,
+        parts: &[DATAGRAMS, UNBOUND, BOUND, ANOTHER_STREAM, ALSO_BOUND],
+    },
+    Scenario {
+        name: "datagrams give a socket a port and no peer",
+        ways: FRESH,
+        parts: &[DATAGRAMS, SENT],
+    },
+    Scenario {
+        name: "connections have two ends",
+        ways: FRESH,
+        parts: &[LISTENING, CALLED, ACCEPTED, RESET],
+    },
 ];
-
-#[test]
-fn sockets_have_ends(rt: HostRuntime) {
-    plays(&rt, rt.alloc(), SCENARIOS);
-}

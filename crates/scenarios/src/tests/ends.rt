@@ -1,12 +1,14 @@
-//! The two ends of a connection, what is done at each, and what that tells.
+//! The two ends of a connection, what is done at each, and what that is to answer.
 
+use super::{closing, opening, resets, simultaneous};
 use clock::Moment;
 use inet_sum::sum;
 use ipv4::{Addr, Endpoint};
 use std::alloc::Global;
 use std::process::Abort;
 use tcp_segment::{Flags, Head, Seq, TcpView};
-use tcp_state::{Buffers, Connection, Due, Fate, MOST_SEGMENT, Received, Refusal, State};
+use tcp_state::Fate::{self, Stays};
+use tcp_state::{Buffers, Connection, Due, MOST_SEGMENT, Received, Refusal, State};
 
 const CALLER: Endpoint = Endpoint {
     addr: Addr([10, 0, 0, 1]),
@@ -33,78 +35,45 @@ pub(super) enum Side {
     B,
 }
 
-/// What is done at an end, or asked of it. Moments are in milliseconds.
+/// What is done at an end, or asked of it, and the answer. Moments are in milliseconds.
 #[derive(Clone, Copy)]
 pub(super) enum Act {
-    /// Its caller writes these octets.
-    Send(&'static [u8]),
+    /// Its caller writes these octets: how many are taken.
+    Send(&'static [u8], Result<usize, Refusal>),
     /// Its caller reads nine octets at most.
-    Recv,
+    Recv(Result<Received, Refusal>),
     /// Its caller closes its side.
     Shutdown,
     /// Its caller closes the connection at this moment.
-    Close(u64),
+    Close(u64, Fate),
     /// Its caller aborts the connection.
-    Abort,
+    Abort(Fate),
     /// The clock comes to this moment.
-    Tick(u64),
-    /// Its segment that is due goes out at this moment.
-    Emit(u64),
+    Tick(u64, Fate),
+    /// Its segment that is due goes out at this moment: how many octets it has.
+    Emit(u64, Option<usize>),
     /// The segment that it sent last reaches the other end at this moment.
-    Arrive(u64),
+    Arrive(u64, Fate),
     /// Its segment that is due goes out at this moment, and reaches the other end.
-    Pass(u64),
+    Pass(u64, Fate),
     /// It hears a segment with this number, this acknowledgement, these control bits, so many octets (at most two) and a window of 0.
-    Hear(u32, u32, Flags, usize),
+    Hear(u32, u32, Flags, usize, Fate),
     /// The number, the acknowledgement, the control bits and the window of the segment that it sent last.
-    Sent,
-    /// Whether these are the octets of the segment that it sent last.
-    HasSent(&'static [u8]),
-    /// Whether these were the first octets in the last buffer of its caller.
-    HasRead(&'static [u8]),
-    /// Its state.
-    State,
-    /// The segment that it has due.
-    Due,
-    /// When a tick would do something.
-    Deadline,
-    /// The error that its caller is told.
-    Error,
-    /// Whether its caller left it.
-    IsReleased,
-    /// Whether nothing is left of it.
-    IsOver,
-}
-
-/// What an act tells.
-#[derive(Clone, Copy, PartialEq)]
-pub(super) enum Told {
-    /// It is done.
-    Done,
-    /// There is nothing to go out or to tell.
-    Nothing,
-    /// The octets are no segment.
-    Malformed,
-    /// The error of a call.
-    Refused(Refusal),
-    /// How many octets a write took.
-    Count(usize),
-    /// What a read answers.
-    Received(Received),
-    /// What becomes of the connection's place.
-    Becomes(Fate),
-    /// The octets of the segment that went out.
-    Length(usize),
-    /// The number, the acknowledgement, the control bits and the window of a segment.
     Sent(u32, u32, Flags, u16),
-    /// Whether it is so.
-    Is(bool),
-    /// A state.
+    /// These are the octets of the segment that it sent last.
+    HasSent(&'static [u8]),
+    /// Its state.
     State(State),
-    /// What is due.
+    /// The segment that it has due.
     Due(Option<Due>),
     /// When a tick would do something.
     Deadline(Option<Moment>),
+    /// The error that its caller is told.
+    Error(Refusal),
+    /// Whether its caller left it.
+    IsReleased(bool),
+    /// Whether nothing is left of it.
+    IsOver(bool),
 }
 
 /// No control bit.
@@ -123,86 +92,45 @@ pub(super) const RST: Flags = Flags { rst: true, ..NONE };
 
 pub(super) const SYN: Flags = Flags { syn: true, ..NONE };
 
-/// The end keeps its place.
-pub(super) const STAYS: Told = Told::Becomes(Fate::Stays);
+/// What is done at an end.
+pub(super) type Step = (Side, Act);
 
-/// What is done at an end, and what that is to tell.
-pub(super) type Step = (Side, Act, Told);
-
-/// How far a connection is when a scenario begins.
-#[derive(Clone, Copy)]
-pub(super) enum Start {
-    /// A calls, and B has its SYN before it ever went out.
-    Called,
-    /// The hands are shaken.
-    Open,
+/// What is done at the two ends, part after part. A calls, and B has its SYN before it ever went out.
+pub(super) struct Scenario {
+    pub(super) name: &'static str,
+    pub(super) parts: &'static [&'static [Step]],
 }
 
-/// A name, where the scenario begins, and its steps from there on, part after part.
-pub(super) type Scenario = (&'static str, Start, &'static [&'static [Step]]);
-
-/// One end, the segment that it sent last, and the buffer that its caller read into.
+/// One end, and the segment that it sent last.
 #[derive(Drop)]
 struct End {
     connection: Connection,
     frame: [u8; MOST_SEGMENT],
     len: usize,
-    buffer: [u8; 9],
 }
 
 impl End {
-    /// An end that has sent and read nothing.
+    /// An end that has sent nothing.
     fn new(connection: Connection) -> End {
         End {
             connection,
             frame: [0; MOST_SEGMENT],
             len: 0,
-            buffer: [0; 9],
         }
     }
 
-    /// Its caller writes octets.
-    fn send(&mut self, octets: &[u8]) -> Told {
-        match self.connection.send(Moment(0), octets) {
-            Ok(count) => Told::Count(count),
-            Err(refusal) => Told::Refused(refusal),
-        }
+    /// Its segment that is due goes out: how many octets it has.
+    fn emit(&mut self, now: u64) -> Option<usize> {
+        let len = self.connection.emit(Moment(now), &mut self.frame)?;
+        self.len = len;
+        Some(len)
     }
 
-    /// Its caller reads into its buffer.
-    fn recv(&mut self) -> Told {
-        match self.connection.recv(&mut self.buffer) {
-            Ok(received) => Told::Received(received),
-            Err(refusal) => Told::Refused(refusal),
-        }
-    }
-
-    /// Its caller closes its side.
-    fn shutdown(&mut self) -> Told {
-        match self.connection.shutdown(Moment(0)) {
-            Ok(()) => Told::Done,
-            Err(refusal) => Told::Refused(refusal),
-        }
-    }
-
-    /// Its segment that is due goes out.
-    fn emit(&mut self, now: u64) -> Told {
-        match self.connection.emit(Moment(now), &mut self.frame) {
-            Some(len) => {
-                self.len = len;
-                Told::Length(len)
-            }
-            None => Told::Nothing,
-        }
-    }
-
-    /// Takes a segment from the other end.
-    fn hear(&mut self, now: u64, segment: &[u8]) -> Told {
+    /// Takes a segment from the other end, if the octets are one.
+    fn hear(&mut self, now: u64, segment: &[u8]) -> Option<Fate> {
         let (peer, local) = (self.connection.peer(), self.connection.local());
-        match TcpView::parse(peer.addr, local.addr, segment) {
-            Ok(view) => Told::Becomes(self.connection.segment(Moment(now), &view)),
-            Err(_) => Told::Malformed,
-        }
+        let view = TcpView::parse(peer.addr, local.addr, segment).ok()?;
+        Some(self.connection.segment(Moment(now), &view))
     }
 
     /// Takes a segment that the other end did not send.
@@ -212,7 +140,7 @@ impl End {
         acknowledgement: u32,
         flags: Flags,
         count: usize,
-    ) -> Told {
+    ) -> Option<Fate> {
         let (peer, local) = (self.connection.peer(), self.connection.local());
         let head = Head {
             source: peer.port,
@@ -237,125 +165,89 @@ impl End {
         }
     }
 
-    /// The header of the segment that it sent last.
-    fn header(&self) -> Told {
+    /// The number, the acknowledgement, the control bits and the window of the segment that it sent last.
+    fn header(&self) -> Option<(u32, u32, Flags, u16)> {
         let (local, peer) = (self.connection.local(), self.connection.peer());
-        match TcpView::parse(local.addr, peer.addr, self.sent()) {
-            Ok(view) => Told::Sent(
-                view.number().0,
-                view.acknowledgement().0,
-                view.flags(),
-                view.window(),
-            ),
-            Err(_) => Told::Malformed,
-        }
-    }
-
-    /// The error that its caller is told.
-    fn error(&self) -> Told {
-        match self.connection.error() {
-            Some(refusal) => Told::Refused(refusal),
-            None => Told::Nothing,
-        }
+        let view = TcpView::parse(local.addr, peer.addr, self.sent()).ok()?;
+        Some((
+            view.number().0,
+            view.acknowledgement().0,
+            view.flags(),
+            view.window(),
+        ))
     }
 }
 
-/// The buffers of one end.
-fn buffers(rt: &impl Abort, alloc: Global) -> Buffers {
-    Buffers::new(alloc).expect(rt, "memory for two buffers")
-}
-
-/// The two ends of a connection.
-#[derive(Drop)]
-struct Ends {
-    a: End,
-    b: End,
-}
-
-impl Ends {
-    /// A calls, and its SYN has reached B.
-    fn new(rt: &impl Abort, alloc: Global) -> Ends {
-        let (ours, theirs) = (buffers(rt, alloc), buffers(rt, alloc));
-        let syn = TcpView::parse(CALLER.addr, LISTENER.addr, &SYN_SEGMENT).expect(rt, "a segment");
-        let a = Connection::active(ours, CALLER, LISTENER, Seq(4_294_967_295));
-        let b = Connection::passive(theirs, LISTENER, CALLER, Seq(7), &syn);
-        Ends {
-            a: End::new(a),
-            b: End::new(b),
-        }
-    }
-
-    /// Does each step of a part in turn, which tells what it is to tell.
-    fn play(&mut self, rt: &impl Abort, name: &str, part: usize, steps: &[Step]) {
-        for (index, (side, act, want)) in steps.iter().enumerate() {
-            assert!(rt;
-                self.act(*side, *act) == *want,
-                "{name}: part {part}, step {index}"
-            );
-        }
-    }
-
-    /// Does what is done at one side, and answers what that tells.
-    fn act(&mut self, side: Side, act: Act) -> Told {
-        match side {
-            Side::A => act_at(&mut self.a, &mut self.b, act),
-            Side::B => act_at(&mut self.b, &mut self.a, act),
-        }
-    }
-}
-
-/// Does what is done at `end`, and answers what that tells.
-fn act_at(end: &mut End, other: &mut End, act: Act) -> Told {
+/// Does what is done at `end`, and tells whether it is answered so.
+fn is_answered(end: &mut End, other: &mut End, act: Act) -> bool {
+    let connection = &mut end.connection;
     match act {
-        Act::Send(octets) => end.send(octets),
-        Act::Recv => end.recv(),
-        Act::Shutdown => end.shutdown(),
-        Act::Close(now) => Told::Becomes(end.connection.close(Moment(now))),
-        Act::Abort => Told::Becomes(end.connection.abort(Moment(0))),
-        Act::Tick(now) => Told::Becomes(end.connection.tick(Moment(now))),
-        Act::Emit(now) => end.emit(now),
-        Act::Arrive(now) => other.hear(now, end.sent()),
-        Act::Pass(now) => pass(end, other, now),
-        Act::Hear(number, acknowledgement, flags, count) => {
-            end.hear_forged(number, acknowledgement, flags, count)
+        Act::Send(octets, want) => connection.send(Moment(0), octets) == want,
+        Act::Recv(want) => connection.recv(&mut [0; 9]) == want,
+        Act::Shutdown => connection.shutdown(Moment(0)) == Ok(()),
+        Act::Close(now, want) => connection.close(Moment(now)) == want,
+        Act::Abort(want) => connection.abort(Moment(0)) == want,
+        Act::Tick(now, want) => connection.tick(Moment(now)) == want,
+        Act::Emit(now, want) => end.emit(now) == want,
+        Act::Arrive(now, want) => other.hear(now, end.sent()) == Some(want),
+        Act::Pass(now, want) => {
+            end.emit(now).is_some() && other.hear(now, end.sent()) == Some(want)
         }
-        Act::Sent => end.header(),
-        Act::HasSent(octets) => Told::Is(end.sent() == octets),
-        Act::HasRead(octets) => Told::Is(end.buffer.starts_with(octets)),
-        Act::State => Told::State(end.connection.state()),
-        Act::Due => Told::Due(end.connection.due()),
-        Act::Deadline => Told::Deadline(end.connection.deadline()),
-        Act::Error => end.error(),
-        Act::IsReleased => Told::Is(end.connection.is_released()),
-        Act::IsOver => Told::Is(end.connection.is_over()),
-    }
-}
-
-/// The segment that is due at one end goes out, and reaches the other.
-fn pass(from: &mut End, to: &mut End, now: u64) -> Told {
-    match from.emit(now) {
-        Told::Length(_) => to.hear(now, from.sent()),
-        told => told,
+        Act::Hear(number, acknowledgement, flags, count, want) => {
+            end.hear_forged(number, acknowledgement, flags, count) == Some(want)
+        }
+        Act::Sent(number, acknowledgement, flags, window) => {
+            end.header() == Some((number, acknowledgement, flags, window))
+        }
+        Act::HasSent(octets) => end.sent() == octets,
+        Act::State(want) => connection.state() == want,
+        Act::Due(want) => connection.due() == want,
+        Act::Deadline(want) => connection.deadline() == want,
+        Act::Error(want) => connection.error() == Some(want),
+        Act::IsReleased(want) => connection.is_released() == want,
+        Act::IsOver(want) => connection.is_over() == want,
     }
 }
 
 /// A's SYN goes out, and B's SYN and A's acknowledgement pass.
-const HANDSHAKE: &[Step] = &[
-    (Side::A, Act::Emit(0), Told::Length(24)),
-    (Side::A, Act::HasSent(&SYN_SEGMENT), Told::Is(true)),
-    (Side::B, Act::Pass(0), STAYS),
-    (Side::A, Act::Pass(0), STAYS),
+pub(super) const HANDSHAKE: &[Step] = &[
+    (Side::A, Act::Emit(0, Some(24))),
+    (Side::A, Act::HasSent(&SYN_SEGMENT)),
+    (Side::B, Act::Pass(0, Stays)),
+    (Side::A, Act::Pass(0, Stays)),
 ];
 
-/// Plays each scenario with two ends of its own.
-pub(super) fn plays(rt: &impl Abort, alloc: Global, scenarios: &[Scenario]) {
-    for (name, start, parts) in scenarios {
-        let mut ends = Ends::new(rt, alloc);
-        if let Start::Open = start {
-            ends.play(rt, "the handshake", 0, HANDSHAKE);
+/// Plays a scenario with two ends of its own.
+fn plays(rt: &impl Abort, alloc: Global, scenario: &Scenario) {
+    let ours = Buffers::new(alloc).expect(rt, "memory for two buffers");
+    let theirs = Buffers::new(alloc).expect(rt, "memory for two buffers");
+    let syn = TcpView::parse(CALLER.addr, LISTENER.addr, &SYN_SEGMENT).expect(rt, "a segment");
+    let mut a = End::new(Connection::active(ours, CALLER, LISTENER, Seq(4_294_967_295)));
+    let mut b = End::new(Connection::passive(theirs, LISTENER, CALLER, Seq(7), &syn));
+    for (part, steps) in scenario.parts.iter().enumerate() {
+        for (step, (side, act)) in steps.iter().enumerate() {
+            let is_answered = match side {
+                Side::A => is_answered(&mut a, &mut b, *act),
+                Side::B => is_answered(&mut b, &mut a, *act),
+            };
+            assert!(rt; is_answered, "{}: part {part}, step {step}", scenario.name);
         }
-        for (part, steps) in parts.iter().enumerate() {
-            ends.play(rt, name, part, steps);
+    }
+}
+
+/// All scenarios.
+const SCENARIOS: [&[Scenario]; 4] = [
+    opening::SCENARIOS,
+    closing::SCENARIOS,
+    resets::SCENARIOS,
+    simultaneous::SCENARIOS,
+];
+
+#[test]
+fn ends_answer_as_they_should(rt: HostRuntime) {
+    for scenarios in SCENARIOS {
+        for scenario in scenarios {
+            plays(&rt, rt.alloc(), scenario);
         }
     }
 }

@@ -5,9 +5,11 @@ use super::octets::{
     NEAR_GATEWAY_ASKED, NEIGHBOUR_ASKED,
 };
 use super::stations::Side::{A, B};
-use super::stations::Start::{Gateways, NearGateway, Neighbours, Routed};
-use super::stations::{Act, ONE, Scenario, Step, THREE, TWO, Told, plays};
+use super::stations::{
+    Act, FRESH, GATEWAYS, NEAR_GATEWAY, NEIGHBOURS, ONE, ROUTED, Scenario, Step, THREE, TWO,
+};
 use host::Refusal;
+use host::SocketState::Stream;
 use ipv4::{Addr, Endpoint};
 use tcp_state::State;
 
@@ -30,71 +32,62 @@ const OFF: Endpoint = Endpoint {
 };
 
 const DIRECT_AND_NEAR: &[Step] = &[
-    (B, Act::Socket, Told::Id(ONE)),
-    (B, Act::Connect(5, ONE, DIRECT), Told::Done),
-    (B, Act::Emit, Told::Length(60)),
-    (B, Act::HasSent(NEIGHBOUR_ASKED), Told::Is(true)),
-    (B, Act::Socket, Told::Id(TWO)),
-    (B, Act::Connect(5, TWO, NEAR), Told::Done),
-    (B, Act::Emit, Told::Length(60)),
-    (B, Act::HasSent(NEAR_GATEWAY_ASKED), Told::Is(true)),
-    (B, Act::Socket, Told::Id(THREE)),
+    (B, Act::Socket(ONE)),
+    (B, Act::Connect(5, ONE, DIRECT, Ok(()))),
+    (B, Act::Sends(NEIGHBOUR_ASKED)),
+    (B, Act::Socket(TWO)),
+    (B, Act::Connect(5, TWO, NEAR, Ok(()))),
+    (B, Act::Sends(NEAR_GATEWAY_ASKED)),
+    (B, Act::Socket(THREE)),
 ];
 
 const OFF_BY_THE_OTHER: &[Step] = &[
-    (B, Act::Connect(5, THREE, OFF), Told::Done),
-    (B, Act::Emit, Told::Length(60)),
-    (B, Act::HasSent(ASKED_BACK), Told::Is(true)),
-    (B, Act::Emit, Told::Nothing),
+    (B, Act::Connect(5, THREE, OFF, Ok(()))),
+    (B, Act::Sends(ASKED_BACK)),
+    (B, Act::Emit(None)),
 ];
 
 const OFF_BY_NOTHING: &[Step] = &[
-    (
-        B,
-        Act::Connect(5, THREE, OFF),
-        Told::Refused(Refusal::ENETUNREACH),
-    ),
-    (B, Act::State(THREE), Told::State(State::Closed)),
-    (B, Act::Emit, Told::Nothing),
+    (B, Act::Connect(5, THREE, OFF, Err(Refusal::ENETUNREACH))),
+    (B, Act::State(THREE, Ok(Stream(State::Closed)))),
+    (B, Act::Emit(None)),
 ];
 
 /// The reply is for the host that asked, on its way to the gateway.
 const ECHO_BY_THE_GATEWAY: &[Step] = &[
-    (A, Act::Hear(0, GATEWAY_REPLY), Told::Done),
-    (A, Act::Hear(0, FAR_ECHO), Told::Done),
-    (A, Act::Emit, Told::Length(60)),
-    (A, Act::HasSent(FAR_ECHOED), Told::Is(true)),
-    (A, Act::Emit, Told::Nothing),
+    (A, Act::Hear(0, GATEWAY_REPLY, Ok(()))),
+    (A, Act::Hear(0, FAR_ECHO, Ok(()))),
+    (A, Act::Sends(FAR_ECHOED)),
+    (A, Act::Emit(None)),
 ];
 
 /// Where no route leads back, neither a request nor a datagram that nothing takes is answered.
 const NO_WAY_BACK: &[Step] = &[
-    (B, Act::Hear(0, FAR_ECHO_OF_B), Told::Done),
-    (B, Act::Hear(0, FAR_PROTOCOL), Told::Done),
-    (B, Act::Deadline, Told::Deadline(None)),
-    (B, Act::Emit, Told::Nothing),
+    (B, Act::Hear(0, FAR_ECHO_OF_B, Ok(()))),
+    (B, Act::Hear(0, FAR_PROTOCOL, Ok(()))),
+    (B, Act::Deadline(None)),
+    (B, Act::Emit(None)),
 ];
 
-const SCENARIOS: &[Scenario] = &[
-    (
-        "each hop is asked for",
-        Gateways,
-        &[DIRECT_AND_NEAR, OFF_BY_THE_OTHER],
-    ),
-    (
-        "without the last route nothing is begun",
-        NearGateway,
-        &[DIRECT_AND_NEAR, OFF_BY_NOTHING],
-    ),
-    (
-        "an echo goes by the gateway",
-        Routed,
-        &[ECHO_BY_THE_GATEWAY],
-    ),
-    ("what has no way back is taken", Neighbours, &[NO_WAY_BACK]),
+pub(super) const SCENARIOS: &[Scenario] = &[
+    Scenario {
+        name: "each hop is asked for",
+        ways: GATEWAYS,
+        parts: &[DIRECT_AND_NEAR, OFF_BY_THE_OTHER],
+    },
+    Scenario {
+        name: "without the last route nothing is begun",
+        ways: NEAR_GATEWAY,
+        parts: &[DIRECT_AND_NEAR, OFF_BY_NOTHING],
+    },
+    Scenario {
+        name: "an echo goes by the gateway",
+        ways: ROUTED,
+        parts: &[ECHO_BY_THE_GATEWAY],
+    },
+    Scenario {
+        name: "what has no way back is taken",
+        ways: FRESH,
+        parts: &[NEIGHBOURS, NO_WAY_BACK],
+    },
 ];
-
-#[test]
-fn routes_lead_to_the_next_hop(rt: HostRuntime) {
-    plays(&rt, rt.alloc(), SCENARIOS);
-}

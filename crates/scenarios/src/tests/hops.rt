@@ -5,97 +5,87 @@ use super::octets::{
     THIRD_ASKED, THIRD_IS_ASKED_FOR, THIRD_SYN,
 };
 use super::stations::Side::{A, B};
-use super::stations::Start::{Fresh, Listening, Neighbours, Routed};
-use super::stations::{Act, CLIENT, FAR, ONE, PAIR, SERVER, Scenario, Step, TWO, Told, plays};
+use super::stations::{
+    Act, CLIENT, FAR, FRESH, LISTENING, NEIGHBOURS, ONE, PAIR, ROUTED, SERVER, Scenario, Step, TWO,
+};
 use clock::Moment;
+use host::SocketState::Stream;
 use host::{DropCause, Refusal};
 use ipv4::{Addr, Endpoint, Pair};
 use tcp_state::State;
 
 /// One request a second goes out. The SYN is as it was when an answer comes, and its own second begins then.
 const SYN_WAITS: &[Step] = &[
-    (A, Act::Connect(4_294_967_295, ONE, SERVER), Told::Done),
-    (A, Act::Deadline, Told::Deadline(None)),
-    (A, Act::Emit, Told::Length(60)),
-    (A, Act::Emit, Told::Nothing),
-    (A, Act::Deadline, Told::Deadline(Some(Moment(1_000)))),
-    (A, Act::Tick(999), Told::Done),
-    (A, Act::Emit, Told::Nothing),
-    (A, Act::Tick(1_000), Told::Done),
-    (A, Act::Emit, Told::Length(60)),
-    (A, Act::HasSent(REQUEST), Told::Is(true)),
-    (A, Act::Tick(60_000), Told::Done),
-    (A, Act::State(ONE), Told::State(State::SynSent)),
-    (A, Act::Hear(0, REPLY), Told::Done),
-    (A, Act::Emit, Told::Length(60)),
-    (A, Act::HasSent(SYN), Told::Is(true)),
-    (A, Act::Emit, Told::Nothing),
-    (A, Act::Deadline, Told::Deadline(Some(Moment(61_000)))),
+    (A, Act::Connect(4_294_967_295, ONE, SERVER, Ok(()))),
+    (A, Act::Deadline(None)),
+    (A, Act::Emit(Some(60))),
+    (A, Act::Emit(None)),
+    (A, Act::Deadline(Some(Moment(1_000)))),
+    (A, Act::Tick(999)),
+    (A, Act::Emit(None)),
+    (A, Act::Tick(1_000)),
+    (A, Act::Sends(REQUEST)),
+    (A, Act::Tick(60_000)),
+    (A, Act::State(ONE, Ok(Stream(State::SynSent)))),
+    (A, Act::Hear(0, REPLY, Ok(()))),
+    (A, Act::Sends(SYN)),
+    (A, Act::Emit(None)),
+    (A, Act::Deadline(Some(Moment(61_000)))),
 ];
 
 /// What is for a host that isn't on the link goes to the gateway, whose MAC is asked for.
 const BY_THE_GATEWAY: &[Step] = &[
-    (A, Act::Socket, Told::Id(ONE)),
-    (A, Act::Connect(5, ONE, FAR), Told::Done),
-    (A, Act::Emit, Told::Length(60)),
-    (A, Act::HasSent(GATEWAY_ASKED), Told::Is(true)),
-    (A, Act::Hear(0, GATEWAY_REPLY), Told::Done),
-    (A, Act::Emit, Told::Length(60)),
-    (A, Act::HasSent(FAR_SYN), Told::Is(true)),
+    (A, Act::Socket(ONE)),
+    (A, Act::Connect(5, ONE, FAR, Ok(()))),
+    (A, Act::Sends(GATEWAY_ASKED)),
+    (A, Act::Hear(0, GATEWAY_REPLY, Ok(()))),
+    (A, Act::Sends(FAR_SYN)),
 ];
 
 /// Without a route nothing is begun, and no port is given.
 const NO_ROUTE: &[Step] = &[
-    (A, Act::Socket, Told::Id(ONE)),
-    (
-        A,
-        Act::Connect(5, ONE, FAR),
-        Told::Refused(Refusal::ENETUNREACH),
-    ),
-    (A, Act::State(ONE), Told::State(State::Closed)),
-    (A, Act::Connect(5, ONE, SERVER), Told::Done),
-    (A, Act::Pair(ONE), Told::Pair(Some(PAIR))),
+    (A, Act::Socket(ONE)),
+    (A, Act::Connect(5, ONE, FAR, Err(Refusal::ENETUNREACH))),
+    (A, Act::State(ONE, Ok(Stream(State::Closed)))),
+    (A, Act::Connect(5, ONE, SERVER, Ok(()))),
+    (A, Act::Pair(ONE, Some(PAIR))),
 ];
 
 /// B's reset has no way to A, for which B asks once a second.
 const RESET_WAITS: &[Step] = &[
-    (B, Act::Hear(0, SYN), Told::Done),
-    (B, Act::Deadline, Told::Deadline(Some(Moment(3_000)))),
-    (B, Act::Emit, Told::Length(60)),
-    (B, Act::HasSent(ASKED_BACK), Told::Is(true)),
-    (B, Act::Emit, Told::Nothing),
-    (B, Act::Deadline, Told::Deadline(Some(Moment(1_000)))),
+    (B, Act::Hear(0, SYN, Ok(()))),
+    (B, Act::Deadline(Some(Moment(3_000)))),
+    (B, Act::Sends(ASKED_BACK)),
+    (B, Act::Emit(None)),
+    (B, Act::Deadline(Some(Moment(1_000)))),
 ];
 
 /// It is there before three seconds are over, and goes out once the answer comes.
 const RESET_GOES: &[Step] = &[
-    (B, Act::Tick(2_999), Told::Done),
-    (B, Act::Deadline, Told::Deadline(Some(Moment(3_000)))),
-    (B, Act::Hear(0, REPLIED_BACK), Told::Done),
-    (B, Act::Deadline, Told::Deadline(None)),
-    (B, Act::Emit, Told::Length(60)),
-    (B, Act::HasSent(REFUSAL), Told::Is(true)),
-    (B, Act::Emit, Told::Nothing),
+    (B, Act::Tick(2_999)),
+    (B, Act::Deadline(Some(Moment(3_000)))),
+    (B, Act::Hear(0, REPLIED_BACK, Ok(()))),
+    (B, Act::Deadline(None)),
+    (B, Act::Sends(REFUSAL)),
+    (B, Act::Emit(None)),
 ];
 
 /// When they are over it is dropped.
 const RESET_IS_DROPPED: &[Step] = &[
-    (B, Act::Tick(3_000), Told::Done),
-    (B, Act::Deadline, Told::Deadline(None)),
-    (B, Act::Emit, Told::Nothing),
-    (B, Act::Hear(0, REPLIED_BACK), Told::Done),
-    (B, Act::Emit, Told::Nothing),
+    (B, Act::Tick(3_000)),
+    (B, Act::Deadline(None)),
+    (B, Act::Emit(None)),
+    (B, Act::Hear(0, REPLIED_BACK, Ok(()))),
+    (B, Act::Emit(None)),
 ];
 
 /// A reset for a third host waits, and holds that for A back in nothing.
 const PASSED_OVER: &[Step] = &[
-    (B, Act::Hear(0, THIRD_SYN), Told::Done),
-    (B, Act::Hear(0, SYN), Told::Done),
-    (B, Act::Emit, Told::Length(60)),
-    (B, Act::HasSent(THIRD_ASKED), Told::Is(true)),
-    (B, Act::Emit, Told::Length(60)),
-    (B, Act::HasSent(REFUSAL), Told::Is(true)),
-    (B, Act::Emit, Told::Nothing),
+    (B, Act::Hear(0, THIRD_SYN, Ok(()))),
+    (B, Act::Hear(0, SYN, Ok(()))),
+    (B, Act::Sends(THIRD_ASKED)),
+    (B, Act::Sends(REFUSAL)),
+    (B, Act::Emit(None)),
 ];
 
 /// A third host, and B's connection with it.
@@ -109,55 +99,72 @@ const THIRD: Pair = Pair {
 
 /// A connection may be with any host.
 const THIRD_HOST: &[Step] = &[
-    (B, Act::Hear(7, THIRD_SYN), Told::Done),
-    (B, Act::Holder(THIRD), Told::Holder(Some(TWO))),
-    (B, Act::Emit, Told::Length(60)),
-    (B, Act::HasSent(THIRD_ASKED), Told::Is(true)),
+    (B, Act::Hear(7, THIRD_SYN, Ok(()))),
+    (B, Act::Holder(THIRD, Some(TWO))),
+    (B, Act::Sends(THIRD_ASKED)),
 ];
 
 /// Sixteen resets wait for A's MAC.
-const SIXTEEN_WAIT: &[Step] = &[(B, Act::Hear(0, SYN), Told::Done); 16];
+const SIXTEEN_WAIT: &[Step] = &[(B, Act::Hear(0, SYN, Ok(()))); 16];
 
 /// A's request finds no place for a reply, and B learns from it all the same. A packet for another host needs no place.
 const LEARNT_WITHOUT_ROOM: &[Step] = &[
-    (B, Act::Hear(0, THIRD_IS_ASKED_FOR), Told::Done),
-    (B, Act::Hear(0, REQUEST), Told::Dropped(DropCause::NoRoom)),
-    (B, Act::Emit, Told::Length(60)),
-    (B, Act::HasSent(REFUSAL), Told::Is(true)),
-    (B, Act::Hear(0, REQUEST), Told::Done),
+    (B, Act::Hear(0, THIRD_IS_ASKED_FOR, Ok(()))),
+    (B, Act::Hear(0, REQUEST, Err(DropCause::NoRoom))),
+    (B, Act::Sends(REFUSAL)),
+    (B, Act::Hear(0, REQUEST, Ok(()))),
 ];
 
 /// A host is no peer of its own, whatever its routes lead to.
 const SELF: &[Step] = &[
-    (A, Act::Socket, Told::Id(ONE)),
-    (
-        A,
-        Act::Connect(5, ONE, CLIENT),
-        Told::Refused(Refusal::EADDRNOTAVAIL),
-    ),
+    (A, Act::Socket(ONE)),
+    (A, Act::Connect(5, ONE, CLIENT, Err(Refusal::EADDRNOTAVAIL))),
 ];
 
-const SCENARIOS: &[Scenario] = &[
-    ("a SYN waits for its hop", Listening, &[SYN_WAITS]),
-    ("a gateway is the hop", Routed, &[BY_THE_GATEWAY]),
-    ("without a route nothing is begun", Fresh, &[NO_ROUTE]),
-    ("a host doesn't speak to itself", Routed, &[SELF]),
-    ("a reset waits", Fresh, &[RESET_WAITS, RESET_GOES]),
-    (
-        "a reset waits for three seconds at most",
-        Fresh,
-        &[RESET_WAITS, RESET_IS_DROPPED],
-    ),
-    ("what waits is passed over", Neighbours, &[PASSED_OVER]),
-    ("a third host connects", Listening, &[THIRD_HOST]),
-    (
-        "a packet is learnt where a reply has no room",
-        Fresh,
-        &[SIXTEEN_WAIT, LEARNT_WITHOUT_ROOM],
-    ),
+pub(super) const SCENARIOS: &[Scenario] = &[
+    Scenario {
+        name: "a SYN waits for its hop",
+        ways: FRESH,
+        parts: &[LISTENING, SYN_WAITS],
+    },
+    Scenario {
+        name: "a gateway is the hop",
+        ways: ROUTED,
+        parts: &[BY_THE_GATEWAY],
+    },
+    Scenario {
+        name: "without a route nothing is begun",
+        ways: FRESH,
+        parts: &[NO_ROUTE],
+    },
+    Scenario {
+        name: "a host doesn't speak to itself",
+        ways: ROUTED,
+        parts: &[SELF],
+    },
+    Scenario {
+        name: "a reset waits",
+        ways: FRESH,
+        parts: &[RESET_WAITS, RESET_GOES],
+    },
+    Scenario {
+        name: "a reset waits for three seconds at most",
+        ways: FRESH,
+        parts: &[RESET_WAITS, RESET_IS_DROPPED],
+    },
+    Scenario {
+        name: "what waits is passed over",
+        ways: FRESH,
+        parts: &[NEIGHBOURS, PASSED_OVER],
+    },
+    Scenario {
+        name: "a third host connects",
+        ways: FRESH,
+        parts: &[LISTENING, THIRD_HOST],
+    },
+    Scenario {
+        name: "a packet is learnt where a reply has no room",
+        ways: FRESH,
+        parts: &[SIXTEEN_WAIT, LEARNT_WITHOUT_ROOM],
+    },
 ];
-
-#[test]
-fn what_has_no_hop_waits(rt: HostRuntime) {
-    plays(&rt, rt.alloc(), SCENARIOS);
-}

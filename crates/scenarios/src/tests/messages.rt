@@ -1,221 +1,285 @@
 //! Control messages (RFC 792): echo, what is told of a protocol that nothing takes, and errors that a host hears.
 
-use super::drops::changed;
 use super::octets::{
     ASKED_BACK, CUT_QUOTE, ECHO, ECHOED, NOT_TAKEN, OTHER_PROTOCOL, REPLIED_BACK, REPLY, SYN,
     UNREACHABLE,
 };
 use super::stations::Side::{A, B};
-use super::stations::Start::{Fresh, Listening, Neighbours};
 use super::stations::{
-    Act, CLIENT, ONE, SERVER, Scenario, Station, Step, TWO, Told, config, plays,
+    Act, CLIENT, FRESH, LISTENING, NEIGHBOURS, ONE, SERVER, Scenario, Station, Step, TWO, config,
 };
 use clock::Moment;
-use host::{DropCause, Kind, Refusal};
-use std::alloc::Global;
-use std::process::Abort;
-use tcp_segment::Seq;
+use host::SocketState::Stream;
+use host::{DropCause, Refusal};
 use tcp_state::{Received, State};
 
 /// Each reply goes out once, in the order of what it answers.
 const ANSWERED: &[Step] = &[
-    (B, Act::Hear(0, ECHO), Told::Done),
-    (B, Act::Hear(0, OTHER_PROTOCOL), Told::Done),
-    (B, Act::Hear(0, ECHO), Told::Done),
-    (B, Act::Deadline, Told::Deadline(None)),
-    (B, Act::Emit, Told::Length(60)),
-    (B, Act::HasSent(ECHOED), Told::Is(true)),
-    (B, Act::Emit, Told::Length(70)),
-    (B, Act::HasSent(NOT_TAKEN), Told::Is(true)),
-    (B, Act::Emit, Told::Length(60)),
-    (B, Act::HasSent(ECHOED), Told::Is(true)),
-    (B, Act::Emit, Told::Nothing),
+    (B, Act::Hear(0, ECHO, Ok(()))),
+    (B, Act::Hear(0, OTHER_PROTOCOL, Ok(()))),
+    (B, Act::Hear(0, ECHO, Ok(()))),
+    (B, Act::Deadline(None)),
+    (B, Act::Sends(ECHOED)),
+    (B, Act::Sends(NOT_TAKEN)),
+    (B, Act::Sends(ECHOED)),
+    (B, Act::Emit(None)),
 ];
 
 /// The reply has no way to A, for which B asks.
 const ECHO_WAITS: &[Step] = &[
-    (B, Act::Hear(0, ECHO), Told::Done),
-    (B, Act::Deadline, Told::Deadline(Some(Moment(3_000)))),
-    (B, Act::Emit, Told::Length(60)),
-    (B, Act::HasSent(ASKED_BACK), Told::Is(true)),
-    (B, Act::Emit, Told::Nothing),
+    (B, Act::Hear(0, ECHO, Ok(()))),
+    (B, Act::Deadline(Some(Moment(3_000)))),
+    (B, Act::Sends(ASKED_BACK)),
+    (B, Act::Emit(None)),
 ];
 
 const ECHO_GOES: &[Step] = &[
-    (B, Act::Tick(2_999), Told::Done),
-    (B, Act::Hear(0, REPLIED_BACK), Told::Done),
-    (B, Act::Emit, Told::Length(60)),
-    (B, Act::HasSent(ECHOED), Told::Is(true)),
-    (B, Act::Emit, Told::Nothing),
+    (B, Act::Tick(2_999)),
+    (B, Act::Hear(0, REPLIED_BACK, Ok(()))),
+    (B, Act::Sends(ECHOED)),
+    (B, Act::Emit(None)),
 ];
 
 const ECHO_IS_DROPPED: &[Step] = &[
-    (B, Act::Tick(3_000), Told::Done),
-    (B, Act::Hear(0, REPLIED_BACK), Told::Done),
-    (B, Act::Emit, Told::Nothing),
+    (B, Act::Tick(3_000)),
+    (B, Act::Hear(0, REPLIED_BACK, Ok(()))),
+    (B, Act::Emit(None)),
 ];
 
-const SIXTEEN_ASK: &[Step] = &[(B, Act::Hear(0, ECHO), Told::Done); 16];
+const SIXTEEN_ASK: &[Step] = &[(B, Act::Hear(0, ECHO, Ok(()))); 16];
 
 /// The next has no room, nor has what nothing takes, until one is answered.
 const SEVENTEENTH: &[Step] = &[
-    (B, Act::Hear(0, ECHO), Told::Dropped(DropCause::NoRoom)),
-    (
-        B,
-        Act::Hear(0, OTHER_PROTOCOL),
-        Told::Dropped(DropCause::NoRoom),
-    ),
-    (B, Act::Emit, Told::Length(60)),
-    (B, Act::HasSent(ECHOED), Told::Is(true)),
-    (B, Act::Hear(0, OTHER_PROTOCOL), Told::Done),
-    (B, Act::Hear(0, ECHO), Told::Dropped(DropCause::NoRoom)),
+    (B, Act::Hear(0, ECHO, Err(DropCause::NoRoom))),
+    (B, Act::Hear(0, OTHER_PROTOCOL, Err(DropCause::NoRoom))),
+    (B, Act::Sends(ECHOED)),
+    (B, Act::Hear(0, OTHER_PROTOCOL, Ok(()))),
+    (B, Act::Hear(0, ECHO, Err(DropCause::NoRoom))),
 ];
 
 /// A's SYN waits to go out, and none has gone out that an error could be about.
 const BEFORE_THE_SYN: &[Step] = &[
-    (A, Act::Hear(0, REPLY), Told::Done),
-    (A, Act::Connect(4_294_967_295, ONE, SERVER), Told::Done),
-    (A, Act::Hear(0, UNREACHABLE), Told::Done),
-    (A, Act::State(ONE), Told::State(State::SynSent)),
+    (A, Act::Hear(0, REPLY, Ok(()))),
+    (A, Act::Connect(4_294_967_295, ONE, SERVER, Ok(()))),
+    (A, Act::Hear(0, UNREACHABLE, Ok(()))),
+    (A, Act::State(ONE, Ok(Stream(State::SynSent)))),
 ];
 
 /// It goes out, and a quote that is cut short is about nothing.
 const CUT_SHORT: &[Step] = &[
-    (A, Act::Emit, Told::Length(60)),
-    (A, Act::HasSent(SYN), Told::Is(true)),
-    (A, Act::Hear(0, CUT_QUOTE), Told::Done),
-    (A, Act::State(ONE), Told::State(State::SynSent)),
-    (A, Act::Recv(ONE), Told::Refused(Refusal::EAGAIN)),
+    (A, Act::Sends(SYN)),
+    (A, Act::Hear(0, CUT_QUOTE, Ok(()))),
+    (A, Act::State(ONE, Ok(Stream(State::SynSent)))),
+    (A, Act::Recv(ONE, Err(Refusal::EAGAIN))),
 ];
 
 /// The whole quote ends it, as each call is told from then on. Nothing more goes out.
 const REFUSED: &[Step] = &[
-    (A, Act::Hear(0, UNREACHABLE), Told::Done),
-    (A, Act::State(ONE), Told::State(State::Closed)),
-    (A, Act::Recv(ONE), Told::Refused(Refusal::ECONNREFUSED)),
-    (A, Act::Recv(ONE), Told::Refused(Refusal::ECONNREFUSED)),
-    (
-        A,
-        Act::Send(ONE, b"hello"),
-        Told::Refused(Refusal::ECONNREFUSED),
-    ),
-    (A, Act::Hear(0, UNREACHABLE), Told::Done),
-    (A, Act::Deadline, Told::Deadline(None)),
-    (A, Act::Emit, Told::Nothing),
-    (A, Act::Close(ONE), Told::Done),
-    (A, Act::State(ONE), Told::Refused(Refusal::EBADF)),
+    (A, Act::Hear(0, UNREACHABLE, Ok(()))),
+    (A, Act::State(ONE, Ok(Stream(State::Closed)))),
+    (A, Act::Recv(ONE, Err(Refusal::ECONNREFUSED))),
+    (A, Act::Recv(ONE, Err(Refusal::ECONNREFUSED))),
+    (A, Act::Send(ONE, b"hello", Err(Refusal::ECONNREFUSED))),
+    (A, Act::Hear(0, UNREACHABLE, Ok(()))),
+    (A, Act::Deadline(None)),
+    (A, Act::Emit(None)),
+    (A, Act::Close(ONE)),
+    (A, Act::State(ONE, Err(Refusal::EBADF))),
 ];
 
 /// Past SYN-SENT an error is only a hint: the connection that was begun goes on.
 const ESTABLISHED: &[Step] = &[
-    (A, Act::Hear(0, REPLY), Told::Done),
-    (B, Act::Hear(0, REPLIED_BACK), Told::Done),
-    (A, Act::Connect(4_294_967_295, ONE, SERVER), Told::Done),
-    (A, Act::Pass(7), Told::Done),
-    (B, Act::Pass(0), Told::Done),
-    (A, Act::Hear(0, UNREACHABLE), Told::Done),
-    (A, Act::State(ONE), Told::State(State::Established)),
-    (A, Act::Pass(0), Told::Done),
-    (A, Act::Hear(0, UNREACHABLE), Told::Done),
-    (A, Act::State(ONE), Told::State(State::Established)),
-    (A, Act::Deadline, Told::Deadline(None)),
-    (A, Act::Emit, Told::Nothing),
-    (B, Act::Accept(ONE), Told::Accepted(TWO, CLIENT)),
-    (A, Act::Send(ONE, b"more"), Told::Count(4)),
-    (A, Act::Pass(0), Told::Done),
-    (B, Act::Recv(TWO), Told::Received(Received::Octets(4))),
+    (A, Act::Hear(0, REPLY, Ok(()))),
+    (B, Act::Hear(0, REPLIED_BACK, Ok(()))),
+    (A, Act::Connect(4_294_967_295, ONE, SERVER, Ok(()))),
+    (A, Act::Pass(7)),
+    (B, Act::Pass(0)),
+    (A, Act::Hear(0, UNREACHABLE, Ok(()))),
+    (A, Act::State(ONE, Ok(Stream(State::Established)))),
+    (A, Act::Pass(0)),
+    (A, Act::Hear(0, UNREACHABLE, Ok(()))),
+    (A, Act::State(ONE, Ok(Stream(State::Established)))),
+    (A, Act::Deadline(None)),
+    (A, Act::Emit(None)),
+    (B, Act::Accept(ONE, TWO, CLIENT)),
+    (A, Act::Send(ONE, b"more", Ok(4))),
+    (A, Act::Pass(0)),
+    (B, Act::Recv(TWO, Ok(Received::Octets(4)))),
 ];
 
-const SCENARIOS: &[Scenario] = &[
-    ("messages are answered in order", Neighbours, &[ANSWERED]),
-    ("an echo waits", Fresh, &[ECHO_WAITS, ECHO_GOES]),
-    (
-        "an echo waits for three seconds at most",
-        Fresh,
-        &[ECHO_WAITS, ECHO_IS_DROPPED],
-    ),
-    (
-        "sixteen replies have room",
-        Neighbours,
-        &[SIXTEEN_ASK, SEVENTEENTH],
-    ),
-    (
-        "an error ends an opening",
-        Listening,
-        &[BEFORE_THE_SYN, CUT_SHORT, REFUSED],
-    ),
-    (
-        "an error ends nothing that is open",
-        Listening,
-        &[ESTABLISHED],
-    ),
+/// A, which knows B's MAC, and whose SYN with the last number of 32 bits has gone out.
+const CALLING: &[Step] = &[
+    (A, Act::Hear(0, REPLY, Ok(()))),
+    (A, Act::Socket(ONE)),
+    (A, Act::Connect(4_294_967_295, ONE, SERVER, Ok(()))),
+    (A, Act::Sends(SYN)),
 ];
 
-#[test]
-fn messages_are_met(rt: HostRuntime) {
-    plays(&rt, rt.alloc(), SCENARIOS);
-}
-
-/// The octets of the error that are others, and whether it ends the opening.
-type Row = (&'static [(usize, u8)], bool);
-
-/// The types and codes, each with its checksum; then the quote, for another number, port, address or protocol, or with a wrong sum.
-const ERRORS: [Row; 17] = [
-    (&[], true),
-    (&[(35, 2), (37, 0xad)], true),
-    (&[(35, 4), (37, 0xab)], true),
-    (&[(35, 0), (37, 0xaf)], false),
-    (&[(35, 1), (37, 0xae)], false),
-    (&[(35, 5), (37, 0xaa)], false),
-    (&[(34, 4), (35, 0), (36, 0x3b), (37, 0xaf)], false),
-    (&[(34, 5), (35, 0), (36, 0x3a), (37, 0xaf)], false),
-    (&[(34, 11), (35, 0), (36, 0x34), (37, 0xaf)], false),
-    (&[(34, 12), (35, 0), (36, 0x33), (37, 0xaf)], false),
-    (&[(66, 0), (67, 0), (68, 0), (69, 5), (37, 0xa7)], false),
-    (&[(63, 1), (37, 0xab)], false),
-    (&[(65, 81), (37, 0xab)], false),
-    (&[(57, 3), (53, 0xc8)], false),
-    (&[(61, 3), (53, 0xc9)], false),
-    (&[(51, 17), (53, 0xbf)], false),
-    (&[(52, 0), (53, 0), (36, 0x63), (37, 0x76)], true),
+/// Errors that end no opening: other types and codes, each with its checksum; then the quote, for another number, port, address or protocol.
+const HINTS: &[Step] = &[
+    (
+        A,
+        Act::HearChanged(UNREACHABLE, &[(35, 0), (37, 0xaf)], Ok(())),
+    ),
+    (
+        A,
+        Act::HearChanged(UNREACHABLE, &[(35, 1), (37, 0xae)], Ok(())),
+    ),
+    (
+        A,
+        Act::HearChanged(UNREACHABLE, &[(35, 5), (37, 0xaa)], Ok(())),
+    ),
+    (
+        A,
+        Act::HearChanged(
+            UNREACHABLE,
+            &[(34, 4), (35, 0), (36, 0x3b), (37, 0xaf)],
+            Ok(()),
+        ),
+    ),
+    (
+        A,
+        Act::HearChanged(
+            UNREACHABLE,
+            &[(34, 5), (35, 0), (36, 0x3a), (37, 0xaf)],
+            Ok(()),
+        ),
+    ),
+    (
+        A,
+        Act::HearChanged(
+            UNREACHABLE,
+            &[(34, 11), (35, 0), (36, 0x34), (37, 0xaf)],
+            Ok(()),
+        ),
+    ),
+    (
+        A,
+        Act::HearChanged(
+            UNREACHABLE,
+            &[(34, 12), (35, 0), (36, 0x33), (37, 0xaf)],
+            Ok(()),
+        ),
+    ),
+    (
+        A,
+        Act::HearChanged(
+            UNREACHABLE,
+            &[(66, 0), (67, 0), (68, 0), (69, 5), (37, 0xa7)],
+            Ok(()),
+        ),
+    ),
+    (
+        A,
+        Act::HearChanged(UNREACHABLE, &[(63, 1), (37, 0xab)], Ok(())),
+    ),
+    (
+        A,
+        Act::HearChanged(UNREACHABLE, &[(65, 81), (37, 0xab)], Ok(())),
+    ),
+    (
+        A,
+        Act::HearChanged(UNREACHABLE, &[(57, 3), (53, 0xc8)], Ok(())),
+    ),
+    (
+        A,
+        Act::HearChanged(UNREACHABLE, &[(61, 3), (53, 0xc9)], Ok(())),
+    ),
+    (
+        A,
+        Act::HearChanged(UNREACHABLE, &[(51, 17), (53, 0xbf)], Ok(())),
+    ),
+    (A, Act::State(ONE, Ok(Stream(State::SynSent)))),
+    (A, Act::Recv(ONE, Err(Refusal::EAGAIN))),
+    (A, Act::Emit(None)),
 ];
 
-/// A, which knows B's MAC and whose SYN with the last number of 32 bits has gone out.
-fn calling(rt: &impl Abort, alloc: Global) -> Station {
-    let mut station = Station::new(rt, alloc, config(rt, A));
-    assert!(rt; station.hear(0, REPLY) == Told::Done);
-    assert!(rt; station.socket(Kind::Tcp) == Told::Id(ONE));
-    let called = station
-        .host
-        .connect(Moment(0), Seq(4_294_967_295), ONE, SERVER);
-    assert_eq!(rt; called, Ok(()));
-    assert!(rt; station.emit() == Told::Length(60));
-    assert!(rt; station.sent() == SYN);
-    station
-}
+/// Those that end it: by their codes, and one whose quote has no sum.
+const NO_PORT: &[Step] = &[(A, Act::HearChanged(UNREACHABLE, &[], Ok(())))];
 
-#[test]
-fn hard_errors_about_the_syn_end_its_opening(rt: HostRuntime) {
-    for (index, (changes, ends)) in ERRORS.iter().enumerate() {
-        let mut station = calling(&rt, rt.alloc());
-        let error = changed(UNREACHABLE, changes);
-        assert!(rt;
-            station.hear(0, &error[..UNREACHABLE.len().min(1_515)]) == Told::Done,
-            "error {index}"
-        );
-        let (state, refusal) = if *ends {
-            (State::Closed, Refusal::ECONNREFUSED)
-        } else {
-            (State::SynSent, Refusal::EAGAIN)
-        };
-        assert!(rt; station.state(ONE) == Told::State(state), "error {index}");
-        assert!(rt;
-            station.recv(ONE) == Told::Refused(refusal),
-            "error {index}"
-        );
-        assert!(rt; station.emit() == Told::Nothing, "error {index}");
-    }
-}
+const NO_PROTOCOL: &[Step] = &[(
+    A,
+    Act::HearChanged(UNREACHABLE, &[(35, 2), (37, 0xad)], Ok(())),
+)];
+
+const NO_FRAGMENTS: &[Step] = &[(
+    A,
+    Act::HearChanged(UNREACHABLE, &[(35, 4), (37, 0xab)], Ok(())),
+)];
+
+const NO_SUM: &[Step] = &[(
+    A,
+    Act::HearChanged(
+        UNREACHABLE,
+        &[(52, 0), (53, 0), (36, 0x63), (37, 0x76)],
+        Ok(()),
+    ),
+)];
+
+/// The opening has ended, and nothing goes out.
+const ENDED: &[Step] = &[
+    (A, Act::State(ONE, Ok(Stream(State::Closed)))),
+    (A, Act::Recv(ONE, Err(Refusal::ECONNREFUSED))),
+    (A, Act::Emit(None)),
+];
+
+pub(super) const SCENARIOS: &[Scenario] = &[
+    Scenario {
+        name: "messages are answered in order",
+        ways: FRESH,
+        parts: &[NEIGHBOURS, ANSWERED],
+    },
+    Scenario {
+        name: "an echo waits",
+        ways: FRESH,
+        parts: &[ECHO_WAITS, ECHO_GOES],
+    },
+    Scenario {
+        name: "an echo waits for three seconds at most",
+        ways: FRESH,
+        parts: &[ECHO_WAITS, ECHO_IS_DROPPED],
+    },
+    Scenario {
+        name: "sixteen replies have room",
+        ways: FRESH,
+        parts: &[NEIGHBOURS, SIXTEEN_ASK, SEVENTEENTH],
+    },
+    Scenario {
+        name: "an error ends an opening",
+        ways: FRESH,
+        parts: &[LISTENING, BEFORE_THE_SYN, CUT_SHORT, REFUSED],
+    },
+    Scenario {
+        name: "an error ends nothing that is open",
+        ways: FRESH,
+        parts: &[LISTENING, ESTABLISHED],
+    },
+    Scenario {
+        name: "other errors end no opening",
+        ways: FRESH,
+        parts: &[CALLING, HINTS],
+    },
+    Scenario {
+        name: "no port ends an opening",
+        ways: FRESH,
+        parts: &[CALLING, NO_PORT, ENDED],
+    },
+    Scenario {
+        name: "no protocol ends an opening",
+        ways: FRESH,
+        parts: &[CALLING, NO_PROTOCOL, ENDED],
+    },
+    Scenario {
+        name: "no fragments end an opening",
+        ways: FRESH,
+        parts: &[CALLING, NO_FRAGMENTS, ENDED],
+    },
+    Scenario {
+        name: "a quote without a sum ends an opening",
+        ways: FRESH,
+        parts: &[CALLING, NO_SUM, ENDED],
+    },
+];
 
 /// The heads of a request for an echo of 1,472 octets, which fill a frame, and of its reply; each of these octets is a5.
 const LONG_ECHO: [u8; 42] = *b"\x02\0\0\0\0\x02\x02\0\0\0\0\x01\x08\0\
@@ -238,9 +302,8 @@ fn long(heads: [u8; 42]) -> [u8; 1_514] {
 #[test]
 fn an_echo_that_fills_a_frame_is_answered_whole(rt: HostRuntime) {
     let mut station = Station::new(&rt, rt.alloc(), config(&rt, B));
-    assert!(rt; station.hear(0, REPLIED_BACK) == Told::Done);
-    assert!(rt; station.hear(0, &long(LONG_ECHO)) == Told::Done);
-    assert!(rt; station.emit() == Told::Length(1_514));
-    assert!(rt; station.sent() == long(LONG_ECHOED).as_slice());
-    assert!(rt; station.emit() == Told::Nothing);
+    assert!(rt; station.hear(0, REPLIED_BACK) == Ok(()));
+    assert!(rt; station.hear(0, &long(LONG_ECHO)) == Ok(()));
+    assert!(rt; station.emit() == Some(1_514) && station.sent() == long(LONG_ECHOED).as_slice());
+    assert!(rt; station.emit() == None);
 }

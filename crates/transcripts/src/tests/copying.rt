@@ -4,7 +4,7 @@ use capture::Reader;
 use clock::Moment;
 use commands::copying::{Broken, CopyEnds, Counting, copy_captured};
 use commands::progress::Progress;
-use copier::{CopyFault, copy};
+use copier::CopyFault;
 use devices::{Link, MemoryLink, MemorySink, MemorySource, Passage, Sink, Treatment};
 use host::Refusal;
 use recorder::{CaptureFault, RecordedLink};
@@ -25,24 +25,27 @@ fn octets(alloc: Global, len: usize) -> Result<Vec<u8>, Fail> {
     Ok(octets)
 }
 
-/// How a copy of octets ended, to a sink that fails at this call, from 1 on, if it isn't 0. What the sink took is the first of the octets, and as
-/// many as are counted.
+/// How a copy of octets over a link with a capture ended, to a sink that fails at this call, from 1 on, if it isn't 0. What the sink took is the first of the octets,
+/// and as many as are counted. That nothing can be said of it leaves it as it is.
 fn copied<L: Link>(
     rt: &impl Abort,
     alloc: Global,
     octets: &[u8],
     fails_at: u64,
-    link: &mut L,
-) -> Result<u64, CopyFault> {
+    link: &mut RecordedLink<L, MemorySink>,
+) -> CopyEnds {
     let mut src = MemorySource::new(octets);
+    let deaf = MemorySink::new(alloc).in_pieces(0);
+    let progress = Progress::new(alloc, deaf, Some(octets.len() as u64));
     let sink = MemorySink::new(alloc).failing_at(fails_at);
-    let mut dst: Counting<MemorySink, MemorySink> = Counting::new(sink, None);
-    let outcome = copy(alloc, &mut src, &mut dst, link, TURNS);
+    let mut dst = Counting::new(sink, Some(progress));
+    let ends = copy_captured(alloc, &mut src, &mut dst, link, TURNS);
+    dst.end();
     let taken = dst.sink().taken();
-    assert!(rt; octets.starts_with(taken));
-    assert_eq!(rt; dst.written(), taken.len() as u64);
-    assert!(rt; outcome.is_err() || dst.sink().is_flushed());
-    outcome
+    assert!(rt; octets.starts_with(taken) && dst.written() == taken.len() as u64);
+    let is_whole = taken.len() == octets.len() && dst.sink().is_flushed() && dst.failures() == 0;
+    assert!(rt; ends.copy.is_err() || is_whole);
+    ends
 }
 
 /// Frames are lost and sent twice on their way over two sockets of the machine.
@@ -54,22 +57,11 @@ fn octets_are_copied_over_sockets(rt: HostRuntime) -> Result<(), Fail> {
             lose: Every::new(7),
             repeat: Every::new(5),
         };
-        let mut link = SocketLink::new(a, b, losses);
+        let link = SocketLink::new(a, b, losses);
+        let mut link = RecordedLink::new(link, MemorySink::new(rt.alloc()));
         let octets = octets(rt.alloc(), len)?;
-        let end = copied(&rt, rt.alloc(), octets.as_slice(), 0, &mut link);
-        assert_eq!(rt; end, Ok(len as u64));
-    }
-    Ok(())
-}
-
-/// A sink that fails at one of its first calls.
-#[test]
-fn what_was_written_before_a_fault_is_counted(rt: HostRuntime) -> Result<(), Fail> {
-    let octets = octets(rt.alloc(), 10_000)?;
-    for call in 1..=3 {
-        let mut link = MemoryLink::new(rt.alloc(), &[]);
-        let end = copied(&rt, rt.alloc(), octets.as_slice(), call, &mut link);
-        assert_eq!(rt; end, Err(CopyFault::Write));
+        let ends = copied(&rt, rt.alloc(), octets.as_slice(), 0, &mut link);
+        assert!(rt; ends.copy == Ok(len as u64) && ends.capture == Ok(()));
     }
     Ok(())
 }
@@ -87,139 +79,110 @@ fn recorded(alloc: Global, fails_at: u64) -> RecordedLink<MemoryLink<'static>, M
     RecordedLink::new(MemoryLink::new(alloc, &TREATED), sink)
 }
 
-/// How a copy of octets over such a link ended, and its capture. The sink took all of the octets.
-fn captured(
-    rt: &impl Abort,
-    alloc: Global,
-    octets: &[u8],
-    link: &mut RecordedLink<MemoryLink<'static>, MemorySink>,
-) -> CopyEnds {
-    let mut src = MemorySource::new(octets);
-    let mut dst = MemorySink::new(alloc);
-    let ends = copy_captured(alloc, &mut src, &mut dst, link, TURNS);
-    assert_eq!(rt; dst.taken(), octets);
-    ends
-}
-
-/// The capture of a copy has each frame that went out once, in order, whatever becomes of it; one that goes out again after a second has a later moment.
-#[test]
-fn frames_of_a_copy_are_captured(rt: HostRuntime) -> Result<(), Fail> {
-    let octets = octets(rt.alloc(), 3_000)?;
-    let mut link = recorded(rt.alloc(), 0);
-    let ends = captured(&rt, rt.alloc(), octets.as_slice(), &mut link);
-    assert_eq!(rt; (ends.copy, ends.capture), (Ok(3_000), Ok(())));
-    assert!(rt; link.capture().is_flushed());
-    let mut capture = Reader::new(link.capture().taken()).expect(&rt, "a capture");
-    let mut last = Moment(0);
+/// The capture of a copy has each frame that went out once, in order, whatever becomes of it; one that goes out again after a second has a later moment. Answers how
+/// often its sink was written to: once for the header, and twice for each frame.
+fn writes(rt: &impl Abort, link: &RecordedLink<MemoryLink<'static>, MemorySink>) -> u64 {
+    let mut capture = Reader::new(link.capture().taken()).expect(rt, "a capture");
+    let (mut last, mut writes) = (Moment(0), 1_u64);
     for passage in link.link().passages() {
         if let Passage::Taken(_, frame) = passage {
-            let record = capture.next_record().expect(&rt, "a record");
-            let record = record.expect(&rt, "no fault");
-            assert_eq!(rt; record.octets(), frame.as_slice());
-            assert_eq!(rt; record.original() as usize, frame.len());
-            assert!(rt; record.moment() >= last);
+            let Some(Ok(record)) = capture.next_record() else {
+                panic!(rt; "no record");
+            };
+            assert!(rt; record.octets() == frame.as_slice() && record.moment() >= last);
             last = record.moment();
+            writes = writes.saturating_add(2);
         }
     }
-    assert!(rt; capture.next_record().is_none());
-    assert!(rt; last >= Moment(1_000));
-    Ok(())
+    assert!(rt; capture.next_record().is_none() && last >= Moment(1_000));
+    writes
 }
 
-/// A copy goes on where its capture fails, at whatever call, and what was captured is a front of the whole capture.
+/// A copy goes on where its capture fails, at whatever call, the flush too, and what was captured is a front of the whole capture.
 #[test]
 fn a_copy_goes_on_without_its_capture(rt: HostRuntime) -> Result<(), Fail> {
     let octets = octets(rt.alloc(), 3_000)?;
     let mut whole = recorded(rt.alloc(), 0);
-    let ends = captured(&rt, rt.alloc(), octets.as_slice(), &mut whole);
-    assert_eq!(rt; (ends.copy, ends.capture), (Ok(3_000), Ok(())));
-    // The header, two writes a frame, and behind these the flush.
-    let mut writes: u64 = 1;
-    for passage in whole.link().passages() {
-        if let Passage::Taken(..) = passage {
-            writes = writes.saturating_add(2);
-        }
-    }
+    let ends = copied(&rt, rt.alloc(), octets.as_slice(), 0, &mut whole);
+    assert!(rt; ends.copy == Ok(3_000) && ends.capture == Ok(()));
+    assert!(rt; whole.capture().is_flushed());
+    let writes = writes(&rt, &whole);
     for call in [1, 2, 3, 4, writes, writes.saturating_add(1)] {
         let mut link = recorded(rt.alloc(), call);
-        let ends = captured(&rt, rt.alloc(), octets.as_slice(), &mut link);
-        assert_eq!(rt; (ends.copy, ends.capture), (Ok(3_000), Err(CaptureFault)));
-        assert_eq!(rt; link.capture().failures(), 1);
+        let ends = copied(&rt, rt.alloc(), octets.as_slice(), 0, &mut link);
+        assert!(rt; ends.copy == Ok(3_000) && ends.capture == Err(CaptureFault));
+        assert!(rt; link.capture().failures() == 1);
         assert!(rt; whole.capture().taken().starts_with(link.capture().taken()));
     }
     Ok(())
 }
 
+/// A sink that fails at one of its first calls.
 #[test]
-fn faults_tell_what_was_written(rt: HostRuntime) -> Result<(), Fail> {
-    let rows = [
-        (CopyFault::Read, 4_096, "K1 Read, 4096 octets written"),
-        (CopyFault::Write, 0, "K2 Write, 0 octets written"),
-        (CopyFault::Link, 1, "K3 Link, 1 octets written"),
-        (
-            CopyFault::Host(Refusal::ECONNRESET),
-            7,
-            "K4 Host E10 ECONNRESET, 7 octets written",
-        ),
-        (CopyFault::Host(Refusal::ENOMEM), 0, "out of memory"),
-        (CopyFault::NoMemory, 0, "out of memory"),
-        (CopyFault::Stalled, 5, "K6 Stalled, 5 octets written"),
-    ];
-    for (fault, written, text) in rows {
-        let said = format!(in rt.alloc(); "{}", Broken { fault, written })?;
-        assert_eq!(rt; said.as_str(), text);
+fn what_was_written_before_a_fault_is_counted(rt: HostRuntime) -> Result<(), Fail> {
+    let octets = octets(rt.alloc(), 10_000)?;
+    for call in 1..=3 {
+        let mut link = recorded(rt.alloc(), 0);
+        let ends = copied(&rt, rt.alloc(), octets.as_slice(), call, &mut link);
+        assert!(rt; ends.copy == Err(CopyFault::Write) && ends.capture == Ok(()));
     }
     Ok(())
 }
 
-/// What is said where so many octets were written, one count after the other.
-fn said(rt: &impl Abort, alloc: Global, whole: Option<u64>, counts: &[u64], text: &str) {
-    let mut progress = Progress::new(alloc, MemorySink::new(alloc), whole);
-    for count in counts {
-        progress.tell(*count);
+/// Why a copy ended, how many octets were written, and what is said of that.
+const BROKEN: [(CopyFault, u64, &str); 7] = [
+    (CopyFault::Read, 4_096, "K1 Read, 4096 octets written"),
+    (CopyFault::Write, 0, "K2 Write, 0 octets written"),
+    (CopyFault::Link, 1, "K3 Link, 1 octets written"),
+    (
+        CopyFault::Host(Refusal::ECONNRESET),
+        7,
+        "K4 Host E10 ECONNRESET, 7 octets written",
+    ),
+    (CopyFault::Host(Refusal::ENOMEM), 0, "out of memory"),
+    (CopyFault::NoMemory, 0, "out of memory"),
+    (CopyFault::Stalled, 5, "K6 Stalled, 5 octets written"),
+];
+
+#[test]
+fn faults_tell_what_was_written(rt: HostRuntime) -> Result<(), Fail> {
+    for (fault, written, text) in BROKEN {
+        let said = format!(in rt.alloc(); "{}", Broken { fault, written })?;
+        assert!(rt; said.as_str() == text);
     }
-    progress.end(counts.last().copied().unwrap_or(0));
-    assert_eq!(rt; progress.out().taken(), text.as_bytes());
+    Ok(())
 }
+
+/// How many octets the source has, if that is known, how many were written, one count after the other, and what is said of them.
+const COUNTS: [(Option<u64>, &[u64], &str); 5] = [
+    (
+        Some(1_000_000),
+        &[65_535, 65_536, 100_000, 131_072],
+        "\rhostd: 65536 octets, 6 %\rhostd: 131072 octets, 13 %\rhostd: 131072 octets, 13 %\n",
+    ),
+    (
+        None,
+        &[70_000],
+        "\rhostd: 70000 octets\rhostd: 70000 octets\n",
+    ),
+    (Some(1), &[1], "\rhostd: 1 octets, 100 %\n"),
+    (Some(0), &[], "\rhostd: 0 octets\n"),
+    (
+        Some(u64::MAX),
+        &[u64::MAX],
+        "\rhostd: 18446744073709551615 octets, 100 %\rhostd: 18446744073709551615 octets, 100 %\n",
+    ),
+];
 
 #[test]
 fn progress_is_said_every_65536_octets(rt: HostRuntime) {
-    let rows: [(Option<u64>, &[u64], &str); 5] = [
-        (
-            Some(1_000_000),
-            &[65_535, 65_536, 100_000, 131_072],
-            "\rhostd: 65536 octets, 6 %\rhostd: 131072 octets, 13 %\rhostd: 131072 octets, 13 %\n",
-        ),
-        (
-            None,
-            &[70_000],
-            "\rhostd: 70000 octets\rhostd: 70000 octets\n",
-        ),
-        (Some(1), &[1], "\rhostd: 1 octets, 100 %\n"),
-        (Some(0), &[], "\rhostd: 0 octets\n"),
-        (
-            Some(u64::MAX),
-            &[u64::MAX],
-            "\rhostd: 18446744073709551615 octets, 100 %\rhostd: 18446744073709551615 octets, 100 %\n",
-        ),
-    ];
-    for (whole, counts, text) in rows {
-        said(&rt, rt.alloc(), whole, counts, text);
+    for (whole, counts, text) in COUNTS {
+        let out = MemorySink::new(rt.alloc());
+        let mut progress = Progress::new(rt.alloc(), out, whole);
+        for count in counts {
+            progress.tell(*count);
+        }
+        progress.end(counts.last().copied().unwrap_or(0));
+        assert!(rt; progress.out().taken() == text.as_bytes());
     }
-}
-
-/// A sink that takes nothing of what is said leaves the copy as it is.
-#[test]
-fn a_copy_goes_on_where_nothing_can_be_said(rt: HostRuntime) -> Result<(), Fail> {
-    let octets = octets(rt.alloc(), 70_000)?;
-    let mut src = MemorySource::new(octets.as_slice());
-    let deaf = MemorySink::new(rt.alloc()).in_pieces(0);
-    let progress = Progress::new(rt.alloc(), deaf, Some(70_000));
-    let mut dst = Counting::new(MemorySink::new(rt.alloc()), Some(progress));
-    let mut link = MemoryLink::new(rt.alloc(), &[Treatment::Lose(9)]);
-    let outcome = copy(rt.alloc(), &mut src, &mut dst, &mut link, TURNS);
-    dst.end();
-    assert_eq!(rt; outcome, Ok(70_000));
-    assert_eq!(rt; dst.failures(), 0);
-    Ok(())
 }

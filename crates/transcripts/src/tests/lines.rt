@@ -1,11 +1,8 @@
-//! Lines that are bad, texts that are too long, and the text of octets.
+//! Lines that are bad, and scripts without commands.
 
-use super::{Asked, GOOD, ended, ends};
+use super::{ALL_GOOD, Asked, Row, Told, ends};
 use commands::fault::TextFault;
-use decode::DropCause;
-use script::{Style, show};
 use std::test::Fail;
-use wire_sim::Answer;
 
 /// Each of these is bad wherever it stands.
 const BAD: &str = " \n\
@@ -65,67 +62,78 @@ const BAD: &str = " \n\
     a countfrom 1\n\
     a peername 1";
 
-/// A script without commands, how it ends and what it prints: the limit comes first, or is bad.
-const SCRIPTS: [(&str, Result<Option<DropCause>, TextFault>, &str); 8] = [
-    ("", Ok(None), ""),
-    ("#\r\tany ASCII\n\n", Ok(None), ""),
-    ("limit 1073741824\n", Ok(None), "ok\n"),
-    ("limit 001", Ok(None), "ok\n"),
-    ("# first\n\nlimit 1", Ok(None), "ok\n"),
-    ("limit 1\nlimit 1", Err(TextFault::Line(2)), ""),
-    ("a emit\nlimit 1", Err(TextFault::Line(2)), ""),
-    ("limit", Err(TextFault::Line(1)), ""),
-];
-
-/// A script has a million octets at most, and one of more is too long whatever they are; a text of a frame may have any length.
-/// Which octet each has so many times: of the first a script is one comment, and a frame has nothing but white space.
-const LONG: [(Asked, u8, usize, Result<Option<DropCause>, TextFault>); 4] = [
-    (Asked::Sim, b'#', 1_000_000, Ok(None)),
-    (Asked::Sim, b'#', 1_000_001, Err(TextFault::TooLong)),
-    (Asked::Sim, b'x', 1_000_001, Err(TextFault::TooLong)),
-    (Asked::Decode, b' ', 1_000_001, Ok(Some(DropCause::Short))),
+/// Scripts without commands: the limit comes first, or is bad.
+pub(super) const ROWS: &[Row] = &[
+    Row {
+        asked: Asked::Sim,
+        text: b"",
+        ends: Ok(None),
+        prints: b"",
+        captures: b"",
+    },
+    Row {
+        asked: Asked::Sim,
+        text: b"#\r\tany ASCII\n\n",
+        ends: Ok(None),
+        prints: b"",
+        captures: b"",
+    },
+    Row {
+        asked: Asked::Sim,
+        text: b"limit 1073741824\n",
+        ends: Ok(None),
+        prints: b"ok\n",
+        captures: b"",
+    },
+    Row {
+        asked: Asked::Sim,
+        text: b"limit 001",
+        ends: Ok(None),
+        prints: b"ok\n",
+        captures: b"",
+    },
+    Row {
+        asked: Asked::Sim,
+        text: b"# first\n\nlimit 1",
+        ends: Ok(None),
+        prints: b"ok\n",
+        captures: b"",
+    },
+    Row {
+        asked: Asked::Sim,
+        text: b"limit 1\nlimit 1",
+        ends: Err(TextFault::Line(2)),
+        prints: b"",
+        captures: b"",
+    },
+    Row {
+        asked: Asked::Sim,
+        text: b"a emit\nlimit 1",
+        ends: Err(TextFault::Line(2)),
+        prints: b"",
+        captures: b"",
+    },
+    Row {
+        asked: Asked::Sim,
+        text: b"limit",
+        ends: Err(TextFault::Line(1)),
+        prints: b"",
+        captures: b"",
+    },
 ];
 
 #[test]
 fn bad_lines_end_before_anything_is_run(rt: HostRuntime) -> Result<(), Fail> {
+    let told = Told {
+        answers: (Err(TextFault::Line(4)), Ok(())),
+        failures: (0, 0, 0),
+        prints: b"",
+        captures: b"",
+    };
     for line in BAD.split('\n') {
         let script = format!(in rt.alloc(); "a socket tcp\n\n# comment\n{line}\nbad too\n")?;
-        let told = (Err(TextFault::Line(4)), (0, 0), b"".as_slice());
-        ends(
-            &rt,
-            rt.alloc(),
-            (Asked::Sim, script.as_str()),
-            (GOOD, GOOD),
-            told,
-        );
+        let asked = (Asked::Sim, script.as_bytes());
+        ends(&rt, rt.alloc(), asked, ALL_GOOD, &told);
     }
-    Ok(())
-}
-
-#[test]
-fn scripts_without_commands_end(rt: HostRuntime) {
-    for (script, want, prints) in SCRIPTS {
-        let told = (want, (0, 0), prints.as_bytes());
-        ends(&rt, rt.alloc(), (Asked::Sim, script), (GOOD, GOOD), told);
-    }
-}
-
-#[test]
-fn scripts_alone_have_a_million_octets_at_most(rt: HostRuntime) -> Result<(), Fail> {
-    for (asked, octet, count, want) in LONG {
-        let text = vec![in rt.alloc(); octet; count]?;
-        let end = ended(rt.alloc(), asked, text.as_slice(), GOOD, GOOD);
-        assert_eq!(rt; end.answer, want, "{count} times {octet}");
-    }
-    Ok(())
-}
-
-#[test]
-fn octets_are_shown_as_text(rt: HostRuntime) -> Result<(), Fail> {
-    let mut line = String::new(rt.alloc());
-    let octets = [0, 0x20, 0x21, b'\\', b'z', 0x7e, 0x7f, 0xaf];
-    let answer = Answer::Octets(Vec::from_slice(rt.alloc(), &octets)?);
-    show(&answer, Style::Text, &mut line)?;
-    assert_eq!(rt; line.as_str(), "octets \\x00\\x20!\\x5cz~\\x7f\\xaf");
     Ok(())
 }

@@ -1,8 +1,7 @@
 //! The buffers of a stream, each beside a plain one that takes the same calls: the answers and the views are the same.
 
-use super::plain::{PlainRecvBuf, PlainSendBuf};
-use std::alloc::AllocError;
-use std::test::Fail;
+use super::plain::Plain;
+use std::alloc::{AllocError, Global};
 use stream_buf::{RecvBuf, SendBuf};
 
 /// How many octets a buffer holds, and how many come at once at most; how many lists of calls there are, and how many calls in each.
@@ -21,7 +20,7 @@ const LISTS: [Row; 8] = [
 ];
 
 /// More octets than any buffer holds.
-const MOST: usize = 201;
+pub(super) const MOST: usize = 201;
 
 /// Numbers that look drawn by chance, the same in each run.
 #[derive(Drop)]
@@ -51,85 +50,76 @@ impl Numbers {
 }
 
 /// Whether both answer the same where octets are written.
-fn both_write(
-    numbers: &mut Numbers,
-    most: usize,
-    buffer: &mut SendBuf,
-    plain: &mut PlainSendBuf,
-) -> Result<bool, AllocError> {
+fn both_write(numbers: &mut Numbers, most: usize, buffer: &mut SendBuf, plain: &mut Plain) -> bool {
     let mut space = [0; MOST];
     let len = numbers.below(most.saturating_add(1)).min(MOST);
     let octets = &mut space[..len];
     numbers.fill(octets);
-    Ok(buffer.write(octets) == plain.write(octets)?)
+    buffer.write(octets) == plain.write(octets)
 }
 
 /// Some of the octets that are held are acknowledged, for both.
-fn both_acked(numbers: &mut Numbers, buffer: &mut SendBuf, plain: &mut PlainSendBuf) {
+fn both_acked(numbers: &mut Numbers, buffer: &mut SendBuf, plain: &mut Plain) {
     let count = numbers
         .below(buffer.len().saturating_add(1))
         .min(buffer.len());
     buffer.acked(count);
-    plain.acked(count);
+    plain.take(count);
 }
 
 /// Whether both hold the same, from any place on, and have the same room.
-fn hold_the_same(numbers: &mut Numbers, buffer: &SendBuf, plain: &PlainSendBuf) -> bool {
+fn hold_the_same(numbers: &mut Numbers, buffer: &SendBuf, plain: &Plain) -> bool {
     let mut out = [0; MOST];
-    let held = plain.held();
-    let offset = numbers.below(held.len().saturating_add(1)).min(held.len());
-    let len = (held.len() - offset).min(MOST);
-    if offset > buffer.len() || len > buffer.len() - offset {
-        return false;
-    }
+    let mut want = [0; MOST];
+    let held = buffer.len();
+    let offset = numbers.below(held.saturating_add(1)).min(held);
+    let len = (held - offset).min(MOST);
     buffer.copy_at(offset, &mut out[..len]);
-    let same_counts = buffer.len() == held.len()
-        && buffer.is_empty() == held.is_empty()
-        && buffer.room() == plain.room();
-    same_counts && &out[..len] == &held[offset..]
+    let mut rest = *plain;
+    rest.take(offset);
+    rest.read(&mut want);
+    (held, buffer.is_empty(), buffer.room()) == (plain.len(), plain.len() == 0, plain.room())
+        && out == want
+}
+
+/// Whether both agree through a list of calls.
+fn send_alike(alloc: Global, row: &Row, list: u64) -> Result<bool, AllocError> {
+    let (capacity, most, _, calls) = *row;
+    let mut numbers = Numbers(list);
+    let mut buffer = SendBuf::with_capacity(alloc, capacity)?;
+    let mut plain = Plain::with_capacity(capacity);
+    let mut alike = true;
+    for _ in 0..calls {
+        if numbers.below(2) == 0 {
+            alike &= both_write(&mut numbers, most, &mut buffer, &mut plain);
+        } else {
+            both_acked(&mut numbers, &mut buffer, &mut plain);
+        }
+        alike &= hold_the_same(&mut numbers, &buffer, &plain);
+    }
+    Ok(alike)
 }
 
 #[test]
-fn send_buffers_agree(rt: HostRuntime) -> Result<(), Fail> {
-    for (capacity, most, lists, calls) in LISTS {
-        for list in 0..lists {
-            let mut numbers = Numbers(list);
-            let mut buffer = SendBuf::with_capacity(rt.alloc(), capacity)?;
-            let mut plain = PlainSendBuf::with_capacity(rt.alloc(), capacity)?;
-            for _ in 0..calls {
-                if numbers.below(2) == 0 {
-                    assert!(rt; both_write(&mut numbers, most, &mut buffer, &mut plain)?);
-                } else {
-                    both_acked(&mut numbers, &mut buffer, &mut plain);
-                }
-                assert!(rt; hold_the_same(&mut numbers, &buffer, &plain));
-            }
+fn send_buffers_agree(rt: HostRuntime) -> Result<(), AllocError> {
+    for row in &LISTS {
+        for list in 0..row.2 {
+            assert!(rt; send_alike(rt.alloc(), row, list)?);
         }
     }
     Ok(())
 }
 
 /// Whether both answer the same where octets come at a distance, for which there is room.
-fn both_insert(
-    distance: usize,
-    octets: &[u8],
-    buffer: &mut RecvBuf,
-    plain: &mut PlainRecvBuf,
-) -> Result<bool, AllocError> {
-    if distance > buffer.room() || octets.len() > buffer.room() - distance {
-        return Ok(false);
-    }
-    let is_taken = buffer.takes(distance, octets) == plain.takes(distance, octets)?;
-    Ok(is_taken && buffer.insert_at(distance, octets) == plain.insert_at(distance, octets)?)
+fn both_insert(distance: usize, octets: &[u8], buffer: &mut RecvBuf, plain: &mut Plain) -> bool {
+    distance <= buffer.room()
+        && octets.len() <= buffer.room() - distance
+        && buffer.takes(distance, octets) == plain.takes(distance, octets)
+        && buffer.insert_at(distance, octets) == plain.insert_at(distance, octets)
 }
 
 /// Whether both answer the same where octets come, one time in three at RCV.NXT.
-fn both_take(
-    numbers: &mut Numbers,
-    most: usize,
-    buffer: &mut RecvBuf,
-    plain: &mut PlainRecvBuf,
-) -> Result<bool, AllocError> {
+fn both_take(numbers: &mut Numbers, most: usize, buffer: &mut RecvBuf, plain: &mut Plain) -> bool {
     let mut space = [0; MOST];
     let room = buffer.room();
     let distance = if numbers.below(3) == 0 {
@@ -144,57 +134,58 @@ fn both_take(
 }
 
 /// Whether both answer the same octets where so many are read at most.
-fn both_read(
-    len: usize,
-    buffer: &mut RecvBuf,
-    plain: &mut PlainRecvBuf,
-) -> Result<bool, AllocError> {
+fn both_read(len: usize, buffer: &mut RecvBuf, plain: &mut Plain) -> bool {
     let mut out = [7; MOST];
     let mut want = [7; MOST];
     let len = len.min(MOST);
-    let count = buffer.read(&mut out[..len]);
-    Ok(count == plain.read(&mut want[..len])? && &out[..len] == &want[..len])
+    buffer.read(&mut out[..len]) == plain.read(&mut want[..len]) && out == want
 }
 
 /// Whether both have the same counts.
-fn count_the_same(buffer: &RecvBuf, plain: &PlainRecvBuf) -> bool {
-    buffer.room() == plain.room()
-        && buffer.readable_len() == plain.readable_len()
-        && buffer.ranges() == plain.ranges()
+fn count_the_same(buffer: &RecvBuf, plain: &Plain) -> bool {
+    (buffer.room(), buffer.readable_len(), buffer.ranges())
+        == (plain.room(), plain.len(), plain.ranges())
 }
 
 /// Whether both keep the same, which shows as the gaps are filled one place after another, and can then be read.
-fn keep_the_same(buffer: &mut RecvBuf, plain: &mut PlainRecvBuf) -> Result<bool, AllocError> {
+fn keep_the_same(buffer: &mut RecvBuf, plain: &mut Plain) -> bool {
     for _ in 0..buffer.capacity() {
-        if buffer.room() > 0 && !both_insert(0, b".", buffer, plain)? {
-            return Ok(false);
+        if buffer.room() > 0 && !both_insert(0, b".", buffer, plain) {
+            return false;
         }
     }
     both_read(buffer.capacity(), buffer, plain)
 }
 
-#[test]
-fn receive_buffers_agree(rt: HostRuntime) -> Result<(), Fail> {
-    for (capacity, most, lists, calls) in LISTS {
-        for list in 0..lists {
-            let mut numbers = Numbers(list);
-            let mut buffer = RecvBuf::with_capacity(rt.alloc(), capacity)?;
-            let mut plain = PlainRecvBuf::with_capacity(rt.alloc(), capacity)?;
-            for _ in 0..calls {
-                match numbers.below(300) {
-                    0 => {
-                        buffer.forget_kept();
-                        plain.forget_kept();
-                    }
-                    1..30 => {
-                        let len = numbers.below(capacity.saturating_add(2));
-                        assert!(rt; both_read(len, &mut buffer, &mut plain)?);
-                    }
-                    _ => assert!(rt; both_take(&mut numbers, most, &mut buffer, &mut plain)?),
-                }
-                assert!(rt; count_the_same(&buffer, &plain));
+/// Whether both agree through a list of calls.
+fn receive_alike(alloc: Global, row: &Row, list: u64) -> Result<bool, AllocError> {
+    let (capacity, most, _, calls) = *row;
+    let mut numbers = Numbers(list);
+    let mut buffer = RecvBuf::with_capacity(alloc, capacity)?;
+    let mut plain = Plain::with_capacity(capacity);
+    let mut alike = true;
+    for _ in 0..calls {
+        match numbers.below(300) {
+            0 => {
+                buffer.forget_kept();
+                plain.forget_kept();
             }
-            assert!(rt; keep_the_same(&mut buffer, &mut plain)?);
+            1..30 => {
+                let len = numbers.below(capacity.saturating_add(2));
+                alike &= both_read(len, &mut buffer, &mut plain);
+            }
+            _ => alike &= both_take(&mut numbers, most, &mut buffer, &mut plain),
+        }
+        alike &= count_the_same(&buffer, &plain);
+    }
+    Ok(alike & keep_the_same(&mut buffer, &mut plain))
+}
+
+#[test]
+fn receive_buffers_agree(rt: HostRuntime) -> Result<(), AllocError> {
+    for row in &LISTS {
+        for list in 0..row.2 {
+            assert!(rt; receive_alike(rt.alloc(), row, list)?);
         }
     }
     Ok(())

@@ -31,13 +31,13 @@ const BIG: &[u8] = b"\xa1\xb2\xc3\xd4\0\x02\0\x04\0\0\0\0\0\0\0\0\0\x04\0\0\0\0\
     \0\0\0\x01\0\0\0\x02\0\0\0\x04\0\0\0\x04abcd\
     \0\0\0\x03\0\x0f\x42\x3f\0\0\0\x02\0\0\0\x05ef";
 
+const ORDERS: [&[u8]; 2] = [LITTLE, BIG];
+
 /// A record that was read: its second, the nanoseconds of it, the frame's length, and the octets.
 type Told<'a> = (u32, u64, u32, &'a [u8]);
 
 /// What the two records tell.
-const FIRST: Told = (1, 2_000, 4, b"abcd");
-
-const SECOND: Told = (3, 999_999_000, 5, b"ef");
+const RECORDS: [Told; 2] = [(1, 2_000, 4, b"abcd"), (3, 999_999_000, 5, b"ef")];
 
 fn told<'a>(view: RecordView<'a>) -> Told<'a> {
     (
@@ -48,49 +48,69 @@ fn told<'a>(view: RecordView<'a>) -> Told<'a> {
     )
 }
 
-/// The next record of a capture that is read.
-fn next<'a>(reader: &mut Reader<'a>) -> Option<Result<Told<'a>, RecordFault>> {
-    Some(reader.next_record()?.map(told))
+/// A capture of one record, and what it is read as. The frame's octets stand from the 40th on.
+struct Sample {
+    capture: &'static [u8],
+    header: Header,
+    moment: Moment,
+    seconds: u32,
+    nanoseconds: u64,
+    original: u32,
 }
 
-#[test]
-fn a_capture_of_tcpdump(rt: HostRuntime) {
-    let capture = LOOPBACK;
-    assert_eq!(rt; file_head().as_slice(), &capture[..24]);
-    let mut reader = Reader::new(capture).expect(&rt, "a capture");
-    let record = reader
-        .next_record()
-        .expect(&rt, "a record")
-        .expect(&rt, "a whole one");
-    assert_eq!(rt; record.moment(), Moment(1_795_518_449_188));
-    assert_eq!(rt;
-        told(record),
-        (1_795_518_449, 188_674_000, 44, &capture[40..])
-    );
-    assert_eq!(rt; next(&mut reader), None);
-    assert_eq!(rt; next(&mut reader), None);
-}
+const SAMPLES: [Sample; 2] = [
+    Sample {
+        capture: LOOPBACK,
+        header: Header {
+            format: Format {
+                order: Order::Little,
+                fraction: Fraction::Microseconds,
+            },
+            snaplen: 262_144,
+        },
+        moment: Moment(1_795_518_449_188),
+        seconds: 1_795_518_449,
+        nanoseconds: 188_674_000,
+        original: 44,
+    },
+    Sample {
+        capture: NANOSECONDS,
+        header: Header {
+            format: Format {
+                order: Order::Little,
+                fraction: Fraction::Nanoseconds,
+            },
+            snaplen: 20,
+        },
+        moment: Moment(1_795_518_503_599),
+        seconds: 1_795_518_503,
+        nanoseconds: 599_194_288,
+        original: 44,
+    },
+];
 
-#[test]
-fn a_capture_in_nanoseconds(rt: HostRuntime) {
-    let capture = NANOSECONDS;
-    let mut reader = Reader::new(capture).expect(&rt, "a capture");
-    let format = Format {
-        order: Order::Little,
-        fraction: Fraction::Nanoseconds,
+/// Whether a capture's header and its one record are read so, and nothing behind them, however often.
+fn is_read_so(sample: &Sample) -> bool {
+    let Ok(mut reader) = Reader::new(sample.capture) else {
+        return false;
     };
-    assert_eq!(rt;
-        reader.header(),
-        Header {
-            format,
-            snaplen: 20
-        }
-    );
-    assert_eq!(rt;
-        next(&mut reader),
-        Some(Ok((1_795_518_503, 599_194_288, 44, &capture[40..])))
-    );
-    assert_eq!(rt; next(&mut reader), None);
+    let Some(Ok(record)) = reader.next_record() else {
+        return false;
+    };
+    (reader.header(), record.moment()) == (sample.header, sample.moment)
+        && (record.seconds(), record.nanoseconds(), record.original())
+            == (sample.seconds, sample.nanoseconds, sample.original)
+        && Some(record.octets()) == sample.capture.get(40..)
+        && reader.next_record().is_none()
+        && reader.next_record().is_none()
+}
+
+#[test]
+fn captures_of_tcpdump(rt: HostRuntime) {
+    assert!(rt; LOOPBACK.starts_with(&file_head()));
+    for sample in &SAMPLES {
+        assert!(rt; is_read_so(sample));
+    }
 }
 
 /// What stands before a frame's octets, by its moment in milliseconds and its length.
@@ -113,78 +133,107 @@ const HEADS: [(u64, usize, &[u8; 16]); 4] = [
 #[test]
 fn heads_of_records(rt: HostRuntime) {
     for (moment, len, octets) in &HEADS {
-        assert_eq!(rt; &record_head(Moment(*moment), *len), *octets, "at {moment}");
+        assert!(rt; record_head(Moment(*moment), *len) == **octets);
     }
 }
 
-/// Of so many octets of the two captures, how many whole records are read, and what is answered then. The records have 20 and 18
+/// Of so many octets of the two captures, how many whole records are read, and the fault then, if any. The records have 20 and 18
 /// octets.
-const CUTS: [(usize, usize, Option<Result<Told, RecordFault>>); 39] = [
+const CUTS: [(usize, usize, Option<RecordFault>); 39] = [
     (24, 0, None),
-    (25, 0, Some(Err(RecordFault::CutHead(15)))),
-    (26, 0, Some(Err(RecordFault::CutHead(14)))),
-    (27, 0, Some(Err(RecordFault::CutHead(13)))),
-    (28, 0, Some(Err(RecordFault::CutHead(12)))),
-    (29, 0, Some(Err(RecordFault::CutHead(11)))),
-    (30, 0, Some(Err(RecordFault::CutHead(10)))),
-    (31, 0, Some(Err(RecordFault::CutHead(9)))),
-    (32, 0, Some(Err(RecordFault::CutHead(8)))),
-    (33, 0, Some(Err(RecordFault::CutHead(7)))),
-    (34, 0, Some(Err(RecordFault::CutHead(6)))),
-    (35, 0, Some(Err(RecordFault::CutHead(5)))),
-    (36, 0, Some(Err(RecordFault::CutHead(4)))),
-    (37, 0, Some(Err(RecordFault::CutHead(3)))),
-    (38, 0, Some(Err(RecordFault::CutHead(2)))),
-    (39, 0, Some(Err(RecordFault::CutHead(1)))),
-    (40, 0, Some(Err(RecordFault::CutOctets(4)))),
-    (41, 0, Some(Err(RecordFault::CutOctets(3)))),
-    (42, 0, Some(Err(RecordFault::CutOctets(2)))),
-    (43, 0, Some(Err(RecordFault::CutOctets(1)))),
+    (25, 0, Some(RecordFault::CutHead(15))),
+    (26, 0, Some(RecordFault::CutHead(14))),
+    (27, 0, Some(RecordFault::CutHead(13))),
+    (28, 0, Some(RecordFault::CutHead(12))),
+    (29, 0, Some(RecordFault::CutHead(11))),
+    (30, 0, Some(RecordFault::CutHead(10))),
+    (31, 0, Some(RecordFault::CutHead(9))),
+    (32, 0, Some(RecordFault::CutHead(8))),
+    (33, 0, Some(RecordFault::CutHead(7))),
+    (34, 0, Some(RecordFault::CutHead(6))),
+    (35, 0, Some(RecordFault::CutHead(5))),
+    (36, 0, Some(RecordFault::CutHead(4))),
+    (37, 0, Some(RecordFault::CutHead(3))),
+    (38, 0, Some(RecordFault::CutHead(2))),
+    (39, 0, Some(RecordFault::CutHead(1))),
+    (40, 0, Some(RecordFault::CutOctets(4))),
+    (41, 0, Some(RecordFault::CutOctets(3))),
+    (42, 0, Some(RecordFault::CutOctets(2))),
+    (43, 0, Some(RecordFault::CutOctets(1))),
     (44, 1, None),
-    (45, 1, Some(Err(RecordFault::CutHead(15)))),
-    (46, 1, Some(Err(RecordFault::CutHead(14)))),
-    (47, 1, Some(Err(RecordFault::CutHead(13)))),
-    (48, 1, Some(Err(RecordFault::CutHead(12)))),
-    (49, 1, Some(Err(RecordFault::CutHead(11)))),
-    (50, 1, Some(Err(RecordFault::CutHead(10)))),
-    (51, 1, Some(Err(RecordFault::CutHead(9)))),
-    (52, 1, Some(Err(RecordFault::CutHead(8)))),
-    (53, 1, Some(Err(RecordFault::CutHead(7)))),
-    (54, 1, Some(Err(RecordFault::CutHead(6)))),
-    (55, 1, Some(Err(RecordFault::CutHead(5)))),
-    (56, 1, Some(Err(RecordFault::CutHead(4)))),
-    (57, 1, Some(Err(RecordFault::CutHead(3)))),
-    (58, 1, Some(Err(RecordFault::CutHead(2)))),
-    (59, 1, Some(Err(RecordFault::CutHead(1)))),
-    (60, 1, Some(Err(RecordFault::CutOctets(2)))),
-    (61, 1, Some(Err(RecordFault::CutOctets(1)))),
+    (45, 1, Some(RecordFault::CutHead(15))),
+    (46, 1, Some(RecordFault::CutHead(14))),
+    (47, 1, Some(RecordFault::CutHead(13))),
+    (48, 1, Some(RecordFault::CutHead(12))),
+    (49, 1, Some(RecordFault::CutHead(11))),
+    (50, 1, Some(RecordFault::CutHead(10))),
+    (51, 1, Some(RecordFault::CutHead(9))),
+    (52, 1, Some(RecordFault::CutHead(8))),
+    (53, 1, Some(RecordFault::CutHead(7))),
+    (54, 1, Some(RecordFault::CutHead(6))),
+    (55, 1, Some(RecordFault::CutHead(5))),
+    (56, 1, Some(RecordFault::CutHead(4))),
+    (57, 1, Some(RecordFault::CutHead(3))),
+    (58, 1, Some(RecordFault::CutHead(2))),
+    (59, 1, Some(RecordFault::CutHead(1))),
+    (60, 1, Some(RecordFault::CutOctets(2))),
+    (61, 1, Some(RecordFault::CutOctets(1))),
     (62, 2, None),
 ];
 
+/// Whether octets of the two captures are read as so many of the records, then the fault, if any, and nothing behind it.
+fn is_cut_so(octets: &[u8], count: usize, last: Option<RecordFault>) -> bool {
+    let Ok(mut reader) = Reader::new(octets) else {
+        return false;
+    };
+    for want in RECORDS.iter().take(count) {
+        match reader.next_record() {
+            Some(Ok(record)) => {
+                if told(record) != *want {
+                    return false;
+                }
+            }
+            _ => return false,
+        }
+    }
+    let is_last = match reader.next_record() {
+        Some(Ok(_)) => false,
+        Some(Err(fault)) => last == Some(fault),
+        None => last.is_none(),
+    };
+    is_last && reader.next_record().is_none()
+}
+
 /// The first so many octets, as far as there are any.
 fn front(octets: &[u8], len: usize) -> &[u8] {
-    if len < octets.len() {
-        &octets[..len]
-    } else {
-        octets
+    octets.get(..len).unwrap_or(octets)
+}
+
+/// Whether a capture is refused where its header is cut, at whichever octet.
+fn is_short_in_its_header(capture: &[u8]) -> bool {
+    for len in 0..24 {
+        if Reader::new(front(capture, len)).err() != Some(HeaderFault::Short(24 - len)) {
+            return false;
+        }
     }
+    true
+}
+
+/// Whether a capture is read as the rows say where it is cut behind its header.
+fn is_cut_as_told(capture: &[u8]) -> bool {
+    for (len, count, last) in &CUTS {
+        if !is_cut_so(front(capture, *len), *count, *last) {
+            return false;
+        }
+    }
+    true
 }
 
 #[test]
 fn a_capture_cut_at_every_octet(rt: HostRuntime) {
-    for capture in [LITTLE, BIG] {
-        for len in 0..24 {
-            let fault = Reader::new(front(capture, len)).err();
-            assert_eq!(rt; fault, Some(HeaderFault::Short(24 - len)), "of {len}");
-        }
-        for (len, count, last) in &CUTS {
-            let mut reader = Reader::new(front(capture, *len)).expect(&rt, "a capture");
-            for record in [FIRST, SECOND].iter().take(*count) {
-                assert_eq!(rt; next(&mut reader), Some(Ok(*record)), "of {len}");
-            }
-            assert_eq!(rt; next(&mut reader), *last, "of {len}");
-            assert_eq!(rt; next(&mut reader), None, "of {len}");
-        }
+    for capture in &ORDERS {
+        assert!(rt; is_short_in_its_header(capture));
+        assert!(rt; is_cut_as_told(capture));
     }
 }
 
@@ -224,7 +273,7 @@ const REFUSED: [(&[u8], HeaderFault); 8] = [
 #[test]
 fn what_is_no_capture(rt: HostRuntime) {
     for (octets, fault) in &REFUSED {
-        assert_eq!(rt; Reader::new(octets).err(), Some(*fault));
+        assert!(rt; Reader::new(octets).err() == Some(*fault));
     }
 }
 
@@ -253,58 +302,69 @@ const LENGTHS: [(u32, u32, u32, Result<usize, RecordFault>); 7] = [
     ),
 ];
 
-#[test]
-fn lengths_of_records(rt: HostRuntime) {
-    for (snaplen, included, original, want) in &LENGTHS {
-        let mut capture = [0; 46];
-        capture[..24].copy_from_slice(&file_head());
-        capture[16..20].copy_from_slice(&snaplen.to_le_bytes());
-        capture[32..36].copy_from_slice(&included.to_le_bytes());
-        capture[36..40].copy_from_slice(&original.to_le_bytes());
-        capture[40..].copy_from_slice(b"abcdef");
-        let mut reader = Reader::new(&capture).expect(&rt, "a capture");
-        let got = next(&mut reader).expect(&rt, "a record");
-        assert_eq!(rt;
-            got.map(|record| record.3.len()),
-            *want,
-            "of {included} at {snaplen}"
-        );
-        assert_eq!(rt; next(&mut reader), None);
+/// What is read of a capture of one record whose lengths are these. Nothing is read behind it.
+fn length_read(snaplen: u32, included: u32, original: u32) -> Option<Result<usize, RecordFault>> {
+    let mut capture = [0; 46];
+    capture[..24].copy_from_slice(&file_head());
+    capture[16..20].copy_from_slice(&snaplen.to_le_bytes());
+    capture[32..36].copy_from_slice(&included.to_le_bytes());
+    capture[36..40].copy_from_slice(&original.to_le_bytes());
+    capture[40..].copy_from_slice(b"abcdef");
+    let mut reader = Reader::new(&capture).ok()?;
+    let read = match reader.next_record()? {
+        Ok(record) => Ok(record.octets().len()),
+        Err(fault) => Err(fault),
+    };
+    match reader.next_record() {
+        None => Some(read),
+        Some(_) => None,
     }
 }
 
 #[test]
-fn texts_of_faults(rt: HostRuntime) -> Result<(), AllocError> {
-    let alloc = rt.alloc();
-    for (fault, text) in [
-        (HeaderFault::Short(5), "the capture's header lacks 5 octets"),
-        (
-            HeaderFault::NotACapture(0x6c6c_6568),
-            "no capture begins with 0x6c6c6568",
-        ),
-        (
-            HeaderFault::Version(3, 4),
-            "version 3.4 of the format is not read",
-        ),
-        (HeaderFault::LinkType(101), "link type 101 is not Ethernet"),
-    ] {
-        assert!(rt; format!(in alloc; "{fault}")?.as_str() == text);
+fn lengths_of_records(rt: HostRuntime) {
+    for (snaplen, included, original, want) in &LENGTHS {
+        assert!(rt; length_read(*snaplen, *included, *original) == Some(*want));
     }
-    for (fault, text) in [
-        (
-            RecordFault::CutHead(6),
-            "the capture is cut: 6 octets of a record's head are missing",
-        ),
-        (
-            RecordFault::CutOctets(30),
-            "the capture is cut: 30 octets of a record are missing",
-        ),
-        (
-            RecordFault::TooLong(262_145),
-            "a record of 262145 octets is too long",
-        ),
-    ] {
-        assert!(rt; format!(in alloc; "{fault}")?.as_str() == text);
+}
+
+/// Why octets are no capture, and what is printed of it.
+const HEADER_TEXTS: [(HeaderFault, &str); 4] = [
+    (HeaderFault::Short(5), "the capture's header lacks 5 octets"),
+    (
+        HeaderFault::NotACapture(0x6c6c_6568),
+        "no capture begins with 0x6c6c6568",
+    ),
+    (
+        HeaderFault::Version(3, 4),
+        "version 3.4 of the format is not read",
+    ),
+    (HeaderFault::LinkType(101), "link type 101 is not Ethernet"),
+];
+
+/// Why a record is none, and what is printed of it.
+const RECORD_TEXTS: [(RecordFault, &str); 3] = [
+    (
+        RecordFault::CutHead(6),
+        "the capture is cut: 6 octets of a record's head are missing",
+    ),
+    (
+        RecordFault::CutOctets(30),
+        "the capture is cut: 30 octets of a record are missing",
+    ),
+    (
+        RecordFault::TooLong(262_145),
+        "a record of 262145 octets is too long",
+    ),
+];
+
+#[test]
+fn texts_of_faults(rt: HostRuntime) -> Result<(), AllocError> {
+    for (fault, text) in &HEADER_TEXTS {
+        assert!(rt; fault.to_string(rt.alloc())?.as_str() == *text);
+    }
+    for (fault, text) in &RECORD_TEXTS {
+        assert!(rt; fault.to_string(rt.alloc())?.as_str() == *text);
     }
     Ok(())
 }

@@ -4,7 +4,6 @@ use super::A;
 use clock::Moment;
 use ipv4::Ipv4View;
 use reassembly::{Expired, Loss, Pool, Taken};
-use std::process::Abort;
 use std::test::Fail;
 
 /// What a fragment comes to.
@@ -112,24 +111,32 @@ fn comes_to(pool: &mut Pool, now: u64, octets: &[u8], want: Came) -> bool {
     }
 }
 
-/// Plays the rows.
-fn play(rt: &impl Abort, pool: &mut Pool, rows: &[Row]) {
+/// Whether each row comes to what it says.
+fn all_come_to(pool: &mut Pool, rows: &[Row]) -> bool {
     for (now, octets, want, deadline) in rows {
-        assert!(rt; comes_to(pool, *now, octets, *want));
-        assert!(rt; pool.next_deadline() == deadline.map(Moment));
+        if !comes_to(pool, *now, octets, *want) || pool.next_deadline() != deadline.map(Moment) {
+            return false;
+        }
     }
+    true
 }
 
 #[test]
 fn overlaps_and_contradictions(rt: HostRuntime) -> Result<(), Fail> {
     let mut pool = Pool::new(rt.alloc())?;
-    play(&rt, &mut pool, &OVERLAPS);
-    play(&rt, &mut pool, &CONTRADICTIONS);
+    assert!(rt; all_come_to(&mut pool, &OVERLAPS));
+    assert!(rt; all_come_to(&mut pool, &CONTRADICTIONS));
     Ok(())
 }
 
-/// Moments, how many datagrams are told then whose time ran out, and the next deadline after that.
-const AGES: [(u64, usize, Option<u64>); 2] = [(59_999, 0, Some(60_000)), (60_000, 1, Some(60_010))];
+/// Moments, the first fragments of the datagrams that are told then since their time ran out, and the next deadline after that.
+const AGES: [(u64, &[&[u8]], Option<u64>); 2] = [
+    (59_999, &[], Some(60_000)),
+    (60_000, &[ZERO], Some(60_010)),
+];
+
+/// The fifth datagram has a place now.
+const SIXTH: [Row; 1] = [(60_000, FIFTH, Came::Waiting, Some(60_010))];
 
 /// Whether a datagram is from `A` and quotes the header and 8 octets of this fragment.
 fn quotes(datagram: &Expired, fragment: &[u8]) -> bool {
@@ -137,18 +144,26 @@ fn quotes(datagram: &Expired, fragment: &[u8]) -> bool {
     datagram.key.source == A && quote.len() == 28 && fragment.starts_with(quote)
 }
 
+/// Whether the time of these datagrams runs out, told by their first fragments.
+fn expire(pool: &mut Pool, now: u64, firsts: &[&[u8]]) -> bool {
+    let expired = pool.age(Moment(now));
+    for (datagram, first) in expired.iter().zip(firsts) {
+        if !quotes(datagram, first) {
+            return false;
+        }
+    }
+    expired.len() == firsts.len()
+}
+
 #[test]
 fn a_fifth_datagram_has_no_place(rt: HostRuntime) -> Result<(), Fail> {
     let mut pool = Pool::new(rt.alloc())?;
-    play(&rt, &mut pool, &FIVE);
-    for (now, count, deadline) in AGES {
-        let expired = pool.age(Moment(now));
-        assert!(rt; expired.len() == count, "at {now}");
-        assert!(rt; expired.iter().all(|datagram| quotes(datagram, ZERO)));
-        assert!(rt; pool.next_deadline() == deadline.map(Moment), "at {now}");
+    assert!(rt; all_come_to(&mut pool, &FIVE));
+    for (now, firsts, deadline) in &AGES {
+        assert!(rt; expire(&mut pool, *now, firsts));
+        assert!(rt; pool.next_deadline() == deadline.map(Moment));
     }
-    let place = [(60_000, FIFTH, Came::Waiting, Some(60_010))];
-    play(&rt, &mut pool, &place);
-    assert!(rt; pool.age(Moment(90_000)).len() == 0);
+    assert!(rt; all_come_to(&mut pool, &SIXTH));
+    assert!(rt; expire(&mut pool, 90_000, &[]));
     Ok(())
 }

@@ -4,8 +4,8 @@ use arp::ArpPacket;
 use ether::{Mac, SPACE};
 use frames::{DropCause, FrameHead, Meaning, emit_arp, read};
 use icmp::Kind;
-use ipv4::{Addr, Protocol};
-use std::test::Fail;
+use ipv4::{Addr, Ipv4View, Protocol};
+use std::alloc::AllocError;
 use udp::{Fragment, Part};
 
 const MAC: Mac = Mac([2, 0, 0, 0, 0, 2]);
@@ -32,38 +32,55 @@ const ECHO: [u8; 60] =
 const HI: [u8; 60] =
     *b"\x02\0\0\0\0\x02\x02\0\0\0\0\x01\x08\0\x45\0\0\x1e\0\x07\0\0\x40\x11\x66\xc6\x0a\0\0\x01\x0a\0\0\x02\x13\x88\x13\x89\0\x0a\x5c\x5dhi\0\0\0\0\0\0\0\0\0\0\0\0\0\0\0\0";
 
-/// What a frame is, by the parts that tell it apart: the packet's sender, the source of the segment or of the user datagram, the message's
-/// source and type, or the protocol.
+/// What a frame carries.
 #[derive(Clone, Copy, PartialEq, Eq)]
-enum Said {
-    Arp(Addr),
-    Tcp(Addr, u16),
-    Icmp(Addr, Kind),
-    Udp(Addr, u16),
-    Other(Protocol),
-    UdpFragment(Protocol),
+enum Layer {
+    Arp,
+    Tcp,
+    Icmp,
+    Udp,
+    Other,
+    UdpFragment,
 }
 
-fn heard_as(octets: &[u8]) -> Result<Said, DropCause> {
+/// What a frame carries, from whom, and by what it is told apart: a segment and a user datagram by the port that it comes from, a
+/// message by its type, a datagram by its protocol, and a packet by nothing more.
+type Heard = Result<(Layer, Addr, u16), DropCause>;
+
+fn heard_as(octets: &[u8]) -> Heard {
     match read(MAC, OURS, octets)? {
-        Meaning::Arp(packet) => Ok(Said::Arp(packet.sender_addr)),
-        Meaning::Tcp(received) => Ok(Said::Tcp(received.source, received.segment.source())),
-        Meaning::Icmp(control) => Ok(Said::Icmp(control.source, control.message.kind())),
-        Meaning::Udp(received) => Ok(Said::Udp(
+        Meaning::Arp(packet) => Ok((Layer::Arp, packet.sender_addr, 0)),
+        Meaning::Tcp(received) => Ok((Layer::Tcp, received.source, received.segment.source())),
+        Meaning::Icmp(control) => {
+            let Kind(kind) = control.message.kind();
+            Ok((Layer::Icmp, control.source, u16::from(kind)))
+        }
+        Meaning::Udp(received) => Ok((
+            Layer::Udp,
             received.carrier.source(),
             received.datagram.source(),
         )),
-        Meaning::Other(datagram) => Ok(Said::Other(datagram.protocol())),
-        Meaning::UdpFragment(datagram) => Ok(Said::UdpFragment(datagram.protocol())),
+        Meaning::Other(datagram) => Ok((Layer::Other, datagram.source(), number_of(&datagram))),
+        Meaning::UdpFragment(datagram) => Ok((
+            Layer::UdpFragment,
+            datagram.source(),
+            number_of(&datagram),
+        )),
     }
 }
 
+/// The number of a datagram's protocol.
+fn number_of(datagram: &Ipv4View) -> u16 {
+    let Protocol(number) = datagram.protocol();
+    u16::from(number)
+}
+
 /// Octets of a frame that are others, and what it is then.
-type Row = (&'static [(usize, u8)], Result<Said, DropCause>);
+type Row = (&'static [(usize, u8)], Heard);
 
 /// The checksum of the header is that of the changed octets, but where it is the fault.
 const OF_THE_SYN: [Row; 18] = [
-    (&[], Ok(Said::Tcp(OTHER, 49_152))),
+    (&[], Ok((Layer::Tcp, OTHER, 49_152))),
     (&[(5, 3)], Err(DropCause::OtherMac)),
     (&[(5, 3), (13, 1)], Err(DropCause::OtherMac)),
     (
@@ -91,21 +108,18 @@ const OF_THE_SYN: [Row; 18] = [
     (&[(23, 17), (25, 0xbf)], Err(DropCause::UpperHeader)),
     (
         &[(20, 0x60), (23, 17), (24, 0x06), (25, 0xbf)],
-        Ok(Said::UdpFragment(Protocol::UDP)),
+        Ok((Layer::UdpFragment, OTHER, 17)),
     ),
 ];
 
 const OF_THE_ECHO: [Row; 7] = [
-    (&[], Ok(Said::Icmp(OTHER, Kind::ECHO))),
-    (
-        &[(34, 0), (36, 0x3b)],
-        Ok(Said::Icmp(OTHER, Kind::ECHO_REPLY)),
-    ),
+    (&[], Ok((Layer::Icmp, OTHER, 8))),
+    (&[(34, 0), (36, 0x3b)], Ok((Layer::Icmp, OTHER, 0))),
     (&[(44, 0x64)], Err(DropCause::UpperSum)),
     // seven octets are no message
     (&[(17, 0x1b), (25, 0xe0)], Err(DropCause::UpperHeader)),
     (&[(21, 1), (25, 0xdb)], Err(DropCause::Fragment)),
-    (&[(23, 47), (25, 0xae)], Ok(Said::Other(Protocol(47)))),
+    (&[(23, 47), (25, 0xae)], Ok((Layer::Other, OTHER, 47))),
     // for all of the link
     (
         &[
@@ -121,23 +135,23 @@ const OF_THE_ECHO: [Row; 7] = [
 ];
 
 const OF_THE_DATAGRAM: [Row; 8] = [
-    (&[], Ok(Said::Udp(OTHER, 5_000))),
-    (&[(40, 0), (41, 0)], Ok(Said::Udp(OTHER, 5_000))),
+    (&[], Ok((Layer::Udp, OTHER, 5_000))),
+    (&[(40, 0), (41, 0)], Ok((Layer::Udp, OTHER, 5_000))),
     (&[(43, 0x6a)], Err(DropCause::UpperSum)),
     (&[(39, 11)], Err(DropCause::UpperHeader)),
     (&[(33, 3), (25, 0xc5)], Err(DropCause::OtherAddress)),
     // more fragments follow behind ten octets
     (&[(20, 0x20), (24, 0x46)], Err(DropCause::IpHeader)),
-    (&[(21, 1), (25, 0xc5)], Ok(Said::UdpFragment(Protocol::UDP))),
-    (&[(23, 47), (25, 0xa8)], Ok(Said::Other(Protocol(47)))),
+    (&[(21, 1), (25, 0xc5)], Ok((Layer::UdpFragment, OTHER, 17))),
+    (&[(23, 47), (25, 0xa8)], Ok((Layer::Other, OTHER, 47))),
 ];
 
 const OF_THE_REQUEST: [Row; 8] = [
-    (&[], Ok(Said::Arp(OTHER))),
-    (&[(41, 9)], Ok(Said::Arp(OTHER))),
+    (&[], Ok((Layer::Arp, OTHER, 0))),
+    (&[(41, 9)], Ok((Layer::Arp, OTHER, 0))),
     (
         &[(0, 2), (1, 0), (2, 0), (3, 0), (4, 0), (5, 2)],
-        Ok(Said::Arp(OTHER)),
+        Ok((Layer::Arp, OTHER, 0)),
     ),
     (&[(5, 0xfe)], Err(DropCause::OtherMac)),
     (&[(21, 3)], Err(DropCause::UpperHeader)),
@@ -146,9 +160,27 @@ const OF_THE_REQUEST: [Row; 8] = [
     (&[(28, 0)], Err(DropCause::OtherAddress)),
 ];
 
+/// Each frame, and what it is where octets of it are others.
+const HEARD: [(&[u8; 60], &[Row]); 4] = [
+    (&SYN, &OF_THE_SYN),
+    (&ECHO, &OF_THE_ECHO),
+    (&HI, &OF_THE_DATAGRAM),
+    (&REQUEST, &OF_THE_REQUEST),
+];
+
+/// Octets too few for a head, too many for a frame, and as many as a frame may have.
+const LENGTHS: [(&[u8], Heard); 3] = [
+    (
+        b"\x02\0\0\0\0\x02\x02\0\0\0\0\x01\x08",
+        Err(DropCause::Short),
+    ),
+    (&[2; SPACE + 1], Err(DropCause::Short)),
+    (&[2; SPACE], Err(DropCause::OtherMac)),
+];
+
 /// The frame with these octets in the place of its own.
-fn changed(frame: [u8; 60], changes: &[(usize, u8)]) -> [u8; 60] {
-    let mut frame = frame;
+fn changed(frame: &[u8; 60], changes: &[(usize, u8)]) -> [u8; 60] {
+    let mut frame = *frame;
     for (place, new) in changes {
         if let Some(octet) = frame.get_mut(*place) {
             *octet = *new;
@@ -159,48 +191,39 @@ fn changed(frame: [u8; 60], changes: &[(usize, u8)]) -> [u8; 60] {
 
 #[test]
 fn frames_are_heard(rt: HostRuntime) {
-    for (changes, want) in OF_THE_SYN {
-        assert!(rt; heard_as(&changed(SYN, changes)) == want);
+    for (frame, rows) in &HEARD {
+        for (changes, want) in *rows {
+            assert!(rt; heard_as(&changed(frame, changes)) == *want);
+        }
     }
-    for (changes, want) in OF_THE_ECHO {
-        assert!(rt; heard_as(&changed(ECHO, changes)) == want);
+    for (octets, want) in &LENGTHS {
+        assert!(rt; heard_as(octets) == *want);
     }
-    for (changes, want) in OF_THE_DATAGRAM {
-        assert!(rt; heard_as(&changed(HI, changes)) == want);
-    }
-    for (changes, want) in OF_THE_REQUEST {
-        assert!(rt; heard_as(&changed(REQUEST, changes)) == want);
-    }
-    assert!(rt; heard_as(&SYN[..13]) == Err(DropCause::Short));
-    assert!(rt; heard_as(&[2; SPACE + 1]) == Err(DropCause::Short));
-    assert!(rt; heard_as(&[2; SPACE]) == Err(DropCause::OtherMac));
 }
+
+const HEAD: FrameHead = FrameHead {
+    destination: MAC,
+    source: OTHER_MAC,
+    from: OTHER,
+    to: OURS,
+};
 
 #[test]
 fn frames_go_out(rt: HostRuntime) {
-    let head = FrameHead {
-        destination: MAC,
-        source: OTHER_MAC,
-        from: OTHER,
-        to: OURS,
-    };
     let mut out = [7; SPACE];
     out[34..58].copy_from_slice(&SYN[34..58]);
-    assert!(rt; head.emit_tcp(24, &mut out) == 60);
-    assert!(rt; out.starts_with(&SYN));
+    assert!(rt; HEAD.emit_tcp(24, &mut out) == 60 && out.starts_with(&SYN));
     out[34..45].copy_from_slice(&ECHO[34..45]);
-    assert!(rt; head.emit_icmp(11, &mut out) == 60);
-    assert!(rt; out.starts_with(&ECHO));
+    assert!(rt; HEAD.emit_icmp(11, &mut out) == 60 && out.starts_with(&ECHO));
     out[34..44].copy_from_slice(&HI[34..44]);
     let part = Part {
         identification: 7,
         fragment: Fragment::at(10, 0),
     };
-    assert!(rt; head.emit_udp(part, &mut out) == 60);
-    assert!(rt; out.starts_with(&HI));
-    assert!(rt; emit_arp(&ArpPacket::request(OTHER_MAC, OTHER, OURS), &mut out) == 60);
-    assert!(rt; out.starts_with(&REQUEST));
-    assert!(rt; head.emit_tcp(1_480, &mut out) == SPACE);
+    assert!(rt; HEAD.emit_udp(part, &mut out) == 60 && out.starts_with(&HI));
+    let request = ArpPacket::request(OTHER_MAC, OTHER, OURS);
+    assert!(rt; emit_arp(&request, &mut out) == 60 && out.starts_with(&REQUEST));
+    assert!(rt; HEAD.emit_tcp(1_480, &mut out) == SPACE);
 }
 
 /// Each cause, its number and its text.
@@ -218,10 +241,9 @@ const CAUSES: [(DropCause, u8, &str); 10] = [
 ];
 
 #[test]
-fn causes_are_named(rt: HostRuntime) -> Result<(), Fail> {
-    for (cause, number, text) in CAUSES {
-        assert!(rt; cause.number() == number);
-        assert!(rt; cause.to_string(rt.alloc())?.as_str() == text);
+fn causes_are_named(rt: HostRuntime) -> Result<(), AllocError> {
+    for (cause, number, text) in &CAUSES {
+        assert!(rt; cause.number() == *number && cause.to_string(rt.alloc())?.as_str() == *text);
     }
     Ok(())
 }

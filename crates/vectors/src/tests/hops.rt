@@ -4,7 +4,7 @@ use ipv4::{Addr, Prefix};
 use routes::{AddFault, Hop, RemoveFault, Routes};
 
 /// What happens to a table, and what that answers. Prefixes are told by an address and a length.
-#[derive(Clone, Copy)]
+#[derive(Drop)]
 enum Event {
     Add(Addr, u8, Hop, Result<(), AddFault>),
     Remove(Addr, u8, Result<(), RemoveFault>),
@@ -12,17 +12,17 @@ enum Event {
 }
 
 /// Whether the event answers what it says.
-fn answers(routes: &mut Routes, event: Event) -> bool {
+fn answers(routes: &mut Routes, event: &Event) -> bool {
     match event {
-        Event::Add(addr, length, hop, want) => match Prefix::new(addr, length) {
-            Ok(prefix) => routes.add(prefix, hop) == want,
+        Event::Add(addr, length, hop, want) => match Prefix::new(*addr, *length) {
+            Ok(prefix) => routes.add(prefix, *hop) == *want,
             Err(_) => false,
         },
-        Event::Remove(addr, length, want) => match Prefix::new(addr, length) {
-            Ok(prefix) => routes.remove(prefix) == want,
+        Event::Remove(addr, length, want) => match Prefix::new(*addr, *length) {
+            Ok(prefix) => routes.remove(prefix) == *want,
             Err(_) => false,
         },
-        Event::Pick(addr, want) => routes.pick(addr) == want,
+        Event::Pick(addr, want) => routes.pick(*addr) == *want,
     }
 }
 
@@ -66,8 +66,8 @@ const FULL: [Event; 4] = [
 #[test]
 fn the_longest_prefix_is_picked(rt: HostRuntime) {
     let mut routes = Routes::new();
-    for (number, event) in FEW.into_iter().enumerate() {
-        assert!(rt; answers(&mut routes, event), "event {number}");
+    for event in &FEW {
+        assert!(rt; answers(&mut routes, event));
     }
 }
 
@@ -75,10 +75,10 @@ fn the_longest_prefix_is_picked(rt: HostRuntime) {
 fn thirty_two_routes_fill_a_table(rt: HostRuntime) {
     let mut routes = Routes::new();
     for second in 0..32 {
-        let event = Event::Add(Addr([10, second, 0, 0]), 16, Hop::Direct, Ok(()));
-        assert!(rt; answers(&mut routes, event), "route {second}");
+        let added = Event::Add(Addr([10, second, 0, 0]), 16, Hop::Direct, Ok(()));
+        assert!(rt; answers(&mut routes, &added));
     }
-    for (number, event) in FULL.into_iter().enumerate() {
-        assert!(rt; answers(&mut routes, event), "event {number}");
+    for event in &FULL {
+        assert!(rt; answers(&mut routes, event));
     }
 }

@@ -49,8 +49,8 @@ fn read(octets: &[u8]) -> Read<'_> {
 
 #[test]
 fn frames(rt: HostRuntime) {
-    for (octets, want) in FRAMES {
-        assert!(rt; read(octets) == want);
+    for (octets, want) in &FRAMES {
+        assert!(rt; read(octets) == *want);
     }
 }
 

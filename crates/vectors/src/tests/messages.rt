@@ -10,39 +10,31 @@ const REQUEST: [u8; 11] = *b"\x08\x00\x33\x9b\x00\x01\x00\x01abc";
 /// Its reply, with octets of 7 behind it.
 const REPLY: [u8; 13] = *b"\x00\x00\x3b\x9b\x00\x01\x00\x01abc\x07\x07";
 
+/// Whether a message is that request.
+fn is_the_request(message: &IcmpView) -> bool {
+    (message.kind(), message.code(), message.checksum()) == (Kind::ECHO, 0, 0x339b)
+        && (message.identifier(), message.number()) == (1, 1)
+        && message.payload() == b"abc".as_slice()
+        && message.is_echo_request()
+        && !message.kind().is_error()
+        && message.reason().is_none()
+        && message.quote().is_none()
+}
+
 #[test]
 fn an_echo_request_is_answered(rt: HostRuntime) {
     let Ok(request) = IcmpView::parse(&REQUEST) else {
         panic!(&rt; "the octets are a message")
     };
-    assert!(rt;
-        (
-            request.kind(),
-            request.code(),
-            request.checksum(),
-            request.identifier(),
-            request.number(),
-            request.payload()
-        ) == (Kind::ECHO, 0, 0x339b, 1, 1, b"abc".as_slice())
-    );
-    assert!(rt;
-        (
-            request.is_echo_request(),
-            request.kind().is_error(),
-            request.reason(),
-            request.quote()
-        ) == (true, false, None, None)
-    );
+    assert!(rt; is_the_request(&request));
     let mut out = [7; 13];
-    let len = request.emit_reply(&mut out);
-    assert!(rt; (len, out) == (11, REPLY));
+    assert!(rt; request.emit_reply(&mut out) == 11 && out == REPLY);
 }
 
 #[test]
 fn an_echo_reply_is_written_from_its_parts(rt: HostRuntime) {
     let mut out = *b"\x07\x07\x07\x07\x07\x07\x07\x07abc\x07\x07";
-    let len = emit_echo_reply(1, 1, 3, &mut out);
-    assert!(rt; (len, out) == (11, REPLY));
+    assert!(rt; emit_echo_reply(1, 1, 3, &mut out) == 11 && out == REPLY);
 }
 
 const FAULTS: [(&[u8], Option<IcmpFault>); 11] = [
@@ -64,8 +56,8 @@ const FAULTS: [(&[u8], Option<IcmpFault>); 11] = [
 
 #[test]
 fn faults(rt: HostRuntime) {
-    for (octets, want) in FAULTS {
-        assert!(rt; IcmpView::parse(octets).err() == want);
+    for (octets, want) in &FAULTS {
+        assert!(rt; IcmpView::parse(octets).err() == *want);
     }
 }
 
@@ -84,39 +76,55 @@ const SYN_QUOTE: Quote = Quote {
     number: 0xffff_ffff,
 };
 
-/// Errors about it: the reason, the octets behind its header that are given, the error with octets of 7 behind it, its length and
-/// what it quotes.
-const ERRORS: [(Reason, &[u8], [u8; 40], usize, Option<Quote>); 2] = [
-    (
-        Reason::PortUnreachable,
-        b"\xc0\0\0\x50\xff\xff\xff\xff\0\0\0\0",
-        *b"\x03\x03\x3c\xac\0\0\0\0\x45\0\0\x2c\0\0\x40\0\x40\x06\x26\xca\x0a\0\0\x01\x0a\0\0\x02\xc0\0\0\x50\xff\xff\xff\xff\x07\x07\x07\x07",
-        36,
-        Some(SYN_QUOTE),
-    ),
-    (
-        Reason::ReassemblyTimeExceeded,
-        b"\xc0\0\0",
-        *b"\x0b\x01\x34\xfe\0\0\0\0\x45\0\0\x2c\0\0\x40\0\x40\x06\x26\xca\x0a\0\0\x01\x0a\0\0\x02\xc0\0\0\x07\x07\x07\x07\x07\x07\x07\x07\x07",
-        31,
-        None,
-    ),
+/// An error about it: the octets behind its header that are given, the error with octets of 7 behind it, its length and what it quotes.
+struct AboutIt {
+    reason: Reason,
+    payload: &'static [u8],
+    octets: [u8; 40],
+    len: usize,
+    quote: Option<Quote>,
+}
+
+const ERRORS: [AboutIt; 2] = [
+    AboutIt {
+        reason: Reason::PortUnreachable,
+        payload: b"\xc0\0\0\x50\xff\xff\xff\xff\0\0\0\0",
+        octets: *b"\x03\x03\x3c\xac\0\0\0\0\x45\0\0\x2c\0\0\x40\0\x40\x06\x26\xca\x0a\0\0\x01\x0a\0\0\x02\xc0\0\0\x50\xff\xff\xff\xff\x07\x07\x07\x07",
+        len: 36,
+        quote: Some(SYN_QUOTE),
+    },
+    AboutIt {
+        reason: Reason::ReassemblyTimeExceeded,
+        payload: b"\xc0\0\0",
+        octets: *b"\x0b\x01\x34\xfe\0\0\0\0\x45\0\0\x2c\0\0\x40\0\x40\x06\x26\xca\x0a\0\0\x01\x0a\0\0\x02\xc0\0\0\x07\x07\x07\x07\x07\x07\x07\x07\x07",
+        len: 31,
+        quote: None,
+    },
 ];
 
-#[test]
-fn errors_quote_their_cause(rt: HostRuntime) {
-    for (reason, payload, want, want_len, quote) in ERRORS {
-        let mut out = [7; 40];
-        let len = emit_error(reason, &SYN_HEADER, payload, &mut out);
-        assert!(rt; (len, out) == (want_len, want));
-        let Ok(error) = IcmpView::parse(&out[..len]) else {
-            panic!(&rt; "what was written is a message")
-        };
-        assert!(rt; (error.reason(), error.quote()) == (Some(reason), quote));
+/// Whether the error is written so, and read again.
+fn is_written_so(error: &AboutIt) -> bool {
+    let mut out = [7; 40];
+    let len = emit_error(error.reason, &SYN_HEADER, error.payload, &mut out);
+    match IcmpView::parse(&out[..len]) {
+        Ok(view) => {
+            len == error.len
+                && out == error.octets
+                && view.reason() == Some(error.reason)
+                && view.quote() == error.quote
+        }
+        Err(_) => false,
     }
 }
 
-/// The type and the code of each reason.
+#[test]
+fn errors_quote_their_cause(rt: HostRuntime) {
+    for error in &ERRORS {
+        assert!(rt; is_written_so(error));
+    }
+}
+
+/// Types and codes, and the reason that each stands for.
 const REASONS: [(u8, u8, Option<Reason>); 10] = [
     (3, 0, Some(Reason::NetUnreachable)),
     (3, 1, Some(Reason::HostUnreachable)),
@@ -130,16 +138,19 @@ const REASONS: [(u8, u8, Option<Reason>); 10] = [
     (3, 6, None),
 ];
 
+/// Whether the numbers stand for this, and it for them.
+fn stand_for(kind: Kind, code: u8, want: Option<Reason>) -> bool {
+    let is_read = Reason::with_numbers(kind, code) == want;
+    match want {
+        Some(reason) => is_read && (reason.kind(), reason.code()) == (kind, code),
+        None => is_read,
+    }
+}
+
 #[test]
 fn reasons(rt: HostRuntime) {
-    for (kind, code, want) in REASONS {
-        assert!(rt;
-            Reason::with_numbers(Kind(kind), code) == want,
-            "{kind} {code}"
-        );
-        if let Some(reason) = want {
-            assert!(rt; (reason.kind(), reason.code()) == (Kind(kind), code));
-        }
+    for (kind, code, want) in &REASONS {
+        assert!(rt; stand_for(Kind(*kind), *code, *want));
     }
 }
 
@@ -252,12 +263,17 @@ const ANSWERED: [(&[u8], bool, bool); 20] = [
     ),
 ];
 
+/// Whether a datagram may be answered so.
+fn is_answered_so(octets: &[u8], link_broadcast: bool, want: bool) -> bool {
+    match Ipv4View::parse(octets) {
+        Ok(view) => may_answer(&view, link_broadcast) == want,
+        Err(_) => false,
+    }
+}
+
 #[test]
 fn answers(rt: HostRuntime) {
-    for (octets, link_broadcast, want) in ANSWERED {
-        let Ok(view) = Ipv4View::parse(octets) else {
-            panic!(&rt; "the octets are a datagram")
-        };
-        assert!(rt; may_answer(&view, link_broadcast) == want);
+    for (octets, link_broadcast, want) in &ANSWERED {
+        assert!(rt; is_answered_so(octets, *link_broadcast, *want));
     }
 }

@@ -93,8 +93,8 @@ const PACKETS: [(&[u8], Result<ArpPacket, ArpFault>); 13] = [
 
 #[test]
 fn packets(rt: HostRuntime) {
-    for (octets, want) in PACKETS {
-        assert!(rt; ArpPacket::parse(octets) == want);
+    for (octets, want) in &PACKETS {
+        assert!(rt; ArpPacket::parse(octets) == *want);
     }
 }
 
@@ -106,41 +106,33 @@ fn packet_in(frame: &[u8]) -> Option<ArpPacket> {
     }
 }
 
-/// The frame of a packet, padded.
-fn frame_of(packet: ArpPacket, destination: Mac) -> [u8; SPACE] {
-    let mut frame = [0; SPACE];
-    packet.emit(&mut frame[14..]);
+/// Whether this frame carries the packet, and is written of it.
+fn carries(frame: &[u8; 60], packet: ArpPacket, destination: Mac) -> bool {
+    let mut out = [0; SPACE];
+    packet.emit(&mut out[14..]);
     let head = Head {
         destination,
         source: packet.sender_mac,
         kind: ARP,
     };
-    head.emit(LEN, &mut frame);
-    frame
+    head.emit(LEN, &mut out);
+    packet_in(frame) == Some(packet) && out.starts_with(frame)
 }
+
+/// The frame of the request, padded, and that of the reply.
+const FRAMES: [[u8; 60]; 2] = [
+    *b"\xff\xff\xff\xff\xff\xff\x02\0\0\0\0\x01\x08\x06\0\x01\x08\0\x06\x04\0\x01\x02\0\0\0\0\x01\x0a\0\0\x01\0\0\0\0\0\0\x0a\0\0\x02\0\0\0\0\0\0\0\0\0\0\0\0\0\0\0\0\0\0",
+    *b"\x02\0\0\0\0\x01\x02\0\0\0\0\x02\x08\x06\0\x01\x08\0\x06\x04\0\x02\x02\0\0\0\0\x02\x0a\0\0\x02\x02\0\0\0\0\x01\x0a\0\0\x01\0\0\0\0\0\0\0\0\0\0\0\0\0\0\0\0\0\0",
+];
 
 #[test]
 fn frames_both_ways(rt: HostRuntime) {
-    let rows: [(ArpPacket, Mac, &[u8]); 2] = [
-        (
-            ArpPacket::request(MAC_A, A, B),
-            Mac::BROADCAST,
-            b"\xff\xff\xff\xff\xff\xff\x02\0\0\0\0\x01\x08\x06\0\x01\x08\0\x06\x04\0\x01\x02\0\0\0\0\x01\x0a\0\0\x01\0\0\0\0\0\0\x0a\0\0\x02\0\0\0\0\0\0\0\0\0\0\0\0\0\0\0\0\0\0",
-        ),
-        (
-            REQUEST.reply(MAC_B),
-            MAC_A,
-            b"\x02\0\0\0\0\x01\x02\0\0\0\0\x02\x08\x06\0\x01\x08\0\x06\x04\0\x02\x02\0\0\0\0\x02\x0a\0\0\x02\x02\0\0\0\0\x01\x0a\0\0\x01\0\0\0\0\0\0\0\0\0\0\0\0\0\0\0\0\0\0",
-        ),
-    ];
-    for (packet, destination, frame) in rows {
-        assert!(rt; packet_in(frame) == Some(packet));
-        assert!(rt; frame_of(packet, destination).starts_with(frame));
-    }
+    let [request, reply] = &FRAMES;
+    assert!(rt; carries(request, ArpPacket::request(MAC_A, A, B), Mac::BROADCAST));
+    assert!(rt; carries(reply, REQUEST.reply(MAC_B), MAC_A));
 }
 
 /// What happens to the cache of `A`, and what that answers.
-#[derive(Clone, Copy)]
 enum Event {
     /// It hears a packet, to which it owes a reply or not.
     Hear(ArpPacket, bool),
@@ -155,15 +147,15 @@ enum Event {
 }
 
 /// Whether the event answers what it says.
-fn answers(cache: &mut ArpCache, now: u64, event: Event) -> bool {
+fn answers(cache: &mut ArpCache, now: u64, event: &Event) -> bool {
     let now = Moment(now);
     match event {
-        Event::Hear(packet, want) => cache.hear(now, &packet, A) == want,
-        Event::Look(addr, want) => cache.look(now, addr) == want,
+        Event::Hear(packet, want) => cache.hear(now, packet, A) == *want,
+        Event::Look(addr, want) => cache.look(now, *addr) == *want,
         Event::Ask(addr, want) => {
-            cache.may_ask(now, addr) == want && cache.ask(now, addr) == want
+            cache.may_ask(now, *addr) == *want && cache.ask(now, *addr) == *want
         }
-        Event::NextAsk(addr, want) => cache.next_ask(addr) == want.map(Moment),
+        Event::NextAsk(addr, want) => cache.next_ask(*addr) == want.map(Moment),
         Event::Age => {
             cache.age(now);
             true
@@ -237,8 +229,8 @@ const LEARNT: [(u64, Event); 14] = [
 #[test]
 fn pairs_are_learnt_updated_and_forgotten(rt: HostRuntime) {
     let mut cache = ArpCache::new();
-    for (now, event) in LEARNT {
-        assert!(rt; answers(&mut cache, now, event), "at {now}");
+    for (now, event) in &LEARNT {
+        assert!(rt; answers(&mut cache, *now, event));
     }
 }
 
@@ -270,7 +262,7 @@ fn the_longest_unheard_gives_way(rt: HostRuntime) {
     }
     for number in 0..67 {
         let known = cache.look(Moment(6_600), addr_of(number)).is_some();
-        assert!(rt; known == !matches!(number, 60 | 62 | 63), "of {number}");
+        assert!(rt; known == !matches!(number, 60 | 62 | 63));
     }
 }
 
@@ -296,13 +288,13 @@ const ASKED_LATER: [(u64, Event); 7] = [
 #[test]
 fn requests_are_few(rt: HostRuntime) {
     let mut cache = ArpCache::new();
-    for (now, event) in ASKED {
-        assert!(rt; answers(&mut cache, now, event), "at {now}");
+    for (now, event) in &ASKED {
+        assert!(rt; answers(&mut cache, *now, event));
     }
     for number in 0..63 {
         assert!(rt; cache.ask(Moment(1_500), addr_of(number)));
     }
-    for (now, event) in ASKED_LATER {
-        assert!(rt; answers(&mut cache, now, event), "at {now}");
+    for (now, event) in &ASKED_LATER {
+        assert!(rt; answers(&mut cache, *now, event));
     }
 }

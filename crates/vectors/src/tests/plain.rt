@@ -1,123 +1,114 @@
-//! The buffers of a stream in the plainest form, to compare the others with: octets in a list, and a place for each that may still come.
-//! What is taken is moved off the front.
+//! A buffer of a stream in the plainest form, to compare the others with: a place for each octet, in a row. What is taken is moved
+//! off the front.
 
-use std::alloc::{AllocError, Global};
-use std::iter;
+use super::buffers::MOST;
 use stream_buf::MOST_RANGES;
 
-/// What was written and is not acknowledged.
-#[derive(Drop)]
-pub(super) struct PlainSendBuf {
-    held: Vec<u8>,
+/// The places that it has, as many as its capacity, and behind them others that stay empty.
+#[derive(Clone, Copy)]
+pub(super) struct Plain {
+    places: [Option<u8>; MOST],
     capacity: usize,
 }
 
-impl PlainSendBuf {
-    pub(super) fn with_capacity(
-        alloc: Global,
-        capacity: usize,
-    ) -> Result<PlainSendBuf, AllocError> {
-        let held = Vec::with_capacity(alloc, capacity)?;
-        Ok(PlainSendBuf { held, capacity })
-    }
-
-    pub(super) fn write(&mut self, octets: &[u8]) -> Result<usize, AllocError> {
-        let count = octets.len().min(self.room());
-        self.held.extend_from_slice(&octets[..count])?;
-        Ok(count)
-    }
-
-    pub(super) fn acked(&mut self, count: usize) {
-        self.held.drain(..count.min(self.held.len()));
-    }
-
-    pub(super) fn held(&self) -> &[u8] {
-        &self.held
-    }
-
-    pub(super) fn room(&self) -> usize {
-        self.capacity.saturating_sub(self.held.len())
-    }
-}
-
-/// What came: the octets in order, and a place for each that may still come, by its distance from RCV.NXT.
-#[derive(Drop)]
-pub(super) struct PlainRecvBuf {
-    readable: Vec<u8>,
-    kept: Vec<Option<u8>>,
-}
-
-impl PlainRecvBuf {
-    pub(super) fn with_capacity(
-        alloc: Global,
-        capacity: usize,
-    ) -> Result<PlainRecvBuf, AllocError> {
-        let readable = Vec::with_capacity(alloc, capacity)?;
-        let mut kept = Vec::with_capacity(alloc, capacity)?;
-        kept.resize(capacity, None)?;
-        Ok(PlainRecvBuf { readable, kept })
-    }
-
-    pub(super) fn takes(&self, distance: usize, octets: &[u8]) -> Result<bool, AllocError> {
-        Ok(distance == 0 || ranges(&self.laid(distance, octets)?) <= MOST_RANGES)
-    }
-
-    pub(super) fn insert_at(
-        &mut self,
-        distance: usize,
-        octets: &[u8],
-    ) -> Result<usize, AllocError> {
-        let mut laid = self.laid(distance, octets)?;
-        if distance > 0 && ranges(&laid) > MOST_RANGES {
-            return Ok(0);
+impl Plain {
+    pub(super) fn with_capacity(capacity: usize) -> Plain {
+        Plain {
+            places: [None; MOST],
+            capacity,
         }
-        let count = laid.iter().take_while(|place| place.is_some()).count();
-        self.readable
-            .extend(laid.iter().take(count).flatten().copied())?;
-        laid.drain(..count.min(laid.len()));
-        self.kept = laid;
-        Ok(count)
     }
 
-    pub(super) fn read(&mut self, out: &mut [u8]) -> Result<usize, AllocError> {
-        let count = out.len().min(self.readable.len());
-        out[..count].copy_from_slice(&self.readable[..count]);
-        self.readable.drain(..count);
-        self.kept.extend(iter::repeat_n(None, count))?;
-        Ok(count)
-    }
-
-    pub(super) fn forget_kept(&mut self) {
-        self.kept.fill(None);
+    /// How many octets stand at the front with no gap.
+    pub(super) fn len(&self) -> usize {
+        let mut len: usize = 0;
+        for place in &self.places {
+            if place.is_none() {
+                break;
+            }
+            len = len.saturating_add(1);
+        }
+        len
     }
 
     pub(super) fn room(&self) -> usize {
-        self.kept.len()
+        self.capacity.saturating_sub(self.len())
     }
 
-    pub(super) fn readable_len(&self) -> usize {
-        self.readable.len()
+    /// How many ranges of octets stand behind gaps.
+    pub(super) fn ranges(&self) -> usize {
+        let mut count: usize = 0;
+        let mut is_held = true;
+        for place in &self.places {
+            if place.is_some() && !is_held {
+                count = count.saturating_add(1);
+            }
+            is_held = place.is_some();
+        }
+        count
     }
 
-    /// The places with octets from the distance on, over what stood there.
-    fn laid(&self, distance: usize, octets: &[u8]) -> Result<Vec<Option<u8>>, AllocError> {
-        let mut places = self.kept.clone()?;
-        for (place, octet) in places.iter_mut().skip(distance).zip(octets) {
+    /// Octets at the front are taken, or else as many as fill `out`.
+    pub(super) fn read(&mut self, out: &mut [u8]) -> usize {
+        let count = out.len().min(self.len());
+        for (octet, place) in out.iter_mut().zip(&self.places) {
+            if let Some(held) = place {
+                *octet = *held;
+            } else {
+                break;
+            }
+        }
+        self.take(count);
+        count
+    }
+
+    /// So many octets are moved off the front.
+    pub(super) fn take(&mut self, count: usize) {
+        let mut left = [None; MOST];
+        if let Some(rest) = self.places.get(count..) {
+            left[..rest.len()].copy_from_slice(rest);
+        }
+        self.places = left;
+    }
+
+    /// Octets behind a gap are forgotten.
+    pub(super) fn forget_kept(&mut self) {
+        let mut is_kept = false;
+        for place in &mut self.places {
+            is_kept |= place.is_none();
+            if is_kept {
+                *place = None;
+            }
+        }
+    }
+
+    /// The buffer with octets at a distance behind the front, over what stood there.
+    fn laid(&self, distance: usize, octets: &[u8]) -> Plain {
+        let mut laid = *self;
+        let first = self.len().saturating_add(distance);
+        for (place, octet) in laid.places.iter_mut().skip(first).zip(octets) {
             *place = Some(*octet);
         }
-        Ok(places)
+        laid
     }
 
-    pub(super) fn ranges(&self) -> usize {
-        ranges(&self.kept)
+    pub(super) fn takes(&self, distance: usize, octets: &[u8]) -> bool {
+        distance == 0 || self.laid(distance, octets).ranges() <= MOST_RANGES
     }
-}
 
-/// How many places keep an octet where the one before doesn't.
-fn ranges(places: &[Option<u8>]) -> usize {
-    let before = iter::once(&None).chain(places);
-    before
-        .zip(places)
-        .filter(|(before, place)| before.is_none() && place.is_some())
-        .count()
+    /// Octets come at a distance: how many there are more at the front.
+    pub(super) fn insert_at(&mut self, distance: usize, octets: &[u8]) -> usize {
+        if !self.takes(distance, octets) {
+            return 0;
+        }
+        let before = self.len();
+        *self = self.laid(distance, octets);
+        self.len().saturating_sub(before)
+    }
+
+    /// As many octets as there is room for come at the front: how many.
+    pub(super) fn write(&mut self, octets: &[u8]) -> usize {
+        let count = octets.len().min(self.room());
+        self.insert_at(0, &octets[..count])
+    }
 }

@@ -65,21 +65,34 @@ fn head_of(view: &TcpView) -> Head {
     }
 }
 
+/// The segment that is written, and its length, where that is the header's and the payload's.
+fn written(head: &Head, payload: &[u8]) -> Option<([u8; 27], usize)> {
+    let begin = head.len();
+    if payload.len() > 27 - begin {
+        return None;
+    }
+    let end = begin + payload.len();
+    let mut out = [7; 27];
+    out[begin..end].copy_from_slice(payload);
+    let payload_sum = sum(&out[begin..end]);
+    let len = head.emit(A, B, payload.len(), payload_sum, &mut out);
+    if len == end { Some((out, len)) } else { None }
+}
+
+/// Whether a segment says this.
+fn says(octets: &[u8], head: &Head, payload: &[u8], sizes: &Sizes) -> bool {
+    let Ok(view) = TcpView::parse(A, B, octets) else {
+        return false;
+    };
+    (head_of(&view), view.urgent(), view.payload()) == (*head, 0, payload)
+        && (view.mss_option(), view.send_mss(), view.smss(), view.span()) == *sizes
+}
+
 #[test]
 fn segments_are_written_and_read_again(rt: HostRuntime) {
-    for (head, payload, want, want_len, sizes) in SEGMENTS {
-        let begin = head.len();
-        assert!(rt; begin + payload.len() <= 27);
-        let mut out = [7; 27];
-        out[begin..begin + payload.len()].copy_from_slice(payload);
-        let payload_sum = sum(&out[begin..begin + payload.len()]);
-        let len = head.emit(A, B, payload.len(), payload_sum, &mut out);
-        assert!(rt; (begin + payload.len(), len, out) == (want_len, want_len, want));
-        let Ok(view) = TcpView::parse(A, B, &out[..len]) else {
-            panic!(&rt; "what was written is a segment")
-        };
-        assert!(rt; (head_of(&view), view.urgent(), view.payload()) == (head, 0, payload));
-        assert!(rt; (view.mss_option(), view.send_mss(), view.smss(), view.span()) == sizes);
+    for (head, payload, want, want_len, sizes) in &SEGMENTS {
+        assert!(rt; written(head, payload) == Some((*want, *want_len)));
+        assert!(rt; says(&want[..*want_len], head, payload, sizes));
     }
 }
 
@@ -171,8 +184,8 @@ const FAULTS: [(&[u8], Option<SegmentFault>); 20] = [
 
 #[test]
 fn faults(rt: HostRuntime) {
-    for (octets, want) in FAULTS {
-        assert!(rt; TcpView::parse(A, B, octets).err() == want);
+    for (octets, want) in &FAULTS {
+        assert!(rt; TcpView::parse(A, B, octets).err() == *want);
     }
 }
 
@@ -181,22 +194,23 @@ const LAST: Seq = Seq(u32::MAX);
 const FIRST: Seq = Seq(0);
 
 /// Two numbers; how far the one is past the other, their difference, and whether it is before it, and at most it.
-const NUMBERS: [(Seq, Seq, u32, i32, bool, bool); 2] = [
-    (FIRST, LAST, 1, 1, false, false),
-    (LAST, FIRST, u32::MAX, -1, true, true),
+const NUMBERS: [(Seq, Seq, (u32, i32, bool, bool)); 2] = [
+    (FIRST, LAST, (1, 1, false, false)),
+    (LAST, FIRST, (u32::MAX, -1, true, true)),
 ];
 
 #[test]
 fn numbers(rt: HostRuntime) {
     assert!(rt; LAST + 1 == FIRST);
-    for (one, other, past, difference, is_before, is_at_most) in NUMBERS {
+    for (one, other, want) in &NUMBERS {
+        let (one, other) = (*one, *other);
         assert!(rt;
             (
                 one.past(other),
                 one.difference(other),
                 one.is_before(other),
                 one.is_at_most(other)
-            ) == (past, difference, is_before, is_at_most)
+            ) == *want
         );
     }
 }

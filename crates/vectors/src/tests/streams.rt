@@ -12,89 +12,125 @@ fn insert(buffer: &mut RecvBuf, distance: usize, octets: &[u8]) -> Option<usize>
     }
 }
 
-/// Octets ahead of a gap are kept in 32 ranges at most.
+/// Octets ahead of a gap are kept in 32 ranges at most: distances of one octet, how many join what is readable, and how many ranges
+/// are kept then, behind 32 octets with a gap before each.
+const MOST_RANGES: [(usize, usize, usize); 4] = [(65, 0, 32), (2, 0, 31), (65, 0, 32), (0, 4, 31)];
+
+/// Whether so many octets join what is readable when octets come at a distance, and so many ranges are kept then.
+fn joins(
+    buffer: &mut RecvBuf,
+    distance: usize,
+    octets: &[u8],
+    joined: usize,
+    ranges: usize,
+) -> bool {
+    insert(buffer, distance, octets) == Some(joined) && buffer.ranges() == ranges
+}
+
 #[test]
 fn keeps_most_ranges(rt: HostRuntime) -> Result<(), AllocError> {
     let mut buffer = RecvBuf::with_capacity(rt.alloc(), 100)?;
     for i in 0..32 {
-        assert_eq!(rt; insert(&mut buffer, 2 * i + 1, b"x"), Some(0));
-        assert_eq!(rt; buffer.ranges(), i + 1);
+        assert!(rt; joins(&mut buffer, 2 * i + 1, b"x", 0, i + 1));
     }
-    for (distance, joined, ranges) in [(65, 0, 32), (2, 0, 31), (65, 0, 32), (0, 4, 31)] {
-        assert_eq!(rt; insert(&mut buffer, distance, b"x"), Some(joined));
-        assert_eq!(rt; buffer.ranges(), ranges);
+    for (distance, joined, ranges) in &MOST_RANGES {
+        assert!(rt; joins(&mut buffer, *distance, b"x", *joined, *ranges));
     }
-    assert_eq!(rt; buffer.readable_len(), 4);
+    assert!(rt; buffer.readable_len() == 4);
     Ok(())
+}
+
+/// A call of a buffer for what comes, and what it answers.
+enum Call {
+    /// Octets come at a distance: how many join what is readable, and how many ranges are kept then.
+    Insert(usize, &'static [u8], usize, usize),
+    /// So many octets are read at most, into points: how many are, what stands there, and the room then.
+    Read(usize, usize, [u8; 8], usize),
+    /// What is kept is forgotten.
+    Forget,
 }
 
 /// Octets that came in another order are read in theirs, and make room as they are read.
-#[test]
-fn reads_in_order(rt: HostRuntime) -> Result<(), AllocError> {
-    let mut buffer = RecvBuf::with_capacity(rt.alloc(), 6)?;
-    assert_eq!(rt; insert(&mut buffer, 4, b"ef"), Some(0));
-    assert_eq!(rt; insert(&mut buffer, 1, b"bc"), Some(0));
-    assert_eq!(rt; insert(&mut buffer, 0, b"a"), Some(3));
-    let mut out = [b'.'; 2];
-    assert_eq!(rt; buffer.read(&mut out), 2);
-    assert_eq!(rt; out, *b"ab");
-    assert_eq!(rt; buffer.room(), 5);
-    assert_eq!(rt; insert(&mut buffer, 0, b"d"), Some(3));
-    let mut rest = [b'.'; 5];
-    assert_eq!(rt; buffer.read(&mut rest), 4);
-    assert_eq!(rt; rest, *b"cdef.");
-    assert_eq!(rt; buffer.room(), buffer.capacity());
-    Ok(())
-}
+const IN_ORDER: [Call; 6] = [
+    Call::Insert(4, b"ef", 0, 1),
+    Call::Insert(1, b"bc", 0, 2),
+    Call::Insert(0, b"a", 3, 1),
+    Call::Read(2, 2, *b"ab......", 5),
+    Call::Insert(0, b"d", 3, 0),
+    Call::Read(5, 4, *b"cdef....", 6),
+];
 
 /// Octets in order, ahead of a gap and into it, by turns: what is kept joins what is readable, until it is forgotten.
-#[test]
-fn forgets_what_is_kept(rt: HostRuntime) -> Result<(), AllocError> {
-    let mut buffer = RecvBuf::with_capacity(rt.alloc(), 8)?;
-    for (distance, octets, joined, ranges) in [
-        (0, &b"ab"[..], 2, 0),
-        (1, &b"d"[..], 0, 1),
-        (0, &b"c"[..], 2, 0),
-        (0, &b"e"[..], 1, 0),
-        (1, &b"gh"[..], 0, 1),
-    ] {
-        assert_eq!(rt; insert(&mut buffer, distance, octets), Some(joined));
-        assert_eq!(rt; buffer.ranges(), ranges);
+const FORGOTTEN: [Call; 8] = [
+    Call::Insert(0, b"ab", 2, 0),
+    Call::Insert(1, b"d", 0, 1),
+    Call::Insert(0, b"c", 2, 0),
+    Call::Insert(0, b"e", 1, 0),
+    Call::Insert(1, b"gh", 0, 1),
+    Call::Forget,
+    Call::Insert(0, b"f", 1, 0),
+    Call::Read(8, 6, *b"abcdef..", 8),
+];
+
+/// Calls for buffers of 6 and 8 octets.
+const RECEIVED: [(usize, &[Call]); 2] = [(6, &IN_ORDER), (8, &FORGOTTEN)];
+
+/// Whether the call answers what it says.
+fn answers(buffer: &mut RecvBuf, call: &Call) -> bool {
+    match call {
+        Call::Insert(distance, octets, joined, ranges) => {
+            joins(buffer, *distance, octets, *joined, *ranges)
+        }
+        Call::Read(most, count, octets, room) => {
+            let mut out = [b'.'; 8];
+            let most = (*most).min(8);
+            buffer.read(&mut out[..most]) == *count && out == *octets && buffer.room() == *room
+        }
+        Call::Forget => {
+            buffer.forget_kept();
+            buffer.ranges() == 0
+        }
     }
-    buffer.forget_kept();
-    assert_eq!(rt; buffer.ranges(), 0);
-    assert_eq!(rt; insert(&mut buffer, 0, b"f"), Some(1));
-    let mut out = [b'.'; 8];
-    assert_eq!(rt; buffer.read(&mut out), 6);
-    assert_eq!(rt; out, *b"abcdef..");
-    assert_eq!(rt; buffer.room(), buffer.capacity());
+}
+
+#[test]
+fn what_comes_is_read_in_order(rt: HostRuntime) -> Result<(), AllocError> {
+    for (capacity, calls) in &RECEIVED {
+        let mut buffer = RecvBuf::with_capacity(rt.alloc(), *capacity)?;
+        assert!(rt; buffer.capacity() == *capacity);
+        for call in *calls {
+            assert!(rt; answers(&mut buffer, call));
+        }
+    }
     Ok(())
 }
 
-/// The two octets that are held from a place on; None where there are fewer.
-fn two_at(buffer: &SendBuf, offset: usize) -> Option<[u8; 2]> {
-    let mut out = [b'.'; 2];
-    if buffer.len() < 2 || offset > buffer.len() - 2 {
-        return None;
+/// Whether these octets are held, from each place on.
+fn holds(buffer: &SendBuf, held: &[u8]) -> bool {
+    if buffer.len() != held.len() || held.len() > 4 {
+        return false;
     }
-    buffer.copy_at(offset, &mut out);
-    Some(out)
+    for offset in 0..held.len() {
+        let mut out = [b'.'; 4];
+        let len = held.len() - offset;
+        buffer.copy_at(offset, &mut out[..len]);
+        if &out[..len] != &held[offset..] {
+            return false;
+        }
+    }
+    true
 }
 
 /// Octets wait in order until they are acknowledged, which makes room for more.
 #[test]
 fn holds_until_acknowledged(rt: HostRuntime) -> Result<(), AllocError> {
     let mut buffer = SendBuf::with_capacity(rt.alloc(), 4)?;
-    assert!(rt; buffer.is_empty());
-    assert_eq!(rt; buffer.write(b"abcde"), 4);
-    assert_eq!(rt; two_at(&buffer, 2), Some(*b"cd"));
+    assert!(rt; buffer.is_empty() && buffer.capacity() == 4);
+    assert!(rt; buffer.write(b"abcde") == 4 && holds(&buffer, b"abcd"));
     if buffer.len() >= 3 {
         buffer.acked(3);
     }
-    assert_eq!(rt; buffer.room(), 3);
-    assert_eq!(rt; buffer.write(b"e"), 1);
-    assert_eq!(rt; two_at(&buffer, 0), Some(*b"de"));
-    assert_eq!(rt; two_at(&buffer, 1), None);
-    assert_eq!(rt; buffer.capacity(), 4);
+    assert!(rt; buffer.room() == 3 && holds(&buffer, b"d"));
+    assert!(rt; buffer.write(b"e") == 1 && holds(&buffer, b"de"));
     Ok(())
 }

@@ -22,26 +22,23 @@ const JOINED: [(u16, u16, bool, u16); 2] = [
     (0x0100, 0x0200, true, 0x0102),
 ];
 
-#[test]
-fn sums(rt: HostRuntime) {
-    for (octets, want) in SUMS {
-        assert!(rt; (sum(octets), checksum(octets)) == (want, !want));
-    }
-    let pseudo = Pseudo {
-        src: [10, 0, 0, 1],
-        dst: [10, 0, 0, 2],
-        protocol: 17,
-        length: 10,
-    };
-    for (octets, want) in WITH_PSEUDO {
-        assert!(rt; pseudo.sum_with(&octets) == want);
-    }
-}
+const PSEUDO: Pseudo = Pseudo {
+    src: [10, 0, 0, 1],
+    dst: [10, 0, 0, 2],
+    protocol: 17,
+    length: 10,
+};
 
 #[test]
-fn sums_are_joined(rt: HostRuntime) {
-    for (left, right, left_odd, want) in JOINED {
-        assert!(rt; join(left, right, left_odd) == want);
+fn sums(rt: HostRuntime) {
+    for (octets, want) in &SUMS {
+        assert!(rt; (sum(octets), checksum(octets)) == (*want, !*want));
+    }
+    for (octets, want) in &WITH_PSEUDO {
+        assert!(rt; PSEUDO.sum_with(octets) == *want);
+    }
+    for (left, right, left_odd, want) in &JOINED {
+        assert!(rt; join(*left, *right, *left_odd) == *want);
     }
 }
 
@@ -78,20 +75,25 @@ fn patterns() -> [[u8; MOST]; 4] {
     [mixed, [0; MOST], [0xff; MOST], [0x80; MOST]]
 }
 
-/// For each length `sum` answers what the words sum to one by one, and `copy_sum` the same, with the octets copied and none behind them.
+/// Whether `sum` answers what the words sum to one by one, and `copy_sum` the same, with the octets copied and none behind them.
+fn is_summed_alike(octets: &[u8]) -> bool {
+    let mut copied = [0x55; MOST + 1];
+    let len = octets.len();
+    if len > MOST {
+        return false;
+    }
+    let want = plain_sum(octets);
+    sum(octets) == want
+        && copy_sum(octets, &mut copied[..len]) == want
+        && &copied[..len] == octets
+        && copied[len] == 0x55
+}
+
 #[test]
 fn sums_of_each_length(rt: HostRuntime) {
-    for octets in patterns() {
+    for octets in &patterns() {
         for len in 0..=MOST {
-            let octets = &octets[..len];
-            let want = plain_sum(octets);
-            let mut copied = [0x55; MOST + 1];
-            assert!(rt; sum(octets) == want, "{len} octets");
-            let place = &mut copied[..len];
-            assert!(rt; octets.len() == place.len());
-            assert!(rt; copy_sum(octets, place) == want, "{len} octets");
-            assert!(rt; &copied[..len] == octets, "{len} octets");
-            assert!(rt; copied[len] == 0x55, "{len} octets");
+            assert!(rt; is_summed_alike(&octets[..len]));
         }
     }
 }

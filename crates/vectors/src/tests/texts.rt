@@ -77,9 +77,8 @@ const CAUSES: [(DropCause, u8, &str); 6] = [
 
 #[test]
 fn causes_are_named(rt: HostRuntime) -> Result<(), Fail> {
-    for (cause, number, name) in CAUSES {
-        assert!(rt; cause.number() == number);
-        assert!(rt; cause.to_string(rt.alloc())?.as_str() == name);
+    for (cause, number, name) in &CAUSES {
+        assert!(rt; cause.number() == *number && cause.to_string(rt.alloc())?.as_str() == *name);
     }
     Ok(())
 }

@@ -36,15 +36,23 @@ const RUNS: [&[(Event, u32)]; 3] = [
 
 #[test]
 fn timeouts(rt: HostRuntime) {
-    for run in RUNS {
+    for run in &RUNS {
         let mut rto = Rto::new();
         assert!(rt; rto.rto() == 1_000);
-        for (event, want) in run {
+        for (event, want) in *run {
             take(&mut rto, event);
             assert!(rt; rto.rto() == *want);
         }
     }
 }
+
+/// Timers, moments, and whether they are due where one is for 1,500 and one for 900.
+const DUE: [(TimerKind, u64, bool); 4] = [
+    (TimerKind::DelayedAck, 899, false),
+    (TimerKind::DelayedAck, 900, true),
+    (TimerKind::Retransmission, 900, false),
+    (TimerKind::Probe, 9_999, false),
+];
 
 #[test]
 fn deadlines(rt: HostRuntime) {
@@ -52,17 +60,16 @@ fn deadlines(rt: HostRuntime) {
     assert!(rt; timers.next() == None);
     timers.set(TimerKind::Retransmission, Moment(500).after(1_000));
     timers.set(TimerKind::DelayedAck, Moment(900));
-    for (kind, now, want) in [
-        (TimerKind::DelayedAck, 899, false),
-        (TimerKind::DelayedAck, 900, true),
-        (TimerKind::Retransmission, 900, false),
-        (TimerKind::Probe, 9_999, false),
-    ] {
-        assert!(rt; timers.due(kind, Moment(now)) == want, "at {now}");
+    for (kind, now, want) in &DUE {
+        assert!(rt; timers.due(*kind, Moment(*now)) == *want);
     }
-    assert!(rt; timers.deadline(TimerKind::Retransmission) == Some(Moment(1_500)));
-    assert!(rt; timers.deadline(TimerKind::Override) == None);
-    assert!(rt; timers.next() == Some(Moment(900)));
+    assert!(rt;
+        (
+            timers.deadline(TimerKind::Retransmission),
+            timers.deadline(TimerKind::Override),
+            timers.next()
+        ) == (Some(Moment(1_500)), None, Some(Moment(900)))
+    );
     timers.clear(TimerKind::DelayedAck);
     assert!(rt; timers.next() == Some(Moment(1_500)));
     assert!(rt; Moment(9).after(u64::MAX) == Moment(u64::MAX));

@@ -51,8 +51,8 @@ fn read(octets: &[u8]) -> Read<'_> {
 
 #[test]
 fn datagrams_are_read(rt: HostRuntime) {
-    for (octets, want) in DATAGRAMS {
-        assert!(rt; read(octets) == want);
+    for (octets, want) in &DATAGRAMS {
+        assert!(rt; read(octets) == *want);
     }
 }
 
@@ -65,21 +65,26 @@ const SENT: [([u8; 2], [u8; 12]); 2] = [
     ),
 ];
 
+const HEAD: Head = Head {
+    source: 5_000,
+    destination: 5_001,
+};
+
+/// Whether a datagram is written so, and its header alone.
+fn is_written_so(payload: &[u8; 2], want: &[u8; 12]) -> bool {
+    let mut out = [7; 12];
+    out[8..10].copy_from_slice(payload);
+    let payload_sum = sum(&out[8..10]);
+    let len = HEAD.emit(A, B, 2, payload_sum, &mut out);
+    let mut header = [7; 9];
+    HEAD.emit_summed(A, B, 2, sum(payload), &mut header);
+    len == 10 && out == *want && header[..8] == want[..8] && header[8] == 7
+}
+
 #[test]
 fn datagrams_are_written(rt: HostRuntime) {
-    let head = Head {
-        source: 5_000,
-        destination: 5_001,
-    };
-    for (payload, want) in SENT {
-        let mut out = [7; 12];
-        out[8..10].copy_from_slice(&payload);
-        let payload_sum = sum(&out[8..10]);
-        let len = head.emit(A, B, 2, payload_sum, &mut out);
-        assert!(rt; (len, out) == (10, want));
-        let mut header = [7; 9];
-        head.emit_summed(A, B, 2, sum(&payload), &mut header);
-        assert!(rt; header[..8] == want[..8] && header[8] == 7);
+    for (payload, want) in &SENT {
+        assert!(rt; is_written_so(payload, want));
     }
 }
 
@@ -98,29 +103,17 @@ fn payloads_are_cut(rt: HostRuntime) -> Result<(), Fail> {
     Ok(())
 }
 
-/// What happens to a queue for 26 octets. A datagram is told by its port and its octets.
-#[derive(Clone, Copy)]
-enum Event {
-    Push(u16, &'static [u8]),
-    /// It has no room.
-    Refused(u16, &'static [u8]),
-    Pop,
+/// A port of `A`.
+fn from(port: u16) -> Endpoint {
+    Endpoint { addr: A, port }
 }
 
-/// Whether the event answers what it says.
-fn answers(queue: &mut Queue, event: Event) -> bool {
-    match event {
-        Event::Push(port, octets) => queue.push(Endpoint { addr: A, port }, octets) == Ok(()),
-        Event::Refused(port, octets) => {
-            queue.push(Endpoint { addr: A, port }, octets) == Err(QueueFault::NoRoom)
-        }
-        Event::Pop => queue.pop().is_some(),
-    }
-}
+/// A datagram in a queue: its port and its octets.
+type Told = (u16, [u8; 3]);
 
 /// The port and the octets of the first datagram of a queue, where it came from `A` and has three, which are copied in two parts
 /// and have the queue's sum.
-fn first_of(queue: &Queue) -> Option<(u16, [u8; 3])> {
+fn first_of(queue: &Queue) -> Option<Told> {
     let entry = queue.first()?;
     if entry.endpoint.addr != A || entry.len != 3 {
         return None;
@@ -134,63 +127,55 @@ fn first_of(queue: &Queue) -> Option<(u16, [u8; 3])> {
     Some((entry.endpoint.port, octets))
 }
 
-/// Events, what is the first datagram after each, and the most octets that have room then. A datagram counts 8 octets beside
-/// its own.
-const EVENTS: [(Event, Option<(u16, [u8; 3])>, Option<usize>); 24] = [
-    (Event::Push(1, b"abc"), Some((1, *b"abc")), Some(7)),
-    (Event::Push(2, &[2; 3]), Some((1, *b"abc")), None),
-    (Event::Refused(9, b"xyz"), Some((1, *b"abc")), None),
-    (Event::Pop, Some((2, [2; 3])), Some(7)),
-    (Event::Push(3, &[3; 3]), Some((2, [2; 3])), None),
-    (Event::Refused(9, b"xyz"), Some((2, [2; 3])), None),
-    (Event::Pop, Some((3, [3; 3])), Some(7)),
-    (Event::Push(4, &[4; 3]), Some((3, [3; 3])), None),
-    (Event::Refused(9, b"xyz"), Some((3, [3; 3])), None),
-    (Event::Pop, Some((4, [4; 3])), Some(7)),
-    (Event::Push(5, &[5; 3]), Some((4, [4; 3])), None),
-    (Event::Refused(9, b"xyz"), Some((4, [4; 3])), None),
-    (Event::Pop, Some((5, [5; 3])), Some(7)),
-    (Event::Push(6, &[6; 3]), Some((5, [5; 3])), None),
-    (Event::Refused(9, b"xyz"), Some((5, [5; 3])), None),
-    (Event::Pop, Some((6, [6; 3])), Some(7)),
-    (Event::Push(7, &[7; 3]), Some((6, [6; 3])), None),
-    (Event::Refused(9, b"xyz"), Some((6, [6; 3])), None),
-    (Event::Pop, Some((7, [7; 3])), Some(7)),
-    (Event::Push(8, &[8; 3]), Some((7, [7; 3])), None),
-    (Event::Refused(9, b"xyz"), Some((7, [7; 3])), None),
-    (Event::Pop, Some((8, [8; 3])), Some(7)),
-    (Event::Push(9, b""), Some((8, [8; 3])), None),
-    (Event::Refused(9, b"z"), Some((8, [8; 3])), None),
-];
+/// Whether this is the first datagram, and so many octets have room. A datagram counts 8 octets beside its own.
+fn waits(queue: &Queue, first: Told, room: Option<usize>) -> bool {
+    first_of(queue) == Some(first) && queue.room() == room
+}
 
+/// Whether a datagram fills the queue behind the first one, so that another is refused, and is the first once that one is taken.
+fn goes_through(queue: &mut Queue, first: Told, new: Told) -> bool {
+    queue.push(from(new.0), &new.1) == Ok(())
+        && waits(queue, first, None)
+        && queue.push(from(9), b"xyz") == Err(QueueFault::NoRoom)
+        && waits(queue, first, None)
+        && queue.pop().is_some()
+        && waits(queue, new, Some(7))
+}
+
+/// Datagrams go through a queue for 26 octets one behind the other, often enough that they come round its end.
 #[test]
 fn first_in_first_out(rt: HostRuntime) -> Result<(), Fail> {
     let mut queue = Queue::with_capacity(rt.alloc(), 26)?;
-    assert!(rt; (queue.first(), queue.pop(), queue.room()) == (None, None, Some(18)));
-    for (number, (event, first, room)) in EVENTS.into_iter().enumerate() {
-        assert!(rt; answers(&mut queue, event), "event {number}");
-        assert!(rt;
-            (first_of(&queue), queue.room()) == (first, room),
-            "event {number}"
-        );
+    assert!(rt; queue.first().is_none() && queue.pop().is_none() && queue.room() == Some(18));
+    let mut first = (1, *b"abc");
+    assert!(rt; queue.push(from(1), b"abc") == Ok(()) && waits(&queue, first, Some(7)));
+    for octet in 2..9 {
+        let new = (u16::from(octet), [octet; 3]);
+        assert!(rt; goes_through(&mut queue, first, new));
+        first = new;
     }
+    assert!(rt; queue.push(from(9), b"") == Ok(()) && waits(&queue, first, None));
+    assert!(rt; queue.push(from(9), b"z") == Err(QueueFault::NoRoom) && waits(&queue, first, None));
     Ok(())
 }
+
+/// Datagrams that come, in their order.
+const PUSHED: [Told; 3] = [(1, *b"abc"), (2, *b"def"), (3, *b"ghi")];
+
+/// The same, with the first of them behind the others.
+const TURNED: [Told; 3] = [(2, *b"def"), (3, *b"ghi"), (1, *b"abc")];
 
 #[test]
 fn the_first_goes_behind_the_others(rt: HostRuntime) -> Result<(), Fail> {
     let mut queue = Queue::with_capacity(rt.alloc(), CAPACITY)?;
     queue.requeue();
     assert!(rt; queue.first().is_none());
-    for (port, octets) in [(1, b"abc"), (2, b"def"), (3, b"ghi")] {
-        assert!(rt; answers(&mut queue, Event::Push(port, octets)));
+    for (port, octets) in &PUSHED {
+        assert!(rt; queue.push(from(*port), octets) == Ok(()));
     }
     queue.requeue();
-    for (port, octets) in [(2, *b"def"), (3, *b"ghi"), (1, *b"abc")] {
-        assert!(rt;
-            first_of(&queue) == Some((port, octets)),
-            "from port {port}"
-        );
+    for first in &TURNED {
+        assert!(rt; first_of(&queue) == Some(*first));
         queue.pop();
     }
     assert!(rt; queue.first().is_none());
@@ -201,12 +186,8 @@ fn the_first_goes_behind_the_others(rt: HostRuntime) -> Result<(), Fail> {
 fn sixty_four_wait_at_most(rt: HostRuntime) -> Result<(), Fail> {
     let mut queue = Queue::with_capacity(rt.alloc(), CAPACITY)?;
     for port in 0..64 {
-        assert!(rt;
-            answers(&mut queue, Event::Push(port, b"")),
-            "from port {port}"
-        );
+        assert!(rt; queue.push(from(port), b"") == Ok(()));
     }
-    assert!(rt; queue.room() == None);
-    assert!(rt; answers(&mut queue, Event::Refused(64, b"")));
+    assert!(rt; queue.room() == None && queue.push(from(64), b"") == Err(QueueFault::NoRoom));
     Ok(())
 }

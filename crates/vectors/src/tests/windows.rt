@@ -34,6 +34,15 @@ const FIRST_WINDOWS: [(u16, bool, u32); 3] = [
     (1_460, true, 1_460),
 ];
 
+/// The first window, where segments may be so great.
+fn first_window(smss: u16, resent: bool) -> Option<u32> {
+    if 64 <= smss && smss <= 1_460 {
+        Some(Cwnd::new(smss, resent).window())
+    } else {
+        None
+    }
+}
+
 /// Events with segments of 1,460 octets, each with the window after it, in octets.
 const RUNS: [&[(Event, u32)]; 3] = [
     // slow start
@@ -61,18 +70,13 @@ const RUNS: [&[(Event, u32)]; 3] = [
 
 #[test]
 fn windows(rt: HostRuntime) {
-    for (smss, resent, want) in FIRST_WINDOWS {
-        assert!(rt; 64 <= smss && smss <= 1_460);
-        assert!(rt;
-            Cwnd::new(smss, resent).window() == want,
-            "with segments of {smss}"
-        );
+    for (smss, resent, want) in &FIRST_WINDOWS {
+        assert!(rt; first_window(*smss, *resent) == Some(*want));
     }
-    for run in RUNS {
+    for run in &RUNS {
         let mut cwnd = Cwnd::new(1_460, false);
-        for (event, want) in run {
-            assert!(rt; answers(&mut cwnd, event), "before a window of {want}");
-            assert!(rt; cwnd.window() == *want);
+        for (event, want) in *run {
+            assert!(rt; answers(&mut cwnd, event) && cwnd.window() == *want);
         }
     }
 }
@@ -81,9 +85,8 @@ fn windows(rt: HostRuntime) {
 fn recoveries(rt: HostRuntime) {
     let mut cwnd = Cwnd::new(1_460, false);
     assert!(rt; (cwnd.ssthresh(), cwnd.is_recovering()) == (65_535, false));
-    for third in [false, false, true] {
-        assert!(rt; cwnd.duplicate(8_760) == third);
-        assert!(rt; cwnd.is_recovering() == third);
+    for third in &[false, false, true] {
+        assert!(rt; cwnd.duplicate(8_760) == *third && cwnd.is_recovering() == *third);
     }
     assert!(rt; cwnd.ssthresh() == 4_380);
     cwnd.acked(1_460);

@@ -48,6 +48,54 @@ b recv 2 100
   E8 EAGAIN
 ";
 
+/// The same with absolute numbers. a's SYN has the last number of 32 bits, so that its first octet has 0, and b's SYN has 7.
+pub const FIRST_ABSOLUTE: &str =
+    "      a                                                                        b
+b socket tcp
+  id 1
+b bind 1 80
+  ok
+b listen 1 1
+  ok
+a socket tcp
+  id 1
+a connect 1 80 4294967295
+  started
+pass 7
+0     |- arp request 02:00:00:00:00:01 10.0.0.1 00:00:00:00:00:00 10.0.0.2 --->|
+0     |                                                                > taken |
+1     |<----- arp reply 02:00:00:00:00:02 10.0.0.2 02:00:00:00:00:01 10.0.0.1 -|
+1     | taken <                                                                |
+  a 1 b 1
+pass 7
+2     |- tcp 49152 80 S seq 4294967295 win 65535 data 0 ---------------------->|
+2     |                                                                > taken |
+3     |<------------------------ tcp 80 49152 SA seq 7 ack 0 win 65535 data 0 -|
+3     | taken <                                                                |
+  a 1 b 1
+pass 7
+4     |- tcp 49152 80 A seq 0 ack 8 win 65535 data 0 ------------------------->|
+4     |                                                                > taken |
+  a 1 b 0
+b accept 1
+  id 2 10.0.0.1 49152
+a send 1 hello
+  sent 5
+a emit
+5     |- tcp 49152 80 PA seq 0 ack 8 win 65535 data 5 ------------------------>|
+  frame 5 60
+b deliver 5 0
+5     |                                                                > taken |
+  taken
+b deliver 5 0
+5     |                                                          > taken again |
+  taken
+b recv 2 100
+  octets hello
+b recv 2 100
+  E8 EAGAIN
+";
+
 /// examples/handshake.txt
 pub const HANDSHAKE: &str =
     "      a                                                                        b
