@@ -1,5 +1,3 @@
-pub mod LineLemmas
-pub mod StepLemmas
 pub mod SimLemmas
 pub mod PlayLemmas
 pub mod RunLemmas
@@ -7,4 +5,3 @@ pub mod HexLemmas
 pub mod CapturedLemmas
 pub mod RecordingLemmas
 pub mod LadderLemmas
-pub mod ProgressLemmas

@@ -1,5 +1,5 @@
 -- Which outcomes of a script are due.
-use Rattle.std.proofs.Common.{◌≡◌, ℕ, ◌≤◌, List, Option, Some, None, Result, Ok, Err, true, false, ◌⊎◌, inl, inr, length, refl, ap, ◌∙◌, arith, IfErr, IfSome, nat_lt, if◌then◌else◌, option_map}
+use Rattle.std.proofs.Common.{◌≡◌, ℕ, ◌≤◌, List, Option, Some, None, Result, Ok, Err, true, false, ◌⊎◌, inl, inr, length, refl, ap, ◌∙◌, arith, subst, sym, IfErr, IfSome, nat_lt, if◌then◌else◌, option_map}
 use Rattle.std.specs.Result.{IsErrAnd}
 use Rattle.std.specs.Option.{IsSomeAnd}
 use Rattle.std.proofs.lemmas.Grind.{common_steps}
@@ -14,6 +14,11 @@ use Rattle.commands.specs.declared.fault.TextFault.TheVariants.{Line, TooLong, N
 pub passed_on : {A : Type 0} (r : Result A TextFault) (f : TextFault) → IsErrAnd r (λ e. e ≡ f) → r ≡ Err f
 passed_on (Ok x) f is = absurd is
 passed_on (Err e) f is = ap Err is
+
+-- what holds of the error that a `?` passes on
+pub err_passed : {T E : Type 0} (P : E → Type 0) (r : Result T E) (f : E) → IsErrAnd r (λ e. e ≡ f) → P f → IfErr r P
+err_passed P (Ok x) f is holds = tt
+err_passed P (Err e) f is holds = subst P (sym is) holds
 
 -- what a bad script is reported as
 pub passed_as : (fault : ScriptFault) (o : Option ℕ) → (fault ≡ script.NoMemory) ⊎ IsSomeAnd o (λ n. fault ≡ script.Line n) →

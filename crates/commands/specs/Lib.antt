@@ -1,10 +1,8 @@
 pub use Rattle.devices.specs.Streams
 pub mod Moved
 pub mod Sim
-pub mod Line
 pub mod Play
 pub mod Hex
 pub mod Captured
 pub mod Recording
 pub mod Laddered
-pub mod Progress

@@ -3,13 +3,14 @@
 #![tactic(auto)]
 
 use clap::error::ErrorKind;
-use commands::copying::{Broken, Counting, TURNS, copy_captured};
+use command_line::line;
+use command_line::request::Line;
 use commands::fault::TextFault;
-use commands::progress::Progress;
-use commands::request::Line;
 use commands::sim::Ends;
-use commands::{captured, frame, laddered, line, sim};
+use commands::{captured, frame, laddered, sim};
 use copier::CopyFault;
+use copy_command::copying::{Broken, Counting, TURNS, copy_captured};
+use copy_command::progress::Progress;
 use devices::{Reading, Sink, Source, Writing};
 use ladder::Numbering;
 use recorder::RecordedLink;

@@ -3,7 +3,7 @@
 mod backlog;
 mod captures;
 mod closing;
-mod command_line;
+mod command_words;
 mod copying;
 mod datagrams;
 mod drops;

@@ -2,9 +2,9 @@
 
 use capture::Reader;
 use clock::Moment;
-use commands::copying::{Broken, CopyEnds, Counting, copy_captured};
-use commands::progress::Progress;
 use copier::CopyFault;
+use copy_command::copying::{Broken, CopyEnds, Counting, copy_captured};
+use copy_command::progress::Progress;
 use devices::{Link, MemoryLink, MemorySink, MemorySource, Passage, Sink, Treatment};
 use host::Refusal;
 use recorder::{CaptureFault, RecordedLink};

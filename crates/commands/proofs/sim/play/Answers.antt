@@ -1,5 +1,5 @@
 use Rattle.std.proofs.Common.{refl, ap, ◌∙◌, Err}
-use Rattle.commands.proofs.LineLemmas.{err_passed}
+use Rattle.commands.proofs.SimLemmas.{err_passed}
 use Rattle.commands.proofs.PlayLemmas.{played_none, played_more, cut_by_memory, cut_at_line}
 use Rattle.commands.proofs.sim.play.Goals as goal
 

@@ -1,0 +1,2 @@
+pub use Rattle.devices.specs.Streams
+pub mod Progress
