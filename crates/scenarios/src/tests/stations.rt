@@ -233,6 +233,52 @@ impl Station {
         self.hear(0, &frame[..octets.len().min(1_515)])
     }
 
+    /// Makes a socket, with this id.
+    fn makes(&mut self, kind: Kind, id: SocketId) -> bool {
+        self.host.socket(kind) == Ok(id)
+    }
+
+    fn binds(&mut self, id: SocketId, local: Endpoint, want: Result<(), Refusal>) -> bool {
+        self.host.bind(id, local) == want
+    }
+
+    fn listens(&mut self, id: SocketId) -> bool {
+        self.host.listen(id, 1) == Ok(())
+    }
+
+    fn accepts(&mut self, id: SocketId, accepted: SocketId, peer: Endpoint) -> bool {
+        self.host.accept(id) == Ok((accepted, peer))
+    }
+
+    fn connects(
+        &mut self,
+        isn: u32,
+        id: SocketId,
+        peer: Endpoint,
+        want: Result<(), Refusal>,
+    ) -> bool {
+        self.host.connect(Moment(0), Seq(isn), id, peer) == want
+    }
+
+    fn sends(&mut self, id: SocketId, octets: &[u8], want: Result<usize, Refusal>) -> bool {
+        self.host.send(id, octets) == want
+    }
+
+    fn reads(&mut self, id: SocketId, want: Result<Received, Refusal>) -> bool {
+        self.host.recv(id, &mut [0; 4]) == want
+    }
+
+    /// Sends octets to an endpoint as a datagram.
+    fn sends_to(
+        &mut self,
+        id: SocketId,
+        peer: Endpoint,
+        octets: &[u8],
+        want: Result<usize, Refusal>,
+    ) -> bool {
+        self.host.sendto(id, peer, octets) == want
+    }
+
     /// Reads a datagram, which is to have these octets and to come from there, if it isn't refused so.
     fn receives(&mut self, id: SocketId, octets: &[u8], want: Result<Endpoint, Refusal>) -> bool {
         let mut buffer = [0; 16];
@@ -240,6 +286,66 @@ impl Station {
             Ok((count, from)) => want == Ok(from) && &buffer[..count.min(16)] == octets,
             Err(refusal) => want == Err(refusal),
         }
+    }
+
+    fn closes(&mut self, id: SocketId) -> bool {
+        self.host.close(id) == Ok(())
+    }
+
+    fn has_state(&self, id: SocketId, want: Result<SocketState, Refusal>) -> bool {
+        self.host.state(id) == want
+    }
+
+    fn has_name(&self, id: SocketId, want: Result<Endpoint, Refusal>) -> bool {
+        self.host.sockname(id) == want
+    }
+
+    fn has_peer(&self, id: SocketId, want: Result<Endpoint, Refusal>) -> bool {
+        self.host.peername(id) == want
+    }
+
+    fn has_pair(&self, id: SocketId, want: Option<Pair>) -> bool {
+        self.host.pair_of(id) == want
+    }
+
+    fn is_held(&self, pair: Pair, want: Option<SocketId>) -> bool {
+        self.host.holds(pair) == want
+    }
+
+    fn ticks(&mut self, now: u64) -> bool {
+        self.host.tick(Moment(now));
+        true
+    }
+
+    fn waits_until(&self, want: Option<Moment>) -> bool {
+        self.host.next_deadline() == want
+    }
+
+    fn emits(&mut self, want: Option<usize>) -> bool {
+        self.emit() == want
+    }
+
+    /// The frame that is due goes out, with these octets.
+    fn emits_frame(&mut self, octets: &[u8]) -> bool {
+        self.emit().is_some() && self.sent() == octets
+    }
+
+    fn hears(&mut self, isn: u32, octets: &[u8], want: Result<(), DropCause>) -> bool {
+        self.hear(isn, octets) == want
+    }
+
+    fn hears_changed(
+        &mut self,
+        octets: &[u8],
+        changes: Changes,
+        want: Result<(), DropCause>,
+    ) -> bool {
+        self.hear_changed(octets, changes) == want
+    }
+
+    /// The frame that is due goes out, and reaches the other host.
+    fn passes(&mut self, other: &mut Station, isn: u32) -> bool {
+        self.emit().is_some() && other.hears(isn, self.sent(), Ok(()))
     }
 }
 
@@ -264,36 +370,32 @@ pub(super) fn config(rt: &impl Abort, side: Side) -> Config {
 
 /// Does what is done at `station`, and tells whether it is answered so.
 fn is_answered(station: &mut Station, other: &mut Station, act: Act) -> bool {
-    let host = &mut station.host;
     match act {
-        Act::Socket(id) => host.socket(Kind::Tcp) == Ok(id),
-        Act::DatagramSocket(id) => host.socket(Kind::Udp) == Ok(id),
-        Act::Bind(id, local, want) => host.bind(id, local) == want,
-        Act::Listen(id) => host.listen(id, 1) == Ok(()),
-        Act::Accept(id, accepted, peer) => host.accept(id) == Ok((accepted, peer)),
-        Act::Connect(isn, id, peer, want) => host.connect(Moment(0), Seq(isn), id, peer) == want,
-        Act::Send(id, octets, want) => host.send(id, octets) == want,
-        Act::Recv(id, want) => host.recv(id, &mut [0; 4]) == want,
-        Act::SendTo(id, peer, octets, want) => host.sendto(id, peer, octets) == want,
+        Act::Socket(id) => station.makes(Kind::Tcp, id),
+        Act::DatagramSocket(id) => station.makes(Kind::Udp, id),
+        Act::Bind(id, local, want) => station.binds(id, local, want),
+        Act::Listen(id) => station.listens(id),
+        Act::Accept(id, accepted, peer) => station.accepts(id, accepted, peer),
+        Act::Connect(isn, id, peer, want) => station.connects(isn, id, peer, want),
+        Act::Send(id, octets, want) => station.sends(id, octets, want),
+        Act::Recv(id, want) => station.reads(id, want),
+        Act::SendTo(id, peer, octets, want) => station.sends_to(id, peer, octets, want),
         Act::RecvFrom(id, octets, want) => station.receives(id, octets, want),
-        Act::Close(id) => host.close(id) == Ok(()),
-        Act::State(id, want) => host.state(id) == want,
-        Act::SockName(id, want) => host.sockname(id) == want,
-        Act::PeerName(id, want) => host.peername(id) == want,
-        Act::Pair(id, want) => host.pair_of(id) == want,
-        Act::Holder(pair, want) => host.holds(pair) == want,
-        Act::Tick(now) => {
-            host.tick(Moment(now));
-            true
-        }
-        Act::Emit(want) => station.emit() == want,
-        Act::Sends(octets) => station.emit().is_some() && station.sent() == octets,
+        Act::Close(id) => station.closes(id),
+        Act::State(id, want) => station.has_state(id, want),
+        Act::SockName(id, want) => station.has_name(id, want),
+        Act::PeerName(id, want) => station.has_peer(id, want),
+        Act::Pair(id, want) => station.has_pair(id, want),
+        Act::Holder(pair, want) => station.is_held(pair, want),
+        Act::Tick(now) => station.ticks(now),
+        Act::Emit(want) => station.emits(want),
+        Act::Sends(octets) => station.emits_frame(octets),
         Act::Damage(place) => station.damage(place),
-        Act::Arrive(isn, want) => other.hear(isn, station.sent()) == want,
-        Act::Pass(isn) => station.emit().is_some() && other.hear(isn, station.sent()) == Ok(()),
-        Act::Hear(isn, octets, want) => station.hear(isn, octets) == want,
-        Act::HearChanged(octets, changes, want) => station.hear_changed(octets, changes) == want,
-        Act::Deadline(want) => host.next_deadline() == want,
+        Act::Arrive(isn, want) => other.hears(isn, station.sent(), want),
+        Act::Pass(isn) => station.passes(other, isn),
+        Act::Hear(isn, octets, want) => station.hears(isn, octets, want),
+        Act::HearChanged(octets, changes, want) => station.hears_changed(octets, changes, want),
+        Act::Deadline(want) => station.waits_until(want),
     }
 }
 
@@ -351,19 +453,19 @@ const OF_MESSAGES: [&[Scenario]; 1] = [messages::SCENARIOS];
 
 #[test]
 fn hosts_answer_as_they_should(rt: HostRuntime) {
-    for scenarios in OF_CONNECTIONS {
+    for scenarios in &OF_CONNECTIONS {
         play_all(&rt, rt.alloc(), scenarios);
     }
-    for scenarios in OF_DATAGRAMS {
+    for scenarios in &OF_DATAGRAMS {
         play_all(&rt, rt.alloc(), scenarios);
     }
-    for scenarios in OF_FRAGMENTS {
+    for scenarios in &OF_FRAGMENTS {
         play_all(&rt, rt.alloc(), scenarios);
     }
-    for scenarios in OF_HOPS {
+    for scenarios in &OF_HOPS {
         play_all(&rt, rt.alloc(), scenarios);
     }
-    for scenarios in OF_MESSAGES {
+    for scenarios in &OF_MESSAGES {
         play_all(&rt, rt.alloc(), scenarios);
     }
 }
