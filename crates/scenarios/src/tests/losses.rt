@@ -111,6 +111,17 @@ const SOCKETS_BACK: Course = Course {
 };
 
 impl Dialogue {
+    /// Two hosts that heard nothing.
+    fn new(alloc: Global, isn: u32, network: Network) -> Result<Dialogue, Fail> {
+        Ok(Dialogue {
+            alloc,
+            world: World::new(alloc, config(A), config(B))?,
+            network,
+            isn: Seq(isn),
+            now: Moment(0),
+        })
+    }
+
     /// A caller says a line of a script. Answers what that prints.
     fn ask(&mut self, line: &str) -> Result<String, AllocError> {
         let mut printed = String::new(self.alloc);
@@ -194,6 +205,23 @@ impl Dialogue {
         }
         Ok(())
     }
+
+    /// a asks for a connection.
+    fn opens(&mut self, rt: &impl Abort) -> Result<(), AllocError> {
+        let Seq(isn) = self.isn;
+        let connect = format!(in self.alloc; "a connect 1 80 {isn}")?;
+        self.goes(rt, &LISTENING, 0)?;
+        self.goes(rt, &[(connect.as_str(), "started")], 0)
+    }
+
+    /// The callers say the lines of a course, and its last ones some seconds after the others.
+    fn runs(&mut self, rt: &impl Abort, course: &Course) -> Result<(), AllocError> {
+        self.goes(rt, course.rows, TRIES)?;
+        for _ in 0..TRIES {
+            self.turn()?;
+        }
+        self.goes(rt, course.ends, 0)
+    }
 }
 
 /// Plays a course: whatever the network does, each line has its answer, and both sides end.
@@ -204,21 +232,9 @@ fn plays(
     isn: u32,
     network: Network,
 ) -> Result<(), Fail> {
-    let mut dialogue = Dialogue {
-        alloc,
-        world: World::new(alloc, config(A), config(B))?,
-        network,
-        isn: Seq(isn),
-        now: Moment(0),
-    };
-    dialogue.goes(rt, &LISTENING, 0)?;
-    let connect = format!(in alloc; "a connect 1 80 {isn}")?;
-    dialogue.goes(rt, &[(connect.as_str(), "started")], 0)?;
-    dialogue.goes(rt, course.rows, TRIES)?;
-    for _ in 0..TRIES {
-        dialogue.turn()?;
-    }
-    dialogue.goes(rt, course.ends, 0)?;
+    let mut dialogue = Dialogue::new(alloc, isn, network)?;
+    dialogue.opens(rt)?;
+    dialogue.runs(rt, course)?;
     Ok(())
 }
 
@@ -243,23 +259,25 @@ const MID_TEXT: u32 = 4_294_967_292;
 /// More than the frames of a course on a network that loses none, the two that tell a of b's MAC first.
 const FRAMES: usize = 14;
 
-/// Each course is played from each of the numbers, and then with each of its frames lost or repeated.
-#[test]
-fn courses_end_whatever_the_network_does(rt: HostRuntime) -> Result<(), Fail> {
-    for course in [&IN_TURN, &AT_ONCE, &SOCKETS_BACK] {
-        for isn in NUMBERS {
-            let loses_none = Network {
-                index: FRAMES,
-                times: 0,
-            };
-            plays(&rt, rt.alloc(), course, isn, loses_none)?;
-        }
-        for index in 0..FRAMES {
-            for times in [0, 2] {
-                let network = Network { index, times };
-                plays(&rt, rt.alloc(), course, MID_TEXT, network)?;
-            }
-        }
+/// Plays a course from each of the numbers, and then with each of its frames lost or repeated.
+fn plays_everywhere(rt: &impl Abort, alloc: Global, course: &Course) -> Result<(), Fail> {
+    for isn in &NUMBERS {
+        let loses_none = Network {
+            index: FRAMES,
+            times: 0,
+        };
+        plays(rt, alloc, course, *isn, loses_none)?;
+    }
+    for index in 0..FRAMES {
+        plays(rt, alloc, course, MID_TEXT, Network { index, times: 0 })?;
+        plays(rt, alloc, course, MID_TEXT, Network { index, times: 2 })?;
     }
     Ok(())
+}
+
+#[test]
+fn courses_end_whatever_the_network_does(rt: HostRuntime) -> Result<(), Fail> {
+    plays_everywhere(&rt, rt.alloc(), &IN_TURN)?;
+    plays_everywhere(&rt, rt.alloc(), &AT_ONCE)?;
+    plays_everywhere(&rt, rt.alloc(), &SOCKETS_BACK)
 }
