@@ -71,17 +71,28 @@ def are_of_a_gate(libraries):
         made = f"{crate.folder}/out/rlib"
         if os.path.exists(f"{made}/stamp") or not os.path.isdir(crate.rlib):
             return False
-        texts = [f"{at}/{name}" for it in [*crate.below(), crate] for at, _, names in os.walk(it.folder) if f"{it.folder}/out" not in at for name in names]
+        parts = [f"{it.folder}/{part}" for it in [*crate.below(), crate] for part in load_rt().rtlib.PARTS]
+        texts = [f"{at}/{name}" for part in parts for at, _, names in os.walk(part) for name in names]
         if max(map(os.path.getmtime, texts)) > os.path.getmtime(crate.rlib):
             return False
     return True
 
 
+def unbuilt(libraries):
+    """Returns those that are not built of their present text. The sum of a crate's text has those of all below it, which rt makes anew each time that it
+    comes to them, for minutes in all; here each is made once."""
+    crate = load_rt().rtlib.Crate
+    stamp, crate.stamp = crate.stamp, functools.cache(crate.stamp)
+    try:
+        return [it for it in libraries if not it.is_built()]
+    finally:
+        crate.stamp = stamp
+
+
 def prove(libraries):
     """Proves and builds the libraries, but those that are built, and says how far it is."""
-    rt, left = load_rt(), []
-    if not are_of_a_gate(libraries):
-        left = [it for it in libraries if not it.is_built()]
+    rt = load_rt()
+    left = [] if are_of_a_gate(libraries) else unbuilt(libraries)
     if not left:
         return
     if jobs():

@@ -59,20 +59,52 @@ fn are_as_told(outcomes: &[Result<Answer, Unfair>]) -> bool {
     }
 }
 
+/// A world of the hosts of a script.
+fn fresh(alloc: Global) -> Result<World, Fail> {
+    Ok(World::new(alloc, script::config(A), script::config(B))?)
+}
+
+/// The same with a limit of its own, which no frame meets.
+fn limited(alloc: Global) -> Result<World, Fail> {
+    let (a, b) = (script::config(A), script::config(B));
+    Ok(World::with_limit(alloc, a, b, 1 << 30)?)
+}
+
+/// Runs the script in a world, and answers what each event led to.
+fn run(alloc: Global, world: &mut World) -> Result<Vec<Result<Answer, Unfair>>, Fail> {
+    let events = events(alloc)?;
+    let mut outcomes = Vec::new(alloc);
+    world.run(events.as_slice(), &mut outcomes)?;
+    Ok(outcomes)
+}
+
+/// Whether each event of the script leads to the outcome in its place.
+fn steps_so(
+    alloc: Global,
+    world: &mut World,
+    outcomes: &[Result<Answer, Unfair>],
+) -> Result<bool, Fail> {
+    let mut alike = outcomes.len() == 24;
+    for (event, outcome) in events(alloc)?.into_iter().zip(outcomes.iter()) {
+        alike &= world.step(event) == *outcome;
+    }
+    Ok(alike)
+}
+
+/// Whether both worlds have the same trace and the same openings.
+fn are_alike(one: &World, other: &World) -> bool {
+    one.trace() == other.trace() && one.openings() == other.openings()
+}
+
 /// A run in one world is what its steps are in another.
 #[test]
 fn run_is_step_by_step(rt: HostRuntime) -> Result<(), Fail> {
-    let alloc = rt.alloc();
-    let mut together = World::with_limit(alloc, script::config(A), script::config(B), 1 << 30)?;
-    let mut single = World::new(alloc, script::config(A), script::config(B))?;
-    let mut outcomes = Vec::new(alloc);
-    together.run(events(alloc)?.as_slice(), &mut outcomes)?;
-    assert!(rt; outcomes.len() == 24 && are_as_told(outcomes.as_slice()));
-    for (event, outcome) in events(alloc)?.into_iter().zip(outcomes.iter()) {
-        assert!(rt; single.step(event) == *outcome);
-    }
-    assert!(rt; together.trace() == single.trace());
-    assert!(rt; together.openings() == single.openings());
+    let mut together = limited(rt.alloc())?;
+    let mut single = fresh(rt.alloc())?;
+    let outcomes = run(rt.alloc(), &mut together)?;
+    assert!(rt; are_as_told(outcomes.as_slice()));
+    assert!(rt; steps_so(rt.alloc(), &mut single, outcomes.as_slice())?);
+    assert!(rt; are_alike(&together, &single));
     Ok(())
 }
 
