@@ -1,111 +1,160 @@
 //! A run of a world beside its steps. Whole scripts are run by the tests of `transcripts`.
 
-use super::stations::{self, config};
+use super::stations::{self, ONE, SERVER, TWO, config};
 use ether::Mac;
-use host::Config;
-use ipv4::Addr;
+use host::{Config, Kind, SocketId};
+use ipv4::{Addr, Endpoint};
 use routes::Routes;
-use script::{Command, Script, event};
-use std::alloc::Global;
+use std::alloc::{AllocError, Global};
+use std::process::Abort;
 use std::test::Fail;
+use tcp_segment::Seq;
 use wire_sim::Side::{A, B};
-use wire_sim::{Answer, Event, Unfair, World, WorldFault};
+use wire_sim::{Answer, Call, Event, Side, Unfair, World, WorldFault};
+
+/// What is done at a side.
+#[derive(Clone, Copy)]
+enum Act {
+    /// Its caller makes a socket.
+    Socket,
+    /// Its caller binds a socket.
+    Bind(SocketId, Endpoint),
+    /// Its caller lets a socket take connections, of which one may wait.
+    Listen(SocketId),
+    /// Its caller takes a connection that waits at a socket.
+    Accept(SocketId),
+    /// Its caller opens a connection with this initial number to a peer.
+    Connect(u32, SocketId, Endpoint),
+    /// Its caller writes octets.
+    Send(SocketId, &'static [u8]),
+    /// Its caller reads so many octets at most.
+    Recv(SocketId, usize),
+    /// Its frame that is due goes out.
+    Emit,
+    /// The frame with this index reaches it, with the initial number of what it may open.
+    Deliver(usize, u32),
+}
 
 /// A frame comes that nobody sent; then b listens at port 80, a connects, learns b's MAC, the three segments of the handshake are
 /// exchanged, and b reads what a writes.
-const SCRIPT: &str = "a deliver 0 0
-b socket tcp
-b bind 1 80
-b listen 1 1
-a socket tcp
-a connect 1 80 4294967295
-a emit
-a emit
-b deliver 0 7
-b emit
-b emit
-a deliver 1 7
-a emit
-a emit
-b deliver 2 7
-b emit
-a deliver 3 7
-a emit
-b deliver 4 7
-b accept 1
-a send 1 hello
-a emit
-b deliver 5 0
-b recv 2 100
-";
+const ACTS: &[(Side, Act)] = &[
+    (A, Act::Deliver(0, 0)),
+    (B, Act::Socket),
+    (B, Act::Bind(ONE, SERVER)),
+    (B, Act::Listen(ONE)),
+    (A, Act::Socket),
+    (A, Act::Connect(4_294_967_295, ONE, SERVER)),
+    (A, Act::Emit),
+    (A, Act::Emit),
+    (B, Act::Deliver(0, 7)),
+    (B, Act::Emit),
+    (B, Act::Emit),
+    (A, Act::Deliver(1, 7)),
+    (A, Act::Emit),
+    (A, Act::Emit),
+    (B, Act::Deliver(2, 7)),
+    (B, Act::Emit),
+    (A, Act::Deliver(3, 7)),
+    (A, Act::Emit),
+    (B, Act::Deliver(4, 7)),
+    (B, Act::Accept(ONE)),
+    (A, Act::Send(ONE, b"hello")),
+    (A, Act::Emit),
+    (B, Act::Deliver(5, 0)),
+    (B, Act::Recv(TWO, 100)),
+];
 
-/// The events of that script.
-fn events(alloc: Global) -> Result<Vec<Event>, Fail> {
-    let mut events = Vec::new(alloc);
-    for command in Script::parse(alloc, SCRIPT.as_bytes())?.commands.iter() {
-        if let Command::At(side, action) = command {
-            events.push(event(alloc, *side, action)?)?;
-        }
+/// The event that an act is.
+fn event(alloc: Global, side: Side, act: Act) -> Result<Event, AllocError> {
+    let call = match act {
+        Act::Socket => Call::Socket(Kind::Tcp),
+        Act::Bind(id, local) => Call::Bind { id, local },
+        Act::Listen(id) => Call::Listen { id, backlog: 1 },
+        Act::Accept(id) => Call::Accept { id },
+        Act::Connect(isn, id, peer) => Call::Connect {
+            isn: Seq(isn),
+            id,
+            peer,
+        },
+        Act::Send(id, octets) => Call::Send {
+            id,
+            octets: Vec::from_slice(alloc, octets)?,
+        },
+        Act::Recv(id, len) => Call::Recv { id, len },
+        Act::Emit => return Ok(Event::Emit(side)),
+        Act::Deliver(index, isn) => return Ok(Event::Deliver(side, index, Seq(isn))),
+    };
+    Ok(Event::Call(side, call))
+}
+
+/// Adds the events of the table.
+fn add_events(alloc: Global, events: &mut Vec<Event>) -> Result<(), AllocError> {
+    for (side, act) in ACTS {
+        events.push(event(alloc, *side, *act)?)?;
     }
-    Ok(events)
+    Ok(())
 }
 
-/// No frame of that index was there, and in the end five octets are read.
-fn are_as_told(outcomes: &[Result<Answer, Unfair>]) -> bool {
-    match outcomes {
-        [Err(Unfair::NoSuchFrame), .., Ok(Answer::Octets(octets))] => octets.as_slice()
-            == b"hello".as_slice(),
-        _ => false,
-    }
-}
-
-/// A world of the hosts of a script.
-fn fresh(alloc: Global) -> Result<World, Fail> {
-    Ok(World::new(alloc, script::config(A), script::config(B))?)
-}
-
-/// The same with a limit of its own, which no frame meets.
-fn limited(alloc: Global) -> Result<World, Fail> {
-    let (a, b) = (script::config(A), script::config(B));
-    Ok(World::with_limit(alloc, a, b, 1 << 30)?)
-}
-
-/// Runs the script in a world, and answers what each event led to.
-fn run(alloc: Global, world: &mut World) -> Result<Vec<Result<Answer, Unfair>>, Fail> {
-    let events = events(alloc)?;
-    let mut outcomes = Vec::new(alloc);
-    world.run(events.as_slice(), &mut outcomes)?;
-    Ok(outcomes)
-}
-
-/// Whether each event of the script leads to the outcome in its place.
-fn steps_so(
+/// Gives each event of the table in turn to the world, whose outcome is to be the one beside it.
+fn steps(
+    rt: &impl Abort,
     alloc: Global,
     world: &mut World,
     outcomes: &[Result<Answer, Unfair>],
-) -> Result<bool, Fail> {
-    let mut alike = outcomes.len() == 24;
-    for (event, outcome) in events(alloc)?.into_iter().zip(outcomes.iter()) {
-        alike &= world.step(event) == *outcome;
+) -> Result<(), AllocError> {
+    assert_eq!(rt; outcomes.len(), ACTS.len());
+    for (index, ((side, act), outcome)) in ACTS.iter().zip(outcomes.iter()).enumerate() {
+        let event = event(alloc, *side, *act)?;
+        assert!(rt; world.step(event) == *outcome, "event {index}");
     }
-    Ok(alike)
+    Ok(())
 }
 
-/// Whether both worlds have the same trace and the same openings.
-fn are_alike(one: &World, other: &World) -> bool {
-    one.trace() == other.trace() && one.openings() == other.openings()
+/// No frame of that index was there, and in the end five octets are read.
+fn first_and_last(rt: &impl Abort, outcomes: &[Result<Answer, Unfair>]) {
+    match outcomes {
+        [Err(Unfair::NoSuchFrame), .., Ok(Answer::Octets(octets))] => {
+            assert!(rt;
+                octets.as_slice() == b"hello".as_slice(),
+                "other octets are read"
+            );
+        }
+        _ => panic!(rt; "the first or the last outcome is another"),
+    }
 }
 
 /// A run in one world is what its steps are in another.
+fn compare(
+    rt: &impl Abort,
+    alloc: Global,
+    together: &mut World,
+    single: &mut World,
+) -> Result<(), Fail> {
+    let mut events = Vec::new(alloc);
+    add_events(alloc, &mut events)?;
+    let mut outcomes = Vec::new(alloc);
+    together.run(events.as_slice(), &mut outcomes)?;
+    first_and_last(rt, outcomes.as_slice());
+    steps(rt, alloc, single, outcomes.as_slice())?;
+    assert!(rt; together.trace() == single.trace());
+    assert!(rt; together.openings() == single.openings());
+    Ok(())
+}
+
 #[test]
 fn run_is_step_by_step(rt: HostRuntime) -> Result<(), Fail> {
-    let mut together = limited(rt.alloc())?;
-    let mut single = fresh(rt.alloc())?;
-    let outcomes = run(rt.alloc(), &mut together)?;
-    assert!(rt; are_as_told(outcomes.as_slice()));
-    assert!(rt; steps_so(rt.alloc(), &mut single, outcomes.as_slice())?);
-    assert!(rt; are_alike(&together, &single));
-    Ok(())
+    let alloc = rt.alloc();
+    let (a, b) = (
+        config(&rt, stations::Side::A),
+        config(&rt, stations::Side::B),
+    );
+    let mut together = World::with_limit(alloc, a, b, 1 << 30).expect(&rt, "memory for a world");
+    let (a, b) = (
+        config(&rt, stations::Side::A),
+        config(&rt, stations::Side::B),
+    );
+    let mut single = World::new(alloc, a, b).expect(&rt, "memory for a world");
+    compare(&rt, alloc, &mut together, &mut single)
 }
 
 /// Two hosts with one MAC or one address are no world.
