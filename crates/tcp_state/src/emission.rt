@@ -1,6 +1,6 @@
 //! What is due, and how it goes out (RFC 9293 section 3.8).
 
-ghost use Rattle.std.specs.Prelude.{◌≡◌, ◌+◌, ◌<◌, ◌≤◌, ◌++◌, length, drop, IfSome, MatchOption, option_map, is_some, if◌then◌else◌, ◌||◌, ◌==◌, ◌^◌, true, false, Some};
+ghost use Rattle.std.specs.Prelude.{◌≡◌, ◌+◌, ◌<◌, ◌≤◌, ◌++◌, length, drop, IfSome, is_some, if◌then◌else◌, ◌||◌, ◌==◌, ◌^◌, true, false, Some};
 ghost use Rattle.inet_sum.specs.Sum.{sum_of};
 ghost use Rattle.tcp_state.specs.View.{is_opening, is_syn_sent, most_outstanding};
 ghost use Rattle.tcp_state.specs.Stream.{outstanding};
@@ -208,27 +208,26 @@ impl Connection {
         Due::Probe
     }
 
-    /// Writes the segment that is due first to the front of `out`, and answers its length in octets.
-    ///
-    /// None where nothing is due; then nothing changes.
-    pub fn emit(&mut self, now: Moment, out: &mut [u8]) -> Option<usize>
+    /// Writes the segment that is due first, which `due` found, to the front of `out`, and answers its length in octets.
+    pub fn emit(&mut self, due: Due, now: Moment, out: &mut [u8]) -> usize
+        requires due { first_due self.old ≡ Some due }
         requires room { MOST_SEGMENT ≤ length out.old }
-        ensures answer { result ≡ option_map (emitted_len self.old) (first_due self.old) }
-        ensures bound { IfSome result (λ len. len ≤ MOST_SEGMENT) }
-        ensures frame { MatchOption (first_due self.old) (out.new ≡ out.old) (λ due. out.new ≡ segment_octets self.old due ++ drop (emitted_len self.old due) out.old) }
-        ensures after { MatchOption (first_due self.old) (self.new ≡ self.old) (λ due. self.new ≡ after_emitted self.old due now) }
+        ensures len { result ≡ emitted_len self.old due }
+        ensures bound { result ≤ MOST_SEGMENT }
+        ensures frame { out.new ≡ segment_octets self.old due ++ drop result out.old }
+        ensures after { self.new ≡ after_emitted self.old due now }
     {
-        let due = self.due()?;
         let len = self.write(due, out);
         self.note_emitted(due, now);
         self.clock(false, now);
-        Some(len)
+        len
     }
 
-    /// Writes the segment for what is due to the front of `out`.
+    /// Writes the segment that is due first to the front of `out`.
     fn write(&self, due: Due, out: &mut [u8]) -> usize
-        requires may { MayGoOut self.now due }
+        requires due { first_due self.now ≡ Some due }
         requires room { MOST_SEGMENT ≤ length out.old }
+        ensures may { MayGoOut self.now due }
         ensures len { result ≡ emitted_len self.now due }
         ensures bound { result ≤ MOST_SEGMENT }
         ensures frame { out.new ≡ segment_octets self.now due ++ drop result out.old }

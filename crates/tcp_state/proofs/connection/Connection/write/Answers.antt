@@ -1,13 +1,32 @@
-use Rattle.std.proofs.Common.{◌≡◌, ◌+◌, ◌-◌, ◌*◌, ◌≤◌, ◌++◌, length, drop, arith, rules, sym, ◌∙◌, ap}
-use Rattle.tcp_state.specs.Due.{head_of, octets_of, segment_octets, emitted_len}
+use Rattle.std.proofs.Common.{◌≡◌, ◌+◌, ◌-◌, ◌*◌, ◌≤◌, ◌++◌, length, drop, Some, arith, rules, sym, ◌∙◌, ap, subst}
+use Rattle.tcp_state.specs.declared.emission.Due.{Due}
+use Rattle.tcp_state.specs.View.{View, IsSound}
+use Rattle.tcp_state.specs.Due.{MayGoOut, first_due, head_of, octets_of, segment_octets, emitted_len}
 use Rattle.tcp_state.specs.Inside.{view_of}
 use Rattle.tcp_state.proofs.Framing.{framed}
+use Rattle.tcp_state.proofs.GoesOut.{due-may}
 use Rattle.tcp_state.proofs.Sizes.{emitted_short}
 use Rattle.tcp_state.proofs.connection.Connection.write.Goals as goal
 
+-- what is due first may go out, by what holds of every connection
+may : (inside v : View) (due : Due) → inside ≡ v → IsSound inside → first_due v ≡ Some due → MayGoOut v due
+may inside v due is sound first = due-may v due (subst IsSound is sound) first
+
+pub head-head-requires : goal.head-head-requires
+head-head-requires c = may (view_of c.self.inside) c.args.self.now c.args.due c.self.view_is c.self.invariant c.requires.due
+
+pub octet_count-count-requires : goal.octet_count-count-requires
+octet_count-count-requires c = may (view_of c.self.inside) c.args.self.now c.args.due c.self.view_is c.self.invariant c.requires.due
+
+pub copy_octets-sum-requires-clause-may : goal.copy_octets-sum-requires-clause-may
+copy_octets-sum-requires-clause-may c = may (view_of c.self.inside) c.args.self.now c.args.due c.self.view_is c.self.invariant c.requires.due
+
+pub returns-clause-may : goal.returns-clause-may
+returns-clause-may c = may (view_of c.self.inside) c.args.self.now c.args.due c.self.view_is c.self.invariant c.requires.due
+
 pub returns-clause-bound : goal.returns-clause-bound
 returns-clause-bound c =
-    let short : emitted_len c.args.self.now c.args.due ≤ 1480 = emitted_short c.args.self.now c.args.due c.requires.may in
+    let short : emitted_len c.args.self.now c.args.due ≤ 1480 = emitted_short c.args.self.now c.args.due (returns-clause-may c) in
     let len : c.emit.result ≡ emitted_len c.args.self.now c.args.due = search rules in
     omega (arith, short, len)
 
