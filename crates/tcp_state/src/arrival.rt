@@ -99,7 +99,7 @@ impl Connection {
         if before.starts_wait(self.state, self.owes_reset) {
             self.since = now;
         }
-        self.clock(moved, now);
+        self.update_timers(moved, now);
     }
 
     /// A segment that moved SND.UNA is progress, and so is one that answers a probe.

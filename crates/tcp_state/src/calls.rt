@@ -73,7 +73,7 @@ impl Connection {
     {
         if !octets.is_empty() {
             self.sender.append(octets);
-            self.clock(false, now);
+            self.update_timers(false, now);
         }
     }
 
@@ -138,7 +138,7 @@ impl Connection {
             return Err(Refusal::ENOTCONN);
         }
         self.state = self.state.beyond_shutdown();
-        self.clock(false, now);
+        self.update_timers(false, now);
         Ok(())
     }
 }

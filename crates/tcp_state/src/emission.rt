@@ -219,7 +219,7 @@ impl Connection {
     {
         let len = self.write(due, out);
         self.note_emitted(due, now);
-        self.clock(false, now);
+        self.update_timers(false, now);
         len
     }
 

@@ -157,6 +157,6 @@ impl Connection {
         }
         self.state = self.state.beyond_shutdown();
         self.is_released = true;
-        self.clock(false, now);
+        self.update_timers(false, now);
     }
 }

@@ -273,7 +273,7 @@ impl Pace {
     }
 
     /// The end of an event, by which the probe timer runs or doesn't; `goes_on` tells whether it ran before.
-    pub(crate) fn clock(&mut self, is_probing: bool, goes_on: bool)
+    pub(crate) fn update_probing(&mut self, is_probing: bool, goes_on: bool)
         ensures after { self.new ≡ record self.old { interval = if is_probing && goes_on then self.old.interval else self.old.timeout.rto; owes_probe = self.old.owes_probe && is_probing } }
         ensures paced { IsPaced self.new }
     {

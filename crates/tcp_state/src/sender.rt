@@ -245,7 +245,10 @@ impl Sender {
     pub(crate) fn waits_for_more(&self, cwnd: u32, is_overridden: bool) -> bool
         ensures { result ≡ waits_for_more self.now cwnd is_overridden }
     {
-        self.sendable(cwnd) > 0 && !self.is_worth_sending(cwnd, is_overridden)
+        self.unsent() > 0
+            && !is_overridden
+            && self.sendable(cwnd) > 0
+            && !self.is_worth_sending(cwnd, false)
     }
 
     /// So many numbers from the oldest unacknowledged one on went out: SND.NXT is the later of what it was and the number after them.

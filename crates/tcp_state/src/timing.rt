@@ -1,9 +1,9 @@
 //! The timers: when each runs, and what a tick does (RFC 6298 section 5, RFC 9293 sections 3.8.1, 3.8.6 and 3.10.8).
 
-ghost use Rattle.std.specs.Prelude.{◌≡◌, false, if◌then◌else◌};
+ghost use Rattle.std.specs.Prelude.{◌≡◌, false, None, if◌then◌else◌};
 ghost use Rattle.clock.specs.Moments.{has_come};
 ghost use Rattle.retransmit.specs.Deadlines.{next_of};
-ghost use Rattle.tcp_state.specs.Timing.{has_unacknowledged, probes, retransmits, awaits_second, awaits_more, running, retransmission_timer, probe_timer, delayed_ack_timer, override_timer, clocked, expires, gives_up, retransmission_expired, probe_expired, after_expiry, delayed_ack_expired, override_expired, after_timers, after_tick, tick_fate, deadline};
+ghost use Rattle.tcp_state.specs.Timing.{has_unacknowledged, probes, awaits_more, running, override_timer, clocked, expires, gives_up, retransmission_expired, probe_expired, after_expiry, delayed_ack_expired, override_expired, after_timers, after_tick, tick_fate, deadline};
 
 use crate::calls::Refusal;
 use crate::connection::{Connection, Fate};
@@ -33,13 +33,6 @@ impl Connection {
         !self.state.is_opening() && self.sender.window() == 0 && self.has_unacknowledged()
     }
 
-    /// Whether something is outstanding that is not probed with.
-    fn retransmits(&self) -> bool
-        ensures { result ≡ retransmits self.now }
-    {
-        self.sender.outstanding() > 0 && !self.probes()
-    }
-
     /// Whether new octets wait for more.
     fn awaits_more(&self) -> bool
         ensures { result ≡ awaits_more self.now }
@@ -52,63 +45,36 @@ impl Connection {
 
     /// At the end of an event: the timers run, stop or begin as the connection wants them. `moved` tells whether the event moved
     /// SND.UNA.
-    pub(crate) fn clock(&mut self, moved: bool, now: Moment)
+    pub(crate) fn update_timers(&mut self, moved: bool, now: Moment)
         ensures { self.new ≡ clocked moved self.old now }
     {
-        let timers = Timers {
-            retransmission: self.retransmission_timer(moved, now),
-            probe: self.probe_timer(now),
-            delayed_ack: self.delayed_ack_timer(now),
-            overriding: self.override_timer(now),
-        };
         let is_probing = self.probes();
-        self.pace.clock(is_probing, self.timers.probe.is_some());
-        self.timers = timers;
+        let retransmits = self.sender.outstanding() > 0 && !is_probing;
+        let awaits_second = self.delays_ack && !self.owes_ack;
+        let timeout = u64::from(self.pace.timeout());
+        self.start_override(now);
+        self.pace
+            .update_probing(is_probing, self.timers.probe.is_some());
+        if moved {
+            self.timers.clear(TimerKind::Retransmission);
+        }
+        run_while(retransmits, &mut self.timers.retransmission, now, timeout);
+        run_while(is_probing, &mut self.timers.probe, now, timeout);
+        run_while(
+            awaits_second,
+            &mut self.timers.delayed_ack,
+            now,
+            DELAYED_ACK,
+        );
     }
 
-    /// When the retransmission timer expires from now on.
-    fn retransmission_timer(&self, moved: bool, now: Moment) -> Option<Moment>
-        ensures { result ≡ retransmission_timer self.now moved now }
+    /// New octets wait no longer than so long from now on. Once the timer runs, only their going out ends it.
+    fn start_override(&mut self, now: Moment)
+        ensures { self.new ≡ record self.old { timers = record self.old.timers { overriding = override_timer self.old now } } }
     {
-        if !self.retransmits() {
-            return None;
+        if self.timers.overriding.is_none() && self.awaits_more() {
+            self.timers.set(TimerKind::Override, now.after(OVERRIDE));
         }
-        let runs = if moved {
-            None
-        } else {
-            self.timers.retransmission
-        };
-        running(runs, now, u64::from(self.pace.timeout()))
-    }
-
-    /// When the probe timer expires from now on.
-    fn probe_timer(&self, now: Moment) -> Option<Moment>
-        ensures { result ≡ probe_timer self.now now }
-    {
-        if !self.probes() {
-            return None;
-        }
-        running(self.timers.probe, now, u64::from(self.pace.timeout()))
-    }
-
-    /// When the acknowledgement that is delayed is due.
-    fn delayed_ack_timer(&self, now: Moment) -> Option<Moment>
-        ensures { result ≡ delayed_ack_timer self.now now }
-    {
-        if !self.delays_ack || self.owes_ack {
-            return None;
-        }
-        running(self.timers.delayed_ack, now, DELAYED_ACK)
-    }
-
-    /// When new octets have waited long enough.
-    fn override_timer(&self, now: Moment) -> Option<Moment>
-        ensures { result ≡ override_timer self.now now }
-    {
-        if !self.awaits_more() {
-            return self.timers.overriding;
-        }
-        running(self.timers.overriding, now, OVERRIDE)
     }
 
     /// Lets the timers act whose moment has come: what is outstanding goes out again, a closed window is probed, an acknowledgement or
@@ -131,7 +97,7 @@ impl Connection {
         }
         if self.has_come(now) {
             self.tick_timers(now);
-            self.clock(false, now);
+            self.update_timers(false, now);
         }
         Fate::Stays
     }
@@ -216,9 +182,13 @@ fn left_if(is_left: bool) -> Fate
     if is_left { Fate::Removed } else { Fate::Stays }
 }
 
-/// A timer that goes on where it runs, and else begins.
-fn running(deadline: Option<Moment>, now: Moment, milliseconds: u64) -> Option<Moment>
-    ensures { result ≡ running deadline now milliseconds }
+/// A timer runs where something waits for it: it goes on where it runs already, and else begins.
+fn run_while(waits: bool, timer: &mut Option<Moment>, now: Moment, milliseconds: u64)
+    ensures { timer.new ≡ (if waits then running timer.old now milliseconds else None) }
 {
-    Some(deadline.unwrap_or(now.after(milliseconds)))
+    if !waits {
+        *timer = None;
+    } else if timer.is_none() {
+        *timer = Some(now.after(milliseconds));
+    }
 }

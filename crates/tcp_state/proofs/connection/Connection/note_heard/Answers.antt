@@ -42,6 +42,6 @@ returns c =
     c.ne-moved.ensures ∙ ap (λ n. not (c.args.before.una.0 == n)) (c.una.ensures ∙ ap (λ (x : View). x.sending.una) c.self.view_is) in
     let starts = c.starts_wait.ensures
     ∙ ap (λ (x : View). c.args.before.repeats_fin || begins_wait c.args.before.state x.state || (x.owes_reset && not c.args.before.owes_reset)) c.self-2.view_is in
-    c.clock.ensures
+    c.update_timers.ensures
     ∙ noted c.args.before c.args.self.now c.note_progress.new.self signal c.if-starts_wait.self c.ne-moved.result c.starts_wait.result c.args.now
     c.note_progress.ensures c.note_signal.ensures since moved starts
