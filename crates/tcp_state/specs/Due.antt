@@ -21,14 +21,7 @@ use Rattle.tcp_state.specs.Timing.{probes, clocked}
 abbrev pub probe_stretch : View → Stretch
 probe_stretch v = if length v.sending.held == 0 then record { offset = 0; count = 0; fin = true } else record { offset = 0; count = 1; fin = false }
 
--- what of the stream a segment brings: where it begins, as a distance past SND.UNA, how many octets, and whether the FIN
-abbrev pub stretch_of : View → Due → Stretch
-stretch_of v (Text stretch) = stretch
-stretch_of v Probe = probe_stretch v
-stretch_of v Syn = record { offset = 0; count = 0; fin = false }
-stretch_of v _ = record { offset = outstanding v.sending; count = 0; fin = false }
-
--- how many numbers it takes
+-- how many numbers a stretch takes
 abbrev pub numbers_of : Stretch → ℕ
 numbers_of stretch = stretch.count + (if stretch.fin then 1 else 0)
 

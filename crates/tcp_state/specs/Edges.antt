@@ -17,7 +17,7 @@ use Rattle.tcp_state.specs.Stream.{outstanding, is_new_ack}
 use Rattle.tcp_state.specs.View.{View, is_syn_sent, is_syn_received, is_closed, is_at_end, is_over}
 use Rattle.tcp_state.specs.Timing.{gives_up, after_tick, tick_fate}
 use Rattle.tcp_state.specs.Calls.{after_send, after_recv, shutdown_refusal, after_shutdown, after_abort, abort_fate, is_removed_by_close, is_aborted_by_close, after_close, close_fate}
-use Rattle.tcp_state.specs.Arrival.{is_acting_reset, ends_by_reset, ends_by_syn, is_of_fin, is_lost, is_read, is_rejected, before, after_heard, congestion_event_of, after_segment_at, fate}
+use Rattle.tcp_state.specs.Arrival.{reset_error, is_acting_reset, ends_by_reset, ends_by_syn, is_of_fin, is_lost, is_read, is_rejected, before, after_heard, congestion_event_of, after_segment_at, fate}
 use Rattle.tcp_state.specs.Due.{first_due, after_emitted}
 use Rattle.tcp_state.specs.Unreachable.{is_unreachable, after_unreachable, unreachable_fate}
 
@@ -164,15 +164,15 @@ is_cause v (Unreachable number) = is_unreachable v number
 abbrev pub ends_by : View → Event → Bool
 ends_by v e = is_removed (fate_by v e) || (not (is_closed v.state) && is_closed (after_event v e).state)
 
+-- a reset tells this error
+abbrev pub is_told : Option Refusal → Refusal → Bool
+is_told (Some ECONNREFUSED) ECONNREFUSED = true
+is_told (Some ECONNRESET) ECONNRESET = true
+is_told _ _ = false
+
 -- the error that a reset raises in a state, or in SYN-SENT an error about the SYN
 abbrev pub is_error_of : State → Refusal → Bool
-is_error_of SynSent ECONNREFUSED = true
-is_error_of SynReceived ECONNREFUSED = true
-is_error_of Established ECONNRESET = true
-is_error_of FinWait1 ECONNRESET = true
-is_error_of FinWait2 ECONNRESET = true
-is_error_of CloseWait ECONNRESET = true
-is_error_of _ _ = false
+is_error_of state error = is_told (reset_error state) error
 
 -- .. or the clock in any
 abbrev pub is_timeout : Refusal → Bool

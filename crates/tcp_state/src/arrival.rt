@@ -24,12 +24,19 @@ use tcp_segment::{Seq, TcpView};
 /// What the clock and the congestion window have to know of a connection before a segment and of the segment.
 #[derive(Clone, Copy)]
 pub(crate) struct Before {
+    /// The state that the connection was in.
     state: State,
+    /// SND.UNA as it was.
     una: Seq,
+    /// Whether the reset of an abort was owed.
     owes_reset: bool,
+    /// Whether the segment brings the peer's FIN once more in TIME-WAIT.
     repeats_fin: bool,
+    /// Whether the segment shows that a peer whose window is closed is there.
     answers_probe: bool,
+    /// Whether the segment is a duplicate ACK.
     is_duplicate: bool,
+    /// How many octets were held.
     held: u32,
 }
 
@@ -358,7 +365,7 @@ impl Connection {
     }
 
     /// Takes what the peer's SYN says, which leads to SYN-RECEIVED. Our SYN advertised a window of so many octets to it.
-    fn take_syn(&mut self, syn: &TcpView<'_>, advertised: u16)
+    pub(crate) fn take_syn(&mut self, syn: &TcpView<'_>, advertised: u16)
         requires { is_syn_sent self.old.state ≡ true }
         ensures { self.new ≡ record self.old { state = State.SynReceived; sending = after_syn_heard self.old.sending syn.now.number syn.now.window (smss_of syn.now); receiving = after_syn self.old.receiving syn.now.number advertised } }
     {
@@ -420,11 +427,10 @@ impl Connection {
         requires new { is_new_ack self.old.sending acknowledgement.0 ≡ true }
         ensures { self.new ≡ (if is_of_fin self.old acknowledgement.0 then fin_acknowledged (after_new_ack self.old acknowledgement.0) else after_new_ack self.old acknowledgement.0) }
     {
-        if self.is_of_fin(acknowledgement) {
-            self.move_una(acknowledgement);
+        let is_of_fin = self.is_of_fin(acknowledgement);
+        self.move_una(acknowledgement);
+        if is_of_fin {
             self.finish();
-        } else {
-            self.move_una(acknowledgement);
         }
     }
 

@@ -33,20 +33,35 @@ pub enum Fate {
 /// One TCP connection.
 #[derive(Drop)]
 pub struct Connection {
+    /// Our end.
     pub(crate) local: Endpoint,
+    /// The other end.
     pub(crate) peer: Endpoint,
+    /// Where it stands in the diagram of states.
     pub(crate) state: State,
+    /// Whether a listener opened it, and not its caller.
     pub(crate) is_passive: bool,
+    /// What the caller gave and the peer has not acknowledged, with the peer's window.
     pub(crate) sender: Sender,
+    /// What came and the caller has not read, with our window.
     pub(crate) receiver: Receiver,
+    /// Whether an acknowledgement is due.
     pub(crate) owes_ack: bool,
+    /// Whether octets came since the last acknowledgement went out, so that one is due at a second segment or after a while.
     pub(crate) delays_ack: bool,
+    /// What goes out again, and what is measured of a round trip.
     pub(crate) pace: Pace,
+    /// When each of its timers expires.
     pub(crate) timers: Timers,
+    /// How many octets the network takes at once.
     pub(crate) congestion: Cwnd,
+    /// The error that every call reports from now on.
     pub(crate) pending_error: Option<Refusal>,
+    /// Whether its caller closed or aborted it, so that no socket names it any more.
     pub(crate) is_released: bool,
+    /// Whether it was aborted, and its reset has not gone out.
     pub(crate) owes_reset: bool,
+    /// The moment from which TIME-WAIT, FIN-WAIT-2 without a caller, or the wait of an owed reset is counted.
     pub(crate) since: Moment,
 }
 
@@ -97,28 +112,10 @@ impl Connection {
     ) -> Connection
         ensures { result ≡ opened_passively local peer isn.0 syn.now }
     {
-        let Buffers { send, receive } = buffers;
-        let mut sender = Sender::new(send, isn);
-        let mut receiver = Receiver::new(receive);
-        sender.hear_syn(syn.number(), syn.window(), syn.smss());
-        receiver.hear_syn(syn.number(), 0);
-        Connection {
-            local,
-            peer,
-            state: State::SynReceived,
-            is_passive: true,
-            sender,
-            receiver,
-            owes_ack: false,
-            delays_ack: false,
-            pace: Pace::new(),
-            timers: Timers::new(),
-            congestion: Cwnd::new(DEFAULT_MSS, false),
-            pending_error: None,
-            is_released: false,
-            owes_reset: false,
-            since: Moment(0),
-        }
+        let mut connection = Connection::active(buffers, local, peer, isn);
+        connection.take_syn(syn, 0);
+        connection.is_passive = true;
+        connection
     }
 
     /// The state that the connection is in.

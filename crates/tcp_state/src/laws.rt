@@ -354,9 +354,9 @@ pub fn second_segments_are_acknowledged()
 /// is told with what goes out next.
 pub fn windows_are_told_in_whole_steps()
     ensures steps { (v : View) (e : Event) → IsSound v → is_syn_sent v.state ≡ false → v.receiving.edge < 2 ^ 32 → ((after_event v e).receiving.edge ≡ v.receiving.edge)
-        ⊎ ((1460 ≤ past (after_event v e).receiving.edge v.receiving.edge) × ((after_event v e).receiving.edge ≡ (v.receiving.rnext + (65535 - length v.receiving.readable)) % 2 ^ 32)) }
-    ensures told { (v : View) (now : Moment) → IsSound v → (is_opening v.state || is_closed v.state) ≡ false → past v.receiving.edge v.receiving.rnext + 1460 + length v.receiving.readable ≤ 65535
-        → (after_event v (Event.Emits now)).receiving.edge ≡ (v.receiving.rnext + (65535 - length v.receiving.readable)) % 2 ^ 32 }
+        ⊎ ((MSS ≤ past (after_event v e).receiving.edge v.receiving.edge) × ((after_event v e).receiving.edge ≡ (v.receiving.rnext + (CAPACITY - length v.receiving.readable)) % 2 ^ 32)) }
+    ensures told { (v : View) (now : Moment) → IsSound v → (is_opening v.state || is_closed v.state) ≡ false → past v.receiving.edge v.receiving.rnext + MSS + length v.receiving.readable ≤ CAPACITY
+        → (after_event v (Event.Emits now)).receiving.edge ≡ (v.receiving.rnext + (CAPACITY - length v.receiving.readable)) % 2 ^ 32 }
 {}
 
 /// The retransmission timer (RFC 6298 sections 5.1 and 5.3): an acknowledgement that moves SND.UNA starts it anew where something stays outstanding that isn't probed with, and so does any event by which it

@@ -27,14 +27,23 @@ pub struct Timed {
 /// The pace of a connection.
 #[derive(Drop)]
 pub(crate) struct Pace {
+    /// The resend mark, as a distance past SND.UNA: what is outstanding from there on goes out again.
     mark: Option<u32>,
+    /// Whether only one segment goes out again from the mark.
     once: bool,
+    /// The retransmission timeout, in milliseconds, and what it is reckoned from.
     timeout: Rto,
+    /// The segment whose round trip is measured.
     timed: Option<Timed>,
+    /// How often the retransmission timer and the probe timer expired since the last progress.
     expiries: u32,
+    /// How long the next wait of the probe timer is, in milliseconds.
     interval: u32,
+    /// Whether a probe of the closed window is due.
     owes_probe: bool,
+    /// Whether new octets waited for more as long as they may.
     overridden: bool,
+    /// Whether our SYN expired, and went out again.
     syn_resent: bool,
 }
 

@@ -15,8 +15,11 @@ use tcp_segment::{MSS, Seq};
 /// The receiving half of a connection.
 #[derive(Drop)]
 pub(crate) struct Receiver {
+    /// The octets in order that the caller has not read, and those kept ahead of a gap.
     buffer: RecvBuf,
+    /// RCV.NXT, the number that is expected next.
     rnext: Seq,
+    /// The number behind the last that an advertised window has room for.
     edge: Seq,
 }
 

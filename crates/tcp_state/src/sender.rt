@@ -16,13 +16,21 @@ use tcp_segment::{DEFAULT_MSS, Seq};
 /// The sending half of a connection.
 #[derive(Drop)]
 pub(crate) struct Sender {
+    /// The octets that the caller gave, from SND.UNA on.
     buffer: SendBuf,
+    /// SND.UNA, the oldest number that is not acknowledged.
     una: Seq,
+    /// SND.NXT, the number after the highest that was sent.
     nxt: Seq,
+    /// SND.WND, the peer's window in octets from SND.UNA on.
     window: u32,
+    /// The largest window that the peer ever advertised, in octets.
     largest: u32,
+    /// SND.WL1, the number of the segment that gave the window.
     wl1: Seq,
+    /// SND.WL2, the acknowledgement of the segment that gave the window.
     wl2: Seq,
+    /// The octets that a segment takes at most.
     smss: u16,
 }
 
