@@ -5,9 +5,9 @@ use Rattle.tcp_segment.specs.Sent.{CanBeSent, sent_segment, sent_offset}
 use Rattle.tcp_state.specs.declared.emission.Due.{Due}
 use Rattle.tcp_state.specs.declared.emission.Due.TheVariants.{Rst, Syn, Text, Probe, Ack}
 use Rattle.tcp_state.specs.declared.emission.Stretch.{Stretch}
-use Rattle.tcp_state.specs.Halves.{Receiving}
-use Rattle.tcp_state.specs.Stream.{receive_window, ReceivingFits}
-use Rattle.tcp_state.specs.Windows.{receive_room, has_grown, after_advertisement}
+use Rattle.tcp_halves.specs.Halves.{Receiving}
+use Rattle.tcp_halves.specs.Stream.{receive_window, ReceivingFits}
+use Rattle.tcp_halves.specs.Windows.{receive_room, has_grown, after_advertisement}
 use Rattle.tcp_state.specs.View.{View, IsSound}
 use Rattle.tcp_state.specs.Due.{MayGoOut, IsHeld, probe_stretch, head_of, octets_of, octets_of_stretch, number_of, flags_of, window_of}
 use Rattle.tcp_state.proofs.AckNumbers.{ack_fits}

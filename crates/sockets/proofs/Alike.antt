@@ -5,7 +5,7 @@ use Rattle.clock.specs.declared.moment.Moment.{Moment}
 use Rattle.clock.specs.Moments.{has_come}
 use Rattle.tcp_state.specs.declared.emission.Due.TheVariants.{Syn, Text, Probe, Ack}
 use Rattle.tcp_state.specs.declared.emission.Stretch.{Stretch}
-use Rattle.tcp_state.specs.Stream.{outstanding}
+use Rattle.tcp_halves.specs.Stream.{outstanding}
 use Rattle.tcp_state.specs.View.{View, is_opening, is_syn_received, is_write_closed, is_at_end}
 use Rattle.tcp_state.specs.Timing.{clocked, gives_up, after_tick, retransmission_expired, probe_expired, after_expiry, delayed_ack_expired, override_expired, after_timers}
 use Rattle.tcp_state.specs.Calls.{with_octets, send_count, after_send}

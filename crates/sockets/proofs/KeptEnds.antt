@@ -7,8 +7,8 @@ use Rattle.tcp_state.specs.declared.emission.Due.TheVariants.{Rst, Syn, Text, Pr
 use Rattle.tcp_state.specs.declared.state.State.{State}
 use Rattle.tcp_state.specs.declared.state.State.TheVariants.{Closed, Listen, SynSent, SynReceived, Established, FinWait1, FinWait2, CloseWait, Closing, LastAck, TimeWait}
 use Rattle.tcp_state.specs.declared.calls.Refusal.TheVariants.{ECONNREFUSED, ETIMEDOUT}
-use Rattle.tcp_state.specs.Numbers.{is_before}
-use Rattle.tcp_state.specs.Stream.{is_new_ack, is_in_window}
+use Rattle.tcp_halves.specs.Numbers.{is_before}
+use Rattle.tcp_halves.specs.Stream.{is_new_ack, is_in_window}
 use Rattle.tcp_state.specs.View.{View, is_opening, is_syn_sent, is_syn_received, is_closed, is_at_end, after_stop, after_reset}
 use Rattle.tcp_state.specs.Timing.{gives_up, after_tick}
 use Rattle.tcp_state.specs.Calls.{after_send, after_recv, beyond_shutdown, after_shutdown, aborted, aborted_at, after_abort, is_removed_by_close, is_aborted_by_close, after_release, after_close}

@@ -7,8 +7,8 @@ use Rattle.clock.specs.declared.moment.Moment.{Moment}
 use Rattle.tcp_state.specs.declared.state.State.{State}
 use Rattle.tcp_state.specs.declared.state.State.TheVariants.{FinWait1, Closing, LastAck, Established, FinWait2}
 use Rattle.tcp_state.specs.declared.connection.Fate.TheVariants.{Stays, Removed, Rejected}
-use Rattle.tcp_state.specs.Numbers.{is_before}
-use Rattle.tcp_state.specs.Stream.{is_new_ack, is_in_window}
+use Rattle.tcp_halves.specs.Numbers.{is_before}
+use Rattle.tcp_halves.specs.Stream.{is_new_ack, is_in_window}
 use Rattle.tcp_state.specs.View.{View, is_syn_sent, is_syn_received, is_closed, is_over, after_reset}
 use Rattle.tcp_state.specs.Arrival.{owing_ack, is_acceptable_to, is_receiving, beyond_fin, beyond_end, ends_by_syn, is_acting_reset, ends_by_reset, reset_error, after_rst, after_establishment, is_of_fin, fin_acknowledged, after_new_ack, after_ack, is_read_on, after_window, after_text, counts_fin, after_fin, after_acknowledging_segment, after_acceptable_segment, after_segment, is_lost, after_heard, before, timed_by, after_segment_at, is_rejected, ends_opening, fate}
 use Rattle.tcp_state.proofs.Edges.{and_left, and_right}

@@ -7,7 +7,7 @@ use Rattle.ipv4.specs.declared.addr.Addr.{Addr}
 use Rattle.ipv4.specs.declared.addr.Endpoint.{Endpoint}
 use Rattle.ipv4.specs.declared.addr.Pair.{Pair}
 use Rattle.ipv4.specs.Addresses.{pair_of, same_addr, is_single_host}
-use Rattle.tcp_state.specs.declared.buffers.Buffers.{Buffers}
+use Rattle.tcp_halves.specs.declared.buffers.Buffers.{Buffers}
 use Rattle.tcp_state.specs.declared.state.State.{State}
 use Rattle.tcp_state.specs.declared.calls.Received.{Received}
 use Rattle.tcp_state.specs.declared.calls.Refusal as connection_refusal

@@ -4,7 +4,7 @@ use Rattle.ipv4.specs.declared.addr.Addr.{Addr}
 use Rattle.ipv4.specs.declared.addr.Endpoint.{Endpoint}
 use Rattle.tcp_segment.specs.Segment.{Segment}
 use Rattle.udp.specs.Datagram.{UserDatagram}
-use Rattle.tcp_state.specs.declared.buffers.Buffers.{Buffers}
+use Rattle.tcp_halves.specs.declared.buffers.Buffers.{Buffers}
 use Rattle.clock.specs.declared.moment.Moment.{Moment}
 use Rattle.tcp_state.specs.declared.state.State.TheVariants.{SynReceived}
 use Rattle.tcp_state.specs.View.{is_closed}

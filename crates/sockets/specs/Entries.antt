@@ -17,7 +17,7 @@ use Rattle.tcp_state.specs.Unreachable.{after_unreachable, unreachable_fate}
 use Rattle.tcp_state.specs.declared.emission.Due.{Due}
 use Rattle.tcp_state.specs.Due.{first_due, emitted_len, segment_octets}
 use Rattle.tcp_state.specs.Edges.{after_first}
-use Rattle.tcp_state.specs.declared.buffers.Buffers.{Buffers}
+use Rattle.tcp_halves.specs.declared.buffers.Buffers.{Buffers}
 use Rattle.udp_socket.specs.SocketView.{with_sent, with_received, after_read, has_room_in, has_room_out}
 use Rattle.udp_socket.specs.SocketView as datagrams
 use Rattle.udp_socket.specs.Emission as datagrams_out

@@ -1,7 +1,7 @@
 //! The socket calls (POSIX.1-2017), each with its refusals in the order in which they are tested.
 
 ghost use Rattle.std.specs.Prelude.{◌≡◌, ◌^◌, ◌<◌, ◌≤◌, ◌↔◌, length, IfOk, IfErr, OnOk, OnErr, IfSome, IsTrue, Ok, Err, ◌⊎◌, ◌+◌, find, position, Some, None};
-ghost use Rattle.tcp_state.specs.declared.buffers.Buffers.{Buffers};
+ghost use Rattle.tcp_halves.specs.declared.buffers.Buffers.{Buffers};
 ghost use Rattle.std.specs.Result.{result_err};
 ghost use Rattle.std.specs.Option.{ok_or};
 ghost use Rattle.sockets.specs.Calls.{open_answer, IsNewSocket};

@@ -5,11 +5,11 @@ use Rattle.tcp_segment.specs.Wire.{past}
 use Rattle.tcp_segment.specs.Segment.{Segment}
 use Rattle.tcp_state.specs.declared.state.State.{State}
 use Rattle.tcp_state.specs.declared.state.State.TheVariants.{SynSent, SynReceived, Established, FinWait1, FinWait2, Closing, LastAck}
-use Rattle.tcp_state.specs.Numbers.{is_before}
+use Rattle.tcp_halves.specs.Numbers.{is_before}
 use Rattle.tcp_state.specs.View.{View, IsSound, is_opening, is_syn_sent, is_syn_received, is_closed, is_write_closed, is_read_closed, is_write_finished, awaits_fin_ack}
-use Rattle.tcp_state.specs.Halves.{Receiving as ReceivingHalf}
-use Rattle.tcp_state.specs.Stream.{outstanding, is_new_ack, after_acknowledged, receive_window, after_octets, stands_next, after_end}
-use Rattle.tcp_state.specs.Windows.{updates_window}
+use Rattle.tcp_halves.specs.Halves.{Receiving as ReceivingHalf}
+use Rattle.tcp_halves.specs.Stream.{outstanding, is_new_ack, after_acknowledged, receive_window, after_octets, stands_next, after_end}
+use Rattle.tcp_halves.specs.Windows.{updates_window}
 use Rattle.tcp_state.specs.Arrival.{after_segment, is_simultaneous_syn, after_simultaneous_syn, after_syn_ack, is_right_syn_ack, is_of_fin, is_acceptable_to, after_acceptable_segment, after_acknowledging_segment, after_ack, is_read_on, after_window, may_delay, after_text, owing_ack, after_establishment, ends_by_syn, fin_acknowledged, after_new_ack, beyond_fin, beyond_end, is_receiving, counts_fin, after_fin}
 use Rattle.stream_law.specs.Channel.{Channel, Sending, Open, Receiving, Waiting, Synchronised, IsAmong, IsRecent, number_of}
 use Rattle.stream_law.specs.ChannelSteps.{Step, nothing_kept}

@@ -8,10 +8,10 @@ use Rattle.std.proofs.lemmas.Bool.Decides.{leb_tells}
 use Rattle.stream_buf.specs.Receiving.{ReceiveView, front, behind_front, laid, is_taken}
 use Rattle.tcp_segment.specs.Wire.{past}
 use Rattle.tcp_segment.specs.Segment.{Segment}
-use Rattle.tcp_state.specs.Numbers.{is_before}
+use Rattle.tcp_halves.specs.Numbers.{is_before}
 use Rattle.tcp_state.specs.View.{View, is_opening, is_syn_sent, is_write_finished}
-use Rattle.tcp_state.specs.Halves.{Sending as SendingHalf, Receiving as ReceivingHalf}
-use Rattle.tcp_state.specs.Stream.{outstanding, is_new_ack, after_acknowledged, buffer_of, distance_of, octets_within, octets_gained, after_octets, after_end, receive_window, stands_next}
+use Rattle.tcp_halves.specs.Halves.{Sending as SendingHalf, Receiving as ReceivingHalf}
+use Rattle.tcp_halves.specs.Stream.{outstanding, is_new_ack, after_acknowledged, buffer_of, distance_of, octets_within, octets_gained, after_octets, after_end, receive_window, stands_next}
 use Rattle.tcp_state.specs.Calls.{recv_count}
 use Rattle.stream_law.specs.Channel.{Open, Waiting, Synchronised, Channel, IsAmong, number_of, IsKnown, IsRecent}
 use Rattle.stream_law.specs.ChannelSteps.{Step, synchronises, delivers, acknowledges, octets_up_to, reads, nothing_kept}

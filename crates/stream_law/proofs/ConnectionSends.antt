@@ -11,8 +11,8 @@ use Rattle.tcp_state.specs.declared.emission.Stretch.{Stretch}
 use Rattle.tcp_state.specs.declared.state.State.{State}
 use Rattle.tcp_state.specs.declared.state.State.TheVariants.{FinWait1, Closing, LastAck}
 use Rattle.tcp_state.specs.View.{View, IsSound, is_opening, is_syn_sent, is_write_finished, is_write_closed, awaits_fin_ack}
-use Rattle.tcp_state.specs.Numbers.{later_number}
-use Rattle.tcp_state.specs.Stream.{outstanding}
+use Rattle.tcp_halves.specs.Numbers.{later_number}
+use Rattle.tcp_halves.specs.Stream.{outstanding}
 use Rattle.tcp_state.specs.Timing.{clocked}
 use Rattle.tcp_state.specs.Calls.{send_count, with_octets, after_send}
 use Rattle.tcp_state.specs.Due.{IsHeld, probe_stretch, end_of, octets_of_stretch, head_of, octets_of}

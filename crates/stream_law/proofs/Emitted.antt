@@ -5,9 +5,9 @@ use Rattle.tcp_state.specs.declared.emission.Due.TheVariants.{Syn, Text, Probe, 
 use Rattle.tcp_state.specs.declared.emission.Stretch.{Stretch}
 use Rattle.tcp_state.specs.declared.state.State.{State}
 use Rattle.tcp_state.specs.View.{View, is_opening, is_syn_sent, is_syn_received, is_write_finished}
-use Rattle.tcp_state.specs.Halves.{Sending as SendingHalf, Receiving as ReceivingHalf}
-use Rattle.tcp_state.specs.Stream.{outstanding, after_sent}
-use Rattle.tcp_state.specs.Windows.{receive_room, has_grown, after_advertisement}
+use Rattle.tcp_halves.specs.Halves.{Sending as SendingHalf, Receiving as ReceivingHalf}
+use Rattle.tcp_halves.specs.Stream.{outstanding, after_sent}
+use Rattle.tcp_halves.specs.Windows.{receive_room, has_grown, after_advertisement}
 use Rattle.tcp_state.specs.Pace.{pace_probed}
 use Rattle.tcp_state.specs.Timing.{clocked}
 use Rattle.tcp_state.specs.Due.{probe_stretch, end_of, brings_new_octets, after_ack_paid, after_resent, after_first_sent, after_numbers, after_new_octets, after_stretch, after_probe, after_syn_again, after_syn_out, after_going_out, after_emitted}

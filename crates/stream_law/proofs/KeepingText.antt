@@ -4,7 +4,7 @@ use Rattle.std.specs.List.{slice_get}
 use Rattle.std.proofs.lemmas.Bool.{cond-true, cond-false}
 use Rattle.std.proofs.lemmas.Bool.Decides.{leb_tells}
 use Rattle.tcp_segment.specs.Wire.{wire, past}
-use Rattle.tcp_state.specs.Numbers.{later_number}
+use Rattle.tcp_halves.specs.Numbers.{later_number}
 use Rattle.stream_law.specs.Channel.{Sender, Open, Channel, number_of}
 use Rattle.stream_law.specs.ChannelSteps.{span}
 use Rattle.stream_law.proofs.Invariant.{StandsAt, SenderFits, SendingFits, FrameFits, Holds}

@@ -9,8 +9,8 @@ use Rattle.clock.specs.declared.moment.Moment.{Moment}
 use Rattle.tcp_state.specs.declared.state.State.{State}
 use Rattle.tcp_state.specs.declared.state.State.TheVariants.{Closed, SynSent, SynReceived, FinWait1, Closing, LastAck}
 use Rattle.tcp_state.specs.View.{View, IsSound, is_opening, is_syn_sent, is_syn_received, is_closed, is_listening, is_write_closed, is_read_closed, is_write_finished, awaits_fin_ack}
-use Rattle.tcp_state.specs.Halves.{Sending as SendingHalf}
-use Rattle.tcp_state.specs.Stream.{outstanding, after_sent}
+use Rattle.tcp_halves.specs.Halves.{Sending as SendingHalf}
+use Rattle.tcp_halves.specs.Stream.{outstanding, after_sent}
 use Rattle.tcp_state.specs.Due.{MayGoOut, IsHeld, probe_stretch, end_of, flags_of, head_of, octets_of, after_emitted}
 use Rattle.stream_law.specs.Channel.{Channel, Ack, Open, IsAmong, here, there}
 use Rattle.stream_law.specs.ChannelSteps.{Step, steps}

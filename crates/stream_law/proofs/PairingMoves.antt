@@ -9,10 +9,10 @@ use Rattle.tcp_state.specs.declared.calls.Received.{Received}
 use Rattle.tcp_state.specs.declared.calls.Received.TheVariants.{Octets, EndOfStream}
 use Rattle.tcp_state.specs.declared.state.State.{State}
 use Rattle.tcp_state.specs.declared.state.State.TheVariants.{Closed, Listen, SynSent, SynReceived, Established, FinWait1, FinWait2, CloseWait, Closing, LastAck, TimeWait}
-use Rattle.tcp_state.specs.declared.buffers.TheConstants.{CAPACITY}
+use Rattle.tcp_halves.specs.declared.buffers.TheConstants.{CAPACITY}
 use Rattle.tcp_state.specs.View.{View, IsSound, is_opening, is_syn_sent, is_closed, is_listening, is_write_closed, is_read_closed, is_write_finished, opened_actively}
-use Rattle.tcp_state.specs.Halves.{Receiving as ReceivingHalf}
-use Rattle.tcp_state.specs.Stream.{after_read}
+use Rattle.tcp_halves.specs.Halves.{Receiving as ReceivingHalf}
+use Rattle.tcp_halves.specs.Stream.{after_read}
 use Rattle.tcp_state.specs.Calls.{send_count, unless_pending, after_send, recv_count, recv_answer, after_recv, beyond_shutdown, after_shutdown}
 use Rattle.tcp_state.specs.Arrival.{opened_passively}
 use Rattle.stream_law.specs.Channel.{Channel, Open, Waiting, Synchronised, IsAmong}

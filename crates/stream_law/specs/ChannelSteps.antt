@@ -1,7 +1,7 @@
 -- What may happen in a channel, one event at a time. Each free choice of a host or of the network is a step of its own.
 use Rattle.std.specs.Prelude.{◌≡◌, ℕ, ◌+◌, ◌-◌, ◌<◌, ◌≤◌, ◌%◌, ◌^◌, nat_lt, Bool, true, false, ◌||◌, if◌then◌else◌, List, [], ◌∷◌, ◌++◌, length, drop, Option, Some, None, slice_get}
 use Rattle.tcp_segment.specs.Wire.{past}
-use Rattle.tcp_state.specs.Numbers.{later_number}
+use Rattle.tcp_halves.specs.Numbers.{later_number}
 use Rattle.stream_law.specs.Channel.{Frame, Ack, Sender, Receiver, Unopened, Open, Stopped, Waiting, Synchronised, Gone, Channel, IsAmong, IsRecent, IsKnown, number_of}
 
 -- nothing has happened: neither host has opened the pair in this epoch

@@ -1,7 +1,7 @@
 -- What a connection shows of the two channels that it is an end of: it sends into one and receives from the other.
 use Rattle.std.specs.Prelude.{◌≡◌, ℕ, ◌<◌, ◌^◌, ◌&&◌, ◌||◌, Bool, true, false, not, if◌then◌else◌, List, length, Option, None, slice_index_or, is_some}
 use Rattle.tcp_segment.specs.Segment.{Segment}
-use Rattle.tcp_state.specs.Halves.{Receiving as ReceivingHalf}
+use Rattle.tcp_halves.specs.Halves.{Receiving as ReceivingHalf}
 use Rattle.tcp_state.specs.View.{View, is_opening, is_syn_sent, is_closed, is_write_finished, is_write_closed, is_read_closed}
 use Rattle.stream_law.specs.Channel.{Frame, Ack, Sender, Receiver, Sending, Open, Receiving, Waiting, Synchronised, Channel, IsAmong, IsRecent}
 use Rattle.stream_law.specs.ChannelSteps.{Step}

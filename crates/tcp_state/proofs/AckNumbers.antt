@@ -3,8 +3,8 @@ use Rattle.std.proofs.Common.{◌≡◌, ℕ, ◌+◌, ◌<◌, ◌≤◌, ◌==
 use Rattle.std.proofs.lemmas.Bool.{eq-eqb}
 use Rattle.std.proofs.lemmas.Bool.Decides.{leb_tells}
 use Rattle.tcp_segment.specs.Wire.{past}
-use Rattle.tcp_state.specs.Halves.{Receiving}
-use Rattle.tcp_state.specs.Stream.{outstanding, receive_window, is_in_window, is_acceptable}
+use Rattle.tcp_halves.specs.Halves.{Receiving}
+use Rattle.tcp_halves.specs.Stream.{outstanding, receive_window, is_in_window, is_acceptable}
 use Rattle.tcp_state.specs.View.{View, IsSound, is_opening}
 use Rattle.tcp_state.specs.Due.{ack_number}
 

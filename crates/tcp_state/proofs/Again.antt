@@ -6,15 +6,15 @@ use Rattle.tcp_segment.specs.Wire.{past}
 use Rattle.clock.specs.declared.moment.Moment.{Moment}
 use Rattle.tcp_state.specs.declared.emission.Due.TheVariants.{Text}
 use Rattle.tcp_state.specs.declared.emission.Stretch.{Stretch}
-use Rattle.tcp_state.specs.Numbers.{later_number}
-use Rattle.tcp_state.specs.Halves.{Sending}
-use Rattle.tcp_state.specs.Stream.{outstanding, after_sent}
-use Rattle.tcp_state.specs.Windows.{open_window}
+use Rattle.tcp_halves.specs.Numbers.{later_number}
+use Rattle.tcp_halves.specs.Halves.{Sending}
+use Rattle.tcp_halves.specs.Stream.{outstanding, after_sent}
+use Rattle.tcp_halves.specs.Windows.{open_window}
 use Rattle.tcp_state.specs.Pace.{mark_past}
 use Rattle.tcp_state.specs.View.{View, IsSound, takes_flag_number}
 use Rattle.tcp_state.specs.Due.{first_due, end_of, after_resent, after_first_sent, after_numbers, after_new_octets, brings_new_octets, after_emitted, again, goes_again, new_octets, fin_alone}
 use Rattle.tcp_state.specs.Edges.{Emits, after_first, after_event}
-use Rattle.tcp_state.proofs.Choices.{either, clash}
+use Rattle.tcp_halves.proofs.Choices.{either, clash}
 use Rattle.tcp_state.proofs.Edges.{and_left}
 use Rattle.tcp_state.proofs.Causes.{both, or_else, by}
 use Rattle.tcp_state.proofs.Unchanged.{and_false}

@@ -13,7 +13,7 @@ use Rattle.tcp_state.specs.declared.state.State.TheVariants.{SynSent, SynReceive
 use Rattle.tcp_state.specs.declared.emission.Due.{Due}
 use Rattle.tcp_state.specs.declared.emission.Due.TheVariants.{Rst, Syn, Text, Probe, Ack}
 use Rattle.tcp_state.specs.declared.emission.Stretch.{Stretch}
-use Rattle.tcp_state.specs.Stream.{outstanding, after_sent}
+use Rattle.tcp_halves.specs.Stream.{outstanding, after_sent}
 use Rattle.tcp_state.specs.Pace.{Pace, stopped, pace_probed, pace_acknowledged}
 use Rattle.tcp_state.specs.View.{View, is_opening, is_syn_sent, is_syn_received, is_closed, is_fin_wait_2, is_write_closed, is_at_end, after_stop, after_reset}
 use Rattle.tcp_state.specs.Timing.{probes, retransmits, awaits_more, running, clocked, expires, gives_up, retransmission_expired, probe_expired, after_expiry, delayed_ack_expired, after_timers}
@@ -22,7 +22,7 @@ use Rattle.tcp_state.specs.Arrival.{is_receiving, beyond_fin, fin_acknowledged, 
 use Rattle.tcp_state.specs.Due.{first_due, probe_stretch, end_of, after_ack_paid, after_resent, after_first_sent, after_numbers, after_new_octets, brings_new_octets, after_stretch, after_probe, after_syn_out, after_going_out}
 use Rattle.tcp_state.specs.Unreachable.{is_unreachable}
 use Rattle.tcp_state.specs.Edges.{Event, Hears, Ticks, Emits, Sends, Receives, Shuts, Closes, Aborts, Unreachable, moment_of, after_first, after_event}
-use Rattle.tcp_state.proofs.Choices.{either, clash}
+use Rattle.tcp_halves.proofs.Choices.{either, clash}
 use Rattle.tcp_state.proofs.Clocked.{syn_out, heard_paced, after_paced}
 use Rattle.tcp_state.proofs.Edges.{by_fin, and_left, and_right}
 use Rattle.tcp_state.proofs.Causes.{both, or_left, or_right, not_true, of_false}

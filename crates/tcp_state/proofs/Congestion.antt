@@ -16,9 +16,9 @@ use Rattle.tcp_state.specs.declared.emission.Due.{Due}
 use Rattle.tcp_state.specs.declared.emission.Due.TheVariants.{Rst, Syn, Text, Probe, Ack}
 use Rattle.tcp_state.specs.declared.state.State.{State}
 use Rattle.tcp_state.specs.declared.state.State.TheVariants.{SynSent, SynReceived, Established, FinWait1, FinWait2, CloseWait}
-use Rattle.tcp_state.specs.Halves.{Sending}
-use Rattle.tcp_state.specs.Stream.{outstanding, is_new_ack}
-use Rattle.tcp_state.specs.Windows.{updates_window}
+use Rattle.tcp_halves.specs.Halves.{Sending}
+use Rattle.tcp_halves.specs.Stream.{outstanding, is_new_ack}
+use Rattle.tcp_halves.specs.Windows.{updates_window}
 use Rattle.tcp_state.specs.View.{View, IsSound, is_opening, is_syn_sent, is_syn_received, is_closed, is_write_closed, is_at_end, after_stop, after_reset, opened_actively}
 use Rattle.tcp_state.specs.Congestion.{Signal, after_signal, KeepsCongestion}
 use Rattle.tcp_state.specs.Congestion.Signal.{Begins, Counts, Nothing}

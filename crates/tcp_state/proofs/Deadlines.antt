@@ -8,7 +8,7 @@ use Rattle.retransmit.specs.Deadlines.{next_of}
 use Rattle.tcp_state.specs.declared.calls.Refusal.TheVariants.{ETIMEDOUT}
 use Rattle.tcp_state.specs.declared.pace.TheConstants.{MOST_EXPIRIES}
 use Rattle.tcp_state.specs.Pace.{mark_past}
-use Rattle.tcp_state.specs.Stream.{outstanding}
+use Rattle.tcp_halves.specs.Stream.{outstanding}
 use Rattle.tcp_state.specs.View.{View, is_closed, ends_at, is_at_end, after_stop, after_reset}
 use Rattle.tcp_state.specs.Timing.{KeepsTime, probes, clocked, expires, gives_up, retransmission_expired, probe_expired, after_expiry, delayed_ack_expired, override_expired, after_timers, after_tick, wants_out, deadline}
 use Rattle.tcp_state.proofs.Edges.{either, and_left}

@@ -5,8 +5,8 @@ use Rattle.clock.specs.declared.moment.Moment.{Moment}
 use Rattle.tcp_state.specs.declared.emission.Due.{Due}
 use Rattle.tcp_state.specs.declared.emission.Due.TheVariants.{Rst, Syn, Text, Probe, Ack}
 use Rattle.tcp_state.specs.declared.emission.Stretch.{Stretch}
-use Rattle.tcp_state.specs.Stream.{outstanding, after_sent}
-use Rattle.tcp_state.specs.Windows.{has_grown}
+use Rattle.tcp_halves.specs.Stream.{outstanding, after_sent}
+use Rattle.tcp_halves.specs.Windows.{has_grown}
 use Rattle.tcp_state.specs.Pace.{pace_probed}
 use Rattle.tcp_state.specs.View.{View, is_opening, is_closed}
 use Rattle.tcp_state.specs.Timing.{probes}

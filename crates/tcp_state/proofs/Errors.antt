@@ -10,8 +10,8 @@ use Rattle.tcp_state.specs.declared.emission.Due.{Due}
 use Rattle.tcp_state.specs.declared.state.State.{State}
 use Rattle.tcp_state.specs.declared.state.State.TheVariants.{SynSent, SynReceived, Established, FinWait1, FinWait2, CloseWait}
 use Rattle.tcp_state.specs.declared.pace.TheConstants.{MOST_EXPIRIES}
-use Rattle.tcp_state.specs.Numbers.{is_before}
-use Rattle.tcp_state.specs.Stream.{outstanding, is_new_ack, is_in_window}
+use Rattle.tcp_halves.specs.Numbers.{is_before}
+use Rattle.tcp_halves.specs.Stream.{outstanding, is_new_ack, is_in_window}
 use Rattle.tcp_state.specs.View.{View, IsSound, is_opening, is_syn_sent, is_syn_received, is_closed, awaits_fin_ack, is_write_closed, is_at_end, after_stop, after_reset}
 use Rattle.tcp_state.specs.Timing.{KeepsTime, probes, retransmits, gives_up, after_timers, clocked}
 use Rattle.tcp_state.specs.Calls.{send_count, with_octets, shutdown_refusal, after_shutdown, aborted_at, after_release, is_removed_by_close, is_aborted_by_close}

@@ -7,15 +7,16 @@ use Rattle.tcp_segment.specs.Wire.{past}
 use Rattle.clock.specs.declared.moment.Moment.{Moment}
 use Rattle.tcp_state.specs.declared.state.State.{State}
 use Rattle.tcp_state.specs.declared.state.State.TheVariants.{Established, FinWait1, FinWait2}
-use Rattle.tcp_state.specs.Numbers.{is_before}
-use Rattle.tcp_state.specs.Halves.{Receiving}
-use Rattle.tcp_state.specs.Stream.{buffer_of, receive_window, distance_of, octets_within, octets_gained, after_octets}
+use Rattle.tcp_halves.specs.Numbers.{is_before}
+use Rattle.tcp_halves.specs.Halves.{Receiving}
+use Rattle.tcp_halves.specs.Stream.{buffer_of, receive_window, distance_of, octets_within, octets_gained, after_octets}
 use Rattle.tcp_state.specs.View.{View, IsSound, is_syn_sent, is_syn_received, is_closed}
 use Rattle.tcp_state.specs.Arrival.{is_receiving, beyond_fin, after_ack, is_read, after_window, after_text, after_fin, after_segment, is_lost, after_lost, after_heard, is_rejected, before, timed_by, after_segment_at}
 use Rattle.tcp_state.specs.Positions.{AreFree}
 use Rattle.tcp_state.proofs.Edges.{either, by_fin, and_left}
 use Rattle.tcp_state.proofs.Causes.{or_else, not_true}
-use Rattle.tcp_state.proofs.Keeping.{IsKeeping, sound_keeping, none_within, at_none, inserted_readable}
+use Rattle.tcp_halves.proofs.Keeping.{IsKeeping, none_within, at_none, inserted_readable}
+use Rattle.tcp_state.proofs.Sound.{sound_keeping}
 use Rattle.tcp_state.proofs.Unchanged.{clash}
 use Rattle.tcp_state.proofs.Segments.{after_reading, by_ack, ack_receives, by_hearing, by_clock, read_tells, reads, not_rejected}
 

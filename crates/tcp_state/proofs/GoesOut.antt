@@ -7,8 +7,8 @@ use Rattle.tcp_state.specs.declared.emission.Due.TheVariants.{Rst, Syn, Text, Pr
 use Rattle.tcp_state.specs.declared.emission.Stretch.{Stretch}
 use Rattle.tcp_state.specs.declared.state.State.{State}
 use Rattle.tcp_state.specs.declared.state.State.TheVariants.{SynSent}
-use Rattle.tcp_state.specs.Stream.{outstanding}
-use Rattle.tcp_state.specs.Windows.{sendable, is_worth_sending, has_grown}
+use Rattle.tcp_halves.specs.Stream.{outstanding}
+use Rattle.tcp_halves.specs.Windows.{sendable, is_worth_sending, has_grown}
 use Rattle.tcp_state.specs.View.{View, IsSound, is_opening, is_syn_sent, is_closed, awaits_fin_ack}
 use Rattle.tcp_state.specs.Timing.{probes, has_unacknowledged}
 use Rattle.tcp_state.specs.Due.{MayGoOut, IsHeld, first_due, probe_stretch, again, sends_new, new_octets, sends_fin, fin_alone}

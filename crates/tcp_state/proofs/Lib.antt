@@ -1,10 +1,9 @@
 pub mod Framing
 pub mod Sizes
-pub mod Choices
 pub mod GoesOut
 pub mod Clocked
 pub mod Edges
-pub mod Keeping
+pub mod Sound
 pub mod Causes
 pub mod Errors
 pub mod Unchanged

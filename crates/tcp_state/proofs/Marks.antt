@@ -7,12 +7,12 @@ use Rattle.clock.specs.declared.moment.Moment.{Moment}
 use Rattle.congestion.specs.Window.{third_is_next}
 use Rattle.tcp_state.specs.declared.state.State.{State}
 use Rattle.tcp_state.specs.declared.state.State.TheVariants.{Closed}
-use Rattle.tcp_state.specs.Halves.{Sending}
-use Rattle.tcp_state.specs.Stream.{outstanding, is_new_ack}
-use Rattle.tcp_state.specs.Windows.{updates_window}
+use Rattle.tcp_halves.specs.Halves.{Sending}
+use Rattle.tcp_halves.specs.Stream.{outstanding, is_new_ack}
+use Rattle.tcp_halves.specs.Windows.{updates_window}
 use Rattle.tcp_state.specs.Pace.{Pace, stopped, mark_past, mark_left, pace_lost}
 use Rattle.tcp_state.specs.View.{View, IsSound, is_opening, is_syn_sent, is_syn_received, is_closed}
-use Rattle.tcp_state.specs.Numbers.{is_before}
+use Rattle.tcp_halves.specs.Numbers.{is_before}
 use Rattle.tcp_state.specs.Arrival.{owing_ack, is_receiving, is_of_fin, beyond_fin, beyond_end, fin_acknowledged, after_new_ack, after_ack, after_window, after_text, is_duplicate, before, pace_heard, congestion_event_of, tells_loss, after_heard, after_segment_at}
 use Rattle.tcp_state.proofs.Clocked.{heard_paced}
 use Rattle.tcp_state.proofs.Edges.{either, by_fin}

@@ -9,7 +9,7 @@ use Rattle.tcp_state.specs.declared.calls.Refusal.TheVariants.{ECONNREFUSED, ETI
 use Rattle.tcp_state.specs.declared.emission.Due.{Due}
 use Rattle.tcp_state.specs.declared.emission.Due.TheVariants.{Rst, Syn, Text, Probe, Ack}
 use Rattle.tcp_state.specs.declared.pace.Timed.{Timed}
-use Rattle.tcp_state.specs.Stream.{outstanding, after_sent}
+use Rattle.tcp_halves.specs.Stream.{outstanding, after_sent}
 use Rattle.tcp_state.specs.Pace.{Pace, timing_of, pace_probed, is_timed_by, timeout_sampled, timed_left, pace_acknowledged}
 use Rattle.tcp_state.specs.View.{View, is_opening, is_syn_received, is_closed, is_write_closed, is_at_end, after_stop, after_reset}
 use Rattle.tcp_state.specs.Timing.{clocked, gives_up, retransmission_expired, probe_expired, after_expiry, delayed_ack_expired, after_timers}

@@ -9,9 +9,9 @@ use Rattle.retransmit.specs.Deadlines.{next_of}
 use Rattle.tcp_state.specs.declared.emission.Due.TheVariants.{Syn, Text}
 use Rattle.tcp_state.specs.declared.emission.Stretch.{Stretch}
 use Rattle.tcp_state.specs.declared.calls.Refusal.TheVariants.{ECONNREFUSED, ETIMEDOUT}
-use Rattle.tcp_state.specs.Halves.{Sending, Receiving}
-use Rattle.tcp_state.specs.Stream.{outstanding, is_new_ack, receive_window, octets_gained, after_octets, stands_next, after_end, after_sent}
-use Rattle.tcp_state.specs.Windows.{updates_window, after_window_update, after_advertisement, has_grown, receive_room}
+use Rattle.tcp_halves.specs.Halves.{Sending, Receiving}
+use Rattle.tcp_halves.specs.Stream.{outstanding, is_new_ack, receive_window, octets_gained, after_octets, stands_next, after_end, after_sent}
+use Rattle.tcp_halves.specs.Windows.{updates_window, after_window_update, after_advertisement, has_grown, receive_room}
 use Rattle.tcp_state.specs.View.{View, IsSound, is_opening, is_syn_sent, is_syn_received, is_closed, is_write_closed, is_write_finished, takes_flag_number, is_at_end, after_stop, after_reset}
 use Rattle.tcp_state.specs.Timing.{clocked, gives_up, after_timers}
 use Rattle.tcp_state.specs.Calls.{send_count, shutdown_refusal, after_shutdown, aborted_at, after_release, is_removed_by_close, is_aborted_by_close}
@@ -22,7 +22,8 @@ use Rattle.tcp_state.specs.Edges.{Event, Hears, Ticks, Emits, Sends, Receives, S
 use Rattle.tcp_state.specs.Positions.{GoesOn, NeverBack, HasNumber}
 use Rattle.tcp_state.proofs.Clocked.{timers_keep, syn_out}
 use Rattle.tcp_state.proofs.Edges.{either, by_fin, and_right}
-use Rattle.tcp_state.proofs.Keeping.{IsKeeping, sound_keeping, gained_fits}
+use Rattle.tcp_halves.proofs.Keeping.{IsKeeping, gained_fits}
+use Rattle.tcp_state.proofs.Sound.{sound_keeping}
 use Rattle.tcp_state.proofs.Unchanged.{clash}
 use Rattle.tcp_state.proofs.Segments.{by_ack, ack_receives, after_reading, reading_sends, by_hearing, by_clock}
 use Rattle.tcp_state.proofs.Emissions.{by_due, numbers_send, numbers_receive, stretch_sends, stretch_receives, probe_sends, probe_receives}

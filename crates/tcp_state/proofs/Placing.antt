@@ -11,11 +11,11 @@ use Rattle.stream_buf.proofs.Inserting.{some, laid_none, gap_behind, fewer_behin
 use Rattle.stream_buf.proofs.Standing.{front_split, first_free, laid_own, laid_before, laid_behind}
 use Rattle.stream_buf.proofs.Taking.{taken_first}
 use Rattle.tcp_segment.specs.Wire.{wire, past}
-use Rattle.tcp_state.specs.Numbers.{is_before}
-use Rattle.tcp_state.specs.Halves.{Receiving}
-use Rattle.tcp_state.specs.Stream.{buffer_of, receive_window, distance_of, octets_within, after_octets}
+use Rattle.tcp_halves.specs.Numbers.{is_before}
+use Rattle.tcp_halves.specs.Halves.{Receiving}
+use Rattle.tcp_halves.specs.Stream.{buffer_of, receive_window, distance_of, octets_within, after_octets}
 use Rattle.tcp_state.specs.Positions.{ReceivesAt, AreNear, brought, known_at, places_after, takes_octets, kept_with}
-use Rattle.tcp_state.proofs.Keeping.{inserted_if}
+use Rattle.tcp_halves.proofs.Keeping.{inserted_if}
 use Rattle.tcp_state.proofs.Positions.{window_at}
 
 slice_get-take : {A : Type 0} (n : ℕ) (xs : List A) (i : ℕ) → i < n → slice_get (take n xs) i ≡ slice_get xs i

@@ -3,8 +3,8 @@ use Rattle.std.proofs.Common.{◌≡◌, ℕ, zero, suc, ◌+◌, ◌-◌, ◌%�
 use Rattle.std.proofs.lemmas.Bool.Decides.{leb_tells, eqb_tells}
 use Rattle.tcp_segment.specs.Wire.{wire, past}
 use Rattle.tcp_segment.specs.Segment.{Segment, span_of}
-use Rattle.tcp_state.specs.Halves.{Receiving}
-use Rattle.tcp_state.specs.Stream.{receive_window, is_in_window, is_acceptable}
+use Rattle.tcp_halves.specs.Halves.{Receiving}
+use Rattle.tcp_halves.specs.Stream.{receive_window, is_in_window, is_acceptable}
 use Rattle.tcp_state.specs.Positions.{ReceivesAt, IsNear, MeetsWindow}
 use Rattle.tcp_state.specs.View.{View}
 use Rattle.tcp_state.specs.Arrival.{is_acceptable_to}

@@ -14,7 +14,7 @@ use Rattle.tcp_state.specs.View.{View, IsSound, is_opening, is_syn_sent, is_syn_
 use Rattle.tcp_state.specs.Timing.{KeepsTime, running}
 use Rattle.tcp_state.specs.Arrival.{is_receiving, beyond_fin, after_ack, is_read, after_window, may_delay, after_text, after_fin, after_segment, brings_more, is_lost, after_lost, after_heard, before, timed_by, after_segment_at}
 use Rattle.tcp_state.specs.Due.{first_due, again, new_octets, fin_alone, flags_of}
-use Rattle.tcp_state.proofs.Choices.{either, clash}
+use Rattle.tcp_halves.proofs.Choices.{either, clash}
 use Rattle.tcp_state.proofs.Clocked.{comes_to}
 use Rattle.tcp_state.proofs.Edges.{by_fin}
 use Rattle.tcp_state.proofs.Causes.{or_left, or_right, or_else, not_true, by}

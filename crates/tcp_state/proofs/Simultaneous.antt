@@ -15,10 +15,10 @@ use Rattle.tcp_state.specs.declared.timing.TheConstants.{OVERRIDE}
 use Rattle.tcp_state.specs.declared.emission.Due.{Due}
 use Rattle.tcp_state.specs.declared.emission.Due.TheVariants.{Syn, Text, Ack}
 use Rattle.tcp_state.specs.declared.state.State.TheVariants.{SynReceived, Established}
-use Rattle.tcp_state.specs.Numbers.{is_before, later_number}
-use Rattle.tcp_state.specs.Halves.{Receiving}
-use Rattle.tcp_state.specs.Stream.{outstanding, sending_from, receiving_nothing, receive_window, is_in_window, is_acceptable}
-use Rattle.tcp_state.specs.Windows.{updates_window, is_worth_sending, has_grown, after_advertisement}
+use Rattle.tcp_halves.specs.Numbers.{is_before, later_number}
+use Rattle.tcp_halves.specs.Halves.{Receiving}
+use Rattle.tcp_halves.specs.Stream.{outstanding, sending_from, receiving_nothing, receive_window, is_in_window, is_acceptable}
+use Rattle.tcp_halves.specs.Windows.{updates_window, is_worth_sending, has_grown, after_advertisement}
 use Rattle.tcp_state.specs.Pace.{Pace, first_pace, mark_past, pace_lost}
 use Rattle.tcp_state.specs.Timing.{clocked}
 use Rattle.tcp_state.specs.View.{View, first_congestion, opened_actively}
@@ -29,7 +29,7 @@ use Rattle.tcp_state.specs.Due.{first_due, ack_due, new_octets, head_of, octets_
 use Rattle.tcp_state.specs.Edges.{Hears, Emits, after_first, after_event}
 use Rattle.tcp_state.specs.Simultaneous.{first_segment, after_coming, Ends, crossed, AnswersSyn, HasOpened}
 use Rattle.tcp_state.proofs.Clocked.{comes_to, unmoved, timed_unmoved}
-use Rattle.tcp_state.proofs.Choices.{either, clash}
+use Rattle.tcp_halves.proofs.Choices.{either, clash}
 use Rattle.tcp_state.proofs.Causes.{both, or_left}
 use Rattle.tcp_state.proofs.Unreachable.{and_no}
 

@@ -4,11 +4,11 @@ use Rattle.std.proofs.lemmas.Bool.{leb-true, eqb-true}
 use Rattle.std.proofs.lemmas.Bool.Decides.{leb_tells}
 use Rattle.tcp_state.specs.declared.emission.Due.TheVariants.{Text}
 use Rattle.tcp_state.specs.declared.emission.Stretch.{Stretch}
-use Rattle.tcp_state.specs.Stream.{outstanding}
-use Rattle.tcp_state.specs.Windows.{unsent, usable, sendable, is_worth_sending}
+use Rattle.tcp_halves.specs.Stream.{outstanding}
+use Rattle.tcp_halves.specs.Windows.{unsent, usable, sendable, is_worth_sending}
 use Rattle.tcp_state.specs.View.{View, IsSound}
 use Rattle.tcp_state.specs.Due.{first_due, again, sends_new, new_octets, fin_alone}
-use Rattle.tcp_state.proofs.Choices.{clash}
+use Rattle.tcp_halves.proofs.Choices.{clash}
 use Rattle.tcp_state.proofs.Edges.{and_left, and_right}
 use Rattle.tcp_state.proofs.Causes.{or_else}
 use Rattle.tcp_state.proofs.Emissions.{by_due}

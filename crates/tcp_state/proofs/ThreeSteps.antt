@@ -8,9 +8,9 @@ use Rattle.tcp_segment.specs.Wire.{past}
 use Rattle.tcp_state.specs.declared.emission.Due.TheVariants.{Syn}
 use Rattle.tcp_state.specs.declared.state.State.{State}
 use Rattle.tcp_state.specs.declared.state.State.TheVariants.{SynSent, SynReceived}
-use Rattle.tcp_state.specs.Halves.{Sending}
-use Rattle.tcp_state.specs.Stream.{outstanding, is_new_ack}
-use Rattle.tcp_state.specs.Windows.{updates_window}
+use Rattle.tcp_halves.specs.Halves.{Sending}
+use Rattle.tcp_halves.specs.Stream.{outstanding, is_new_ack}
+use Rattle.tcp_halves.specs.Windows.{updates_window}
 use Rattle.tcp_state.specs.View.{View, IsSound, is_syn_sent, is_syn_received, is_closed, is_write_closed}
 use Rattle.tcp_state.specs.Arrival.{opened_passively, is_acceptable_to, is_right_syn_ack, is_simultaneous_syn, after_simultaneous_syn, after_syn_ack, after_establishment, after_ack, after_window, after_text, after_fin, is_read_on, after_acknowledging_segment, after_acceptable_segment, owing_ack, after_segment, is_receiving, is_read, brings_more, is_lost, after_lost, after_heard, before, timed_by, after_segment_at, is_rejected}
 use Rattle.tcp_state.specs.Due.{first_due}
@@ -18,7 +18,7 @@ use Rattle.tcp_state.specs.Edges.{after_first}
 use Rattle.tcp_state.specs.Simultaneous.{AnswersSyn}
 use Rattle.tcp_state.specs.Opening.{OpenedBy, Confirmed}
 use Rattle.tcp_state.proofs.Clocked.{comes_to}
-use Rattle.tcp_state.proofs.Choices.{either, clash}
+use Rattle.tcp_halves.proofs.Choices.{either, clash}
 use Rattle.tcp_state.proofs.Causes.{both}
 use Rattle.tcp_state.proofs.Emissions.{syn_sends}
 use Rattle.tcp_state.proofs.SynAnswers.{then_sent}

@@ -10,8 +10,8 @@ use Rattle.tcp_state.specs.declared.connection.Fate.TheVariants.{Stays, Removed}
 use Rattle.tcp_state.specs.declared.emission.Due.TheVariants.{Rst, Text}
 use Rattle.tcp_state.specs.declared.state.State.{State}
 use Rattle.tcp_state.specs.declared.state.State.TheVariants.{SynSent}
-use Rattle.tcp_state.specs.Stream.{outstanding}
-use Rattle.tcp_state.specs.Windows.{sendable, is_worth_sending}
+use Rattle.tcp_halves.specs.Stream.{outstanding}
+use Rattle.tcp_halves.specs.Windows.{sendable, is_worth_sending}
 use Rattle.tcp_state.specs.View.{View, IsSound, is_opening, is_syn_sent, is_closed, is_write_closed, after_stop, after_reset, is_over}
 use Rattle.tcp_state.specs.Pace.{Pace, stopped}
 use Rattle.tcp_state.specs.Timing.{probes, retransmits, awaits_more, running, retransmission_timer, probe_timer, override_timer, clocked}

@@ -8,8 +8,8 @@ use Rattle.clock.specs.Moments.{sooner}
 use Rattle.retransmit.specs.Deadlines.{next_of}
 use Rattle.tcp_state.specs.declared.emission.Due.{Due}
 use Rattle.tcp_state.specs.declared.emission.Due.TheVariants.{Rst, Syn, Text, Probe}
-use Rattle.tcp_state.specs.Stream.{outstanding}
-use Rattle.tcp_state.specs.Windows.{sendable, is_worth_sending}
+use Rattle.tcp_halves.specs.Stream.{outstanding}
+use Rattle.tcp_halves.specs.Windows.{sendable, is_worth_sending}
 use Rattle.tcp_state.specs.View.{View, IsSound, is_opening, is_closed, awaits_fin_ack, ends_at}
 use Rattle.tcp_state.specs.Congestion.{KeepsCongestion}
 use Rattle.tcp_state.specs.Timing.{KeepsTime, has_unacknowledged, probes, deadline}

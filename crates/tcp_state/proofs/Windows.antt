@@ -4,9 +4,9 @@ use Rattle.std.proofs.lemmas.Bool.Decides.{leb_tells, eqb_tells}
 use Rattle.tcp_segment.specs.Wire.{wire, past}
 use Rattle.tcp_segment.specs.Segment.{Segment}
 use Rattle.clock.specs.declared.moment.Moment.{Moment}
-use Rattle.tcp_state.specs.Numbers.{is_before}
-use Rattle.tcp_state.specs.Halves.{Sending}
-use Rattle.tcp_state.specs.Windows.{updates_window}
+use Rattle.tcp_halves.specs.Numbers.{is_before}
+use Rattle.tcp_halves.specs.Halves.{Sending}
+use Rattle.tcp_halves.specs.Windows.{updates_window}
 use Rattle.tcp_state.specs.Positions.{AreNear}
 use Rattle.tcp_state.specs.View.{View, is_syn_sent}
 use Rattle.tcp_state.specs.Arrival.{after_ack, after_window, after_heard, after_segment_at}

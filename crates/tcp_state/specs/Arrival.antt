@@ -4,15 +4,15 @@ use Rattle.tcp_state.specs.declared.calls.Refusal.{Refusal}
 use Rattle.tcp_state.specs.declared.calls.Refusal.TheVariants.{ECONNREFUSED, ECONNRESET}
 use Rattle.ipv4.specs.declared.addr.Endpoint.{Endpoint}
 use Rattle.tcp_segment.specs.Segment.{Segment, smss_of, span_of}
-use Rattle.tcp_state.specs.Numbers.{is_before}
+use Rattle.tcp_halves.specs.Numbers.{is_before}
 use Rattle.tcp_state.specs.declared.connection.Fate.{Fate}
 use Rattle.tcp_state.specs.declared.connection.Fate.TheVariants.{Stays, Removed, Rejected}
-use Rattle.tcp_state.specs.declared.buffers.TheConstants.{CAPACITY}
+use Rattle.tcp_halves.specs.declared.buffers.TheConstants.{CAPACITY}
 use Rattle.clock.specs.declared.moment.Moment.{Moment}
 use Rattle.tcp_state.specs.declared.state.State.{State}
 use Rattle.tcp_state.specs.declared.state.State.TheVariants.{SynSent, SynReceived, Established, FinWait1, FinWait2, CloseWait, Closing, LastAck, TimeWait, Closed}
-use Rattle.tcp_state.specs.Stream.{outstanding, is_new_ack, sending_from, receiving_nothing, after_syn_acknowledged, after_acknowledged, is_in_window, is_acceptable, after_syn, after_octets, stands_next, after_end}
-use Rattle.tcp_state.specs.Windows.{after_syn_heard, after_window_update}
+use Rattle.tcp_halves.specs.Stream.{outstanding, is_new_ack, sending_from, receiving_nothing, after_syn_acknowledged, after_acknowledged, is_in_window, is_acceptable, after_syn, after_octets, stands_next, after_end}
+use Rattle.tcp_halves.specs.Windows.{after_syn_heard, after_window_update}
 use Rattle.tcp_state.specs.View.{View, first_congestion, is_opening, is_syn_sent, is_syn_received, is_closed, is_fin_wait_2, is_time_wait, awaits_fin_ack, after_reset, is_over}
 use Rattle.tcp_state.specs.Pace.{Pace, first_pace, stopped, mark_past, mark_moved, unmarked, pace_acknowledged, pace_lost}
 use Rattle.congestion.specs.Window.{Window, third_is_next}

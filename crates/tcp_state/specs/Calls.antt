@@ -10,7 +10,7 @@ use Rattle.tcp_state.specs.declared.calls.Received.TheVariants.{Octets, EndOfStr
 use Rattle.clock.specs.declared.moment.Moment.{Moment}
 use Rattle.tcp_state.specs.declared.connection.Fate.{Fate}
 use Rattle.tcp_state.specs.declared.connection.Fate.TheVariants.{Stays, Removed}
-use Rattle.tcp_state.specs.Stream.{send_room, after_read}
+use Rattle.tcp_halves.specs.Stream.{send_room, after_read}
 use Rattle.tcp_state.specs.Timing.{clocked}
 use Rattle.tcp_state.specs.View.{View, is_opening, is_syn_sent, is_syn_received, is_write_closed, is_read_closed, is_closed, is_fin_wait_2, after_stop}
 

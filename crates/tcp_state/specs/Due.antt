@@ -10,8 +10,8 @@ use Rattle.tcp_state.specs.declared.emission.Due.TheVariants.{Rst, Syn, Text, Pr
 use Rattle.tcp_state.specs.declared.emission.Stretch.{Stretch}
 use Rattle.clock.specs.declared.moment.Moment.{Moment}
 use Rattle.tcp_state.specs.Pace.{pace_resent, pace_sent, pace_probed, pace_syn_again}
-use Rattle.tcp_state.specs.Stream.{outstanding, after_sent, receive_window}
-use Rattle.tcp_state.specs.Windows.{open_window, sendable, next_count, is_worth_sending, has_grown, after_advertisement}
+use Rattle.tcp_halves.specs.Stream.{outstanding, after_sent, receive_window}
+use Rattle.tcp_halves.specs.Windows.{open_window, sendable, next_count, is_worth_sending, has_grown, after_advertisement}
 use Rattle.tcp_state.specs.View.{View, is_opening, is_syn_sent, is_syn_received, is_closed, awaits_fin_ack}
 use Rattle.tcp_state.specs.Timing.{probes, clocked}
 

@@ -13,7 +13,7 @@ use Rattle.tcp_state.specs.declared.state.State.{State}
 use Rattle.tcp_state.specs.declared.state.State.TheVariants.{Closed, Listen, SynSent, SynReceived, Established, FinWait1, FinWait2, CloseWait, Closing, LastAck, TimeWait}
 use Rattle.tcp_state.specs.declared.calls.Refusal.{Refusal}
 use Rattle.tcp_state.specs.declared.calls.Refusal.TheVariants.{ECONNREFUSED, ECONNRESET, ETIMEDOUT}
-use Rattle.tcp_state.specs.Stream.{outstanding, is_new_ack}
+use Rattle.tcp_halves.specs.Stream.{outstanding, is_new_ack}
 use Rattle.tcp_state.specs.View.{View, is_syn_sent, is_syn_received, is_closed, is_at_end, is_over}
 use Rattle.tcp_state.specs.Timing.{gives_up, after_tick, tick_fate}
 use Rattle.tcp_state.specs.Calls.{after_send, after_recv, shutdown_refusal, after_shutdown, after_abort, abort_fate, is_removed_by_close, is_aborted_by_close, after_close, close_fate}

@@ -1,7 +1,7 @@
-pub mod Numbers
-pub mod Halves
-pub mod Stream
-pub mod Windows
+pub use Rattle.tcp_halves.specs.Numbers
+pub use Rattle.tcp_halves.specs.Halves
+pub use Rattle.tcp_halves.specs.Stream
+pub use Rattle.tcp_halves.specs.Windows
 pub mod Pace
 pub mod PaceInside
 pub mod View
@@ -14,7 +14,6 @@ pub mod Due
 pub mod Unreachable
 pub mod Edges
 pub mod Positions
-pub mod Received
 pub mod Inside
 pub mod Simultaneous
 pub mod Opening

@@ -2,7 +2,7 @@
 use Rattle.std.specs.Prelude.{ℕ, suc, ◌-◌, ◌*◌, ◌≤◌, ◌&&◌, ◌||◌, nat_lt, min, Bool, true, false, if◌then◌else◌, not, Option, Some, None}
 use Rattle.clock.specs.declared.moment.Moment.{Moment}
 use Rattle.retransmit.specs.Timeout.{Timeout, first_timeout, after_sample, after_expiry, after_lost_syn}
-use Rattle.tcp_state.specs.Numbers.{is_before}
+use Rattle.tcp_halves.specs.Numbers.{is_before}
 use Rattle.tcp_state.specs.declared.pace.TheConstants.{MOST_EXPIRIES, MOST_INTERVAL}
 use Rattle.tcp_state.specs.declared.pace.Timed.{Timed}
 

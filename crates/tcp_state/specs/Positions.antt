@@ -5,8 +5,8 @@ use Rattle.stream_buf.specs.Receiving.{laid, is_taken}
 use Rattle.tcp_segment.specs.Wire.{wire}
 use Rattle.tcp_state.specs.declared.emission.Due.{Due}
 use Rattle.tcp_state.specs.declared.emission.Due.TheVariants.{Syn, Text, Probe}
-use Rattle.tcp_state.specs.Halves.{Receiving}
-use Rattle.tcp_state.specs.Stream.{buffer_of, distance_of, octets_within, octets_gained, after_octets}
+use Rattle.tcp_halves.specs.Halves.{Receiving}
+use Rattle.tcp_halves.specs.Stream.{buffer_of, distance_of, octets_within, octets_gained, after_octets}
 use Rattle.tcp_state.specs.View.{View, is_opening, is_syn_sent, awaits_fin_ack}
 use Rattle.tcp_state.specs.Edges.{Event, Hears}
 

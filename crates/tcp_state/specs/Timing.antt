@@ -11,8 +11,8 @@ use Rattle.tcp_state.specs.declared.connection.Fate.TheVariants.{Stays, Removed}
 use Rattle.tcp_state.specs.declared.pace.TheConstants.{MOST_EXPIRIES}
 use Rattle.tcp_state.specs.declared.timing.TheConstants.{DELAYED_ACK, OVERRIDE}
 use Rattle.tcp_state.specs.Pace.{pace_expired, pace_probes}
-use Rattle.tcp_state.specs.Stream.{outstanding}
-use Rattle.tcp_state.specs.Windows.{waits_for_more}
+use Rattle.tcp_halves.specs.Stream.{outstanding}
+use Rattle.tcp_halves.specs.Windows.{waits_for_more}
 use Rattle.tcp_state.specs.View.{View, is_opening, is_syn_received, is_closed, awaits_fin_ack, ends_at, is_at_end, after_stop, after_reset}
 
 -- When each timer runs.

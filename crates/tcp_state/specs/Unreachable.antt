@@ -4,7 +4,7 @@ use Rattle.tcp_state.specs.declared.calls.Refusal.TheVariants.{ECONNREFUSED}
 use Rattle.tcp_state.specs.declared.connection.Fate.{Fate}
 use Rattle.tcp_state.specs.declared.connection.Fate.TheVariants.{Stays, Removed}
 use Rattle.tcp_state.specs.declared.state.State.TheVariants.{Closed}
-use Rattle.tcp_state.specs.Stream.{outstanding}
+use Rattle.tcp_halves.specs.Stream.{outstanding}
 use Rattle.tcp_state.specs.View.{View, is_syn_sent, after_reset, is_over}
 use Rattle.tcp_state.specs.Timing.{deadline}
 use Rattle.tcp_state.specs.Calls.{send_answer, recv_answer}

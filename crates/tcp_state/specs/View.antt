@@ -2,7 +2,7 @@
 use Rattle.std.specs.Prelude.{◌≡◌, ℕ, ◌+◌, ◌≤◌, ◌^◌, ◌==◌, ◌&&◌, ◌||◌, ◌<◌, not, Bool, true, false, if◌then◌else◌, [], length, Option, Some, None, is_some}
 use Rattle.ipv4.specs.declared.addr.Endpoint.{Endpoint}
 use Rattle.tcp_segment.specs.declared.TheConstants.{MSS, DEFAULT_MSS, LEAST_MSS}
-use Rattle.tcp_state.specs.declared.buffers.TheConstants.{CAPACITY}
+use Rattle.tcp_halves.specs.declared.buffers.TheConstants.{CAPACITY}
 use Rattle.tcp_state.specs.declared.state.State.{State}
 use Rattle.tcp_state.specs.declared.state.State.TheVariants.{Closed, Listen, SynSent, SynReceived, FinWait1, FinWait2, CloseWait, Closing, LastAck, TimeWait}
 use Rattle.tcp_state.specs.declared.ending.TheConstants.{TIME_WAIT, FIN_WAIT_2}
@@ -14,9 +14,9 @@ use Rattle.congestion.specs.Window.{Window, initial_window}
 use Rattle.retransmit.specs.Deadlines.{no_timers}
 use Rattle.tcp_state.specs.Pace.{Pace, IsPaced, first_pace, stopped}
 use Rattle.std.specs.Option.{ForSome}
-use Rattle.tcp_state.specs.Halves.{Sending, Receiving}
+use Rattle.tcp_halves.specs.Halves.{Sending, Receiving}
 use Rattle.stream_buf.specs.Receiving.{IsReceiving}
-use Rattle.tcp_state.specs.Stream.{outstanding, sending_from, receiving_nothing, receive_window, buffer_of, ReceivingFits, KeptInWindow}
+use Rattle.tcp_halves.specs.Stream.{outstanding, sending_from, receiving_nothing, receive_window, buffer_of, ReceivingFits, KeptInWindow}
 
 pub record View : Type 0 where
   pub local : Endpoint

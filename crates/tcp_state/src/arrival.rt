@@ -6,19 +6,19 @@ ghost use Rattle.tcp_state.specs.Arrival.{after_segment, after_syn_ack, owing_ac
 ghost use Rattle.tcp_state.specs.declared.state.State.{State};
 ghost use Rattle.tcp_segment.specs.Segment.{smss_of};
 ghost use Rattle.tcp_segment.specs.Wire.{past};
-ghost use Rattle.tcp_state.specs.Stream.{outstanding, is_new_ack, after_syn};
-ghost use Rattle.tcp_state.specs.Windows.{after_syn_heard};
+ghost use Rattle.tcp_halves.specs.Stream.{outstanding, is_new_ack, after_syn};
+ghost use Rattle.tcp_halves.specs.Windows.{after_syn_heard};
 ghost use Rattle.tcp_state.specs.Pace.{pace_lost};
 ghost use Rattle.congestion.specs.Window.{initial_window};
 ghost use Rattle.congestion.specs.Events.{after_event};
 ghost use Rattle.congestion.specs.Events.Event.{NewAck};
 
-use crate::buffers::CAPACITY;
 use crate::connection::{Connection, Fate};
 use crate::state::State;
 use clock::Moment;
 use congestion::Cwnd;
 use retransmit::Timers;
+use tcp_halves::CAPACITY;
 use tcp_segment::{Seq, TcpView};
 
 /// What the clock and the congestion window have to know of a connection before a segment and of the segment.

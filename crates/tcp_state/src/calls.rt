@@ -3,7 +3,7 @@
 ghost use Rattle.std.specs.Prelude.{◌≡◌, ◌<◌, ◌≤◌, ◌++◌, false, length, take, drop, if◌then◌else◌, ◌||◌, ◌==◌, Ok, Err, OnOk, OnErr, is_some};
 ghost use Rattle.std.specs.Result.{result_err};
 ghost use Rattle.tcp_state.specs.View.{is_opening, is_read_closed, is_write_closed};
-ghost use Rattle.tcp_state.specs.Stream.{send_room};
+ghost use Rattle.tcp_halves.specs.Stream.{send_room};
 ghost use Rattle.tcp_state.specs.Calls.{send_answer, with_octets, after_send, recv_answer, after_recv, recv_count, shutdown_refusal, after_shutdown};
 
 use crate::connection::Connection;

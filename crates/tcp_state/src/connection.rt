@@ -4,17 +4,15 @@ ghost use Rattle.std.specs.Prelude.{◌≡◌};
 ghost use Rattle.tcp_state.specs.View.{View, IsSound, opened_actively, is_over, reset_since};
 ghost use Rattle.tcp_state.specs.Arrival.{opened_passively};
 
-use crate::buffers::Buffers;
 use crate::calls::Refusal;
 use crate::pace::Pace;
-use crate::receiver::Receiver;
-use crate::sender::Sender;
 use crate::state::State;
 use clock::Moment;
 use congestion::Cwnd;
 use ipv4::Endpoint;
 use retransmit::Timers;
 use std::marker::Model;
+use tcp_halves::{Buffers, Receiver, Sender};
 use tcp_segment::{DEFAULT_MSS, Seq, TcpView};
 
 /// What becomes of a connection's place in the table.
@@ -82,14 +80,14 @@ impl Connection {
     pub fn active(buffers: Buffers, local: Endpoint, peer: Endpoint, isn: Seq) -> Connection
         ensures { result ≡ opened_actively local peer isn.0 }
     {
-        let Buffers { send, receive } = buffers;
+        let (sender, receiver) = buffers.into_halves(isn);
         Connection {
             local,
             peer,
             state: State::SynSent,
             is_passive: false,
-            sender: Sender::new(send, isn),
-            receiver: Receiver::new(receive),
+            sender,
+            receiver,
             owes_ack: false,
             delays_ack: false,
             pace: Pace::new(),

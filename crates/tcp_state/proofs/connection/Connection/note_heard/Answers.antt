@@ -2,7 +2,7 @@ use Rattle.std.proofs.Common.{◌≡◌, ◌==◌, ◌&&◌, ◌||◌, not, Bool
 use Rattle.clock.specs.declared.moment.Moment.{Moment}
 use Rattle.tcp_state.specs.declared.arrival.Before.{Before}
 use Rattle.tcp_state.specs.View.{View}
-use Rattle.tcp_state.specs.Stream.{outstanding}
+use Rattle.tcp_halves.specs.Stream.{outstanding}
 use Rattle.tcp_state.specs.Pace.{pace_lost}
 use Rattle.tcp_state.specs.Timing.{clocked}
 use Rattle.tcp_state.specs.Congestion.{after_signal}

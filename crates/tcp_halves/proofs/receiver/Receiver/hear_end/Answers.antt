@@ -1,9 +1,9 @@
 use Rattle.std.proofs.Common.{rules, ◌≡◌, ◌<◌, ◌^◌, subst}
-use Rattle.tcp_state.specs.Halves.{Receiving}
-use Rattle.tcp_state.specs.Received.{received_by}
-use Rattle.tcp_state.specs.Stream.{receive_window, after_end}
-use Rattle.tcp_state.proofs.Keeping.{IsKeeping, end_keeps}
-use Rattle.tcp_state.proofs.receiver.Receiver.hear_end.Goals as goal
+use Rattle.tcp_halves.specs.Halves.{Receiving}
+use Rattle.tcp_halves.specs.Received.{received_by}
+use Rattle.tcp_halves.specs.Stream.{receive_window, after_end}
+use Rattle.tcp_halves.proofs.Keeping.{IsKeeping, end_keeps}
+use Rattle.tcp_halves.proofs.receiver.Receiver.hear_end.Goals as goal
 
 pub invariant_of-self : goal.invariant_of-self
 invariant_of-self c =

@@ -7,13 +7,12 @@ use Rattle.stream_buf.proofs.Inserting.{all_behind, laid_none, receives_laid, re
 use Rattle.stream_buf.proofs.Standing.{laid_before, laid_behind, at_more}
 use Rattle.stream_buf.proofs.Taking.{few_left}
 use Rattle.tcp_segment.specs.Wire.{past}
-use Rattle.tcp_state.specs.Numbers.{is_before}
-use Rattle.tcp_state.specs.declared.buffers.TheConstants.{CAPACITY}
-use Rattle.tcp_state.specs.Halves.{Receiving}
-use Rattle.tcp_state.specs.Stream.{receiving_nothing, buffer_of, ReceivingFits, KeptInWindow, receive_window, after_syn, distance_of, octets_within, octets_gained, after_octets, after_end, after_read}
-use Rattle.tcp_state.specs.View.{View, IsSound}
-use Rattle.tcp_state.specs.Windows.{receive_room, has_grown, after_advertisement}
-use Rattle.tcp_state.proofs.Edges.{either}
+use Rattle.tcp_halves.specs.Numbers.{is_before}
+use Rattle.tcp_halves.specs.declared.buffers.TheConstants.{CAPACITY}
+use Rattle.tcp_halves.specs.Halves.{Receiving}
+use Rattle.tcp_halves.specs.Stream.{receiving_nothing, buffer_of, ReceivingFits, KeptInWindow, receive_window, after_syn, distance_of, octets_within, octets_gained, after_octets, after_end, after_read}
+use Rattle.tcp_halves.specs.Windows.{receive_room, has_grown, after_advertisement}
+use Rattle.tcp_halves.proofs.Choices.{either}
 
 -- every octet kept in these places lies below a distance
 abbrev pub AreBelow : List (Option ℕ) → ℕ → Type 0
@@ -129,10 +128,6 @@ pub record IsKeeping (r : Receiving) : Type 0 where
   pub fits : ReceivingFits r
   pub buffer : IsReceiving (buffer_of r)
   pub kept : KeptInWindow r
-
--- it does of that of every connection
-pub sound_keeping : (v : View) → IsSound v → IsKeeping v.receiving
-sound_keeping v sound = record { small = sound.rnext; fits = sound.window; buffer = sound.buffer; kept = sound.kept }
 
 moved : (rnext edge n : ℕ) → rnext < 2 ^ 32 → n ≤ past edge rnext → past edge ((rnext + n) % 2 ^ 32) ≡ past edge rnext - n
 moved rnext edge n small within = omega (arith, small, within)

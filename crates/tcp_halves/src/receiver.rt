@@ -2,10 +2,10 @@
 
 ghost use Rattle.std.specs.Prelude.{◌≡◌, ◌+◌, ◌%◌, ◌^◌, ◌≤◌, ◌<◌, ◌++◌, ◌==◌, length, take, drop, min};
 ghost use Rattle.stream_buf.specs.Receiving.{nothing_received, ranges, IsReceiving};
-ghost use Rattle.tcp_state.specs.Halves.{Receiving};
-ghost use Rattle.tcp_state.specs.Stream.{receive_window, is_in_window, is_acceptable, receiving_nothing, buffer_of, after_syn, distance_of, octets_within, after_octets, after_read, stands_next, after_end, ReceivingFits, KeptInWindow};
+ghost use Rattle.tcp_halves.specs.Halves.{Receiving};
+ghost use Rattle.tcp_halves.specs.Stream.{receive_window, is_in_window, is_acceptable, receiving_nothing, buffer_of, after_syn, distance_of, octets_within, after_octets, after_read, stands_next, after_end, ReceivingFits, KeptInWindow};
 ghost use Rattle.tcp_segment.specs.Wire.{past};
-ghost use Rattle.tcp_state.specs.Windows.{receive_room, has_grown, after_advertisement};
+ghost use Rattle.tcp_halves.specs.Windows.{receive_room, has_grown, after_advertisement};
 
 use crate::buffers::CAPACITY;
 use std::marker::Model;
@@ -14,7 +14,7 @@ use tcp_segment::{MSS, Seq};
 
 /// The receiving half of a connection.
 #[derive(Drop)]
-pub(crate) struct Receiver {
+pub struct Receiver {
     /// The octets in order that the caller has not read, and those kept ahead of a gap.
     buffer: RecvBuf,
     /// RCV.NXT, the number that is expected next.
@@ -26,10 +26,10 @@ pub(crate) struct Receiver {
 impl Model for Receiver {
     ghost use Rattle.std.specs.Prelude.{◌≡◌};
     ghost use Rattle.stream_buf.specs.Receiving.{IsReceiving};
-    ghost use Rattle.tcp_state.specs.Halves.{Receiving};
-    ghost use Rattle.tcp_state.specs.Received.{received_by};
-    ghost use Rattle.tcp_state.specs.Stream.{buffer_of, ReceivingFits, KeptInWindow};
-    ghost use Rattle.tcp_state.specs.declared.buffers.TheConstants.{CAPACITY};
+    ghost use Rattle.tcp_halves.specs.Halves.{Receiving};
+    ghost use Rattle.tcp_halves.specs.Received.{received_by};
+    ghost use Rattle.tcp_halves.specs.Stream.{buffer_of, ReceivingFits, KeptInWindow};
+    ghost use Rattle.tcp_halves.specs.declared.buffers.TheConstants.{CAPACITY};
 
     ghost Value = { Receiving };
 
@@ -55,35 +55,35 @@ impl Receiver {
     }
 
     /// Whether the caller has read all that came in order.
-    pub(crate) fn is_empty(&self) -> bool
+    pub fn is_empty(&self) -> bool
         ensures { result ≡ (length self.now.readable == 0) }
     {
         self.buffer.readable_len() == 0
     }
 
     /// RCV.NXT, the number that is expected next.
-    pub(crate) fn rnext(&self) -> Seq
+    pub fn rnext(&self) -> Seq
         ensures { result.0 ≡ self.now.rnext }
     {
         self.rnext
     }
 
     /// Whether no octet is kept ahead of a gap.
-    pub(crate) fn is_gapless(&self) -> bool
+    pub fn is_gapless(&self) -> bool
         ensures { result ≡ (ranges self.now.kept == 0) }
     {
         self.buffer.ranges() == 0
     }
 
     /// Whether the window to advertise is larger by a segment than the one that is known (RFC 9293 section 3.8.6.2.2).
-    pub(crate) fn has_grown(&self) -> bool
+    pub fn has_grown(&self) -> bool
         ensures { result ≡ has_grown self.now }
     {
         u64::from(self.window()) + u64::from(MSS) <= u64::from(self.room())
     }
 
     /// The window to advertise: the whole room where it has grown by enough, else what is left of the one that is known.
-    pub(crate) fn next_window(&self) -> u16
+    pub fn next_window(&self) -> u16
         ensures { result ≡ receive_window (after_advertisement self.now) }
     {
         self.next_edge().past(self.rnext) as u16
@@ -109,14 +109,14 @@ impl Receiver {
     }
 
     /// RCV.WND, the window that is advertised and not used up.
-    pub(crate) fn window(&self) -> u32
+    pub fn window(&self) -> u32
         ensures { result ≡ receive_window self.now }
     {
         self.edge.past(self.rnext)
     }
 
     /// The peer's SYN has this number. `advertised` is the window that it knows; none was advertised before.
-    pub(crate) fn hear_syn(&mut self, number: Seq, advertised: u16)
+    pub fn hear_syn(&mut self, number: Seq, advertised: u16)
         requires room { length self.old.readable + advertised ≤ CAPACITY }
         requires first { receive_window self.old ≡ 0 }
         ensures after { self.new ≡ after_syn self.old number.0 advertised }
@@ -129,7 +129,7 @@ impl Receiver {
     }
 
     /// Whether a number lies in the window that is advertised.
-    pub(crate) fn is_in_window(&self, number: Seq) -> bool
+    pub fn is_in_window(&self, number: Seq) -> bool
         ensures { result ≡ is_in_window self.now number.0 }
     {
         number.past(self.rnext) < self.window()
@@ -137,7 +137,7 @@ impl Receiver {
 
     /// Whether a segment is acceptable, by its number and how many numbers it takes
     /// (RFC 9293 section 3.10.7.4).
-    pub(crate) fn is_acceptable(&self, number: Seq, span: u32) -> bool
+    pub fn is_acceptable(&self, number: Seq, span: u32) -> bool
         ensures { result ≡ is_acceptable self.now number.0 span }
     {
         if span > 0 {
@@ -151,7 +151,7 @@ impl Receiver {
 
     /// Takes those octets that lie in the window that is advertised. Those in order can be read, with all that was kept and follows them
     /// without a gap, and those ahead of a gap are kept.
-    pub(crate) fn take(&mut self, number: Seq, octets: &[u8])
+    pub fn take(&mut self, number: Seq, octets: &[u8])
         ensures after { self.new ≡ after_octets self.old number.0 octets.now }
         ensures fits { ReceivingFits self.new }
         ensures buffer { IsReceiving (buffer_of self.new) }
@@ -192,7 +192,7 @@ impl Receiver {
     }
 
     /// Whether the number of a FIN stands next in order, within the window that is advertised.
-    pub(crate) fn stands_next(&self, number: Seq) -> bool
+    pub fn stands_next(&self, number: Seq) -> bool
         ensures { result ≡ stands_next self.now number.0 }
     {
         number == self.rnext && self.window() > 0
@@ -200,7 +200,7 @@ impl Receiver {
 
     /// Takes the peer's FIN, which stands next and for which the window has room. No octet stands behind it, so nothing is kept any
     /// longer.
-    pub(crate) fn hear_end(&mut self)
+    pub fn hear_end(&mut self)
         requires { 0 < receive_window self.old }
         ensures after { self.new ≡ after_end self.old }
         ensures fits { ReceivingFits self.new }
@@ -212,7 +212,7 @@ impl Receiver {
     }
 
     /// Moves the first octets into `buffer`, as many as it holds, and says how many.
-    pub(crate) fn read(&mut self, buffer: &mut [u8]) -> usize
+    pub fn read(&mut self, buffer: &mut [u8]) -> usize
         ensures count { result ≡ min (length buffer.old) (length self.old.readable) }
         ensures octets { buffer.new ≡ take result self.old.readable ++ drop result buffer.old }
         ensures after { self.new ≡ after_read self.old result }
@@ -224,7 +224,7 @@ impl Receiver {
     }
 
     /// The window is advertised.
-    pub(crate) fn advertise(&mut self)
+    pub fn advertise(&mut self)
         ensures after { self.new ≡ after_advertisement self.old }
         ensures fits { ReceivingFits self.new }
         ensures buffer { IsReceiving (buffer_of self.new) }

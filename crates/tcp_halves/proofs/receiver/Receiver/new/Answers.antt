@@ -1,7 +1,7 @@
 use Rattle.std.proofs.Common.{ap, sym, subst}
 use Rattle.stream_buf.specs.Receiving.{ReceiveView}
-use Rattle.tcp_state.proofs.Keeping.{IsKeeping, nothing_keeps, new_is}
-use Rattle.tcp_state.proofs.receiver.Receiver.new.Goals as goal
+use Rattle.tcp_halves.proofs.Keeping.{IsKeeping, nothing_keeps, new_is}
+use Rattle.tcp_halves.proofs.receiver.Receiver.new.Goals as goal
 
 pub invariant_of-result : goal.invariant_of-result
 invariant_of-result c = let k = subst IsKeeping (new_is c.args.buffer c.requires) nothing_keeps in (ap (λ (b : ReceiveView). b.capacity) c.requires, k.fits, k.buffer, k.kept)

@@ -4,9 +4,9 @@ ghost use Rattle.std.specs.Prelude.{◌≡◌, ◌+◌, ◌≤◌, ◌==◌, ◌
 ghost use Rattle.inet_sum.specs.Sum.{sum_of};
 ghost use Rattle.stream_buf.specs.Sending.{nothing_held};
 ghost use Rattle.tcp_segment.specs.Wire.{past};
-ghost use Rattle.tcp_state.specs.Halves.{Sending};
-ghost use Rattle.tcp_state.specs.Stream.{send_room, outstanding, is_new_ack, sending_from, after_syn_acknowledged, after_acknowledged, after_sent};
-ghost use Rattle.tcp_state.specs.Windows.{after_syn_heard, after_window_update, open_window, unsent, usable, sendable, next_count, is_worth_sending, waits_for_more};
+ghost use Rattle.tcp_halves.specs.Halves.{Sending};
+ghost use Rattle.tcp_halves.specs.Stream.{send_room, outstanding, is_new_ack, sending_from, after_syn_acknowledged, after_acknowledged, after_sent};
+ghost use Rattle.tcp_halves.specs.Windows.{after_syn_heard, after_window_update, open_window, unsent, usable, sendable, next_count, is_worth_sending, waits_for_more};
 
 use crate::buffers::CAPACITY;
 use std::marker::Model;
@@ -15,7 +15,7 @@ use tcp_segment::{DEFAULT_MSS, Seq};
 
 /// The sending half of a connection.
 #[derive(Drop)]
-pub(crate) struct Sender {
+pub struct Sender {
     /// The octets that the caller gave, from SND.UNA on.
     buffer: SendBuf,
     /// SND.UNA, the oldest number that is not acknowledged.
@@ -36,8 +36,8 @@ pub(crate) struct Sender {
 
 impl Model for Sender {
     ghost use Rattle.std.specs.Prelude.{◌≡◌, ◌≤◌, length};
-    ghost use Rattle.tcp_state.specs.Halves.{Sending};
-    ghost use Rattle.tcp_state.specs.declared.buffers.TheConstants.{CAPACITY};
+    ghost use Rattle.tcp_halves.specs.Halves.{Sending};
+    ghost use Rattle.tcp_halves.specs.declared.buffers.TheConstants.{CAPACITY};
 
     ghost Value = { Sending };
 
@@ -65,7 +65,7 @@ impl Sender {
     }
 
     /// How many octets are taken and not acknowledged.
-    pub(crate) fn held_len(&self) -> usize
+    pub fn held_len(&self) -> usize
         ensures value { result ≡ length self.now.held }
         ensures bound { result ≤ CAPACITY }
     {
@@ -73,7 +73,7 @@ impl Sender {
     }
 
     /// Fills `out` with those from a place on, and answers their one's complement sum.
-    pub(crate) fn copy_at(&self, offset: usize, out: &mut [u8]) -> u16
+    pub fn copy_at(&self, offset: usize, out: &mut [u8]) -> u16
         requires { offset + length out.old ≤ length self.now.held }
         ensures octets { out.new ≡ take (length out.old) (drop offset self.now.held) }
         ensures sum { result ≡ sum_of out.new }
@@ -82,42 +82,42 @@ impl Sender {
     }
 
     /// Whether all octets that were taken are acknowledged.
-    pub(crate) fn is_empty(&self) -> bool
+    pub fn is_empty(&self) -> bool
         ensures { result ≡ (length self.now.held == 0) }
     {
         self.buffer.is_empty()
     }
 
     /// SND.UNA, the oldest number that is not acknowledged.
-    pub(crate) fn una(&self) -> Seq
+    pub fn una(&self) -> Seq
         ensures { result.0 ≡ self.now.una }
     {
         self.una
     }
 
     /// SND.NXT, the number after the highest that was sent.
-    pub(crate) fn nxt(&self) -> Seq
+    pub fn nxt(&self) -> Seq
         ensures { result.0 ≡ self.now.nxt }
     {
         self.nxt
     }
 
     /// How many octets can still be taken.
-    pub(crate) fn room(&self) -> usize
+    pub fn room(&self) -> usize
         ensures { result ≡ send_room self.now }
     {
         self.buffer.room()
     }
 
     /// How many numbers are sent and not acknowledged.
-    pub(crate) fn outstanding(&self) -> u32
+    pub fn outstanding(&self) -> u32
         ensures { result ≡ outstanding self.now }
     {
         self.nxt.past(self.una)
     }
 
     /// Takes octets, for which there is room.
-    pub(crate) fn append(&mut self, octets: &[u8])
+    pub fn append(&mut self, octets: &[u8])
         requires { length octets.now ≤ send_room self.old }
         ensures { self.new ≡ record self.old { held = self.old.held ++ octets.now } }
     {
@@ -125,7 +125,7 @@ impl Sender {
     }
 
     /// Takes what the peer's SYN says of it: its window and the segments that it takes.
-    pub(crate) fn hear_syn(&mut self, number: Seq, window: u16, smss: u16)
+    pub fn hear_syn(&mut self, number: Seq, window: u16, smss: u16)
         ensures { self.new ≡ after_syn_heard self.old number.0 window smss }
     {
         self.note_window(u32::from(window));
@@ -134,7 +134,7 @@ impl Sender {
     }
 
     /// Whether an acknowledgement is of numbers that are outstanding.
-    pub(crate) fn is_new(&self, acknowledgement: Seq) -> bool
+    pub fn is_new(&self, acknowledgement: Seq) -> bool
         ensures { result ≡ is_new_ack self.now acknowledgement.0 }
     {
         let gained = acknowledgement.past(self.una);
@@ -142,7 +142,7 @@ impl Sender {
     }
 
     /// Our SYN is acknowledged, and with it all that is outstanding.
-    pub(crate) fn acknowledge_syn(&mut self)
+    pub fn acknowledge_syn(&mut self)
         ensures { self.new ≡ after_syn_acknowledged self.old }
     {
         self.una = self.nxt;
@@ -150,7 +150,7 @@ impl Sender {
     }
 
     /// What is held goes out no more, and nothing is outstanding.
-    pub(crate) fn abandon(&mut self)
+    pub fn abandon(&mut self)
         ensures { self.new ≡ record self.old { held = []; una = self.old.nxt } }
     {
         self.buffer.acked(self.buffer.len());
@@ -158,7 +158,7 @@ impl Sender {
     }
 
     /// Octets are acknowledged, which are held no longer, or the FIN behind them all.
-    pub(crate) fn acknowledge(&mut self, acknowledgement: Seq)
+    pub fn acknowledge(&mut self, acknowledgement: Seq)
         ensures { self.new ≡ after_acknowledged self.old acknowledgement.0 }
     {
         let gained = acknowledgement.past(self.una) as usize;
@@ -168,7 +168,7 @@ impl Sender {
 
     /// Takes the window of a segment whose acknowledgement is not below SND.UNA, and that is no older than the one that gave the
     /// present window (RFC 9293 section 3.10.7.4).
-    pub(crate) fn update_window(&mut self, number: Seq, acknowledgement: Seq, window: u16)
+    pub fn update_window(&mut self, number: Seq, acknowledgement: Seq, window: u16)
         ensures { self.new ≡ after_window_update self.old number.0 acknowledgement.0 window }
     {
         let is_newer = self.wl1.is_before(number)
@@ -189,14 +189,14 @@ impl Sender {
     }
 
     /// SND.WND, the peer's window.
-    pub(crate) fn window(&self) -> u32
+    pub fn window(&self) -> u32
         ensures { result ≡ self.now.window }
     {
         self.window
     }
 
     /// The octets that a segment takes at most.
-    pub(crate) fn smss(&self) -> usize
+    pub fn smss(&self) -> usize
         ensures { result ≡ self.now.smss }
     {
         usize::from(self.smss)
@@ -210,7 +210,7 @@ impl Sender {
     }
 
     /// The lesser of the peer's window and the congestion window: how many numbers may be outstanding by new octets.
-    pub(crate) fn open_window(&self, cwnd: u32) -> u32
+    pub fn open_window(&self, cwnd: u32) -> u32
         ensures { result ≡ open_window self.now cwnd }
     {
         self.window.min(cwnd)
@@ -224,21 +224,21 @@ impl Sender {
     }
 
     /// How many new octets may go out.
-    pub(crate) fn sendable(&self, cwnd: u32) -> usize
+    pub fn sendable(&self, cwnd: u32) -> usize
         ensures { result ≡ sendable self.now cwnd }
     {
         self.unsent().min(self.usable(cwnd))
     }
 
     /// How many new octets the next segment has.
-    pub(crate) fn next_count(&self, cwnd: u32) -> usize
+    pub fn next_count(&self, cwnd: u32) -> usize
         ensures { result ≡ next_count self.now cwnd }
     {
         self.sendable(cwnd).min(self.smss())
     }
 
     /// Whether a segment of new octets is worth its way (RFC 9293 section 3.8.6.2.1), where they waited as long as they may or didn't.
-    pub(crate) fn is_worth_sending(&self, cwnd: u32, is_overridden: bool) -> bool
+    pub fn is_worth_sending(&self, cwnd: u32, is_overridden: bool) -> bool
         ensures { result ≡ is_worth_sending self.now cwnd is_overridden }
     {
         let sendable = self.sendable(cwnd);
@@ -250,7 +250,7 @@ impl Sender {
     }
 
     /// Whether new octets that may go out wait for more.
-    pub(crate) fn waits_for_more(&self, cwnd: u32, is_overridden: bool) -> bool
+    pub fn waits_for_more(&self, cwnd: u32, is_overridden: bool) -> bool
         ensures { result ≡ waits_for_more self.now cwnd is_overridden }
     {
         self.unsent() > 0
@@ -260,7 +260,7 @@ impl Sender {
     }
 
     /// So many numbers from the oldest unacknowledged one on went out: SND.NXT is the later of what it was and the number after them.
-    pub(crate) fn sent(&mut self, count: u32)
+    pub fn sent(&mut self, count: u32)
         ensures { self.new ≡ after_sent self.old count }
     {
         let end = self.una + count;

@@ -1,10 +1,10 @@
 use Rattle.std.proofs.Common.{rules, ◌≡◌, ◌%◌, ◌+◌, ◌<◌, ◌^◌, subst, arith}
 use Rattle.stream_buf.specs.Receiving.{ReceiveView}
-use Rattle.tcp_state.specs.Halves.{Receiving}
-use Rattle.tcp_state.specs.Received.{received_by}
-use Rattle.tcp_state.specs.Stream.{distance_of, octets_within}
-use Rattle.tcp_state.proofs.Keeping.{IsKeeping, octets_keep, seen, taken_is, taken_count}
-use Rattle.tcp_state.proofs.receiver.Receiver.take.Goals as goal
+use Rattle.tcp_halves.specs.Halves.{Receiving}
+use Rattle.tcp_halves.specs.Received.{received_by}
+use Rattle.tcp_halves.specs.Stream.{distance_of, octets_within}
+use Rattle.tcp_halves.proofs.Keeping.{IsKeeping, octets_keep, seen, taken_is, taken_count}
+use Rattle.tcp_halves.proofs.receiver.Receiver.take.Goals as goal
 
 pub overflow_cast-count : goal.overflow_cast-count
 overflow_cast-count c =

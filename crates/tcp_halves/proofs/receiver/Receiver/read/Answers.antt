@@ -1,9 +1,9 @@
 use Rattle.std.proofs.Common.{rules, ◌≡◌, ◌<◌, ◌≤◌, ◌^◌, length, subst}
-use Rattle.tcp_state.specs.Halves.{Receiving}
-use Rattle.tcp_state.specs.Received.{received_by}
-use Rattle.tcp_state.specs.Stream.{after_read}
-use Rattle.tcp_state.proofs.Keeping.{IsKeeping, read_keeps}
-use Rattle.tcp_state.proofs.receiver.Receiver.read.Goals as goal
+use Rattle.tcp_halves.specs.Halves.{Receiving}
+use Rattle.tcp_halves.specs.Received.{received_by}
+use Rattle.tcp_halves.specs.Stream.{after_read}
+use Rattle.tcp_halves.proofs.Keeping.{IsKeeping, read_keeps}
+use Rattle.tcp_halves.proofs.receiver.Receiver.read.Goals as goal
 
 pub invariant_of-self : goal.invariant_of-self
 invariant_of-self c =

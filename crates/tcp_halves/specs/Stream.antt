@@ -4,9 +4,9 @@ use Rattle.std.specs.Prelude.{◌≡◌, ℕ, zero, suc, ◌+◌, ◌-◌, ◌%�
 use Rattle.stream_buf.specs.Receiving.{ReceiveView, joined, after_insert, forgotten}
 use Rattle.tcp_segment.specs.declared.TheConstants.{DEFAULT_MSS}
 use Rattle.tcp_segment.specs.Wire.{past}
-use Rattle.tcp_state.specs.Numbers.{is_before, later_number}
-use Rattle.tcp_state.specs.declared.buffers.TheConstants.{CAPACITY}
-use Rattle.tcp_state.specs.Halves.{Sending, Receiving}
+use Rattle.tcp_halves.specs.Numbers.{is_before, later_number}
+use Rattle.tcp_halves.specs.declared.buffers.TheConstants.{CAPACITY}
+use Rattle.tcp_halves.specs.Halves.{Sending, Receiving}
 
 -- nothing has come, and no window is advertised
 abbrev pub receiving_nothing : Receiving

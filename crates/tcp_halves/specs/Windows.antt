@@ -1,10 +1,10 @@
 -- The windows that the two ends advertise to each other, and how much may go out at once (RFC 9293 sections 3.8.6 and 3.10.7.4).
 use Rattle.std.specs.Prelude.{ℕ, ◌+◌, ◌-◌, ◌*◌, ◌%◌, ◌^◌, ◌==◌, ◌&&◌, ◌||◌, not, nat_le, nat_lt, min, max, Bool, if◌then◌else◌, length}
 use Rattle.tcp_segment.specs.declared.TheConstants.{MSS}
-use Rattle.tcp_state.specs.Numbers.{is_before}
-use Rattle.tcp_state.specs.declared.buffers.TheConstants.{CAPACITY}
-use Rattle.tcp_state.specs.Halves.{Sending, Receiving}
-use Rattle.tcp_state.specs.Stream.{outstanding, receive_window}
+use Rattle.tcp_halves.specs.Numbers.{is_before}
+use Rattle.tcp_halves.specs.declared.buffers.TheConstants.{CAPACITY}
+use Rattle.tcp_halves.specs.Halves.{Sending, Receiving}
+use Rattle.tcp_halves.specs.Stream.{outstanding, receive_window}
 
 -- the peer's SYN has its window and the size of the segments that it takes
 abbrev pub after_syn_heard : Sending → ℕ → ℕ → ℕ → Sending

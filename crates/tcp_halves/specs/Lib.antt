@@ -1,0 +1,5 @@
+pub mod Numbers
+pub mod Halves
+pub mod Stream
+pub mod Windows
+pub mod Received

@@ -1,0 +1,6 @@
+-- What holds of the receiving half of every connection.
+use Rattle.tcp_state.specs.View.{View, IsSound}
+use Rattle.tcp_halves.proofs.Keeping.{IsKeeping}
+
+pub sound_keeping : (v : View) → IsSound v → IsKeeping v.receiving
+sound_keeping v sound = record { small = sound.rnext; fits = sound.window; buffer = sound.buffer; kept = sound.kept }
