@@ -14,10 +14,7 @@ use Rattle.tcp_state.specs.Pace.{mark_past}
 use Rattle.tcp_state.specs.View.{View, IsSound, takes_flag_number}
 use Rattle.tcp_state.specs.Due.{first_due, end_of, after_resent, after_first_sent, after_numbers, after_new_octets, brings_new_octets, after_emitted, again, goes_again, new_octets, fin_alone}
 use Rattle.tcp_state.specs.Edges.{Emits, after_first, after_event}
-use Rattle.tcp_halves.proofs.Choices.{either, clash}
-use Rattle.tcp_state.proofs.Edges.{and_left}
-use Rattle.tcp_state.proofs.Causes.{both, or_else, by}
-use Rattle.tcp_state.proofs.Unchanged.{and_false}
+use Rattle.tcp_halves.proofs.Choices.{either, by, clash, and_left, and_false, both, or_else}
 use Rattle.tcp_state.proofs.Emissions.{by_due, stretch_sends}
 
 -- a stretch that begins with what went out has one segment's octets, and ends with what went out, or before it where it is full

@@ -19,31 +19,10 @@ use Rattle.tcp_state.specs.Due.{first_due}
 use Rattle.tcp_state.specs.Unreachable.{is_unreachable, after_unreachable, unreachable_fate}
 use Rattle.tcp_state.specs.Edges.{Event, Hears, Ticks, Emits, Sends, Receives, Shuts, Closes, Aborts, Unreachable, after_first, after_event, fate_by, is_removed, is_reset_by, is_last_ack, ends_by_ack, is_cause, ends_by}
 use Rattle.tcp_state.proofs.Clocked.{timers_keep, emission_keeps}
-use Rattle.tcp_state.proofs.Edges.{either, by_fin, and_left, and_right, emitted-state}
-
-pub both : (a b : Bool) → a ≡ true → b ≡ true → (a && b) ≡ true
-both true b e f = f
-both false b e f = cc
-
-pub or_left : (a b : Bool) → a ≡ true → (a || b) ≡ true
-or_left true b e = refl
-or_left false b e = cc
-
-pub or_right : (a b : Bool) → b ≡ true → (a || b) ≡ true
-or_right true b e = refl
-or_right false b e = e
-
-pub or_else : (a b : Bool) → (a || b) ≡ true → (a ≡ true) ⊎ (b ≡ true)
-or_else true b e = inl refl
-or_else false b e = inr e
-
-pub not_true : (b : Bool) → not b ≡ true → b ≡ false
-not_true true e = cc
-not_true false e = refl
-
-pub of_false : (b : Bool) → b ≡ false → not b ≡ true
-of_false true e = cc
-of_false false e = refl
+pub use Rattle.tcp_halves.proofs.Choices.{both, or_left, or_right, or_else, not_true, of_false}
+use Rattle.tcp_halves.proofs.Choices.{either, by, and_left, and_right, then_chosen, else_chosen}
+use Rattle.tcp_state.proofs.Segments.{by_fin}
+use Rattle.tcp_state.proofs.Edges.{emitted-state}
 
 -- Segments.
 
@@ -98,14 +77,6 @@ closed_by_acceptable v s lives =
     (λ on closed. closed_by_ack v s.acknowledgement lives (closed_before_text told s (closed_before_fin (after_text told s) s closed)))
     (λ off closed. closed_by_ack v s.acknowledgement lives closed)
 
-pub then_chosen : (t a b : Bool) → t ≡ true → a ≡ true → (if t then a else b) ≡ true
-then_chosen true a b e f = f
-then_chosen false a b e f = cc
-
-pub else_chosen : (t a b : Bool) → t ≡ false → b ≡ true → (if t then a else b) ≡ true
-else_chosen true a b e f = cc
-else_chosen false a b e f = f
-
 -- a segment that closes is a reset that acts, or acknowledges our FIN in LAST-ACK
 closed_by_segment : (v : View) (s : Segment) → is_closed v.state ≡ false → is_closed (after_segment v s).state ≡ true → (is_reset_by v s ≡ true) ⊎ (ends_by_ack v s ≡ true)
 closed_by_segment v s lives =
@@ -159,10 +130,6 @@ removes false false true refused opening e = record { lives = refl; ends = inl r
 removes false false false true opening e = cc
 removes false false false false true e = record { lives = refl; ends = inr refl }
 removes false false false false false e = cc
-
-pub by : (C : Type 0) (b : Bool) → (b ≡ true → C) → (b ≡ false → C) → C
-by C true if_true if_false = if_true refl
-by C false if_true if_false = if_false refl
 
 -- the four causes that a segment can be
 caused_by : (v : View) (s : Segment) → (is_reset_by v s ≡ true) ⊎ (ends_by_ack v s ≡ true) → (is_reset_by v s || (not s.flags.rst && ends_by_syn v s) || is_lost v s || ends_by_ack v s) ≡ true

@@ -22,11 +22,9 @@ use Rattle.tcp_state.specs.Arrival.{is_receiving, beyond_fin, fin_acknowledged, 
 use Rattle.tcp_state.specs.Due.{first_due, probe_stretch, end_of, after_ack_paid, after_resent, after_first_sent, after_numbers, after_new_octets, brings_new_octets, after_stretch, after_probe, after_syn_out, after_going_out}
 use Rattle.tcp_state.specs.Unreachable.{is_unreachable}
 use Rattle.tcp_state.specs.Edges.{Event, Hears, Ticks, Emits, Sends, Receives, Shuts, Closes, Aborts, Unreachable, moment_of, after_first, after_event}
-use Rattle.tcp_halves.proofs.Choices.{either, clash}
+use Rattle.tcp_halves.proofs.Choices.{either, clash, and_left, and_right, both, or_left, or_right, not_true, of_false}
+use Rattle.tcp_state.proofs.Segments.{by_fin, by_ack, by_hearing, by_clock}
 use Rattle.tcp_state.proofs.Clocked.{syn_out, heard_paced, after_paced}
-use Rattle.tcp_state.proofs.Edges.{by_fin, and_left, and_right}
-use Rattle.tcp_state.proofs.Causes.{both, or_left, or_right, not_true, of_false}
-use Rattle.tcp_state.proofs.Segments.{by_ack, by_hearing, by_clock}
 use Rattle.tcp_state.proofs.Gains.{receiving_lives}
 use Rattle.tcp_state.proofs.Paces.{goes_out}
 
@@ -206,7 +204,7 @@ ack_heard : (v : View) (ack : ℕ) → Heard v (after_ack v ack)
 ack_heard v ack = by_ack (Heard v) v ack (record {
   old = hears_on v v refl refl refl refl;
   beyond = hears_on v _ refl refl refl refl;
-  opens = λ new. hears_on v _ refl refl refl refl;
+  opens = λ received new. hears_on v _ refl refl refl refl;
   octets = λ new. hears_on v _ refl refl refl refl;
   fin = λ new fin. fin_heard v ack;
 })
@@ -236,11 +234,11 @@ heard v s =
     by_hearing (Heard v) v s (ends v _ refl refl k.expiries refl) (record {
       dropped = hears_on v v refl refl refl refl;
       drawn = hears_on v _ refl refl refl refl;
-      reset = ends v _ refl refl refl refl;
+      reset = λ acts. ends v _ refl refl refl refl;
       crossed = λ waits. hears_on v _ refl refl refl refl;
       opened = λ waits right. hears_on v _ refl refl refl refl;
-      acknowledged = k;
-      read = fin_on v (after_text told s) s text;
+      acknowledged = λ taken. k;
+      read = λ on. fin_on v (after_text told s) s text;
     })
 
 apart : (a b : ℕ) → not (a == b) ≡ true → b ≢ a

@@ -29,10 +29,8 @@ use Rattle.tcp_state.specs.Due.{after_ack_paid, after_syn_out, after_going_out, 
 use Rattle.tcp_state.specs.Unreachable.{is_unreachable}
 use Rattle.tcp_state.specs.Edges.{Event, Hears, Ticks, Emits, Sends, Receives, Shuts, Closes, Aborts, Unreachable, after_first, after_event, congestion_event_at, congestion_event_by}
 use Rattle.tcp_state.proofs.Clocked.{emission_keeps, heard_paced, after_paced, signalled}
-use Rattle.tcp_state.proofs.Edges.{either, by_fin, and_left, and_right}
-use Rattle.tcp_state.proofs.Causes.{by, or_left, or_right}
-use Rattle.tcp_state.proofs.Unchanged.{clash}
-use Rattle.tcp_state.proofs.Segments.{by_ack, by_hearing, by_clock}
+use Rattle.tcp_halves.proofs.Choices.{either, by, clash, and_left, and_right, or_left, or_right}
+use Rattle.tcp_state.proofs.Segments.{by_fin, by_ack, by_hearing, by_clock}
 use Rattle.tcp_state.proofs.Deadlines.{none_comes}
 use Rattle.tcp_state.proofs.Emissions.{syn_sends, stretch_sends, probe_sends}
 use Rattle.tcp_state.proofs.Growth.{IsSize, IsWindow, holds_segment, first_sound, new_ack_sound, expiry_sound, duplicate_sound, duplicate_segment, new_ack_adds, duplicate_adds}
@@ -87,7 +85,7 @@ ack_leaves : (v : View) (ack : ℕ) → Heard v (after_ack v ack)
 ack_leaves v ack = by_ack (Heard v) v ack (record {
   old = leaves v v refl refl (or_left (is_opening v.state) (is_closed v.state));
   beyond = leaves v _ refl refl (or_left (is_opening v.state) (is_closed v.state));
-  opens = λ new. record { congestion = refl; segment = λ opened. refl; size = λ was. was; opens = λ fits opening begun. moves_una v.sending.una v.sending.nxt ack fits new };
+  opens = λ received new. record { congestion = refl; segment = λ opened. refl; size = λ was. was; opens = λ fits opening begun. moves_una v.sending.una v.sending.nxt ack fits new };
   octets = λ new. leaves v _ refl refl (or_left (is_opening v.state) (is_closed v.state));
   fin = λ new fin. leaves v _ refl refl (opening_stays v.state);
 })
@@ -134,7 +132,7 @@ segment_leaves v s =
     by_hearing (Heard v) v s (record { congestion = k.congestion; segment = k.segment; size = k.size; opens = λ fits opening begun. cc }) (record {
       dropped = leaves v v refl refl (or_left (is_opening v.state) (is_closed v.state));
       drawn = leaves v _ refl refl (or_left (is_opening v.state) (is_closed v.state));
-      reset = leaves v _ refl refl (λ opening. refl);
+      reset = λ acts. leaves v _ refl refl (λ opening. refl);
       crossed = λ waits. record {
         congestion = refl;
         segment = λ opened. clash (is_opening v.state) (sent_opens v.state waits) opened;
@@ -147,8 +145,8 @@ segment_leaves v s =
         size = λ was. syn_size s;
         opens = λ fits opening begun. moves_una v.sending.una v.sending.nxt s.acknowledgement fits (and_right (s.flags.syn && s.flags.ack) (is_new_ack v.sending s.acknowledgement) right);
       };
-      acknowledged = ack_leaves v s.acknowledgement;
-      read = end_leaves v (after_text told s) s (text_leaves v told s k);
+      acknowledged = λ taken. ack_leaves v s.acknowledgement;
+      read = λ on. end_leaves v (after_text told s) s (text_leaves v told s k);
     })
 
 -- so it leaves the window

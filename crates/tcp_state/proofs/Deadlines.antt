@@ -11,9 +11,7 @@ use Rattle.tcp_state.specs.Pace.{mark_past}
 use Rattle.tcp_halves.specs.Stream.{outstanding}
 use Rattle.tcp_state.specs.View.{View, is_closed, ends_at, is_at_end, after_stop, after_reset}
 use Rattle.tcp_state.specs.Timing.{KeepsTime, probes, clocked, expires, gives_up, retransmission_expired, probe_expired, after_expiry, delayed_ack_expired, override_expired, after_timers, after_tick, wants_out, deadline}
-use Rattle.tcp_state.proofs.Edges.{either, and_left}
-use Rattle.tcp_state.proofs.Causes.{or_else, or_left, or_right}
-use Rattle.tcp_state.proofs.Unchanged.{clash}
+use Rattle.tcp_halves.proofs.Choices.{either, clash, and_left, or_left, or_right, or_else, neither}
 
 -- When a deadline has come.
 
@@ -52,10 +50,6 @@ timers_come v now =
 pub come_runs : (deadline : Option Moment) (now : Moment) → has_come deadline now ≡ true → is_some deadline ≡ true
 come_runs None now e = cc
 come_runs (Some moment) now e = refl
-
-pub neither : (a b : Bool) → (a || b) ≡ false → (a ≡ false) × (b ≡ false)
-neither true b e = cc
-neither false b e = (refl, e)
 
 -- where no timer has come, that of what is outstanding has not
 pub none_comes : (v : View) (now : Moment) → has_come (next_of v.timers) now ≡ false → has_come v.timers.retransmission now ≡ false

@@ -18,21 +18,9 @@ use Rattle.tcp_state.specs.Due.{first_due}
 use Rattle.tcp_state.specs.Unreachable.{is_unreachable}
 use Rattle.tcp_state.specs.Edges.{IsEdge, Event, Hears, Ticks, Emits, Sends, Receives, Shuts, Closes, Aborts, Unreachable, after_first, after_event, fate_by, is_removed, left_by, state_after}
 use Rattle.tcp_state.proofs.Clocked.{timers_keep, emission_keeps}
-pub use Rattle.tcp_halves.proofs.Choices.{either}
-
--- what a FIN makes of a connection: it counts, or draws an acknowledgement, or there is none
-pub by_fin : (P : View → Type 0) (w : View) (s : Segment) → (counts_fin w s ≡ true → P (record w { state = beyond_end w.state; receiving = after_end w.receiving; owes_ack = true }))
-    → P (owing_ack w) → P w → P (after_fin w s)
-by_fin P w s counted drawn none =
-    either View P (counts_fin w s) _ _ counted (λ not_counted. either View P (s.flags.fin && is_receiving w.state) (owing_ack w) w (λ fin. drawn) (λ no_fin. none))
-
-pub and_left : (a b : Bool) → (a && b) ≡ true → a ≡ true
-and_left true b e = refl
-and_left false b e = cc
-
-pub and_right : (a b : Bool) → (a && b) ≡ true → b ≡ true
-and_right true b e = e
-and_right false b e = cc
+pub use Rattle.tcp_halves.proofs.Choices.{and_left, and_right}
+use Rattle.tcp_halves.proofs.Choices.{either}
+use Rattle.tcp_state.proofs.Segments.{by_fin, by_ack, by_segment}
 
 -- any state may end
 closes : (t : State) → IsEdge t Closed

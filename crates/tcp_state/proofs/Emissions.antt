@@ -12,7 +12,7 @@ use Rattle.tcp_state.specs.View.{View, is_opening, is_closed}
 use Rattle.tcp_state.specs.Timing.{probes}
 use Rattle.tcp_state.specs.Due.{probe_stretch, end_of, after_resent, after_first_sent, after_numbers, after_new_octets, brings_new_octets, after_syn_out, after_stretch, after_probe, ack_due, again, goes_again, again_from, sends_new, new_octets, sends_fin, fin_alone, new_due, first_due}
 use Rattle.tcp_state.proofs.Clocked.{syn_out}
-use Rattle.tcp_state.proofs.Edges.{either, and_right}
+use Rattle.tcp_halves.proofs.Choices.{either, and_right}
 
 -- an acknowledgement is owed, or tells of a window that has grown
 abbrev pub is_ack_due : View → Bool

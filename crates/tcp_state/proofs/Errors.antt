@@ -20,9 +20,9 @@ use Rattle.tcp_state.specs.Due.{first_due}
 use Rattle.tcp_state.specs.Unreachable.{is_unreachable}
 use Rattle.tcp_state.specs.Edges.{Event, Hears, Ticks, Emits, Sends, Receives, Shuts, Closes, Aborts, Unreachable, after_first, after_event, is_reset_by, is_error_of, is_timeout, may_raise}
 use Rattle.tcp_state.proofs.Clocked.{timers_keep, emission_keeps}
-use Rattle.tcp_state.proofs.Edges.{either, by_fin, and_left}
-use Rattle.tcp_state.proofs.Causes.{both, of_false, then_chosen, else_chosen}
-use Rattle.tcp_state.proofs.Unchanged.{and_false, closed_plain, closed_holds}
+use Rattle.tcp_halves.proofs.Choices.{either, and_left, and_false, both, of_false, then_chosen, else_chosen}
+use Rattle.tcp_state.proofs.Segments.{by_fin}
+use Rattle.tcp_state.proofs.Unchanged.{closed_plain, closed_holds}
 
 -- What is no reset tells nothing.
 

@@ -13,12 +13,10 @@ use Rattle.tcp_halves.specs.Stream.{buffer_of, receive_window, distance_of, octe
 use Rattle.tcp_state.specs.View.{View, IsSound, is_syn_sent, is_syn_received, is_closed}
 use Rattle.tcp_state.specs.Arrival.{is_receiving, beyond_fin, after_ack, is_read, after_window, after_text, after_fin, after_segment, is_lost, after_lost, after_heard, is_rejected, before, timed_by, after_segment_at}
 use Rattle.tcp_state.specs.Positions.{AreFree}
-use Rattle.tcp_state.proofs.Edges.{either, by_fin, and_left}
-use Rattle.tcp_state.proofs.Causes.{or_else, not_true}
+use Rattle.tcp_halves.proofs.Choices.{either, clash, and_left, or_else, not_true}
+use Rattle.tcp_state.proofs.Segments.{after_reading, by_fin, by_ack, ack_receives, by_hearing, by_clock, read_tells, reads, not_rejected}
 use Rattle.tcp_halves.proofs.Keeping.{IsKeeping, none_within, at_none, inserted_readable}
 use Rattle.tcp_state.proofs.Sound.{sound_keeping}
-use Rattle.tcp_state.proofs.Unchanged.{clash}
-use Rattle.tcp_state.proofs.Segments.{after_reading, by_ack, ack_receives, by_hearing, by_clock, read_tells, reads, not_rejected}
 
 -- behind a FIN that counts nothing is kept, and else it leaves what is kept
 abbrev Ends : List (Option ℕ) → Segment → View → Type 0
@@ -80,11 +78,11 @@ heard_takes v s =
     by_hearing (λ w. Takes v s w) v s (as_was v (after_lost v s) s (told_receives v s)) (record {
       dropped = as_was v v s refl;
       drawn = (inl refl, inl refl);
-      reset = (inl refl, inl refl);
+      reset = λ acts. (inl refl, inl refl);
       crossed = λ waits. (inl refl, inl refl);
       opened = λ waits right. (inl refl, inl refl);
-      acknowledged = as_was v (after_ack v s.acknowledgement) s (ack_receives v s.acknowledgement);
-      read = fin_takes v (after_text told s) s (text_takes v told s (told_receives v s));
+      acknowledged = λ taken. as_was v (after_ack v s.acknowledgement) s (ack_receives v s.acknowledgement);
+      read = λ on. fin_takes v (after_text told s) s (text_takes v told s (told_receives v s));
     })
 
 takes_alone : (v : View) (s : Segment) (now : Moment) → Takes v s (after_segment_at v s now)
@@ -117,7 +115,7 @@ receiving_after : (v : View) (ack : ℕ) → is_receiving v.state ≡ true → i
 receiving_after v ack receiving = by_ack (λ w. is_receiving w.state ≡ true) v ack (record {
   old = receiving;
   beyond = receiving;
-  opens = λ new. refl;
+  opens = λ received new. refl;
   octets = λ new. receiving;
   fin = λ new fin. receiving_beyond v.state receiving;
 })

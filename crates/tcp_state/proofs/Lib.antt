@@ -1,5 +1,6 @@
 pub mod Framing
 pub mod Sizes
+pub mod Segments
 pub mod GoesOut
 pub mod Clocked
 pub mod Edges
@@ -21,7 +22,6 @@ pub mod Unreachable
 pub mod Simultaneous
 pub mod SynAnswers
 pub mod ThreeSteps
-pub mod Segments
 pub mod Rejecting
 pub mod Emissions
 pub mod NewNumbers

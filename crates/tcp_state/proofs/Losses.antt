@@ -23,10 +23,8 @@ use Rattle.tcp_state.specs.Congestion.Signal.{Begins, Counts, Nothing}
 use Rattle.tcp_state.specs.Arrival.{owing_ack, after_establishment, is_receiving, beyond_fin, is_of_fin, fin_acknowledged, after_new_ack, after_ack, is_read, after_window, after_text, counts_fin, after_fin, is_lost, after_lost, after_segment, after_heard, is_duplicate, before, is_moved, pace_heard, pace_after, congestion_event_of, tells_loss, timed_by, after_segment_at}
 use Rattle.tcp_state.specs.Due.{end_of, after_resent, after_first_sent, after_numbers, after_new_octets, brings_new_octets, after_emitted, ack_due, again, again_from, new_due, first_due}
 use Rattle.tcp_state.proofs.Clocked.{comes_to, unmoved, heard_paced, signalled}
-use Rattle.tcp_state.proofs.Edges.{either, by_fin, and_left, and_right}
-use Rattle.tcp_state.proofs.Causes.{both, not_true}
-use Rattle.tcp_state.proofs.Unchanged.{and_false, clash}
-use Rattle.tcp_state.proofs.Segments.{IsRead, read_tells, reads, not_rejected, by_ack, by_hearing, by_clock}
+use Rattle.tcp_halves.proofs.Choices.{either, clash, and_left, and_right, and_false, both, not_true}
+use Rattle.tcp_state.proofs.Segments.{IsRead, by_fin, by_ack, by_hearing, by_clock, read_tells, reads, not_rejected}
 use Rattle.tcp_state.proofs.Congestion.{window_kept}
 
 -- The third one.
@@ -159,7 +157,7 @@ ack_marks_none v ack none =
     by_ack (λ w. w.pace.mark ≡ None) v ack (record {
       old = none;
       beyond = none;
-      opens = λ new. refl;
+      opens = λ received new. refl;
       octets = λ new. left (past ack v.sending.una) (outstanding sending);
       fin = λ new fin. let p = (after_new_ack v ack).pace in
           either Pace (λ q. q.mark ≡ None) (is_closed (beyond_fin v.state)) (stopped p) p (λ closed. refl) (λ lives. left (past ack v.sending.una) (outstanding sending));
@@ -173,11 +171,11 @@ heard_marks_none v s opened none =
     by_hearing (λ w. w.pace.mark ≡ None) v s refl (record {
       dropped = none;
       drawn = none;
-      reset = refl;
+      reset = λ acts. refl;
       crossed = λ waits. clash (is_syn_sent v.state) waits (past_opening v.state opened).0;
       opened = λ waits right. refl;
-      acknowledged = acked;
-      read =
+      acknowledged = λ taken. acked;
+      read = λ on.
           let read : text.pace.mark ≡ None = either View (λ w. w.pace.mark ≡ None) ((length s.octets == 0) || not (is_receiving told.state)) told _ (λ none. acked) (λ some. acked) in
           by_fin (λ w. w.pace.mark ≡ None) text s (λ counts. read) read read;
     })

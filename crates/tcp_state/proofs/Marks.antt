@@ -15,9 +15,8 @@ use Rattle.tcp_state.specs.View.{View, IsSound, is_opening, is_syn_sent, is_syn_
 use Rattle.tcp_halves.specs.Numbers.{is_before}
 use Rattle.tcp_state.specs.Arrival.{owing_ack, is_receiving, is_of_fin, beyond_fin, beyond_end, fin_acknowledged, after_new_ack, after_ack, after_window, after_text, is_duplicate, before, pace_heard, congestion_event_of, tells_loss, after_heard, after_segment_at}
 use Rattle.tcp_state.proofs.Clocked.{heard_paced}
-use Rattle.tcp_state.proofs.Edges.{either, by_fin}
-use Rattle.tcp_state.proofs.Unchanged.{clash}
-use Rattle.tcp_state.proofs.Segments.{by_hearing, by_clock}
+use Rattle.tcp_halves.proofs.Choices.{either, clash}
+use Rattle.tcp_state.proofs.Segments.{by_fin, by_hearing, by_clock}
 use Rattle.tcp_state.proofs.Congestion.{window_kept}
 use Rattle.tcp_state.proofs.Losses.{past_opening, told_by_third}
 
@@ -74,11 +73,11 @@ heard_leaves v s distance sound opened mark =
     by_hearing P v s (λ lives. cc) (record {
       dropped = same;
       drawn = same;
-      reset = λ lives. cc;
+      reset = λ acts lives. cc;
       crossed = λ waits. clash (is_syn_sent v.state) waits waits_not;
       opened = λ waits right. clash (is_syn_sent v.state) waits waits_not;
-      acknowledged = answered;
-      read =
+      acknowledged = λ taken. answered;
+      read = λ on.
           let heard : P told = either Sending (λ t. P (record acked { sending = t })) (updates_window acked.sending s.number s.acknowledgement) _ acked.sending (λ newer. answered) (λ older. answered) in
           let read : P text = either View P ((length s.octets == 0) || not (is_receiving told.state)) told _ (λ none. heard) (λ some. heard) in
           by_fin P text s (λ counts lives. read (still_closed text.state lives)) read read;

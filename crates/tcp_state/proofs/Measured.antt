@@ -19,8 +19,7 @@ use Rattle.tcp_state.specs.Due.{MayGoOut, sends_again, after_emitted, probe_stre
 use Rattle.tcp_state.specs.Unreachable.{is_unreachable}
 use Rattle.tcp_state.specs.Edges.{Event, Hears, Ticks, Emits, Sends, Receives, Shuts, Closes, Aborts, Unreachable, moment_of, after_first, after_event}
 use Rattle.tcp_state.proofs.Clocked.{syn_out, heard_paced, after_paced}
-use Rattle.tcp_state.proofs.Edges.{either}
-use Rattle.tcp_state.proofs.Unchanged.{clash}
+use Rattle.tcp_halves.proofs.Choices.{either, clash}
 use Rattle.tcp_state.proofs.Segments.{by_clock}
 use Rattle.tcp_state.proofs.Paces.{segment_hears, goes_out}
 

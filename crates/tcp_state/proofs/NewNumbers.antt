@@ -7,7 +7,7 @@ use Rattle.tcp_halves.specs.Stream.{outstanding}
 use Rattle.tcp_halves.specs.Windows.{sendable, is_worth_sending}
 use Rattle.tcp_state.specs.View.{View, IsSound, awaits_fin_ack}
 use Rattle.tcp_state.specs.Due.{first_due, end_of, again, new_octets, fin_alone}
-use Rattle.tcp_state.proofs.Edges.{and_left, and_right}
+use Rattle.tcp_halves.proofs.Choices.{and_left, and_right}
 use Rattle.tcp_state.proofs.Emissions.{by_due}
 
 -- a stretch with nothing that went out before begins at SND.NXT, and ends in the window

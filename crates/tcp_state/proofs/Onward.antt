@@ -21,11 +21,10 @@ use Rattle.tcp_state.specs.Unreachable.{is_unreachable}
 use Rattle.tcp_state.specs.Edges.{Event, Hears, Ticks, Emits, Sends, Receives, Shuts, Closes, Aborts, Unreachable, after_first, after_event}
 use Rattle.tcp_state.specs.Positions.{GoesOn, NeverBack, HasNumber}
 use Rattle.tcp_state.proofs.Clocked.{timers_keep, syn_out}
-use Rattle.tcp_state.proofs.Edges.{either, by_fin, and_right}
+use Rattle.tcp_halves.proofs.Choices.{either, clash, and_right}
+use Rattle.tcp_state.proofs.Segments.{after_reading, by_fin, by_ack, ack_receives, reading_sends, by_hearing, by_clock}
 use Rattle.tcp_halves.proofs.Keeping.{IsKeeping, gained_fits}
 use Rattle.tcp_state.proofs.Sound.{sound_keeping}
-use Rattle.tcp_state.proofs.Unchanged.{clash}
-use Rattle.tcp_state.proofs.Segments.{by_ack, ack_receives, after_reading, reading_sends, by_hearing, by_clock}
 use Rattle.tcp_state.proofs.Emissions.{by_due, numbers_send, numbers_receive, stretch_sends, stretch_receives, probe_sends, probe_receives}
 
 -- One number.
@@ -99,13 +98,13 @@ acknowledged v ack sound fits =
     by_ack (λ w. GoesOn v.sending.una w.sending.una) v ack (record {
       old = rests v.sending.una;
       beyond = rests v.sending.una;
-      opens = λ new. reaches v.sending.una v.sending.nxt sound.nxt (omega (arith, few));
+      opens = λ received new. reaches v.sending.una v.sending.nxt sound.nxt (omega (arith, few));
       octets = on;
       fin = λ new fin. on new;
     })
 
 acknowledged_nxt : (v : View) (ack : ℕ) → (after_ack v ack).sending.nxt ≡ v.sending.nxt
-acknowledged_nxt v ack = by_ack (λ w. w.sending.nxt ≡ v.sending.nxt) v ack (record { old = refl; beyond = refl; opens = λ new. refl; octets = λ new. refl; fin = λ new fin. refl })
+acknowledged_nxt v ack = by_ack (λ w. w.sending.nxt ≡ v.sending.nxt) v ack (record { old = refl; beyond = refl; opens = λ received new. refl; octets = λ new. refl; fin = λ new fin. refl })
 
 told_una : (s : Sending) (number ack window : ℕ) → (after_window_update s number ack window).una ≡ s.una
 told_una s number ack window = either Sending (λ t. t.una ≡ s.una) (updates_window s number ack) _ s (λ tells. refl) (λ none. refl)
@@ -197,11 +196,11 @@ by_heard v s sound fits =
     by_hearing (λ w. NeverBack v w) v s (by_lost v s sound) (record {
       dropped = still v v refl refl refl;
       drawn = still v _ refl refl refl;
-      reset = ended v (after_reset v (reset_error v.state)) sound refl refl refl;
+      reset = λ acts. ended v (after_reset v (reset_error v.state)) sound refl refl refl;
       crossed = λ opening. opens v _ opening (rests v.sending.una) (rests v.sending.nxt);
       opened = λ opening right. opens v _ opening (reaches v.sending.una v.sending.nxt sound.nxt (omega (arith, few))) (rests v.sending.nxt);
-      acknowledged = by_acknowledgement v s sound fits;
-      read = by_reading v s sound fits;
+      acknowledged = λ taken. by_acknowledgement v s sound fits;
+      read = λ on. by_reading v s sound fits;
     })
 
 -- Emissions.

@@ -13,8 +13,8 @@ use Rattle.tcp_state.specs.View.{View, is_closed, is_syn_received}
 use Rattle.tcp_state.specs.Arrival.{is_receiving, beyond_fin, fin_acknowledged, after_new_ack, after_ack, after_window, after_text, after_fin, after_heard}
 use Rattle.tcp_state.specs.Due.{probe_stretch, end_of, after_ack_paid, after_resent, after_first_sent, after_numbers, after_new_octets, brings_new_octets, after_stretch, after_probe, after_syn_out, after_going_out}
 use Rattle.tcp_state.proofs.Clocked.{syn_out}
-use Rattle.tcp_state.proofs.Edges.{either, by_fin}
-use Rattle.tcp_state.proofs.Segments.{by_ack, by_hearing}
+use Rattle.tcp_halves.proofs.Choices.{either}
+use Rattle.tcp_state.proofs.Segments.{by_fin, by_ack, by_hearing}
 
 -- Segments.
 
@@ -50,7 +50,7 @@ ack_hears : (v : View) (ack : ℕ) → Hears v (after_ack v ack)
 ack_hears v ack = by_ack (Hears v) v ack (record {
   old = runs_on v v refl refl refl;
   beyond = runs_on v _ refl refl refl;
-  opens = λ new. runs_on v _ refl refl refl;
+  opens = λ received new. runs_on v _ refl refl refl;
   octets = λ new. runs_on v _ refl refl refl;
   fin = λ new fin. fin_hears v ack;
 })
@@ -80,11 +80,11 @@ segment_hears v s =
     by_hearing (Hears v) v s (stops v _ k.timeout refl refl) (record {
       dropped = runs_on v v refl refl refl;
       drawn = runs_on v _ refl refl refl;
-      reset = stops v _ refl refl refl;
+      reset = λ acts. stops v _ refl refl refl;
       crossed = λ waits. runs_on v _ refl refl refl;
       opened = λ waits right. runs_on v _ refl refl refl;
-      acknowledged = k;
-      read = end_hears v (after_text told s) s (text_hears v told s (window_hears v acked s k));
+      acknowledged = λ taken. k;
+      read = λ on. end_hears v (after_text told s) s (text_hears v told s (window_hears v acked s k));
     })
 
 -- Emissions.

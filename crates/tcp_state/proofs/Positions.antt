@@ -8,8 +8,7 @@ use Rattle.tcp_halves.specs.Stream.{receive_window, is_in_window, is_acceptable}
 use Rattle.tcp_state.specs.Positions.{ReceivesAt, IsNear, MeetsWindow}
 use Rattle.tcp_state.specs.View.{View}
 use Rattle.tcp_state.specs.Arrival.{is_acceptable_to}
-use Rattle.tcp_state.proofs.Causes.{or_left, or_right, or_else}
-use Rattle.tcp_state.proofs.Unchanged.{clash}
+use Rattle.tcp_halves.proofs.Choices.{clash, or_left, or_right, or_else}
 
 -- the window told is as long as the positions say
 pub window_at : (initial next edge : ℕ) (r : Receiving) → ReceivesAt initial next edge r → receive_window r ≡ edge - next

@@ -8,8 +8,7 @@ use Rattle.tcp_state.specs.declared.emission.Due.TheVariants.{Rst, Syn, Text, Pr
 use Rattle.tcp_state.specs.declared.emission.Stretch.{Stretch}
 use Rattle.tcp_state.specs.View.{View}
 use Rattle.tcp_state.specs.Due.{IsHeld, MayGoOut, flags_of, flags_of_stretch, octets_of, octets_of_stretch, probe_stretch}
-use Rattle.tcp_state.proofs.Causes.{both}
-use Rattle.tcp_state.proofs.Edges.{and_right}
+use Rattle.tcp_halves.proofs.Choices.{and_right, both}
 
 abbrev pushes : View → Stretch → Bool
 pushes v stretch = let f = flags_of_stretch v stretch in f.psh

@@ -7,9 +7,8 @@ use Rattle.tcp_state.specs.declared.state.State.{State}
 use Rattle.tcp_state.specs.declared.state.State.TheVariants.{SynSent, SynReceived}
 use Rattle.tcp_state.specs.View.{View, is_syn_sent, is_syn_received, is_closed, is_over}
 use Rattle.tcp_state.specs.Arrival.{is_receiving, is_acceptable_to, is_read, brings_more, is_lost, after_segment, after_heard, before, timed_by, after_segment_at, acknowledges_unsent, is_rejected, ends_opening, fate}
-use Rattle.tcp_state.proofs.Edges.{and_left, and_right}
-use Rattle.tcp_state.proofs.Causes.{by, or_else}
-use Rattle.tcp_state.proofs.Unchanged.{clash, unsent, unsent_leaves}
+use Rattle.tcp_halves.proofs.Choices.{by, clash, and_left, and_right, or_else}
+use Rattle.tcp_state.proofs.Unchanged.{unsent, unsent_leaves}
 
 opening_receives_not : (t : State) → is_syn_sent t ≡ true → is_receiving t ≡ false
 opening_receives_not SynSent e = refl

@@ -16,9 +16,8 @@ use Rattle.tcp_state.specs.Due.{first_due, after_emitted}
 use Rattle.tcp_state.specs.Unreachable.{is_unreachable}
 use Rattle.tcp_state.specs.Edges.{Event, Hears, Ticks, Emits, Sends, Receives, Shuts, Closes, Aborts, Unreachable, after_first, after_event, moment_of}
 use Rattle.tcp_state.proofs.Clocked.{timers_keep, emission}
-use Rattle.tcp_halves.proofs.Choices.{either, clash}
-use Rattle.tcp_state.proofs.Edges.{by_fin}
-use Rattle.tcp_state.proofs.Causes.{by, or_left, or_right, of_false}
+use Rattle.tcp_halves.proofs.Choices.{either, by, clash, or_left, or_right, of_false}
+use Rattle.tcp_state.proofs.Segments.{by_fin}
 
 -- what an event makes of an owed reset: it waits as before, it waits no more, or the event is the first by which it is owed
 abbrev Ages : View → Event → View → Type 0

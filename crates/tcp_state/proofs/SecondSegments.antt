@@ -14,11 +14,9 @@ use Rattle.tcp_state.specs.View.{View, IsSound, is_opening, is_syn_sent, is_syn_
 use Rattle.tcp_state.specs.Timing.{KeepsTime, running}
 use Rattle.tcp_state.specs.Arrival.{is_receiving, beyond_fin, after_ack, is_read, after_window, may_delay, after_text, after_fin, after_segment, brings_more, is_lost, after_lost, after_heard, before, timed_by, after_segment_at}
 use Rattle.tcp_state.specs.Due.{first_due, again, new_octets, fin_alone, flags_of}
-use Rattle.tcp_halves.proofs.Choices.{either, clash}
+use Rattle.tcp_halves.proofs.Choices.{either, by, clash, or_left, or_right, or_else, not_true}
+use Rattle.tcp_state.proofs.Segments.{after_reading, by_fin, by_ack, read_tells, reads, not_rejected}
 use Rattle.tcp_state.proofs.Clocked.{comes_to}
-use Rattle.tcp_state.proofs.Edges.{by_fin}
-use Rattle.tcp_state.proofs.Causes.{or_left, or_right, or_else, not_true, by}
-use Rattle.tcp_state.proofs.Segments.{after_reading, by_ack, read_tells, reads, not_rejected}
 use Rattle.tcp_state.proofs.Gains.{receiving_lives}
 use Rattle.tcp_state.proofs.Waiting.{owed_where_closed}
 use Rattle.tcp_state.proofs.Emissions.{is_ack_due, by_due}
@@ -46,7 +44,7 @@ acked : (v : View) (ack : ℕ) → is_receiving v.state ≡ true → Reaches v (
 acked v ack on = by_ack (Reaches v) v ack (record {
   old = record { receiving = on; delays = refl; owes = λ owed. owed };
   beyond = record { receiving = on; delays = refl; owes = λ owed. refl };
-  opens = λ new. record { receiving = refl; delays = refl; owes = λ owed. owed };
+  opens = λ received new. record { receiving = refl; delays = refl; owes = λ owed. owed };
   octets = λ new. record { receiving = on; delays = refl; owes = λ owed. owed };
   fin = λ new fin.
       let goes = fin_goes_on v.state on in

@@ -21,7 +21,7 @@ use Rattle.tcp_state.specs.Due.{first_due, after_going_out}
 use Rattle.tcp_state.specs.Unreachable.{is_unreachable}
 use Rattle.tcp_state.specs.Edges.{Event, Hears, Ticks, Emits, Sends, Receives, Shuts, Closes, Aborts, Unreachable, moment_of, after_first, after_event}
 use Rattle.tcp_state.proofs.Clocked.{heard_paced, after_paced}
-use Rattle.tcp_state.proofs.Edges.{either}
+use Rattle.tcp_halves.proofs.Choices.{either}
 use Rattle.tcp_state.proofs.Segments.{by_clock}
 use Rattle.tcp_state.proofs.Paces.{segment_hears, goes_out}
 

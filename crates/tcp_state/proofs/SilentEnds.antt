@@ -16,7 +16,8 @@ use Rattle.tcp_state.specs.Due.{first_due}
 use Rattle.tcp_state.specs.Unreachable.{is_unreachable}
 use Rattle.tcp_state.specs.Edges.{Event, Hears, Ticks, Emits, Sends, Receives, Shuts, Closes, Aborts, Unreachable, after_first, after_event, is_last_ack}
 use Rattle.tcp_state.proofs.Clocked.{timers_keep}
-use Rattle.tcp_state.proofs.Edges.{either, and_left, emitted-state}
+use Rattle.tcp_halves.proofs.Choices.{either, and_left}
+use Rattle.tcp_state.proofs.Edges.{emitted-state}
 use Rattle.tcp_state.proofs.Causes.{closed_by_acceptable}
 
 -- the connection became CLOSED, tells nothing, and its caller has not left it

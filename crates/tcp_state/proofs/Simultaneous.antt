@@ -29,8 +29,7 @@ use Rattle.tcp_state.specs.Due.{first_due, ack_due, new_octets, head_of, octets_
 use Rattle.tcp_state.specs.Edges.{Hears, Emits, after_first, after_event}
 use Rattle.tcp_state.specs.Simultaneous.{first_segment, after_coming, Ends, crossed, AnswersSyn, HasOpened}
 use Rattle.tcp_state.proofs.Clocked.{comes_to, unmoved, timed_unmoved}
-use Rattle.tcp_halves.proofs.Choices.{either, clash}
-use Rattle.tcp_state.proofs.Causes.{both, or_left}
+use Rattle.tcp_halves.proofs.Choices.{either, clash, both, or_left}
 use Rattle.tcp_state.proofs.Unreachable.{and_no}
 
 -- What an end is, step by step.

@@ -8,9 +8,7 @@ use Rattle.tcp_halves.specs.Stream.{outstanding}
 use Rattle.tcp_halves.specs.Windows.{unsent, usable, sendable, is_worth_sending}
 use Rattle.tcp_state.specs.View.{View, IsSound}
 use Rattle.tcp_state.specs.Due.{first_due, again, sends_new, new_octets, fin_alone}
-use Rattle.tcp_halves.proofs.Choices.{clash}
-use Rattle.tcp_state.proofs.Edges.{and_left, and_right}
-use Rattle.tcp_state.proofs.Causes.{or_else}
+use Rattle.tcp_halves.proofs.Choices.{clash, and_left, and_right, or_else}
 use Rattle.tcp_state.proofs.Emissions.{by_due}
 
 -- new octets of less than a segment, without the override

@@ -25,8 +25,7 @@ use Rattle.tcp_state.specs.Edges.{after_first}
 use Rattle.tcp_state.specs.Simultaneous.{AnswersSyn}
 use Rattle.tcp_state.specs.Unreachable.{IsRefused}
 use Rattle.tcp_state.proofs.Clocked.{comes_to, marks_kept, probes_kept}
-use Rattle.tcp_halves.proofs.Choices.{either, clash}
-use Rattle.tcp_state.proofs.Causes.{both, or_left, or_right, of_false}
+use Rattle.tcp_halves.proofs.Choices.{either, clash, both, or_left, or_right, of_false}
 use Rattle.tcp_state.proofs.Emissions.{syn_sends}
 use Rattle.tcp_state.proofs.Resets.{one_out, next_accepted, rst_not_lost, rst_not_refused}
 use Rattle.tcp_state.proofs.Unreachable.{none_listed, opening, silent, at_rest}

@@ -18,8 +18,7 @@ use Rattle.tcp_state.specs.Edges.{after_first}
 use Rattle.tcp_state.specs.Simultaneous.{AnswersSyn}
 use Rattle.tcp_state.specs.Opening.{OpenedBy, Confirmed}
 use Rattle.tcp_state.proofs.Clocked.{comes_to}
-use Rattle.tcp_halves.proofs.Choices.{either, clash}
-use Rattle.tcp_state.proofs.Causes.{both}
+use Rattle.tcp_halves.proofs.Choices.{either, clash, both}
 use Rattle.tcp_state.proofs.Emissions.{syn_sends}
 use Rattle.tcp_state.proofs.SynAnswers.{then_sent}
 use Rattle.tcp_state.proofs.Unreachable.{opening}

@@ -25,10 +25,9 @@ use Rattle.tcp_state.specs.Due.{first_due, after_going_out}
 use Rattle.tcp_state.specs.Unreachable.{is_unreachable}
 use Rattle.tcp_state.specs.Edges.{Event, Hears, Ticks, Emits, Sends, Receives, Shuts, Closes, Aborts, Unreachable, after_first, after_event}
 use Rattle.tcp_state.proofs.Clocked.{timers_keep, emission_keeps}
-use Rattle.tcp_state.proofs.Edges.{either, by_fin, and_left, and_right}
-use Rattle.tcp_state.proofs.Causes.{by}
-use Rattle.tcp_state.proofs.Unchanged.{clash, and_false, closed_holds, closed_owes}
-use Rattle.tcp_state.proofs.Segments.{by_ack, by_hearing, by_clock}
+use Rattle.tcp_halves.proofs.Choices.{either, by, clash, and_left, and_right, and_false}
+use Rattle.tcp_state.proofs.Segments.{by_fin, by_ack, by_hearing, by_clock}
+use Rattle.tcp_state.proofs.Unchanged.{closed_holds, closed_owes}
 
 -- The clock at the end of an event.
 
@@ -124,7 +123,7 @@ ack_quiet v ack lives =
     by_ack Quiet v ack (record {
       old = none;
       beyond = none;
-      opens = λ new closed. cc;
+      opens = λ received new closed. cc;
       octets = λ new closed. clash (is_closed v.state) closed lives;
       fin = λ new fin closed.
           let all : length v.sending.held < past ack v.sending.una = ltb-true (length v.sending.held) (past ack v.sending.una) (and_right (awaits_fin_ack v.state) _ fin) in
@@ -138,11 +137,11 @@ heard_quiet v s lives =
     by_hearing Quiet v s (λ closed. (refl, refl)) (record {
       dropped = none;
       drawn = none;
-      reset = λ closed. (refl, refl);
+      reset = λ acts. λ closed. (refl, refl);
       crossed = λ waits closed. cc;
       opened = λ waits right closed. cc;
-      acknowledged = ack_quiet v s.acknowledgement lives;
-      read = fin_quiet (after_text told s) s (text_quiet told s (window_quiet (after_ack v s.acknowledgement) s (ack_quiet v s.acknowledgement lives)));
+      acknowledged = λ taken. ack_quiet v s.acknowledgement lives;
+      read = λ on. fin_quiet (after_text told s) s (text_quiet told s (window_quiet (after_ack v s.acknowledgement) s (ack_quiet v s.acknowledgement lives)));
     })
 
 -- Emissions.

@@ -19,12 +19,9 @@ use Rattle.tcp_state.specs.Arrival.{is_receiving, after_ack, after_window, after
 use Rattle.tcp_state.specs.Due.{first_due, again, new_octets, fin_alone, after_ack_paid, after_syn_out, after_stretch, after_probe, after_emitted}
 use Rattle.tcp_state.specs.Unreachable.{is_unreachable}
 use Rattle.tcp_state.specs.Edges.{Event, Hears, Ticks, Emits, Sends, Receives, Shuts, Closes, Aborts, Unreachable, after_first, after_event}
-use Rattle.tcp_halves.proofs.Choices.{either, clash}
+use Rattle.tcp_halves.proofs.Choices.{either, clash, both, or_right, neither, of_false}
+use Rattle.tcp_state.proofs.Segments.{by_fin, ack_receives, by_hearing, by_clock}
 use Rattle.tcp_state.proofs.Clocked.{timers_keep, syn_out}
-use Rattle.tcp_state.proofs.Edges.{by_fin}
-use Rattle.tcp_state.proofs.Causes.{or_right, both, of_false}
-use Rattle.tcp_state.proofs.Segments.{by_hearing, by_clock, ack_receives}
-use Rattle.tcp_state.proofs.Deadlines.{neither}
 use Rattle.tcp_state.proofs.Waiting.{owed_where_closed}
 use Rattle.tcp_state.proofs.Emissions.{is_ack_due, by_due, numbers_receive, stretch_receives, probe_receives}
 
@@ -84,11 +81,11 @@ heard_edge v s past_opening =
     by_hearing P v s acked (record {
       dropped = refl;
       drawn = refl;
-      reset = refl;
+      reset = λ acts. refl;
       crossed = λ waits. clash (is_syn_sent v.state) waits past_opening;
       opened = λ waits right. clash (is_syn_sent v.state) waits past_opening;
-      acknowledged = acked;
-      read = by_fin P (after_text heard s) s (λ counts. text) text text;
+      acknowledged = λ taken. acked;
+      read = λ on. by_fin P (after_text heard s) s (λ counts. text) text text;
     })
 
 -- Every event.

@@ -15,9 +15,7 @@ use Rattle.tcp_state.specs.View.{View, IsSound, is_opening, is_syn_sent, is_syn_
 use Rattle.tcp_state.specs.Timing.{probes}
 use Rattle.tcp_state.specs.Arrival.{owing_ack, after_establishment, after_ack, is_read_on, after_acknowledging_segment, after_acceptable_segment, ends_opening, is_acceptable_to, is_right_syn_ack, after_syn_ack, is_simultaneous_syn, after_simultaneous_syn, after_segment, is_lost, after_lost, after_heard, acknowledges_unsent, is_rejected, before, timed_by, after_segment_at, fate}
 use Rattle.tcp_state.specs.Due.{first_due, again_from, new_due, ack_due, sends_fin, new_octets, fin_alone}
-use Rattle.tcp_state.proofs.Edges.{either, and_left, and_right}
-pub use Rattle.tcp_halves.proofs.Choices.{clash}
-use Rattle.tcp_state.proofs.Causes.{or_else, or_right, not_true}
+use Rattle.tcp_halves.proofs.Choices.{either, clash, and_left, and_right, and_false, or_right, or_else, not_true}
 
 -- the tests of a fate that rejects
 record Rejects (lost rejected : Bool) : Type 0 where
@@ -96,10 +94,6 @@ rejected_leaves_at v s now e =
     ap (λ b. if b then v else timed_by (before v s) (after_heard v s) now) (or_right (is_closed v.state) (is_rejected v s) r.answered)
 
 -- What is CLOSED.
-
-pub and_false : (b : Bool) → (b && false) ≡ false
-and_false true = refl
-and_false false = refl
 
 -- no test that makes something due holds but that of a reset
 pub record IsQuiet (v : View) : Type 0 where

@@ -18,7 +18,7 @@ use Rattle.tcp_state.specs.Timing.{probes, retransmits, awaits_more, running, re
 use Rattle.tcp_state.specs.Due.{first_due, new_octets, sends_new, new_due}
 use Rattle.tcp_state.specs.Edges.{Unreachable, after_event, fate_by}
 use Rattle.tcp_state.specs.Unreachable.{is_unreachable, after_unreachable, IsRefused}
-use Rattle.tcp_state.proofs.Causes.{both, of_false}
+use Rattle.tcp_halves.proofs.Choices.{both, of_false}
 
 -- what the error doesn't hit stays
 unhit : (v : View) (number : ℕ) → is_unreachable v number ≡ false → after_unreachable v number ≡ v

@@ -15,9 +15,8 @@ use Rattle.tcp_state.specs.Congestion.{KeepsCongestion}
 use Rattle.tcp_state.specs.Timing.{KeepsTime, has_unacknowledged, probes, deadline}
 use Rattle.tcp_state.specs.Due.{first_due, ack_due, again, goes_again, again_from, sends_new, new_octets, sends_fin, fin_alone, new_due}
 use Rattle.tcp_state.specs.Positions.{HasToSend, takes_numbers}
-use Rattle.tcp_state.proofs.Edges.{either}
-use Rattle.tcp_state.proofs.Causes.{or_left, or_right, both, by, of_false}
-use Rattle.tcp_state.proofs.Unchanged.{clash, and_false, closed_plain, closed_holds}
+use Rattle.tcp_halves.proofs.Choices.{either, by, clash, and_false, both, or_left, or_right, of_false}
+use Rattle.tcp_state.proofs.Unchanged.{closed_plain, closed_holds}
 
 -- Timers.
 

@@ -10,7 +10,7 @@ use Rattle.tcp_halves.specs.Windows.{updates_window}
 use Rattle.tcp_state.specs.Positions.{AreNear}
 use Rattle.tcp_state.specs.View.{View, is_syn_sent}
 use Rattle.tcp_state.specs.Arrival.{after_ack, after_window, after_heard, after_segment_at}
-use Rattle.tcp_state.proofs.Edges.{either}
+use Rattle.tcp_halves.proofs.Choices.{either}
 use Rattle.tcp_state.proofs.Segments.{by_ack, reading_sends, by_hearing, by_clock}
 
 -- the order of two numbers by their positions
@@ -79,7 +79,7 @@ Believes v s w =
 ack_believes : (v : View) (ack : ℕ) → ((after_ack v ack).sending.window ≡ v.sending.window) × ((after_ack v ack).sending.wl1 ≡ v.sending.wl1)
 ack_believes v ack =
     by_ack (λ w. (w.sending.window ≡ v.sending.window) × (w.sending.wl1 ≡ v.sending.wl1)) v ack
-    (record { old = (refl, refl); beyond = (refl, refl); opens = λ new. (refl, refl); octets = λ new. (refl, refl); fin = λ new fin. (refl, refl) })
+    (record { old = (refl, refl); beyond = (refl, refl); opens = λ received new. (refl, refl); octets = λ new. (refl, refl); fin = λ new fin. (refl, refl) })
 
 window_believes : (v : View) (s : Segment) → Believes v s (after_window (after_ack v s.acknowledgement) s)
 window_believes v s =
@@ -91,11 +91,11 @@ heard_believes : (v : View) (s : Segment) → Believes v s (after_heard v s)
 heard_believes v s = by_hearing (λ w. Believes v s w) v s (window_believes v s) (record {
   dropped = inl (refl, refl);
   drawn = inl (refl, refl);
-  reset = inl (refl, refl);
+  reset = λ acts. inl (refl, refl);
   crossed = λ waits. inr (refl, refl, inl waits);
   opened = λ waits right. inr (refl, refl, inl waits);
-  acknowledged = inl (ack_believes v s.acknowledgement);
-  read = subst (λ x. Believes v s (record v { sending = x })) (sym (reading_sends v s)) (window_believes v s);
+  acknowledged = λ taken. inl (ack_believes v s.acknowledgement);
+  read = λ on. subst (λ x. Believes v s (record v { sending = x })) (sym (reading_sends v s)) (window_believes v s);
 })
 
 pub believes : (v : View) (s : Segment) (now : Moment)
