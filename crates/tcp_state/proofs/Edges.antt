@@ -20,7 +20,8 @@ use Rattle.tcp_state.specs.Edges.{IsEdge, Event, Hears, Ticks, Emits, Sends, Rec
 use Rattle.tcp_state.proofs.Clocked.{timers_keep, emission_keeps}
 pub use Rattle.tcp_halves.proofs.Choices.{and_left, and_right}
 use Rattle.tcp_halves.proofs.Choices.{either}
-use Rattle.tcp_state.proofs.Segments.{by_fin, by_ack, by_segment}
+use Rattle.tcp_state.proofs.Segments.{by_fin, by_ack, by_hearing}
+use Rattle.tcp_state.proofs.Events.{by_event}
 
 -- any state may end
 closes : (t : State) → IsEdge t Closed
@@ -72,17 +73,13 @@ reached_fin LastAck e = (inr refl, λ on. cc)
 reached_fin _ e = cc
 
 acked : (v : View) (ack : ℕ) → Reaches v.state (after_ack v ack)
-acked v ack =
-    let P : View → Type 0 = λ w. Reaches v.state w in
-    either View P (is_syn_received v.state) _ _
-    (λ received. either View P (is_new_ack v.sending ack) (after_establishment v) v
-    (λ new. let r = reached_established v.state received in record { here = r.0; beyond = λ on. r.1 })
-    (λ old. stays v v refl))
-    (λ past. either View P (is_new_ack v.sending ack) _ _
-    (λ new. either View P (is_of_fin v ack) (fin_acknowledged (after_new_ack v ack)) (after_new_ack v ack)
-    (λ fin. let r = reached_fin v.state (and_left (awaits_fin_ack v.state) _ fin) in record { here = r.0; beyond = r.1 })
-    (λ octets. stays v (after_new_ack v ack) refl))
-    (λ old. either View P (is_before v.sending.nxt ack) (owing_ack v) v (λ beyond. stays v (owing_ack v) refl) (λ within. stays v v refl)))
+acked v ack = by_ack (Reaches v.state) v ack (record {
+  old = stays v v refl;
+  beyond = stays v (owing_ack v) refl;
+  opens = λ received new. let r = reached_established v.state received in record { here = r.0; beyond = λ on. r.1 };
+  octets = λ new. stays v (after_new_ack v ack) refl;
+  fin = λ new fin. let r = reached_fin v.state (and_left (awaits_fin_ack v.state) _ fin) in record { here = r.0; beyond = r.1 };
+})
 
 texted : (t : State) (w : View) (s : Segment) → Reaches t w → Reaches t (after_text w s)
 texted t w s r =
@@ -96,37 +93,19 @@ finned t w s r =
     (λ counts. r.beyond (and_right s.flags.fin (is_receiving w.state) (and_left (s.flags.fin && is_receiving w.state) _ counts)))
     r.here r.here
 
-acceptable-edge : (v : View) (s : Segment) → IsEdge v.state (after_acknowledging_segment v s).state
-acceptable-edge v s =
+pub heard-edge : (v : View) (s : Segment) → IsEdge v.state (after_heard v s).state
+heard-edge v s =
     let a = acked v s.acknowledgement in
     let told = after_window (after_ack v s.acknowledgement) s in
-    let r : Reaches v.state told = record { here = a.here; beyond = a.beyond } in
-    either View (λ w. IsEdge v.state w.state) (is_read_on v s.acknowledgement) _ (after_ack v s.acknowledgement)
-    (λ on. finned v.state (after_text told s) s (texted v.state told s r))
-    (λ off. a.here)
-
-segment-edge : (v : View) (s : Segment) → IsEdge v.state (after_segment v s).state
-segment-edge v s =
-    let P : View → Type 0 = λ w. IsEdge v.state w.state in
-    either View P (is_closed v.state) v _
-    (λ closed. inl refl)
-    (λ lives. either View P s.flags.rst _ _
-    (λ rst. either View P (is_syn_sent v.state) (after_rst_in_syn_sent v s) (after_rst v s)
-    (λ waits. either View P (s.flags.ack && is_new_ack v.sending s.acknowledgement) (after_reset v (reset_error v.state)) v (λ acts. closes v.state) (λ dropped. inl refl))
-    (λ past. either View P (is_acting_reset v s) _ _
-    (λ acts. either View P (ends_by_reset v s) v (after_reset v (reset_error v.state)) (λ removed. inl refl) (λ reset. closes v.state))
-    (λ elsewhere. either View P (is_in_window v.receiving s.number) (owing_ack v) v (λ drawn. inl refl) (λ dropped. inl refl))))
-    (λ no_rst. either View P (is_syn_sent v.state) _ _
-    (λ waits. either View P (is_simultaneous_syn v s) (after_simultaneous_syn v s) (after_syn_ack v s) (λ simultaneous. meets v.state waits)
-    (λ answers. either View P (is_right_syn_ack v s) _ v (λ right. opens v.state waits) (λ wrong. inl refl)))
-    (λ past. either View P (is_acceptable_to v s) (after_acceptable_segment v s) (owing_ack v)
-    (λ accepted. either View P s.flags.syn _ _
-    (λ syn. either View P (ends_by_syn v s) v (owing_ack v) (λ removed. inl refl) (λ drawn. inl refl))
-    (λ no_syn. either View P s.flags.ack (after_acknowledging_segment v s) v (λ ack. acceptable-edge v s) (λ no_ack. inl refl)))
-    (λ refused. inl refl))))
-
-pub heard-edge : (v : View) (s : Segment) → IsEdge v.state (after_heard v s).state
-heard-edge v s = either View (λ w. IsEdge v.state w.state) (is_lost v s) (after_lost v s) (after_segment v s) (λ lost. closes v.state) (λ kept. segment-edge v s)
+    by_hearing (λ w. IsEdge v.state w.state) v s (closes v.state) (record {
+      dropped = inl refl;
+      drawn = inl refl;
+      reset = λ acts. closes v.state;
+      crossed = λ waits. meets v.state waits;
+      opened = λ waits right. opens v.state waits;
+      acknowledged = λ taken. a.here;
+      read = λ on. finned v.state (after_text told s) s (texted v.state told s (record { here = a.here; beyond = a.beyond }));
+    })
 
 -- what goes out changes no state
 pub emitted-state : (v : View) (due : Option Due) (now : Moment) → (after_first v due now).state ≡ v.state
@@ -139,26 +118,20 @@ left-edge v =
     (λ gone. closes v.state)
 
 event-edge : (v : View) (e : Event) → IsEdge v.state (after_event v e).state
-event-edge v (Hears s now) =
-    either View (λ w. IsEdge v.state w.state) (is_closed v.state || is_rejected v s) v (timed_by (before v s) (after_heard v s) now) (λ kept. inl refl) (λ heard. heard-edge v s)
-event-edge v (Ticks now) =
-    let P : View → Type 0 = λ w. IsEdge v.state w.state in
-    either View P (is_at_end v now) (after_stop v) _ (λ over. closes v.state)
-    (λ stays. either View P (gives_up v now) (after_reset v (Some ETIMEDOUT)) _ (λ given_up. closes v.state)
-    (λ goes_on. either View P (has_come (next_of v.timers) now) (clocked false (after_timers v now) now) v (λ acts. inl (sym (ap (λ (w : View). w.state) (timers_keep v now)))) (λ waits. inl refl)))
-event-edge v (Emits now) = inl (sym (emitted-state v (first_due v) now))
-event-edge v (Sends octets now) =
-    let P : View → Type 0 = λ w. IsEdge v.state w.state in
-    let taken = take (send_count v octets) octets in
-    either View P (is_some v.pending_error || is_opening v.state || is_write_closed v.state) v (with_octets v taken now) (λ refused. inl refl)
-    (λ takes. either View P (length taken == 0) v _ (λ none. inl refl) (λ some. inl refl))
-event-edge v (Receives len) = either View (λ w. IsEdge v.state w.state) (is_some v.pending_error || is_opening v.state || (length v.receiving.readable == 0)) v _ (λ none. inl refl) (λ some. inl refl)
-event-edge v (Shuts now) = either View (λ w. IsEdge v.state w.state) (is_some (shutdown_refusal v)) v (after_shutdown v now) (λ refused. inl refl) (λ closed. shuts v.state)
-event-edge v (Closes now) =
-    either View (λ w. IsEdge v.state w.state) (is_removed_by_close v) v _ (λ removed. inl refl)
-    (λ stays. either View (λ w. IsEdge v.state w.state) (is_aborted_by_close v) (aborted_at v now) (after_release v now) (λ lost. closes v.state) (λ released. shuts v.state))
-event-edge v (Aborts now) = either View (λ w. IsEdge v.state w.state) (is_closed v.state) v (aborted_at v now) (λ closed. inl refl) (λ lives. closes v.state)
-event-edge v (Unreachable number) = either View (λ w. IsEdge v.state w.state) (is_unreachable v number) (after_reset v (Some ECONNREFUSED)) v (λ refused. closes v.state) (λ other. inl refl)
+event-edge v = by_event (λ e w. IsEdge v.state w.state) v (record {
+  same = λ e. inl refl;
+  heard = λ s now lives. heard-edge v s;
+  over = λ now ends. closes v.state;
+  given_up = λ now waits expired. closes v.state;
+  acts = λ now. inl (sym (ap (λ (w : View). w.state) (timers_keep v now)));
+  emits = λ now. inl (sym (emitted-state v (first_due v) now));
+  sends = λ octets taken now opened. inl refl;
+  reads = λ len. inl refl;
+  shuts = λ now. shuts v.state;
+  leaves = λ now lives. shuts v.state;
+  aborts = λ e now at cause lives. closes v.state;
+  refused = λ number hit. closes v.state;
+})
 
 pub edges_hold : (v : View) (e : Event) → IsEdge v.state (state_after v e)
 edges_hold v e = either State (λ t. IsEdge v.state t) (is_removed (fate_by v e)) (left_by v) (after_event v e).state (λ removed. left-edge v) (λ stays. event-edge v e)

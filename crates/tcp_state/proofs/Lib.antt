@@ -1,6 +1,7 @@
 pub mod Framing
 pub mod Sizes
 pub mod Segments
+pub mod Events
 pub mod GoesOut
 pub mod Clocked
 pub mod Edges
