@@ -20,8 +20,9 @@ use Rattle.tcp_state.specs.Unreachable.{is_unreachable, after_unreachable, unrea
 use Rattle.tcp_state.specs.Edges.{Event, Hears, Ticks, Emits, Sends, Receives, Shuts, Closes, Aborts, Unreachable, after_first, after_event, fate_by, is_removed, is_reset_by, is_last_ack, ends_by_ack, is_cause, ends_by}
 use Rattle.tcp_state.proofs.Clocked.{timers_keep, emission_keeps}
 pub use Rattle.tcp_halves.proofs.Choices.{both, or_left, or_right, or_else, not_true, of_false}
-use Rattle.tcp_halves.proofs.Choices.{either, by, and_left, and_right, then_chosen, else_chosen}
-use Rattle.tcp_state.proofs.Segments.{by_fin}
+use Rattle.tcp_halves.proofs.Choices.{either, by, clash, and_left, and_right, then_chosen, else_chosen}
+use Rattle.tcp_state.proofs.Segments.{is_taken, after_reading, by_fin, by_ack, by_segment}
+use Rattle.tcp_state.proofs.Events.{by_event}
 use Rattle.tcp_state.proofs.Edges.{emitted-state}
 
 -- Segments.
@@ -51,71 +52,51 @@ last_fin Closing e closed = cc
 last_fin _ e closed = cc
 
 -- an acknowledgement closes by our FIN in LAST-ACK alone
-closed_by_ack : (v : View) (ack : ℕ) → is_closed v.state ≡ false → is_closed (after_ack v ack).state ≡ true → (is_last_ack v.state && is_new_ack v.sending ack && is_of_fin v ack) ≡ true
+pub closed_by_ack : (v : View) (ack : ℕ) → is_closed v.state ≡ false → is_closed (after_ack v ack).state ≡ true → (is_last_ack v.state && is_new_ack v.sending ack && is_of_fin v ack) ≡ true
 closed_by_ack v ack lives =
-    let P : View → Type 0 = λ w. is_closed w.state ≡ true → (is_last_ack v.state && is_new_ack v.sending ack && is_of_fin v ack) ≡ true in
-    let none : is_closed v.state ≡ true → (is_last_ack v.state && is_new_ack v.sending ack && is_of_fin v ack) ≡ true = λ closed. let bad : true ≡ false = sym closed ∙ lives in cc in
-    either View P (is_syn_received v.state) _ _
-    (λ received. either View P (is_new_ack v.sending ack) (after_establishment v) v (λ new closed. cc) (λ old. none))
-    (λ past. either View P (is_new_ack v.sending ack) _ _
-    (λ new. either View P (is_of_fin v ack) (fin_acknowledged (after_new_ack v ack)) (after_new_ack v ack)
-    (λ fin closed. both (is_last_ack v.state && is_new_ack v.sending ack) (is_of_fin v ack)
-    (both (is_last_ack v.state) (is_new_ack v.sending ack) (last_fin v.state (and_left (awaits_fin_ack v.state) _ fin) closed) new) fin)
-    (λ octets. none))
-    (λ old. either View P (is_before v.sending.nxt ack) (owing_ack v) v (λ beyond. none) (λ within. none)))
+    let last = is_last_ack v.state && is_new_ack v.sending ack in
+    let none : is_closed v.state ≡ true → (last && is_of_fin v ack) ≡ true = λ closed. clash (is_closed v.state) closed lives in
+    by_ack (λ w. is_closed w.state ≡ true → (last && is_of_fin v ack) ≡ true) v ack (record {
+      old = none;
+      beyond = none;
+      opens = λ received new closed. cc;
+      octets = λ new. none;
+      fin = λ new fin closed. both last (is_of_fin v ack) (both (is_last_ack v.state) (is_new_ack v.sending ack) (last_fin v.state (and_left (awaits_fin_ack v.state) _ fin) closed) new) fin;
+    })
 
 read_by_new : (received new behind : Bool) → new ≡ true → (if received then new else new || not behind) ≡ true
 read_by_new true new behind e = e
 read_by_new false true behind e = refl
 read_by_new false false behind e = cc
 
-pub closed_by_acceptable : (v : View) (s : Segment) → is_closed v.state ≡ false → is_closed (after_acknowledging_segment v s).state ≡ true
+pub closed_by_reading : (v : View) (s : Segment) → is_closed v.state ≡ false → is_closed (after_reading v s).state ≡ true
     → (is_last_ack v.state && is_new_ack v.sending s.acknowledgement && is_of_fin v s.acknowledgement) ≡ true
-closed_by_acceptable v s lives =
+closed_by_reading v s lives closed =
     let told = after_window (after_ack v s.acknowledgement) s in
-    either View (λ w. is_closed w.state ≡ true → (is_last_ack v.state && is_new_ack v.sending s.acknowledgement && is_of_fin v s.acknowledgement) ≡ true) (is_read_on v s.acknowledgement) _ (after_ack v s.acknowledgement)
-    (λ on closed. closed_by_ack v s.acknowledgement lives (closed_before_text told s (closed_before_fin (after_text told s) s closed)))
-    (λ off closed. closed_by_ack v s.acknowledgement lives closed)
+    closed_by_ack v s.acknowledgement lives (closed_before_text told s (closed_before_fin (after_text told s) s closed))
 
 -- a segment that closes is a reset that acts, or acknowledges our FIN in LAST-ACK
 closed_by_segment : (v : View) (s : Segment) → is_closed v.state ≡ false → is_closed (after_segment v s).state ≡ true → (is_reset_by v s ≡ true) ⊎ (ends_by_ack v s ≡ true)
 closed_by_segment v s lives =
     let C : Type 0 = (is_reset_by v s ≡ true) ⊎ (ends_by_ack v s ≡ true) in
-    let P : View → Type 0 = λ w. is_closed w.state ≡ true → C in
-    let none : is_closed v.state ≡ true → C = λ closed. let bad : true ≡ false = sym closed ∙ lives in cc in
-    let confirms = s.flags.ack && is_new_ack v.sending s.acknowledgement in
-    either View P (is_closed v.state) v _
-    (λ closed. none)
-    (λ open_yet. either View P s.flags.rst _ _
-    (λ rst. either View P (is_syn_sent v.state) (after_rst_in_syn_sent v s) (after_rst v s)
-    (λ waits. either View P confirms (after_reset v (reset_error v.state)) v
-    (λ acts closed. inl (both s.flags.rst _ rst (then_chosen (is_syn_sent v.state) confirms (is_acting_reset v s) waits acts)))
-    (λ dropped. none))
-    (λ past. either View P (is_acting_reset v s) _ _
-    (λ acts. let caused : is_reset_by v s ≡ true = both s.flags.rst _ rst (else_chosen (is_syn_sent v.state) confirms (is_acting_reset v s) past acts) in
-    either View P (ends_by_reset v s) v (after_reset v (reset_error v.state)) (λ removed. none) (λ reset closed. inl caused))
-    (λ elsewhere. either View P (is_in_window v.receiving s.number) (owing_ack v) v (λ drawn. none) (λ dropped. none))))
-    (λ no_rst. either View P (is_syn_sent v.state) _ _
-    (λ waits. either View P (is_simultaneous_syn v s) (after_simultaneous_syn v s) (after_syn_ack v s) (λ simultaneous closed. cc)
-    (λ answers. either View P (is_right_syn_ack v s) _ v (λ right closed. cc) (λ wrong. none)))
-    (λ past. either View P (is_acceptable_to v s) (after_acceptable_segment v s) (owing_ack v)
-    (λ accepted. either View P s.flags.syn _ _
-    (λ syn. either View P (ends_by_syn v s) v (owing_ack v) (λ removed. none) (λ drawn. none))
-    (λ no_syn. either View P s.flags.ack (after_acknowledging_segment v s) v
-    (λ ack closed.
-    let k = closed_by_acceptable v s lives closed in
-    let fin = and_right (is_last_ack v.state && is_new_ack v.sending s.acknowledgement) (is_of_fin v s.acknowledgement) k in
-    let two = and_left (is_last_ack v.state && is_new_ack v.sending s.acknowledgement) (is_of_fin v s.acknowledgement) k in
-    let last = and_left (is_last_ack v.state) (is_new_ack v.sending s.acknowledgement) two in
-    let new = and_right (is_last_ack v.state) (is_new_ack v.sending s.acknowledgement) two in
-    let on : is_read_on v s.acknowledgement ≡ true = read_by_new (is_syn_received v.state) (is_new_ack v.sending s.acknowledgement) (is_before v.sending.nxt s.acknowledgement) new in
-    let read : is_read v s ≡ true =
-    both (not s.flags.rst && is_acceptable_to v s && not s.flags.syn && s.flags.ack) _ (both (not s.flags.rst && is_acceptable_to v s && not s.flags.syn) s.flags.ack
-    (both (not s.flags.rst && is_acceptable_to v s) (not s.flags.syn) (both (not s.flags.rst) (is_acceptable_to v s) (of_false s.flags.rst no_rst) accepted) (of_false s.flags.syn no_syn)) ack) on in
-    inr (both (is_last_ack v.state && is_read v s && is_new_ack v.sending s.acknowledgement) (is_of_fin v s.acknowledgement)
-    (both (is_last_ack v.state && is_read v s) (is_new_ack v.sending s.acknowledgement) (both (is_last_ack v.state) (is_read v s) last read) new) fin))
-    (λ no_ack. none)))
-    (λ refused. none))))
+    let none : is_closed v.state ≡ true → C = λ closed. clash (is_closed v.state) closed lives in
+    let last = is_last_ack v.state in
+    let new = is_new_ack v.sending s.acknowledgement in
+    let fin = is_of_fin v s.acknowledgement in
+    let acks : is_taken v s ≡ true → (last && new && fin) ≡ true → C = λ taken three.
+    let two = and_left (last && new) fin three in
+    let is_new = and_right last new two in
+    let read : is_read v s ≡ true = both (is_taken v s) _ taken (read_by_new (is_syn_received v.state) new (is_before v.sending.nxt s.acknowledgement) is_new) in
+    inr (both (last && is_read v s && new) fin (both (last && is_read v s) new (both last (is_read v s) (and_left last new two) read) is_new) (and_right (last && new) fin three)) in
+    by_segment (λ w. is_closed w.state ≡ true → C) v s (record {
+      dropped = none;
+      drawn = none;
+      reset = λ r closed. inl r.acts;
+      crossed = λ waits closed. cc;
+      opened = λ waits right closed. cc;
+      acknowledged = λ taken closed. acks taken (closed_by_ack v s.acknowledgement lives closed);
+      read = λ on closed. acks (and_left (is_taken v s) _ on) (closed_by_reading v s lives closed);
+    })
 
 -- why a segment takes a connection out, by the tests of its fate
 record Removes (closed lost over refused opening : Bool) : Type 0 where

@@ -16,8 +16,9 @@ use Rattle.tcp_state.specs.Due.{first_due, after_emitted}
 use Rattle.tcp_state.specs.Unreachable.{is_unreachable}
 use Rattle.tcp_state.specs.Edges.{Event, Hears, Ticks, Emits, Sends, Receives, Shuts, Closes, Aborts, Unreachable, after_first, after_event, moment_of}
 use Rattle.tcp_state.proofs.Clocked.{timers_keep, emission}
-use Rattle.tcp_halves.proofs.Choices.{either, by, clash, or_left, or_right, of_false}
-use Rattle.tcp_state.proofs.Segments.{by_fin}
+use Rattle.tcp_halves.proofs.Choices.{either, or_right, of_false}
+use Rattle.tcp_state.proofs.Segments.{by_fin, by_ack, by_segment}
+use Rattle.tcp_state.proofs.Events.{by_event}
 
 -- what an event makes of an owed reset: it waits as before, it waits no more, or the event is the first by which it is owed
 abbrev Ages : View → Event → View → Type 0
@@ -36,51 +37,21 @@ live v sound lives = live_owes_none v.owes_reset (is_closed v.state) v.released 
 
 -- A segment.
 
-owed_by_ack : (v : View) (ack : ℕ) → (after_ack v ack).owes_reset ≡ v.owes_reset
-owed_by_ack v ack =
-    let P : View → Type 0 = λ w. w.owes_reset ≡ v.owes_reset in
-    either View P (is_syn_received v.state) _ _
-    (λ received. either View P (is_new_ack v.sending ack) (after_establishment v) v (λ new. refl) (λ old. refl))
-    (λ past. either View P (is_new_ack v.sending ack) _ _
-    (λ new. either View P (is_of_fin v ack) (fin_acknowledged (after_new_ack v ack)) (after_new_ack v ack) (λ fin. refl) (λ octets. refl))
-    (λ old. either View P (is_before v.sending.nxt ack) (owing_ack v) v (λ beyond. refl) (λ within. refl)))
-
-owed_by_text : (w : View) (s : Segment) → (after_text w s).owes_reset ≡ w.owes_reset
-owed_by_text w s = either View (λ x. x.owes_reset ≡ w.owes_reset) ((length s.octets == 0) || not (is_receiving w.state)) w _ (λ none. refl) (λ some. refl)
-
-owed_by_fin : (w : View) (s : Segment) → (after_fin w s).owes_reset ≡ w.owes_reset
-owed_by_fin w s = by_fin (λ x. x.owes_reset ≡ w.owes_reset) w s (λ counts. refl) refl refl
-
-owed_by_acknowledging : (v : View) (s : Segment) → (after_acknowledging_segment v s).owes_reset ≡ v.owes_reset
-owed_by_acknowledging v s =
-    let window = after_window (after_ack v s.acknowledgement) s in
-    either View (λ w. w.owes_reset ≡ v.owes_reset) (is_read_on v s.acknowledgement) _ (after_ack v s.acknowledgement)
-    (λ on. owed_by_fin (after_text window s) s ∙ (owed_by_text window s ∙ owed_by_ack v s.acknowledgement))
-    (λ off. owed_by_ack v s.acknowledgement)
-
 owed_by_segment : (v : View) (s : Segment) → (after_segment v s).owes_reset ≡ v.owes_reset
 owed_by_segment v s =
     let P : View → Type 0 = λ w. w.owes_reset ≡ v.owes_reset in
-    either View P (is_closed v.state) v _
-    (λ closed. refl)
-    (λ lives. either View P s.flags.rst _ _
-    (λ rst. either View P (is_syn_sent v.state) (after_rst_in_syn_sent v s) (after_rst v s)
-    (λ waits. either View P (s.flags.ack && is_new_ack v.sending s.acknowledgement) (after_reset v (reset_error v.state)) v (λ acts. refl) (λ dropped. refl))
-    (λ past. either View P (is_acting_reset v s) _ _
-    (λ acts. either View P (ends_by_reset v s) v (after_reset v (reset_error v.state)) (λ removed. refl) (λ kept. refl))
-    (λ elsewhere. either View P (is_in_window v.receiving s.number) (owing_ack v) v (λ drawn. refl) (λ dropped. refl))))
-    (λ no_rst. either View P (is_syn_sent v.state) _ _
-    (λ waits. either View P (is_simultaneous_syn v s) (after_simultaneous_syn v s) (after_syn_ack v s) (λ simultaneous. refl)
-    (λ answers. either View P (is_right_syn_ack v s) _ v (λ right. refl) (λ wrong. refl)))
-    (λ past. either View P (is_acceptable_to v s) (after_acceptable_segment v s) (owing_ack v)
-    (λ accepted. either View P s.flags.syn _ _
-    (λ syn. either View P (ends_by_syn v s) v (owing_ack v) (λ removed. refl) (λ drawn. refl))
-    (λ no_syn. either View P s.flags.ack (after_acknowledging_segment v s) v (λ ack. owed_by_acknowledging v s) (λ no_ack. refl)))
-    (λ refused. refl))))
-
-open_yet : (closed rejected : Bool) → (closed || rejected) ≡ false → closed ≡ false
-open_yet true rejected e = cc
-open_yet false rejected e = refl
+    let acked = by_ack P v s.acknowledgement (record { old = refl; beyond = refl; opens = λ received new. refl; octets = λ new. refl; fin = λ new fin. refl }) in
+    let told = after_window (after_ack v s.acknowledgement) s in
+    let text : P (after_text told s) = either View P ((length s.octets == 0) || not (is_receiving told.state)) told _ (λ none. acked) (λ some. acked) in
+    by_segment P v s (record {
+      dropped = refl;
+      drawn = refl;
+      reset = λ acts. refl;
+      crossed = λ waits. refl;
+      opened = λ waits right. refl;
+      acknowledged = λ taken. acked;
+      read = λ on. by_fin P (after_text told s) s (λ counts. text) text text;
+    })
 
 -- one by which a reset comes to be owed
 begun : (v w : View) (s : Segment) (now : Moment) → v.owes_reset ≡ false → w.owes_reset ≡ true → reset_since (timed_by (before v s) w now) ≡ Some now
@@ -89,16 +60,14 @@ begun v w s now none owes =
     let starts : (early || (w.owes_reset && not v.owes_reset)) ≡ true = or_right early (w.owes_reset && not v.owes_reset) (ap (λ b. b && not v.owes_reset) owes ∙ of_false v.owes_reset none) in
     ap (λ b. if b then Some (if early || (w.owes_reset && not v.owes_reset) then now else w.since) else None) owes ∙ ap (λ b. Some (if b then now else w.since)) starts
 
-heard : (v : View) (s : Segment) (now : Moment) → IsSound v → Ages v (Hears s now) (after_event v (Hears s now))
-heard v s now sound =
+heard : (v : View) (s : Segment) (now : Moment) → v.owes_reset ≡ false → Ages v (Hears s now) (timed_by (before v s) (after_heard v s) now)
+heard v s now none =
     let b = before v s in
-    either View (λ w. Ages v (Hears s now) w) (is_closed v.state || is_rejected v s) v (timed_by b (after_heard v s) now) (λ kept. inl refl)
-    (λ comes. let none = live v sound (open_yet (is_closed v.state) (is_rejected v s) comes) in
     either View (λ w. Ages v (Hears s now) (timed_by b w now)) (is_lost v s) (after_lost v s) (after_segment v s)
     (λ lost. inr (inr (none, sym (begun v (after_lost v s) s now none refl))))
-    (λ kept. inr (inl (none_owed (timed_by b (after_segment v s) now) (owed_by_segment v s ∙ none)))))
+    (λ kept. inr (inl (none_owed (timed_by b (after_segment v s) now) (owed_by_segment v s ∙ none))))
 
--- Every other event.
+-- Every event.
 
 emitted : (v : View) (due : Option Due) (now : Moment) → Ages v (Emits now) (after_first v due now)
 emitted v None now = inl refl
@@ -107,32 +76,21 @@ emitted v (Some due) now = elim (emission v due now) [
   | inr same ↦ inl (ap (λ (w : View). reset_since w) same)
 ]
 
-ticked : (v : View) (now : Moment) → Ages v (Ticks now) (after_event v (Ticks now))
-ticked v now =
-    let P : View → Type 0 = λ w. Ages v (Ticks now) w in
-    either View P (is_at_end v now) (after_stop v) _ (λ over. inl refl)
-    (λ waits. either View P (gives_up v now) (after_reset v (Some ETIMEDOUT)) _ (λ given_up. inl refl)
-    (λ goes_on. either View P (has_come (next_of v.timers) now) (clocked false (after_timers v now) now) v (λ acts. inl (ap (λ (w : View). reset_since w) (timers_keep v now))) (λ idle. inl refl)))
-
-closed_among : (v : View) → is_removed_by_close v ≡ false → is_closed v.state ≡ false
-closed_among v stays = by (is_closed v.state ≡ false) (is_closed v.state) (λ closed. clash (is_removed_by_close v) (or_left (is_closed v.state) (is_syn_sent v.state) closed) stays) (λ lives. lives)
-
 ages : (v : View) (e : Event) → IsSound v → Ages v e (after_event v e)
-ages v (Hears s now) sound = heard v s now sound
-ages v (Ticks now) sound = ticked v now
-ages v (Emits now) sound = emitted v (first_due v) now
-ages v (Sends octets now) sound =
-    let P : View → Type 0 = λ w. Ages v (Sends octets now) w in
-    let taken = take (send_count v octets) octets in
-    either View P (is_some v.pending_error || is_opening v.state || is_write_closed v.state) v (with_octets v taken now) (λ refused. inl refl)
-    (λ takes. either View P (length taken == 0) v _ (λ none. inl refl) (λ some. inl refl))
-ages v (Receives len) sound = either View (λ w. Ages v (Receives len) w) (is_some v.pending_error || is_opening v.state || (length v.receiving.readable == 0)) v _ (λ none. inl refl) (λ some. inl refl)
-ages v (Shuts now) sound = either View (λ w. Ages v (Shuts now) w) (is_some (shutdown_refusal v)) v (after_shutdown v now) (λ refused. inl refl) (λ closed. inl refl)
-ages v (Closes now) sound = either View (λ w. Ages v (Closes now) w) (is_removed_by_close v) v _ (λ removed. inl refl)
-    (λ stays. let none = live v sound (closed_among v stays) in
-    either View (λ w. Ages v (Closes now) w) (is_aborted_by_close v) (aborted_at v now) (after_release v now) (λ lost. inr (inr (none, refl))) (λ released. inr (inl (none_owed (after_release v now) none))))
-ages v (Aborts now) sound = either View (λ w. Ages v (Aborts now) w) (is_closed v.state) v (aborted_at v now) (λ closed. inl refl) (λ lives. inr (inr (live v sound lives, refl)))
-ages v (Unreachable number) sound = either View (λ w. Ages v (Unreachable number) w) (is_unreachable v number) (after_reset v (Some ECONNREFUSED)) v (λ refused. inl refl) (λ other. inl refl)
+ages v e sound = by_event (Ages v) v (record {
+  same = λ e. inl refl;
+  heard = λ s now lives. heard v s now (live v sound lives);
+  over = λ now ends. inl refl;
+  given_up = λ now waits expired. inl refl;
+  acts = λ now. inl (ap (λ (w : View). reset_since w) (timers_keep v now));
+  emits = λ now. emitted v (first_due v) now;
+  sends = λ octets taken now opened. inl refl;
+  reads = λ len. inl refl;
+  shuts = λ now. inl refl;
+  leaves = λ now lives. inr (inl (none_owed (after_release v now) (live v sound lives)));
+  aborts = λ e now at cause lives. inr (inr (live v sound lives, at));
+  refused = λ number hit. inl refl;
+}) e
 
 pub resets_begin : (v : View) (e : Event) (since : Moment) → IsSound v → reset_since v ≡ None → reset_since (after_event v e) ≡ Some since → moment_of e ≡ Some since
 resets_begin v e since sound none some = elim (ages v e sound) [
