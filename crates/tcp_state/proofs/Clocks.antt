@@ -24,6 +24,7 @@ use Rattle.tcp_state.specs.Unreachable.{is_unreachable}
 use Rattle.tcp_state.specs.Edges.{Event, Hears, Ticks, Emits, Sends, Receives, Shuts, Closes, Aborts, Unreachable, moment_of, after_first, after_event}
 use Rattle.tcp_halves.proofs.Choices.{either, clash, and_left, and_right, both, or_left, or_right, not_true, of_false}
 use Rattle.tcp_state.proofs.Segments.{by_fin, by_ack, by_hearing, by_clock}
+use Rattle.tcp_state.proofs.Events.{holding, shut, by_event}
 use Rattle.tcp_state.proofs.Clocked.{syn_out, heard_paced, after_paced}
 use Rattle.tcp_state.proofs.Gains.{receiving_lives}
 use Rattle.tcp_state.proofs.Paces.{goes_out}
@@ -419,42 +420,25 @@ tick_unset v now =
 -- Every event.
 
 clocks : (v : View) (e : Event) → Clocks v e (after_event v e)
-clocks v (Hears s now) =
-    let b = before v s in
-    let w = after_heard v s in
-    let e = Hears s now in
-    by_clock (Clocks v e) v s now (stays v v e refl refl)
-    (λ lives. sets v (record w { since = since_after b w now; pace = pace_after b w now; congestion = congestion_after b w }) e (is_moved b w) now refl (λ moves. apart v.sending.una w.sending.una moves) (heard_unset v s now))
-clocks v (Ticks now) =
-    let e = Ticks now in
-    either View (Clocks v e) (is_at_end v now) (after_stop v) _ (λ over. stops v _ e refl refl refl)
-    (λ lives. either View (Clocks v e) (gives_up v now) (after_reset v (Some ETIMEDOUT)) _ (λ given_up. stops v _ e refl refl refl)
-    (λ remains. either View (Clocks v e) (has_come (next_of v.timers) now) (clocked false (after_timers v now) now) v (λ comes. sets v (after_timers v now) e false now refl (λ moves. cc) (tick_unset v now)) (λ early. stays v v e refl refl)))
-clocks v (Emits now) = emission_clocks v (first_due v) now
-clocks v (Sends octets now) =
-    let e = Sends octets now in
-    let taken = take (send_count v octets) octets in
-    let x = record v { sending = record v.sending { held = v.sending.held ++ taken } } in
-    either View (Clocks v e) (is_some v.pending_error || is_opening v.state || is_write_closed v.state) v _ (λ refused. stays v v e refl refl)
-    (λ takes. either View (Clocks v e) (length taken == 0) v _ (λ none. stays v v e refl refl) (λ some. sets v x e false now refl (λ moves. cc) (as_before v x e refl refl)))
-clocks v (Receives len) =
-    let e = Receives len in
-    either View (Clocks v e) (is_some v.pending_error || is_opening v.state || (length v.receiving.readable == 0)) v _ (λ nothing. stays v v e refl refl) (λ some. stays v _ e refl refl)
-clocks v (Shuts now) =
-    let e = Shuts now in
-    let x = record v { state = beyond_shutdown v.state } in
-    either View (Clocks v e) (is_some (shutdown_refusal v)) v (after_shutdown v now) (λ refused. stays v v e refl refl) (λ shuts. sets v x e false now refl (λ moves. cc) (as_before v x e refl refl))
-clocks v (Closes now) =
-    let e = Closes now in
-    let x = record v { state = beyond_shutdown v.state; released = true; since = if is_fin_wait_2 v.state then latest v.since now else v.since } in
-    either View (Clocks v e) (is_removed_by_close v) v _ (λ removed. stays v v e refl refl)
-    (λ remains. either View (Clocks v e) (is_aborted_by_close v) (aborted_at v now) (after_release v now) (λ aborts. stops v _ e refl refl refl) (λ leaves. sets v x e false now refl (λ moves. cc) (as_before v x e refl refl)))
-clocks v (Aborts now) =
-    let e = Aborts now in
-    either View (Clocks v e) (is_closed v.state) v (aborted_at v now) (λ closed. stays v v e refl refl) (λ aborts. stops v _ e refl refl refl)
-clocks v (Unreachable number) =
-    let e = Unreachable number in
-    either View (Clocks v e) (is_unreachable v number) (after_reset v (Some ECONNREFUSED)) v (λ refused. stops v _ e refl refl refl) (λ other. stays v v e refl refl)
+clocks v = by_event (Clocks v) v (record {
+  same = λ e. stays v v e refl refl;
+  heard = λ s now lives. let b = before v s in let w = after_heard v s in
+      sets v (record w { since = since_after b w now; pace = pace_after b w now; congestion = congestion_after b w }) (Hears s now) (is_moved b w) now refl
+      (λ moves. apart v.sending.una w.sending.una moves) (heard_unset v s now);
+  over = λ now ends. stops v _ (Ticks now) refl refl refl;
+  given_up = λ now waits expired. stops v _ (Ticks now) refl refl refl;
+  acts = λ now. sets v (after_timers v now) (Ticks now) false now refl (λ moves. cc) (tick_unset v now);
+  emits = λ now. emission_clocks v (first_due v) now;
+  sends = λ octets taken now opened. called (holding v taken) (Sends octets now) now refl refl refl;
+  reads = λ len. stays v _ (Receives len) refl refl;
+  shuts = λ now. called (shut v v.released v.since) (Shuts now) now refl refl refl;
+  leaves = λ now lives. called (shut v true (if is_fin_wait_2 v.state then latest v.since now else v.since)) (Closes now) now refl refl refl;
+  aborts = λ e now at cause lives. stops v (aborted_at v now) e refl refl refl;
+  refused = λ number hit. stops v _ (Unreachable number) refl refl refl;
+})
+  where
+    called : (x : View) (e : Event) (now : Moment) → moment_of e ≡ Some now → x.timers ≡ v.timers → x.pace ≡ v.pace → Clocks v e (clocked false x now)
+    called x e now at timers pace = sets v x e false now at (λ moves. cc) (as_before v x e timers pace)
 
 -- the retransmission timer
 pub runs_on : (v : View) (e : Event) (was is : Moment) → is_closed (after_event v e).state ≡ false → v.timers.retransmission ≡ Some was → (after_event v e).timers.retransmission ≡ Some is

@@ -8,7 +8,7 @@ use Rattle.tcp_state.specs.declared.calls.Refusal.TheVariants.{ECONNREFUSED, ETI
 use Rattle.tcp_halves.specs.Stream.{after_read}
 use Rattle.tcp_state.specs.View.{View, is_opening, is_closed, is_syn_sent, is_write_closed, is_at_end, after_stop, after_reset}
 use Rattle.tcp_state.specs.Timing.{clocked, gives_up, after_timers}
-use Rattle.tcp_state.specs.Calls.{send_count, recv_count, with_octets, shutdown_refusal, after_shutdown, aborted_at, after_release, is_removed_by_close, is_aborted_by_close}
+use Rattle.tcp_state.specs.Calls.{send_count, recv_count, with_octets, beyond_shutdown, shutdown_refusal, after_shutdown, aborted_at, after_release, is_removed_by_close, is_aborted_by_close}
 use Rattle.tcp_state.specs.Arrival.{after_heard, is_rejected, before, timed_by}
 use Rattle.tcp_state.specs.Due.{first_due}
 use Rattle.tcp_state.specs.Unreachable.{is_unreachable}
@@ -18,6 +18,10 @@ use Rattle.tcp_halves.proofs.Choices.{either, neither, or_right}
 -- octets are taken to be sent
 abbrev pub holding : View → List ℕ → View
 holding v octets = record v { sending = record v.sending { held = v.sending.held ++ octets } }
+
+-- our side is closed
+abbrev pub shut : View → Bool → Moment → View
+shut v released since = record v { state = beyond_shutdown v.state; released = released; since = since }
 
 -- What each event may make of a connection: most leave it as it is, each for a reason of its own. A segment is heard; its wait is over, it is given up, or a timer
 -- acts; something goes out; octets are taken to be sent, or read; our side closes, and with it its caller may leave; it is aborted; and its SYN can't be delivered.

@@ -21,6 +21,7 @@ use Rattle.tcp_state.specs.Edges.{Event, Hears, Ticks, Emits, Sends, Receives, S
 use Rattle.tcp_state.proofs.Clocked.{syn_out, heard_paced, after_paced}
 use Rattle.tcp_halves.proofs.Choices.{either, clash}
 use Rattle.tcp_state.proofs.Segments.{by_clock}
+use Rattle.tcp_state.proofs.Events.{by_event}
 use Rattle.tcp_state.proofs.Paces.{segment_hears, goes_out}
 
 -- What goes out again.
@@ -157,31 +158,20 @@ timers_measure v now =
     clocked_measures v (after_timers v now) m false now three
 
 measures : (v : View) (e : Event) → Measures v (moment_of e) (after_event v e)
-measures v (Hears s now) = by_clock (Measures v (Some now)) v s now (keeps v v (Some now) refl refl) (λ lives. heard_measures v s now)
-measures v (Ticks now) =
-    let m : Option Moment = Some now in
-    either View (Measures v m) (is_at_end v now) (after_stop v) _ (λ over. leaves v _ m refl refl)
-    (λ goes_on. either View (Measures v m) (gives_up v now) (after_reset v (Some ETIMEDOUT)) _ (λ given_up. leaves v _ m refl refl)
-    (λ lives. either View (Measures v m) (has_come (next_of v.timers) now) (clocked false (after_timers v now) now) v (λ comes. timers_measure v now) (λ early. keeps v v m refl refl)))
-measures v (Emits now) = emission_measures v now
-measures v (Sends octets now) =
-    let m : Option Moment = Some now in
-    either View (Measures v m) (is_some v.pending_error || is_opening v.state || is_write_closed v.state) v _ (λ refused. keeps v v m refl refl)
-    (λ taken. either View (Measures v m) (length (take (send_count v octets) octets) == 0) v _ (λ none. keeps v v m refl refl) (λ some. keeps v _ m refl refl))
-measures v (Receives len) =
-    either View (Measures v None) (is_some v.pending_error || is_opening v.state || (length v.receiving.readable == 0)) v _ (λ nothing. keeps v v None refl refl) (λ some. keeps v _ None refl refl)
-measures v (Shuts now) =
-    let m : Option Moment = Some now in
-    either View (Measures v m) (is_some (shutdown_refusal v)) v (after_shutdown v now) (λ refused. keeps v v m refl refl) (λ shuts. keeps v _ m refl refl)
-measures v (Closes now) =
-    let m : Option Moment = Some now in
-    either View (Measures v m) (is_removed_by_close v) v _ (λ removed. keeps v v m refl refl)
-    (λ stays. either View (Measures v m) (is_aborted_by_close v) (aborted_at v now) (after_release v now) (λ aborts. leaves v _ m refl refl) (λ leaves_it. keeps v _ m refl refl))
-measures v (Aborts now) =
-    let m : Option Moment = Some now in
-    either View (Measures v m) (is_closed v.state) v (aborted_at v now) (λ closed. keeps v v m refl refl) (λ aborts. leaves v _ m refl refl)
-measures v (Unreachable number) =
-    either View (Measures v None) (is_unreachable v number) (after_reset v (Some ECONNREFUSED)) v (λ refused. leaves v _ None refl refl) (λ other. keeps v v None refl refl)
+measures v = by_event (λ e. Measures v (moment_of e)) v (record {
+  same = λ e. keeps v v (moment_of e) refl refl;
+  heard = λ s now lives. heard_measures v s now;
+  over = λ now ends. leaves v _ (Some now) refl refl;
+  given_up = λ now waits expired. leaves v _ (Some now) refl refl;
+  acts = λ now. timers_measure v now;
+  emits = λ now. emission_measures v now;
+  sends = λ octets taken now opened. keeps v _ (Some now) refl refl;
+  reads = λ len. keeps v _ None refl refl;
+  shuts = λ now. keeps v _ (Some now) refl refl;
+  leaves = λ now lives. keeps v _ (Some now) refl refl;
+  aborts = λ e now at cause lives. leaves v (aborted_at v now) (moment_of e) refl refl;
+  refused = λ number hit. leaves v _ None refl refl;
+})
 
 pub sampled : (v : View) (e : Event) → ((after_event v e).pace.timeout.estimate ≡ v.pace.timeout.estimate) ⊎ ((is_some v.pace.timed ≡ true) × ((after_event v e).pace.timed ≡ None))
 sampled v e = (measures v e).sampled

@@ -23,6 +23,7 @@ use Rattle.tcp_state.specs.Positions.{GoesOn, NeverBack, HasNumber}
 use Rattle.tcp_state.proofs.Clocked.{timers_keep, syn_out}
 use Rattle.tcp_halves.proofs.Choices.{either, clash, and_right}
 use Rattle.tcp_state.proofs.Segments.{after_reading, by_fin, by_ack, ack_receives, reading_sends, by_hearing, by_clock}
+use Rattle.tcp_state.proofs.Events.{by_event}
 use Rattle.tcp_halves.proofs.Keeping.{IsKeeping, gained_fits}
 use Rattle.tcp_state.proofs.Sound.{sound_keeping}
 use Rattle.tcp_state.proofs.Emissions.{by_due, numbers_send, numbers_receive, stretch_sends, stretch_receives, probe_sends, probe_receives}
@@ -293,32 +294,18 @@ by_emission v now sound =
 -- Every event.
 
 pub never_back : (v : View) (e : Event) → IsSound v → HasNumber e → NeverBack v (after_event v e)
-never_back v (Hears s now) sound fits =
-    by_clock (λ w. NeverBack v w) v s now (still v v refl refl refl) (λ lives. alike v (after_heard v s) _ refl refl (by_heard v s sound fits))
-never_back v (Ticks now) sound fits =
-    let P : View → Type 0 = λ w. NeverBack v w in
-    let acted = clocked false (after_timers v now) now in
-    let kept = timers_keep v now in
-    either View P (is_at_end v now) (after_stop v) _ (λ over. ended v (after_stop v) sound refl refl refl)
-    (λ waits. either View P (gives_up v now) (after_reset v (Some ETIMEDOUT)) _ (λ given_up. ended v (after_reset v (Some ETIMEDOUT)) sound refl refl refl)
-    (λ goes_on. either View P (has_come (next_of v.timers) now) acted v
-    (λ acts. alike v v acted (ap (λ (w : View). w.sending) kept) (ap (λ (w : View). w.receiving) kept) (still v v refl refl refl)) (λ none. still v v refl refl refl)))
-never_back v (Emits now) sound fits = by_emission v now sound
-never_back v (Sends octets now) sound fits =
-    let P : View → Type 0 = λ w. NeverBack v w in
-    either View P (is_some v.pending_error || is_opening v.state || is_write_closed v.state) v _ (λ refused. still v v refl refl refl)
-    (λ taken. either View P (length (take (send_count v octets) octets) == 0) v (clocked false _ now) (λ none. still v v refl refl refl) (λ some. still v _ refl refl refl))
-never_back v (Receives len) sound fits =
-    either View (λ w. NeverBack v w) (is_some v.pending_error || is_opening v.state || (length v.receiving.readable == 0)) v _ (λ nothing. still v v refl refl refl)
-    (λ some. record { una = rests v.sending.una; nxt = rests v.sending.nxt; rnext = λ opened. rests v.receiving.rnext; edge = λ opened. rests v.receiving.edge })
-never_back v (Shuts now) sound fits =
-    either View (λ w. NeverBack v w) (is_some (shutdown_refusal v)) v (after_shutdown v now) (λ refused. still v v refl refl refl) (λ shuts. still v (after_shutdown v now) refl refl refl)
-never_back v (Closes now) sound fits =
-    either View (λ w. NeverBack v w) (is_removed_by_close v) v _ (λ removed. still v v refl refl refl)
-    (λ stays. either View (λ w. NeverBack v w) (is_aborted_by_close v) (aborted_at v now) (after_release v now)
-    (λ aborts. ended v (aborted_at v now) sound refl refl refl) (λ leaves. still v (after_release v now) refl refl refl))
-never_back v (Aborts now) sound fits =
-    either View (λ w. NeverBack v w) (is_closed v.state) v (aborted_at v now) (λ closed. still v v refl refl refl) (λ aborts. ended v (aborted_at v now) sound refl refl refl)
-never_back v (Unreachable number) sound fits =
-    either View (λ w. NeverBack v w) (is_unreachable v number) (after_reset v (Some ECONNREFUSED)) v
-    (λ refused. ended v (after_reset v (Some ECONNREFUSED)) sound refl refl refl) (λ other. still v v refl refl refl)
+never_back v e sound = by_event (λ e w. HasNumber e → NeverBack v w) v (record {
+  same = λ e fits. still v v refl refl refl;
+  heard = λ s now lives fits. alike v (after_heard v s) _ refl refl (by_heard v s sound fits);
+  over = λ now ends fits. ended v (after_stop v) sound refl refl refl;
+  given_up = λ now waits expired fits. ended v (after_reset v (Some ETIMEDOUT)) sound refl refl refl;
+  acts = λ now fits. let kept = timers_keep v now in
+      alike v v (clocked false (after_timers v now) now) (ap (λ (w : View). w.sending) kept) (ap (λ (w : View). w.receiving) kept) (still v v refl refl refl);
+  emits = λ now fits. by_emission v now sound;
+  sends = λ octets taken now opened fits. still v _ refl refl refl;
+  reads = λ len fits. record { una = rests v.sending.una; nxt = rests v.sending.nxt; rnext = λ opened. rests v.receiving.rnext; edge = λ opened. rests v.receiving.edge };
+  shuts = λ now fits. still v (after_shutdown v now) refl refl refl;
+  leaves = λ now lives fits. still v (after_release v now) refl refl refl;
+  aborts = λ e now at cause lives fits. ended v (aborted_at v now) sound refl refl refl;
+  refused = λ number hit fits. ended v (after_reset v (Some ECONNREFUSED)) sound refl refl refl;
+}) e

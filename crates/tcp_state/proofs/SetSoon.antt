@@ -23,6 +23,7 @@ use Rattle.tcp_state.specs.Edges.{Event, Hears, Ticks, Emits, Sends, Receives, S
 use Rattle.tcp_state.proofs.Clocked.{heard_paced, after_paced}
 use Rattle.tcp_halves.proofs.Choices.{either}
 use Rattle.tcp_state.proofs.Segments.{by_clock}
+use Rattle.tcp_state.proofs.Events.{holding, shut, by_event}
 use Rattle.tcp_state.proofs.Paces.{segment_hears, goes_out}
 
 -- a timer runs as before, or until a minute past the moment at the latest
@@ -169,67 +170,28 @@ timers_soon v now few =
 
 -- Every event.
 
-abbrev SetsSoon : View → Moment → View → Type 0
-SetsSoon v now w = SetSoon now v.timers w.timers
+-- the timers are as they were, or stopped, or set by an event that has a moment
+abbrev SetsSoon : View → Event → View → Type 0
+SetsSoon v e w = (w.timers ≡ v.timers) ⊎ ((w.timers ≡ no_timers) ⊎ ((now : Moment) × (moment_of e ≡ Some now) × (v.pace.timeout.rto ≤ 60000 → SetSoon now v.timers w.timers)))
 
-at_moment : (v w : View) (m now : Moment) → Some m ≡ Some now → SetsSoon v m w → SetsSoon v now w
-at_moment v w m now same k = let one : m ≡ now = cc in subst (λ n. SetsSoon v n w) one k
-
-set_soon : (v : View) (e : Event) (now : Moment) → IsSound v → moment_of e ≡ Some now → SetsSoon v now (after_event v e)
-set_soon v (Hears s m) now sound is =
-    at_moment v (after_event v (Hears s m)) m now is (by_clock (SetsSoon v m) v s m (unset m v.timers) (λ lives. heard_soon v s m sound.pace.timeout_most))
-set_soon v (Ticks m) now sound is =
-    let P : View → Type 0 = SetsSoon v m in
-    at_moment v (after_event v (Ticks m)) m now is (either View P (is_at_end v m) (after_stop v) _ (λ over. stopped_soon m v.timers)
-    (λ goes_on. either View P (gives_up v m) (after_reset v (Some ETIMEDOUT)) _ (λ given_up. stopped_soon m v.timers)
-    (λ lives. either View P (has_come (next_of v.timers) m) (clocked false (after_timers v m) m) v (λ comes. timers_soon v m sound.pace.timeout_most) (λ early. unset m v.timers))))
-set_soon v (Emits m) now sound is = at_moment v (after_event v (Emits m)) m now is (emission_soon v (first_due v) m sound.pace.timeout_most)
-set_soon v (Sends octets m) now sound is =
-    let P : View → Type 0 = SetsSoon v m in
-    let taken = take (send_count v octets) octets in
-    at_moment v (after_event v (Sends octets m)) m now is (either View P (is_some v.pending_error || is_opening v.state || is_write_closed v.state) v _ (λ refused. unset m v.timers)
-    (λ takes. either View P (length taken == 0) v _ (λ none. unset m v.timers)
-    (λ some. clocked_soon false (record v { sending = record v.sending { held = v.sending.held ++ taken } }) m v.timers sound.pace.timeout_most (unset m v.timers))))
-set_soon v (Shuts m) now sound is =
-    at_moment v (after_event v (Shuts m)) m now is (either View (SetsSoon v m) (is_some (shutdown_refusal v)) v (after_shutdown v m) (λ refused. unset m v.timers)
-    (λ shuts. clocked_soon false (record v { state = beyond_shutdown v.state }) m v.timers sound.pace.timeout_most (unset m v.timers)))
-set_soon v (Closes m) now sound is =
-    let P : View → Type 0 = SetsSoon v m in
-    let left = record v { state = beyond_shutdown v.state; released = true; since = if is_fin_wait_2 v.state then latest v.since m else v.since } in
-    at_moment v (after_event v (Closes m)) m now is (either View P (is_removed_by_close v) v _ (λ removed. unset m v.timers)
-    (λ stays. either View P (is_aborted_by_close v) (aborted_at v m) (after_release v m) (λ aborts. stopped_soon m v.timers) (λ leaves. clocked_soon false left m v.timers sound.pace.timeout_most (unset m v.timers))))
-set_soon v (Aborts m) now sound is =
-    at_moment v (after_event v (Aborts m)) m now is (either View (SetsSoon v m) (is_closed v.state) v (aborted_at v m) (λ closed. unset m v.timers) (λ aborts. stopped_soon m v.timers))
-set_soon v (Receives len) now sound is = cc
-set_soon v (Unreachable number) now sound is = cc
-
-pub soon : (v : View) (e : Event) (now deadline : Moment) (kind : TimerKind) → IsSound v → moment_of e ≡ Some now → deadline_of (after_event v e).timers kind ≡ Some deadline
-    → (deadline_of v.timers kind ≡ Some deadline) ⊎ (deadline.0 ≤ now.0 + 60000)
-soon v e now deadline kind sound is set = of_kind kind set
+sets_soon : (v : View) (e : Event) → SetsSoon v e (after_event v e)
+sets_soon v = by_event (SetsSoon v) v (record {
+  same = λ e. inl refl;
+  heard = λ s now lives. inr (inr (now, refl, heard_soon v s now));
+  over = λ now ends. inr (inl refl);
+  given_up = λ now waits expired. inr (inl refl);
+  acts = λ now. inr (inr (now, refl, timers_soon v now));
+  emits = λ now. inr (inr (now, refl, emission_soon v (first_due v) now));
+  sends = λ octets taken now opened. inr (inr (now, refl, λ few. clocked_soon false (holding v taken) now v.timers few (unset now v.timers)));
+  reads = λ len. inl refl;
+  shuts = λ now. inr (inr (now, refl, shut_soon v.released v.since now));
+  leaves = λ now lives. inr (inr (now, refl, shut_soon true (if is_fin_wait_2 v.state then latest v.since now else v.since) now));
+  aborts = λ e now at cause lives. inr (inl refl);
+  refused = λ number hit. inr (inl refl);
+})
   where
-    k : SetsSoon v now (after_event v e)
-    k = set_soon v e now sound is
-
-    of_kind : (kind : TimerKind) → deadline_of (after_event v e).timers kind ≡ Some deadline → (deadline_of v.timers kind ≡ Some deadline) ⊎ (deadline.0 ≤ now.0 + 60000)
-    of_kind Retransmission = k.retransmission deadline
-    of_kind Probe = k.probe deadline
-    of_kind DelayedAck = k.delayed_ack deadline
-    of_kind Override = k.overriding deadline
-
--- An event without a moment leaves the timers as they run, or stops them.
-
-stops_or_stays : (v : View) (e : Event) → moment_of e ≡ None → ((after_event v e).timers ≡ v.timers) ⊎ ((after_event v e).timers ≡ no_timers)
-stops_or_stays v (Receives len) is =
-    either View (λ w. (w.timers ≡ v.timers) ⊎ (w.timers ≡ no_timers)) (is_some v.pending_error || is_opening v.state || (length v.receiving.readable == 0)) v _ (λ nothing. inl refl) (λ some. inl refl)
-stops_or_stays v (Unreachable number) is =
-    either View (λ w. (w.timers ≡ v.timers) ⊎ (w.timers ≡ no_timers)) (is_unreachable v number) (after_reset v (Some ECONNREFUSED)) v (λ refused. inr refl) (λ other. inl refl)
-stops_or_stays v (Hears s m) is = cc
-stops_or_stays v (Ticks m) is = cc
-stops_or_stays v (Emits m) is = cc
-stops_or_stays v (Sends octets m) is = cc
-stops_or_stays v (Shuts m) is = cc
-stops_or_stays v (Closes m) is = cc
-stops_or_stays v (Aborts m) is = cc
+    shut_soon : (released : Bool) (since now : Moment) → v.pace.timeout.rto ≤ 60000 → SetSoon now v.timers (clocked false (shut v released since) now).timers
+    shut_soon released since now few = clocked_soon false (shut v released since) now v.timers few (unset now v.timers)
 
 none_runs : (kind : TimerKind) → deadline_of no_timers kind ≡ None
 none_runs Retransmission = refl
@@ -237,8 +199,31 @@ none_runs Probe = refl
 none_runs DelayedAck = refl
 none_runs Override = refl
 
-pub never : (v : View) (e : Event) (deadline : Moment) (kind : TimerKind) → moment_of e ≡ None → deadline_of (after_event v e).timers kind ≡ Some deadline → deadline_of v.timers kind ≡ Some deadline
-never v e deadline kind is set = elim (stops_or_stays v e is) [
-  | inl same ↦ sym (ap (λ (t : Timers). deadline_of t kind) same) ∙ set
-  | inr none ↦ let bad : None ≡ Some deadline = sym (ap (λ (t : Timers). deadline_of t kind) none ∙ none_runs kind) ∙ set in cc
+of_kind : (now : Moment) (was is : Timers) (kind : TimerKind) → SetSoon now was is → Soon now (deadline_of was kind) (deadline_of is kind)
+of_kind now was is Retransmission k = k.retransmission
+of_kind now was is Probe k = k.probe
+of_kind now was is DelayedAck k = k.delayed_ack
+of_kind now was is Override k = k.overriding
+
+-- a timer that runs after an event ran before, or the event has a moment and set it
+ran_or_set : (v : View) (e : Event) (deadline : Moment) (kind : TimerKind) → deadline_of (after_event v e).timers kind ≡ Some deadline
+    → (deadline_of v.timers kind ≡ Some deadline)
+    ⊎ ((now : Moment) × (moment_of e ≡ Some now) × (v.pace.timeout.rto ≤ 60000 → (deadline_of v.timers kind ≡ Some deadline) ⊎ (deadline.0 ≤ now.0 + 60000)))
+ran_or_set v e deadline kind set = elim (sets_soon v e) [
+  | inl same ↦ inl (sym (ap (λ (t : Timers). deadline_of t kind) same) ∙ set)
+  | inr other ↦ elim other [
+    | inl none ↦ let bad : None ≡ Some deadline = sym (ap (λ (t : Timers). deadline_of t kind) none ∙ none_runs kind) ∙ set in cc
+    | inr sets ↦ inr (sets.0, sets.1, λ few. of_kind sets.0 v.timers (after_event v e).timers kind (sets.2 few) deadline set)
+  ]
 ]
+
+pub soon : (v : View) (e : Event) (now deadline : Moment) (kind : TimerKind) → IsSound v → moment_of e ≡ Some now → deadline_of (after_event v e).timers kind ≡ Some deadline
+    → (deadline_of v.timers kind ≡ Some deadline) ⊎ (deadline.0 ≤ now.0 + 60000)
+soon v e now deadline kind sound is set = elim (ran_or_set v e deadline kind set) [
+  | inl was ↦ inl was
+  | inr sets ↦ let same : ◌≡◌ {A = Option Moment} (Some sets.0) (Some now) = sym sets.1 ∙ is in let one : sets.0 ≡ now = cc in
+      subst (λ m. (deadline_of v.timers kind ≡ Some deadline) ⊎ (deadline.0 ≤ m.0 + 60000)) one (sets.2 sound.pace.timeout_most)
+]
+
+pub never : (v : View) (e : Event) (deadline : Moment) (kind : TimerKind) → moment_of e ≡ None → deadline_of (after_event v e).timers kind ≡ Some deadline → deadline_of v.timers kind ≡ Some deadline
+never v e deadline kind is set = elim (ran_or_set v e deadline kind set) [ inl was ↦ was | inr sets ↦ let bad : ◌≡◌ {A = Option Moment} None (Some sets.0) = sym is ∙ sets.1 in cc ]

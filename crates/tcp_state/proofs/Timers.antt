@@ -27,6 +27,7 @@ use Rattle.tcp_state.specs.Edges.{Event, Hears, Ticks, Emits, Sends, Receives, S
 use Rattle.tcp_state.proofs.Clocked.{timers_keep, emission_keeps}
 use Rattle.tcp_halves.proofs.Choices.{either, by, clash, and_left, and_right, and_false}
 use Rattle.tcp_state.proofs.Segments.{by_fin, by_ack, by_hearing, by_clock}
+use Rattle.tcp_state.proofs.Events.{holding, shut, by_event}
 use Rattle.tcp_state.proofs.Unchanged.{closed_holds, closed_owes}
 
 -- The clock at the end of an event.
@@ -189,45 +190,32 @@ open_state Closed e = cc
 open_state _ e = refl
 
 pub stays_timed : (v : View) (e : Event) → IsSound v → KeepsTime v → KeepsTime (after_event v e)
-stays_timed v (Hears s now) sound keeps =
-    let b = before v s in
-    let w = after_heard v s in
-    by_clock KeepsTime v s now keeps (λ lives. clocked_keeps (is_moved b w) (record w { since = since_after b w now; pace = pace_after b w now; congestion = congestion_after b w }) now (heard_quiet v s lives))
-stays_timed v (Ticks now) sound keeps =
-    either View KeepsTime (is_at_end v now) (after_stop v) _ (λ over. stop_keeps v sound.nxt)
-    (λ goes_on. either View KeepsTime (gives_up v now) (after_reset v (Some ETIMEDOUT)) _ (λ given_up. ended v (Some ETIMEDOUT) v.released v.owes_reset v.since sound.nxt)
-    (λ lives. either View KeepsTime (has_come (next_of v.timers) now) (clocked false (after_timers v now) now) v (λ comes. clocked_keeps false (after_timers v now) now (timers_quiet v now sound keeps)) (λ early. keeps)))
-stays_timed v (Emits now) sound keeps = emission_timed v now sound keeps
-stays_timed v (Sends octets now) sound keeps =
-    either View KeepsTime (is_some v.pending_error || is_opening v.state || is_write_closed v.state) v _ (λ refused. keeps)
-    (λ taken. either View KeepsTime (length (take (send_count v octets) octets) == 0) v _ (λ none. keeps)
-    (λ some. clocked_keeps false (record v { sending = record v.sending { held = v.sending.held ++ take (send_count v octets) octets } }) now
-    (λ closed. clash (is_closed v.state) closed (open_state v.state (not_or (is_some v.pending_error || is_opening v.state) (is_write_closed v.state) taken)))))
+stays_timed v e sound keeps = by_event (λ e w. KeepsTime w) v (record {
+  same = λ e. keeps;
+  heard = λ s now lives. let b = before v s in let w = after_heard v s in
+      clocked_keeps (is_moved b w) (record w { since = since_after b w now; pace = pace_after b w now; congestion = congestion_after b w }) now (heard_quiet v s lives);
+  over = λ now ends. stop_keeps v sound.nxt;
+  given_up = λ now waits expired. ended v (Some ETIMEDOUT) v.released v.owes_reset v.since sound.nxt;
+  acts = λ now. clocked_keeps false (after_timers v now) now (timers_quiet v now sound keeps);
+  emits = λ now. emission_timed v now sound keeps;
+  sends = λ octets taken now opened. clocked_keeps false (holding v taken) now (λ closed. clash (is_closed v.state) closed (open_state v.state opened));
+  reads = λ len. record {
+    retransmission = keeps.retransmission;
+    probe = keeps.probe;
+    delayed_ack = keeps.delayed_ack;
+    overriding = keeps.overriding;
+    interval = keeps.interval;
+    owed = keeps.owed;
+    closed = keeps.closed;
+  };
+  shuts = λ now. clocked_keeps false (shut v v.released v.since) now was_quiet;
+  leaves = λ now lives. clocked_keeps false (shut v true (if is_fin_wait_2 v.state then latest v.since now else v.since)) now was_quiet;
+  aborts = λ e now at cause lives. ended v v.pending_error true true now sound.nxt;
+  refused = λ number hit. ended v (Some ECONNREFUSED) v.released v.owes_reset v.since sound.nxt;
+}) e
   where
-    not_or : (a b : Bool) → (a || b) ≡ false → b ≡ false
-    not_or true b e = cc
-    not_or false b e = e
-stays_timed v (Receives len) sound keeps =
-    either View KeepsTime (is_some v.pending_error || is_opening v.state || (length v.receiving.readable == 0)) v _ (λ nothing. keeps)
-    (λ some. record {
-      retransmission = keeps.retransmission;
-      probe = keeps.probe;
-      delayed_ack = keeps.delayed_ack;
-      overriding = keeps.overriding;
-      interval = keeps.interval;
-      owed = keeps.owed;
-      closed = keeps.closed;
-    })
-stays_timed v (Shuts now) sound keeps =
-    either View KeepsTime (is_some (shutdown_refusal v)) v (after_shutdown v now) (λ refused. keeps)
-    (λ shuts. clocked_keeps false (record v { state = beyond_shutdown v.state }) now (λ closed. let was = shut_closes_none v.state closed in (keeps.closed was, (closed_holds v sound was).0)))
-stays_timed v (Closes now) sound keeps =
-    either View KeepsTime (is_removed_by_close v) v _ (λ removed. keeps)
-    (λ stays. either View KeepsTime (is_aborted_by_close v) (aborted_at v now) (after_release v now) (λ aborts. ended v v.pending_error true true now sound.nxt)
-    (λ leaves. clocked_keeps false (record v { state = beyond_shutdown v.state; released = true; since = if is_fin_wait_2 v.state then latest v.since now else v.since }) now (λ closed. let was = shut_closes_none v.state closed in (keeps.closed was, (closed_holds v sound was).0))))
-stays_timed v (Aborts now) sound keeps = either View KeepsTime (is_closed v.state) v (aborted_at v now) (λ closed. keeps) (λ aborts. ended v v.pending_error true true now sound.nxt)
-stays_timed v (Unreachable number) sound keeps =
-    either View KeepsTime (is_unreachable v number) (after_reset v (Some ECONNREFUSED)) v (λ refused. ended v (Some ECONNREFUSED) v.released v.owes_reset v.since sound.nxt) (λ other. keeps)
+    was_quiet : is_closed (beyond_shutdown v.state) ≡ true → (v.timers.overriding ≡ None) × (length v.sending.held ≡ 0)
+    was_quiet closed = let was = shut_closes_none v.state closed in (keeps.closed was, (closed_holds v sound was).0)
 
 -- A connection that opens: nothing is outstanding, and its SYN is due.
 

@@ -21,6 +21,7 @@ use Rattle.tcp_state.specs.Unreachable.{is_unreachable}
 use Rattle.tcp_state.specs.Edges.{Event, Hears, Ticks, Emits, Sends, Receives, Shuts, Closes, Aborts, Unreachable, after_first, after_event}
 use Rattle.tcp_halves.proofs.Choices.{either, clash, both, or_right, neither, of_false}
 use Rattle.tcp_state.proofs.Segments.{by_fin, ack_receives, by_hearing, by_clock}
+use Rattle.tcp_state.proofs.Events.{by_event}
 use Rattle.tcp_state.proofs.Clocked.{timers_keep, syn_out}
 use Rattle.tcp_state.proofs.Waiting.{owed_where_closed}
 use Rattle.tcp_state.proofs.Emissions.{is_ack_due, by_due, numbers_receive, stretch_receives, probe_receives}
@@ -90,33 +91,28 @@ heard_edge v s past_opening =
 
 -- Every event.
 
+emission_steps : (v : View) (o : Option Due) (now : Moment) → IsSound v → v.receiving.edge < 2 ^ 32 → Steps v (after_first v o now)
+emission_steps v None now sound small = inl refl
+emission_steps v (Some due) now sound small = elim (emitted v due now) [
+  | inl same ↦ inl (ap (λ (r : Receiving). r.edge) same)
+  | inr tells ↦ advertised v (after_emitted v due now) sound small tells
+]
+
 pub in_steps : (v : View) (e : Event) → IsSound v → is_syn_sent v.state ≡ false → v.receiving.edge < 2 ^ 32 → Steps v (after_event v e)
-in_steps v (Hears s now) sound past_opening small = by_clock (Steps v) v s now (inl refl) (λ lives. inl (heard_edge v s past_opening))
-in_steps v (Ticks now) sound past_opening small =
-    either View (Steps v) (is_at_end v now) (after_stop v) _ (λ over. inl refl)
-    (λ goes_on. either View (Steps v) (gives_up v now) (after_reset v (Some ETIMEDOUT)) _ (λ given_up. inl refl)
-    (λ lives. either View (Steps v) (has_come (next_of v.timers) now) (clocked false (after_timers v now) now) v
-    (λ comes. inl (ap (λ (w : View). w.receiving.edge) (timers_keep v now))) (λ early. inl refl)))
-in_steps v (Emits now) sound past_opening small = sent (first_due v)
-  where
-    sent : (o : Option Due) → Steps v (after_first v o now)
-    sent None = inl refl
-    sent (Some due) = elim (emitted v due now) [
-      | inl same ↦ inl (ap (λ (r : Receiving). r.edge) same)
-      | inr tells ↦ advertised v (after_emitted v due now) sound small tells
-    ]
-in_steps v (Sends octets now) sound past_opening small =
-    either View (Steps v) (is_some v.pending_error || is_opening v.state || is_write_closed v.state) v _ (λ refused. inl refl)
-    (λ takes. either View (Steps v) (length (take (send_count v octets) octets) == 0) v _ (λ none. inl refl) (λ some. inl refl))
-in_steps v (Receives len) sound past_opening small =
-    either View (Steps v) (is_some v.pending_error || is_opening v.state || (length v.receiving.readable == 0)) v _ (λ nothing. inl refl) (λ some. inl refl)
-in_steps v (Shuts now) sound past_opening small = either View (Steps v) (is_some (shutdown_refusal v)) v (after_shutdown v now) (λ refused. inl refl) (λ shuts. inl refl)
-in_steps v (Closes now) sound past_opening small =
-    either View (Steps v) (is_removed_by_close v) v _ (λ removed. inl refl)
-    (λ remains. either View (Steps v) (is_aborted_by_close v) (aborted_at v now) (after_release v now) (λ aborts. inl refl) (λ leaves. inl refl))
-in_steps v (Aborts now) sound past_opening small = either View (Steps v) (is_closed v.state) v (aborted_at v now) (λ closed. inl refl) (λ aborts. inl refl)
-in_steps v (Unreachable number) sound past_opening small =
-    either View (Steps v) (is_unreachable v number) (after_reset v (Some ECONNREFUSED)) v (λ refused. inl refl) (λ other. inl refl)
+in_steps v e sound past_opening small = by_event (λ e w. Steps v w) v (record {
+  same = λ e. inl refl;
+  heard = λ s now lives. inl (heard_edge v s past_opening);
+  over = λ now ends. inl refl;
+  given_up = λ now waits expired. inl refl;
+  acts = λ now. inl (ap (λ (w : View). w.receiving.edge) (timers_keep v now));
+  emits = λ now. emission_steps v (first_due v) now sound small;
+  sends = λ octets taken now opened. inl refl;
+  reads = λ len. inl refl;
+  shuts = λ now. inl refl;
+  leaves = λ now lives. inl refl;
+  aborts = λ e now at cause lives. inl refl;
+  refused = λ number hit. inl refl;
+}) e
 
 -- A step that can be told is told with what goes out next.
 
