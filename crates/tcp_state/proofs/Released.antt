@@ -14,19 +14,9 @@ use Rattle.tcp_halves.specs.Stream.{is_new_ack, octets_within, after_octets, rec
 use Rattle.tcp_state.specs.View.{View, IsSound, is_syn_sent, is_syn_received, is_closed, is_write_closed, after_reset}
 use Rattle.tcp_state.specs.Arrival.{owing_ack, after_establishment, is_receiving, beyond_fin, is_of_fin, fin_acknowledged, after_new_ack, after_ack, is_read_on, is_read, brings_more, after_window, after_text, after_fin, after_acknowledging_segment, after_acceptable_segment, ends_by_syn, ends_by_reset, is_acting_reset, is_acceptable_to, reset_error, after_rst_in_syn_sent, after_rst, is_right_syn_ack, after_syn_ack, is_simultaneous_syn, after_simultaneous_syn, after_segment, is_lost, after_lost, is_rejected, before, timed_by, after_heard, after_segment_at}
 use Rattle.tcp_halves.proofs.Choices.{either, clash, both, of_false}
-use Rattle.tcp_state.proofs.Segments.{by_fin}
+use Rattle.tcp_state.proofs.Segments.{after_reading, by_fin, by_ack, ack_receives, by_segment, by_clock}
 use Rattle.tcp_halves.proofs.Keeping.{IsKeeping, none_within}
 use Rattle.tcp_state.proofs.Sound.{sound_keeping}
-
--- an acknowledgement leaves the receiving half
-pub unheard : (v : View) (ack : ℕ) → (after_ack v ack).receiving ≡ v.receiving
-unheard v ack =
-    let P : View → Type 0 = λ w. w.receiving ≡ v.receiving in
-    either View P (is_syn_received v.state) _ _
-    (λ received. either View P (is_new_ack v.sending ack) (after_establishment v) v (λ new. refl) (λ old. refl))
-    (λ past_opening. either View P (is_new_ack v.sending ack) _ _
-    (λ new. either View P (is_of_fin v ack) (fin_acknowledged (after_new_ack v ack)) (after_new_ack v ack) (λ fin. refl) (λ octets. refl))
-    (λ old. either View P (is_before v.sending.nxt ack) (owing_ack v) v (λ beyond. refl) (λ within. refl)))
 
 -- where our side is closed, octets were taken before an acknowledgement if they are after it
 received_before : (t : State) → is_receiving (beyond_fin t) ≡ true → is_receiving t ≡ true
@@ -40,13 +30,13 @@ opening_is_open SynReceived e = cc
 opening_is_open _ e = refl
 
 receiving_before : (v : View) (ack : ℕ) → is_write_closed v.state ≡ true → is_receiving (after_ack v ack).state ≡ true → is_receiving v.state ≡ true
-receiving_before v ack closed =
-    let P : View → Type 0 = λ w. is_receiving w.state ≡ true → is_receiving v.state ≡ true in
-    either View P (is_syn_received v.state) _ _
-    (λ received. clash (is_syn_received v.state) received (opening_is_open v.state closed))
-    (λ past_opening. either View P (is_new_ack v.sending ack) _ _
-    (λ new. either View P (is_of_fin v ack) (fin_acknowledged (after_new_ack v ack)) (after_new_ack v ack) (λ fin. received_before v.state) (λ octets e. e))
-    (λ old. either View P (is_before v.sending.nxt ack) (owing_ack v) v (λ beyond e. e) (λ within e. e)))
+receiving_before v ack closed = by_ack (λ w. is_receiving w.state ≡ true → is_receiving v.state ≡ true) v ack (record {
+  old = λ e. e;
+  beyond = λ e. e;
+  opens = λ received new. clash (is_syn_received v.state) received (opening_is_open v.state closed);
+  octets = λ new e. e;
+  fin = λ new fin. received_before v.state;
+})
 
 not_before : (a b : ℕ) → is_before a b ≡ false → past a b < 2 ^ 31
 not_before a b e = elim (leb_tells (2 ^ 31) (past a b)) [ inl t ↦ clash (nat_le (2 ^ 31) (past a b)) t.0 e | inr t ↦ t.1 ]
@@ -99,45 +89,29 @@ record IsKept (v : View) (s : Segment) : Type 0 where
   pub closed : is_write_closed v.state ≡ true
   pub kept : is_lost v s ≡ false
 
-readable_by_acceptable : (v : View) (s : Segment) → IsKept v s → (is_read_on v s.acknowledgement ≡ true → is_read v s ≡ true) → (after_acknowledging_segment v s).receiving.readable ≡ v.receiving.readable
-readable_by_acceptable v s k read =
+readable_by_reading : (v : View) (s : Segment) → IsKept v s → is_read v s ≡ true → (after_reading v s).receiving.readable ≡ v.receiving.readable
+readable_by_reading v s k read =
     let told = after_window (after_ack v s.acknowledgement) s in
-    let same : told.receiving ≡ v.receiving = unheard v s.acknowledgement in
-    either View (λ w. w.receiving.readable ≡ v.receiving.readable) (is_read_on v s.acknowledgement) _ (after_ack v s.acknowledgement)
-    (λ on. readable_by_fin (after_text told s) s
+    let same : told.receiving ≡ v.receiving = ack_receives v s.acknowledgement in
+    readable_by_fin (after_text told s) s
     ∙ either View (λ w. w.receiving.readable ≡ v.receiving.readable) ((length s.octets == 0) || not (is_receiving told.state)) told _
     (λ none. ap (λ (r : Receiving). r.readable) same)
     (λ some.
     let tests = or_false (length s.octets == 0) (is_receiving told.state) some in
-    let ends = all_known v s k.released (receiving_before v s.acknowledgement k.closed tests.1) (read on) k.kept tests.0 in
+    let ends = all_known v s k.released (receiving_before v s.acknowledgement k.closed tests.1) read k.kept tests.0 in
     ap (λ (r : Receiving). (after_octets r s.number s.octets).readable) same
-    ∙ ap (λ (r : Receiving). r.readable) (none_within v.receiving s.number s.octets k.keeping (none_new v.receiving s.number s.octets k.keeping k.fits k.short ends))))
-    (λ off. ap (λ (r : Receiving). r.readable) same)
+    ∙ ap (λ (r : Receiving). r.readable) (none_within v.receiving s.number s.octets k.keeping (none_new v.receiving s.number s.octets k.keeping k.fits k.short ends)))
 
 readable_by_segment : (v : View) (s : Segment) → IsKept v s → (after_segment v s).receiving.readable ≡ v.receiving.readable
-readable_by_segment v s k =
-    let P : View → Type 0 = λ w. w.receiving.readable ≡ v.receiving.readable in
-    let confirms = s.flags.ack && is_new_ack v.sending s.acknowledgement in
-    either View P (is_closed v.state) v _
-    (λ closed. refl)
-    (λ lives. either View P s.flags.rst _ _
-    (λ rst. either View P (is_syn_sent v.state) (after_rst_in_syn_sent v s) (after_rst v s)
-    (λ waits. either View P confirms (after_reset v (reset_error v.state)) v (λ acts. refl) (λ dropped. refl))
-    (λ past_opening. either View P (is_acting_reset v s) _ _
-    (λ acts. either View P (ends_by_reset v s) v (after_reset v (reset_error v.state)) (λ removed. refl) (λ reset. refl))
-    (λ elsewhere. either View P (is_in_window v.receiving s.number) (owing_ack v) v (λ drawn. refl) (λ dropped. refl))))
-    (λ no_rst. either View P (is_syn_sent v.state) _ _
-    (λ waits. either View P (is_simultaneous_syn v s) (after_simultaneous_syn v s) (after_syn_ack v s) (λ simultaneous. refl)
-    (λ answers. either View P (is_right_syn_ack v s) _ v (λ right. refl) (λ wrong. refl)))
-    (λ past_opening. either View P (is_acceptable_to v s) (after_acceptable_segment v s) (owing_ack v)
-    (λ accepted. either View P s.flags.syn _ _
-    (λ syn. either View P (ends_by_syn v s) v (owing_ack v) (λ removed. refl) (λ drawn. refl))
-    (λ no_syn. either View P s.flags.ack (after_acknowledging_segment v s) v
-    (λ ack. readable_by_acceptable v s k (λ on. both (not s.flags.rst && is_acceptable_to v s && not s.flags.syn && s.flags.ack) _
-    (both (not s.flags.rst && is_acceptable_to v s && not s.flags.syn) s.flags.ack
-    (both (not s.flags.rst && is_acceptable_to v s) (not s.flags.syn) (both (not s.flags.rst) (is_acceptable_to v s) (of_false s.flags.rst no_rst) accepted) (of_false s.flags.syn no_syn)) ack) on))
-    (λ no_ack. refl)))
-    (λ refused. refl))))
+readable_by_segment v s k = by_segment (λ w. w.receiving.readable ≡ v.receiving.readable) v s (record {
+  dropped = refl;
+  drawn = refl;
+  reset = λ acts. refl;
+  crossed = λ waits. refl;
+  opened = λ waits right. refl;
+  acknowledged = λ taken. ap (λ (r : Receiving). r.readable) (ack_receives v s.acknowledgement);
+  read = readable_by_reading v s k;
+})
 
 closed_where_released : (released closed : Bool) → (released && not closed) ≡ false → released ≡ true → closed ≡ true
 closed_where_released true true e f = refl
@@ -147,7 +121,7 @@ closed_where_released false closed e f = cc
 readable_by_heard : (v : View) (s : Segment) → IsSound v → v.released ≡ true → s.number < 2 ^ 32 → length s.octets < 2 ^ 16 → (after_heard v s).receiving.readable ≡ v.receiving.readable
 readable_by_heard v s sound released fits short =
     either View (λ w. w.receiving.readable ≡ v.receiving.readable) (is_lost v s) (after_lost v s) (after_segment v s)
-    (λ lost. ap (λ (r : Receiving). r.readable) (unheard v s.acknowledgement))
+    (λ lost. ap (λ (r : Receiving). r.readable) (ack_receives v s.acknowledgement))
     (λ kept. readable_by_segment v s (record {
       keeping = sound_keeping v sound;
       fits = fits;
@@ -160,5 +134,4 @@ readable_by_heard v s sound released fits short =
 pub released_takes_none : (v : View) (s : Segment) (now : Moment) → IsSound v → v.released ≡ true → s.number < 2 ^ 32 → length s.octets < 2 ^ 16
     → (after_segment_at v s now).receiving.readable ≡ v.receiving.readable
 released_takes_none v s now sound released fits short =
-    either View (λ w. w.receiving.readable ≡ v.receiving.readable) (is_closed v.state || is_rejected v s) v (timed_by (before v s) (after_heard v s) now)
-    (λ kept. refl) (λ heard. readable_by_heard v s sound released fits short)
+    by_clock (λ w. w.receiving.readable ≡ v.receiving.readable) v s now refl (λ lives. readable_by_heard v s sound released fits short)

@@ -17,22 +17,21 @@ use Rattle.tcp_state.specs.Arrival.{owing_ack, is_acceptable_to, is_acting_reset
 use Rattle.tcp_state.specs.Edges.{Hears, after_event, fate_by, is_removed, is_reset_by, ends_by, ends_by_ack}
 use Rattle.tcp_state.proofs.Clocked.{Owing, OwingAt, owing_timed, starts_none, comes_to}
 use Rattle.tcp_halves.proofs.Choices.{either, by, clash, and_left, and_right, both, or_left, or_right, or_else, not_true, of_false}
+use Rattle.tcp_state.proofs.Segments.{is_taken, by_segment, by_clock, read_tells}
 use Rattle.tcp_state.proofs.Causes.{segment-cause}
 
 -- a segment that is read has no RST
 pub read_is_no_rst : (v : View) (s : Segment) → is_read v s ≡ true → s.flags.rst ≡ false
-read_is_no_rst v s e =
-    let acks = and_left (not s.flags.rst && is_acceptable_to v s && not s.flags.syn && s.flags.ack) _ e in
-    let plain = and_left (not s.flags.rst && is_acceptable_to v s && not s.flags.syn) s.flags.ack acks in
-    let accepted = and_left (not s.flags.rst && is_acceptable_to v s) (not s.flags.syn) plain in
-    not_true s.flags.rst (and_left (not s.flags.rst) (is_acceptable_to v s) accepted)
+read_is_no_rst v s e = (read_tells v s e).no_rst
 
 pub read_is_accepted : (v : View) (s : Segment) → is_read v s ≡ true → is_acceptable_to v s ≡ true
-read_is_accepted v s e =
-    let acks = and_left (not s.flags.rst && is_acceptable_to v s && not s.flags.syn && s.flags.ack) _ e in
-    let plain = and_left (not s.flags.rst && is_acceptable_to v s && not s.flags.syn) s.flags.ack acks in
-    let accepted = and_left (not s.flags.rst && is_acceptable_to v s) (not s.flags.syn) plain in
-    and_right (not s.flags.rst) (is_acceptable_to v s) accepted
+read_is_accepted v s e = (read_tells v s e).accepted
+
+-- nor has one that is taken
+taken_is : (v : View) (s : Segment) → is_taken v s ≡ true → (s.flags.rst ≡ false) × (is_acceptable_to v s ≡ true)
+taken_is v s e =
+    let two = and_left (not s.flags.rst && is_acceptable_to v s) (not s.flags.syn) (and_left (not s.flags.rst && is_acceptable_to v s && not s.flags.syn) s.flags.ack e) in
+    (not_true s.flags.rst (and_left (not s.flags.rst) (is_acceptable_to v s) two), and_right (not s.flags.rst) (is_acceptable_to v s) two)
 
 pub lost_is_read : (v : View) (s : Segment) → is_lost v s ≡ true → is_read v s ≡ true
 lost_is_read v s e = and_right _ (is_read v s) (and_left _ _ e)
@@ -81,22 +80,22 @@ acts_at_nxt v s now sound fits waits rst e =
     let most : past s.acknowledgement v.sending.una ≤ outstanding v.sending = leb-true (past s.acknowledgement v.sending.una) (outstanding v.sending) (and_right (nat_lt 0 (past s.acknowledgement v.sending.una)) _ new) in
     (and_left s.flags.ack (is_new_ack v.sending s.acknowledgement) acts, omega (arith, one, some, most, fits, sound.una, sound.nxt))
 
+-- what leaves a connection past SYN-SENT as it is but for what is owed: neither does a reset act, nor is it taken
+apart_segment : (v : View) (s : Segment) → is_syn_sent v.state ≡ false → (is_acting_reset v s ≡ true → s.flags.rst ≡ true → ⊥) → (is_taken v s ≡ true → ⊥) → Owing v (after_segment v s)
+apart_segment v s past_opening acts_none untaken = by_segment (Owing v) v s (record {
+  dropped = refl;
+  drawn = refl;
+  reset = λ r. absurd (acts_none
+      (chosen_else (is_syn_sent v.state) (s.flags.ack && is_new_ack v.sending s.acknowledgement) (is_acting_reset v s) past_opening (and_right s.flags.rst _ r.acts)) (and_left s.flags.rst _ r.acts));
+  crossed = λ waits. clash (is_syn_sent v.state) waits past_opening;
+  opened = λ waits right. clash (is_syn_sent v.state) waits past_opening;
+  acknowledged = λ taken. absurd (untaken taken);
+  read = λ on. absurd (untaken (and_left (is_taken v s) _ on));
+})
+
 unaccepted_segment : (v : View) (s : Segment) → is_syn_sent v.state ≡ false → is_acceptable_to v s ≡ false → Owing v (after_segment v s)
-unaccepted_segment v s past_opening refused =
-    let P : View → Type 0 = λ w. Owing v w in
-    either View P (is_closed v.state) v _
-    (λ closed. refl)
-    (λ lives. either View P s.flags.rst _ _
-    (λ rst. either View P (is_syn_sent v.state) (after_rst_in_syn_sent v s) (after_rst v s)
-    (λ waits. clash (is_syn_sent v.state) waits past_opening)
-    (λ past. either View P (is_acting_reset v s) _ _
-    (λ acts. clash (is_acceptable_to v s) (and_left (is_acceptable_to v s) (s.number == v.receiving.rnext) acts) refused)
-    (λ elsewhere. either View P (is_in_window v.receiving s.number) (owing_ack v) v (λ drawn. refl) (λ dropped. refl))))
-    (λ no_rst. either View P (is_syn_sent v.state) _ _
-    (λ waits. clash (is_syn_sent v.state) waits past_opening)
-    (λ past. either View P (is_acceptable_to v s) (after_acceptable_segment v s) (owing_ack v)
-    (λ accepted. clash (is_acceptable_to v s) accepted refused)
-    (λ unaccepted. refl))))
+unaccepted_segment v s past_opening refused = apart_segment v s past_opening
+    (λ acts rst. clash (is_acceptable_to v s) (and_left (is_acceptable_to v s) (s.number == v.receiving.rnext) acts) refused) (λ taken. clash (is_acceptable_to v s) (taken_is v s taken).1 refused)
 
 unaccepted_is_none : (v : View) (s : Segment) → is_acceptable_to v s ≡ false → answers_probe v s ≡ false
 unaccepted_is_none v s refused = by (answers_probe v s ≡ false) (answers_probe v s)
@@ -130,17 +129,8 @@ unaccepted_changes v s now keeps past_opening refused =
 
 -- an RST whose number is not RCV.NXT
 elsewhere_segment : (v : View) (s : Segment) → is_syn_sent v.state ≡ false → s.flags.rst ≡ true → (s.number == v.receiving.rnext) ≡ false → Owing v (after_segment v s)
-elsewhere_segment v s past_opening rst apart =
-    let P : View → Type 0 = λ w. Owing v w in
-    either View P (is_closed v.state) v _
-    (λ closed. refl)
-    (λ lives. either View P s.flags.rst _ _
-    (λ is_rst. either View P (is_syn_sent v.state) (after_rst_in_syn_sent v s) (after_rst v s)
-    (λ waits. clash (is_syn_sent v.state) waits past_opening)
-    (λ past. either View P (is_acting_reset v s) _ _
-    (λ acts. clash (s.number == v.receiving.rnext) (and_right (is_acceptable_to v s) (s.number == v.receiving.rnext) acts) apart)
-    (λ stays. either View P (is_in_window v.receiving s.number) (owing_ack v) v (λ drawn. refl) (λ dropped. refl))))
-    (λ no_rst. clash s.flags.rst rst no_rst))
+elsewhere_segment v s past_opening rst elsewhere = apart_segment v s past_opening
+    (λ acts is. clash (s.number == v.receiving.rnext) (and_right (is_acceptable_to v s) (s.number == v.receiving.rnext) acts) elsewhere) (λ taken. clash s.flags.rst rst (taken_is v s taken).0)
 
 repeats_no_rst : (v : View) (s : Segment) → s.flags.rst ≡ true → repeats_fin v s ≡ false
 repeats_no_rst v s rst =
@@ -157,8 +147,7 @@ no_wait v s now rst same =
     let begins : (begins_wait v.state w.state || (w.owes_reset && not v.owes_reset)) ≡ false = ap (λ (x : View). begins_wait v.state x.state || (x.owes_reset && not v.owes_reset)) same ∙ starts_none v in
     let waits : (repeats_fin v s || begins_wait v.state w.state || (w.owes_reset && not v.owes_reset)) ≡ false =
     ap (λ b. b || begins_wait v.state w.state || (w.owes_reset && not v.owes_reset)) (repeats_no_rst v s rst) ∙ begins in
-    either View (λ x. x.since ≡ v.since) (is_closed v.state || is_rejected v s) v (timed_by (before v s) w now) (λ kept. refl)
-    (λ heard. ap (λ b. if b then now else w.since) waits ∙ ap (λ (x : View). x.since) same)
+    by_clock (λ x. x.since ≡ v.since) v s now refl (λ lives. ap (λ b. if b then now else w.since) waits ∙ ap (λ (x : View). x.since) same)
 
 rst_is_none : (v : View) (s : Segment) → s.flags.rst ≡ true → answers_probe v s ≡ false
 rst_is_none v s rst = by (answers_probe v s ≡ false) (answers_probe v s)

@@ -12,13 +12,14 @@ use Rattle.tcp_halves.specs.Halves.{Sending}
 use Rattle.tcp_halves.specs.Stream.{outstanding, is_new_ack}
 use Rattle.tcp_halves.specs.Windows.{updates_window}
 use Rattle.tcp_state.specs.View.{View, IsSound, is_syn_sent, is_syn_received, is_closed, is_write_closed}
-use Rattle.tcp_state.specs.Arrival.{opened_passively, is_acceptable_to, is_right_syn_ack, is_simultaneous_syn, after_simultaneous_syn, after_syn_ack, after_establishment, after_ack, after_window, after_text, after_fin, is_read_on, after_acknowledging_segment, after_acceptable_segment, owing_ack, after_segment, is_receiving, is_read, brings_more, is_lost, after_lost, after_heard, before, timed_by, after_segment_at, is_rejected}
+use Rattle.tcp_state.specs.Arrival.{opened_passively, is_acceptable_to, is_right_syn_ack, after_rst_in_syn_sent, after_rst, is_simultaneous_syn, after_simultaneous_syn, after_syn_ack, after_establishment, after_ack, after_window, after_text, after_fin, is_read_on, after_acknowledging_segment, after_acceptable_segment, owing_ack, after_segment, is_receiving, is_read, brings_more, is_lost, after_lost, after_heard, before, timed_by, after_segment_at, is_rejected}
 use Rattle.tcp_state.specs.Due.{first_due}
 use Rattle.tcp_state.specs.Edges.{after_first}
 use Rattle.tcp_state.specs.Simultaneous.{AnswersSyn}
 use Rattle.tcp_state.specs.Opening.{OpenedBy, Confirmed}
 use Rattle.tcp_state.proofs.Clocked.{comes_to}
 use Rattle.tcp_halves.proofs.Choices.{either, clash, both}
+use Rattle.tcp_state.proofs.Segments.{reads}
 use Rattle.tcp_state.proofs.Emissions.{syn_sends}
 use Rattle.tcp_state.proofs.SynAnswers.{then_sent}
 use Rattle.tcp_state.proofs.Unreachable.{opening}
@@ -63,14 +64,13 @@ living _ e = cc
 
 acknowledged : (v : View) (s : Segment) → is_closed v.state ≡ false → is_syn_sent v.state ≡ true → s.flags.rst ≡ false → s.flags.ack ≡ true → after_segment v s ≡ after_syn_ack v s
 acknowledged v s lives waits no_rst ack =
-    let P : View → Type 0 = λ w. w ≡ after_syn_ack v s in
-    either View P (is_closed v.state) v _
-    (λ closed. clash (is_closed v.state) closed lives)
-    (λ open_yet. either View P s.flags.rst _ _
-    (λ rst. clash s.flags.rst rst no_rst)
-    (λ plain. either View P (is_syn_sent v.state) _ _
-    (λ opens. either View P (is_simultaneous_syn v s) (after_simultaneous_syn v s) (after_syn_ack v s) (λ is. clash (is_simultaneous_syn v s) is (not_simultaneous s.flags.syn s.flags.ack ack)) (λ other. refl))
-    (λ past_opening. clash (is_syn_sent v.state) waits past_opening)))
+    ap (λ b. if b then v else if s.flags.rst then (if is_syn_sent v.state then after_rst_in_syn_sent v s else after_rst v s) else unreset (is_syn_sent v.state)) lives
+    ∙ ap (λ b. if b then (if is_syn_sent v.state then after_rst_in_syn_sent v s else after_rst v s) else unreset (is_syn_sent v.state)) no_rst
+    ∙ ap unreset waits
+    ∙ ap (λ b. if b then after_simultaneous_syn v s else after_syn_ack v s) (not_simultaneous s.flags.syn s.flags.ack ack)
+  where
+    unreset : Bool → View
+    unreset waits = if waits then (if is_simultaneous_syn v s then after_simultaneous_syn v s else after_syn_ack v s) else if is_acceptable_to v s then after_acceptable_segment v s else owing_ack v
 
 -- what acknowledges our SYN is not rejected
 unrejected : (rst ack new more : Bool) → new ≡ true → (not rst && ack && not new && more) ≡ false
@@ -126,24 +126,11 @@ establishes v ack received new =
 confirmed : (v : View) (s : Segment) → v.state ≡ SynReceived → s.flags.rst ≡ false → s.flags.syn ≡ false → s.flags.fin ≡ false → s.flags.ack ≡ true → s.octets ≡ [] → is_acceptable_to v s ≡ true
     → is_new_ack v.sending s.acknowledgement ≡ true → after_segment v s ≡ after_window (after_establishment v) s
 confirmed v s is no_rst no_syn no_fin ack none accepted new =
-    let P : View → Type 0 = λ w. w ≡ after_window (after_establishment v) s in
     let e = after_window (after_establishment v) s in
     let received : is_syn_received v.state ≡ true = ap is_syn_received is in
     let read : is_read_on v s.acknowledgement ≡ true = either Bool (λ b. b ≡ true) (is_syn_received v.state) (is_new_ack v.sending s.acknowledgement) _ (λ it_is. new) (λ past. clash (is_syn_received v.state) received past) in
-    let ends : after_acknowledging_segment v s ≡ e =
-    ap (λ b. if b then read_to_its_end s (after_ack v s.acknowledgement) else after_ack v s.acknowledgement) read
-    ∙ (ap (read_to_its_end s) (establishes v s.acknowledgement received new) ∙ (ap (λ w. after_fin w s) (without_octets e s none) ∙ without_fin e s no_fin)) in
-    either View P (is_closed v.state) v _
-    (λ closed. clash (is_closed v.state) closed (ap is_closed is))
-    (λ open_yet. either View P s.flags.rst _ _
-    (λ rst. clash s.flags.rst rst no_rst)
-    (λ plain. either View P (is_syn_sent v.state) _ _
-    (λ opens. clash (is_syn_sent v.state) opens (ap is_syn_sent is))
-    (λ past_opening. either View P (is_acceptable_to v s) (after_acceptable_segment v s) (owing_ack v)
-    (λ acceptable. either View P s.flags.syn _ _
-    (λ syn. clash s.flags.syn syn no_syn)
-    (λ no_second. either View P s.flags.ack (after_acknowledging_segment v s) v (λ acks. ends) (λ none_told. clash s.flags.ack ack none_told)))
-    (λ outside. clash (is_acceptable_to v s) accepted outside))))
+    reads v s (ap is_closed is) (ap is_syn_sent is) (record { no_rst = no_rst; accepted = accepted; no_syn = no_syn; ack = ack; on = read })
+    ∙ (ap (read_to_its_end s) (establishes v s.acknowledgement received new) ∙ (ap (λ w. after_fin w s) (without_octets e s none) ∙ without_fin e s no_fin))
 
 confirms_by : (v : View) (s : Segment) (now : Moment) → Confirmed v (timed_by (before v s) (after_window (after_establishment v) s) now)
 confirms_by v s now =
