@@ -27,7 +27,7 @@ use Rattle.tcp_state.proofs.Segments.{by_fin, by_ack, by_hearing, by_clock}
 use Rattle.tcp_state.proofs.Events.{holding, shut, by_event}
 use Rattle.tcp_state.proofs.Clocked.{syn_out, heard_paced, after_paced}
 use Rattle.tcp_state.proofs.Gains.{receiving_lives}
-use Rattle.tcp_state.proofs.Paces.{goes_out}
+use Rattle.tcp_state.proofs.Paces.{segment_hears, goes_out}
 
 -- a timer began at the moment of the event, for the timeout
 abbrev pub BeginsAt : Event → View → Moment → Type 0
@@ -176,72 +176,6 @@ as_before v x e timers pace = record {
 
 -- Segments.
 
-record Heard (v w : View) : Type 0 where
-  pub timers : (w.timers ≡ v.timers) ⊎ ((w.timers ≡ no_timers) × (is_closed w.state ≡ true))
-  pub expiries : w.pace.expiries ≡ v.pace.expiries
-  pub interval : (w.pace.interval ≡ v.pace.interval) ⊎ (is_closed w.state ≡ true)
-  pub overridden : (w.pace.overridden ≡ v.pace.overridden) ⊎ (w.pace.overridden ≡ false)
-
-hears_on : (v w : View) → w.timers ≡ v.timers → w.pace.expiries ≡ v.pace.expiries → w.pace.interval ≡ v.pace.interval → w.pace.overridden ≡ v.pace.overridden → Heard v w
-hears_on v w timers expiries interval overridden = record { timers = inl timers; expiries = expiries; interval = inl interval; overridden = inl overridden }
-
-ends : (v w : View) → w.timers ≡ no_timers → is_closed w.state ≡ true → w.pace.expiries ≡ v.pace.expiries → w.pace.overridden ≡ false → Heard v w
-ends v w timers closed expiries overridden = record { timers = inr (timers, closed); expiries = expiries; interval = inr closed; overridden = inr overridden }
-
-fin_heard : (v : View) (ack : ℕ) → Heard v (fin_acknowledged (after_new_ack v ack))
-fin_heard v ack = chosen (is_closed (beyond_fin v.state)) refl
-  where
-    chosen : (closed : Bool) → is_closed (beyond_fin v.state) ≡ closed → Heard v (record (after_new_ack v ack) {
-      state = beyond_fin v.state;
-      owes_ack = v.owes_ack && not closed;
-      delays_ack = v.delays_ack && not closed;
-      pace = let p = after_new_ack v ack in if closed then stopped p.pace else p.pace;
-      timers = if closed then no_timers else v.timers;
-    })
-    chosen true closed = record { timers = inr (refl, closed); expiries = refl; interval = inr closed; overridden = inr refl }
-    chosen false lives = record { timers = inl refl; expiries = refl; interval = inl refl; overridden = inl refl }
-
-ack_heard : (v : View) (ack : ℕ) → Heard v (after_ack v ack)
-ack_heard v ack = by_ack (Heard v) v ack (record {
-  old = hears_on v v refl refl refl refl;
-  beyond = hears_on v _ refl refl refl refl;
-  opens = λ received new. hears_on v _ refl refl refl refl;
-  octets = λ new. hears_on v _ refl refl refl refl;
-  fin = λ new fin. fin_heard v ack;
-})
-
--- nothing else of a segment is of the timers or the pace
-on : (v w x : View) → x.timers ≡ w.timers → x.pace ≡ w.pace → (is_closed w.state ≡ true → is_closed x.state ≡ true) → Heard v w → Heard v x
-on v w x timers pace closes k = record {
-  timers = elim k.timers [ inl same ↦ inl (timers ∙ same) | inr stop ↦ inr (timers ∙ stop.0, closes stop.1) ];
-  expiries = ap (λ (p : Pace). p.expiries) pace ∙ k.expiries;
-  interval = elim k.interval [ inl same ↦ inl (ap (λ (p : Pace). p.interval) pace ∙ same) | inr closed ↦ inr (closes closed) ];
-  overridden = elim k.overridden [ inl same ↦ inl (ap (λ (p : Pace). p.overridden) pace ∙ same) | inr none ↦ inr (ap (λ (p : Pace). p.overridden) pace ∙ none) ];
-}
-
-fin_on : (v w : View) (s : Segment) → Heard v w → Heard v (after_fin w s)
-fin_on v w s k =
-    by_fin (Heard v) w s
-    (λ counts. on v w _ refl refl (λ closed. clash (is_closed w.state) closed (receiving_lives w.state (and_right s.flags.fin (is_receiving w.state) (and_left (s.flags.fin && is_receiving w.state) _ counts))).0) k)
-    (on v w _ refl refl (λ closed. closed) k) k
-
-heard : (v : View) (s : Segment) → Heard v (after_heard v s)
-heard v s =
-    let acked = after_ack v s.acknowledgement in
-    let told = after_window acked s in
-    let k = ack_heard v s.acknowledgement in
-    let window : Heard v told = on v acked told refl refl (λ closed. closed) k in
-    let text : Heard v (after_text told s) = either View (Heard v) ((length s.octets == 0) || not (is_receiving told.state)) told _ (λ none. window) (λ some. on v told _ refl refl (λ closed. closed) window) in
-    by_hearing (Heard v) v s (ends v _ refl refl k.expiries refl) (record {
-      dropped = hears_on v v refl refl refl refl;
-      drawn = hears_on v _ refl refl refl refl;
-      reset = λ acts. ends v _ refl refl refl refl;
-      crossed = λ waits. hears_on v _ refl refl refl refl;
-      opened = λ waits right. hears_on v _ refl refl refl refl;
-      acknowledged = λ taken. k;
-      read = λ on. fin_on v (after_text told s) s text;
-    })
-
 apart : (a b : ℕ) → not (a == b) ≡ true → b ≢ a
 apart a b e same = clash (a == b) (eq-eqb a b (sym same)) (not_true (a == b) e)
 
@@ -259,7 +193,7 @@ heard_unset : (v : View) (s : Segment) (now : Moment)
 heard_unset v s now =
     let b = before v s in
     let w = after_heard v s in
-    let h = heard v s in
+    let h = segment_hears v s in
     let pace = pace_after b w now in
     let interval_kept = heard_paced b w now (λ p. p.interval ≡ w.pace.interval) refl refl refl in
     let interval : pace.interval ≡ w.pace.interval = after_paced b w now (λ p. p.interval ≡ w.pace.interval) interval_kept interval_kept in
@@ -286,51 +220,10 @@ heard_unset v s now =
 
 -- Emissions.
 
-record Goes (v w : View) : Type 0 where
-  pub expiries : w.pace.expiries ≡ v.pace.expiries
-  pub interval : w.pace.interval ≡ v.pace.interval
-  pub overridden : (w.pace.overridden ≡ v.pace.overridden) ⊎ (w.pace.overridden ≡ false)
-
-numbers_go : (v : View) (offset end : ℕ) (now : Moment) → Goes v (after_numbers v offset end now)
-numbers_go v offset end now =
-    either View (Goes v) (nat_lt offset (outstanding v.sending)) (after_resent v end) (after_first_sent v end now)
-    (λ again. record { expiries = refl; interval = refl; overridden = inl refl })
-    (λ first. record { expiries = refl; interval = refl; overridden = inl refl })
-
--- octets that are new end their wait
-new_go : (v w : View) → Goes v w → Goes v (after_new_octets w)
-new_go v w k = record { expiries = k.expiries; interval = k.interval; overridden = inr refl }
-
-paid_go : (v w : View) → Goes v w → Goes v (after_ack_paid w)
-paid_go v w k = record { expiries = k.expiries; interval = k.interval; overridden = k.overridden }
-
-stretch_goes : (v : View) (stretch : Stretch) (now : Moment) → Goes v (after_stretch v stretch now)
-stretch_goes v stretch now =
-    let sent = after_numbers v stretch.offset (end_of stretch) now in
-    let k = numbers_go v stretch.offset (end_of stretch) now in
-    either View (Goes v) (brings_new_octets v stretch) (after_new_octets sent) sent (λ new. new_go v sent k) (λ old. k)
-
-probe_goes : (v : View) → Goes v (after_probe v)
-probe_goes v =
-    let sent = record v { sending = after_sent v.sending (end_of (probe_stretch v)); pace = pace_probed v.pace } in
-    let k : Goes v sent = record { expiries = refl; interval = refl; overridden = inl refl } in
-    either View (Goes v) (brings_new_octets v (probe_stretch v)) (after_new_octets sent) sent (λ new. new_go v sent k) (λ old. k)
-
-goes : (v : View) (due : Due) (now : Moment) → Goes v (after_going_out v due now)
-goes v Rst now = record { expiries = refl; interval = refl; overridden = inl refl }
-goes v Syn now =
-    let sent = after_syn_out v now in
-    let n = numbers_go v 0 1 now in
-    let k = syn_out v now (Goes v) n (record { expiries = n.expiries; interval = n.interval; overridden = n.overridden }) in
-    either View (Goes v) (is_syn_received v.state) (after_ack_paid sent) sent (λ received. paid_go v sent k) (λ first. k)
-goes v (Text stretch) now = paid_go v (after_stretch v stretch now) (stretch_goes v stretch now)
-goes v Probe now = paid_go v (after_probe v) (probe_goes v)
-goes v Ack now = record { expiries = refl; interval = refl; overridden = inl refl }
-
 sent_unset : (v : View) (due : Due) (now : Moment) → Unset v (Emits now) (after_going_out v due now)
 sent_unset v due now =
-    let others = (goes_out v due now).others in
-    let g = goes v due now in
+    let g = goes_out v due now in
+    let others = g.others in
     record {
       runs = λ lives was runs. inl (ap (λ (t : Timers). t.retransmission) others ∙ runs);
       none_runs = λ none. ap (λ (t : Timers). t.retransmission) others ∙ none;
@@ -341,7 +234,7 @@ sent_unset v due now =
         | inl same ↦ let bad : true ≡ false = sym over ∙ same ∙ none in cc
         | inr not_over ↦ let bad : true ≡ false = sym over ∙ not_over in cc
       ];
-      no_override = λ none. elim (goes_out v due now).overriding [ inl same ↦ same ∙ none | inr stopped ↦ stopped ];
+      no_override = λ none. elim g.overriding [ inl same ↦ same ∙ none | inr stopped ↦ stopped ];
     }
 
 emission_clocks : (v : View) (o : Option Due) (now : Moment) → Clocks v (Emits now) (after_first v o now)

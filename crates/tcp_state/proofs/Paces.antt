@@ -1,5 +1,5 @@
 -- What events leave of the pace and of the timers, before the clock is set.
-use Rattle.std.proofs.Common.{◌≡◌, ℕ, ◌==◌, ◌||◌, ◌&&◌, ◌⊎◌, not, nat_lt, if◌then◌else◌, Bool, true, false, length, None, inl, inr, refl, ◌∙◌, ap}
+use Rattle.std.proofs.Common.{◌≡◌, ℕ, ◌==◌, ◌||◌, ◌&&◌, ◌⊎◌, not, nat_lt, if◌then◌else◌, Bool, true, false, length, None, inl, inr, refl, sym, ◌∙◌, ap, subst}
 use Rattle.tcp_segment.specs.Segment.{Segment}
 use Rattle.clock.specs.declared.moment.Moment.{Moment}
 use Rattle.retransmit.specs.declared.timers.Timers.{Timers}
@@ -10,82 +10,112 @@ use Rattle.tcp_state.specs.declared.emission.Stretch.{Stretch}
 use Rattle.tcp_halves.specs.Stream.{outstanding, after_sent}
 use Rattle.tcp_state.specs.Pace.{Pace, stopped, timing_of, pace_probed}
 use Rattle.tcp_state.specs.View.{View, is_closed, is_syn_received}
+use Rattle.tcp_state.specs.declared.state.State.{State}
+use Rattle.tcp_state.specs.declared.state.State.TheVariants.{Closed}
 use Rattle.tcp_state.specs.Arrival.{is_receiving, beyond_fin, fin_acknowledged, after_new_ack, after_ack, after_window, after_text, after_fin, after_heard}
 use Rattle.tcp_state.specs.Due.{probe_stretch, end_of, after_ack_paid, after_resent, after_first_sent, after_numbers, after_new_octets, brings_new_octets, after_stretch, after_probe, after_syn_out, after_going_out}
 use Rattle.tcp_state.proofs.Clocked.{syn_out}
-use Rattle.tcp_halves.proofs.Choices.{either}
+use Rattle.tcp_halves.proofs.Choices.{either, clash, and_left, and_right}
 use Rattle.tcp_state.proofs.Segments.{by_fin, by_ack, by_hearing}
+
+-- no state in which octets are taken closes by the peer's FIN
+receiving_open : (t : State) → is_receiving t ≡ true → is_closed t ≡ false
+receiving_open Closed e = cc
+receiving_open _ e = refl
 
 -- Segments.
 
--- the timeout stays, what is measured stays or is given up, and the timers run on or stop
-pub record Hears (v w : View) : Type 0 where
-  pub timeout : w.pace.timeout ≡ v.pace.timeout
-  pub timed : (w.pace.timed ≡ v.pace.timed) ⊎ (w.pace.timed ≡ None)
-  pub timers : (w.timers ≡ v.timers) ⊎ (w.timers ≡ no_timers)
+-- the pace stays but for the mark, and the timers run on ..
+record Stays (v w : View) : Type 0 where
+  pub pace : w.pace ≡ record v.pace { mark = w.pace.mark }
+  pub timers : w.timers ≡ v.timers
 
-runs_on : (v w : View) → w.pace.timeout ≡ v.pace.timeout → w.pace.timed ≡ v.pace.timed → w.timers ≡ v.timers → Hears v w
-runs_on v w timeout timed timers = record { timeout = timeout; timed = inl timed; timers = inl timers }
+-- .. or all stops, where it closes
+record Stops (v w : View) : Type 0 where
+  pub pace : w.pace ≡ stopped v.pace
+  pub timers : w.timers ≡ no_timers
+  pub closed : is_closed w.state ≡ true
 
-stops : (v w : View) → w.pace.timeout ≡ v.pace.timeout → w.pace.timed ≡ None → w.timers ≡ no_timers → Hears v w
-stops v w timeout timed timers = record { timeout = timeout; timed = inr timed; timers = inr timers }
+abbrev Leaves : View → View → Type 0
+Leaves v w = Stays v w ⊎ Stops v w
 
-fin_hears : (v : View) (ack : ℕ) → Hears v (fin_acknowledged (after_new_ack v ack))
-fin_hears v ack =
-    let w = after_new_ack v ack in
-    let closed = is_closed (beyond_fin v.state) in
-    chosen closed
+fin_leaves : (v : View) (ack : ℕ) → Leaves v (fin_acknowledged (after_new_ack v ack))
+fin_leaves v ack = chosen (is_closed (beyond_fin v.state)) refl
   where
-    chosen : (closed : Bool) → Hears v (record (after_new_ack v ack) {
+    chosen : (closed : Bool) → is_closed (beyond_fin v.state) ≡ closed → Leaves v (record (after_new_ack v ack) {
       state = beyond_fin v.state;
       owes_ack = v.owes_ack && not closed;
       delays_ack = v.delays_ack && not closed;
       pace = let p = after_new_ack v ack in if closed then stopped p.pace else p.pace;
       timers = if closed then no_timers else v.timers;
     })
-    chosen true = record { timeout = refl; timed = inr refl; timers = inr refl }
-    chosen false = record { timeout = refl; timed = inl refl; timers = inl refl }
+    chosen true closed = inr (record { pace = refl; timers = refl; closed = closed })
+    chosen false lives = inl (record { pace = refl; timers = refl })
 
-ack_hears : (v : View) (ack : ℕ) → Hears v (after_ack v ack)
-ack_hears v ack = by_ack (Hears v) v ack (record {
-  old = runs_on v v refl refl refl;
-  beyond = runs_on v _ refl refl refl;
-  opens = λ received new. runs_on v _ refl refl refl;
-  octets = λ new. runs_on v _ refl refl refl;
-  fin = λ new fin. fin_hears v ack;
+ack_leaves : (v : View) (ack : ℕ) → Leaves v (after_ack v ack)
+ack_leaves v ack = by_ack (Leaves v) v ack (record {
+  old = inl (record { pace = refl; timers = refl });
+  beyond = inl (record { pace = refl; timers = refl });
+  opens = λ received new. inl (record { pace = refl; timers = refl });
+  octets = λ new. inl (record { pace = refl; timers = refl });
+  fin = λ new fin. fin_leaves v ack;
 })
 
 -- nothing else of a segment is of the pace or the timers
-on : (v w x : View) → x.pace ≡ w.pace → x.timers ≡ w.timers → Hears v w → Hears v x
-on v w x pace timers k = record {
-  timeout = ap (λ (p : Pace). p.timeout) pace ∙ k.timeout;
-  timed = elim k.timed [ inl same ↦ inl (ap (λ (p : Pace). p.timed) pace ∙ same) | inr none ↦ inr (ap (λ (p : Pace). p.timed) pace ∙ none) ];
-  timers = elim k.timers [ inl same ↦ inl (timers ∙ same) | inr none ↦ inr (timers ∙ none) ];
-}
+on : (v w x : View) → x.pace ≡ w.pace → x.timers ≡ w.timers → (is_closed w.state ≡ true → is_closed x.state ≡ true) → Leaves v w → Leaves v x
+on v w x pace timers closes leaves = elim leaves [
+  | inl k ↦ inl (record { pace = subst (λ (p : Pace). p ≡ record v.pace { mark = p.mark }) (sym pace) k.pace; timers = timers ∙ k.timers })
+  | inr k ↦ inr (record { pace = pace ∙ k.pace; timers = timers ∙ k.timers; closed = closes k.closed })
+]
 
-window_hears : (v w : View) (s : Segment) → Hears v w → Hears v (after_window w s)
-window_hears v w s k = on v w (after_window w s) refl refl k
-
-text_hears : (v w : View) (s : Segment) → Hears v w → Hears v (after_text w s)
-text_hears v w s k = either View (Hears v) ((length s.octets == 0) || not (is_receiving w.state)) w _ (λ none. k) (λ some. on v w _ refl refl k)
-
-end_hears : (v w : View) (s : Segment) → Hears v w → Hears v (after_fin w s)
-end_hears v w s k = by_fin (Hears v) w s (λ counts. on v w _ refl refl k) (on v w _ refl refl k) k
-
-pub segment_hears : (v : View) (s : Segment) → Hears v (after_heard v s)
-segment_hears v s =
+segment_leaves : (v : View) (s : Segment) → Leaves v (after_heard v s)
+segment_leaves v s =
     let acked = after_ack v s.acknowledgement in
     let told = after_window acked s in
-    let k = ack_hears v s.acknowledgement in
-    by_hearing (Hears v) v s (stops v _ k.timeout refl refl) (record {
-      dropped = runs_on v v refl refl refl;
-      drawn = runs_on v _ refl refl refl;
-      reset = λ acts. stops v _ refl refl refl;
-      crossed = λ waits. runs_on v _ refl refl refl;
-      opened = λ waits right. runs_on v _ refl refl refl;
+    let read = after_text told s in
+    let k = ack_leaves v s.acknowledgement in
+    let window : Leaves v told = on v acked told refl refl (λ closed. closed) k in
+    let text : Leaves v read = either View (Leaves v) ((length s.octets == 0) || not (is_receiving told.state)) told _ (λ none. window) (λ some. on v told _ refl refl (λ closed. closed) window) in
+    by_hearing (Leaves v) v s (inr (record { pace = elim k [ inl stays ↦ ap stopped stays.pace | inr stops ↦ ap stopped stops.pace ]; timers = refl; closed = refl })) (record {
+      dropped = inl (record { pace = refl; timers = refl });
+      drawn = inl (record { pace = refl; timers = refl });
+      reset = λ acts. inr (record { pace = refl; timers = refl; closed = refl });
+      crossed = λ waits. inl (record { pace = refl; timers = refl });
+      opened = λ waits right. inl (record { pace = refl; timers = refl });
       acknowledged = λ taken. k;
-      read = λ on. end_hears v (after_text told s) s (text_hears v told s (window_hears v acked s k));
+      read = λ is_read. by_fin (Leaves v) read s
+          (λ counts. on v read _ refl refl (λ closed. clash (is_closed read.state) closed (receiving_open read.state (and_right s.flags.fin (is_receiving read.state) (and_left (s.flags.fin && is_receiving read.state) _ counts)))) text)
+          (on v read _ refl refl (λ closed. closed) text) text;
     })
+
+-- what a segment leaves, one by one
+pub record Hears (v w : View) : Type 0 where
+  pub timeout : w.pace.timeout ≡ v.pace.timeout
+  pub timed : (w.pace.timed ≡ v.pace.timed) ⊎ (w.pace.timed ≡ None)
+  pub timers : (w.timers ≡ v.timers) ⊎ ((w.timers ≡ no_timers) × (is_closed w.state ≡ true))
+  pub expiries : w.pace.expiries ≡ v.pace.expiries
+  pub interval : (w.pace.interval ≡ v.pace.interval) ⊎ (is_closed w.state ≡ true)
+  pub overridden : (w.pace.overridden ≡ v.pace.overridden) ⊎ (w.pace.overridden ≡ false)
+
+pub segment_hears : (v : View) (s : Segment) → Hears v (after_heard v s)
+segment_hears v s = elim (segment_leaves v s) [
+  | inl k ↦ record {
+    timeout = ap (λ (p : Pace). p.timeout) k.pace;
+    timed = inl (ap (λ (p : Pace). p.timed) k.pace);
+    timers = inl k.timers;
+    expiries = ap (λ (p : Pace). p.expiries) k.pace;
+    interval = inl (ap (λ (p : Pace). p.interval) k.pace);
+    overridden = inl (ap (λ (p : Pace). p.overridden) k.pace);
+  }
+  | inr k ↦ record {
+    timeout = ap (λ (p : Pace). p.timeout) k.pace;
+    timed = inr (ap (λ (p : Pace). p.timed) k.pace);
+    timers = inr (k.timers, k.closed);
+    expiries = ap (λ (p : Pace). p.expiries) k.pace;
+    interval = inr k.closed;
+    overridden = inr (ap (λ (p : Pace). p.overridden) k.pace);
+  }
+]
 
 -- Emissions.
 
@@ -95,20 +125,23 @@ pub record GoesOut (v : View) (now : Moment) (w : View) : Type 0 where
   pub timed : (w.pace.timed ≡ v.pace.timed) ⊎ ((w.pace.timed ≡ None) ⊎ (w.pace.timed ≡ timing_of v.pace.timed w.sending.nxt now))
   pub overriding : (w.timers.overriding ≡ v.timers.overriding) ⊎ (w.timers.overriding ≡ None)
   pub others : w.timers ≡ record v.timers { overriding = w.timers.overriding }
+  pub expiries : w.pace.expiries ≡ v.pace.expiries
+  pub interval : w.pace.interval ≡ v.pace.interval
+  pub overridden : (w.pace.overridden ≡ v.pace.overridden) ⊎ (w.pace.overridden ≡ false)
 
 numbers_out : (v : View) (offset end : ℕ) (now : Moment) → GoesOut v now (after_numbers v offset end now)
 numbers_out v offset end now =
     either View (GoesOut v now) (nat_lt offset (outstanding v.sending)) (after_resent v end) (after_first_sent v end now)
-    (λ again. record { timeout = refl; timed = inr (inl refl); overriding = inl refl; others = refl })
-    (λ first. record { timeout = refl; timed = inr (inr refl); overriding = inl refl; others = refl })
+    (λ again. record { timeout = refl; timed = inr (inl refl); overriding = inl refl; others = refl; expiries = refl; interval = refl; overridden = inl refl })
+    (λ first. record { timeout = refl; timed = inr (inr refl); overriding = inl refl; others = refl; expiries = refl; interval = refl; overridden = inl refl })
 
 -- octets that are new end their wait
 new_out : (v w : View) (now : Moment) → GoesOut v now w → GoesOut v now (after_new_octets w)
-new_out v w now k = record { timeout = k.timeout; timed = k.timed; overriding = inr refl; others = ap (λ (t : Timers). record t { overriding = None }) k.others }
+new_out v w now k = record { timeout = k.timeout; timed = k.timed; overriding = inr refl; others = ap (λ (t : Timers). record t { overriding = None }) k.others; expiries = k.expiries; interval = k.interval; overridden = inr refl }
 
 -- an acknowledgement goes out with them
 paid_out : (v w : View) (now : Moment) → GoesOut v now w → GoesOut v now (after_ack_paid w)
-paid_out v w now k = record { timeout = k.timeout; timed = k.timed; overriding = k.overriding; others = k.others }
+paid_out v w now k = record { timeout = k.timeout; timed = k.timed; overriding = k.overriding; others = k.others; expiries = k.expiries; interval = k.interval; overridden = k.overridden }
 
 stretch_out : (v : View) (stretch : Stretch) (now : Moment) → GoesOut v now (after_stretch v stretch now)
 stretch_out v stretch now =
@@ -119,16 +152,16 @@ stretch_out v stretch now =
 probe_out : (v : View) (now : Moment) → GoesOut v now (after_probe v)
 probe_out v now =
     let sent = record v { sending = after_sent v.sending (end_of (probe_stretch v)); pace = pace_probed v.pace } in
-    let k : GoesOut v now sent = record { timeout = refl; timed = inr (inl refl); overriding = inl refl; others = refl } in
+    let k : GoesOut v now sent = record { timeout = refl; timed = inr (inl refl); overriding = inl refl; others = refl; expiries = refl; interval = refl; overridden = inl refl } in
     either View (GoesOut v now) (brings_new_octets v (probe_stretch v)) (after_new_octets sent) sent (λ new. new_out v sent now k) (λ old. k)
 
 pub goes_out : (v : View) (due : Due) (now : Moment) → GoesOut v now (after_going_out v due now)
-goes_out v Rst now = record { timeout = refl; timed = inl refl; overriding = inl refl; others = refl }
+goes_out v Rst now = record { timeout = refl; timed = inl refl; overriding = inl refl; others = refl; expiries = refl; interval = refl; overridden = inl refl }
 goes_out v Syn now =
     let sent = after_syn_out v now in
     let n = numbers_out v 0 1 now in
-    let k = syn_out v now (GoesOut v now) n (record { timeout = n.timeout; timed = n.timed; overriding = n.overriding; others = n.others }) in
+    let k = syn_out v now (GoesOut v now) n (record { timeout = n.timeout; timed = n.timed; overriding = n.overriding; others = n.others; expiries = n.expiries; interval = n.interval; overridden = n.overridden }) in
     either View (GoesOut v now) (is_syn_received v.state) (after_ack_paid sent) sent (λ received. paid_out v sent now k) (λ first. k)
 goes_out v (Text stretch) now = paid_out v (after_stretch v stretch now) now (stretch_out v stretch now)
 goes_out v Probe now = paid_out v (after_probe v) now (probe_out v now)
-goes_out v Ack now = record { timeout = refl; timed = inl refl; overriding = inl refl; others = refl }
+goes_out v Ack now = record { timeout = refl; timed = inl refl; overriding = inl refl; others = refl; expiries = refl; interval = refl; overridden = inl refl }

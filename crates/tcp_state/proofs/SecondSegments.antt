@@ -132,7 +132,7 @@ first_answered v s now keeps kept on read some =
     none_before v s keeps kept on read undelays =
         let none : v.timers.delayed_ack ≡ None = none_runs v.timers.delayed_ack (keeps.delayed_ack ∙ undelayed v.delays_ack v.owes_ack undelays) in
         ap (λ (w : View). w.timers.delayed_ack) (sym (read_whole v s kept on read))
-        ∙ elim (segment_hears v s).timers [ inl same ↦ ap (λ (t : Timers). t.delayed_ack) same ∙ none | inr stopped ↦ ap (λ (t : Timers). t.delayed_ack) stopped ]
+        ∙ elim (segment_hears v s).timers [ inl same ↦ ap (λ (t : Timers). t.delayed_ack) same ∙ none | inr stopped ↦ ap (λ (t : Timers). t.delayed_ack) stopped.0 ]
 
 -- What is owed goes out.
 

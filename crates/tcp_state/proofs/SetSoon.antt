@@ -117,7 +117,7 @@ heard_soon v s now few =
     let w = after_heard v s in
     let kept : SetSoon now v.timers w.timers = elim (segment_hears v s).timers [
       | inl same ↦ subst (λ t. SetSoon now v.timers t) (sym same) (unset now v.timers)
-      | inr none ↦ subst (λ t. SetSoon now v.timers t) (sym none) (stopped_soon now v.timers)
+      | inr none ↦ subst (λ t. SetSoon now v.timers t) (sym none.0) (stopped_soon now v.timers)
     ] in
     clocked_soon (is_moved b w) (record w { since = since_after b w now; pace = pace_after b w now; congestion = congestion_after b w }) now v.timers (heard_few v s now few) kept
 
