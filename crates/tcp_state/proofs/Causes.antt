@@ -21,7 +21,7 @@ use Rattle.tcp_state.specs.Edges.{Event, Hears, Ticks, Emits, Sends, Receives, S
 use Rattle.tcp_state.proofs.Clocked.{timers_keep, emission_keeps}
 pub use Rattle.tcp_halves.proofs.Choices.{both, or_left, or_right, or_else, not_true, of_false}
 use Rattle.tcp_halves.proofs.Choices.{either, by, clash, and_left, and_right, then_chosen, else_chosen}
-use Rattle.tcp_state.proofs.Segments.{is_taken, after_reading, by_fin, by_ack, by_segment}
+use Rattle.tcp_state.proofs.Segments.{is_taken, after_reading, by_fin, by_ack, by_segment, by_clock}
 use Rattle.tcp_state.proofs.Events.{by_event}
 use Rattle.tcp_state.proofs.Edges.{emitted-state}
 
@@ -117,6 +117,9 @@ caused_by : (v : View) (s : Segment) → (is_reset_by v s ≡ true) ⊎ (ends_by
 caused_by v s (inl reset) = or_left (is_reset_by v s || (not s.flags.rst && ends_by_syn v s) || is_lost v s) _ (or_left (is_reset_by v s || (not s.flags.rst && ends_by_syn v s)) _ (or_left (is_reset_by v s) _ reset))
 caused_by v s (inr ack) = or_right (is_reset_by v s || (not s.flags.rst && ends_by_syn v s) || is_lost v s) (ends_by_ack v s) ack
 
+caused_by_loss : (v : View) (s : Segment) → is_lost v s ≡ true → (is_reset_by v s || (not s.flags.rst && ends_by_syn v s) || is_lost v s || ends_by_ack v s) ≡ true
+caused_by_loss v s lost = or_left (is_reset_by v s || (not s.flags.rst && ends_by_syn v s) || is_lost v s) (ends_by_ack v s) (or_right (is_reset_by v s || (not s.flags.rst && ends_by_syn v s)) (is_lost v s) lost)
+
 caused_by_opening : (v : View) (s : Segment) → ends_opening v s ≡ true → (is_reset_by v s || (not s.flags.rst && ends_by_syn v s) || is_lost v s || ends_by_ack v s) ≡ true
 caused_by_opening v s e =
     let past = not_true (is_syn_sent v.state) (and_left (not (is_syn_sent v.state)) _ e) in
@@ -131,46 +134,30 @@ caused_by_opening v s e =
     let ends : ends_by_syn v s ≡ true = sym (ap (λ b. if b then ends_by_reset v s else ends_by_syn v s) no_rst) ∙ chosen in
     or_left (is_reset_by v s || (not s.flags.rst && ends_by_syn v s) || is_lost v s) (ends_by_ack v s) (or_left (is_reset_by v s || (not s.flags.rst && ends_by_syn v s)) (is_lost v s) (or_right (is_reset_by v s) (not s.flags.rst && ends_by_syn v s) (both (not s.flags.rst) (ends_by_syn v s) (of_false s.flags.rst no_rst) ends))))
 
--- what a segment closes at a moment it closes without the clock
-closed_by_heard : (v : View) (s : Segment) (now : Moment) → is_closed v.state ≡ false → is_closed (after_event v (Hears s now)).state ≡ true → is_closed (after_heard v s).state ≡ true
-closed_by_heard v s now lives =
-    either View (λ w. is_closed w.state ≡ true → is_closed (after_heard v s).state ≡ true) (is_closed v.state || is_rejected v s) v (timed_by (before v s) (after_heard v s) now)
-    (λ kept closed. let bad : true ≡ false = sym closed ∙ lives in cc) (λ heard closed. closed)
+-- a segment closes by octets that are lost, or by itself
+heard_caused : (v : View) (s : Segment) (now : Moment) → is_closed v.state ≡ false → is_closed (after_heard v s).state ≡ true → is_cause v (Hears s now) ≡ true
+heard_caused v s now lives =
+    either View (λ w. is_closed w.state ≡ true → is_cause v (Hears s now) ≡ true) (is_lost v s) (after_lost v s) (after_segment v s)
+    (λ lost closed. caused_by_loss v s lost) (λ kept closed. caused_by v s (closed_by_segment v s lives closed))
 
 pub segment-cause : (v : View) (s : Segment) (now : Moment) → ends_by v (Hears s now) ≡ true → is_cause v (Hears s now) ≡ true
-segment-cause v s now e =
-    let C : Type 0 = (is_reset_by v s || (not s.flags.rst && ends_by_syn v s) || is_lost v s || ends_by_ack v s) ≡ true in
-    by C (is_lost v s)
-    (λ lost. or_left (is_reset_by v s || (not s.flags.rst && ends_by_syn v s) || is_lost v s) (ends_by_ack v s) (or_right (is_reset_by v s || (not s.flags.rst && ends_by_syn v s)) (is_lost v s) lost))
-    (λ kept. elim (or_else (is_removed (fate_by v (Hears s now))) _ e) [
-      | inl removed ↦
-          let r = removes (is_closed v.state) (is_lost v s) (is_over (after_segment v s)) (is_rejected v s) (ends_opening v s) removed in
-          elim r.ends [
-            | inl over ↦ caused_by v s (closed_by_segment v s r.lives (and_left (is_closed (after_segment v s).state) (after_segment v s).released (and_left (is_closed (after_segment v s).state && (after_segment v s).released) _ over)))
-            | inr opening ↦ caused_by_opening v s opening
-          ]
-      | inr ended ↦
-          let lives = not_true (is_closed v.state) (and_left (not (is_closed v.state)) _ ended) in
-          let closed : is_closed (after_heard v s).state ≡ true = closed_by_heard v s now lives (and_right (not (is_closed v.state)) _ ended) in
-          let same : is_closed (after_heard v s).state ≡ is_closed (after_segment v s).state = ap (λ b. is_closed (if b then after_lost v s else after_segment v s).state) kept in
-          caused_by v s (closed_by_segment v s lives (sym same ∙ closed))
-    ])
+segment-cause v s now e = elim (or_else (is_removed (fate_by v (Hears s now))) _ e) [
+  | inl removed ↦
+      let r = removes (is_closed v.state) (is_lost v s) (is_over (after_segment v s)) (is_rejected v s) (ends_opening v s) removed in
+      elim r.ends [
+        | inl over ↦ caused_by v s (closed_by_segment v s r.lives (and_left (is_closed (after_segment v s).state) (after_segment v s).released (and_left (is_closed (after_segment v s).state && (after_segment v s).released) _ over)))
+        | inr opening ↦ caused_by_opening v s opening
+      ]
+  | inr ended ↦
+      let lives = not_true (is_closed v.state) (and_left (not (is_closed v.state)) _ ended) in
+      by_clock (λ w. is_closed w.state ≡ true → is_cause v (Hears s now) ≡ true) v s now (λ closed. clash (is_closed v.state) closed lives) (λ comes. heard_caused v s now lives) (and_right (not (is_closed v.state)) _ ended)
+]
 
 -- Every event.
 
--- no event that leaves the state closes
-unclosed : (t u : State) → u ≡ t → (not (is_closed t) && is_closed u) ≡ true → ⊥
-unclosed t u same e =
-    let closed = and_right (not (is_closed t)) (is_closed u) e in
-    let lives = not_true (is_closed t) (and_left (not (is_closed t)) (is_closed u) e) in
-    let bad : true ≡ false = sym closed ∙ (ap is_closed same ∙ lives) in cc
-
-shut_closes_none : (t : State) → (not (is_closed t) && is_closed (beyond_shutdown t)) ≡ true → ⊥
-shut_closes_none t e = none t (not_true (is_closed t) (and_left (not (is_closed t)) (is_closed (beyond_shutdown t)) e)) (and_right (not (is_closed t)) (is_closed (beyond_shutdown t)) e)
-  where
-    none : (t : State) → is_closed t ≡ false → is_closed (beyond_shutdown t) ≡ true → ⊥
-    none Closed a b = cc
-    none _ a b = cc
+shut_closes_none : (t : State) → is_closed t ≡ false → is_closed (beyond_shutdown t) ≡ false
+shut_closes_none Closed e = cc
+shut_closes_none _ e = refl
 
 emitted-released : (v : View) (due : Option Due) (now : Moment) → (after_first v due now).released ≡ v.released
 emitted-released v due now = ap (λ (w : View). w.released) (emission_keeps v due now)
@@ -186,53 +173,53 @@ removed_where_over : (over : Bool) → is_removed (if over then Removed else Sta
 removed_where_over true e = refl
 removed_where_over false e = cc
 
-emission-cause : (v : View) (now : Moment) → is_over v ≡ false → ends_by v (Emits now) ≡ true → v.owes_reset ≡ true
-emission-cause v now lives e =
+-- what is over after an emission owed a reset before it
+emission-cause : (v : View) (now : Moment) → is_over v ≡ false → is_over (after_first v (first_due v) now) ≡ true → v.owes_reset ≡ true
+emission-cause v now lives over =
     let w = after_first v (first_due v) now in
-    elim (or_else (is_removed (fate_by v (Emits now))) _ e) [
-      | inl removed ↦
-          let over : is_over w ≡ true = removed_where_over (is_over w) removed in
-          let two = and_left (is_closed w.state && w.released) (not w.owes_reset) over in
-          let closed = sym (ap is_closed (emitted-state v (first_due v) now)) ∙ and_left (is_closed w.state) w.released two in
-          let released = sym (emitted-released v (first_due v) now) ∙ and_right (is_closed w.state) w.released two in
-          owed_before (is_closed v.state) v.released v.owes_reset closed released lives
-      | inr closed ↦ absurd (unclosed v.state w.state (emitted-state v (first_due v) now) closed)
-    ]
+    let two = and_left (is_closed w.state && w.released) (not w.owes_reset) over in
+    let closed = sym (ap is_closed (emitted-state v (first_due v) now)) ∙ and_left (is_closed w.state) w.released two in
+    let released = sym (emitted-released v (first_due v) now) ∙ and_right (is_closed w.state) w.released two in
+    owed_before (is_closed v.state) v.released v.owes_reset closed released lives
+
+-- what is taken out has a cause ..
+removal_caused : (v : View) (e : Event) → is_over v ≡ false → is_removed (fate_by v e) ≡ true → is_cause v e ≡ true
+removal_caused v (Hears s now) lives e = segment-cause v s now (or_left (is_removed (fate_by v (Hears s now))) _ e)
+removal_caused v (Ticks now) lives e = removes_at (is_at_end v now) (gives_up v now) v.released (v.passive && is_syn_received v.state) e
+  where
+    removes_at : (over gives released opening : Bool) → is_removed (if over then (if released then Removed else Stays) else if gives then (if released || opening then Removed else Stays) else Stays) ≡ true → (over || gives) ≡ true
+    removes_at true gives released opening e = refl
+    removes_at false true released opening e = refl
+    removes_at false false released opening e = cc
+removal_caused v (Emits now) lives e = emission-cause v now lives (removed_where_over (is_over (after_first v (first_due v) now)) e)
+removal_caused v (Closes now) lives e = or_left (is_removed_by_close v) (is_aborted_by_close v) (removed_where_over (is_removed_by_close v) e)
+removal_caused v (Aborts now) lives e = refl
+removal_caused v (Unreachable number) lives e =
+    either View (λ w. is_over w ≡ true → is_unreachable v number ≡ true) (is_unreachable v number) (after_reset v (Some ECONNREFUSED)) v (λ hit over. hit) (λ other over. clash (is_over v) over lives)
+    (removed_where_over (is_over (after_unreachable v number)) e)
+removal_caused v (Sends octets now) lives e = cc
+removal_caused v (Receives len) lives e = cc
+removal_caused v (Shuts now) lives e = cc
+
+-- .. and so has what becomes CLOSED
+closing_caused : (v : View) (e : Event) → is_closed v.state ≡ false → is_closed (after_event v e).state ≡ true → is_cause v e ≡ true
+closing_caused v e lives = by_event (λ e w. is_closed w.state ≡ true → is_cause v e ≡ true) v (record {
+  same = λ e closed. clash (is_closed v.state) closed lives;
+  heard = λ s now comes. heard_caused v s now lives;
+  over = λ now ends closed. or_left (is_at_end v now) (gives_up v now) ends;
+  given_up = λ now waits expired closed. or_right (is_at_end v now) (gives_up v now) expired;
+  acts = λ now closed. clash (is_closed v.state) (sym (ap (λ (w : View). is_closed w.state) (timers_keep v now)) ∙ closed) lives;
+  emits = λ now closed. clash (is_closed v.state) (sym (ap is_closed (emitted-state v (first_due v) now)) ∙ closed) lives;
+  sends = λ octets taken now opened closed. clash (is_closed v.state) closed lives;
+  reads = λ len closed. clash (is_closed v.state) closed lives;
+  shuts = λ now closed. clash (is_closed (beyond_shutdown v.state)) closed (shut_closes_none v.state lives);
+  leaves = λ now remains closed. clash (is_closed (beyond_shutdown v.state)) closed (shut_closes_none v.state lives);
+  aborts = λ e now at cause remains closed. cause;
+  refused = λ number hit closed. hit;
+}) e
 
 pub ends_caused : (v : View) (e : Event) → is_over v ≡ false → ends_by v e ≡ true → is_cause v e ≡ true
-ends_caused v (Hears s now) lives e = segment-cause v s now e
-ends_caused v (Ticks now) lives e = by (is_cause v (Ticks now) ≡ true) (is_at_end v now) (or_left (is_at_end v now) (gives_up v now))
-    (λ stays. by (is_cause v (Ticks now) ≡ true) (gives_up v now) (or_right (is_at_end v now) (gives_up v now))
-    (λ goes_on.
-    let waits = if has_come (next_of v.timers) now then clocked false (after_timers v now) now else v in
-    let tried : Bool → Bool → Bool = λ a b.
-    is_removed (if a then (if v.released then Removed else Stays) else if b then (if v.released || (v.passive && is_syn_received v.state) then Removed else Stays) else Stays)
-    || (not (is_closed v.state) && is_closed (if a then after_stop v else if b then after_reset v (Some ETIMEDOUT) else waits).state) in
-    let same = either View (λ w. w.state ≡ v.state) (has_come (next_of v.timers) now) (clocked false (after_timers v now) now) v (λ acts. ap (λ (w : View). w.state) (timers_keep v now)) (λ idle. refl) in
-    absurd (unclosed v.state waits.state same (sym (ap (λ a. tried a (gives_up v now)) stays ∙ ap (tried false) goes_on) ∙ e))))
-ends_caused v (Emits now) lives e = emission-cause v now lives e
-ends_caused v (Sends octets now) lives e =
-    let P : View → Type 0 = λ w. w.state ≡ v.state in
-    let taken = take (send_count v octets) octets in
-    let same = either View P (is_some v.pending_error || is_opening v.state || is_write_closed v.state) v (with_octets v taken now) (λ refused. refl)
-    (λ takes. either View P (length taken == 0) v _ (λ none. refl) (λ some. refl)) in
-    absurd (unclosed v.state (after_send v octets now).state same e)
-ends_caused v (Receives len) lives e =
-    let same = either View (λ w. w.state ≡ v.state) (is_some v.pending_error || is_opening v.state || (length v.receiving.readable == 0)) v _ (λ none. refl) (λ some. refl) in
-    absurd (unclosed v.state (after_recv v len).state same e)
-ends_caused v (Shuts now) lives e = absurd (
-    either View (λ w. (not (is_closed v.state) && is_closed w.state) ≡ true → ⊥) (is_some (shutdown_refusal v)) v (after_shutdown v now)
-    (λ refused. unclosed v.state v.state refl) (λ closed. shut_closes_none v.state) e)
-ends_caused v (Closes now) lives e = by (is_cause v (Closes now) ≡ true) (is_removed_by_close v) (or_left (is_removed_by_close v) (is_aborted_by_close v))
-    (λ stays. by (is_cause v (Closes now) ≡ true) (is_aborted_by_close v) (or_right (is_removed_by_close v) (is_aborted_by_close v))
-    (λ released.
-    let tried : Bool → Bool → Bool = λ a b. is_removed (if a then Removed else Stays) || (not (is_closed v.state) && is_closed (if a then v else (if b then aborted_at v now else after_release v now)).state) in
-    absurd (shut_closes_none v.state (sym (ap (λ a. tried a (is_aborted_by_close v)) stays ∙ ap (tried false) released) ∙ e))))
-ends_caused v (Aborts now) lives e = refl
-ends_caused v (Unreachable number) lives e = by (is_unreachable v number ≡ true) (is_unreachable v number) (λ refused. refused)
-    (λ other.
-    let same : after_unreachable v number ≡ v = ap (λ b. if b then after_reset v (Some ECONNREFUSED) else v) other in
-    elim (or_else (is_removed (unreachable_fate v number)) _ e) [
-      | inl removed ↦ let over = sym (ap is_over same) ∙ removed_where_over (is_over (after_unreachable v number)) removed in let bad : true ≡ false = sym over ∙ lives in cc
-      | inr ended ↦ absurd (unclosed v.state (after_unreachable v number).state (ap (λ (w : View). w.state) same) ended)
-    ])
+ends_caused v e lives ends = elim (or_else (is_removed (fate_by v e)) _ ends) [
+  | inl removed ↦ removal_caused v e lives removed
+  | inr closed ↦ closing_caused v e (not_true (is_closed v.state) (and_left (not (is_closed v.state)) _ closed)) (and_right (not (is_closed v.state)) _ closed)
+]

@@ -26,7 +26,6 @@ use Rattle.tcp_halves.proofs.Choices.{either, clash, and_left, and_right, both, 
 use Rattle.tcp_state.proofs.Segments.{by_fin, by_ack, by_hearing, by_clock}
 use Rattle.tcp_state.proofs.Events.{holding, shut, by_event}
 use Rattle.tcp_state.proofs.Clocked.{syn_out, heard_paced, after_paced}
-use Rattle.tcp_state.proofs.Gains.{receiving_lives}
 use Rattle.tcp_state.proofs.Paces.{segment_hears, goes_out}
 
 -- a timer began at the moment of the event, for the timeout

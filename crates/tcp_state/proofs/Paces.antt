@@ -10,18 +10,12 @@ use Rattle.tcp_state.specs.declared.emission.Stretch.{Stretch}
 use Rattle.tcp_halves.specs.Stream.{outstanding, after_sent}
 use Rattle.tcp_state.specs.Pace.{Pace, stopped, timing_of, pace_probed}
 use Rattle.tcp_state.specs.View.{View, is_closed, is_syn_received}
-use Rattle.tcp_state.specs.declared.state.State.{State}
-use Rattle.tcp_state.specs.declared.state.State.TheVariants.{Closed}
 use Rattle.tcp_state.specs.Arrival.{is_receiving, beyond_fin, fin_acknowledged, after_new_ack, after_ack, after_window, after_text, after_fin, after_heard}
 use Rattle.tcp_state.specs.Due.{probe_stretch, end_of, after_ack_paid, after_resent, after_first_sent, after_numbers, after_new_octets, brings_new_octets, after_stretch, after_probe, after_syn_out, after_going_out}
 use Rattle.tcp_state.proofs.Clocked.{syn_out}
 use Rattle.tcp_halves.proofs.Choices.{either, clash, and_left, and_right}
 use Rattle.tcp_state.proofs.Segments.{by_fin, by_ack, by_hearing}
-
--- no state in which octets are taken closes by the peer's FIN
-receiving_open : (t : State) → is_receiving t ≡ true → is_closed t ≡ false
-receiving_open Closed e = cc
-receiving_open _ e = refl
+use Rattle.tcp_state.proofs.Gains.{receiving_lives}
 
 -- Segments.
 
@@ -84,7 +78,7 @@ segment_leaves v s =
       opened = λ waits right. inl (record { pace = refl; timers = refl });
       acknowledged = λ taken. k;
       read = λ is_read. by_fin (Leaves v) read s
-          (λ counts. on v read _ refl refl (λ closed. clash (is_closed read.state) closed (receiving_open read.state (and_right s.flags.fin (is_receiving read.state) (and_left (s.flags.fin && is_receiving read.state) _ counts)))) text)
+          (λ counts. on v read _ refl refl (λ closed. clash (is_closed read.state) closed (receiving_lives read.state (and_right s.flags.fin (is_receiving read.state) (and_left (s.flags.fin && is_receiving read.state) _ counts))).0) text)
           (on v read _ refl refl (λ closed. closed) text) text;
     })
 
