@@ -50,6 +50,7 @@ impl Buffers {
         let receive = RecvBuf::with_capacity(alloc, CAPACITY)?;
         Ok(Buffers { send, receive })
     }
+
     /// The halves of a connection that opens: nothing is sent, its SYN will have the number `isn`, nothing has come, and no window is
     /// advertised.
     pub fn into_halves(self, isn: Seq) -> (Sender, Receiver)

@@ -109,7 +109,7 @@ impl Receiver {
     }
 
     /// RCV.WND, the window that is advertised and not used up.
-    pub fn window(&self) -> u32
+    fn window(&self) -> u32
         ensures { result ≡ receive_window self.now }
     {
         self.edge.past(self.rnext)
