@@ -63,3 +63,15 @@ then_chosen false a b e f = cc
 pub else_chosen : (t a b : Bool) → t ≡ false → b ≡ true → (if t then a else b) ≡ true
 else_chosen true a b e f = cc
 else_chosen false a b e f = f
+
+-- what isn't without another is with it
+pub and_not : (a b : Bool) → (a && not b) ≡ false → a ≡ true → b ≡ true
+and_not true true e f = refl
+and_not true false e f = cc
+and_not false b e f = cc
+
+-- nothing is owed before the end
+pub unowed : (owes closed left : Bool) → closed ≡ false → (owes && not (closed && left)) ≡ false → owes ≡ false
+unowed true true left c e = cc
+unowed true false left c e = cc
+unowed false closed left c e = refl

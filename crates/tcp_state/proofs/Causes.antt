@@ -28,7 +28,7 @@ use Rattle.tcp_state.proofs.Edges.{emitted-state}
 -- Segments.
 
 -- octets that are taken and a FIN that counts close nothing by themselves
-end_closes_none : (t : State) → is_receiving t ≡ true → is_closed (beyond_end t) ≡ false
+pub end_closes_none : (t : State) → is_receiving t ≡ true → is_closed (beyond_end t) ≡ false
 end_closes_none Established e = refl
 end_closes_none FinWait1 e = refl
 end_closes_none FinWait2 e = refl
@@ -155,7 +155,7 @@ segment-cause v s now e = elim (or_else (is_removed (fate_by v (Hears s now))) _
 
 -- Every event.
 
-shut_closes_none : (t : State) → is_closed t ≡ false → is_closed (beyond_shutdown t) ≡ false
+pub shut_closes_none : (t : State) → is_closed t ≡ false → is_closed (beyond_shutdown t) ≡ false
 shut_closes_none Closed e = cc
 shut_closes_none _ e = refl
 

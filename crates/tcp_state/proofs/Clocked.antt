@@ -23,6 +23,7 @@ use Rattle.tcp_state.specs.Congestion.Signal.{Begins, Counts, Nothing}
 use Rattle.congestion.specs.Window.{Window}
 use Rattle.congestion.specs.Events.Event.{NewAck, Duplicate}
 use Rattle.tcp_halves.proofs.Choices.{either}
+use Rattle.tcp_state.proofs.Segments.{by_clock}
 
 -- Timers.
 
@@ -52,6 +53,15 @@ timers_keep v now =
     let second = delayed_ack_expired first now in
     let third = override_expired second now in
     keeps_on v third (clocked false third now) (keeps_on v second third (keeps_on v first second (expiry_keeps v now) (delayed_ack_keeps first now)) (override_keeps second now)) refl
+
+-- the other timers leave the pace, but for the override, and the timers of an expiry
+pub by_others : (P : View → Type 0) (v : View) (now : Moment) → P (after_expiry v now) → ((w : View) (owes : Bool) → P w → P (record w { owes_ack = owes }))
+    → ((w : View) → P w → P (record w { pace = record w.pace { overridden = true }; timers = record w.timers { overriding = None } })) → P (after_timers v now)
+by_others P v now first acks over =
+    let one = after_expiry v now in
+    let two = delayed_ack_expired one now in
+    let second : P two = either View P (has_come one.timers.delayed_ack now) _ one (λ comes. acks one (one.owes_ack || one.delays_ack) first) (λ early. first) in
+    either View P (has_come two.timers.overriding now) _ two (λ comes. over two second) (λ early. second)
 
 -- What goes out.
 
@@ -255,5 +265,5 @@ timed_owing v s owes now keeps quiet first =
 -- a segment that draws an acknowledgement, or nothing
 pub owing_timed : (v : View) (s : Segment) (now : Moment) → KeepsTime v → answers_probe v s ≡ false → is_duplicate v s ≡ false → Owing v (after_heard v s) → OwingAt v (after_segment_at v s now)
 owing_timed v s now keeps quiet first same =
-    either View (λ w. OwingAt v w) (is_closed v.state || is_rejected v s) v (timed_by (before v s) (after_heard v s) now) (λ kept. refl)
+    by_clock (OwingAt v) v s now refl
     (λ heard. subst (λ w. OwingAt v (timed_by (before v s) w now)) (sym same) (timed_owing v s (after_heard v s).owes_ack now keeps quiet first))

@@ -28,7 +28,7 @@ use Rattle.tcp_state.specs.Arrival.{opened_passively, is_receiving, beyond_fin, 
 use Rattle.tcp_state.specs.Due.{after_ack_paid, after_syn_out, after_going_out, first_due}
 use Rattle.tcp_state.specs.Unreachable.{is_unreachable}
 use Rattle.tcp_state.specs.Edges.{Event, Hears, Ticks, Emits, Sends, Receives, Shuts, Closes, Aborts, Unreachable, after_first, after_event, congestion_event_at, congestion_event_by}
-use Rattle.tcp_state.proofs.Clocked.{emission_keeps, heard_paced, after_paced, signalled}
+use Rattle.tcp_state.proofs.Clocked.{by_others, emission_keeps, heard_paced, after_paced, signalled}
 use Rattle.tcp_halves.proofs.Choices.{either, by, clash, and_left, and_right, or_left, or_right}
 use Rattle.tcp_state.proofs.Segments.{by_fin, by_ack, by_hearing, by_clock}
 use Rattle.tcp_state.proofs.Deadlines.{none_comes}
@@ -240,13 +240,8 @@ on_time v signal w x congestion sending syn state k =
 timers_move : (v : View) (now : Moment) → Moves v (if has_come v.timers.retransmission now then Counts (Expiry (outstanding v.sending)) else Nothing) (clocked false (after_timers v now) now)
 timers_move v now =
     let signal : Signal = if has_come v.timers.retransmission now then Counts (Expiry (outstanding v.sending)) else Nothing in
-    let first = after_expiry v now in
-    let second = delayed_ack_expired first now in
-    let third = override_expired second now in
-    let one = expiry_moves v now in
-    let two : Moves v signal second = either View (Moves v signal) (has_come first.timers.delayed_ack now) _ first (λ comes. on_time v signal first _ refl refl refl refl one) (λ early. one) in
-    let three : Moves v signal third = either View (Moves v signal) (has_come second.timers.overriding now) _ second (λ comes. on_time v signal second _ refl refl refl refl two) (λ early. two) in
-    on_time v signal third (clocked false third now) refl refl refl refl three
+    on_time v signal (after_timers v now) (clocked false (after_timers v now) now) refl refl refl refl (by_others (Moves v signal) v now (expiry_moves v now)
+    (λ w owes k. on_time v signal w _ refl refl refl refl k) (λ w k. on_time v signal w _ refl refl refl refl k))
 
 tick_moves : (v : View) (now : Moment) → Moves v (congestion_event_at v now) (after_tick v now)
 tick_moves v now = chosen (is_at_end v now) (gives_up v now)

@@ -20,7 +20,7 @@ use Rattle.tcp_state.specs.Due.{first_due}
 use Rattle.tcp_state.specs.Unreachable.{is_unreachable}
 use Rattle.tcp_state.specs.Edges.{Event, Hears, Ticks, Emits, Sends, Receives, Shuts, Closes, Aborts, Unreachable, after_first, after_event, is_reset_by, is_error_of, is_timeout, may_raise}
 use Rattle.tcp_state.proofs.Clocked.{timers_keep, emission_keeps}
-use Rattle.tcp_halves.proofs.Choices.{either, by, clash, and_left, and_false, both, of_false}
+use Rattle.tcp_halves.proofs.Choices.{either, by, clash, and_left, and_false, both, of_false, and_not}
 use Rattle.tcp_state.proofs.Segments.{by_fin, by_ack, by_hearing}
 use Rattle.tcp_state.proofs.Events.{by_event}
 use Rattle.tcp_state.proofs.Unchanged.{closed_plain, closed_holds}
@@ -52,13 +52,8 @@ timed_out : (error : Refusal) → ◌≡◌ {A = Option Refusal} (Some ETIMEDOUT
 timed_out ETIMEDOUT e = refl
 timed_out _ e = cc
 
-closed_where_told : (told closed : Bool) → (told && not closed) ≡ false → told ≡ true → closed ≡ true
-closed_where_told true true e f = refl
-closed_where_told true false e f = cc
-closed_where_told false closed e f = cc
-
 closed_by_told : (v : View) → IsSound v → is_some v.pending_error ≡ true → is_closed v.state ≡ true
-closed_by_told v sound some = closed_where_told (is_some v.pending_error) (is_closed v.state) sound.error some
+closed_by_told v sound some = and_not (is_some v.pending_error) (is_closed v.state) sound.error some
 
 -- What is CLOSED has no timer that counts.
 

@@ -12,10 +12,9 @@ use Rattle.tcp_halves.specs.Stream.{outstanding}
 use Rattle.tcp_state.specs.View.{View, IsSound, is_opening, is_closed, is_at_end, after_stop, after_reset}
 use Rattle.tcp_state.specs.Timing.{KeepsTime, probes, retransmits, running, clocked, expires, gives_up, retransmission_expired, probe_expired, after_expiry, delayed_ack_expired, after_timers, after_tick}
 use Rattle.tcp_state.specs.Due.{ack_due, again, again_from, new_due, first_due}
-use Rattle.tcp_halves.proofs.Choices.{either, by, clash, and_left, and_right, both, or_left, or_right, or_else, not_true}
-use Rattle.tcp_state.proofs.Clocked.{timers_keep}
+use Rattle.tcp_halves.proofs.Choices.{either, by, clash, and_left, and_right, both, or_left, or_right, or_else, not_true, unowed}
+use Rattle.tcp_state.proofs.Clocked.{by_others, timers_keep}
 use Rattle.tcp_state.proofs.Deadlines.{timers_come, come_runs}
-use Rattle.tcp_state.proofs.Losses.{unowed}
 
 -- a tick at which an expiry counts ends the connection, or lets its timers act
 by_expiry : (P : View → Type 0) (v : View) (now : Moment) → expires v now ≡ true → is_closed (after_tick v now).state ≡ false → P (clocked false (after_timers v now) now) → P (after_tick v now)
@@ -27,15 +26,6 @@ by_expiry P v now expired lives acted =
     (λ goes_on. either View Q (gives_up v now) (after_reset v (Some ETIMEDOUT)) _ (λ given_up living. cc)
     (λ remains. either View Q (has_come (next_of v.timers) now) acts v (λ comes living. acted)
     (λ early. clash (has_come (next_of v.timers) now) (timers_come v now ∙ or_left (expires v now) others expired) early))) lives
-
--- the other timers leave the pace, but for the override, and the timers of an expiry
-by_others : (P : View → Type 0) (v : View) (now : Moment) → P (after_expiry v now) → ((w : View) (owes : Bool) → P w → P (record w { owes_ack = owes }))
-    → ((w : View) → P w → P (record w { pace = record w.pace { overridden = true }; timers = record w.timers { overriding = None } })) → P (after_timers v now)
-by_others P v now first acks over =
-    let one = after_expiry v now in
-    let two = delayed_ack_expired one now in
-    let second : P two = either View P (has_come one.timers.delayed_ack now) _ one (λ comes. acks one (one.owes_ack || one.delays_ack) first) (λ early. first) in
-    either View P (has_come two.timers.overriding now) _ two (λ comes. over two second) (λ early. second)
 
 -- The retransmission timer.
 

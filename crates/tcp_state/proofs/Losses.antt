@@ -23,7 +23,7 @@ use Rattle.tcp_state.specs.Congestion.Signal.{Begins, Counts, Nothing}
 use Rattle.tcp_state.specs.Arrival.{owing_ack, after_establishment, is_receiving, beyond_fin, is_of_fin, fin_acknowledged, after_new_ack, after_ack, is_read, after_window, after_text, counts_fin, after_fin, is_lost, after_lost, after_segment, after_heard, is_duplicate, before, is_moved, pace_heard, pace_after, congestion_event_of, tells_loss, timed_by, after_segment_at}
 use Rattle.tcp_state.specs.Due.{end_of, after_resent, after_first_sent, after_numbers, after_new_octets, brings_new_octets, after_emitted, ack_due, again, again_from, new_due, first_due}
 use Rattle.tcp_state.proofs.Clocked.{comes_to, unmoved, heard_paced, signalled}
-use Rattle.tcp_halves.proofs.Choices.{either, clash, and_left, and_right, and_false, both, not_true}
+use Rattle.tcp_halves.proofs.Choices.{either, clash, and_left, and_right, and_false, both, not_true, unowed}
 use Rattle.tcp_state.proofs.Segments.{IsRead, by_fin, by_ack, by_hearing, by_clock, read_tells, reads, not_rejected}
 use Rattle.tcp_state.proofs.Congestion.{window_kept}
 
@@ -122,12 +122,6 @@ loses v s now lives is third =
     ∙ ap (λ t. if t then Counts (Duplicate (outstanding w.sending)) else Nothing) is in
     let pace = pace_heard b w now in
     ap (λ g. if tells_loss g w.congestion then pace_lost pace (outstanding w.sending) else pace) event ∙ ap (λ t. if t then pace_lost pace (outstanding w.sending) else pace) third
-
--- what is owed of a reset is so only where all is closed
-pub unowed : (owes closed left : Bool) → closed ≡ false → (owes && not (closed && left)) ≡ false → owes ≡ false
-unowed true true left c e = cc
-unowed true false left c e = cc
-unowed false closed left c e = refl
 
 pub third_resends : (v : View) (s : Segment) (now : Moment) → IsSound v → is_closed v.state ≡ false → is_duplicate v s ≡ true → third_is_next v.congestion ≡ true
     → (first_due (after_segment_at v s now) ≡ Some (Text (again (after_segment_at v s now) 0))) × ((after_segment_at v s now).pace.once ≡ true)

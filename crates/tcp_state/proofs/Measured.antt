@@ -18,7 +18,7 @@ use Rattle.tcp_state.specs.Arrival.{after_heard, before, pace_heard, pace_after,
 use Rattle.tcp_state.specs.Due.{MayGoOut, sends_again, after_emitted, probe_stretch, end_of, after_ack_paid, after_resent, after_first_sent, after_numbers, after_new_octets, brings_new_octets, after_syn_out, after_going_out, first_due}
 use Rattle.tcp_state.specs.Unreachable.{is_unreachable}
 use Rattle.tcp_state.specs.Edges.{Event, Hears, Ticks, Emits, Sends, Receives, Shuts, Closes, Aborts, Unreachable, moment_of, after_first, after_event}
-use Rattle.tcp_state.proofs.Clocked.{syn_out, heard_paced, after_paced}
+use Rattle.tcp_state.proofs.Clocked.{by_others, syn_out, heard_paced, after_paced}
 use Rattle.tcp_halves.proofs.Choices.{either, clash}
 use Rattle.tcp_state.proofs.Segments.{by_clock}
 use Rattle.tcp_state.proofs.Events.{by_event}
@@ -149,13 +149,10 @@ emission_measures v now = sent (first_due v) refl
 timers_measure : (v : View) (now : Moment) → Measures v (Some now) (clocked false (after_timers v now) now)
 timers_measure v now =
     let m : Option Moment = Some now in
-    let first = after_expiry v now in
-    let second = delayed_ack_expired first now in
-    let one : Measures v m first = either View (Measures v m) (has_come v.timers.retransmission now) (retransmission_expired v) _ (λ comes. keeps v _ m refl refl)
-    (λ early. either View (Measures v m) (has_come v.timers.probe now) (probe_expired v now) v (λ comes. keeps v _ m refl refl) (λ late. keeps v v m refl refl)) in
-    let two : Measures v m second = either View (Measures v m) (has_come first.timers.delayed_ack now) _ first (λ comes. record { sampled = one.sampled; begins = one.begins }) (λ early. one) in
-    let three : Measures v m (after_timers v now) = either View (Measures v m) (has_come second.timers.overriding now) _ second (λ comes. record { sampled = two.sampled; begins = two.begins }) (λ early. two) in
-    clocked_measures v (after_timers v now) m false now three
+    clocked_measures v (after_timers v now) m false now (by_others (Measures v m) v now
+    (either View (Measures v m) (has_come v.timers.retransmission now) (retransmission_expired v) _ (λ comes. keeps v _ m refl refl)
+    (λ early. either View (Measures v m) (has_come v.timers.probe now) (probe_expired v now) v (λ comes. keeps v _ m refl refl) (λ late. keeps v v m refl refl)))
+    (λ w owes k. record { sampled = k.sampled; begins = k.begins }) (λ w k. record { sampled = k.sampled; begins = k.begins }))
 
 measures : (v : View) (e : Event) → Measures v (moment_of e) (after_event v e)
 measures v = by_event (λ e. Measures v (moment_of e)) v (record {

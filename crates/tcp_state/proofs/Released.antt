@@ -13,7 +13,7 @@ use Rattle.tcp_halves.specs.Halves.{Receiving}
 use Rattle.tcp_halves.specs.Stream.{is_new_ack, octets_within, after_octets, receive_window, is_in_window}
 use Rattle.tcp_state.specs.View.{View, IsSound, is_syn_sent, is_syn_received, is_closed, is_write_closed, after_reset}
 use Rattle.tcp_state.specs.Arrival.{owing_ack, after_establishment, is_receiving, beyond_fin, is_of_fin, fin_acknowledged, after_new_ack, after_ack, is_read_on, is_read, brings_more, after_window, after_text, after_fin, after_acknowledging_segment, after_acceptable_segment, ends_by_syn, ends_by_reset, is_acting_reset, is_acceptable_to, reset_error, after_rst_in_syn_sent, after_rst, is_right_syn_ack, after_syn_ack, is_simultaneous_syn, after_simultaneous_syn, after_segment, is_lost, after_lost, is_rejected, before, timed_by, after_heard, after_segment_at}
-use Rattle.tcp_halves.proofs.Choices.{either, clash, both, of_false}
+use Rattle.tcp_halves.proofs.Choices.{either, clash, both, of_false, and_not}
 use Rattle.tcp_state.proofs.Segments.{after_reading, by_fin, by_ack, ack_receives, by_segment, by_clock}
 use Rattle.tcp_halves.proofs.Keeping.{IsKeeping, none_within}
 use Rattle.tcp_state.proofs.Sound.{sound_keeping}
@@ -113,11 +113,6 @@ readable_by_segment v s k = by_segment (λ w. w.receiving.readable ≡ v.receivi
   read = readable_by_reading v s k;
 })
 
-closed_where_released : (released closed : Bool) → (released && not closed) ≡ false → released ≡ true → closed ≡ true
-closed_where_released true true e f = refl
-closed_where_released true false e f = cc
-closed_where_released false closed e f = cc
-
 readable_by_heard : (v : View) (s : Segment) → IsSound v → v.released ≡ true → s.number < 2 ^ 32 → length s.octets < 2 ^ 16 → (after_heard v s).receiving.readable ≡ v.receiving.readable
 readable_by_heard v s sound released fits short =
     either View (λ w. w.receiving.readable ≡ v.receiving.readable) (is_lost v s) (after_lost v s) (after_segment v s)
@@ -127,7 +122,7 @@ readable_by_heard v s sound released fits short =
       fits = fits;
       short = short;
       released = released;
-      closed = closed_where_released v.released (is_write_closed v.state) sound.release released;
+      closed = and_not v.released (is_write_closed v.state) sound.release released;
       kept = kept;
     }))
 

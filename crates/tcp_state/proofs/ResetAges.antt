@@ -16,7 +16,7 @@ use Rattle.tcp_state.specs.Due.{first_due, after_emitted}
 use Rattle.tcp_state.specs.Unreachable.{is_unreachable}
 use Rattle.tcp_state.specs.Edges.{Event, Hears, Ticks, Emits, Sends, Receives, Shuts, Closes, Aborts, Unreachable, after_first, after_event, moment_of}
 use Rattle.tcp_state.proofs.Clocked.{timers_keep, emission}
-use Rattle.tcp_halves.proofs.Choices.{either, or_right, of_false}
+use Rattle.tcp_halves.proofs.Choices.{either, or_right, of_false, unowed}
 use Rattle.tcp_state.proofs.Segments.{by_fin, by_ack, by_segment}
 use Rattle.tcp_state.proofs.Events.{by_event}
 
@@ -27,13 +27,8 @@ Ages v e w = (reset_since w ≡ reset_since v) ⊎ ((reset_since w ≡ None) ⊎
 none_owed : (w : View) → w.owes_reset ≡ false → reset_since w ≡ None
 none_owed w none = ap (λ b. if b then Some w.since else None) none
 
-live_owes_none : (owes closed released : Bool) → (owes && not (closed && released)) ≡ false → closed ≡ false → owes ≡ false
-live_owes_none true true released e lives = cc
-live_owes_none true false released e lives = cc
-live_owes_none false closed released e lives = refl
-
 live : (v : View) → IsSound v → is_closed v.state ≡ false → v.owes_reset ≡ false
-live v sound lives = live_owes_none v.owes_reset (is_closed v.state) v.released sound.reset lives
+live v sound lives = unowed v.owes_reset (is_closed v.state) v.released lives sound.reset
 
 -- A segment.
 

@@ -20,7 +20,7 @@ use Rattle.tcp_state.specs.Arrival.{after_heard, before, is_moved, since_after, 
 use Rattle.tcp_state.specs.Due.{first_due, after_going_out}
 use Rattle.tcp_state.specs.Unreachable.{is_unreachable}
 use Rattle.tcp_state.specs.Edges.{Event, Hears, Ticks, Emits, Sends, Receives, Shuts, Closes, Aborts, Unreachable, moment_of, after_first, after_event}
-use Rattle.tcp_state.proofs.Clocked.{heard_paced, after_paced}
+use Rattle.tcp_state.proofs.Clocked.{by_others, heard_paced, after_paced}
 use Rattle.tcp_halves.proofs.Choices.{either}
 use Rattle.tcp_state.proofs.Segments.{by_clock}
 use Rattle.tcp_state.proofs.Events.{holding, shut, by_event}
@@ -159,14 +159,9 @@ expiry_soon v now few =
 
 timers_soon : (v : View) (now : Moment) → v.pace.timeout.rto ≤ 60000 → SetSoon now v.timers (clocked false (after_timers v now) now).timers
 timers_soon v now few =
-    let first = after_expiry v now in
-    let second = delayed_ack_expired first now in
-    let one = expiry_soon v now few in
-    let two : Acted now v second = either View (Acted now v) (has_come first.timers.delayed_ack now) _ first (λ comes. record { timers = one.timers; few = one.few }) (λ early. one) in
-    let t = two.timers in
-    let three : Acted now v (after_timers v now) = either View (Acted now v) (has_come second.timers.overriding now) _ second
-    (λ comes. record { timers = record { retransmission = t.retransmission; probe = t.probe; delayed_ack = t.delayed_ack; overriding = none_set now v.timers.overriding }; few = two.few }) (λ early. two) in
-    clocked_soon false (after_timers v now) now v.timers three.few three.timers
+    let k = by_others (Acted now v) v now (expiry_soon v now few) (λ w owes a. record { timers = a.timers; few = a.few }) (λ w a. let t = a.timers in
+    record { timers = record { retransmission = t.retransmission; probe = t.probe; delayed_ack = t.delayed_ack; overriding = none_set now v.timers.overriding }; few = a.few }) in
+    clocked_soon false (after_timers v now) now v.timers k.few k.timers
 
 -- Every event.
 

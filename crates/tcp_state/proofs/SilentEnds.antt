@@ -20,7 +20,7 @@ use Rattle.tcp_halves.proofs.Choices.{and_left}
 use Rattle.tcp_state.proofs.Segments.{by_hearing}
 use Rattle.tcp_state.proofs.Events.{by_event}
 use Rattle.tcp_state.proofs.Edges.{emitted-state}
-use Rattle.tcp_state.proofs.Causes.{closed_by_ack, closed_by_reading}
+use Rattle.tcp_state.proofs.Causes.{closed_by_ack, closed_by_reading, shut_closes_none}
 
 -- the connection became CLOSED, tells nothing, and its caller has not left it
 record IsSilentEnd (w : View) : Type 0 where
@@ -52,12 +52,6 @@ seen_at_end FinWait2 true since now e r = cc
 seen_at_end FinWait2 false since now e r = cc
 seen_at_end _ released since now e r = cc
 
-shut_open : (t : State) → is_closed t ≡ false → is_closed (beyond_shutdown t) ≡ false
-shut_open Closed e = cc
-shut_open Established e = refl
-shut_open CloseWait e = refl
-shut_open _ e = e
-
 still : (v w : View) → w.state ≡ v.state → is_closed v.state ≡ false → IsSilentEnd w → is_read_closed v.state ≡ true
 still v w same lives k = let bad : true ≡ false = sym k.closed ∙ (ap is_closed same ∙ lives) in cc
 
@@ -85,7 +79,7 @@ seen_by_event v e sound lives = by_event (λ e w. IsSilentEnd w → is_read_clos
   emits = λ now. still v _ (emitted-state v (first_due v) now) lives;
   sends = λ octets taken now opened. still v _ refl lives;
   reads = λ len. still v _ refl lives;
-  shuts = λ now k. let bad : true ≡ false = sym k.closed ∙ shut_open v.state lives in cc;
+  shuts = λ now k. let bad : true ≡ false = sym k.closed ∙ shut_closes_none v.state lives in cc;
   leaves = λ now remains k. let bad : true ≡ false = k.kept in cc;
   aborts = λ e now at cause remains k. let bad : true ≡ false = k.kept in cc;
   refused = λ number hit k. let told = k.quiet in cc;

@@ -25,7 +25,7 @@ use Rattle.tcp_state.specs.Edges.{after_first}
 use Rattle.tcp_state.specs.Simultaneous.{AnswersSyn}
 use Rattle.tcp_state.specs.Unreachable.{IsRefused}
 use Rattle.tcp_state.proofs.Clocked.{comes_to, marks_kept, probes_kept}
-use Rattle.tcp_halves.proofs.Choices.{either, clash, both, or_left, or_right, of_false}
+use Rattle.tcp_halves.proofs.Choices.{either, clash, both, or_left, or_right, of_false, unowed}
 use Rattle.tcp_state.proofs.Emissions.{syn_sends}
 use Rattle.tcp_state.proofs.Resets.{one_out, next_accepted, rst_not_lost, rst_not_refused}
 use Rattle.tcp_state.proofs.Unreachable.{none_listed, opening, silent, at_rest}
@@ -83,10 +83,6 @@ answers v s now sound opens =
           ∙ then_sent v.sending.una v.sending.nxt sound.una sound.nxt few);
     }
 
-living : (t : State) → t ≡ SynSent → is_closed t ≡ false
-living SynSent e = refl
-living _ e = cc
-
 stays_where : (closed lost over refused opening : Bool) → over ≡ false → refused ≡ false → opening ≡ false
     → (if closed || lost then Stays else if over then Removed else if refused then Rejected else if opening then Removed else Stays) ≡ Stays
 stays_where true lost over refused opening a b c = refl
@@ -105,7 +101,7 @@ pub syn_answered : (v : View) (s : Segment) (now : Moment) → IsSound v → v.s
     → AnswersSyn v.sending.una s.number (after_segment_at v s now) × (fate v s ≡ Stays)
 syn_answered v s now sound opens no_rst syn no_ack =
     let o = opening v sound opens in
-    let lives = living v.state opens in
+    let lives : is_closed v.state ≡ false = ap is_closed opens in
     let is : is_simultaneous_syn v s ≡ true = both s.flags.syn (not s.flags.ack) syn (of_false s.flags.ack no_ack) in
     let same = answered v s lives o.waits no_rst is in
     let kept : is_lost v s ≡ false = ap (λ b. b && is_receiving v.state && is_read v s && brings_more v s) o.kept in
@@ -124,13 +120,8 @@ record IsAnswering (v : View) : Type 0 where
   pub past_opening : is_syn_sent v.state ≡ false
   pub quiet : v.owes_reset ≡ false
 
-unowed : (t : State) (left owes : Bool) → t ≡ SynReceived → (owes && not (is_closed t && left)) ≡ false → owes ≡ false
-unowed SynReceived left true e f = cc
-unowed SynReceived left false e f = refl
-unowed _ left owes e f = cc
-
 answering : (v : View) → IsSound v → v.state ≡ SynReceived → IsAnswering v
-answering v sound is = record { lives = ap is_closed is; past_opening = ap is_syn_sent is; quiet = unowed v.state v.released v.owes_reset is sound.reset }
+answering v sound is = record { lives = ap is_closed is; past_opening = ap is_syn_sent is; quiet = unowed v.owes_reset (is_closed v.state) v.released (ap is_closed is) sound.reset }
 
 reset_leaves : (v : View) (s : Segment) → IsAnswering v → s.flags.rst ≡ true → is_acting_reset v s ≡ true → ends_by_reset v s ≡ false → after_segment v s ≡ after_reset v (reset_error v.state)
 reset_leaves v s a rst acts kept =

@@ -58,10 +58,6 @@ not_simultaneous true true e = refl
 not_simultaneous false true e = refl
 not_simultaneous syn false e = cc
 
-living : (t : State) → is_syn_sent t ≡ true → is_closed t ≡ false
-living SynSent e = refl
-living _ e = cc
-
 acknowledged : (v : View) (s : Segment) → is_closed v.state ≡ false → is_syn_sent v.state ≡ true → s.flags.rst ≡ false → s.flags.ack ≡ true → after_segment v s ≡ after_syn_ack v s
 acknowledged v s lives waits no_rst ack =
     ap (λ b. if b then v else if s.flags.rst then (if is_syn_sent v.state then after_rst_in_syn_sent v s else after_rst v s) else unreset (is_syn_sent v.state)) lives
@@ -89,7 +85,7 @@ pub syn_ack_opens : (v : View) (s : Segment) (now : Moment) → IsSound v → v.
     → s.acknowledgement ≡ v.sending.nxt → OpenedBy s v (after_segment_at v s now)
 syn_ack_opens v s now sound opens sent no_rst syn ack same =
     let o = opening v sound opens in
-    let lives = living v.state o.waits in
+    let lives : is_closed v.state ≡ false = ap is_closed opens in
     let new = acknowledges_all v.sending s.acknowledgement sound.una sound.nxt sent same in
     let right : is_right_syn_ack v s ≡ true = both (s.flags.syn && s.flags.ack) (is_new_ack v.sending s.acknowledgement) (both s.flags.syn s.flags.ack syn ack) new in
     let kept : is_lost v s ≡ false = ap (λ b. b && is_receiving v.state && is_read v s && brings_more v s) o.kept in

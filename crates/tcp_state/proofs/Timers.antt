@@ -27,6 +27,7 @@ use Rattle.tcp_state.specs.Edges.{Event, Hears, Ticks, Emits, Sends, Receives, S
 use Rattle.tcp_state.proofs.Clocked.{timers_keep, emission_keeps}
 use Rattle.tcp_halves.proofs.Choices.{either, by, clash, and_left, and_right, and_false}
 use Rattle.tcp_state.proofs.Segments.{by_fin, by_ack, by_hearing, by_clock}
+use Rattle.tcp_state.proofs.Causes.{end_closes_none}
 use Rattle.tcp_state.proofs.Events.{holding, shut, by_event}
 use Rattle.tcp_state.proofs.Unchanged.{closed_holds, closed_owes}
 
@@ -97,13 +98,6 @@ ended v error released owes since small =
     record { retransmission = k.retransmission; probe = k.probe; delayed_ack = k.delayed_ack; overriding = k.overriding; interval = k.interval; owed = k.owed; closed = k.closed }
 
 -- Segments.
-
--- no FIN of the peer closes
-end_closes_none : (t : State) → is_receiving t ≡ true → is_closed (beyond_end t) ≡ false
-end_closes_none Established e = refl
-end_closes_none FinWait1 e = refl
-end_closes_none FinWait2 e = refl
-end_closes_none _ e = cc
 
 fin_quiet : (w : View) (s : Segment) → Quiet w → Quiet (after_fin w s)
 fin_quiet w s quiet =

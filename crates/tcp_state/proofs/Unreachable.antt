@@ -18,7 +18,7 @@ use Rattle.tcp_state.specs.Timing.{probes, retransmits, awaits_more, running, re
 use Rattle.tcp_state.specs.Due.{first_due, new_octets, sends_new, new_due}
 use Rattle.tcp_state.specs.Edges.{Unreachable, after_event, fate_by}
 use Rattle.tcp_state.specs.Unreachable.{is_unreachable, after_unreachable, IsRefused}
-use Rattle.tcp_halves.proofs.Choices.{both, of_false}
+use Rattle.tcp_halves.proofs.Choices.{both, of_false, unowed}
 
 -- what the error doesn't hit stays
 unhit : (v : View) (number : ℕ) → is_unreachable v number ≡ false → after_unreachable v number ≡ v
@@ -68,16 +68,11 @@ unleft SynSent true e f = cc
 unleft SynSent false e f = refl
 unleft _ left e f = cc
 
-unowed : (t : State) (left owes : Bool) → t ≡ SynSent → (owes && not (is_closed t && left)) ≡ false → owes ≡ false
-unowed SynSent left true e f = cc
-unowed SynSent left false e f = refl
-unowed _ left owes e f = cc
-
 pub opening : (v : View) → IsSound v → v.state ≡ SynSent → IsOpening v
 opening v sound opens = record {
   waits = ap is_syn_sent opens;
   kept = unleft v.state v.released opens sound.release;
-  quiet = unowed v.state v.released v.owes_reset opens sound.reset;
+  quiet = unowed v.owes_reset (is_closed v.state) v.released (ap is_closed opens) sound.reset;
   readable = none_listed v.receiving.readable (subst (λ t. length v.receiving.readable ≤ (if is_opening t then 0 else 65535)) opens sound.readable);
 }
 
