@@ -1,5 +1,5 @@
 -- Where an acknowledgement alone goes out.
-use Rattle.std.proofs.Common.{◌≡◌, ℕ, ◌+◌, ◌<◌, ◌≤◌, ◌==◌, ◌||◌, ◌%◌, ◌^◌, min, nat_le, if◌then◌else◌, inl, inr, Bool, true, false, arith, refl, sym, ◌∙◌, ap, ap₂, subst}
+use Rattle.std.proofs.Common.{◌≡◌, ◌+◌, ◌<◌, ◌==◌, ◌||◌, ◌%◌, ◌^◌, min, nat_le, if◌then◌else◌, inl, inr, Bool, true, false, arith, sym, ◌∙◌, ap, ap₂, subst}
 use Rattle.std.proofs.lemmas.Bool.{eq-eqb}
 use Rattle.std.proofs.lemmas.Bool.Decides.{leb_tells}
 use Rattle.tcp_segment.specs.Wire.{past}

@@ -1,31 +1,27 @@
 -- How an event leaves the timers of what is outstanding and of the probe, the count of expiries, and the override.
-use Rattle.std.proofs.Common.{◌≡◌, ℕ, ◌+◌, ◌<◌, ◌≤◌, ◌==◌, ◌||◌, ◌&&◌, ◌⊎◌, ◌≢◌, not, nat_lt, if◌then◌else◌, Bool, true, false, length, take, ◌++◌, Option, Some, None, is_some, inl, inr, arith, refl, sym, ◌∙◌, ap, ap₂, subst}
+use Rattle.std.proofs.Common.{◌≡◌, ℕ, ◌+◌, ◌<◌, ◌≤◌, ◌==◌, ◌||◌, ◌&&◌, ◌⊎◌, ◌≢◌, not, nat_lt, if◌then◌else◌, Bool, true, false, Option, Some, None, is_some, inl, inr, arith, refl, sym, ◌∙◌, ap, ap₂, subst}
 use Rattle.std.proofs.lemmas.Bool.{leb-true, eqb-true, eq-eqb, lt-ltb}
 use Rattle.std.proofs.lemmas.Bool.Decides.{eqb_tells}
 use Rattle.tcp_segment.specs.Segment.{Segment}
 use Rattle.clock.specs.declared.moment.Moment.{Moment}
 use Rattle.clock.specs.Moments.{after, has_come}
 use Rattle.retransmit.specs.declared.timers.Timers.{Timers}
-use Rattle.retransmit.specs.Deadlines.{no_timers, next_of}
-use Rattle.tcp_state.specs.declared.calls.Refusal.TheVariants.{ECONNREFUSED, ETIMEDOUT}
+use Rattle.retransmit.specs.Deadlines.{no_timers}
 use Rattle.tcp_state.specs.declared.state.State.{State}
 use Rattle.tcp_state.specs.declared.state.State.TheVariants.{SynSent, SynReceived}
 use Rattle.tcp_state.specs.declared.emission.Due.{Due}
-use Rattle.tcp_state.specs.declared.emission.Due.TheVariants.{Rst, Syn, Text, Probe, Ack}
-use Rattle.tcp_state.specs.declared.emission.Stretch.{Stretch}
-use Rattle.tcp_halves.specs.Stream.{outstanding, after_sent}
-use Rattle.tcp_state.specs.Pace.{Pace, stopped, pace_probed, pace_acknowledged}
-use Rattle.tcp_state.specs.View.{View, is_opening, is_syn_sent, is_syn_received, is_closed, is_fin_wait_2, is_write_closed, is_at_end, after_stop, after_reset}
-use Rattle.tcp_state.specs.Timing.{probes, retransmits, awaits_more, running, clocked, expires, gives_up, retransmission_expired, probe_expired, after_expiry, delayed_ack_expired, after_timers}
-use Rattle.tcp_state.specs.Calls.{send_count, beyond_shutdown, latest, shutdown_refusal, after_shutdown, aborted_at, after_release, is_removed_by_close, is_aborted_by_close}
-use Rattle.tcp_state.specs.Arrival.{is_receiving, beyond_fin, fin_acknowledged, after_new_ack, after_ack, after_window, after_text, after_fin, after_heard, acknowledges_unsent, is_rejected, is_acceptable_to, answers_probe, timed_by, before, since_after, is_moved, pace_heard, pace_after, congestion_after}
-use Rattle.tcp_state.specs.Due.{first_due, probe_stretch, end_of, after_ack_paid, after_resent, after_first_sent, after_numbers, after_new_octets, brings_new_octets, after_stretch, after_probe, after_syn_out, after_going_out}
-use Rattle.tcp_state.specs.Unreachable.{is_unreachable}
-use Rattle.tcp_state.specs.Edges.{Event, Hears, Ticks, Emits, Sends, Receives, Shuts, Closes, Aborts, Unreachable, moment_of, after_first, after_event}
+use Rattle.tcp_halves.specs.Stream.{outstanding}
+use Rattle.tcp_state.specs.Pace.{Pace, stopped, pace_acknowledged}
+use Rattle.tcp_state.specs.View.{View, is_opening, is_syn_sent, is_syn_received, is_closed, is_fin_wait_2}
+use Rattle.tcp_state.specs.Timing.{probes, retransmits, awaits_more, running, clocked, expires, retransmission_expired, probe_expired, after_expiry, delayed_ack_expired, after_timers}
+use Rattle.tcp_state.specs.Calls.{latest, aborted_at}
+use Rattle.tcp_state.specs.Arrival.{after_heard, acknowledges_unsent, is_rejected, is_acceptable_to, answers_probe, timed_by, before, since_after, is_moved, pace_heard, pace_after, congestion_after}
+use Rattle.tcp_state.specs.Due.{first_due, after_going_out}
+use Rattle.tcp_state.specs.Edges.{Event, Hears, Ticks, Emits, Sends, Receives, Shuts, Closes, Unreachable, moment_of, after_first, after_event}
 use Rattle.tcp_halves.proofs.Choices.{either, clash, and_left, and_right, both, or_left, or_right, not_true, of_false}
-use Rattle.tcp_state.proofs.Segments.{by_fin, by_ack, by_hearing, by_clock}
+use Rattle.tcp_state.proofs.Segments.{by_clock}
 use Rattle.tcp_state.proofs.Events.{holding, shut, by_event}
-use Rattle.tcp_state.proofs.Clocked.{syn_out, heard_paced, after_paced}
+use Rattle.tcp_state.proofs.Clocked.{heard_paced, after_paced}
 use Rattle.tcp_state.proofs.Paces.{segment_hears, goes_out}
 
 -- a timer began at the moment of the event, for the timeout

@@ -22,7 +22,7 @@ use Rattle.tcp_halves.specs.Windows.{updates_window}
 use Rattle.tcp_state.specs.View.{View, IsSound, is_opening, is_syn_sent, is_syn_received, is_closed, is_write_closed, is_at_end, after_stop, after_reset, opened_actively}
 use Rattle.tcp_state.specs.Congestion.{Signal, after_signal, KeepsCongestion}
 use Rattle.tcp_state.specs.Congestion.Signal.{Begins, Counts, Nothing}
-use Rattle.tcp_state.specs.Timing.{clocked, gives_up, retransmission_expired, probe_expired, after_expiry, delayed_ack_expired, override_expired, after_timers, after_tick}
+use Rattle.tcp_state.specs.Timing.{clocked, gives_up, retransmission_expired, probe_expired, after_expiry, after_timers, after_tick}
 use Rattle.tcp_state.specs.Calls.{send_count, beyond_shutdown, shutdown_refusal, after_shutdown, aborted_at, after_release, is_removed_by_close, is_aborted_by_close}
 use Rattle.tcp_state.specs.Arrival.{opened_passively, is_receiving, beyond_fin, after_ack, after_window, after_text, after_fin, after_heard, is_rejected, before, is_moved, pace_heard, pace_after, congestion_event_of, congestion_after, timed_by, after_segment_at}
 use Rattle.tcp_state.specs.Due.{after_ack_paid, after_syn_out, after_going_out, first_due}

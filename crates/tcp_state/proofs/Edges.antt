@@ -1,22 +1,15 @@
 -- Why one event keeps to the table of edges.
-use Rattle.std.proofs.Common.{◌≡◌, ℕ, ◌==◌, ◌||◌, ◌&&◌, not, Bool, true, false, length, take, Option, Some, inl, inr, refl, sym, ap, subst, is_some}
+use Rattle.std.proofs.Common.{◌≡◌, ℕ, ◌==◌, ◌||◌, ◌&&◌, not, true, length, Option, inl, inr, refl, sym, ap, subst}
 use Rattle.tcp_segment.specs.Segment.{Segment}
 use Rattle.clock.specs.declared.moment.Moment.{Moment}
-use Rattle.clock.specs.Moments.{has_come}
-use Rattle.retransmit.specs.Deadlines.{next_of}
-use Rattle.tcp_state.specs.declared.calls.Refusal.TheVariants.{ECONNREFUSED, ETIMEDOUT}
 use Rattle.tcp_state.specs.declared.emission.Due.{Due}
 use Rattle.tcp_state.specs.declared.state.State.{State}
 use Rattle.tcp_state.specs.declared.state.State.TheVariants.{Closed, Listen, SynSent, SynReceived, Established, FinWait1, FinWait2, CloseWait, Closing, LastAck}
-use Rattle.tcp_halves.specs.Numbers.{is_before}
-use Rattle.tcp_halves.specs.Stream.{is_new_ack, is_in_window, after_end}
-use Rattle.tcp_state.specs.View.{View, is_opening, is_syn_sent, is_syn_received, is_closed, awaits_fin_ack, is_write_closed, is_at_end, after_stop, after_reset}
-use Rattle.tcp_state.specs.Timing.{gives_up, after_timers, clocked}
-use Rattle.tcp_state.specs.Calls.{send_count, with_octets, beyond_shutdown, shutdown_refusal, after_shutdown, aborted_at, after_release, is_removed_by_close, is_aborted_by_close}
-use Rattle.tcp_state.specs.Arrival.{owing_ack, after_establishment, is_receiving, beyond_fin, beyond_end, is_of_fin, fin_acknowledged, after_new_ack, after_ack, is_read_on, after_window, after_text, counts_fin, after_fin, after_acknowledging_segment, after_acceptable_segment, ends_by_syn, ends_by_reset, is_acting_reset, is_acceptable_to, reset_error, after_rst_in_syn_sent, after_rst, is_right_syn_ack, after_syn_ack, is_simultaneous_syn, after_simultaneous_syn, after_segment, is_lost, after_lost, is_rejected, before, timed_by, after_heard}
+use Rattle.tcp_state.specs.View.{View, is_syn_sent, is_syn_received, awaits_fin_ack}
+use Rattle.tcp_state.specs.Calls.{beyond_shutdown}
+use Rattle.tcp_state.specs.Arrival.{owing_ack, is_receiving, beyond_fin, beyond_end, after_new_ack, after_ack, after_window, after_text, after_fin, after_heard}
 use Rattle.tcp_state.specs.Due.{first_due}
-use Rattle.tcp_state.specs.Unreachable.{is_unreachable}
-use Rattle.tcp_state.specs.Edges.{IsEdge, Event, Hears, Ticks, Emits, Sends, Receives, Shuts, Closes, Aborts, Unreachable, after_first, after_event, fate_by, is_removed, left_by, state_after}
+use Rattle.tcp_state.specs.Edges.{IsEdge, Event, after_first, after_event, fate_by, is_removed, left_by, state_after}
 use Rattle.tcp_state.proofs.Clocked.{timers_keep, emission_keeps}
 pub use Rattle.tcp_halves.proofs.Choices.{and_left, and_right}
 use Rattle.tcp_halves.proofs.Choices.{either}

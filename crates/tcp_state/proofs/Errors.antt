@@ -1,24 +1,20 @@
 -- Why an error is told only by a reset, by an error about our SYN, or at the last expiry, and stays told.
-use Rattle.std.proofs.Common.{◌≡◌, ℕ, ◌==◌, ◌||◌, ◌&&◌, ◌⊎◌, not, nat_lt, nat_le, Bool, true, false, List, length, take, Option, Some, None, inl, inr, refl, sym, ◌∙◌, ap, is_some}
+use Rattle.std.proofs.Common.{◌≡◌, ℕ, ◌==◌, ◌||◌, ◌&&◌, ◌⊎◌, not, nat_lt, nat_le, true, false, length, Option, Some, None, inl, inr, refl, sym, ◌∙◌, ap, is_some}
 use Rattle.tcp_segment.specs.Segment.{Segment}
 use Rattle.clock.specs.declared.moment.Moment.{Moment}
 use Rattle.clock.specs.Moments.{has_come}
-use Rattle.retransmit.specs.Deadlines.{next_of}
 use Rattle.tcp_state.specs.declared.calls.Refusal.{Refusal}
 use Rattle.tcp_state.specs.declared.calls.Refusal.TheVariants.{ECONNREFUSED, ECONNRESET, ETIMEDOUT}
-use Rattle.tcp_state.specs.declared.emission.Due.{Due}
 use Rattle.tcp_state.specs.declared.state.State.{State}
 use Rattle.tcp_state.specs.declared.state.State.TheVariants.{SynSent, SynReceived, Established, FinWait1, FinWait2, CloseWait}
 use Rattle.tcp_state.specs.declared.pace.TheConstants.{MOST_EXPIRIES}
-use Rattle.tcp_halves.specs.Numbers.{is_before}
-use Rattle.tcp_halves.specs.Stream.{outstanding, is_new_ack, is_in_window}
-use Rattle.tcp_state.specs.View.{View, IsSound, is_opening, is_syn_sent, is_syn_received, is_closed, awaits_fin_ack, is_write_closed, is_at_end, after_stop, after_reset}
-use Rattle.tcp_state.specs.Timing.{KeepsTime, probes, retransmits, gives_up, after_timers, clocked}
-use Rattle.tcp_state.specs.Calls.{send_count, with_octets, shutdown_refusal, after_shutdown, aborted_at, after_release, is_removed_by_close, is_aborted_by_close}
-use Rattle.tcp_state.specs.Arrival.{owing_ack, after_establishment, is_receiving, is_of_fin, fin_acknowledged, after_new_ack, after_ack, is_read_on, after_window, after_text, after_fin, after_acknowledging_segment, after_acceptable_segment, ends_by_syn, ends_by_reset, is_acting_reset, is_acceptable_to, reset_error, after_rst_in_syn_sent, after_rst, is_right_syn_ack, after_syn_ack, is_simultaneous_syn, after_simultaneous_syn, after_segment, is_lost, after_lost, after_heard, is_rejected, before, timed_by}
+use Rattle.tcp_halves.specs.Stream.{outstanding}
+use Rattle.tcp_state.specs.View.{View, IsSound, is_opening, is_syn_sent, is_closed, awaits_fin_ack, is_at_end}
+use Rattle.tcp_state.specs.Timing.{KeepsTime, probes, retransmits, gives_up}
+use Rattle.tcp_state.specs.Arrival.{is_receiving, after_ack, after_window, after_text, ends_by_reset, reset_error, after_heard}
 use Rattle.tcp_state.specs.Due.{first_due}
 use Rattle.tcp_state.specs.Unreachable.{is_unreachable}
-use Rattle.tcp_state.specs.Edges.{Event, Hears, Ticks, Emits, Sends, Receives, Shuts, Closes, Aborts, Unreachable, after_first, after_event, is_reset_by, is_error_of, is_timeout, may_raise}
+use Rattle.tcp_state.specs.Edges.{Event, Hears, after_event, is_reset_by, is_error_of, is_timeout, may_raise}
 use Rattle.tcp_state.proofs.Clocked.{timers_keep, emission_keeps}
 use Rattle.tcp_halves.proofs.Choices.{either, by, clash, and_left, and_false, both, of_false, and_not}
 use Rattle.tcp_state.proofs.Segments.{by_fin, by_ack, by_hearing}

@@ -10,7 +10,7 @@ use Rattle.tcp_state.specs.declared.pace.TheConstants.{MOST_EXPIRIES}
 use Rattle.tcp_state.specs.declared.emission.Due.TheVariants.{Rst, Syn, Text}
 use Rattle.tcp_halves.specs.Stream.{outstanding}
 use Rattle.tcp_state.specs.View.{View, IsSound, is_opening, is_closed, is_at_end, after_stop, after_reset}
-use Rattle.tcp_state.specs.Timing.{KeepsTime, probes, retransmits, running, clocked, expires, gives_up, retransmission_expired, probe_expired, after_expiry, delayed_ack_expired, after_timers, after_tick}
+use Rattle.tcp_state.specs.Timing.{KeepsTime, probes, retransmits, running, clocked, expires, gives_up, retransmission_expired, probe_expired, after_timers, after_tick}
 use Rattle.tcp_state.specs.Due.{ack_due, again, again_from, new_due, first_due}
 use Rattle.tcp_halves.proofs.Choices.{either, by, clash, and_left, and_right, both, or_left, or_right, or_else, not_true, unowed}
 use Rattle.tcp_state.proofs.Clocked.{by_others, timers_keep}

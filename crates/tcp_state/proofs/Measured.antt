@@ -1,26 +1,22 @@
 -- Why each round trip is measured once, and none of what goes out again.
-use Rattle.std.proofs.Common.{◌≡◌, ℕ, ◌-◌, ◌&&◌, ◌⊎◌, ◌≢◌, ◌==◌, ◌||◌, nat_lt, length, take, if◌then◌else◌, Bool, true, false, Option, Some, None, is_some, inl, inr, refl, sym, ◌∙◌, ap}
+use Rattle.std.proofs.Common.{◌≡◌, ℕ, ◌-◌, ◌&&◌, ◌⊎◌, ◌≢◌, nat_lt, if◌then◌else◌, Bool, true, false, Option, Some, None, is_some, inl, inr, refl, sym, ◌∙◌, ap}
 use Rattle.tcp_segment.specs.Segment.{Segment}
 use Rattle.clock.specs.declared.moment.Moment.{Moment}
 use Rattle.clock.specs.Moments.{has_come}
-use Rattle.retransmit.specs.Deadlines.{next_of}
 use Rattle.retransmit.specs.Timeout.{Timeout, after_sample, after_lost_syn}
-use Rattle.tcp_state.specs.declared.calls.Refusal.TheVariants.{ECONNREFUSED, ETIMEDOUT}
 use Rattle.tcp_state.specs.declared.emission.Due.{Due}
 use Rattle.tcp_state.specs.declared.emission.Due.TheVariants.{Rst, Syn, Text, Probe, Ack}
 use Rattle.tcp_state.specs.declared.pace.Timed.{Timed}
 use Rattle.tcp_halves.specs.Stream.{outstanding, after_sent}
 use Rattle.tcp_state.specs.Pace.{Pace, timing_of, pace_probed, is_timed_by, timeout_sampled, timed_left, pace_acknowledged}
-use Rattle.tcp_state.specs.View.{View, is_opening, is_syn_received, is_closed, is_write_closed, is_at_end, after_stop, after_reset}
-use Rattle.tcp_state.specs.Timing.{clocked, gives_up, retransmission_expired, probe_expired, after_expiry, delayed_ack_expired, after_timers}
-use Rattle.tcp_state.specs.Calls.{send_count, shutdown_refusal, after_shutdown, aborted_at, after_release, is_removed_by_close, is_aborted_by_close}
+use Rattle.tcp_state.specs.View.{View, is_opening, is_syn_received}
+use Rattle.tcp_state.specs.Timing.{clocked, retransmission_expired, probe_expired, after_timers}
+use Rattle.tcp_state.specs.Calls.{aborted_at}
 use Rattle.tcp_state.specs.Arrival.{after_heard, before, pace_heard, pace_after, timed_by}
 use Rattle.tcp_state.specs.Due.{MayGoOut, sends_again, after_emitted, probe_stretch, end_of, after_ack_paid, after_resent, after_first_sent, after_numbers, after_new_octets, brings_new_octets, after_syn_out, after_going_out, first_due}
-use Rattle.tcp_state.specs.Unreachable.{is_unreachable}
-use Rattle.tcp_state.specs.Edges.{Event, Hears, Ticks, Emits, Sends, Receives, Shuts, Closes, Aborts, Unreachable, moment_of, after_first, after_event}
+use Rattle.tcp_state.specs.Edges.{Event, moment_of, after_first, after_event}
 use Rattle.tcp_state.proofs.Clocked.{by_others, syn_out, heard_paced, after_paced}
 use Rattle.tcp_halves.proofs.Choices.{either, clash}
-use Rattle.tcp_state.proofs.Segments.{by_clock}
 use Rattle.tcp_state.proofs.Events.{by_event}
 use Rattle.tcp_state.proofs.Paces.{segment_hears, goes_out}
 

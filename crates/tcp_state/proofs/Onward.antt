@@ -1,28 +1,25 @@
 -- Why no number of a connection goes back.
-use Rattle.std.proofs.Common.{◌≡◌, ℕ, ◌+◌, ◌-◌, ◌%◌, ◌^◌, ◌<◌, ◌≤◌, ◌==◌, ◌||◌, ◌&&◌, not, nat_lt, nat_le, if◌then◌else◌, Bool, true, false, List, length, take, Some, arith, refl, sym, ◌∙◌, ap, subst, is_some}
+use Rattle.std.proofs.Common.{◌≡◌, ℕ, ◌+◌, ◌-◌, ◌%◌, ◌^◌, ◌<◌, ◌≤◌, ◌==◌, ◌||◌, ◌&&◌, not, nat_lt, nat_le, if◌then◌else◌, Bool, true, false, List, length, Some, arith, refl, sym, ◌∙◌, ap, subst}
 use Rattle.std.proofs.lemmas.Bool.{ltb-true, leb-true}
 use Rattle.tcp_segment.specs.Wire.{past}
 use Rattle.tcp_segment.specs.Segment.{Segment}
 use Rattle.clock.specs.declared.moment.Moment.{Moment}
-use Rattle.clock.specs.Moments.{has_come}
-use Rattle.retransmit.specs.Deadlines.{next_of}
 use Rattle.tcp_state.specs.declared.emission.Due.TheVariants.{Syn, Text}
 use Rattle.tcp_state.specs.declared.emission.Stretch.{Stretch}
 use Rattle.tcp_state.specs.declared.calls.Refusal.TheVariants.{ECONNREFUSED, ETIMEDOUT}
 use Rattle.tcp_halves.specs.Halves.{Sending, Receiving}
 use Rattle.tcp_halves.specs.Stream.{outstanding, is_new_ack, receive_window, octets_gained, after_octets, stands_next, after_end, after_sent}
 use Rattle.tcp_halves.specs.Windows.{updates_window, after_window_update, after_advertisement, has_grown, receive_room}
-use Rattle.tcp_state.specs.View.{View, IsSound, is_opening, is_syn_sent, is_syn_received, is_closed, is_write_closed, is_write_finished, takes_flag_number, is_at_end, after_stop, after_reset}
-use Rattle.tcp_state.specs.Timing.{clocked, gives_up, after_timers}
-use Rattle.tcp_state.specs.Calls.{send_count, shutdown_refusal, after_shutdown, aborted_at, after_release, is_removed_by_close, is_aborted_by_close}
+use Rattle.tcp_state.specs.View.{View, IsSound, is_opening, is_syn_sent, is_syn_received, is_write_finished, takes_flag_number, after_stop, after_reset}
+use Rattle.tcp_state.specs.Timing.{clocked, after_timers}
+use Rattle.tcp_state.specs.Calls.{after_shutdown, aborted_at, after_release}
 use Rattle.tcp_state.specs.Arrival.{reset_error, is_receiving, after_ack, after_window, after_text, after_fin, after_lost, after_heard}
 use Rattle.tcp_state.specs.Due.{first_due, again, fin_alone, new_octets, probe_stretch, end_of, after_ack_paid, after_stretch, after_probe, after_syn_out, after_going_out}
-use Rattle.tcp_state.specs.Unreachable.{is_unreachable}
-use Rattle.tcp_state.specs.Edges.{Event, Hears, Ticks, Emits, Sends, Receives, Shuts, Closes, Aborts, Unreachable, after_first, after_event}
+use Rattle.tcp_state.specs.Edges.{Event, after_first, after_event}
 use Rattle.tcp_state.specs.Positions.{GoesOn, NeverBack, HasNumber}
 use Rattle.tcp_state.proofs.Clocked.{timers_keep, syn_out}
 use Rattle.tcp_halves.proofs.Choices.{either, clash, and_right}
-use Rattle.tcp_state.proofs.Segments.{after_reading, by_fin, by_ack, ack_receives, reading_sends, by_hearing, by_clock}
+use Rattle.tcp_state.proofs.Segments.{after_reading, by_fin, by_ack, ack_receives, reading_sends, by_hearing}
 use Rattle.tcp_state.proofs.Events.{by_event}
 use Rattle.tcp_halves.proofs.Keeping.{IsKeeping, gained_fits}
 use Rattle.tcp_state.proofs.Sound.{sound_keeping}

@@ -10,7 +10,7 @@ use Rattle.tcp_state.specs.declared.emission.Stretch.{Stretch}
 use Rattle.tcp_halves.specs.Stream.{outstanding, after_sent}
 use Rattle.tcp_state.specs.Pace.{Pace, stopped, timing_of, pace_probed}
 use Rattle.tcp_state.specs.View.{View, is_closed, is_syn_received}
-use Rattle.tcp_state.specs.Arrival.{is_receiving, beyond_fin, fin_acknowledged, after_new_ack, after_ack, after_window, after_text, after_fin, after_heard}
+use Rattle.tcp_state.specs.Arrival.{is_receiving, beyond_fin, fin_acknowledged, after_new_ack, after_ack, after_window, after_text, after_heard}
 use Rattle.tcp_state.specs.Due.{probe_stretch, end_of, after_ack_paid, after_resent, after_first_sent, after_numbers, after_new_octets, brings_new_octets, after_stretch, after_probe, after_syn_out, after_going_out}
 use Rattle.tcp_state.proofs.Clocked.{syn_out}
 use Rattle.tcp_halves.proofs.Choices.{either, clash, and_left, and_right}

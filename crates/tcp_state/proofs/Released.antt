@@ -10,9 +10,9 @@ use Rattle.tcp_state.specs.declared.state.State.{State}
 use Rattle.tcp_state.specs.declared.state.State.TheVariants.{FinWait1, Closing, LastAck, SynReceived}
 use Rattle.tcp_halves.specs.Numbers.{is_before}
 use Rattle.tcp_halves.specs.Halves.{Receiving}
-use Rattle.tcp_halves.specs.Stream.{is_new_ack, octets_within, after_octets, receive_window, is_in_window}
-use Rattle.tcp_state.specs.View.{View, IsSound, is_syn_sent, is_syn_received, is_closed, is_write_closed, after_reset}
-use Rattle.tcp_state.specs.Arrival.{owing_ack, after_establishment, is_receiving, beyond_fin, is_of_fin, fin_acknowledged, after_new_ack, after_ack, is_read_on, is_read, brings_more, after_window, after_text, after_fin, after_acknowledging_segment, after_acceptable_segment, ends_by_syn, ends_by_reset, is_acting_reset, is_acceptable_to, reset_error, after_rst_in_syn_sent, after_rst, is_right_syn_ack, after_syn_ack, is_simultaneous_syn, after_simultaneous_syn, after_segment, is_lost, after_lost, is_rejected, before, timed_by, after_heard, after_segment_at}
+use Rattle.tcp_halves.specs.Stream.{octets_within, after_octets, receive_window}
+use Rattle.tcp_state.specs.View.{View, IsSound, is_syn_received, is_write_closed}
+use Rattle.tcp_state.specs.Arrival.{is_receiving, beyond_fin, after_ack, is_read, brings_more, after_window, after_text, after_fin, after_segment, is_lost, after_lost, after_heard, after_segment_at}
 use Rattle.tcp_halves.proofs.Choices.{either, clash, both, of_false, and_not}
 use Rattle.tcp_state.proofs.Segments.{after_reading, by_fin, by_ack, ack_receives, by_segment, by_clock}
 use Rattle.tcp_halves.proofs.Keeping.{IsKeeping, none_within}

@@ -1,20 +1,13 @@
 -- The reset of an abort waits from the event by which it is owed.
-use Rattle.std.proofs.Common.{◌≡◌, ℕ, ◌==◌, ◌||◌, ◌&&◌, ◌⊎◌, not, if◌then◌else◌, Bool, true, false, length, take, Option, Some, None, is_some, inl, inr, refl, sym, ◌∙◌, ap, subst}
+use Rattle.std.proofs.Common.{◌≡◌, ◌==◌, ◌||◌, ◌&&◌, ◌⊎◌, not, if◌then◌else◌, true, false, length, Option, Some, None, inl, inr, refl, sym, ◌∙◌, ap, subst}
 use Rattle.tcp_segment.specs.Segment.{Segment}
 use Rattle.clock.specs.declared.moment.Moment.{Moment}
-use Rattle.clock.specs.Moments.{has_come}
-use Rattle.retransmit.specs.Deadlines.{next_of}
 use Rattle.tcp_state.specs.declared.emission.Due.{Due}
-use Rattle.tcp_halves.specs.Numbers.{is_before}
-use Rattle.tcp_halves.specs.Stream.{is_new_ack, is_in_window}
-use Rattle.tcp_state.specs.View.{View, IsSound, is_opening, is_syn_sent, is_syn_received, is_closed, is_write_closed, is_at_end, after_stop, after_reset, reset_since}
-use Rattle.tcp_state.specs.Timing.{gives_up, after_timers, clocked}
-use Rattle.tcp_state.specs.declared.calls.Refusal.TheVariants.{ECONNREFUSED, ETIMEDOUT}
-use Rattle.tcp_state.specs.Arrival.{owing_ack, is_of_fin, reset_error, after_rst_in_syn_sent, after_rst, is_acting_reset, ends_by_reset, ends_by_syn, is_right_syn_ack, after_syn_ack, is_simultaneous_syn, after_simultaneous_syn, is_acceptable_to, after_acceptable_segment, after_acknowledging_segment, after_establishment, fin_acknowledged, after_new_ack, after_ack, after_window, is_read_on, is_receiving, after_text, after_fin, after_segment, is_lost, after_lost, after_heard, is_rejected, begins_wait, repeats_fin, before, timed_by}
-use Rattle.tcp_state.specs.Calls.{send_count, with_octets, aborted_at, after_release, is_removed_by_close, is_aborted_by_close, shutdown_refusal, after_shutdown}
+use Rattle.tcp_state.specs.View.{View, IsSound, is_closed, reset_since}
+use Rattle.tcp_state.specs.Arrival.{after_ack, after_window, is_receiving, after_text, after_segment, is_lost, after_lost, after_heard, begins_wait, repeats_fin, before, timed_by}
+use Rattle.tcp_state.specs.Calls.{after_release}
 use Rattle.tcp_state.specs.Due.{first_due, after_emitted}
-use Rattle.tcp_state.specs.Unreachable.{is_unreachable}
-use Rattle.tcp_state.specs.Edges.{Event, Hears, Ticks, Emits, Sends, Receives, Shuts, Closes, Aborts, Unreachable, after_first, after_event, moment_of}
+use Rattle.tcp_state.specs.Edges.{Event, Hears, Emits, after_first, after_event, moment_of}
 use Rattle.tcp_state.proofs.Clocked.{timers_keep, emission}
 use Rattle.tcp_halves.proofs.Choices.{either, or_right, of_false, unowed}
 use Rattle.tcp_state.proofs.Segments.{by_fin, by_ack, by_segment}

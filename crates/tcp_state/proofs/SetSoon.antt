@@ -1,28 +1,25 @@
 -- Why no event sets a timer for later than a minute past its moment.
-use Rattle.std.proofs.Common.{◌≡◌, ℕ, ◌+◌, ◌≤◌, ◌==◌, ◌||◌, ◌&&◌, ◌⊎◌, nat_lt, if◌then◌else◌, Bool, true, false, length, take, ◌++◌, Option, Some, None, is_some, inl, inr, arith, refl, sym, ◌∙◌, ap, subst}
+use Rattle.std.proofs.Common.{◌≡◌, ℕ, ◌+◌, ◌≤◌, ◌&&◌, ◌⊎◌, nat_lt, if◌then◌else◌, Bool, true, false, Option, Some, None, inl, inr, arith, refl, sym, ◌∙◌, ap, subst}
 use Rattle.tcp_segment.specs.Segment.{Segment}
 use Rattle.clock.specs.declared.moment.Moment.{Moment}
 use Rattle.clock.specs.Moments.{after, has_come}
 use Rattle.retransmit.specs.declared.timers.Timers.{Timers}
 use Rattle.retransmit.specs.declared.timers.TimerKind.{TimerKind}
 use Rattle.retransmit.specs.declared.timers.TimerKind.TheVariants.{Retransmission, Probe, DelayedAck, Override}
-use Rattle.retransmit.specs.Deadlines.{no_timers, deadline_of, next_of}
+use Rattle.retransmit.specs.Deadlines.{no_timers, deadline_of}
 use Rattle.retransmit.specs.Timeout.{Timeout, after_lost_syn}
-use Rattle.tcp_state.specs.declared.calls.Refusal.TheVariants.{ECONNREFUSED, ETIMEDOUT}
 use Rattle.tcp_state.specs.declared.emission.Due.{Due}
 use Rattle.tcp_state.specs.declared.pace.Timed.{Timed}
 use Rattle.tcp_state.specs.declared.timing.TheConstants.{DELAYED_ACK, OVERRIDE}
 use Rattle.tcp_state.specs.Pace.{Pace, is_timed_by, timeout_sampled, pace_acknowledged}
-use Rattle.tcp_state.specs.View.{View, IsSound, is_opening, is_closed, is_fin_wait_2, is_write_closed, is_at_end, after_stop, after_reset}
-use Rattle.tcp_state.specs.Timing.{probes, retransmits, awaits_second, awaits_more, running, clocked, gives_up, retransmission_expired, probe_expired, after_expiry, delayed_ack_expired, after_timers}
-use Rattle.tcp_state.specs.Calls.{send_count, beyond_shutdown, latest, shutdown_refusal, after_shutdown, aborted_at, after_release, is_removed_by_close, is_aborted_by_close}
+use Rattle.tcp_state.specs.View.{View, IsSound, is_opening, is_fin_wait_2}
+use Rattle.tcp_state.specs.Timing.{probes, retransmits, awaits_second, awaits_more, running, clocked, retransmission_expired, probe_expired, after_expiry, after_timers}
+use Rattle.tcp_state.specs.Calls.{latest}
 use Rattle.tcp_state.specs.Arrival.{after_heard, before, is_moved, since_after, pace_after, congestion_after, timed_by}
 use Rattle.tcp_state.specs.Due.{first_due, after_going_out}
-use Rattle.tcp_state.specs.Unreachable.{is_unreachable}
-use Rattle.tcp_state.specs.Edges.{Event, Hears, Ticks, Emits, Sends, Receives, Shuts, Closes, Aborts, Unreachable, moment_of, after_first, after_event}
+use Rattle.tcp_state.specs.Edges.{Event, moment_of, after_first, after_event}
 use Rattle.tcp_state.proofs.Clocked.{by_others, heard_paced, after_paced}
 use Rattle.tcp_halves.proofs.Choices.{either}
-use Rattle.tcp_state.proofs.Segments.{by_clock}
 use Rattle.tcp_state.proofs.Events.{holding, shut, by_event}
 use Rattle.tcp_state.proofs.Paces.{segment_hears, goes_out}
 

@@ -1,20 +1,15 @@
 -- Why a connection that becomes CLOSED in silence had seen the peer's end.
-use Rattle.std.proofs.Common.{◌≡◌, ℕ, ◌==◌, ◌||◌, ◌&&◌, Bool, true, false, length, take, Some, None, refl, sym, ◌∙◌, ap, is_some}
+use Rattle.std.proofs.Common.{◌≡◌, ℕ, ◌&&◌, Bool, true, false, None, refl, sym, ◌∙◌, ap}
 use Rattle.tcp_segment.specs.Segment.{Segment}
 use Rattle.clock.specs.declared.moment.Moment.{Moment}
 use Rattle.clock.specs.Moments.{has_come}
-use Rattle.retransmit.specs.Deadlines.{next_of}
-use Rattle.tcp_state.specs.declared.calls.Refusal.TheVariants.{ECONNREFUSED, ETIMEDOUT}
 use Rattle.tcp_state.specs.declared.state.State.{State}
 use Rattle.tcp_state.specs.declared.state.State.TheVariants.{Closed, SynSent, SynReceived, Established, FinWait1, FinWait2, CloseWait, Closing, LastAck, TimeWait, Listen}
-use Rattle.tcp_halves.specs.Stream.{is_new_ack, is_in_window}
-use Rattle.tcp_state.specs.View.{View, IsSound, is_syn_sent, is_opening, is_closed, is_read_closed, is_listening, is_write_closed, end_of_wait, is_at_end, after_stop, after_reset}
-use Rattle.tcp_state.specs.Timing.{gives_up, after_timers, clocked}
-use Rattle.tcp_state.specs.Calls.{send_count, with_octets, after_send, after_recv, beyond_shutdown, shutdown_refusal, after_shutdown, aborted_at, after_release, is_removed_by_close, is_aborted_by_close}
-use Rattle.tcp_state.specs.Arrival.{owing_ack, ends_by_syn, ends_by_reset, is_acting_reset, is_acceptable_to, is_of_fin, reset_error, after_rst_in_syn_sent, after_rst, is_right_syn_ack, after_syn_ack, is_simultaneous_syn, after_simultaneous_syn, after_acknowledging_segment, after_acceptable_segment, after_segment, is_lost, after_lost, after_heard, is_rejected, before, timed_by}
+use Rattle.tcp_halves.specs.Stream.{is_new_ack}
+use Rattle.tcp_state.specs.View.{View, IsSound, is_closed, is_read_closed, is_listening, end_of_wait}
+use Rattle.tcp_state.specs.Arrival.{owing_ack, is_of_fin, reset_error, after_heard}
 use Rattle.tcp_state.specs.Due.{first_due}
-use Rattle.tcp_state.specs.Unreachable.{is_unreachable}
-use Rattle.tcp_state.specs.Edges.{Event, Hears, Ticks, Emits, Sends, Receives, Shuts, Closes, Aborts, Unreachable, after_first, after_event, is_last_ack}
+use Rattle.tcp_state.specs.Edges.{Event, after_event, is_last_ack}
 use Rattle.tcp_state.proofs.Clocked.{timers_keep}
 use Rattle.tcp_halves.proofs.Choices.{and_left}
 use Rattle.tcp_state.proofs.Segments.{by_hearing}

@@ -12,7 +12,7 @@ use Rattle.tcp_halves.specs.Halves.{Sending}
 use Rattle.tcp_halves.specs.Stream.{outstanding, is_new_ack}
 use Rattle.tcp_halves.specs.Windows.{updates_window}
 use Rattle.tcp_state.specs.View.{View, IsSound, is_syn_sent, is_syn_received, is_closed, is_write_closed}
-use Rattle.tcp_state.specs.Arrival.{opened_passively, is_acceptable_to, is_right_syn_ack, after_rst_in_syn_sent, after_rst, is_simultaneous_syn, after_simultaneous_syn, after_syn_ack, after_establishment, after_ack, after_window, after_text, after_fin, is_read_on, after_acknowledging_segment, after_acceptable_segment, owing_ack, after_segment, is_receiving, is_read, brings_more, is_lost, after_lost, after_heard, before, timed_by, after_segment_at, is_rejected}
+use Rattle.tcp_state.specs.Arrival.{opened_passively, is_acceptable_to, is_right_syn_ack, after_rst_in_syn_sent, after_rst, is_simultaneous_syn, after_simultaneous_syn, after_syn_ack, after_establishment, after_ack, after_window, after_text, after_fin, is_read_on, after_acceptable_segment, owing_ack, after_segment, is_receiving, is_read, brings_more, is_lost, after_lost, after_heard, before, timed_by, after_segment_at, is_rejected}
 use Rattle.tcp_state.specs.Due.{first_due}
 use Rattle.tcp_state.specs.Edges.{after_first}
 use Rattle.tcp_state.specs.Simultaneous.{AnswersSyn}

@@ -1,26 +1,20 @@
 -- Why the window is told in steps of a segment at least, and such a step with what goes out next.
-use Rattle.std.proofs.Common.{◌≡◌, ℕ, ◌+◌, ◌-◌, ◌%◌, ◌^◌, ◌<◌, ◌≤◌, ◌==◌, ◌&&◌, ◌||◌, ◌⊎◌, not, if◌then◌else◌, true, false, length, take, Option, Some, None, is_some, inl, inr, arith, refl, ◌∙◌, ap}
+use Rattle.std.proofs.Common.{◌≡◌, ℕ, ◌+◌, ◌-◌, ◌%◌, ◌^◌, ◌<◌, ◌≤◌, ◌==◌, ◌&&◌, ◌||◌, ◌⊎◌, not, if◌then◌else◌, true, false, length, Option, Some, None, inl, inr, arith, refl, ◌∙◌, ap}
 use Rattle.std.proofs.lemmas.Bool.{leb-true, le-leb}
 use Rattle.tcp_segment.specs.Segment.{Segment}
 use Rattle.tcp_segment.specs.Wire.{past}
 use Rattle.clock.specs.declared.moment.Moment.{Moment}
-use Rattle.clock.specs.Moments.{has_come}
-use Rattle.retransmit.specs.Deadlines.{next_of}
-use Rattle.tcp_state.specs.declared.calls.Refusal.TheVariants.{ECONNREFUSED, ETIMEDOUT}
 use Rattle.tcp_state.specs.declared.emission.Due.{Due}
 use Rattle.tcp_state.specs.declared.emission.Due.TheVariants.{Rst, Syn, Text, Probe, Ack}
 use Rattle.tcp_state.specs.declared.emission.Stretch.{Stretch}
 use Rattle.tcp_halves.specs.Halves.{Receiving}
 use Rattle.tcp_halves.specs.Windows.{receive_room, has_grown, after_advertisement}
-use Rattle.tcp_state.specs.View.{View, IsSound, is_opening, is_syn_sent, is_syn_received, is_closed, is_write_closed, is_at_end, after_stop, after_reset}
-use Rattle.tcp_state.specs.Timing.{gives_up, clocked, after_timers}
-use Rattle.tcp_state.specs.Calls.{send_count, shutdown_refusal, after_shutdown, aborted_at, after_release, is_removed_by_close, is_aborted_by_close}
+use Rattle.tcp_state.specs.View.{View, IsSound, is_opening, is_syn_sent, is_syn_received, is_closed}
 use Rattle.tcp_state.specs.Arrival.{is_receiving, after_ack, after_window, after_text, after_heard}
 use Rattle.tcp_state.specs.Due.{first_due, again, new_octets, fin_alone, after_ack_paid, after_syn_out, after_stretch, after_probe, after_emitted}
-use Rattle.tcp_state.specs.Unreachable.{is_unreachable}
-use Rattle.tcp_state.specs.Edges.{Event, Hears, Ticks, Emits, Sends, Receives, Shuts, Closes, Aborts, Unreachable, after_first, after_event}
+use Rattle.tcp_state.specs.Edges.{Event, Emits, after_first, after_event}
 use Rattle.tcp_halves.proofs.Choices.{either, clash, both, or_right, neither, of_false}
-use Rattle.tcp_state.proofs.Segments.{by_fin, ack_receives, by_hearing, by_clock}
+use Rattle.tcp_state.proofs.Segments.{by_fin, ack_receives, by_hearing}
 use Rattle.tcp_state.proofs.Events.{by_event}
 use Rattle.tcp_state.proofs.Clocked.{timers_keep, syn_out}
 use Rattle.tcp_state.proofs.Waiting.{owed_where_closed}
