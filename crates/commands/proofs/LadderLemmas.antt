@@ -5,7 +5,7 @@ use Rattle.std.proofs.Math.ListN.{set, length-set}
 use Rattle.std.proofs.lemmas.List.{map-append, take_more, take_more_set, drop_more, take-append-drop, length-take-le}
 use Rattle.std.proofs.lemmas.Grind.{flat_map-append}
 use Rattle.tcp_segment.specs.declared.seq.Seq.{Seq}
-use Rattle.wire_sim.specs.declared.event.Side.{Side}
+use Rattle.sides.specs.declared.side.Side.{Side}
 use Rattle.wire_sim.specs.declared.event.Event.{Event}
 use Rattle.wire_sim.specs.declared.event.Event.TheVariants as event
 use Rattle.wire_sim.specs.declared.event.Answer.{Answer}
@@ -23,7 +23,7 @@ use Rattle.ladder.specs.Passages.{passage_of}
 use Rattle.std.proofs.Common.{codes, IfOk, OnOk, IfErr, IfSome, true, false, string_bytes, slice_get}
 use Rattle.std.specs.Io.KnownBytes.{Appends}
 use Rattle.std.proofs.lemmas.Result.{IfOk-weaker}
-use Rattle.wire_sim.specs.declared.event.Side.TheVariants.{A, B}
+use Rattle.sides.specs.declared.side.Side.TheVariants.{A, B}
 use Rattle.wire_sim.specs.Runs.{RunsTo}
 use Rattle.wire_sim.proofs.RunGiven.{runs-added}
 use Rattle.script.specs.declared.action.Action.{Action}

@@ -10,7 +10,7 @@ use Rattle.std.proofs.lemmas.List.{map-append, take-append-drop, take_all, drop_
 use Rattle.std.proofs.lemmas.Grind.{flat_map-append}
 use Rattle.capture.specs.declared.format.Order.TheVariants.{Little}
 use Rattle.capture.specs.Capture.{Frame as Captured, Entry, capture_of, entry_octets, entry_of, our_header_octets}
-use Rattle.wire_sim.specs.declared.event.Side.{Side}
+use Rattle.sides.specs.declared.side.Side.{Side}
 use Rattle.wire_sim.specs.declared.event.Event.{Event}
 use Rattle.wire_sim.specs.declared.event.Event.TheVariants as event
 use Rattle.wire_sim.specs.declared.event.Answer.{Answer}

@@ -3,13 +3,13 @@ use Rattle.std.specs.Prelude.{◌≡◌, ◌⊎◌, ℕ, List, [], ◌∷◌, �
 use Rattle.std.specs.List.{flat_map}
 use Rattle.std.specs.Io.KnownBytes.{Appends}
 use Rattle.tcp_segment.specs.declared.seq.Seq.{Seq}
-use Rattle.wire_sim.specs.declared.event.Side.{Side}
-use Rattle.wire_sim.specs.declared.event.Side.TheVariants.{A, B}
+use Rattle.sides.specs.declared.side.Side.{Side}
+use Rattle.sides.specs.declared.side.Side.TheVariants.{A, B}
 use Rattle.wire_sim.specs.declared.event.Event.{Event}
 use Rattle.wire_sim.specs.declared.event.Event.TheVariants as event
 use Rattle.wire_sim.specs.declared.event.Answer.{Answer}
 use Rattle.wire_sim.specs.declared.event.Unfair.{Unfair}
-use Rattle.wire_sim.specs.Sides.{other_side}
+use Rattle.sides.specs.Sides.{other_side}
 use Rattle.wire_sim.specs.Runs.{IsOutcome}
 use Rattle.wire_sim.specs.WorldView.{WorldView}
 use Rattle.script.specs.declared.lines.Command.{Command}
@@ -17,7 +17,7 @@ use Rattle.script.specs.declared.lines.Command.TheVariants.{At, Pass}
 use Rattle.script.specs.declared.lines.Item.TheVariants.{Limit, Do}
 use Rattle.script.specs.Words.{lines_of}
 use Rattle.script.specs.Script.{item_of, command_in, limit_of, limit_said}
-use Rattle.script.specs.Hosts.{address_of, mac_of}
+use Rattle.wire_sim.specs.Hosts.{address_of, mac_of}
 use Rattle.script.specs.Events.{IsEventOf}
 use Rattle.script.specs.Text.{style_of}
 use Rattle.ladder.specs.declared.passage.Passage.{Passage}

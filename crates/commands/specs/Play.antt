@@ -3,15 +3,15 @@ use Rattle.std.specs.Prelude.{◌≡◌, ◌⊎◌, ◌<◌, ◌+◌, ◌^◌, �
 use Rattle.std.specs.Fmt.{decimal}
 use Rattle.std.specs.Io.KnownBytes.{Appends}
 use Rattle.tcp_segment.specs.declared.seq.Seq.{Seq}
-use Rattle.wire_sim.specs.declared.event.Side.{Side}
-use Rattle.wire_sim.specs.declared.event.Side.TheVariants.{A, B}
+use Rattle.sides.specs.declared.side.Side.{Side}
+use Rattle.sides.specs.declared.side.Side.TheVariants.{A, B}
 use Rattle.wire_sim.specs.declared.event.Event.{Event}
 use Rattle.wire_sim.specs.declared.event.Event.TheVariants as event
 use Rattle.wire_sim.specs.declared.event.Answer.{Answer}
 use Rattle.wire_sim.specs.declared.event.Answer.TheVariants.{Frame, NoFrame}
 use Rattle.wire_sim.specs.declared.event.Unfair.{Unfair}
 use Rattle.wire_sim.specs.Names.{unfair_text}
-use Rattle.wire_sim.specs.Sides.{other_side}
+use Rattle.sides.specs.Sides.{other_side}
 use Rattle.wire_sim.specs.Runs.{IsOutcome, RunsTo}
 use Rattle.wire_sim.specs.WorldView.{WorldView, fresh_world}
 use Rattle.script.specs.declared.answer.Style.{Style}
@@ -26,7 +26,7 @@ use Rattle.devices.specs.Streams.{TakesFront}
 use Rattle.commands.specs.Moved.{TakesAllBut}
 use Rattle.commands.specs.Recording.{TakesCapture}
 use Rattle.host.specs.ConfigView.{ConfigView}
-use Rattle.script.specs.Hosts.{IsSetUp}
+use Rattle.wire_sim.specs.Hosts.{IsSetUp}
 use Rattle.script.specs.Events.{IsEventOf}
 use Rattle.script.specs.Text.{style_of, shown_of}
 

@@ -22,10 +22,10 @@ use crate::recording::record;
 use crate::sim::{Ends, MOST_FRAMES, emit, new_world, style, text_of, text_of_pass};
 use devices::{Sink, Source};
 use ladder::{Errand, Happened, Line, Node, Nodes, Numbering, Passage, Run, Text};
-use script::{Action, Command, Item, Script, address, event, mac, split_lines};
+use script::{Action, Command, Item, Script, event, split_lines};
 use std::alloc::{AllocError, Global};
 use tcp_segment::Seq;
-use wire_sim::{Event, Side, World};
+use wire_sim::{Event, Side, World, address, mac};
 
 /// Reads the whole script, then runs it, and then prints the ladder of the run. `Line` or `TooLong` where the script is bad, and then nothing is
 /// run; `Read` or `Write` where a device fails; `NoMemory` for want of memory, and then nothing is printed.

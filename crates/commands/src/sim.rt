@@ -12,10 +12,10 @@ use crate::input::whole_script;
 use crate::output::{add_line, finish, is_write_fault};
 use crate::recording::record;
 use devices::{Sink, Source};
-use script::{Action, Command, Script, Style, config, event, show, show_unfair};
+use script::{Action, Command, Script, Style, event, show, show_unfair};
 use std::alloc::{AllocError, Global};
 use tcp_segment::Seq;
-use wire_sim::{Answer, Event, Side, Unfair, World};
+use wire_sim::{Answer, Event, Side, Unfair, World, config};
 
 /// The most frames of one side that a `pass` moves.
 pub(crate) const MOST_FRAMES: usize = 64;

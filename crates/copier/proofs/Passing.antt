@@ -3,7 +3,7 @@ use Rattle.std.proofs.Common.{◌≡◌, ℕ, Bool, true, false, List, [], ◌�
 use Rattle.std.specs.Option.{IfNone}
 use Rattle.std.specs.Result.{OnErr}
 use Rattle.std.specs.Prelude.{is_some}
-use Rattle.wire_sim.specs.declared.event.Side.{Side}
+use Rattle.sides.specs.declared.side.Side.{Side}
 use Rattle.devices.specs.Passages.{Passage, taken, given, Grows, MayGive, IsFairLink}
 use Rattle.copy_law.specs.CopyView.{CopyView}
 use Rattle.copy_law.specs.Course.{IsCourse}

@@ -4,7 +4,7 @@ use Rattle.tcp_state.specs.declared.calls.Received.{Received}
 use Rattle.tcp_state.specs.declared.calls.Received.TheVariants as received
 use Rattle.sockets.specs.declared.entry.SocketId.{SocketId}
 use Rattle.sockets.specs.SocketsView.{SocketsView}
-use Rattle.wire_sim.specs.declared.event.Side.{Side}
+use Rattle.sides.specs.declared.side.Side.{Side}
 use Rattle.wire_sim.specs.Steps.{readable_on}
 use Rattle.devices.specs.Passages.{Passage, taken, given, MayGive, IsFairLink}
 use Rattle.copy_law.specs.CopyView.{CopyView}

@@ -11,7 +11,7 @@ ghost use Rattle.host.specs.HostView.{HostView, new_host, with_sockets};
 ghost use Rattle.sockets.specs.Calls.{recv_answer, after_recv};
 ghost use Rattle.host.specs.Ticks.{after_tick};
 ghost use Rattle.sockets.specs.Sound.{IsEndpoint};
-ghost use Rattle.script.specs.Hosts.{address_of, IsSetUp};
+ghost use Rattle.wire_sim.specs.Hosts.{address_of, IsSetUp};
 
 use crate::fault::CopyFault;
 use clock::{Moment, sooner};
@@ -19,11 +19,10 @@ use devices::{Link, MOST_FRAME};
 use frames::pair_in;
 use host::{Host, Kind, Refusal, SocketId};
 use ipv4::Endpoint;
-use script::{address, config};
 use std::alloc::Global;
 use tcp_segment::Seq;
 use tcp_state::Received;
-use wire_sim::Side;
+use wire_sim::{Side, address, config};
 
 /// The port of b that a connects to.
 const PORT: u16 = 80;

@@ -14,8 +14,8 @@ use Rattle.host.specs.HostView.{HostView}
 use Rattle.host.specs.Sound.{IsSoundHost}
 use Rattle.host.specs.Arrival.{IsDelivered, foreseen}
 use Rattle.host.specs.Emission.{emission_len, emission_octets, after_emission}
-use Rattle.wire_sim.specs.declared.event.Side.{Side}
-use Rattle.wire_sim.specs.declared.event.Side.TheVariants.{A, B}
+use Rattle.sides.specs.declared.side.Side.{Side}
+use Rattle.sides.specs.declared.side.Side.TheVariants.{A, B}
 use Rattle.wire_sim.specs.declared.event.Event.{Event}
 use Rattle.wire_sim.specs.declared.event.Event.TheVariants as event
 use Rattle.wire_sim.specs.declared.event.Answer.{Answer}
@@ -27,7 +27,7 @@ use Rattle.wire_sim.specs.declared.world.bag.Note.{Note}
 use Rattle.wire_sim.specs.Fairness.{IsFairFrame, IsRecent, IsUnopened}
 use Rattle.wire_sim.specs.Openings.{epoch_of, held_anew, opened_by_frame}
 use Rattle.wire_sim.specs.Runs.{IsReached, written_len, unfair}
-use Rattle.wire_sim.specs.Sides.{same_side, other_side}
+use Rattle.sides.specs.Sides.{same_side, other_side}
 use Rattle.wire_sim.specs.Steps.{note_of, with_opening, after_delivery, MeetsFrame, DeliversFrame}
 use Rattle.wire_sim.specs.Tallies.{same_pair, is_opening_of, written_by}
 use Rattle.wire_sim.specs.Trace.{sent_on, of_opening}

@@ -7,8 +7,8 @@ use Rattle.sockets.specs.declared.entry.SocketId.{SocketId}
 use Rattle.clock.specs.declared.moment.Moment.{Moment}
 use Rattle.host.specs.HostView.{HostView}
 use Rattle.host.specs.Sound.{IsSoundHost}
-use Rattle.wire_sim.specs.declared.event.Side.{Side}
-use Rattle.wire_sim.specs.declared.event.Side.TheVariants.{A, B}
+use Rattle.sides.specs.declared.side.Side.{Side}
+use Rattle.sides.specs.declared.side.Side.TheVariants.{A, B}
 use Rattle.wire_sim.specs.declared.event.Event.{Event}
 use Rattle.wire_sim.specs.declared.event.Answer.{Answer}
 use Rattle.wire_sim.specs.declared.event.Opening.{Opening}

@@ -15,8 +15,8 @@ use Rattle.sockets.specs.Calls.{unless_refused, bind_refusal, after_bind, listen
 use Rattle.host.specs.ConfigView.{ConfigView}
 use Rattle.host.specs.HostView.{HostView, new_host, with_sockets}
 use Rattle.host.specs.Sound.{IsSoundHost}
-use Rattle.wire_sim.specs.declared.event.Side.{Side}
-use Rattle.wire_sim.specs.declared.event.Side.TheVariants.{A, B}
+use Rattle.sides.specs.declared.side.Side.{Side}
+use Rattle.sides.specs.declared.side.Side.TheVariants.{A, B}
 use Rattle.wire_sim.specs.declared.event.Call.{Call}
 use Rattle.wire_sim.specs.declared.event.Call.TheVariants as call
 use Rattle.wire_sim.specs.declared.event.Event.TheVariants as event

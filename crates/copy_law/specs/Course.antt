@@ -19,8 +19,8 @@ use Rattle.host.specs.Sound.{IsSoundHost}
 use Rattle.host.specs.Ticks.{after_tick}
 use Rattle.host.specs.Emission.{emission_len, emission_octets, after_emission}
 use Rattle.host.specs.Arrival.{IsDelivered, foreseen}
-use Rattle.wire_sim.specs.declared.event.Side.{Side}
-use Rattle.wire_sim.specs.declared.event.Side.TheVariants.{A, B}
+use Rattle.sides.specs.declared.side.Side.{Side}
+use Rattle.sides.specs.declared.side.Side.TheVariants.{A, B}
 use Rattle.wire_sim.specs.Steps.{readable_on}
 use Rattle.wire_sim.specs.WorldView.{are_alike}
 use Rattle.devices.specs.Passages.{taken, given, MayGive}

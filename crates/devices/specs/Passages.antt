@@ -1,7 +1,7 @@
 -- What a link says of itself: the frames that it took and gave, in order.
 use Rattle.std.specs.Prelude.{◌≡◌, ℕ, ◌+◌, ◌≤◌, List, [], ◌∷◌, ◌++◌, length, take, slice_get, Option, Some, None, Result, Ok, Err, ⊤}
-use Rattle.wire_sim.specs.declared.event.Side.{Side}
-use Rattle.wire_sim.specs.Sides.{other_side}
+use Rattle.sides.specs.declared.side.Side.{Side}
+use Rattle.sides.specs.Sides.{other_side}
 
 -- a frame passed into the link, from this side, or out of it, to this side
 pub data Passage : Type 0 where

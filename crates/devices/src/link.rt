@@ -9,8 +9,8 @@ ghost use Rattle.clock.specs.declared.moment.Moment.{Moment};
 pub mod memory;
 
 use clock::Moment;
+use sides::Side;
 use thiserror::Error;
-use wire_sim::Side;
 
 /// The most octets of a frame (RFC 894).
 pub const MOST_FRAME: usize = 1_514;

@@ -4,9 +4,9 @@ use Rattle.std.specs.List.{flat_map, list_any, All}
 use Rattle.frames.specs.declared.drop.DropCause.{DropCause}
 use Rattle.frames.specs.declared.meaning.Meaning.{Meaning}
 use Rattle.frames.specs.Meaning.{heard}
-use Rattle.wire_sim.specs.declared.event.Side.{Side}
-use Rattle.wire_sim.specs.declared.event.Side.TheVariants.{A, B}
-use Rattle.wire_sim.specs.Sides.{other_side}
+use Rattle.sides.specs.declared.side.Side.{Side}
+use Rattle.sides.specs.declared.side.Side.TheVariants.{A, B}
+use Rattle.sides.specs.Sides.{other_side}
 use Rattle.wire_sim.specs.declared.world.bag.Frame.{Frame}
 use Rattle.ladder.specs.declared.numbers.Syn.{Syn}
 use Rattle.ladder.specs.declared.numbers.Numbering.{Numbering}

@@ -2,8 +2,8 @@
 use Rattle.std.specs.Prelude.{ℕ, ◌-◌, Bool, if◌then◌else◌, List, [], ◌++◌, codes, length, replicate}
 use Rattle.std.specs.Fmt.{decimal}
 use Rattle.frames.specs.Drops.{number_of}
-use Rattle.wire_sim.specs.declared.event.Side.{Side}
-use Rattle.wire_sim.specs.declared.event.Side.TheVariants.{A, B}
+use Rattle.sides.specs.declared.side.Side.{Side}
+use Rattle.sides.specs.declared.side.Side.TheVariants.{A, B}
 use Rattle.wire_sim.specs.Names.{unfair_text}
 use Rattle.ladder.specs.declared.passage.Fate.{Fate}
 use Rattle.ladder.specs.declared.passage.Fate.TheVariants.{Taken, Dropped, Refused}

@@ -4,7 +4,7 @@ use Rattle.std.proofs.Common.{refl, sym, ap, subst, ◌∙◌, append_assoc, app
 use Rattle.std.proofs.lemmas.List.{map-append}
 use Rattle.std.specs.Io.KnownBytes.{Appends, Keeps}
 use Rattle.clock.specs.declared.moment.Moment.{Moment}
-use Rattle.wire_sim.specs.declared.event.Side.{Side}
+use Rattle.sides.specs.declared.side.Side.{Side}
 use Rattle.devices.specs.Passages.{Passage, taken, given, Grows, Gives, frames_taken}
 use Rattle.capture.specs.Capture.{Frame, capture_of}
 use Rattle.recorder.specs.Captured.{Captures, HasTaken, GoesOn, with_frame}

@@ -12,8 +12,8 @@ ghost use Rattle.recorder.specs.Going.{goes_nowhere, goes_further};
 use crate::write::{write_head, write_record};
 use clock::Moment;
 use devices::{Link, LinkFault, Sink};
+use sides::Side;
 use thiserror::Error;
-use wire_sim::Side;
 
 /// The sink of a capture failed.
 #[derive(Clone, Copy, Debug, PartialEq, Eq, Error)]

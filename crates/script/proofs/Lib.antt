@@ -1,4 +1,3 @@
 pub mod ActionLemmas
-pub mod HostLemmas
 pub mod ScriptLemmas
 pub mod WordLemmas

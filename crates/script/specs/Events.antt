@@ -1,12 +1,12 @@
 -- What happens in the world where a host does what a script's line says.
 use Rattle.std.specs.Prelude.{◌≡◌, ℕ, replicate}
 use Rattle.ipv4.specs.declared.addr.Endpoint.{Endpoint}
-use Rattle.wire_sim.specs.declared.event.Side.{Side}
-use Rattle.wire_sim.specs.Sides.{other_side}
+use Rattle.sides.specs.declared.side.Side.{Side}
+use Rattle.sides.specs.Sides.{other_side}
 use Rattle.wire_sim.specs.declared.event.Event.{Event}
 use Rattle.wire_sim.specs.declared.event.Event.TheVariants as event
 use Rattle.wire_sim.specs.declared.event.Call.TheVariants as call
-use Rattle.script.specs.Hosts.{address_of}
+use Rattle.wire_sim.specs.Hosts.{address_of}
 use Rattle.script.specs.declared.action.Action.{Action}
 use Rattle.script.specs.declared.action.Action.TheVariants.{Socket, Bind, Listen, Accept, Connect, Send, Fill, Recv, Count, SendTo, FillTo, RecvFrom, CountFrom, Shutdown, Close, State, Tick, Emit, Deliver}
 

@@ -3,5 +3,4 @@ pub mod Keywords
 pub mod Actions
 pub mod Script
 pub mod Text
-pub mod Hosts
 pub mod Events

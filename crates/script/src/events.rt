@@ -2,14 +2,13 @@
 
 ghost use Rattle.std.specs.Prelude.{◌≡◌, IfOk};
 ghost use Rattle.script.specs.Events.{IsEventOf, endpoint_of};
-ghost use Rattle.wire_sim.specs.Sides.{other_side};
+ghost use Rattle.sides.specs.Sides.{other_side};
 
 use crate::action::Action;
-use crate::hosts::address;
 use host::SocketId;
 use ipv4::Endpoint;
 use std::alloc::{AllocError, Global};
-use wire_sim::{Call, Event, Side};
+use wire_sim::{Call, Event, Side, address};
 
 /// What happens in the world where a host does `action`.
 pub fn event(alloc: Global, side: Side, action: &Action<'_>) -> Result<Event, AllocError>

@@ -5,7 +5,6 @@ mod action;
 mod answer;
 mod events;
 mod fault;
-mod hosts;
 mod lines;
 mod words;
 
@@ -13,6 +12,5 @@ pub use action::Action;
 pub use answer::{Style, show, show_unfair};
 pub use events::event;
 pub use fault::ScriptFault;
-pub use hosts::{address, config, mac};
 pub use lines::{Command, Item, Script};
 pub use words::split_lines;

@@ -1,7 +1,7 @@
 -- What a socket says of itself: the datagrams that it sent and gave, in order.
 use Rattle.std.specs.Prelude.{◌≡◌, ◌<◌, ℕ, List, [], ◌∷◌, ◌++◌, length, take, Option, Some, None, Result, Ok, Err, ⊤}
-use Rattle.wire_sim.specs.declared.event.Side.{Side}
-use Rattle.wire_sim.specs.declared.event.Side.TheVariants.{A, B}
+use Rattle.sides.specs.declared.side.Side.{Side}
+use Rattle.sides.specs.declared.side.Side.TheVariants.{A, B}
 use Rattle.udp_link.specs.declared.losses.Fate.{Fate}
 use Rattle.udp_link.specs.Fates.{copies}
 

@@ -3,7 +3,7 @@
 ghost use Rattle.std.specs.Prelude.{◌≡◌, ◌≤◌, None, is_err, IfOk, IfSome};
 ghost use Rattle.devices.specs.Streams.{counted, one_more};
 ghost use Rattle.devices.specs.Passages.{Takes, Gives};
-ghost use Rattle.wire_sim.specs.Sides.{other_side};
+ghost use Rattle.sides.specs.Sides.{other_side};
 ghost use Rattle.udp_link.specs.Fates.{fate_by};
 ghost use Rattle.udp_link.specs.Datagrams.{HandsOver, Receives, Sends, at_side};
 
@@ -11,7 +11,7 @@ use crate::losses::{Fate, Losses};
 use crate::socket::DatagramSocket;
 use clock::Moment;
 use devices::{Link, LinkFault};
-use wire_sim::Side;
+use sides::Side;
 
 /// A link between two hosts over two sockets, each the other's peer. The frames that it takes are counted from 1 over both sides, and lost or
 /// sent twice by their numbers.

@@ -11,3 +11,4 @@ pub mod fairness
 pub mod runs
 pub mod datagrams
 pub mod RunGiven
+pub mod HostsAreSetUp

@@ -6,7 +6,7 @@ use Rattle.sockets.specs.Entries.{source_of}
 use Rattle.sockets.specs.Calls.{bound_of}
 use Rattle.sockets.specs.SocketsView.{SocketsView, role_of}
 use Rattle.datagram_law.specs.Accepted.{Accepted, AreFew, CameFrom}
-use Rattle.wire_sim.specs.declared.event.Side.{Side}
+use Rattle.sides.specs.declared.side.Side.{Side}
 use Rattle.wire_sim.specs.declared.event.Call.{Call}
 use Rattle.wire_sim.specs.declared.event.Call.TheVariants as call
 use Rattle.wire_sim.specs.declared.event.Event.{Event}
@@ -15,7 +15,7 @@ use Rattle.wire_sim.specs.declared.event.Answer.{Answer}
 use Rattle.wire_sim.specs.declared.event.Answer.TheVariants as reply
 use Rattle.wire_sim.specs.declared.event.Happening.{Happening}
 use Rattle.wire_sim.specs.Runs.{IsReached, begins, goes_on}
-use Rattle.wire_sim.specs.Sides.{same_side, other_side}
+use Rattle.sides.specs.Sides.{same_side, other_side}
 use Rattle.wire_sim.specs.Steps.{recv_len}
 use Rattle.wire_sim.specs.WorldView.{WorldView, table_of}
 

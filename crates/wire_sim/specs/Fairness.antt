@@ -10,8 +10,8 @@ use Rattle.sockets.specs.declared.entry.SocketId.{SocketId}
 use Rattle.sockets.specs.Calls.{pair_connected}
 use Rattle.host.specs.Arrival.{foreseen}
 use Rattle.host.specs.HostView.{HostView}
-use Rattle.wire_sim.specs.declared.event.Side.{Side}
-use Rattle.wire_sim.specs.declared.event.Side.TheVariants.{A, B}
+use Rattle.sides.specs.declared.side.Side.{Side}
+use Rattle.sides.specs.declared.side.Side.TheVariants.{A, B}
 use Rattle.wire_sim.specs.declared.event.Call.{Call}
 use Rattle.wire_sim.specs.declared.event.Call.TheVariants as call
 use Rattle.wire_sim.specs.declared.event.Event.{Event}
@@ -22,7 +22,7 @@ use Rattle.wire_sim.specs.declared.event.Unfair.TheVariants.{NoSuchFrame, OtherE
 use Rattle.wire_sim.specs.declared.world.bag.Frame.{Frame}
 use Rattle.wire_sim.specs.declared.world.bag.Note.{Note}
 use Rattle.wire_sim.specs.Openings.{epoch_of, epoch_connected}
-use Rattle.wire_sim.specs.Sides.{same_side, other_side}
+use Rattle.sides.specs.Sides.{same_side, other_side}
 use Rattle.wire_sim.specs.Tallies.{is_opening_of}
 use Rattle.wire_sim.specs.WorldView.{NetworkView, host_of, table_of, written_at}
 

@@ -1,4 +1,4 @@
-pub mod Sides
+pub mod Hosts
 pub mod Tallies
 pub mod Filing
 pub mod Openings

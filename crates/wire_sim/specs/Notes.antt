@@ -4,8 +4,8 @@ use Rattle.std.specs.Prelude.{◌≡◌, ℕ, ◌-◌, ◌<◌, ◌≤◌, nat_l
 use Rattle.ipv4.specs.declared.addr.Pair.{Pair}
 use Rattle.tcp_segment.specs.declared.seq.Seq.{Seq}
 use Rattle.frames.specs.Pairs.{pair_in}
-use Rattle.wire_sim.specs.declared.event.Side.{Side}
-use Rattle.wire_sim.specs.declared.event.Side.TheVariants.{A, B}
+use Rattle.sides.specs.declared.side.Side.{Side}
+use Rattle.sides.specs.declared.side.Side.TheVariants.{A, B}
 use Rattle.wire_sim.specs.declared.event.Event.TheVariants as event
 use Rattle.wire_sim.specs.declared.event.Answer.TheVariants as reply
 use Rattle.wire_sim.specs.declared.event.Opening.{Opening}
@@ -14,7 +14,7 @@ use Rattle.wire_sim.specs.declared.world.bag.Frame.{Frame}
 use Rattle.wire_sim.specs.declared.world.bag.Note.{Note}
 use Rattle.wire_sim.specs.Openings.{epoch_of}
 use Rattle.wire_sim.specs.Runs.{written_len, unfair, IsReached}
-use Rattle.wire_sim.specs.Sides.{other_side}
+use Rattle.sides.specs.Sides.{other_side}
 use Rattle.wire_sim.specs.Trace.{written}
 use Rattle.wire_sim.specs.WorldView.{WorldView}
 

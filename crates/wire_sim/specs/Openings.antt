@@ -2,7 +2,7 @@
 use Rattle.std.specs.Prelude.{ℕ, ◌+◌, if◌then◌else◌, List, fold, Option, Some, None, is_some}
 use Rattle.ipv4.specs.declared.addr.Pair.{Pair}
 use Rattle.sockets.specs.declared.entry.SocketId.{SocketId}
-use Rattle.wire_sim.specs.declared.event.Side.{Side}
+use Rattle.sides.specs.declared.side.Side.{Side}
 use Rattle.wire_sim.specs.declared.event.Opening.{Opening}
 use Rattle.sockets.specs.SocketsView.{SocketsView, holder_id}
 use Rattle.sockets.specs.Pairs.{socket_pair}

@@ -14,8 +14,8 @@ use Rattle.sockets.specs.declared.role.Role.{Role}
 use Rattle.sockets.specs.declared.role.Role.TheVariants.{Connected, Datagrams}
 use Rattle.sockets.specs.declared.refusal.Refusal.{Refusal}
 use Rattle.sockets.specs.declared.refusal.Refusal.TheVariants.{EMFILE, ENOMEM}
-use Rattle.wire_sim.specs.declared.event.Side.{Side}
-use Rattle.wire_sim.specs.declared.event.Side.TheVariants.{A, B}
+use Rattle.sides.specs.declared.side.Side.{Side}
+use Rattle.sides.specs.declared.side.Side.TheVariants.{A, B}
 use Rattle.wire_sim.specs.declared.event.Call.{Call}
 use Rattle.wire_sim.specs.declared.event.Call.TheVariants as call
 use Rattle.wire_sim.specs.declared.event.Event.{Event}
@@ -33,7 +33,7 @@ use Rattle.sockets.specs.SocketsView.{SocketsView, role_of}
 use Rattle.host.specs.HostView.{HostView}
 use Rattle.host.specs.Ticks.{after_tick}
 use Rattle.host.specs.Emission.{after_emission, emission_len, emission_octets}
-use Rattle.wire_sim.specs.Sides.{other_side}
+use Rattle.sides.specs.Sides.{other_side}
 use Rattle.wire_sim.specs.Tallies.{counts_after}
 use Rattle.wire_sim.specs.Openings.{epoch_of, opened_by_connect, opened_by_frame}
 use Rattle.frames.specs.Pairs.{pair_in}

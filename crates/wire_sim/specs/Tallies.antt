@@ -1,11 +1,11 @@
 -- What each opening took from its caller.
 use Rattle.std.specs.Prelude.{ℕ, ◌+◌, Bool, ◌==◌, ◌&&◌, if◌then◌else◌, List, [], ◌∷◌}
 use Rattle.ipv4.specs.declared.addr.Pair.{Pair}
-use Rattle.wire_sim.specs.declared.event.Side.{Side}
+use Rattle.sides.specs.declared.side.Side.{Side}
 use Rattle.wire_sim.specs.declared.event.Opening.{Opening}
 use Rattle.sockets.specs.declared.entry.SocketId.{SocketId}
 use Rattle.ipv4.specs.Addresses.{same_end}
-use Rattle.wire_sim.specs.Sides.{same_side}
+use Rattle.sides.specs.Sides.{same_side}
 
 abbrev pub same_pair : Pair → Pair → Bool
 same_pair a b = same_end a.first b.first && same_end a.second b.second

@@ -2,7 +2,7 @@
 use Rattle.std.specs.Prelude.{◌≡◌, ℕ, Bool, true, false, ◌==◌, ◌&&◌, ◌||◌, if◌then◌else◌, List, [], ◌∷◌, ◌++◌, take, Option, Some, None, find}
 use Rattle.ipv4.specs.declared.addr.Pair.{Pair}
 use Rattle.sockets.specs.declared.entry.SocketId.{SocketId}
-use Rattle.wire_sim.specs.declared.event.Side.{Side}
+use Rattle.sides.specs.declared.side.Side.{Side}
 use Rattle.wire_sim.specs.declared.event.Call.TheVariants as call
 use Rattle.wire_sim.specs.declared.event.Event.{Event}
 use Rattle.wire_sim.specs.declared.event.Event.TheVariants as event
@@ -11,7 +11,7 @@ use Rattle.wire_sim.specs.declared.event.Answer.TheVariants as answer
 use Rattle.wire_sim.specs.declared.event.Opening.{Opening}
 use Rattle.wire_sim.specs.declared.event.Happening.{Happening}
 use Rattle.stream_law.specs.Begins.{Begins}
-use Rattle.wire_sim.specs.Sides.{same_side, other_side}
+use Rattle.sides.specs.Sides.{same_side, other_side}
 use Rattle.wire_sim.specs.Tallies.{is_opening_of}
 
 -- the same socket of the same host

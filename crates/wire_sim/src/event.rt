@@ -6,39 +6,10 @@ use crate::room::filled;
 use clock::Moment;
 use host::{DropCause, Kind, Refusal, SocketId, SocketState};
 use ipv4::{Endpoint, Pair};
+use sides::Side;
 use std::fmt;
 use tcp_segment::Seq;
 use thiserror::Error;
-
-/// One of the two hosts.
-#[derive(Clone, Copy, PartialEq, Eq, Debug)]
-pub enum Side {
-    /// The first host.
-    A,
-    /// The second host.
-    B,
-}
-
-impl Side {
-    ghost use Rattle.wire_sim.specs.Sides.{same_side, other_side};
-
-    /// Whether this is that side.
-    pub(crate) fn is(self, other: Side) -> bool
-        ensures { result ≡ same_side self other }
-    {
-        matches!((self, other), (Side::A, Side::A) | (Side::B, Side::B))
-    }
-
-    /// The other host.
-    pub fn other(self) -> Side
-        ensures { result ≡ other_side self }
-    {
-        match self {
-            Side::A => Side::B,
-            Side::B => Side::A,
-        }
-    }
-}
 
 /// A socket call with its arguments, but for the moment, which is the side's clock.
 #[derive(Clone, PartialEq, Eq, Debug, Drop)]

@@ -2,9 +2,12 @@
 #![tactic(auto)]
 
 mod event;
+mod hosts;
 pub mod laws;
 mod room;
 mod world;
 
-pub use event::{Answer, Call, Event, Happening, Opening, Side, Unfair, WorldFault};
+pub use event::{Answer, Call, Event, Happening, Opening, Unfair, WorldFault};
+pub use hosts::{address, config, mac};
+pub use sides::Side;
 pub use world::World;

@@ -6,8 +6,8 @@ ghost use Rattle.devices.specs.Streams.{counted};
 use super::{Link, LinkFault, MOST_FRAME};
 use crate::plan::Plan;
 use clock::Moment;
+use sides::Side;
 use std::alloc::{AllocError, Global};
-use wire_sim::Side;
 
 /// A frame that passed into a link or out of it.
 #[derive(Debug, PartialEq, Eq, Drop)]

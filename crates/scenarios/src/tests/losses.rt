@@ -1,13 +1,13 @@
 //! Connections over a network that loses a frame or gives one twice: all octets are read all the same, and then the end.
 
 use clock::Moment;
-use script::{Command, Item, Style, config, event, show, show_unfair};
+use script::{Command, Item, Style, event, show, show_unfair};
 use std::alloc::{AllocError, Global};
 use std::process::Abort;
 use std::test::Fail;
 use tcp_segment::Seq;
 use wire_sim::Side::{self, A, B};
-use wire_sim::{Answer, Event, World};
+use wire_sim::{Answer, Event, World, config};
 
 /// What becomes of the frames of a dialogue: the one with this index arrives so many times, and all others once.
 #[derive(Clone, Copy)]

@@ -35,8 +35,8 @@ use Rattle.stream_law.specs.Pairing.{IsTimely}
 use Rattle.wire_sim.specs.declared.event.Answer.{Answer}
 use Rattle.wire_sim.specs.declared.event.Answer.TheVariants as reply
 use Rattle.wire_sim.specs.declared.event.Opening.{Opening}
-use Rattle.wire_sim.specs.declared.event.Side.{Side}
-use Rattle.wire_sim.specs.declared.event.Side.TheVariants.{A, B}
+use Rattle.sides.specs.declared.side.Side.{Side}
+use Rattle.sides.specs.declared.side.Side.TheVariants.{A, B}
 use Rattle.wire_sim.specs.declared.event.Happening.{Happening}
 use Rattle.wire_sim.specs.declared.event.Unfair.TheVariants.{OtherEpoch, Stale}
 use Rattle.wire_sim.specs.declared.world.bag.Frame.{Frame}

@@ -11,8 +11,8 @@ use Rattle.frames.specs.Meaning.{heard}
 use Rattle.frames.specs.Pairs.{pair_between}
 use Rattle.stream_law.specs.Channel.{IsAmong}
 use Rattle.stream_law.specs.Pairing.{Emission}
-use Rattle.wire_sim.specs.declared.event.Side.{Side}
-use Rattle.wire_sim.specs.declared.event.Side.TheVariants.{A, B}
+use Rattle.sides.specs.declared.side.Side.{Side}
+use Rattle.sides.specs.declared.side.Side.TheVariants.{A, B}
 use Rattle.wire_sim.specs.declared.event.Happening.{Happening}
 use Rattle.wire_sim.specs.declared.world.bag.Frame.{Frame}
 use Rattle.wire_sim.specs.declared.world.bag.Note.{Note}

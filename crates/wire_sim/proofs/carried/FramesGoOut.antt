@@ -44,7 +44,7 @@ use Rattle.host.specs.Emission.{Emission, Replies, Sends, Asks, Nothing, goes_ou
 use Rattle.host.specs.Sound.{IsSoundHost}
 use Rattle.host.proofs.Hearing.{heard-nothing, heard-request, heard-reply, heard-segment, heard-reset, segment-message, echo-can, echo-frame, error-can, error-frame, way-mac}
 use Rattle.host.proofs.DueSegments.{due-can, due-fits}
-use Rattle.wire_sim.specs.declared.event.Side.{Side}
+use Rattle.sides.specs.declared.side.Side.{Side}
 use Rattle.wire_sim.specs.declared.event.Opening.{Opening}
 use Rattle.wire_sim.specs.declared.event.Happening.{Happening}
 use Rattle.wire_sim.specs.declared.world.bag.Frame.{Frame}

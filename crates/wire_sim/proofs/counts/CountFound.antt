@@ -2,7 +2,7 @@
 use Rattle.std.proofs.Common.{◌≡◌, ℕ, zero, suc, ◌<◌, true, false, List, [], ◌∷◌, length, get_or, take, refl, arith}
 use Rattle.std.specs.Prelude.{if◌then◌else◌}
 use Rattle.ipv4.specs.declared.addr.Pair.{Pair}
-use Rattle.wire_sim.specs.declared.event.Side.{Side}
+use Rattle.sides.specs.declared.side.Side.{Side}
 use Rattle.wire_sim.specs.declared.event.Opening.{Opening}
 use Rattle.wire_sim.specs.Tallies.{is_opening_of, written_by}
 

@@ -1,6 +1,6 @@
 -- The counts of a ledger while octets are counted beside one opening after another, from the last.
 use Rattle.std.proofs.Common.{◌≡◌, ℕ, zero, suc, ◌+◌, ◌<◌, true, false, List, [], ◌∷◌, ◌++◌, length, get_or, set, take, refl, ap, arith}
-use Rattle.wire_sim.specs.declared.event.Side.{Side}
+use Rattle.sides.specs.declared.side.Side.{Side}
 use Rattle.wire_sim.specs.declared.event.Opening.{Opening}
 use Rattle.sockets.specs.declared.entry.SocketId.{SocketId}
 use Rattle.wire_sim.specs.Tallies.{is_opening_at, counts_after}

@@ -12,8 +12,8 @@ use Rattle.sockets.specs.declared.entry.SocketId.{SocketId}
 use Rattle.sockets.specs.declared.role.Role.{Role}
 use Rattle.sockets.specs.declared.role.Role.TheVariants.{Idle, Listener, Connected, Datagrams}
 use Rattle.sockets.specs.declared.refusal.Refusal.{Refusal}
-use Rattle.wire_sim.specs.declared.event.Side.{Side}
-use Rattle.wire_sim.specs.declared.event.Side.TheVariants.{A, B}
+use Rattle.sides.specs.declared.side.Side.{Side}
+use Rattle.sides.specs.declared.side.Side.TheVariants.{A, B}
 use Rattle.wire_sim.specs.declared.event.Call.{Call}
 use Rattle.wire_sim.specs.declared.event.Call.TheVariants as call
 use Rattle.wire_sim.specs.declared.event.Event.{Event}
@@ -29,7 +29,7 @@ use Rattle.sockets.specs.SocketsView.{SocketsView, role_of}
 use Rattle.host.specs.HostView.{HostView}
 use Rattle.host.specs.Emission.{after_emission}
 use Rattle.wire_sim.specs.Openings.{opened_by_connect, opened_by_frame}
-use Rattle.wire_sim.specs.Sides.{other_side}
+use Rattle.sides.specs.Sides.{other_side}
 use Rattle.wire_sim.specs.Steps.{station_after_tick, with_station, with_host, with_opening, Answers, MeetsCall, after_call, after_delivery, Steps}
 use Rattle.wire_sim.specs.Tallies.{is_opening_at, counts_after}
 use Rattle.wire_sim.specs.WorldView.{NetworkView, station_of, host_of, table_of}

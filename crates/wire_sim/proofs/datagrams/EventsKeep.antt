@@ -18,7 +18,7 @@ use Rattle.datagram_law.specs.Accepted.{Accepted, AreFew, CameFrom}
 use Rattle.datagram_law.specs.Pools.{IsPoolOf}
 use Rattle.datagram_law.proofs.Gathering.{one_event, pool_still}
 use Rattle.datagram_law.proofs.InTurn.{still, each_came}
-use Rattle.wire_sim.specs.declared.event.Side.{Side}
+use Rattle.sides.specs.declared.side.Side.{Side}
 use Rattle.wire_sim.specs.declared.event.Call.{Call}
 use Rattle.wire_sim.specs.declared.event.Call.TheVariants as call
 use Rattle.wire_sim.specs.declared.event.Event.TheVariants as event
@@ -31,7 +31,7 @@ use Rattle.wire_sim.specs.declared.world.station.Station.{Station}
 use Rattle.wire_sim.specs.Datagrams.{accepted_by_call}
 use Rattle.wire_sim.specs.Fairness.{unfair_frame, unfair_counted}
 use Rattle.wire_sim.specs.Runs.{IsNumbered}
-use Rattle.wire_sim.specs.Sides.{same_side, other_side}
+use Rattle.sides.specs.Sides.{same_side, other_side}
 use Rattle.wire_sim.specs.Steps.{with_station, with_host, with_opening, station_after_tick, after_call, after_delivery, MeetsFrame, DeliversFrame, MeetsEmission, Steps}
 use Rattle.wire_sim.specs.WorldView.{NetworkView, station_of, host_of, table_of, clock_of, written_at}
 use Rattle.wire_sim.proofs.lists.FoundAfterChange.{All-at, All-added, All-weaker}

@@ -11,8 +11,8 @@ use Rattle.host.specs.HostView.{new_host}
 use Rattle.datagram_law.specs.Accepted.{Accepted, AreFew, CameFrom}
 use Rattle.datagram_law.proofs.Gathering.{new}
 use Rattle.datagram_law.proofs.InTurn.{still}
-use Rattle.wire_sim.specs.declared.event.Side.{Side}
-use Rattle.wire_sim.specs.declared.event.Side.TheVariants.{A, B}
+use Rattle.sides.specs.declared.side.Side.{Side}
+use Rattle.sides.specs.declared.side.Side.TheVariants.{A, B}
 use Rattle.wire_sim.specs.declared.event.Call.{Call}
 use Rattle.wire_sim.specs.declared.event.Call.TheVariants as call
 use Rattle.wire_sim.specs.declared.event.Event.{Event}
@@ -21,7 +21,7 @@ use Rattle.wire_sim.specs.declared.event.Answer.{Answer}
 use Rattle.wire_sim.specs.declared.event.Answer.TheVariants as reply
 use Rattle.wire_sim.specs.Datagrams.{ReadDatagram, socket_end, accepted_by, read_by, read_by_call, accepted_in, read_in, WasAccepted, EveryRunKeepsDatagrams}
 use Rattle.wire_sim.specs.Runs.{IsStep, IsReached, begins, goes_on}
-use Rattle.wire_sim.specs.Sides.{other_side}
+use Rattle.sides.specs.Sides.{other_side}
 use Rattle.wire_sim.specs.Steps.{MeetsCall, MeetsReceivedFrom, recv_len}
 use Rattle.wire_sim.specs.WorldView.{WorldView, NetworkView, table_of}
 use Rattle.wire_sim.proofs.carried.FramesCarry.{IsTallied}

@@ -4,7 +4,7 @@ use Rattle.std.proofs.lemmas.List.{map-append}
 use Rattle.ipv4.specs.declared.addr.Endpoint.{Endpoint}
 use Rattle.sockets.specs.SocketsView.{SocketsView}
 use Rattle.datagram_law.specs.Accepted.{Accepted}
-use Rattle.wire_sim.specs.declared.event.Side.{Side}
+use Rattle.sides.specs.declared.side.Side.{Side}
 use Rattle.wire_sim.specs.declared.event.Call.{Call}
 use Rattle.wire_sim.specs.declared.event.Call.TheVariants as call
 use Rattle.wire_sim.specs.declared.event.Event.{Event}
@@ -14,7 +14,7 @@ use Rattle.wire_sim.specs.declared.event.Answer.TheVariants as reply
 use Rattle.wire_sim.specs.declared.event.Happening.{Happening}
 use Rattle.wire_sim.specs.Datagrams.{ReadDatagram, accepted_by, accepted_by_call, read_by, read_by_call, accepted_in, read_in, sent_by_call, read_from_call, told_by_call, told_in, EveryDatagramIsTraced}
 use Rattle.wire_sim.specs.Runs.{begins, goes_on}
-use Rattle.wire_sim.specs.Sides.{same_side}
+use Rattle.sides.specs.Sides.{same_side}
 use Rattle.wire_sim.specs.WorldView.{WorldView, table_of}
 
 -- one thing more that happened

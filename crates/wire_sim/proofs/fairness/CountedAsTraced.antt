@@ -3,8 +3,8 @@ use Rattle.std.proofs.Common.{◌≡◌, ℕ, ◌-◌, ◌==◌, ◌||◌, not, 
 use Rattle.std.specs.Option.{option_or}
 use Rattle.std.specs.List.{slice_get}
 use Rattle.ipv4.specs.declared.addr.Pair.{Pair}
-use Rattle.wire_sim.specs.declared.event.Side.{Side}
-use Rattle.wire_sim.specs.declared.event.Side.TheVariants.{A, B}
+use Rattle.sides.specs.declared.side.Side.{Side}
+use Rattle.sides.specs.declared.side.Side.TheVariants.{A, B}
 use Rattle.wire_sim.specs.declared.event.Event.{Event}
 use Rattle.wire_sim.specs.declared.event.Event.TheVariants as event
 use Rattle.wire_sim.specs.declared.event.Unfair.TheVariants.{NoSuchFrame, OtherEpoch, Stale}
@@ -14,7 +14,7 @@ use Rattle.wire_sim.specs.Fairness.{Amount, is_late, late_note, second_by_frame,
 use Rattle.host.specs.Arrival.{foreseen}
 use Rattle.wire_sim.specs.Openings.{epoch_of}
 use Rattle.wire_sim.specs.Runs.{written_len, unfair}
-use Rattle.wire_sim.specs.Sides.{same_side}
+use Rattle.sides.specs.Sides.{same_side}
 use Rattle.wire_sim.specs.WorldView.{NetworkView, WorldView, host_of, written_at}
 use Rattle.wire_sim.proofs.carried.FramesCarry.{IsTallied}
 

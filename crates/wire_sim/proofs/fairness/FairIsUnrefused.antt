@@ -5,8 +5,8 @@ use Rattle.std.specs.Option.{IfSome, option_or}
 use Rattle.std.proofs.lemmas.Bool.{eqb-true, eq-eqb, leb-false, lt-leb, or_parts}
 use Rattle.ipv4.specs.declared.addr.Pair.{Pair}
 use Rattle.host.specs.Arrival.{foreseen}
-use Rattle.wire_sim.specs.declared.event.Side.{Side}
-use Rattle.wire_sim.specs.declared.event.Side.TheVariants.{A, B}
+use Rattle.sides.specs.declared.side.Side.{Side}
+use Rattle.sides.specs.declared.side.Side.TheVariants.{A, B}
 use Rattle.wire_sim.specs.declared.event.Call.{Call}
 use Rattle.wire_sim.specs.declared.event.Call.TheVariants as call
 use Rattle.wire_sim.specs.declared.event.Event.TheVariants as event
@@ -18,7 +18,7 @@ use Rattle.wire_sim.specs.declared.world.bag.Note.{Note}
 use Rattle.wire_sim.specs.Fairness.{Amount, is_late, late_note, second_in, second_by_frame, second_by_connect, pair_to_connect, unfair_frame, unfair_call, IsRecent, IsUnopened, IsFairFrame, IsFairCall}
 use Rattle.wire_sim.specs.Openings.{epoch_of, epoch_connected}
 use Rattle.wire_sim.specs.Runs.{written_len, FairIsUnrefused}
-use Rattle.wire_sim.specs.Sides.{same_side, other_side}
+use Rattle.sides.specs.Sides.{same_side, other_side}
 use Rattle.wire_sim.specs.Tallies.{is_opening_of}
 use Rattle.wire_sim.specs.WorldView.{NetworkView, host_of, table_of}
 

@@ -13,8 +13,8 @@ use Rattle.tcp_segment.specs.declared.seq.Seq.{Seq}
 use Rattle.host.specs.HostView.{HostView}
 use Rattle.host.specs.Arrival.{foreseen}
 use Rattle.frames.specs.Pairs.{pair_in}
-use Rattle.wire_sim.specs.declared.event.Side.{Side}
-use Rattle.wire_sim.specs.declared.event.Side.TheVariants.{A, B}
+use Rattle.sides.specs.declared.side.Side.{Side}
+use Rattle.sides.specs.declared.side.Side.TheVariants.{A, B}
 use Rattle.wire_sim.specs.declared.event.Call.{Call}
 use Rattle.wire_sim.specs.declared.event.Call.TheVariants as call
 use Rattle.wire_sim.specs.declared.event.Event.{Event}
@@ -32,7 +32,7 @@ use Rattle.wire_sim.specs.Holding.{IsBegun}
 use Rattle.wire_sim.specs.Notes.{openings_before, epoch_before, written_before, written_since, carried_pair, IsEmission, IsNoteAt, IsTraced, EveryNoteIsTraced, HasRisen, HasGrown, EveryDelayIsTraced}
 use Rattle.wire_sim.specs.Openings.{epoch_of, opened_by_connect, opened_by_frame}
 use Rattle.wire_sim.specs.Runs.{written_len, unfair, IsStep, IsReached, begins, goes_on}
-use Rattle.wire_sim.specs.Sides.{same_side, other_side}
+use Rattle.sides.specs.Sides.{same_side, other_side}
 use Rattle.wire_sim.specs.Steps.{with_host, with_opening, note_of, after_call, after_delivery, station_after_tick, EmitsFrame, MeetsEmission, DeliversFrame, Steps}
 use Rattle.wire_sim.specs.Tallies.{same_pair, is_opening_of}
 use Rattle.wire_sim.specs.Trace.{written}

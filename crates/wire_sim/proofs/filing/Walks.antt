@@ -5,7 +5,7 @@ use Rattle.std.proofs.Math.Seq.{take-length}
 use Rattle.std.proofs.lemmas.List.{length-map, map-append}
 use Rattle.ipv4.specs.declared.addr.Pair.{Pair}
 use Rattle.sockets.specs.declared.entry.SocketId.{SocketId}
-use Rattle.wire_sim.specs.declared.event.Side.{Side}
+use Rattle.sides.specs.declared.side.Side.{Side}
 use Rattle.wire_sim.specs.declared.event.Opening.{Opening}
 use Rattle.wire_sim.specs.Openings.{epoch_of}
 use Rattle.wire_sim.specs.Tallies.{same_pair, is_opening_of, is_opening_at, written_by, counts_after}

@@ -31,8 +31,8 @@ use Rattle.host.specs.HostView.{HostView}
 use Rattle.host.specs.Ticks as host_ticks
 use Rattle.host.specs.Emission.{Emission, Replies, Sends, Asks, Nothing, goes_out_from, emission, left_by, after_emission}
 use Rattle.host.specs.Sound.{IsSoundHost}
-use Rattle.wire_sim.specs.declared.event.Side.{Side}
-use Rattle.wire_sim.specs.declared.event.Side.TheVariants.{A, B}
+use Rattle.sides.specs.declared.side.Side.{Side}
+use Rattle.sides.specs.declared.side.Side.TheVariants.{A, B}
 use Rattle.wire_sim.specs.declared.event.Call.{Call}
 use Rattle.wire_sim.specs.declared.event.Call.TheVariants as call
 use Rattle.wire_sim.specs.declared.event.Event.{Event}
@@ -46,7 +46,7 @@ use Rattle.wire_sim.specs.declared.world.station.Station.{Station}
 use Rattle.wire_sim.specs.Fairness.{unfair_frame, unfair_counted}
 use Rattle.wire_sim.specs.Holding.{IsBegun, EveryHoldingIsNoted}
 use Rattle.wire_sim.specs.Openings.{epoch_of, epoch_connected, opened_by_connect, opened_by_frame, held_anew}
-use Rattle.wire_sim.specs.Sides.{same_side, other_side}
+use Rattle.sides.specs.Sides.{same_side, other_side}
 use Rattle.wire_sim.specs.Steps.{with_station, with_host, with_opening, after_call, after_delivery, station_after_tick, recv_len, MeetsCall, MeetsFrame, MeetsEmission, DeliversFrame, Steps}
 use Rattle.wire_sim.specs.WorldView.{NetworkView, WorldView, station_of, host_of, table_of, clock_of, written_at}
 use Rattle.wire_sim.proofs.tables.CallsOnTable.{outcome, not_refused}

@@ -13,8 +13,8 @@ use Rattle.sockets.specs.SocketsView.{SocketsView}
 use Rattle.ipv4.specs.declared.addr.Addr.{Addr}
 use Rattle.interface.specs.Ways.{is_routed}
 use Rattle.host.specs.HostView.{HostView}
-use Rattle.wire_sim.specs.declared.event.Side.{Side}
-use Rattle.wire_sim.specs.declared.event.Side.TheVariants.{A, B}
+use Rattle.sides.specs.declared.side.Side.{Side}
+use Rattle.sides.specs.declared.side.Side.TheVariants.{A, B}
 use Rattle.wire_sim.specs.declared.event.Call.{Call}
 use Rattle.wire_sim.specs.declared.event.Call.TheVariants as call
 use Rattle.wire_sim.specs.declared.event.Event.{Event}
@@ -29,7 +29,7 @@ use Rattle.wire_sim.specs.Coverage.{IsListed, EveryConnectionIsListed, AtMostOne
 use Rattle.wire_sim.specs.Openings.{opened_by_connect, opened_by_frame}
 use Rattle.wire_sim.specs.Runs.{IsReached}
 use Rattle.wire_sim.specs.Runs as runs
-use Rattle.wire_sim.specs.Sides.{same_side, other_side}
+use Rattle.sides.specs.Sides.{same_side, other_side}
 use Rattle.wire_sim.specs.Steps.{with_station, with_host, with_opening, after_call, after_delivery, station_after_tick, recv_len, MeetsCall, MeetsEmission, DeliversFrame, Steps}
 use Rattle.wire_sim.specs.Tallies.{is_opening_of, is_opening_at, same_pair}
 use Rattle.wire_sim.specs.Trace.{sent_on, read_on, closed_on, ended_on, of_opening}

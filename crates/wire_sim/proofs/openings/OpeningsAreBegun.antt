@@ -17,8 +17,8 @@ use Rattle.sockets.specs.Lists.{change_first}
 use Rattle.sockets.specs.Pairs.{socket_pair}
 use Rattle.interface.specs.Ways.{is_routed}
 use Rattle.host.specs.HostView.{HostView}
-use Rattle.wire_sim.specs.declared.event.Side.{Side}
-use Rattle.wire_sim.specs.declared.event.Side.TheVariants.{A, B}
+use Rattle.sides.specs.declared.side.Side.{Side}
+use Rattle.sides.specs.declared.side.Side.TheVariants.{A, B}
 use Rattle.wire_sim.specs.declared.event.Call.{Call}
 use Rattle.wire_sim.specs.declared.event.Call.TheVariants as call
 use Rattle.wire_sim.specs.declared.event.Event.{Event}
@@ -31,7 +31,7 @@ use Rattle.wire_sim.specs.declared.world.bag.Frame.{Frame}
 use Rattle.wire_sim.specs.declared.world.bag.Note.{Note}
 use Rattle.wire_sim.specs.Holding.{IsBegun, EveryOpeningIsBegun}
 use Rattle.wire_sim.specs.Openings.{epoch_of, epoch_connected, opened_as, opened_by_connect, opened_by_frame, held_anew}
-use Rattle.wire_sim.specs.Sides.{other_side}
+use Rattle.sides.specs.Sides.{other_side}
 use Rattle.wire_sim.specs.Steps.{with_host, with_opening, after_call, after_delivery, station_after_tick, MeetsEmission, DeliversFrame, Steps}
 use Rattle.wire_sim.specs.WorldView.{NetworkView, WorldView, station_of, host_of, table_of}
 use Rattle.wire_sim.proofs.tables.CallsOnTable.{outcome, not_refused, connects-on, socket_pair-connected, found-connecting}

@@ -8,7 +8,7 @@ use Rattle.tcp_state.specs.declared.calls.Received.{Received}
 use Rattle.tcp_state.specs.declared.calls.Received.TheVariants as received
 use Rattle.tcp_state.specs.View.{View, is_opening}
 use Rattle.tcp_state.specs.Calls as connection_calls
-use Rattle.wire_sim.specs.declared.event.Side.{Side}
+use Rattle.sides.specs.declared.side.Side.{Side}
 use Rattle.wire_sim.specs.declared.event.Call.{Call}
 use Rattle.wire_sim.specs.declared.event.Call.TheVariants as call
 use Rattle.wire_sim.specs.declared.event.Answer.{Answer}
@@ -29,7 +29,7 @@ use Rattle.sockets.specs.SocketsView.{SocketsView, with_socket}
 use Rattle.sockets.specs.Lists.{change_first}
 use Rattle.stream_law.specs.Pairing.{Present, Meets, takes, closes, gives, ends}
 use Rattle.sockets.specs.Sound.{IsSoundConnection, IsSoundRole, IsSoundTable}
-use Rattle.wire_sim.specs.Sides.{other_side}
+use Rattle.sides.specs.Sides.{other_side}
 use Rattle.wire_sim.specs.Steps.{MeetsSocket, MeetsReceived, MeetsReceivedFrom}
 use Rattle.wire_sim.specs.Tallies.{is_opening_at}
 use Rattle.wire_sim.proofs.tables.CallsOnTable.{sends-on, reads-on, octets_told, end_told, received-connected, readable_on-connected, socket-kept, shuts-on}

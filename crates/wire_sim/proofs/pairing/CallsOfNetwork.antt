@@ -12,7 +12,7 @@ use Rattle.sockets.specs.Entries.{is_socket, role_after_listen}
 use Rattle.sockets.specs.SocketsView.{SocketsView}
 use Rattle.sockets.specs.Sound.{IsSoundTable}
 use Rattle.host.specs.HostView.{HostView}
-use Rattle.wire_sim.specs.declared.event.Side.{Side}
+use Rattle.sides.specs.declared.side.Side.{Side}
 use Rattle.wire_sim.specs.declared.event.Call.{Call}
 use Rattle.wire_sim.specs.declared.event.Call.TheVariants as call
 use Rattle.wire_sim.specs.declared.event.Answer.{Answer}
@@ -22,7 +22,7 @@ use Rattle.wire_sim.specs.declared.event.Happening.{Happening}
 use Rattle.wire_sim.specs.Fairness.{second_in, second_by_connect, unfair_call}
 use Rattle.wire_sim.specs.Openings.{epoch_connected, opened_by_connect}
 use Rattle.wire_sim.specs.Runs.{IsNumberedCall}
-use Rattle.wire_sim.specs.Sides.{other_side}
+use Rattle.sides.specs.Sides.{other_side}
 use Rattle.wire_sim.specs.Steps.{MeetsCall, recv_len, after_call, with_host, with_opening}
 use Rattle.wire_sim.specs.Tallies.{counts_after}
 use Rattle.wire_sim.specs.WorldView.{NetworkView, host_of, table_of}

@@ -9,7 +9,7 @@ use Rattle.tcp_state.specs.declared.state.State.{State}
 use Rattle.tcp_state.specs.declared.state.State.TheVariants as state
 use Rattle.tcp_state.specs.View.{View, IsSound, is_opening, is_syn_sent, is_syn_received, is_closed}
 use Rattle.tcp_state.specs.Calls as connection_calls
-use Rattle.wire_sim.specs.declared.event.Side.{Side}
+use Rattle.sides.specs.declared.side.Side.{Side}
 use Rattle.wire_sim.specs.declared.event.Call.TheVariants as call
 use Rattle.wire_sim.specs.declared.event.Answer.TheVariants as reply
 use Rattle.wire_sim.specs.declared.event.Opening.{Opening}
@@ -26,7 +26,7 @@ use Rattle.sockets.specs.Sound.{IsSoundTable}
 use Rattle.stream_law.specs.ChannelViews.{SameStream}
 use Rattle.stream_law.specs.Pairing.{Pairing, Present, Departed, Meets, closes, rests, stops, leaves}
 use Rattle.stream_law.proofs.PairingEndings.{stops-left}
-use Rattle.wire_sim.specs.Sides.{other_side}
+use Rattle.sides.specs.Sides.{other_side}
 use Rattle.wire_sim.specs.Tallies.{is_opening_of, is_opening_at}
 use Rattle.wire_sim.proofs.tables.CallsOnTable.{found_socket}
 use Rattle.wire_sim.proofs.tables.EntryChanges.{SameBut, SameTold, by_test, table-becomes, end-another, opened-kept}

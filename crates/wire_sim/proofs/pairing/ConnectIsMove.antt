@@ -7,7 +7,7 @@ use Rattle.ipv4.specs.declared.addr.Pair.{Pair}
 use Rattle.ipv4.specs.Addresses.{pair_of}
 use Rattle.udp_socket.specs.SocketView.{new_socket}
 use Rattle.tcp_state.specs.View.{opened_actively}
-use Rattle.wire_sim.specs.declared.event.Side.{Side}
+use Rattle.sides.specs.declared.side.Side.{Side}
 use Rattle.wire_sim.specs.declared.event.Opening.{Opening}
 use Rattle.wire_sim.specs.declared.event.Happening.{Happening}
 use Rattle.sockets.specs.declared.entry.Kind.{Kind}

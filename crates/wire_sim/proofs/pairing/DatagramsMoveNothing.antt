@@ -13,7 +13,7 @@ use Rattle.sockets.specs.Datagrams.{end_sent_from, next_identification, after_se
 use Rattle.sockets.specs.Entries.{is_socket, is_datagrams_at, with_role, role_after_sendto, role_after_recvfrom, role_after_reception}
 use Rattle.sockets.specs.Lists.{change_first}
 use Rattle.sockets.specs.SocketsView.{SocketsView, role_of, with_socket}
-use Rattle.wire_sim.specs.declared.event.Side.{Side}
+use Rattle.sides.specs.declared.side.Side.{Side}
 use Rattle.wire_sim.specs.declared.event.Opening.{Opening}
 use Rattle.wire_sim.specs.declared.event.Happening.{Happening}
 use Rattle.wire_sim.proofs.pairing.CallsAreMoves.{kept, projects-alike, projects-quiet}

@@ -15,7 +15,7 @@ use Rattle.clock.specs.declared.moment.Moment.{Moment}
 use Rattle.tcp_state.specs.View.{View, IsSound, is_closed, is_over}
 use Rattle.tcp_state.specs.Due.{flags_of, head_of, octets_of, after_emitted}
 use Rattle.tcp_state.proofs.GoesOut.{due-may}
-use Rattle.wire_sim.specs.declared.event.Side.{Side}
+use Rattle.sides.specs.declared.side.Side.{Side}
 use Rattle.wire_sim.specs.declared.event.Opening.{Opening}
 use Rattle.wire_sim.specs.declared.event.Happening.{Happening}
 use Rattle.sockets.specs.declared.entry.SocketId.{SocketId}

@@ -16,7 +16,7 @@ use Rattle.sockets.specs.Unreachable as table_errors
 use Rattle.sockets.proofs.KeptEnds.{keeps-unreachable}
 use Rattle.stream_law.specs.Pairing.{Pairing, Present, Departed, Meets, stops, leaves}
 use Rattle.stream_law.proofs.PairingEndings.{stops-unreachable}
-use Rattle.wire_sim.specs.declared.event.Side.{Side}
+use Rattle.sides.specs.declared.side.Side.{Side}
 use Rattle.wire_sim.specs.declared.event.Opening.{Opening}
 use Rattle.wire_sim.specs.declared.event.Happening.{Happening}
 use Rattle.wire_sim.proofs.lists.FoundAfterChange.{find-passes}

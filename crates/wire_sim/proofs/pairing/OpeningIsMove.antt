@@ -7,12 +7,12 @@ use Rattle.tcp_state.specs.View.{View}
 use Rattle.sockets.specs.declared.entry.SocketId.{SocketId}
 use Rattle.sockets.specs.SocketsView.{SocketsView}
 use Rattle.stream_law.specs.Pairing.{Present, Move, Meets, here_moves, nothing_yet}
-use Rattle.wire_sim.specs.declared.event.Side.{Side}
+use Rattle.sides.specs.declared.side.Side.{Side}
 use Rattle.wire_sim.specs.declared.event.Opening.{Opening}
 use Rattle.wire_sim.specs.declared.event.Happening.{Happening}
 use Rattle.wire_sim.specs.declared.event.Unfair.TheVariants.{SecondOpening}
 use Rattle.wire_sim.specs.Fairness.{second_in}
-use Rattle.wire_sim.specs.Sides.{same_side}
+use Rattle.sides.specs.Sides.{same_side}
 use Rattle.wire_sim.specs.Tallies.{is_opening_of}
 use Rattle.wire_sim.proofs.tables.CallsOnTable.{find-not_any}
 use Rattle.wire_sim.proofs.tables.EntryChanges.{by_test}

@@ -3,13 +3,13 @@
 use Rattle.std.proofs.Common.{◌≡◌, ℕ, ◌≤◌, ◌^◌, false, List, [], ◌∷◌, ◌++◌, sym, ◌∙◌, subst}
 use Rattle.ipv4.specs.declared.addr.Addr.{Addr}
 use Rattle.ipv4.specs.declared.addr.Pair.{Pair}
-use Rattle.wire_sim.specs.declared.event.Side.{Side}
+use Rattle.sides.specs.declared.side.Side.{Side}
 use Rattle.wire_sim.specs.declared.event.Opening.{Opening}
 use Rattle.wire_sim.specs.declared.event.Happening.{Happening}
 use Rattle.ipv4.specs.Addresses.{same_addr}
 use Rattle.sockets.specs.SocketsView.{SocketsView}
 use Rattle.stream_law.specs.Pairing.{Emission, Pairing, Meets, begins, here_moves, there_moves, from_other}
-use Rattle.wire_sim.specs.Sides.{other_side}
+use Rattle.sides.specs.Sides.{other_side}
 use Rattle.wire_sim.specs.Trace.{sent_on, closed_on, read_on, ended_on}
 use Rattle.wire_sim.proofs.tables.EntryChanges.{SameTold, table-told, end-told}
 use Rattle.wire_sim.proofs.pairing.EndMoves.{pairing}

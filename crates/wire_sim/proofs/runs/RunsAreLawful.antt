@@ -7,8 +7,8 @@ use Rattle.ipv4.specs.declared.addr.Pair.{Pair}
 use Rattle.ipv4.specs.declared.addr.Addr.{Addr}
 use Rattle.tcp_segment.specs.declared.seq.Seq.{Seq}
 use Rattle.clock.specs.declared.moment.Moment.{Moment}
-use Rattle.wire_sim.specs.declared.event.Side.{Side}
-use Rattle.wire_sim.specs.declared.event.Side.TheVariants.{A, B}
+use Rattle.sides.specs.declared.side.Side.{Side}
+use Rattle.sides.specs.declared.side.Side.TheVariants.{A, B}
 use Rattle.wire_sim.specs.declared.event.Call.{Call}
 use Rattle.wire_sim.specs.declared.event.Event.{Event}
 use Rattle.wire_sim.specs.declared.event.Event.TheVariants as event
@@ -37,7 +37,7 @@ use Rattle.stream_law.specs.Pairing.{IsStream, begins}
 use Rattle.wire_sim.specs.Runs.{IsNumbered, IsStep, IsReached}
 use Rattle.host.specs.Sound.{IsSoundHost}
 use Rattle.wire_sim.specs.Runs as runs
-use Rattle.wire_sim.specs.Sides.{same_side, other_side}
+use Rattle.sides.specs.Sides.{same_side, other_side}
 use Rattle.wire_sim.specs.Steps.{with_station, with_host, with_opening, station_after_tick, after_delivery, MeetsFrame, DeliversFrame, Steps}
 use Rattle.stream_law.specs.Begins.{Begins}
 use Rattle.wire_sim.specs.Trace.{closed_on, read_on, ended_on, of_opening, written, closed, read, ended, StreamLaw}

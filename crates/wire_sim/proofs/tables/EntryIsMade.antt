@@ -11,10 +11,10 @@ use Rattle.sockets.specs.declared.entry.Entry.{Entry}
 use Rattle.sockets.specs.declared.role.Role.{Role}
 use Rattle.sockets.specs.declared.role.Role.TheVariants.{Idle, Listener, Connected, Datagrams}
 use Rattle.stream_law.specs.Pairing.{Present, nothing_yet}
-use Rattle.wire_sim.specs.declared.event.Side.{Side}
+use Rattle.sides.specs.declared.side.Side.{Side}
 use Rattle.wire_sim.specs.declared.event.Opening.{Opening}
 use Rattle.wire_sim.specs.Openings.{epoch_of}
-use Rattle.wire_sim.specs.Sides.{same_side}
+use Rattle.sides.specs.Sides.{same_side}
 use Rattle.wire_sim.specs.Tallies.{is_opening_of, is_opening_at, same_pair}
 use Rattle.wire_sim.proofs.tables.EntryChanges.{by_test, OthersStay, end-another, table-becomes}
 use Rattle.wire_sim.proofs.lists.FoundAfterChange.{find-passes, find-added, find-added_none, find-missed}

@@ -16,7 +16,7 @@ use Rattle.tcp_state.specs.declared.connection.Fate.{Fate}
 use Rattle.sockets.specs.Entries.{is_kept, entries_after_step, entries_after_steps, with_role}
 use Rattle.sockets.specs.Lists.{change_first, remove_first}
 use Rattle.stream_law.specs.Pairing.{Presence, Present, Departed, End, nothing_yet}
-use Rattle.wire_sim.specs.declared.event.Side.{Side}
+use Rattle.sides.specs.declared.side.Side.{Side}
 use Rattle.wire_sim.specs.declared.event.Opening.{Opening}
 use Rattle.wire_sim.specs.Openings.{epoch_of}
 use Rattle.wire_sim.specs.Tallies.{is_opening_of, is_opening_at}

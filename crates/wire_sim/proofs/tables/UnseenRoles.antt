@@ -9,7 +9,7 @@ use Rattle.sockets.specs.declared.role.Role.{Role}
 use Rattle.sockets.specs.declared.role.Role.TheVariants.{Idle, Listener, Connected, Datagrams}
 use Rattle.sockets.specs.Entries.{on_datagrams, role_after_bind, role_after_listen, role_after_accept}
 use Rattle.sockets.specs.Lost.{role_after_giving_up}
-use Rattle.wire_sim.specs.declared.event.Side.{Side}
+use Rattle.sides.specs.declared.side.Side.{Side}
 use Rattle.wire_sim.specs.declared.event.Opening.{Opening}
 use Rattle.wire_sim.proofs.tables.TableById.{presence_in, IsNoted}
 

@@ -2,8 +2,8 @@
 
 ghost use Rattle.std.specs.Prelude.{◌≡◌};
 
-use crate::event::Side;
 use ipv4::Pair;
+use sides::Side;
 
 /// A frame that a host emitted.
 #[derive(Drop)]

@@ -9,10 +9,11 @@ ghost use Rattle.wire_sim.specs.Filing.{IsFiled, by_pair, by_epoch, by_socket, e
 
 mod chains;
 
-use crate::event::{Opening, Side};
+use crate::event::Opening;
 use chains::Chains;
 use host::SocketId;
 use ipv4::{Endpoint, Pair};
+use sides::Side;
 use std::alloc::{AllocError, Global};
 
 /// How many openings there is room for once there is one.

@@ -8,12 +8,13 @@ mod fairness;
 use super::bag::{Frame, Note};
 use super::ledger::Ledger;
 use super::station::Station;
-use crate::event::{Answer, Call, Event, Opening, Side, Unfair};
+use crate::event::{Answer, Call, Event, Opening, Unfair};
 use crate::room::{MOST_FRAME, filled};
 use clock::Moment;
 use frames::pair_in;
 use host::{Config, Refusal, SocketId};
 use ipv4::{Endpoint, Pair};
+use sides::Side;
 use std::alloc::{AllocError, Global};
 use tcp_segment::Seq;
 
@@ -29,7 +30,7 @@ pub(super) struct Network {
 
 impl Network {
     ghost use Rattle.wire_sim.specs.Steps.{Steps, with_opening, note_of, call_recv_len, event_recv_len, is_emission};
-    ghost use Rattle.wire_sim.specs.Sides.{other_side};
+    ghost use Rattle.sides.specs.Sides.{other_side};
     ghost use Rattle.sockets.specs.SocketsView.{holder_id};
     ghost use Rattle.wire_sim.specs.Runs.{IsNumbered, IsNumberedCall};
     ghost use Rattle.frames.specs.Pairs.{pair_in};

@@ -1,5 +1,5 @@
 use Rattle.std.proofs.Common.{length, take, string_bytes}
-use Rattle.wire_sim.specs.declared.event.Side.TheVariants.{A, B}
+use Rattle.sides.specs.declared.side.Side.TheVariants.{A, B}
 use Rattle.commands.proofs.PlayLemmas.{on_err}
 use Rattle.commands.proofs.LadderLemmas.{carries_by, told_pass}
 use Rattle.commands.proofs.laddered.pass.Goals as goal

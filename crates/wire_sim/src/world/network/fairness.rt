@@ -4,10 +4,11 @@ ghost use Rattle.std.specs.Prelude.{◌≡◌};
 ghost use Rattle.std.specs.Result.{result_err};
 
 use super::Network;
-use crate::event::{Call, Event, Side, Unfair};
+use crate::event::{Call, Event, Unfair};
 use crate::world::bag::Note;
 use host::SocketId;
 use ipv4::{Endpoint, Pair};
+use sides::Side;
 use tcp_segment::Seq;
 
 impl Network {

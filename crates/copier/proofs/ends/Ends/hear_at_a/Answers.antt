@@ -1,5 +1,5 @@
 use Rattle.std.proofs.Common.{refl, sym, ◌∙◌, arith}
-use Rattle.wire_sim.specs.declared.event.Side.TheVariants.{A}
+use Rattle.sides.specs.declared.side.Side.TheVariants.{A}
 use Rattle.copier.proofs.Passing.{none_of}
 use Rattle.copier.proofs.Moving.{passes, hears-at_a}
 use Rattle.copier.proofs.ends.Ends.hear_at_a.Goals as goal

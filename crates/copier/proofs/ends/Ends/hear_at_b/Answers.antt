@@ -1,6 +1,6 @@
 use Rattle.std.proofs.Common.{◌≡◌, ◌||◌, ◌⊎◌, inl, inr, Bool, false, None, refl, sym, ◌∙◌, ap, arith}
 use Rattle.host.specs.Arrival.{foreseen}
-use Rattle.wire_sim.specs.declared.event.Side.TheVariants.{B}
+use Rattle.sides.specs.declared.side.Side.TheVariants.{B}
 use Rattle.copy_law.specs.Course.{holds_pair_of}
 use Rattle.copier.specs.declared.ends.Ends.{Ends}
 use Rattle.copier.proofs.Passing.{none_of}

@@ -1,8 +1,8 @@
 use Rattle.std.proofs.Common.{refl, sym, subst}
 use Rattle.host.specs.HostView.{HostView}
-use Rattle.wire_sim.specs.declared.event.Side.TheVariants.{A, B}
+use Rattle.sides.specs.declared.side.Side.TheVariants.{A, B}
 use Rattle.wire_sim.proofs.runs.FieldsAreReached.{unalike}
-use Rattle.script.specs.Hosts.{address_of, mac_of}
+use Rattle.wire_sim.specs.Hosts.{address_of, mac_of}
 use Rattle.copy_law.specs.Course.{starts, MakesSocket}
 use Rattle.copier.proofs.ends.Ends.new.Goals as goal
 

@@ -2,7 +2,7 @@
 use Rattle.std.proofs.Common.{◌≡◌, ◌∙◌, length, option_map, refl, ap, rules}
 use Rattle.frames.specs.Pairs.{pair_in}
 use Rattle.wire_sim.specs.Steps.{note_of}
-use Rattle.wire_sim.specs.declared.event.Side.TheVariants.{A, B}
+use Rattle.sides.specs.declared.side.Side.TheVariants.{A, B}
 use Rattle.wire_sim.specs.declared.world.bag.Frame.{Frame}
 use Rattle.wire_sim.specs.WorldView.{network_view}
 use Rattle.wire_sim.proofs.emission.EmittedFrame.{WroteFrame, wrote_frame, emits_frame}

@@ -1,6 +1,6 @@
 -- A tick is one of the host that it names.
 use Rattle.std.proofs.Common.{sym, ◌∙◌, ap}
-use Rattle.wire_sim.specs.declared.event.Side.TheVariants.{A, B}
+use Rattle.sides.specs.declared.side.Side.TheVariants.{A, B}
 use Rattle.wire_sim.specs.Steps.{with_station, station_after_tick}
 use Rattle.wire_sim.specs.WorldView.{network_view, station_of}
 use Rattle.wire_sim.proofs.world.network.Network.tick.Goals as goal

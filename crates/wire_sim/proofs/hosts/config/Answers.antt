@@ -1,6 +1,6 @@
 use Rattle.std.proofs.Common.{ap, ◌∙◌}
 use Rattle.host.specs.ConfigView.{ConfigView}
-use Rattle.script.proofs.hosts.config.Goals as goal
+use Rattle.wire_sim.proofs.hosts.config.Goals as goal
 
 pub returns : goal.returns
 returns c =

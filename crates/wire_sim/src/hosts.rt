@@ -1,14 +1,14 @@
-//! The two hosts of a script, and how each is set up.
+//! The two hosts of a script and of a copy, and how each is set up.
 
 ghost use Rattle.std.specs.Prelude.{◌≡◌, [], ◌∷◌};
 ghost use Rattle.routes.specs.declared.route.Route.{Route};
-ghost use Rattle.script.specs.Hosts.{address_of, mac_of, IsLinkRoute, IsSetUp};
+ghost use Rattle.wire_sim.specs.Hosts.{address_of, mac_of, IsLinkRoute, IsSetUp};
 
 use ether::Mac;
 use host::Config;
 use ipv4::{Addr, Prefix};
 use routes::{Hop, Routes};
-use wire_sim::Side;
+use sides::Side;
 
 /// The address of a side's host.
 pub fn address(side: Side) -> Addr

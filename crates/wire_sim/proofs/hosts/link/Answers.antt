@@ -1,8 +1,8 @@
 use Rattle.std.proofs.Common.{[], ◌∷◌, ◌++◌, refl, ap, ◌∙◌}
 use Rattle.routes.specs.declared.route.Route.{Route}
 use Rattle.routes.specs.declared.route.Hop.TheVariants.{Direct}
-use Rattle.script.proofs.HostLemmas.{link_is_prefix}
-use Rattle.script.proofs.hosts.link.Goals as goal
+use Rattle.wire_sim.proofs.HostsAreSetUp.{link_is_prefix}
+use Rattle.wire_sim.proofs.hosts.link.Goals as goal
 
 pub unwrap-prefix-requires : goal.unwrap-prefix-requires
 unwrap-prefix-requires c = c.new.ensures.valid.1 link_is_prefix

@@ -1,7 +1,7 @@
--- The two sides of a world.
+-- The two sides of a link, one host on each.
 use Rattle.std.specs.Prelude.{Bool, true, false}
-use Rattle.wire_sim.specs.declared.event.Side.{Side}
-use Rattle.wire_sim.specs.declared.event.Side.TheVariants.{A, B}
+use Rattle.sides.specs.declared.side.Side.{Side}
+use Rattle.sides.specs.declared.side.Side.TheVariants.{A, B}
 
 abbrev pub same_side : Side → Side → Bool
 same_side A A = true

@@ -1,12 +1,12 @@
--- The two hosts of a script, and how each is set up.
+-- The two hosts of a script and of a copy, and how each is set up.
 use Rattle.std.specs.Prelude.{◌≡◌, [], ◌∷◌}
 use Rattle.ether.specs.declared.mac.Mac.{Mac}
 use Rattle.ipv4.specs.declared.addr.Addr.{Addr}
 use Rattle.routes.specs.declared.route.Route.{Route}
 use Rattle.routes.specs.declared.route.Hop.TheVariants.{Direct}
 use Rattle.host.specs.ConfigView.{ConfigView}
-use Rattle.wire_sim.specs.declared.event.Side.{Side}
-use Rattle.wire_sim.specs.declared.event.Side.TheVariants.{A, B}
+use Rattle.sides.specs.declared.side.Side.{Side}
+use Rattle.sides.specs.declared.side.Side.TheVariants.{A, B}
 
 -- 10.0.0.1 for a, 10.0.0.2 for b
 abbrev pub address_of : Side → Addr

@@ -1,4 +1,4 @@
--- The two hosts of a script can be set up: 10.0.0.0/24 is a prefix.
+-- The two hosts can be set up: 10.0.0.0/24 is a prefix.
 use Rattle.std.proofs.Common.{[], ◌∷◌, refl, rules, arith}
 use Rattle.ipv4.specs.declared.addr.Addr.{Addr}
 use Rattle.ipv4.specs.Prefixes.{IsPrefix, number}
@@ -6,8 +6,8 @@ use Rattle.ipv4.proofs.Prefixes.{unmasked}
 use Rattle.routes.specs.declared.route.Route.{Route}
 use Rattle.routes.specs.declared.route.Hop.TheVariants.{Direct}
 use Rattle.host.specs.ConfigView.{ConfigView}
-use Rattle.wire_sim.specs.declared.event.Side.{Side}
-use Rattle.script.specs.Hosts.{address_of, mac_of, IsSetUp}
+use Rattle.sides.specs.declared.side.Side.{Side}
+use Rattle.wire_sim.specs.Hosts.{address_of, mac_of, IsSetUp}
 
 abbrev link_addr : Addr
 link_addr = record { 0 = 10 ∷ 0 ∷ 0 ∷ 0 ∷ [] }
