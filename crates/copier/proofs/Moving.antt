@@ -16,41 +16,54 @@ use Rattle.host.specs.Arrival.{IsDelivered, foreseen}
 use Rattle.sides.specs.declared.side.Side.{Side}
 use Rattle.sides.specs.declared.side.Side.TheVariants.{A, B}
 use Rattle.wire_sim.specs.Steps.{readable_on}
+use Rattle.wire_sim.proofs.emission.NothingGoesOut.{nothing-left}
 use Rattle.wire_sim.proofs.emission.EmittedOctets.{take_written, emission_front-due}
 use Rattle.devices.specs.Passages.{Passage, taken, given}
-use Rattle.copy_law.specs.CopyView.{CopyView}
+use Rattle.copy_law.specs.CopyView.{CopyView, host_at, with_host_at}
 use Rattle.copy_law.specs.Course.{IsCourse, goes_on, OpensOnce, holds_pair_of, clock_after}
 use Rattle.copy_law.specs.Course as course
 use Rattle.copier.specs.declared.ends.Ends.{Ends}
-use Rattle.copier.specs.Moves.{copy_of, GoesOn, Emits, Hears, Writes, Closes}
+use Rattle.copier.specs.Moves.{copy_of, host_of, with_host, GoesOn, Emits, Hears, Writes, Closes}
 
 -- Frames.
 
-pub emits-at_a : (old new : Ends) (before after : List ℕ) (len : ℕ) → IsSoundHost old.a → IsSoundHost old.b → emission_len old.a old.clock ≡ Some len → after ≡ emission_front old.a old.clock before
-    → length before ≡ 1514 → length after ≡ 1514 → len ≤ 1514 → new ≡ record old { a = after_emission old.a old.clock; allowance = min (old.allowance + 1460) 65535 } → Emits A (take len after) old new
-emits-at_a old new before after len sound_a sound_b due front long whole short is told sent read closed ended before_course =
-    let octets = emission_octets old.a old.clock in
-    let written : after ≡ octets ++ drop len before = front ∙ emission_front-due old.a old.clock before len due in
-    let same : take len after ≡ octets = ap (λ (ws : List ℕ). take len ws) written ∙ take_written octets before len (omega (arith, short, long)) (ap (λ (ws : List ℕ). length ws) (sym written) ∙ whole ∙ sym long) in
-    let parts = length-append octets (drop len before) in
-    let all : length after ≡ length (octets ++ drop len before) = ap (λ (ws : List ℕ). length ws) written in
-    goes_on (copy_of old told sent read closed ended) (copy_of new (told ++ taken A (take len after) ∷ []) sent read closed ended) before_course sound_a sound_b
-    (course.emits A len (omega (arith, parts, all, whole)) due
-    (ap (λ (e : Ends). copy_of e (told ++ taken A (take len after) ∷ []) sent read closed ended) is
-    ∙ ap (λ (f : List ℕ). copy_of (record old { a = after_emission old.a old.clock; allowance = min (old.allowance + 1460) 65535 }) (told ++ taken A f ∷ []) sent read closed ended) same))
+copy-host : (from : Side) (e : Ends) (told : List Passage) (sent read : List ℕ) (closed ended : Bool) → host_at (copy_of e told sent read closed ended) from ≡ host_of e from
+copy-host A e told sent read closed ended = refl
+copy-host B e told sent read closed ended = refl
 
-pub emits-at_b : (old new : Ends) (before after : List ℕ) (len : ℕ) → IsSoundHost old.a → IsSoundHost old.b → emission_len old.b old.clock ≡ Some len → after ≡ emission_front old.b old.clock before
-    → length before ≡ 1514 → length after ≡ 1514 → len ≤ 1514 → new ≡ record old { b = after_emission old.b old.clock; allowance = min (old.allowance + 1460) 65535 } → Emits B (take len after) old new
-emits-at_b old new before after len sound_a sound_b due front long whole short is told sent read closed ended before_course =
-    let octets = emission_octets old.b old.clock in
-    let written : after ≡ octets ++ drop len before = front ∙ emission_front-due old.b old.clock before len due in
+copy-with_host : (from : Side) (e : Ends) (h : HostView) (n : ℕ) (told more : List Passage) (sent read : List ℕ) (closed ended : Bool)
+    → copy_of (let w = with_host e from h in record w { allowance = n }) more sent read closed ended
+    ≡ (let w = with_host_at (copy_of e told sent read closed ended) from h in record w { allowance = n; told = more })
+copy-with_host A e h n told more sent read closed ended = refl
+copy-with_host B e h n told more sent read closed ended = refl
+
+pub emits-at : (from : Side) (old new : Ends) (before after : List ℕ) (len : ℕ) → IsSoundHost old.a → IsSoundHost old.b → emission_len (host_of old from) old.clock ≡ Some len
+    → after ≡ emission_front (host_of old from) old.clock before → length before ≡ 1514 → length after ≡ 1514 → len ≤ 1514
+    → new ≡ (let w = with_host old from (after_emission (host_of old from) old.clock) in record w { allowance = min (old.allowance + 1460) 65535 }) → Emits from (take len after) old new
+emits-at from old new before after len sound_a sound_b due front long whole short is told sent read closed ended before_course =
+    let own = host_of old from in
+    let octets = emission_octets own old.clock in
+    let written : after ≡ octets ++ drop len before = front ∙ emission_front-due own old.clock before len due in
     let same : take len after ≡ octets = ap (λ (ws : List ℕ). take len ws) written ∙ take_written octets before len (omega (arith, short, long)) (ap (λ (ws : List ℕ). length ws) (sym written) ∙ whole ∙ sym long) in
     let parts = length-append octets (drop len before) in
     let all : length after ≡ length (octets ++ drop len before) = ap (λ (ws : List ℕ). length ws) written in
-    goes_on (copy_of old told sent read closed ended) (copy_of new (told ++ taken B (take len after) ∷ []) sent read closed ended) before_course sound_a sound_b
-    (course.emits B len (omega (arith, parts, all, whole)) due
-    (ap (λ (e : Ends). copy_of e (told ++ taken B (take len after) ∷ []) sent read closed ended) is
-    ∙ ap (λ (f : List ℕ). copy_of (record old { b = after_emission old.b old.clock; allowance = min (old.allowance + 1460) 65535 }) (told ++ taken B f ∷ []) sent read closed ended) same))
+    let few : length octets ≤ 1514 = omega (arith, parts, all, whole) in
+    let v = copy_of old told sent read closed ended in
+    let at : own ≡ host_at v from = sym (copy-host from old told sent read closed ended) in
+    let left = after_emission own old.clock in
+    let next = told ++ taken from octets ∷ [] in
+    let becomes : copy_of new (told ++ taken from (take len after) ∷ []) sent read closed ended ≡ (let w = with_host_at v from left in record w { allowance = min (old.allowance + 1460) 65535; told = next }) =
+    ap (λ (f : List ℕ). copy_of new (told ++ taken from f ∷ []) sent read closed ended) same
+    ∙ (ap (λ (e : Ends). copy_of e next sent read closed ended) is ∙ copy-with_host from old left (min (old.allowance + 1460) 65535) told next sent read closed ended)
+    in
+    goes_on v (copy_of new (told ++ taken from (take len after) ∷ []) sent read closed ended) before_course sound_a sound_b
+    (course.emits from len (subst (λ (h : HostView). length (emission_octets h old.clock) ≤ 1514) at few) (subst (λ (h : HostView). emission_len h old.clock ≡ Some len) at due)
+    (subst (λ (h : HostView). copy_of new (told ++ taken from (take len after) ∷ []) sent read closed ended
+    ≡ (let w = with_host_at v from (after_emission h old.clock) in record w { allowance = min (old.allowance + 1460) 65535; told = told ++ taken from (emission_octets h old.clock) ∷ [] })) at becomes))
+
+pub emits-nothing : (from : Side) (e : Ends) → emission_len (host_of e from) e.clock ≡ None → with_host e from (after_emission (host_of e from) e.clock) ≡ e
+emits-nothing A e none = ap (λ (h : HostView). let x : Ends = record e { a = h } in x) (nothing-left e.a e.clock none)
+emits-nothing B e none = ap (λ (h : HostView). let x : Ends = record e { b = h } in x) (nothing-left e.b e.clock none)
 
 pub hears-at_a : (old new : Ends) (isn : Seq) (frame : List ℕ) (outcome : Result (Unit {0}) DropCause) (h : HostView) → IsSoundHost old.a → IsSoundHost old.b → isn.0 < 2 ^ 32 → foreseen old.a frame ≡ None
     → IsDelivered old.a old.clock isn.0 frame outcome h → new ≡ record old { a = h } → Hears A frame old new

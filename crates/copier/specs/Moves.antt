@@ -5,6 +5,8 @@ use Rattle.tcp_state.specs.declared.calls.Received.TheVariants as received
 use Rattle.sockets.specs.declared.entry.SocketId.{SocketId}
 use Rattle.sockets.specs.SocketsView.{SocketsView}
 use Rattle.sides.specs.declared.side.Side.{Side}
+use Rattle.sides.specs.declared.side.Side.TheVariants.{A, B}
+use Rattle.host.specs.HostView.{HostView}
 use Rattle.wire_sim.specs.Steps.{readable_on}
 use Rattle.devices.specs.Passages.{Passage, taken, given, MayGive, IsFairLink}
 use Rattle.copy_law.specs.CopyView.{CopyView}
@@ -29,6 +31,16 @@ copy_of e told sent read closed ended = record {
   closed = closed;
   ended = ended;
 }
+
+-- the host of a side
+abbrev pub host_of : Ends → Side → HostView
+host_of e A = e.a
+host_of e B = e.b
+
+-- the host of a side is this, and all else as it was
+abbrev pub with_host : Ends → Side → HostView → Ends
+with_host e A h = record e { a = h }
+with_host e B h = record e { b = h }
 
 -- a course goes on, and nothing but the ends has changed
 abbrev pub GoesOn : Ends → Ends → Type 0

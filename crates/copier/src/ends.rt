@@ -4,11 +4,12 @@ ghost use Rattle.std.specs.Prelude.{◌≡◌, ◌≤◌, ◌+◌, ◌<◌, ◌^
 ghost use Rattle.devices.specs.Streams.{counted};
 ghost use Rattle.devices.specs.Time.{IsToldTime};
 ghost use Rattle.copier.specs.Faults.{link_fails, IsOfHosts};
-ghost use Rattle.copier.specs.Moves.{copy_of, GoesOn, Emits, Hears, Writes, Closes, Reads, GivesFront, KeepsTold, Carries};
+ghost use Rattle.copier.specs.Moves.{copy_of, host_of, with_host, GoesOn, Emits, Hears, Writes, Closes, Reads, GivesFront, KeepsTold, Carries};
 ghost use Rattle.copy_law.specs.Course.{IsCourse, holds_pair_of, MakesSocket, Listens, Connects, clock_after};
 ghost use Rattle.host.specs.Sound.{IsSoundHost};
 ghost use Rattle.host.specs.HostView.{HostView, new_host, with_sockets};
 ghost use Rattle.sockets.specs.Calls.{recv_answer, after_recv};
+ghost use Rattle.host.specs.Emission.{after_emission, emission_front, emission_len};
 ghost use Rattle.host.specs.Ticks.{after_tick};
 ghost use Rattle.sockets.specs.Sound.{IsEndpoint};
 ghost use Rattle.wire_sim.specs.Hosts.{address_of, IsSetUp};
@@ -92,43 +93,32 @@ impl Ends {
         })
     }
 
-    /// The frame that is due at a side's host.
+    /// The frame that is due at a side's host. Once it is in the link, a may be given more.
     fn emit(&mut self, from: Side, frame: &mut [u8; MOST_FRAME]) -> Option<usize>
         ensures bound { IfSome result (λ len. len ≤ 1514) }
         ensures emits { IfSome result (λ len. Emits from (take len frame.new) self.old self.new) }
         ensures none { IfNone result (self.new ≡ self.old) }
         ensures clock { self.new.clock ≡ self.old.clock }
     {
+        self.sound();
+        let len = self.next_frame(from, frame)?;
+        self.allowance = more_allowed(self.allowance);
+        Some(len)
+    }
+
+    /// The next frame of a side's host, if one is due.
+    fn next_frame(&mut self, from: Side, frame: &mut [u8; MOST_FRAME]) -> Option<usize>
+        ensures answer { result ≡ emission_len (host_of self.old from) self.old.clock }
+        ensures bound { IfSome result (λ len. len ≤ 1514) }
+        ensures after { self.new ≡ with_host self.old from (after_emission (host_of self.old from) self.old.clock) }
+        ensures frame { frame.new ≡ emission_front (host_of self.old from) self.old.clock frame.old }
+        ensures allowance { self.new.allowance ≡ self.old.allowance }
+        ensures clock { self.new.clock ≡ self.old.clock }
+    {
         match from {
-            Side::A => self.emit_at_a(frame),
-            Side::B => self.emit_at_b(frame),
+            Side::A => self.a.next_frame(self.clock, frame),
+            Side::B => self.b.next_frame(self.clock, frame),
         }
-    }
-
-    /// The frame that is due at a.
-    fn emit_at_a(&mut self, frame: &mut [u8; MOST_FRAME]) -> Option<usize>
-        ensures bound { IfSome result (λ len. len ≤ 1514) }
-        ensures emits { IfSome result (λ len. Emits Side.A (take len frame.new) self.old self.new) }
-        ensures none { IfNone result (self.new ≡ self.old) }
-        ensures clock { self.new.clock ≡ self.old.clock }
-    {
-        self.sound();
-        let len = self.a.next_frame(self.clock, frame)?;
-        self.allowance = more_allowed(self.allowance);
-        Some(len)
-    }
-
-    /// The frame that is due at b.
-    fn emit_at_b(&mut self, frame: &mut [u8; MOST_FRAME]) -> Option<usize>
-        ensures bound { IfSome result (λ len. len ≤ 1514) }
-        ensures emits { IfSome result (λ len. Emits Side.B (take len frame.new) self.old self.new) }
-        ensures none { IfNone result (self.new ≡ self.old) }
-        ensures clock { self.new.clock ≡ self.old.clock }
-    {
-        self.sound();
-        let len = self.b.next_frame(self.clock, frame)?;
-        self.allowance = more_allowed(self.allowance);
-        Some(len)
     }
 
     /// A side's host takes a frame. One that would open a connection again is passed over.
