@@ -10,7 +10,6 @@ use Rattle.ladder.specs.declared.numbers.Numbering.{Numbering}
 use Rattle.ladder.specs.declared.numbers.Numbering.TheVariants.{Relative, Absolute}
 use Rattle.clap.specs.declared.builder.value_parser.ValueParser.TheVariants.{Unsigned}
 use Rattle.udp_link.specs.declared.every.Every.{Every}
-use Rattle.udp_link.specs.declared.losses.Losses.{Losses}
 use Rattle.command_line.specs.declared.request.Line.{Line}
 use Rattle.command_line.specs.declared.request.Line.TheVariants.{Sim, Decode, DecodeAll, Copy}
 

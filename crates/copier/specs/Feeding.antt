@@ -1,5 +1,5 @@
 -- The octets between a source and a connection.
-use Rattle.std.specs.Prelude.{◌≡◌, ℕ, Bool, true, false, List, [], ◌++◌, slice_range, Option, Some}
+use Rattle.std.specs.Prelude.{◌≡◌, ℕ, true, false, List, [], ◌++◌, slice_range, Option, Some}
 use Rattle.std.specs.Io.KnownBytes.{IsAtEnd}
 use Rattle.devices.specs.Passages.{Passage}
 use Rattle.stream_law.specs.Begins.{Begins}

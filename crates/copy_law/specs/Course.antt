@@ -11,7 +11,7 @@ use Rattle.interface.specs.Ways.{is_routed}
 use Rattle.sockets.specs.declared.entry.Kind.TheVariants.{Tcp}
 use Rattle.sockets.specs.declared.entry.SocketId.{SocketId}
 use Rattle.sockets.specs.Sound.{IsEndpoint}
-use Rattle.sockets.specs.SocketsView.{SocketsView, holder_id}
+use Rattle.sockets.specs.SocketsView.{holder_id}
 use Rattle.sockets.specs.Calls.{is_table_full, IsMade, bind_refusal, after_bind, listen_refusal, after_listen, accept_answer, after_accept, connect_refusal, after_connect, send_answer, after_send, recv_answer, after_recv, shutdown_refusal, after_shutdown}
 use Rattle.host.specs.ConfigView.{ConfigView}
 use Rattle.host.specs.HostView.{HostView, new_host, with_sockets}

@@ -1,5 +1,5 @@
 -- What a source and a sink say of themselves: how often they failed, and which octets they moved.
-use Rattle.std.specs.Prelude.{◌≡◌, ℕ, ◌+◌, ◌-◌, ◌^◌, ◌++◌, Bool, true, false, ◌&&◌, ◌==◌, not, min, length, List, if◌then◌else◌, take, MatchResult, Option, Result, Ok, Err}
+use Rattle.std.specs.Prelude.{◌≡◌, ℕ, ◌+◌, ◌-◌, ◌^◌, ◌++◌, Bool, true, ◌&&◌, ◌==◌, not, min, length, List, if◌then◌else◌, take, MatchResult, Option, Result, Ok, Err}
 use Rattle.std.specs.Io.KnownBytes.{Appends, Keeps}
 
 -- a count of failures after one more: 64 bits hold it, and at its last value it stays

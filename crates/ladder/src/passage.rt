@@ -1,7 +1,7 @@
 //! What happens to the frames of a run.
 
 ghost use Rattle.std.specs.Prelude.{◌≡◌};
-ghost use Rattle.ladder.specs.Passages.{brings, brought, errand_of, fate_of, passage_on, reaches};
+ghost use Rattle.ladder.specs.Passages.{brought, errand_of, fate_of, passage_on, reaches};
 
 use frames::DropCause;
 use wire_sim::{Answer, Event, Side, Unfair};
@@ -37,18 +37,6 @@ pub enum Passage {
     Sent(Side, usize),
     /// The frame with this number was brought to a side's host.
     Brought(Side, usize, Fate),
-}
-
-impl Passage {
-    /// Whether the frame with the number `index` reaches a host by this.
-    pub(crate) fn brings(&self, index: usize) -> bool
-        ensures { result ≡ brings index self.now }
-    {
-        match self {
-            Passage::Sent(..) => false,
-            Passage::Brought(_, number, fate) => *number == index && fate.reaches(),
-        }
-    }
 }
 
 /// What an event is about, as far as frames go.

@@ -1,5 +1,5 @@
 -- What becomes of a frame by its number.
-use Rattle.std.specs.Prelude.{ℕ, Bool, true, false, List, [], ◌∷◌, if◌then◌else◌, Option, Some, None}
+use Rattle.std.specs.Prelude.{ℕ, Bool, false, List, [], ◌∷◌, if◌then◌else◌, Option, Some, None}
 use Rattle.udp_link.specs.Steps.{is_multiple}
 use Rattle.udp_link.specs.declared.every.Every.{Every}
 use Rattle.udp_link.specs.declared.losses.Fate.{Fate}
