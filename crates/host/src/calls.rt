@@ -70,7 +70,7 @@ impl Host {
     /// to the peer's address (RFC 1122 section 3.3.1.1); EADDRINUSE where the pair is held or no dynamic port is free.
     pub fn connect(
         &mut self,
-        now: Moment,
+        _now: Moment,
         isn: Seq,
         id: SocketId,
         peer: Endpoint,
@@ -81,7 +81,7 @@ impl Host {
         ensures err { OnErr result (self.new ≡ self.old) }
     {
         let is_routed = self.interface.is_routed(peer.addr);
-        self.sockets.connect(now, isn, id, peer, is_routed)
+        self.sockets.connect(isn, id, peer, is_routed)
     }
 
     /// The pair that `connect` would open; None where it would be refused.

@@ -103,15 +103,6 @@ ascends_pushed last n xs ys x next id is ascends =
     let Q : ℕ → Type 0 = λ k. AreAscending 0 k ys in
     subst Q (sym next) joined
 
--- a call that may change the role of an entry, or leave it as it is, keeps its id
-pub same_id : (b : Bool) (change : Role → Role) (x y : Entry) → y ≡ (if b then with_role change x else x) → y.id ≡ x.id
-same_id true change x y is = ap (λ (e : Entry). e.id) is
-same_id false change x y is = ap (λ (e : Entry). e.id) is
-
-pub same_id_read : {T E : Type 0} (r : Result T E) (change : Role → Role) (x y : Entry) → OnOk r (y ≡ with_role change x) → OnErr r (y ≡ x) → y.id ≡ x.id
-same_id_read (Ok value) change x y changed kept = ap (λ (e : Entry). e.id) changed
-same_id_read (Err refusal) change x y changed kept = ap (λ (e : Entry). e.id) kept
-
 -- What a search finds.
 
 -- each entry has a higher id than what stands before the first

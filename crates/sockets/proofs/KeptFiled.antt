@@ -22,6 +22,7 @@ use Rattle.sockets.specs.Entries.{on_datagrams, has_socket, is_socket, waits_at,
 use Rattle.sockets.specs.Calls.{open_answer}
 use Rattle.sockets.specs.Index.{filed_at, filed_as, filed, inserted, index_of}
 use Rattle.sockets.proofs.Connected.{had_opens_none}
+use Rattle.sockets.proofs.Written.{role_changed}
 use Rattle.sockets.proofs.Filed.{room_index, index_connected}
 use Rattle.sockets.proofs.Followed.{by_test}
 use Rattle.sockets.proofs.KeptEnds.{KeepsEnds, keeps-send, keeps-recv, keeps-shutdown, keeps-tick, keeps-abort, keeps-close, keeps-emitted, keeps-unreachable, same-arrived}
@@ -136,13 +137,17 @@ filed-emission now (Connected c l) id = by_due (first_due c) refl
 pub filed_after : (change : Role → Role) (x y : Entry) → IsFiledAs x.role (change x.role) → y ≡ with_role change x → filed y ≡ filed x
 filed_after change x y kept is = ap (λ (e : Entry). filed e) is ∙ kept x.id
 
-pub filed_or_not : (b : Bool) (change : Role → Role) (x y : Entry) → IsFiledAs x.role (change x.role) → y ≡ (if b then with_role change x else x) → filed y ≡ filed x
-filed_or_not true change x y kept is = filed_after change x y kept is
-filed_or_not false change x y kept is = ap (λ (e : Entry). filed e) is
+-- Its role is left so.
+pub filed_role : (change : Role → Role) (x : Entry) (r : Role) → IsFiledAs x.role (change x.role) → r ≡ change x.role → filed (record x { role = r }) ≡ filed x
+filed_role change x r kept is = filed_after change x (record x { role = r }) kept (role_changed change x r is)
 
-pub filed_read : {T E : Type 0} (r : Result T E) (change : Role → Role) (x y : Entry) → IsFiledAs x.role (change x.role) → OnOk r (y ≡ with_role change x) → OnErr r (y ≡ x) → filed y ≡ filed x
-filed_read (Ok value) change x y kept changed same = filed_after change x y kept changed
-filed_read (Err refusal) change x y kept changed same = ap (λ (e : Entry). filed e) same
+pub filed_or_not : (b : Bool) (change : Role → Role) (x : Entry) (r : Role) → IsFiledAs x.role (change x.role) → r ≡ (if b then change x.role else x.role) → filed (record x { role = r }) ≡ filed x
+filed_or_not true change x r kept is = filed_role change x r kept is
+filed_or_not false change x r kept is = ap (λ (role : Role). filed_as x.id role) is
+
+pub filed_read : {T E : Type 0} (answer : Result T E) (change : Role → Role) (x : Entry) (r : Role) → IsFiledAs x.role (change x.role) → OnOk answer (r ≡ change x.role) → OnErr answer (r ≡ x.role) → filed (record x { role = r }) ≡ filed x
+filed_read (Ok value) change x r kept changed same = filed_role change x r kept changed
+filed_read (Err refusal) change x r kept changed same = ap (λ (role : Role). filed_as x.id role) same
 
 -- A connection is begun.
 

@@ -1,19 +1,19 @@
 -- A call that is refused leaves the entry as it was.
-use Rattle.std.proofs.Common.{◌≡◌, ℕ, List, Result, Ok, Err, arith, refl, ap}
+use Rattle.std.proofs.Common.{◌≡◌, ℕ, ◌||◌, Bool, true, false, if◌then◌else◌, List, Option, Some, None, is_some, Result, Ok, Err, arith, refl, ap}
 use Rattle.std.proofs.lemmas.Grind.{common_steps}
 use Rattle.tcp_state.specs.declared.calls.Refusal.{Refusal as ConnectionRefusal}
 use Rattle.tcp_segment.specs.Segment.{Segment}
 use Rattle.clock.specs.declared.moment.Moment.{Moment}
 use Rattle.tcp_state.specs.declared.connection.Fate.TheVariants.{Rejected}
-use Rattle.tcp_state.specs.View.{View}
-use Rattle.tcp_state.specs.Calls.{send_answer, after_send}
+use Rattle.tcp_state.specs.View.{View, is_opening}
+use Rattle.tcp_state.specs.Calls.{send_answer, after_send, after_shutdown}
 use Rattle.tcp_state.proofs.Unchanged.{rejected_leaves_at}
 use Rattle.sockets.specs.declared.entry.Entry.{Entry}
 use Rattle.sockets.specs.declared.role.Role.{Role}
 use Rattle.sockets.specs.declared.role.Role.TheVariants.{Idle, Listener, Connected, Datagrams}
 use Rattle.sockets.specs.declared.refusal.Refusal.{Refusal}
-use Rattle.sockets.specs.Entries.{role_after_send, role_after_segment, fate_of, with_role}
-use Rattle.sockets.specs.Calls.{role_send_answer, of_connection}
+use Rattle.sockets.specs.Entries.{role_after_send, role_after_shutdown, role_after_segment, fate_of, with_role}
+use Rattle.sockets.specs.Calls.{role_send_answer, role_shutdown_refusal, of_connection}
 
 -- what a connection takes is nothing where it refuses
 pub after_send_refused : (v : View) (octets : List ℕ) (now : Moment) (e : ConnectionRefusal) → send_answer v octets ≡ Err e → after_send v octets now ≡ v
@@ -30,8 +30,18 @@ sent_refused (Datagrams ours queues) octets now e refused = refl
 sent_refused (Connected c listener) octets now e refused =
     ap (λ (v : View). Connected v listener) (refused_by_connection c octets now e (send_answer c octets) refl refused)
 
-pub entry_refused : (e : Entry) (octets : List ℕ) (now : Moment) (r : Refusal) → role_send_answer e.role octets ≡ Err r → with_role (role_after_send now octets) e ≡ e
-entry_refused e octets now r refused = ap (λ role. let y : Entry = record e { role = role } in y) (sent_refused e.role octets now r refused)
+-- closing our side is nothing where it is refused
+shut-refused : (c : View) (now : Moment) (error : Option ConnectionRefusal) (opens : Bool) (e : Refusal) → c.pending_error ≡ error → is_opening c.state ≡ opens → role_shutdown_refusal (Connected c None) ≡ Some e
+    → (if is_some c.pending_error || is_opening c.state then c else after_shutdown c now) ≡ c
+shut-refused c now (Some error) opens e told opening refused = rw told refl
+shut-refused c now None true e told opening refused = rw (told, opening) refl
+shut-refused c now None false e told opening refused = let none : role_shutdown_refusal (Connected c None) ≡ None = rw (told, opening) refl in cc
+
+pub shutdown-refused : (role : Role) (now : Moment) (e : Refusal) → role_shutdown_refusal role ≡ Some e → role_after_shutdown now role ≡ role
+shutdown-refused (Idle buffers bound) now e refused = refl
+shutdown-refused (Listener bound backlog) now e refused = refl
+shutdown-refused (Datagrams ours queues) now e refused = refl
+shutdown-refused (Connected c listener) now e refused = ap (λ (v : View). Connected v listener) (shut-refused c now c.pending_error (is_opening c.state) e refl refl refused)
 
 -- a segment that the connection refuses leaves the entry as it was
 pub entry_refused_segment : (e : Entry) (s : Segment) (now : Moment) → fate_of s e.role ≡ Rejected → with_role (role_after_segment now s) e ≡ e

@@ -1,10 +1,12 @@
 -- A write of one entry, seen in the table.
-use Rattle.std.proofs.Common.{◌≡◌, ℕ, Bool, List, length, get_or, set, Option, Some, None, Result, Ok, Err, ap, sym, ◌∙◌, refl}
+use Rattle.std.proofs.Common.{◌≡◌, ℕ, Bool, true, false, if◌then◌else◌, List, length, get_or, set, Option, Some, None, Result, Ok, Err, ap, sym, ◌∙◌, refl}
 use Rattle.std.specs.List.{position, refill}
 use Rattle.std.specs.Result.{OnOk, OnErr}
 use Rattle.std.specs.Option.{OnSome}
 use Rattle.std.proofs.lemmas.List.{set-get_or}
 use Rattle.sockets.specs.declared.entry.Entry.{Entry}
+use Rattle.sockets.specs.declared.role.Role.{Role}
+use Rattle.sockets.specs.Entries.{with_role}
 use Rattle.sockets.specs.SocketsView.{SocketsView}
 use Rattle.sockets.specs.Lists.{change_first}
 use Rattle.sockets.proofs.Firsts.{refill_set, change_first-position}
@@ -19,6 +21,19 @@ entry_written v h p f zs i x y same place lent at changed =
     in
     ap (λ ws. let r : SocketsView = record v { entries = ws } in r) written ∙ ap (λ (w : SocketsView). let r : SocketsView = record w { entries = change_first p f h.entries } in r) same
 
+-- An entry whose role was changed where it stands.
+pub role_changed : (change : Role → Role) (z : Entry) (r : Role) → r ≡ change z.role → record z { role = r } ≡ with_role change z
+role_changed change z r changed = ap (λ role. let y : Entry = record z { role = role } in y) changed
+
+pub role_changed_if : (b : Bool) (change : Role → Role) (z : Entry) (r : Role) → r ≡ (if b then change z.role else z.role) → record z { role = r } ≡ (if b then with_role change z else z)
+role_changed_if true change z r changed = role_changed change z r changed
+role_changed_if false change z r changed = ap (λ role. let y : Entry = record z { role = role } in y) changed
+
+-- The table v is h, and of the entry at the place of the first that passes the role was changed.
+pub role_written : (v h : SocketsView) (p : Entry → Bool) (change : Role → Role) (zs : List Entry) (i : ℕ) (x : Entry) (r : Role) → v ≡ h → position p h.entries ≡ Some i → zs ≡ v.entries → x ≡ get_or zs i x → r ≡ (let z : Entry = get_or zs i x in change z.role)
+    → record v { entries = refill (length v.entries) v.entries (set zs i (let z : Entry = get_or zs i x in record z { role = r })) } ≡ record h { entries = change_first p (with_role change) h.entries }
+role_written v h p change zs i x r same place lent at changed = entry_written v h p (with_role change) zs i x _ same place lent at (role_changed change (get_or zs i x) r changed)
+
 -- The same where the entry was left as it is.
 pub entry_kept : (v h : SocketsView) (zs : List Entry) (i : ℕ) (x y : Entry) → v ≡ h → zs ≡ v.entries → x ≡ get_or zs i x → y ≡ get_or zs i x → record v { entries = refill (length v.entries) v.entries (set zs i y) } ≡ h
 entry_kept v h zs i x y same lent at kept =
@@ -26,6 +41,10 @@ entry_kept v h zs i x y same lent at kept =
     refill_set v.entries zs i y lent ∙ ap (λ z. set v.entries i z) kept ∙ ap (λ ws. set v.entries i (get_or ws i x)) lent ∙ set-get_or v.entries i x
     in
     ap (λ ws. let r : SocketsView = record v { entries = ws } in r) written ∙ same
+
+pub role_kept : (v h : SocketsView) (zs : List Entry) (i : ℕ) (x : Entry) (r : Role) → v ≡ h → zs ≡ v.entries → x ≡ get_or zs i x → r ≡ (let z : Entry = get_or zs i x in z.role)
+    → record v { entries = refill (length v.entries) v.entries (set zs i (let z : Entry = get_or zs i x in record z { role = r })) } ≡ h
+role_kept v h zs i x r same lent at kept = entry_kept v h zs i x _ same lent at (ap (λ role. let z : Entry = get_or zs i x in let y : Entry = record z { role = role } in y) kept)
 
 -- A fact that follows from each refusal.
 pub on_err : {T E : Type 0} (r : Result T E) (P : Type 0) → ((e : E) → r ≡ Err e → P) → OnErr r P

@@ -1,6 +1,5 @@
 -- What goes out: of the entries that have something due and may send it, by the test `goes`, that of the first in order of id.
 use Rattle.std.specs.Prelude.{◌≤◌, ℕ, Bool, List, [], Option, Some, None, option_and_then, find}
-use Rattle.ipv4.specs.declared.addr.Pair.{Pair}
 use Rattle.ipv4.specs.Datagram.{HasPlace}
 use Rattle.clock.specs.declared.moment.Moment.{Moment}
 use Rattle.tcp_state.specs.declared.emission.TheConstants.{MOST_SEGMENT}
@@ -9,7 +8,6 @@ use Rattle.sockets.specs.declared.emission.Emitted.{Emitted}
 use Rattle.sockets.specs.declared.emission.Emitted.TheVariants.{Segment, Datagram}
 use Rattle.sockets.specs.Entries.{sends, due_emitted, due_octets, due_front, role_after_emission, emission_fate_of, entries_after_step}
 use Rattle.sockets.specs.SocketsView.{SocketsView, later_moment}
-use Rattle.sockets.specs.Pairs.{pair_in}
 
 -- what is told of it: a segment's length in octets, or what the header of IPv4 says of a part of a datagram
 abbrev pub emitted : SocketsView → (Entry → Bool) → Option Emitted
@@ -35,10 +33,6 @@ emitted_front h goes out = of_entry (find (sends goes) h.entries)
     of_entry : Option Entry → List ℕ
     of_entry None = out
     of_entry (Some e) = due_front h.addr e.role out
-
--- the pair of a segment's two ends
-abbrev pub sent_pair : SocketsView → (Entry → Bool) → Option Pair
-sent_pair h goes = option_and_then (λ e. pair_in e.role) (find (sends goes) h.entries)
 
 -- The entry makes of itself what the emission does, at the later of the moment and the kept one, and is taken out where it is
 -- over then. Nothing else changes.

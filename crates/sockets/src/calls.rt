@@ -12,7 +12,6 @@ use crate::role::Role;
 use crate::sockets::Sockets;
 use crate::state::SocketState;
 use crate::{index, ports, table};
-use clock::Moment;
 use ipv4::{Addr, Endpoint, Pair};
 use std::alloc::Global;
 use tcp_segment::Seq;
@@ -64,7 +63,7 @@ impl Sockets {
         let (place, port) = self.may_bind(id, local)?;
         let addr = local.addr;
         self.last_port = self.last_port_bound(local, port);
-        self.entries[place].bind(Endpoint { addr, port });
+        self.entries[place].role.bind(Endpoint { addr, port });
         Ok(())
     }
 
@@ -161,7 +160,7 @@ impl Sockets {
         ensures err { OnErr result (self.new ≡ self.old) }
     {
         let place = self.may_listen(id, backlog)?;
-        self.entries[place].listen(backlog);
+        self.entries[place].role.listen(backlog);
         Ok(())
     }
 
@@ -202,7 +201,7 @@ impl Sockets {
         let Some(peer) = entry.role.peer() else {
             return Err(Refusal::EAGAIN);
         };
-        entry.accept();
+        entry.role.accept();
         self.offered.remove(turn);
         Ok((accepted, peer))
     }
@@ -230,7 +229,6 @@ impl Sockets {
     /// says; EADDRINUSE where the pair is held or no dynamic port is free.
     pub fn connect(
         &mut self,
-        _now: Moment,
         isn: Seq,
         id: SocketId,
         peer: Endpoint,
@@ -249,7 +247,7 @@ impl Sockets {
         self.last_port = self.last_port_after(bound, port);
         let local = Endpoint { addr, port };
         index::file(&mut self.ends, id, local, peer);
-        self.entries[place].connect(local, peer, isn);
+        self.entries[place].role.connect(local, peer, isn);
         Ok(())
     }
 
@@ -320,7 +318,7 @@ impl Sockets {
     {
         let place = self.socket_place(id)?;
         let kept = self.kept;
-        self.entries[place].send(kept, octets)
+        self.entries[place].role.send(kept, octets)
     }
 
     /// Reads octets of a connection into `buffer` (RFC 9293 section 3.10.3), in order, as many as there are or as fit. The end of the stream
@@ -336,7 +334,7 @@ impl Sockets {
         ensures err { OnErr result (self.new ≡ self.old) }
     {
         let place = self.socket_place(id)?;
-        self.entries[place].recv(buffer)
+        self.entries[place].role.recv(buffer)
     }
 
     /// Closes our side of a connection (RFC 9293 section 3.10.4): a FIN follows the octets that were given. Closed again, it stays so.
@@ -348,27 +346,9 @@ impl Sockets {
         ensures ok { OnOk result (self.new ≡ after_shutdown self.old id) }
         ensures err { OnErr result (self.new ≡ self.old) }
     {
-        let place = self.may_shut(id)?;
-        let kept = self.kept;
-        self.entries[place].shutdown(kept);
-        Ok(())
-    }
-
-    /// The place of the socket whose side may be closed.
-    fn may_shut(&self, id: SocketId) -> Result<usize, Refusal>
-        ensures refused { result_err result ≡ shutdown_refusal self.now id }
-        ensures place { IfOk result (λ place. position (is_socket id) self.now.entries ≡ Some place) }
-    {
         let place = self.socket_place(id)?;
-        match &self.entries[place].role {
-            Role::Idle { .. } => Err(Refusal::ENOTCONN),
-            Role::Listener { .. } | Role::Datagrams { .. } => Err(Refusal::EOPNOTSUPP),
-            Role::Connected { connection, .. } => match connection.error() {
-                Some(error) => Err(Refusal::from(error)),
-                None if connection.state().is_opening() => Err(Refusal::ENOTCONN),
-                None => Ok(place),
-            },
-        }
+        let kept = self.kept;
+        self.entries[place].role.shutdown(kept)
     }
 
     /// The state of a socket (RFC 9293 section 3.3.2), CLOSED where it has had no connection, or that it is a UDP socket. EBADF.

@@ -36,7 +36,7 @@ impl Sockets {
     {
         let place = self.socket_place(id)?;
         let kept = self.kept;
-        let fate = self.entries[place].close(kept);
+        let fate = self.entries[place].role.close(kept);
         table::settle(&mut self.entries, &mut self.ends, place, fate);
         Ok(())
     }

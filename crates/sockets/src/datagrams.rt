@@ -55,7 +55,10 @@ impl Sockets {
         let last_port = self.last_port_after(bound, local.port);
         let now = self.kept;
         let identification = self.identification;
-        if !self.entries[place].send_to(now, local, peer, identification, octets) {
+        if !self.entries[place]
+            .role
+            .send_to(now, local, peer, identification, octets)
+        {
             return Err(Refusal::EAGAIN);
         }
         self.last_port = last_port;
@@ -93,7 +96,7 @@ impl Sockets {
         ensures err { OnErr result (self.new ≡ self.old) }
     {
         let place = self.socket_place(id)?;
-        self.entries[place].recv_from(buffer)
+        self.entries[place].role.recv_from(buffer)
     }
 
     /// Takes a datagram that came from this address: it waits behind the others for the reader of the UDP socket at its destination port,
@@ -109,7 +112,7 @@ impl Sockets {
             addr: source,
             port: datagram.source(),
         };
-        if self.entries[place].receive(from, datagram.payload()) {
+        if self.entries[place].role.receive(from, datagram.payload()) {
             Reception::Queued
         } else {
             Reception::NoRoom

@@ -38,7 +38,7 @@ impl Sockets {
         let now = self.later_moment(now);
         let own = self.addr;
         let entry = &mut self.entries[place];
-        let emitted = entry.emit(own, now, out);
+        let emitted = entry.role.emit(own, now, out);
         let fate = entry.role.emission_fate_of();
         table::settle(&mut self.entries, &mut self.ends, place, fate);
         emitted

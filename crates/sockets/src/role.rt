@@ -1,6 +1,7 @@
 //! What an entry of the table is: a TCP socket without a connection, a listener, a connection, or a UDP socket.
 
 ghost use Rattle.std.specs.Prelude.{◌≡◌, ◌≤◌, Bool, true, if◌then◌else◌, length, Some, OnOk, OnErr};
+ghost use Rattle.std.specs.Result.{result_err};
 ghost use Rattle.ipv4.specs.declared.addr.Addr.{Addr};
 ghost use Rattle.sockets.specs.Calls.{own_end};
 ghost use Rattle.sockets.specs.Emission.{IsWithin};
@@ -330,7 +331,7 @@ impl Role {
 impl Role {
     ghost use Rattle.sockets.specs.Index.{filed_as};
     ghost use Rattle.sockets.specs.Entries.{role_after_bind, role_after_listen, role_after_connect, role_after_accept, role_after_send, role_after_recv, role_after_shutdown, role_after_segment, fate_of, role_after_unreachable, unreachable_fate_of, role_after_tick, tick_fate_of, role_after_emission, emission_fate_of, due_emitted, due_front, has_room_to_send, role_after_sendto, role_after_recvfrom, has_room_to_receive, role_after_reception, role_after_close, close_fate_of, role_after_abort, abort_fate_of, role_after_listener_close, listener_close_fate_of};
-    ghost use Rattle.sockets.specs.Calls.{role_send_answer, role_recv_answer, read_front};
+    ghost use Rattle.sockets.specs.Calls.{role_send_answer, role_recv_answer, role_shutdown_refusal, read_front};
     ghost use Rattle.sockets.specs.Datagrams.{role_recvfrom_answer, datagram_front};
     ghost use Rattle.sockets.specs.Lost.{give_up_fate_of, role_after_giving_up};
 
@@ -415,11 +416,17 @@ impl Role {
     }
 
     /// Closes our side of the connection at this moment, where it is past its opening.
-    pub(crate) fn shutdown(&mut self, now: Moment)
-        ensures { self.new ≡ role_after_shutdown now self.old }
+    pub(crate) fn shutdown(&mut self, now: Moment) -> Result<(), Refusal>
+        ensures refused { result_err result ≡ role_shutdown_refusal self.old }
+        ensures after { self.new ≡ role_after_shutdown now self.old }
     {
-        if let Role::Connected { connection, .. } = self {
-            let _ = connection.shutdown(now);
+        match self {
+            Role::Idle { .. } => Err(Refusal::ENOTCONN),
+            Role::Listener { .. } | Role::Datagrams { .. } => Err(Refusal::EOPNOTSUPP),
+            Role::Connected { connection, .. } => match connection.shutdown(now) {
+                Ok(()) => Ok(()),
+                Err(refusal) => Err(Refusal::from(refusal)),
+            },
         }
     }
 

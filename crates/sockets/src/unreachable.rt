@@ -17,7 +17,7 @@ impl Sockets {
         ensures { self.new ≡ after_unreachable self.old local peer number.0 }
     {
         if let Some(place) = index::connection_between(&self.entries, &self.ends, local, peer) {
-            let fate = self.entries[place].unreachable(number);
+            let fate = self.entries[place].role.unreachable(number);
             table::settle(&mut self.entries, &mut self.ends, place, fate);
         }
     }

@@ -1,5 +1,5 @@
 -- The write at the place is the change of the connection that is accepted, whose id is taken out of those offered.
-use Rattle.std.proofs.Common.{◌≡◌, ◌∙◌, List, ap, sym}
+use Rattle.std.proofs.Common.{◌≡◌, ◌∙◌, List, ap, sym, refl}
 use Rattle.std.specs.List.{remove}
 use Rattle.sockets.specs.declared.entry.SocketId.{SocketId}
 use Rattle.sockets.specs.Entries.{is_waiting_id, role_after_accept, with_role}
@@ -7,11 +7,10 @@ use Rattle.sockets.specs.SocketsView.{SocketsView}
 use Rattle.sockets.specs.Calls.{is_next_at}
 use Rattle.sockets.specs.Lists.{change_first, remove_first}
 use Rattle.sockets.proofs.Firsts.{remove_first-position}
-use Rattle.sockets.proofs.Written.{entry_written}
-use Rattle.sockets.specs.declared.entry.Entry.{Entry}
+use Rattle.sockets.proofs.Written.{role_written}
 use Rattle.sockets.proofs.Ascending.{ascends_written}
 use Rattle.sockets.proofs.Filed.{index_written}
-use Rattle.sockets.proofs.KeptFiled.{filed_after, filed-accept}
+use Rattle.sockets.proofs.KeptFiled.{filed_role, filed-accept}
 use Rattle.sockets.proofs.sockets.Sockets.accept.Goals as goal
 
 pub returns-clause-ok : goal.returns-clause-ok
@@ -23,13 +22,13 @@ returns-clause-ok c =
     ∙ sym (remove_first-position (is_waiting_id h.entries c.args.id) h.offered c.in-Some.turn c.remove.result c.in-Some.ensures.turn)
     in
     ap (λ (w : SocketsView). let r : SocketsView = record w { offered = c.remove.new.self.items } in r)
-    (entry_written _ _ (is_next_at h c.args.id) (with_role role_after_accept) _ _ _ _ c.self.view_is c.in-Some.ensures.place c.deref_mut.ensures.value c.index-deref_mut-place.is c.accept.ensures)
+    (role_written _ _ (is_next_at h c.args.id) role_after_accept _ _ _ _ c.self.view_is c.in-Some.ensures.place c.deref_mut.ensures.value c.index-deref_mut-place.is c.accept.ensures)
     ∙ ap (λ (ids : List SocketId). let r : SocketsView = record h { entries = change_first (is_next_at h c.args.id) (with_role role_after_accept) h.entries; offered = ids } in r) left
 
 -- the entry keeps its id
 pub invariant_of-self-2 : goal.invariant_of-self-2
 invariant_of-self-2 c = (
   c.self.invariant.0,
-  ascends_written _ _ _ _ _ c.index-deref_mut-place.result c.self.invariant.1 c.deref_mut.ensures.value (ap (λ (e : Entry). e.id) c.accept.ensures),
-  index_written _ _ _ _ _ c.index-deref_mut-place.result c.self.invariant.2 c.deref_mut.ensures.value (filed_after (role_after_accept) _ _ (filed-accept _) c.accept.ensures),
+  ascends_written _ _ _ _ _ c.index-deref_mut-place.result c.self.invariant.1 c.deref_mut.ensures.value refl,
+  index_written _ _ _ _ _ c.index-deref_mut-place.result c.self.invariant.2 c.deref_mut.ensures.value (filed_role role_after_accept _ _ (filed-accept _) c.accept.ensures),
 )

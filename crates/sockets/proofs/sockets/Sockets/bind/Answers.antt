@@ -1,14 +1,13 @@
 -- The write at the socket's place is the change of the first entry that the id names, at the port that is given.
-use Rattle.std.proofs.Common.{◌≡◌, ◌∙◌, ℕ, ap, sym}
-use Rattle.sockets.specs.Entries.{is_socket, role_after_bind, with_role}
+use Rattle.std.proofs.Common.{◌≡◌, ◌∙◌, ℕ, ap, sym, refl}
+use Rattle.sockets.specs.Entries.{is_socket, role_after_bind}
 use Rattle.sockets.specs.SocketsView.{SocketsView}
 use Rattle.sockets.specs.Calls.{last_port_bound}
 use Rattle.sockets.proofs.Bound.{bind-given}
-use Rattle.sockets.proofs.Written.{entry_written}
-use Rattle.sockets.specs.declared.entry.Entry.{Entry}
+use Rattle.sockets.proofs.Written.{role_written}
 use Rattle.sockets.proofs.Ascending.{ascends_written}
 use Rattle.sockets.proofs.Filed.{index_written}
-use Rattle.sockets.proofs.KeptFiled.{filed_after, filed-bind}
+use Rattle.sockets.proofs.KeptFiled.{filed_role, filed-bind}
 use Rattle.sockets.proofs.sockets.Sockets.bind.Goals as goal
 
 pub returns-clause-ok : goal.returns-clause-ok
@@ -20,13 +19,13 @@ returns-clause-ok c =
     ap (λ (w : SocketsView). let r : SocketsView = record w { last_port = c.last_port_bound-self-inside.result } in r) c.self.view_is
     ∙ ap (λ (p : ℕ). let r : SocketsView = record h { last_port = p } in r) counted
     in
-    entry_written _ _ (is_socket c.args.id) (with_role (role_after_bind (record { addr = c.args.local.addr; port = port }))) _ _ _ _ moved c.in_ok-place.ensures.place c.deref_mut.ensures.value c.index-deref_mut-place.is c.bind.ensures
+    role_written _ _ (is_socket c.args.id) (role_after_bind (record { addr = c.args.local.addr; port = port })) _ _ _ _ moved c.in_ok-place.ensures.place c.deref_mut.ensures.value c.index-deref_mut-place.is c.bind.ensures
     ∙ sym (bind-given h c.args.id c.args.local port c.in_ok-place.ensures.port)
 
 -- the entry keeps its id
 pub invariant_of-self : goal.invariant_of-self
 invariant_of-self c = (
   c.last_port_bound-self-inside.ensures.dynamic,
-  ascends_written _ _ _ _ _ c.index-deref_mut-place.result c.self.invariant.1 c.deref_mut.ensures.value (ap (λ (e : Entry). e.id) c.bind.ensures),
-  index_written _ _ _ _ _ c.index-deref_mut-place.result c.self.invariant.2 c.deref_mut.ensures.value (filed_after (role_after_bind (record { addr = c.args.local.addr; port = c.in_ok-place.port })) _ _ (filed-bind _ _) c.bind.ensures),
+  ascends_written _ _ _ _ _ c.index-deref_mut-place.result c.self.invariant.1 c.deref_mut.ensures.value refl,
+  index_written _ _ _ _ _ c.index-deref_mut-place.result c.self.invariant.2 c.deref_mut.ensures.value (filed_role (role_after_bind (record { addr = c.args.local.addr; port = c.in_ok-place.port })) _ _ (filed-bind _ _) c.bind.ensures),
 )

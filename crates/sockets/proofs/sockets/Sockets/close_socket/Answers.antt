@@ -1,5 +1,5 @@
 -- The write at the socket's place is the change of the first entry that the id names, or it is taken out.
-use Rattle.std.proofs.Common.{◌≡◌, ◌∙◌, List, get_or, Some, ap, sym}
+use Rattle.std.proofs.Common.{◌≡◌, ◌∙◌, List, get_or, Some, refl, ap, sym}
 use Rattle.std.specs.List.{find}
 use Rattle.tcp_state.specs.declared.connection.Fate.{Fate}
 use Rattle.clock.specs.declared.moment.Moment.{Moment}
@@ -8,10 +8,11 @@ use Rattle.sockets.specs.Entries.{is_socket, role_after_close, close_fate_of, en
 use Rattle.sockets.specs.SocketsView.{SocketsView}
 use Rattle.sockets.proofs.Arrived.{entry_settled}
 use Rattle.sockets.proofs.Closed.{closed-found, close-allowed}
+use Rattle.sockets.proofs.Written.{role_changed}
 use Rattle.sockets.proofs.Firsts.{find-position, found_by_place}
 use Rattle.sockets.proofs.Ascending.{ascends_written, ascends_settled}
 use Rattle.sockets.proofs.Filed.{index_written}
-use Rattle.sockets.proofs.KeptFiled.{filed_after, filed-close}
+use Rattle.sockets.proofs.KeptFiled.{filed_role, filed-close}
 use Rattle.sockets.proofs.sockets.Sockets.close_socket.Goals as goal
 
 pub returns-clause-ok : goal.returns-clause-ok
@@ -25,7 +26,7 @@ returns-clause-ok c =
     in
     let found : find (is_socket c.args.id) h.entries ≡ Some x = find-position (is_socket c.args.id) h.entries c.in_ok-place.place x c.in_ok-place.ensures.place at in
     let fates : c.close-fate.result ≡ close_fate_of x.role = c.close-fate.ensures.fate ∙ ap (λ (e : Entry). close_fate_of e.role) (sym c.index-deref_mut-place.is) in
-    entry_settled _ _ (is_socket c.args.id) (role_after_close c.self.inside.kept) _ _ _ _ _ c.close-fate.result c.self.view_is c.in_ok-place.ensures.place c.deref_mut.ensures.value c.index-deref_mut-place.is c.close-fate.ensures.after c.settle.ensures.entries
+    entry_settled _ _ (is_socket c.args.id) (role_after_close c.self.inside.kept) _ _ _ _ _ c.close-fate.result c.self.view_is c.in_ok-place.ensures.place c.deref_mut.ensures.value c.index-deref_mut-place.is (role_changed (role_after_close c.self.inside.kept) _ _ c.close-fate.ensures.after) c.settle.ensures.entries
     ∙ ap (λ (r : Fate). let w : SocketsView = record h { entries = entries_after_step r (is_socket c.args.id) (role_after_close c.self.inside.kept) h.entries } in w) fates
     ∙ ap (λ (m : Moment). let w : SocketsView = record h { entries = entries_after_step (close_fate_of x.role) (is_socket c.args.id) (role_after_close m) h.entries } in w) kept
     ∙ sym (closed-found h c.args.id x found)
@@ -37,11 +38,11 @@ returns-clause-refused c =
 
 -- the entry keeps its id, or is taken out
 pub invariant_of-self : goal.invariant_of-self
-invariant_of-self c = (c.self.invariant.0, ascends_settled _ c.close-fate.result _ _ _ (ascends_written _ _ _ _ _ c.index-deref_mut-place.result c.self.invariant.1 c.deref_mut.ensures.value (ap (λ (e : Entry). e.id) c.close-fate.ensures.after)) c.settle.ensures.entries, c.settle.ensures.index)
+invariant_of-self c = (c.self.invariant.0, ascends_settled _ c.close-fate.result _ _ _ (ascends_written _ _ _ _ _ c.index-deref_mut-place.result c.self.invariant.1 c.deref_mut.ensures.value refl) c.settle.ensures.entries, c.settle.ensures.index)
 
 -- its connection stays filed by its ends
 pub settle-requires-clause-order : goal.settle-requires-clause-order
-settle-requires-clause-order c = (c.self.inside.last_id, ascends_written _ _ _ _ _ c.index-deref_mut-place.result c.self.invariant.1 c.deref_mut.ensures.value (ap (λ (e : Entry). e.id) c.close-fate.ensures.after))
+settle-requires-clause-order c = (c.self.inside.last_id, ascends_written _ _ _ _ _ c.index-deref_mut-place.result c.self.invariant.1 c.deref_mut.ensures.value refl)
 
 pub settle-requires-clause-index : goal.settle-requires-clause-index
-settle-requires-clause-index c = index_written _ _ _ _ _ c.index-deref_mut-place.result c.self.invariant.2 c.deref_mut.ensures.value (filed_after (role_after_close c.self.inside.kept) _ _ (filed-close _ _) c.close-fate.ensures.after)
+settle-requires-clause-index c = index_written _ _ _ _ _ c.index-deref_mut-place.result c.self.invariant.2 c.deref_mut.ensures.value (filed_role (role_after_close c.self.inside.kept) _ _ (filed-close _ _) c.close-fate.ensures.after)

@@ -1,10 +1,10 @@
 -- The write at the socket's place is the change of the first entry that the id names, from the port that is given.
-use Rattle.std.proofs.Common.{◌≡◌, ◌∙◌, ◌<◌, ℕ, List, length, get_or, Some, None, Ok, ap, sym, subst, arith}
+use Rattle.std.proofs.Common.{◌≡◌, ◌∙◌, ◌<◌, ℕ, List, length, get_or, Some, None, Ok, refl, ap, sym, subst, arith}
 use Rattle.std.specs.List.{find, position}
 use Rattle.ipv4.specs.declared.addr.Addr.{Addr}
 use Rattle.ipv4.specs.declared.addr.Endpoint.{Endpoint}
 use Rattle.sockets.specs.declared.entry.Entry.{Entry}
-use Rattle.sockets.specs.Entries.{is_socket, role_after_connect, with_role}
+use Rattle.sockets.specs.Entries.{is_socket, role_after_connect}
 use Rattle.sockets.specs.SocketsView.{SocketsView, with_socket}
 use Rattle.sockets.specs.Calls.{open_answer, reach_refusal, port_for, last_port_after}
 use Rattle.sockets.specs.Index.{AreSorted, index_of}
@@ -12,7 +12,7 @@ use Rattle.sockets.proofs.Filed.{sorted_index}
 use Rattle.sockets.proofs.KeptFiled.{room_connected, index_after_connect}
 use Rattle.sockets.proofs.Connected.{after_connect-accepted, some_from_ok}
 use Rattle.sockets.proofs.Firsts.{find-position}
-use Rattle.sockets.proofs.Written.{entry_written}
+use Rattle.sockets.proofs.Written.{role_changed, role_written}
 use Rattle.sockets.proofs.Ascending.{ascends_written}
 use Rattle.sockets.proofs.sockets.Sockets.connect.Goals as goal
 
@@ -35,7 +35,7 @@ returns-clause-ok c =
     ap (λ (w : SocketsView). let r : SocketsView = record w { last_port = c.last_port_after-self-inside.result } in r) c.self.view_is
     ∙ ap (λ (p : ℕ). let r : SocketsView = record h { last_port = p } in r) counted
     in
-    entry_written _ _ (is_socket c.args.id) (with_role (role_after_connect (record { addr = c.self.inside.addr; port = c.in_ok-port.port }) c.args.peer c.args.isn.0)) _ _ _ _ moved place c.deref_mut.ensures.value c.index-deref_mut-place.is c.connect.ensures
+    role_written _ _ (is_socket c.args.id) (role_after_connect (record { addr = c.self.inside.addr; port = c.in_ok-port.port }) c.args.peer c.args.isn.0) _ _ _ _ moved place c.deref_mut.ensures.value c.index-deref_mut-place.is c.connect.ensures
     ∙ ap (λ (a : Addr). with_socket (record h { last_port = last_port_after h c.in_ok-bound.bound c.in_ok-port.port }) c.args.id (role_after_connect (record { addr = a; port = c.in_ok-port.port }) c.args.peer c.args.isn.0)) addr
     ∙ sym (after_connect-accepted h c.args.isn.0 c.args.id c.args.peer c.args.is_routed x c.in_ok-bound.bound c.in_ok-port.port found opens reached given)
 
@@ -45,9 +45,9 @@ invariant_of-self c =
     let local : Endpoint = record { addr = c.self.inside.addr; port = c.in_ok-port.port } in
     let entries : c.self.inside.entries.items ≡ c.args.self.now.entries = ap (λ (w : SocketsView). w.entries) c.self.view_is in (
       c.last_port_after-self-inside.ensures.dynamic,
-      ascends_written _ _ _ _ _ c.index-deref_mut-place.result c.self.invariant.1 c.deref_mut.ensures.value (ap (λ (e : Entry). e.id) c.connect.ensures),
+      ascends_written _ _ _ _ _ c.index-deref_mut-place.result c.self.invariant.1 c.deref_mut.ensures.value refl,
       index_after_connect c.self.inside.entries.items c.deref.result.now c.in_ok-place.place c.index-deref-place.result c.args.id c.in_ok-bound.bound (ap (λ (es : List Entry). position (is_socket c.args.id) es) entries ∙ c.in_ok-place.ensures.place) c.deref.ensures.0 (sym c.in_ok-bound.ensures)
-          _ _ _ c.index-deref_mut-place.result _ local c.args.peer c.args.isn.0 c.self.invariant.2 c.file.ensures c.deref_mut.ensures.value c.connect.ensures,
+          _ _ _ c.index-deref_mut-place.result _ local c.args.peer c.args.isn.0 c.self.invariant.2 c.file.ensures c.deref_mut.ensures.value (role_changed (role_after_connect local c.args.peer c.args.isn.0) _ _ c.connect.ensures),
     )
 
 pub file-requires-clause-sorted : goal.file-requires-clause-sorted

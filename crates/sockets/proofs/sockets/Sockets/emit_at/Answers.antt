@@ -1,17 +1,18 @@
 -- The write at the place is the change of the first entry that sends, or it is taken out.
-use Rattle.std.proofs.Common.{◌≡◌, ◌∙◌, List, get_or, Bool, Some, ap, sym}
+use Rattle.std.proofs.Common.{◌≡◌, ◌∙◌, List, get_or, Bool, Some, refl, ap, sym}
 use Rattle.std.specs.List.{find}
 use Rattle.tcp_state.specs.declared.connection.Fate.{Fate}
 use Rattle.clock.specs.declared.moment.Moment.{Moment}
 use Rattle.sockets.specs.declared.entry.Entry.{Entry}
-use Rattle.sockets.specs.Entries.{sends, role_after_emission, emission_fate_of, entries_after_step, with_role}
+use Rattle.sockets.specs.Entries.{sends, role_after_emission, emission_fate_of, entries_after_step}
 use Rattle.sockets.specs.SocketsView.{SocketsView, later_moment}
 use Rattle.sockets.proofs.Arrived.{entry_settled}
 use Rattle.sockets.proofs.Emitting.{segment_sent-found}
+use Rattle.sockets.proofs.Written.{role_changed}
 use Rattle.sockets.proofs.Firsts.{find-position}
 use Rattle.sockets.proofs.Ascending.{ascends_written, ascends_settled}
 use Rattle.sockets.proofs.Filed.{index_written}
-use Rattle.sockets.proofs.KeptFiled.{filed_after, filed-emission}
+use Rattle.sockets.proofs.KeptFiled.{filed_role, filed-emission}
 use Rattle.sockets.proofs.sockets.Sockets.emit_at.Goals as goal
 
 pub returns-clause-after : goal.returns-clause-after
@@ -25,20 +26,21 @@ returns-clause-after c = λ goes place.
     c.index-deref_mut-place.is ∙ ap (λ (es : List Entry). get_or es c.args.place x) (c.deref_mut.ensures.value ∙ entries)
     in
     let found : find test h.entries ≡ Some x = find-position test h.entries c.args.place x place at in
-    let sent : c.emit-emitted.new.self ≡ with_role (role_after_emission now) x =
-    c.emit-emitted.ensures.after ∙ ap (λ (m : Moment). with_role (role_after_emission m) (get_or c.deref_mut.result.now c.args.place x)) c.later_moment-now.ensures ∙ ap (λ (e : Entry). with_role (role_after_emission now) e) (sym c.index-deref_mut-place.is)
+    let there : Entry = get_or c.deref_mut.result.now c.args.place x in
+    let sent : c.emit-emitted.new.self ≡ role_after_emission now there.role =
+    c.emit-emitted.ensures.after ∙ ap (λ (m : Moment). role_after_emission m there.role) c.later_moment-now.ensures
     in
-    entry_settled _ _ test (role_after_emission now) _ _ _ _ _ c.emission_fate_of-fate.result c.self.view_is place c.deref_mut.ensures.value c.index-deref_mut-place.is (sent ∙ ap (λ (e : Entry). with_role (role_after_emission now) e) c.index-deref_mut-place.is) c.settle.ensures.entries
-    ∙ ap (λ (r : Fate). let w : SocketsView = record h { entries = entries_after_step r test (role_after_emission now) h.entries } in w) (c.emission_fate_of-fate.ensures ∙ ap (λ (e : Entry). emission_fate_of e.role) sent)
+    entry_settled _ _ test (role_after_emission now) _ _ _ _ _ c.emission_fate_of-fate.result c.self.view_is place c.deref_mut.ensures.value c.index-deref_mut-place.is (role_changed (role_after_emission now) there _ sent) c.settle.ensures.entries
+    ∙ ap (λ (r : Fate). let w : SocketsView = record h { entries = entries_after_step r test (role_after_emission now) h.entries } in w) (c.emission_fate_of-fate.ensures ∙ ap emission_fate_of sent ∙ ap (λ (e : Entry). emission_fate_of (role_after_emission now e.role)) (sym c.index-deref_mut-place.is))
     ∙ sym (segment_sent-found h goes c.args.now x found)
 
 -- the entry keeps its id, or is taken out
 pub invariant_of-self : goal.invariant_of-self
-invariant_of-self c = (c.self.invariant.0, ascends_settled _ c.emission_fate_of-fate.result _ _ _ (ascends_written _ _ _ _ _ c.index-deref_mut-place.result c.self.invariant.1 c.deref_mut.ensures.value (ap (λ (e : Entry). e.id) c.emit-emitted.ensures.after)) c.settle.ensures.entries, c.settle.ensures.index)
+invariant_of-self c = (c.self.invariant.0, ascends_settled _ c.emission_fate_of-fate.result _ _ _ (ascends_written _ _ _ _ _ c.index-deref_mut-place.result c.self.invariant.1 c.deref_mut.ensures.value refl) c.settle.ensures.entries, c.settle.ensures.index)
 
 -- its connection stays filed by its ends
 pub settle-requires-clause-order : goal.settle-requires-clause-order
-settle-requires-clause-order c = (c.self.inside.last_id, ascends_written _ _ _ _ _ c.index-deref_mut-place.result c.self.invariant.1 c.deref_mut.ensures.value (ap (λ (e : Entry). e.id) c.emit-emitted.ensures.after))
+settle-requires-clause-order c = (c.self.inside.last_id, ascends_written _ _ _ _ _ c.index-deref_mut-place.result c.self.invariant.1 c.deref_mut.ensures.value refl)
 
 pub settle-requires-clause-index : goal.settle-requires-clause-index
-settle-requires-clause-index c = index_written _ _ _ _ _ c.index-deref_mut-place.result c.self.invariant.2 c.deref_mut.ensures.value (filed_after (role_after_emission c.later_moment-now.result) _ _ (filed-emission _ _) c.emit-emitted.ensures.after)
+settle-requires-clause-index c = index_written _ _ _ _ _ c.index-deref_mut-place.result c.self.invariant.2 c.deref_mut.ensures.value (filed_role (role_after_emission c.later_moment-now.result) _ _ (filed-emission _ _) c.emit-emitted.ensures.after)

@@ -1,21 +1,20 @@
 -- The write at the socket's place is the change of the first entry that the id names.
-use Rattle.sockets.specs.Entries.{is_socket, role_after_listen, with_role}
-use Rattle.sockets.proofs.Written.{entry_written}
-use Rattle.std.proofs.Common.{ap}
-use Rattle.sockets.specs.declared.entry.Entry.{Entry}
+use Rattle.sockets.specs.Entries.{is_socket, role_after_listen}
+use Rattle.sockets.proofs.Written.{role_written}
+use Rattle.std.proofs.Common.{refl}
 use Rattle.sockets.proofs.Ascending.{ascends_written}
 use Rattle.sockets.proofs.Filed.{index_written}
-use Rattle.sockets.proofs.KeptFiled.{filed_after, filed-listen}
+use Rattle.sockets.proofs.KeptFiled.{filed_role, filed-listen}
 use Rattle.sockets.proofs.sockets.Sockets.listen.Goals as goal
 
 pub returns-clause-ok : goal.returns-clause-ok
 returns-clause-ok c =
-    entry_written _ _ (is_socket c.args.id) (with_role (role_after_listen c.args.backlog)) _ _ _ _ c.self.view_is c.in_ok-place.ensures.place c.deref_mut.ensures.value c.index-deref_mut-place.is c.listen.ensures
+    role_written _ _ (is_socket c.args.id) (role_after_listen c.args.backlog) _ _ _ _ c.self.view_is c.in_ok-place.ensures.place c.deref_mut.ensures.value c.index-deref_mut-place.is c.listen.ensures
 
 -- the entry keeps its id
 pub invariant_of-self : goal.invariant_of-self
 invariant_of-self c = (
   c.self.invariant.0,
-  ascends_written _ _ _ _ _ c.index-deref_mut-place.result c.self.invariant.1 c.deref_mut.ensures.value (ap (λ (e : Entry). e.id) c.listen.ensures),
-  index_written _ _ _ _ _ c.index-deref_mut-place.result c.self.invariant.2 c.deref_mut.ensures.value (filed_after (role_after_listen c.args.backlog) _ _ (filed-listen _ _) c.listen.ensures),
+  ascends_written _ _ _ _ _ c.index-deref_mut-place.result c.self.invariant.1 c.deref_mut.ensures.value refl,
+  index_written _ _ _ _ _ c.index-deref_mut-place.result c.self.invariant.2 c.deref_mut.ensures.value (filed_role (role_after_listen c.args.backlog) _ _ (filed-listen _ _) c.listen.ensures),
 )

@@ -1,21 +1,20 @@
 -- The write at the socket's place is the change of the first entry that the id names.
-use Rattle.std.proofs.Common.{length, ap}
-use Rattle.sockets.specs.Entries.{is_socket, role_after_recv, with_role}
-use Rattle.sockets.proofs.Written.{entry_written, on_ok}
-use Rattle.sockets.specs.declared.entry.Entry.{Entry}
+use Rattle.std.proofs.Common.{length, refl}
+use Rattle.sockets.specs.Entries.{is_socket, role_after_recv}
+use Rattle.sockets.proofs.Written.{role_written, on_ok}
 use Rattle.sockets.proofs.Ascending.{ascends_written}
 use Rattle.sockets.proofs.Filed.{index_written}
-use Rattle.sockets.proofs.KeptFiled.{filed_after, filed-recv}
+use Rattle.sockets.proofs.KeptFiled.{filed_role, filed-recv}
 use Rattle.sockets.proofs.sockets.Sockets.recv.Goals as goal
 
 pub returns-clause-ok : goal.returns-clause-ok
 returns-clause-ok c =
-    on_ok _ _ (entry_written _ _ (is_socket c.args.id) (with_role (role_after_recv (length c.args.buffer.now))) _ _ _ _ c.self.view_is c.in_ok-place.ensures.place c.deref_mut.ensures.value c.index-deref_mut-place.is c.recv.ensures.after)
+    on_ok _ _ (role_written _ _ (is_socket c.args.id) (role_after_recv (length c.args.buffer.now)) _ _ _ _ c.self.view_is c.in_ok-place.ensures.place c.deref_mut.ensures.value c.index-deref_mut-place.is c.recv.ensures.after)
 
 -- the entry keeps its id
 pub invariant_of-self : goal.invariant_of-self
 invariant_of-self c = (
   c.self.invariant.0,
-  ascends_written _ _ _ _ _ c.index-deref_mut-place.result c.self.invariant.1 c.deref_mut.ensures.value (ap (λ (e : Entry). e.id) c.recv.ensures.after),
-  index_written _ _ _ _ _ c.index-deref_mut-place.result c.self.invariant.2 c.deref_mut.ensures.value (filed_after (role_after_recv (length c.args.buffer.now)) _ _ (filed-recv _ _) c.recv.ensures.after),
+  ascends_written _ _ _ _ _ c.index-deref_mut-place.result c.self.invariant.1 c.deref_mut.ensures.value refl,
+  index_written _ _ _ _ _ c.index-deref_mut-place.result c.self.invariant.2 c.deref_mut.ensures.value (filed_role (role_after_recv (length c.args.buffer.now)) _ _ (filed-recv _ _) c.recv.ensures.after),
 )

@@ -1,12 +1,12 @@
 -- The write at the socket's place is the change of the first entry that the id names, from the port that is given.
-use Rattle.std.proofs.Common.{◌≡◌, ◌∙◌, ℕ, Bool, true, false, if◌then◌else◌, nat_lt, List, length, get_or, Option, Some, None, Ok, arith, ap, sym}
+use Rattle.std.proofs.Common.{◌≡◌, ◌∙◌, ℕ, Bool, true, false, if◌then◌else◌, nat_lt, List, length, get_or, Option, Some, None, Ok, arith, refl, ap, sym}
 use Rattle.std.specs.List.{find}
 use Rattle.std.proofs.lemmas.Bool.Decides.{nat_tests}
 use Rattle.ipv4.specs.declared.addr.Endpoint.{Endpoint}
 use Rattle.udp_socket.specs.declared.socket.TheConstants.{MOST_OCTETS}
 use Rattle.sockets.specs.declared.entry.Entry.{Entry}
 use Rattle.sockets.specs.declared.role.Role.{Role}
-use Rattle.sockets.specs.Entries.{is_socket, has_room_to_send, role_after_sendto, with_role}
+use Rattle.sockets.specs.Entries.{is_socket, has_room_to_send, role_after_sendto}
 use Rattle.sockets.specs.SocketsView.{SocketsView, with_socket}
 use Rattle.sockets.specs.Calls.{reach_refusal, last_port_after}
 use Rattle.sockets.specs.Datagrams.{datagrams_bound, sending_end, end_sent_from, next_identification}
@@ -14,8 +14,8 @@ use Rattle.sockets.proofs.Caused.{some_same}
 use Rattle.sockets.proofs.Connected.{some_from_ok}
 use Rattle.sockets.proofs.Firsts.{find-position}
 use Rattle.sockets.proofs.Queues.{end_given, bound_found, sendto-given}
-use Rattle.sockets.proofs.Written.{entry_written}
-use Rattle.sockets.proofs.Ascending.{ascends_written, same_id}
+use Rattle.sockets.proofs.Written.{role_written}
+use Rattle.sockets.proofs.Ascending.{ascends_written}
 use Rattle.sockets.proofs.Filed.{index_written}
 use Rattle.sockets.proofs.KeptFiled.{filed_or_not, filed-sendto}
 use Rattle.sockets.proofs.sockets.Sockets.sendto.Goals as goal
@@ -53,7 +53,7 @@ returns-clause-ok c =
     in
     let change : Role → Role = role_after_sendto local c.self.inside.kept c.args.peer c.self.inside.identification octets in
     let there : Entry = get_or c.deref_mut.result.now c.in_ok-place.place x in
-    entry_written _ _ (is_socket c.args.id) (with_role change) _ _ _ _ moved place c.deref_mut.ensures.value c.index-deref_mut-place.is (c.send_to.ensures.after ∙ ap (λ (b : Bool). if b then with_role change there else there) sent)
+    role_written _ _ (is_socket c.args.id) change _ _ _ _ moved place c.deref_mut.ensures.value c.index-deref_mut-place.is (c.send_to.ensures.after ∙ ap (λ (b : Bool). if b then change there.role else there.role) sent)
     ∙ ap (λ (w : SocketsView). with_socket (record h { last_port = last_port_after h bound local.port; identification = next_identification h.identification }) c.args.id (role_after_sendto local w.kept c.args.peer w.identification octets)) c.self.view_is
     ∙ ap (λ (b : Option Endpoint). with_socket (record h { last_port = last_port_after h b local.port; identification = next_identification h.identification }) c.args.id (role_after_sendto local h.kept c.args.peer h.identification octets)) (sym (bound_found h c.args.id x bound found bound_is))
     ∙ sym (sendto-given h c.args.id c.args.peer octets c.args.is_routed local given)
@@ -64,6 +64,6 @@ invariant_of-self-2 c =
     let change : Role → Role = role_after_sendto c.in_ok-local.local c.self.inside.kept c.args.peer c.self.inside.identification c.args.octets.now in
     let x : Entry = c.index-deref_mut-place.result in (
       c.last_port_after-last_port.ensures.dynamic,
-      ascends_written _ _ _ _ _ x c.self.invariant.1 c.deref_mut.ensures.value (same_id c.send_to.result change (get_or c.deref_mut.result.now c.in_ok-place.place x) _ c.send_to.ensures.after),
+      ascends_written _ _ _ _ _ x c.self.invariant.1 c.deref_mut.ensures.value refl,
       index_written _ _ _ _ _ x c.self.invariant.2 c.deref_mut.ensures.value (filed_or_not c.send_to.result change (get_or c.deref_mut.result.now c.in_ok-place.place x) _ (filed-sendto _ _ _ _ _ _) c.send_to.ensures.after),
     )

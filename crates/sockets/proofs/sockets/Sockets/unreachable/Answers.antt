@@ -1,16 +1,17 @@
 -- The write at the place is the change of the connection that is told, or it is taken out.
-use Rattle.std.proofs.Common.{◌≡◌, ◌∙◌, ℕ, List, get_or, Bool, Some, ap, sym}
+use Rattle.std.proofs.Common.{◌≡◌, ◌∙◌, ℕ, List, get_or, Bool, Some, refl, ap, sym}
 use Rattle.std.specs.List.{find, position}
 use Rattle.tcp_state.specs.declared.connection.Fate.{Fate}
 use Rattle.sockets.specs.declared.entry.Entry.{Entry}
 use Rattle.sockets.specs.Entries.{is_between, role_after_unreachable, unreachable_fate_of, entries_after_step}
 use Rattle.sockets.specs.SocketsView.{SocketsView}
 use Rattle.sockets.proofs.Arrived.{entry_settled}
+use Rattle.sockets.proofs.Written.{role_changed}
 use Rattle.sockets.proofs.Firsts.{find-position}
 use Rattle.sockets.proofs.Told.{told-found}
 use Rattle.sockets.proofs.Ascending.{ascends_written, ascends_settled, lent_in_order}
 use Rattle.sockets.proofs.Filed.{index_written}
-use Rattle.sockets.proofs.KeptFiled.{filed_after, filed-unreachable}
+use Rattle.sockets.proofs.KeptFiled.{filed_role, filed-unreachable}
 use Rattle.sockets.proofs.sockets.Sockets.unreachable.Goals as goal
 
 pub returns-in-Some : goal.returns-in-Some
@@ -27,20 +28,20 @@ returns-in-Some c =
     c.index-deref_mut-place.is ∙ ap (λ (es : List Entry). get_or es c.in-Some.place x) (c.deref_mut.ensures.value ∙ entries)
     in
     let found : find test h.entries ≡ Some x = find-position test h.entries c.in-Some.place x place at in
-    entry_settled _ _ test (role_after_unreachable number) _ _ _ _ _ c.unreachable-fate.result c.self.view_is place c.deref_mut.ensures.value c.index-deref_mut-place.is c.unreachable-fate.ensures.after c.settle.ensures.entries
+    entry_settled _ _ test (role_after_unreachable number) _ _ _ _ _ c.unreachable-fate.result c.self.view_is place c.deref_mut.ensures.value c.index-deref_mut-place.is (role_changed (role_after_unreachable number) _ _ c.unreachable-fate.ensures.after) c.settle.ensures.entries
     ∙ ap (λ (r : Fate). let w : SocketsView = record h { entries = entries_after_step r test (role_after_unreachable number) h.entries } in w) (c.unreachable-fate.ensures.fate ∙ ap (λ (e : Entry). unreachable_fate_of number e.role) (sym c.index-deref_mut-place.is))
     ∙ sym (told-found h c.args.local c.args.peer number x found)
 
 -- the entry keeps its id, or is taken out
 pub invariant_of-self : goal.invariant_of-self
-invariant_of-self c = (c.self.invariant.0, ascends_settled _ c.unreachable-fate.result _ _ _ (ascends_written _ _ _ _ _ c.index-deref_mut-place.result c.self.invariant.1 c.deref_mut.ensures.value (ap (λ (e : Entry). e.id) c.unreachable-fate.ensures.after)) c.settle.ensures.entries, c.settle.ensures.index)
+invariant_of-self c = (c.self.invariant.0, ascends_settled _ c.unreachable-fate.result _ _ _ (ascends_written _ _ _ _ _ c.index-deref_mut-place.result c.self.invariant.1 c.deref_mut.ensures.value refl) c.settle.ensures.entries, c.settle.ensures.index)
 
 -- its connection stays filed by its ends
 pub settle-requires-clause-order : goal.settle-requires-clause-order
-settle-requires-clause-order c = (c.self.inside.last_id, ascends_written _ _ _ _ _ c.index-deref_mut-place.result c.self.invariant.1 c.deref_mut.ensures.value (ap (λ (e : Entry). e.id) c.unreachable-fate.ensures.after))
+settle-requires-clause-order c = (c.self.inside.last_id, ascends_written _ _ _ _ _ c.index-deref_mut-place.result c.self.invariant.1 c.deref_mut.ensures.value refl)
 
 pub settle-requires-clause-index : goal.settle-requires-clause-index
-settle-requires-clause-index c = index_written _ _ _ _ _ c.index-deref_mut-place.result c.self.invariant.2 c.deref_mut.ensures.value (filed_after (role_after_unreachable c.args.number.0) _ _ (filed-unreachable _ _) c.unreachable-fate.ensures.after)
+settle-requires-clause-index c = index_written _ _ _ _ _ c.index-deref_mut-place.result c.self.invariant.2 c.deref_mut.ensures.value (filed_role (role_after_unreachable c.args.number.0) _ _ (filed-unreachable _ _) c.unreachable-fate.ensures.after)
 
 -- the entries that are lent stand in order
 pub connection_between-requires-clause-order : goal.connection_between-requires-clause-order
