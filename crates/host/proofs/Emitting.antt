@@ -1,6 +1,6 @@
 -- What goes out for the first entry for which a frame can.
-use Rattle.std.proofs.Common.{◌≡◌, ℕ, ◌+◌, ◌-◌, ◌*◌, ◌≤◌, ◌&&◌, min, Bool, true, false, cond, List, [], ◌∷◌, ◌++◌, length, drop, slice_range, get_or, Option, Some, None, is_some, option_map, refl, sym, ◌∙◌, ap, length-take}
-use Rattle.std.specs.List.{find, position}
+use Rattle.std.proofs.Common.{◌≡◌, ℕ, ◌+◌, ◌-◌, ◌*◌, ◌≤◌, ◌<◌, ◌&&◌, min, Bool, true, false, cond, List, [], ◌∷◌, ◌++◌, length, drop, slice_range, get_or, Option, Some, None, is_some, option_map, IfSome, refl, sym, ◌∙◌, ap, subst, length-take}
+use Rattle.std.specs.List.{find, position, AllWithin}
 use Rattle.std.proofs.lemmas.List.Quantifiers.{position-Some}
 use Rattle.std.proofs.lemmas.Option.{slice_get-get_or}
 use Rattle.std.proofs.lemmas.List.{length-drop}
@@ -12,8 +12,11 @@ use Rattle.tcp_segment.proofs.Checksum.{sent_octets_len}
 use Rattle.tcp_state.specs.declared.emission.Due.{Due}
 use Rattle.tcp_state.specs.Due.{first_due, emitted_len as segment_len, head_of, octets_of, segment_octets as due_segment}
 use Rattle.interface.proofs.Framed.{framed}
+use Rattle.interface.proofs.Waits.{asks}
 use Rattle.interface.specs.Replies.{goes_out}
 use Rattle.interface.specs.Ways.{way}
+use Rattle.interface.specs.declared.way.Way.{Way}
+use Rattle.interface.specs.declared.way.Way.TheVariants.{To, Ask, Waits}
 use Rattle.sockets.specs.declared.entry.Entry.{Entry}
 use Rattle.sockets.specs.declared.role.Role.{Role}
 use Rattle.sockets.specs.declared.role.Role.TheVariants.{Idle, Listener, Connected, Datagrams}
@@ -22,7 +25,7 @@ use Rattle.sockets.specs.declared.emission.Emitted.TheVariants as emitted
 use Rattle.sockets.specs.Entries.{due_peer, due_emitted, has_due, is_due, sends, due_octets, due_front, len_of, source_of, IsDueAt}
 use Rattle.sockets.specs.Emission.{emitted, emitted_octets, emitted_front}
 use Rattle.sockets.specs.SocketsView.{SocketsView}
-use Rattle.sockets.proofs.Firsts.{find-position, find-position_none}
+use Rattle.sockets.proofs.Firsts.{find-position, find-position_none, position-from_fails, position-none_passes}
 use Rattle.udp.specs.declared.cutting.Part.{Part}
 use Rattle.udp.specs.Datagram.{spelling}
 use Rattle.udp.specs.Fragments.{fragment, part_of}
@@ -32,7 +35,10 @@ use Rattle.udp_socket.specs.Emission.{datagram_of, fragment_of, head_of as datag
 use Rattle.udp_socket.specs.SocketView.{Outgoing}
 use borrow.Rule.Slice.PartMut.{mid_of, put_mid}
 use Rattle.host.specs.HostView.{HostView}
-use Rattle.host.specs.Emission.{Nothing, emission_from, emission_to, emitted_frame, goes_out_from, table_emission, way_to}
+use Rattle.host.specs.declared.emission.Plan.{Plan}
+use Rattle.host.specs.declared.emission.Plan.TheVariants as plan
+use Rattle.host.specs.Plans.{IsFirst, plan_by, plan_to, planned, planned_or_nothing}
+use Rattle.host.specs.Emission.{Nothing, emission_by, emission_from, emission_to, emitted_frame, goes_out_from, table_emission, way_to}
 
 -- where something is due to a peer, it is due
 due-peer : (role : Role) (peer : Endpoint) → due_peer role ≡ Some peer → has_due role ≡ true
@@ -146,3 +152,70 @@ framed_out h goes mac to out written after what m len told front fits past is =
     framed (emitted_frame h.interface mac to (Some what)) out written (emitted_octets h.sockets goes) after (len_of what) m len
     (front ∙ emitted_front_is h.sockets goes (mid_of 34 1480 out) what told) (emitted_octets_len h.sockets goes what told) fits past is
     ∙ ap (λ (o : Option Emitted). emitted_frame h.interface mac to o (emitted_octets h.sockets goes) ++ drop m out) told
+
+-- What is planned for an entry.
+
+-- nothing where it doesn't send
+pub plan-none : (h : HostView) (now : Moment) (place : ℕ) (e : Entry) → plan_to h now place (due_peer e.role) ≡ None → sends (goes_out_from h now) e ≡ false
+plan-none h now place e none = by_peer (due_peer e.role) refl none
+  where
+    no_more : (b : Bool) → (b && false) ≡ false
+    no_more true = refl
+    no_more false = refl
+
+    by_way : (peer : Endpoint) → due_peer e.role ≡ Some peer → (w : Way) → way h.interface now peer.addr ≡ w → plan_by place peer.addr w ≡ None → sends (goes_out_from h now) e ≡ false
+    by_way peer is (To mac) goes none = cc
+    by_way peer is (Ask hop) goes none = cc
+    by_way peer is Waits goes none = sends_by h now e peer is ∙ ap goes_out goes
+
+    by_peer : (o : Option Endpoint) → due_peer e.role ≡ o → plan_to h now place o ≡ None → sends (goes_out_from h now) e ≡ false
+    by_peer None is none = ap (λ p. is_due e && goes_out (way_to h now p)) is ∙ no_more (is_due e)
+    by_peer (Some peer) is none = by_way peer is (way h.interface now peer.addr) refl none
+
+-- it sends where something is
+plan-sends : (h : HostView) (now : Moment) (place : ℕ) (e : Entry) (p : Plan) → plan_to h now place (due_peer e.role) ≡ Some p → sends (goes_out_from h now) e ≡ true
+plan-sends h now place e p some = by_peer (due_peer e.role) refl some
+  where
+    by_way : (peer : Endpoint) → due_peer e.role ≡ Some peer → (w : Way) → way h.interface now peer.addr ≡ w → plan_by place peer.addr w ≡ Some p → sends (goes_out_from h now) e ≡ true
+    by_way peer is (To mac) goes some = sends_by h now e peer is ∙ ap goes_out goes
+    by_way peer is (Ask hop) goes some = sends_by h now e peer is ∙ ap goes_out goes
+    by_way peer is Waits goes some = cc
+
+    by_peer : (o : Option Endpoint) → due_peer e.role ≡ o → plan_to h now place o ≡ Some p → sends (goes_out_from h now) e ≡ true
+    by_peer None is some = cc
+    by_peer (Some peer) is some = by_way peer is (way h.interface now peer.addr) refl some
+
+-- what goes out then is what is planned, of the first entry that sends
+planned_to : (h : HostView) (now : Moment) (place : ℕ) (peer : Option Endpoint) (p : Plan) → plan_to h now place peer ≡ Some p → position (sends (goes_out_from h now)) h.sockets.entries ≡ Some place → (emission_to h now peer ≡ planned p) × IsFirst h now p
+planned_to h now place None p some first = cc
+planned_to h now place (Some peer) p some first = by_way (way h.interface now peer.addr) refl some
+  where
+    by_way : (w : Way) → way h.interface now peer.addr ≡ w → plan_by place peer.addr w ≡ Some p → (emission_by peer.addr w ≡ planned p) × IsFirst h now p
+    by_way (To mac) goes is =
+        let same : plan.Send place mac peer.addr ≡ p = cc in
+        (ap planned same, subst (IsFirst h now) same first)
+    by_way (Ask hop) goes is =
+        let same : plan.Ask hop ≡ p = cc in
+        (ap planned same, subst (IsFirst h now) same (asks h.interface now peer.addr hop goes))
+    by_way Waits goes is = cc
+
+-- the entry in this place is the first that sends
+pub plan_at : (h : HostView) (now : Moment) (place : ℕ) (x : Entry) (entries : List Entry) (o : Option Plan) → entries ≡ h.sockets.entries → place < length entries → AllWithin (λ (e : Entry). sends (goes_out_from h now) e ≡ false) entries 0 place → x ≡ get_or entries place x
+    → o ≡ plan_to h now place (due_peer x.role) → is_some o ≡ true → (table_emission h now ≡ planned_or_nothing o) × IfSome o (IsFirst h now)
+plan_at h now place x entries None same within fails at is some = cc
+plan_at h now place x entries (Some p) same within fails at is some =
+    let goes : sends (goes_out_from h now) x ≡ true = plan-sends h now place x p (sym is) in
+    let there : position (sends (goes_out_from h now)) entries ≡ Some place = position-from_fails (sends (goes_out_from h now)) entries place x within fails at goes in
+    let first : position (sends (goes_out_from h now)) h.sockets.entries ≡ Some place = ap (λ (l : List Entry). position (sends (goes_out_from h now)) l) (sym same) ∙ there in
+    let planned_is = planned_to h now place (due_peer x.role) p (sym is) first in
+    (entry_from h now place x entries (due_peer x.role) first same at refl ∙ planned_is.0, planned_is.1)
+
+-- the entry in this place doesn't send
+pub plan_missed : (h : HostView) (now : Moment) (place : ℕ) (x : Entry) (o : Option Plan) → o ≡ plan_to h now place (due_peer x.role) → is_some o ≡ false → sends (goes_out_from h now) x ≡ false
+plan_missed h now place x None is missed = plan-none h now place x (sym is)
+plan_missed h now place x (Some p) is missed = cc
+
+-- no entry sends
+pub plan_past : (h : HostView) (now : Moment) (entries : List Entry) → entries ≡ h.sockets.entries → AllWithin (λ (e : Entry). sends (goes_out_from h now) e ≡ false) entries 0 (length entries) → table_emission h now ≡ Nothing
+plan_past h now entries same fails =
+    none_from h now (ap (λ (l : List Entry). position (sends (goes_out_from h now)) l) (sym same) ∙ position-none_passes (sends (goes_out_from h now)) entries fails)

@@ -9,3 +9,4 @@ pub mod Places
 pub mod Carried
 pub mod Runs
 pub mod Causes
+pub mod Plans

@@ -1,8 +1,7 @@
 //! The frames that go out.
 
 ghost use Rattle.std.specs.Prelude.{◌≡◌, ◌≤◌, ◌++◌, drop, position, IfSome, Some};
-ghost use Rattle.interface.specs.Ways.{way};
-ghost use Rattle.sockets.specs.Entries.{sends};
+ghost use Rattle.sockets.specs.Entries.{due_peer, sends};
 ghost use Rattle.host.specs.Emission.{Sends};
 
 use crate::host::Host;
@@ -12,11 +11,21 @@ use interface::Way;
 use ipv4::Addr;
 use sockets::{Emitted, Entry};
 
+/// What goes out for the first entry for which a frame can.
+#[derive(Clone, Copy)]
+pub(crate) enum Plan {
+    /// What the entry in this place has due, to this MAC and for this address.
+    Send { place: usize, mac: Mac, to: Addr },
+    /// The request for this hop.
+    Ask { hop: Addr },
+}
+
 /// The length of the heads of a frame and a datagram, in octets (RFC 894, RFC 791 section 3.1).
 const HEADS: usize = 34;
 
 impl Host {
-    ghost use Rattle.host.specs.Emission.{emission_len, after_emission, emission_front, goes_out_from, len_of, octets_of, left_by, front_of, table_emission, emission_by};
+    ghost use Rattle.host.specs.Emission.{emission_len, after_emission, emission_front, goes_out_from, len_of, octets_of, left_by, front_of, table_emission};
+    ghost use Rattle.host.specs.Plans.{planned, planned_or_nothing, plan_to, IsFirst};
 
     /// Writes the frame that goes out first, at the later of `now` and the kept moment, from `out[0]` on, and answers its length,
     /// 60 to 1,514 octets: that of the first control reply for which one can, in the order in which they wait, else that of the segment
@@ -43,45 +52,23 @@ impl Host {
         ensures after { self.new ≡ left_by self.old now (table_emission self.old now) }
         ensures frame { out.new ≡ front_of (octets_of self.old now (table_emission self.old now)) out.old result }
     {
-        match self.first_entry(now) {
-            Some(place) => self.emit_from(place, now, out),
+        match self.plan(now) {
+            Some(plan) => Some(self.emit_planned(plan, now, out)),
             None => None,
         }
     }
 
-    /// Writes the frame for the entry in this place, which is that entry.
-    fn emit_from(&mut self, place: usize, now: Moment, out: &mut [u8; SPACE]) -> Option<usize>
-        requires first { position (sends (goes_out_from self.old now)) self.old.sockets.entries ≡ Some place }
-        ensures answer { result ≡ len_of self.old now (table_emission self.old now) }
-        ensures bounds { IfSome result (λ len. (60 ≤ len) × (len ≤ SPACE)) }
-        ensures after { self.new ≡ left_by self.old now (table_emission self.old now) }
-        ensures frame { out.new ≡ front_of (octets_of self.old now (table_emission self.old now)) out.old result }
+    /// Writes the frame that is planned, and answers its length, 60 to 1,514 octets.
+    fn emit_planned(&mut self, plan: Plan, now: Moment, out: &mut [u8; SPACE]) -> usize
+        requires first { IsFirst self.old now plan }
+        ensures len { Some result ≡ len_of self.old now (planned plan) }
+        ensures bounds { (60 ≤ result) × (result ≤ SPACE) }
+        ensures after { self.new ≡ left_by self.old now (planned plan) }
+        ensures frame { out.new ≡ octets_of self.old now (planned plan) ++ drop result out.old }
     {
-        match self.sockets.entries()[place].due_peer() {
-            Some(peer) => self.emit_to(place, peer.addr, now, out),
-            None => None,
-        }
-    }
-
-    /// Writes the frame for what the entry in this place has due, to this address: it, or the request for its hop.
-    fn emit_to(
-        &mut self,
-        place: usize,
-        to: Addr,
-        now: Moment,
-        out: &mut [u8; SPACE],
-    ) -> Option<usize>
-        requires first { position (sends (goes_out_from self.old now)) self.old.sockets.entries ≡ Some place }
-        requires peer { table_emission self.old now ≡ emission_by to (way self.old.interface now to) }
-        ensures answer { result ≡ len_of self.old now (table_emission self.old now) }
-        ensures bounds { IfSome result (λ len. (60 ≤ len) × (len ≤ SPACE)) }
-        ensures after { self.new ≡ left_by self.old now (table_emission self.old now) }
-        ensures frame { out.new ≡ front_of (octets_of self.old now (table_emission self.old now)) out.old result }
-    {
-        match self.interface.way(now, to) {
-            Way::To(mac) => Some(self.emit_entry(place, mac, to, now, out)),
-            Way::Ask(hop) => Some(self.interface.emit_request(now, hop, out)),
-            Way::Waits => None,
+        match plan {
+            Plan::Send { place, mac, to } => self.emit_entry(place, mac, to, now, out),
+            Plan::Ask { hop } => self.interface.emit_request(now, hop, out),
         }
     }
 
@@ -107,23 +94,34 @@ impl Host {
         }
     }
 
-    /// The place of the first entry, in order of id, with a segment or a datagram due for which a frame can go out now.
-    fn first_entry(&self, now: Moment) -> Option<usize>
-        ensures { result ≡ position (sends (goes_out_from self.now now)) self.now.sockets.entries }
+    /// What can go out for the table: for the first entry, in order of id, for which a frame can.
+    fn plan(&self, now: Moment) -> Option<Plan>
+        ensures what { table_emission self.now now ≡ planned_or_nothing result }
+        ensures first { IfSome result (λ plan. IsFirst self.now now plan) }
     {
-        self.sockets
-            .entries()
-            .iter()
-            .position(|entry| self.sends(now, entry))
+        let entries = self.sockets.entries();
+        for place in 0..entries.len() {
+            let plan = self.plan_for(now, place, &entries[place]);
+            if plan.is_some() {
+                return plan;
+            }
+        }
+        None
     }
 
-    /// Whether an entry has a segment or a datagram due for which a frame can go out now.
-    fn sends(&self, now: Moment, entry: &Entry) -> bool
-        ensures { result ≡ sends (goes_out_from self.now now) entry.now }
+    /// What can go out for the entry in this place.
+    fn plan_for(&self, now: Moment, place: usize, entry: &Entry) -> Option<Plan>
+        ensures { result ≡ plan_to self.now now place (due_peer entry.now.role) }
     {
-        match entry.due_peer() {
-            Some(peer) => self.interface.way(now, peer.addr).goes_out(),
-            None => false,
+        let peer = entry.due_peer()?;
+        match self.interface.way(now, peer.addr) {
+            Way::To(mac) => Some(Plan::Send {
+                place,
+                mac,
+                to: peer.addr,
+            }),
+            Way::Ask(hop) => Some(Plan::Ask { hop }),
+            Way::Waits => None,
         }
     }
 }
