@@ -3,6 +3,7 @@ use Rattle.std.specs.Prelude.{◌≡◌, ℕ, ◌+◌, ◌*◌, ◌/◌, ◌%◌
 use Rattle.byteorder.specs.Endian.{big_bytes}
 use Rattle.inet_sum.specs.Sum.{sum_of}
 use Rattle.ipv4.specs.declared.addr.Addr.{Addr}
+use Rattle.ipv4.specs.declared.limits.TheConstants.{MAX_PAYLOAD}
 use Rattle.ipv4.specs.declared.fault.Ipv4Fault.{Ipv4Fault}
 use Rattle.ipv4.specs.declared.fault.Ipv4Fault.TheVariants.{IpHeader, IpSum}
 
@@ -56,7 +57,7 @@ spelling d = header_octets d ++ d.payload
 -- 65,515 octets, is this stack's own.
 pub record HasPlace (more_fragments : Bool) (offset len : ℕ) : Type 0 where
   pub units : IsTrue more_fragments → (0 < len) × (len % 8 ≡ 0)
-  pub reach : 8 * offset + len ≤ 65515
+  pub reach : 8 * offset + len ≤ MAX_PAYLOAD
 
 -- each field is a number of its width, the options fill up words, and the payload has its place
 pub record IsDatagram (d : Datagram) : Type 0 where

@@ -4,6 +4,7 @@ use Rattle.std.specs.Prelude.{◌≡◌, ℕ, ◌+◌, ◌-◌, ◌*◌, ◌/◌
 use Rattle.byteorder.specs.Endian.{big_number}
 use Rattle.inet_sum.specs.Sum.{sum_of}
 use Rattle.ipv4.specs.declared.fault.Ipv4Fault.{Ipv4Fault}
+use Rattle.ipv4.specs.declared.limits.TheConstants.{MAX_PAYLOAD}
 use Rattle.ipv4.specs.declared.fault.Ipv4Fault.TheVariants.{IpHeader, IpSum}
 use Rattle.ipv4.specs.Datagram.{Datagram, IsDatagram, header_octets}
 
@@ -50,7 +51,7 @@ lengths_in octets =
 
 -- whether a payload of this length has a place at this offset, in units of eight octets
 abbrev pub has_place : Bool → ℕ → ℕ → Bool
-has_place more_fragments offset len = (not more_fragments || (nat_lt 0 len && len % 8 == 0)) && nat_le (8 * offset + len) 65515
+has_place more_fragments offset len = (not more_fragments || (nat_lt 0 len && len % 8 == 0)) && nat_le (8 * offset + len) MAX_PAYLOAD
 
 -- the datagram, if its payload has its place
 abbrev pub placed : Datagram → Option Datagram

@@ -4,22 +4,20 @@ ghost use Rattle.std.specs.Prelude.{◌≡◌, ◌+◌, ◌*◌, ◌/◌, ◌%�
 ghost use Rattle.ipv4.specs.Datagram.{HasPlace};
 ghost use Rattle.ipv4.specs.Reading.{word_at};
 
+use crate::limits::MAX_PAYLOAD;
 use byteorder::{BigEndian, ByteOrder};
-
-/// The octets behind the shortest header that a total length can count.
-const MOST_PAYLOAD: usize = 65_515;
 
 /// The octets of a unit of the offset.
 const UNIT: usize = 8;
 
-/// The place of the flag that forbids to cut the datagram.
-pub(crate) const DONT_FRAGMENT: u32 = 14;
+/// How far left of the lowest bit the flag stands that forbids to cut the datagram.
+pub(crate) const DONT_FRAGMENT_SHIFT: u32 = 14;
 
-/// The place of the flag that says that more fragments follow.
-pub(crate) const MORE_FRAGMENTS: u32 = 13;
+/// How far left of the lowest bit the flag stands that says that more fragments follow.
+pub(crate) const MORE_FRAGMENTS_SHIFT: u32 = 13;
 
 /// The bits of the offset.
-const OFFSET: u16 = 0x1fff;
+const OFFSET_MASK: u16 = 0x1fff;
 
 /// Whether a header has the flag at this place of the word of flags and offset.
 pub(crate) fn has_flag(header: &[u8], place: u32) -> bool
@@ -35,7 +33,7 @@ pub(crate) fn offset(header: &[u8]) -> u16
     requires { 20 ≤ length header.now }
     ensures { result ≡ word_at header.now 6 % 2 ^ 13 }
 {
-    BigEndian::read_u16(&header[6..]) & OFFSET
+    BigEndian::read_u16(&header[6..]) & OFFSET_MASK
 }
 
 /// Whether a payload of so many octets has a place where this header puts it.
@@ -45,6 +43,6 @@ pub(crate) fn has_place(header: &[u8], payload_len: usize) -> bool
     ensures { IsTrue result ↔ HasPlace (word_at header.now 6 / 2 ^ 13 % 2 == 1) (word_at header.now 6 % 2 ^ 13) payload_len }
 {
     let units = 0 < payload_len && payload_len.is_multiple_of(UNIT);
-    (units || !has_flag(header, MORE_FRAGMENTS))
-        && UNIT * usize::from(offset(header)) + payload_len <= MOST_PAYLOAD
+    (units || !has_flag(header, MORE_FRAGMENTS_SHIFT))
+        && UNIT * usize::from(offset(header)) + payload_len <= MAX_PAYLOAD
 }

@@ -1,11 +1,12 @@
 //! What this stack puts into a header.
 
 ghost use Rattle.std.specs.Prelude.{◌≡◌, ℕ, List, ◌+◌, ◌<◌, ◌≤◌, ◌^◌, ◌++◌, length, drop, slice_range};
+ghost use Rattle.inet_sum.specs.Sum.{ones_complement, sum_of};
 ghost use Rattle.ipv4.specs.Datagram.{HasPlace, IsDatagram, header_octets, fragment_field, spelling};
 ghost use Rattle.ipv4.specs.Sent.{sent, sent_with};
 
 use crate::addr::Addr;
-use crate::fragment::{DONT_FRAGMENT, MORE_FRAGMENTS};
+use crate::fragment::{DONT_FRAGMENT_SHIFT, MORE_FRAGMENTS_SHIFT};
 use crate::protocol::Protocol;
 
 /// The length of a header without options, in octets (RFC 791 section 3.1).
@@ -48,10 +49,30 @@ impl Head {
         ensures fields { IsDatagram (sent self.now (slice_range out.old 20 result)) }
     {
         let total = HEADER_LEN + payload_len;
-        let unsummed = self.header(total as u16, 0);
-        let header = self.header(total as u16, inet_sum::checksum(&unsummed));
-        out[..HEADER_LEN].copy_from_slice(&header);
+        let checksum = u16::MAX - inet_sum::fold(self.words(total as u16));
+        out[..HEADER_LEN].copy_from_slice(&self.header(total as u16, checksum));
         total
+    }
+
+    /// What the words of the header of a datagram of this total length come to where the checksum is 0, in one's complement: an
+    /// address of 32 bits counts as its two words.
+    fn words(&self, total: u16) -> u64
+        requires { self.now.offset < 2 ^ 13 }
+        ensures { (payload : List ℕ) → 20 + length payload ≡ total → ones_complement result ≡ sum_of (header_octets (sent_with self.now payload 0)) }
+    {
+        let Head {
+            source: Addr(source),
+            destination: Addr(destination),
+            protocol: Protocol(protocol),
+            identification,
+            ..
+        } = *self;
+        let addresses = u64::from(u32::from_be_bytes(source))
+            + u64::from(u32::from_be_bytes(destination));
+        let lengths = u64::from(u16::from_be_bytes([VERSION_AND_WORDS, 0])) + u64::from(total);
+        let fragment = u64::from(identification) + u64::from(self.fragment_field());
+        let control = u64::from(u16::from_be_bytes([TIME_TO_LIVE, protocol]));
+        addresses + lengths + fragment + control
     }
 
     /// The header of a datagram of this total length, in octets, with this checksum.
@@ -98,8 +119,8 @@ impl Head {
         requires { self.now.offset < 2 ^ 13 }
         ensures { (payload : List ℕ) (checksum : ℕ) → result ≡ fragment_field (sent_with self.now payload checksum) }
     {
-        let dont_fragment = u16::from(self.dont_fragment) << DONT_FRAGMENT;
-        let more_fragments = u16::from(self.more_fragments) << MORE_FRAGMENTS;
+        let dont_fragment = u16::from(self.dont_fragment) << DONT_FRAGMENT_SHIFT;
+        let more_fragments = u16::from(self.more_fragments) << MORE_FRAGMENTS_SHIFT;
         dont_fragment + more_fragments + self.offset
     }
 }

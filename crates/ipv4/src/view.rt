@@ -93,14 +93,14 @@ impl<'a> Ipv4View<'a> {
     pub fn dont_fragment(&self) -> bool
         ensures { result ≡ self.now.dont_fragment }
     {
-        fragment::has_flag(self.header, fragment::DONT_FRAGMENT)
+        fragment::has_flag(self.header, fragment::DONT_FRAGMENT_SHIFT)
     }
 
     /// Whether fragments of the same datagram follow behind this one.
     pub fn more_fragments(&self) -> bool
         ensures { result ≡ self.now.more_fragments }
     {
-        fragment::has_flag(self.header, fragment::MORE_FRAGMENTS)
+        fragment::has_flag(self.header, fragment::MORE_FRAGMENTS_SHIFT)
     }
 
     /// Where the payload stands in the payload of the whole datagram, in units of eight octets.

@@ -5,7 +5,7 @@ use Rattle.ipv4.proofs.head.Head.emit.Goals as goal
 
 pub copy_from_slice-requires : goal.copy_from_slice-requires
 copy_from_slice-requires c =
-    let len : length c.header-header.result ≡ 20 = search rules in
+    let len : length c.header.result ≡ 20 = search rules in
     omega (arith, len, length-take 20 c.args.out.now, c.requires.room)
 
 pub returns-clause-octets : goal.returns-clause-octets
@@ -13,14 +13,13 @@ returns-clause-octets c =
     let payload : List ℕ = slice_range c.args.out.now 20 (20 + c.args.payload_len) in
     let len = payload-length c.args.out.now c.args.payload_len c.requires.room in
     let whole : 20 + length payload ≡ 20 + c.args.payload_len = omega (arith, len) in
-    emitted c.args.self.now c.header-unsummed.result c.copy_from_slice.new.self c.args.out.now c.checksum.result c.args.payload_len
-    (c.header-unsummed.ensures payload whole) c.checksum.ensures (c.copy_from_slice.ensures.after ∙ c.header-header.ensures payload whole)
+    emitted c.args.self.now c.copy_from_slice.new.self c.args.out.now c.fold-checksum.result c.args.payload_len
+    (c.fold-checksum.ensures ∙ c.words.ensures payload whole) (c.copy_from_slice.ensures.after ∙ c.header.ensures payload whole)
 
 pub returns-clause-fields : goal.returns-clause-fields
 returns-clause-fields c =
     let len = payload-length c.args.out.now c.args.payload_len c.requires.room in
     let place = c.requires.place in
-    let checksum = c.checksum.ensures in
     record {
       service = omega arith;
       identification = search rules;
