@@ -4,4 +4,4 @@
 pub mod laws;
 mod moment;
 
-pub use moment::{Moment, sooner};
+pub use moment::{HOP_WAIT, Moment, later, sooner};

@@ -1,7 +1,10 @@
 //! Moments, and the sooner of two deadlines.
 
 ghost use Rattle.std.specs.Prelude.{◌≡◌};
-ghost use Rattle.clock.specs.Moments.{after, sooner};
+ghost use Rattle.clock.specs.Moments.{after, later, sooner};
+
+/// How long what is to go out waits for a hop that isn't known, in milliseconds. It is this stack's own.
+pub const HOP_WAIT: u64 = 3_000;
 
 /// A moment of a host's clock, in milliseconds from an origin of the caller's choice.
 #[derive(Clone, Copy, Debug, PartialEq, Eq, PartialOrd, Ord)]
@@ -23,5 +26,15 @@ pub fn sooner(a: Option<Moment>, b: Option<Moment>) -> Option<Moment>
     match (a, b) {
         (None, deadline) | (deadline, None) => deadline,
         (Some(a), Some(b)) => Some(a.min(b)),
+    }
+}
+
+/// The later of two ends; where there is one alone, that one.
+pub fn later(a: Option<Moment>, b: Option<Moment>) -> Option<Moment>
+    ensures { result ≡ later a b }
+{
+    match (a, b) {
+        (None, end) | (end, None) => end,
+        (Some(a), Some(b)) => Some(a.max(b)),
     }
 }

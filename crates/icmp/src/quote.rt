@@ -6,7 +6,7 @@ ghost use Rattle.icmp.specs.Quotes.{Quotes};
 ghost use Rattle.icmp.specs.Reading.{header_in, quote_in};
 
 use byteorder::{BigEndian, ByteOrder};
-use ipv4::{Addr, Endpoint, HEADER_LEN, Protocol};
+use ipv4::{Addr, Endpoint, HEADER_LEN, Protocol, VERSION, WORD};
 
 /// What an error quotes of the datagram that caused it: between whom that one went, and the number that its sender gave it
 /// (RFC 792, RFC 1122 section 3.2.2).
@@ -21,12 +21,6 @@ pub struct Quote {
     /// The four octets behind the ports: a TCP segment's sequence number.
     pub number: u32,
 }
-
-/// The version in the first octet of a header.
-const VERSION: u8 = 4;
-
-/// The octets of a word of a header.
-const WORD: usize = 4;
 
 /// The octets behind the header that a quote has to have.
 const BEHIND: usize = 8;

@@ -7,6 +7,7 @@ ghost use Rattle.ipv4.specs.declared.addr.Endpoint.{Endpoint};
 ghost use Rattle.ipv4.specs.declared.head.TheConstants.{HEADER_LEN};
 ghost use Rattle.ipv4.specs.declared.limits.TheConstants.{ERROR_QUOTE, MAX_PAYLOAD, PAYLOAD_IN_FRAME};
 ghost use Rattle.ipv4.specs.declared.protocol.TheConstants.Protocol.{ICMP, TCP, UDP};
+ghost use Rattle.ipv4.specs.declared.view.TheConstants.{VERSION, WORD};
 ghost use Rattle.ipv4.specs.Addresses.{endpoint_cmp, pair_of};
 
 pub mod datagram;
@@ -19,11 +20,12 @@ pub fn one_pair()
     ensures lesser { (a b : Endpoint) → IsTrue (is_le (endpoint_cmp (pair_of a b).first (pair_of a b).second)) }
 {}
 
-/// What the public constants are: a header without options has 20 octets, so the longest datagram's payload has 65,515 (RFC 791
+/// What the public constants are: a header is of version 4 and counts its words of four octets; one without options has 20 octets, so the longest datagram's payload has 65,515 (RFC 791
 /// section 3.1) and that of a frame 1,480 (RFC 894); an error quotes 68 octets at most (RFC 792); and the numbers of the protocols
 /// (RFC 792, RFC 9293 section 3.1, RFC 768).
 pub fn constants()
     ensures header { HEADER_LEN ≡ 20 }
+    ensures version { (VERSION ≡ 4) × (WORD ≡ 4) }
     ensures payload { MAX_PAYLOAD ≡ 65515 }
     ensures in_frame { PAYLOAD_IN_FRAME ≡ 1480 }
     ensures quote { ERROR_QUOTE ≡ 68 }

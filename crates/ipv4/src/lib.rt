@@ -18,5 +18,5 @@ pub use head::{HEADER_LEN, Head};
 pub use limits::{ERROR_QUOTE, MAX_PAYLOAD, PAYLOAD_IN_FRAME};
 pub use prefix::{Prefix, PrefixFault};
 pub use protocol::Protocol;
-pub use sum::sum_between;
-pub use view::Ipv4View;
+pub use sum::{pseudo_between, sum_between};
+pub use view::{Ipv4View, VERSION, WORD};

@@ -16,15 +16,23 @@ pub fn sum_between(protocol: Protocol, src: Addr, dst: Addr, octets: &[u8]) -> u
     ensures src_octets { length src.0 ≡ 4 }
     ensures dst_octets { length dst.0 ≡ 4 }
 {
-    let length = octets.len() as u16;
+    pseudo_between(protocol, src, dst, octets.len() as u16).sum_with(octets)
+}
+
+/// The pseudo header of a segment or datagram of this protocol between these addresses, which has this length, in octets (RFC 9293
+/// section 3.1, RFC 768).
+pub fn pseudo_between(protocol: Protocol, src: Addr, dst: Addr, len: u16) -> Pseudo
+    ensures value { result ≡ record { src = src.0; dst = dst.0; protocol = protocol.0; length = len } }
+    ensures src_octets { length src.0 ≡ 4 }
+    ensures dst_octets { length dst.0 ≡ 4 }
+{
     let Addr(src) = src;
     let Addr(dst) = dst;
     let Protocol(protocol) = protocol;
-    let pseudo = Pseudo {
+    Pseudo {
         src,
         dst,
         protocol,
-        length,
-    };
-    pseudo.sum_with(octets)
+        length: len,
+    }
 }

@@ -12,11 +12,11 @@ use crate::protocol::Protocol;
 use byteorder::{BigEndian, ByteOrder};
 use std::marker::Model;
 
-/// The version in the first octet of a header.
-const VERSION: u8 = 4;
+/// The version in the first octet of a header (RFC 791 section 3.1).
+pub const VERSION: u8 = 4;
 
-/// The octets of a word of a header.
-const WORD: usize = 4;
+/// The octets of a word of a header, in which its length is counted (RFC 791 section 3.1).
+pub const WORD: usize = 4;
 
 /// A datagram that was received and is well-formed, its octets lent from the frame.
 #[derive(Drop)]

@@ -4,8 +4,7 @@ ghost use Rattle.std.specs.Prelude.{◌≡◌, ◌<◌, ◌^◌, ℕ, List, leng
 ghost use Rattle.inet_sum.specs.Sum.{ones_complement, sum_of};
 ghost use Rattle.tcp_segment.specs.Segment.{summed_octets};
 
-use inet_sum::Pseudo;
-use ipv4::{Addr, Protocol};
+use ipv4::{Addr, Protocol, pseudo_between};
 
 /// The one's complement sum of the pseudo header between these addresses and of a segment.
 pub(crate) fn sum_between(src: Addr, dst: Addr, segment: &[u8]) -> u16
@@ -24,14 +23,5 @@ pub(crate) fn sum_of_words(src: Addr, dst: Addr, len: u16, words: u64) -> u16
     ensures src_octets { length src.0 ≡ 4 }
     ensures dst_octets { length dst.0 ≡ 4 }
 {
-    let Addr(src) = src;
-    let Addr(dst) = dst;
-    let Protocol(protocol) = Protocol::TCP;
-    let pseudo = Pseudo {
-        src,
-        dst,
-        protocol,
-        length: len,
-    };
-    pseudo.sum_before(words)
+    pseudo_between(Protocol::TCP, src, dst, len).sum_before(words)
 }

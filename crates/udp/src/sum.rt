@@ -5,8 +5,8 @@ ghost use Rattle.inet_sum.specs.Sum.{sum_of};
 ghost use Rattle.udp.specs.Datagram.{summed};
 
 use crate::head::HEADER_LEN;
-use inet_sum::{Pseudo, join};
-use ipv4::{Addr, Protocol};
+use inet_sum::join;
+use ipv4::{Addr, Protocol, pseudo_between};
 
 /// The one's complement sum of the pseudo header between these addresses and of a datagram.
 pub(crate) fn sum_between(src: Addr, dst: Addr, datagram: &[u8]) -> u16
@@ -32,15 +32,8 @@ pub(crate) fn sum_in_parts(
     ensures src_octets { length src.0 ≡ 4 }
     ensures dst_octets { length dst.0 ≡ 4 }
 {
-    let Addr(src) = src;
-    let Addr(dst) = dst;
-    let Protocol(protocol) = Protocol::UDP;
-    let pseudo = Pseudo {
-        src,
-        dst,
-        protocol,
-        length: (HEADER_LEN + payload_len) as u16,
-    };
+    let len = (HEADER_LEN + payload_len) as u16;
+    let pseudo = pseudo_between(Protocol::UDP, src, dst, len);
     // 20 octets stand before the payload, an even number.
     join(pseudo.sum_with(header), payload_sum, false)
 }

@@ -1,5 +1,6 @@
-use Rattle.std.proofs.Common.{◌≡◌, ◌%◌, ◌==◌, ap, sym, ◌+◌, ◌++◌, List, ℕ, length, length-append, arith, rules}
-use Rattle.inet_sum.specs.Sum.{pseudo_octets}
+use Rattle.std.proofs.Common.{◌≡◌, ◌%◌, ◌==◌, ap, sym, ◌∙◌, ◌+◌, ◌++◌, List, ℕ, length, length-append, arith, rules}
+use Rattle.inet_sum.specs.declared.Pseudo.{Pseudo}
+use Rattle.inet_sum.specs.Sum.{pseudo_octets, sum_of}
 use Rattle.udp.proofs.Sending.{summed_in_parts, before_payload}
 use Rattle.udp.proofs.sum.sum_in_parts.Goals as goal
 
@@ -11,4 +12,4 @@ returns-clause-sum c = λ payload size is_sum.
     let pseudo : List ℕ = pseudo_octets (record { src = c.args.src.0; dst = c.args.dst.0; protocol = 17; length = len }) in
     let twenty = before_payload c.args.src c.args.dst header len (search rules) (search rules) eight in
     summed_in_parts c.args.src c.args.dst header payload len c.join.result (omega (arith, length-append header payload, eight, size))
-    (c.join.ensures (pseudo ++ header) payload c.sum_with.ensures is_sum (ap (λ (n : ℕ). n % 2 == 1) (sym twenty)))
+    (c.join.ensures (pseudo ++ header) payload (c.sum_with.ensures ∙ ap (λ (p : Pseudo). sum_of (pseudo_octets p ++ header)) c.pseudo_between-pseudo.ensures.value) is_sum (ap (λ (n : ℕ). n % 2 == 1) (sym twenty)))

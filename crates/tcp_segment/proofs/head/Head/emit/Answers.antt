@@ -1,6 +1,5 @@
-use Rattle.std.proofs.Common.{◌≡◌, ◌+◌, ◌-◌, ◌*◌, ◌<◌, ◌^◌, ℕ, List, length, drop, slice_range, refl, sym, ◌∙◌, ap, arith}
+use Rattle.std.proofs.Common.{◌≡◌, ◌+◌, ◌*◌, ℕ, List, length, slice_range, sym, ◌∙◌, ap, arith}
 use Rattle.inet_sum.specs.Sum.{ones_complement, sum_of}
-use Rattle.tcp_segment.specs.Segment.{summed_octets}
 use Rattle.tcp_segment.specs.Sent.{sent_offset, sent_with}
 use Rattle.tcp_segment.proofs.Sending.{emitted, payload_len, whole_len, words_with_payload}
 use Rattle.tcp_segment.proofs.head.Head.emit.Goals as goal

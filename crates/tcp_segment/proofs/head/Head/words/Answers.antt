@@ -1,4 +1,4 @@
-use Rattle.std.proofs.Common.{◌≡◌, ◌+◌, ◌*◌, [], rules, arith}
+use Rattle.std.proofs.Common.{[], rules, arith}
 use Rattle.tcp_segment.specs.Segment.{FieldsFit}
 use Rattle.tcp_segment.specs.Sent.{sent_segment}
 use Rattle.tcp_segment.proofs.Sending.{words_are}
