@@ -8,7 +8,8 @@ use Rattle.clock.specs.declared.moment.Moment.{Moment}
 use Rattle.clock.specs.Moments.{sooner}
 use Rattle.arp.specs.declared.entry.Asked.{Asked}
 use Rattle.arp.specs.Cache.{end_of, is_note_of, is_live_note, live_notes, may_ask, IsNextAsk}
-use Rattle.arp.specs.Waits.{is_over, later, own_end, first_end, room_end}
+use Rattle.clock.specs.Moments.{is_over, later}
+use Rattle.arp.specs.Waits.{own_end, first_end, room_end}
 use Rattle.arp.proofs.History.{length-filter-le}
 
 -- the live notes, counted

@@ -1,21 +1,10 @@
 -- From when on a request may go out, as a function: `IsNextAsk` says what it tells.
-use Rattle.std.specs.Prelude.{Bool, true, nat_le, nat_lt, if◌then◌else◌, List, length, filter, fold, Option, Some, None}
+use Rattle.std.specs.Prelude.{nat_lt, if◌then◌else◌, List, length, filter, fold, Option, Some, None}
 use Rattle.clock.specs.declared.moment.Moment.{Moment}
-use Rattle.clock.specs.Moments.{sooner}
+use Rattle.clock.specs.Moments.{later, sooner}
 use Rattle.ipv4.specs.declared.addr.Addr.{Addr}
 use Rattle.arp.specs.declared.entry.Asked.{Asked}
 use Rattle.arp.specs.Cache.{end_of, is_note_of}
-
--- a wait is over at a moment: there is none, or its end is reached
-abbrev pub is_over : Option Moment → Moment → Bool
-is_over None now = true
-is_over (Some end) now = nat_le end.0 now.0
-
--- the later of two ends, as far as there are any
-abbrev pub later : Option Moment → Option Moment → Option Moment
-later None b = b
-later (Some a) None = Some a
-later (Some a) (Some b) = if nat_le a.0 b.0 then Some b else Some a
 
 -- the end of the note for an address that ends last
 abbrev pub own_end : Addr → List Asked → Option Moment

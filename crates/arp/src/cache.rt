@@ -3,13 +3,13 @@
 ghost use Rattle.std.specs.Prelude.{◌≡◌, ◌<◌, ◌&&◌, length};
 ghost use Rattle.std.specs.List.{list_any, AllByRecursion};
 ghost use Rattle.arp.specs.Cache.{empty, is_pair_of, is_note_of, updated, added, longest_unheard, pairs_after, is_request_for, after_hear, look, after_age, is_live_note, live_notes, after_ask, may_ask, has_place_for, IsNextAsk, HasWholeMacs};
-ghost use Rattle.arp.specs.Waits.{later, own_end, first_end, room_end, next_ask};
+ghost use Rattle.arp.specs.Waits.{own_end, first_end, room_end, next_ask};
 
 use crate::entry::{Asked, Neighbour};
 use crate::packet::{ArpPacket, Operation};
 use arrayvec::ArrayVec;
-use clock::{Moment, sooner};
-use ether::Mac;
+use clock::{Moment, later, sooner};
+use ether::{Mac, is_whole_mac};
 use ipv4::Addr;
 use std::marker::Model;
 
@@ -125,13 +125,6 @@ fn whole_macs(pairs: &[Neighbour])
     }
 }
 
-/// A MAC has six octets.
-fn is_whole_mac(mac: Mac)
-    ensures { length mac.0 ≡ 6 }
-{
-    let _ = mac;
-}
-
 /// Learns the sender of a packet: a known address is updated, and another is added where the packet is for us.
 #[tactic(auto, unfolding(crate::specs::Cache::pairs_after))]
 fn learn(pairs: &mut ArrayVec<Neighbour, PAIRS>, sender: Neighbour, is_for_us: bool)
@@ -244,14 +237,4 @@ fn first_end(asked: &[Asked]) -> Option<Moment>
     asked
         .iter()
         .fold(None, |soonest, note| sooner(soonest, Some(note.end())))
-}
-
-/// The later of two ends, as far as there are any.
-fn later(a: Option<Moment>, b: Option<Moment>) -> Option<Moment>
-    ensures { result ≡ later a b }
-{
-    match (a, b) {
-        (None, end) | (end, None) => end,
-        (Some(a), Some(b)) => Some(a.max(b)),
-    }
 }

@@ -1,6 +1,7 @@
 -- What is printed of a frame: a line a layer, up to the first that can't be read or has nothing printed above it.
 use Rattle.std.specs.Prelude.{◌≡◌, ℕ, List, [], ◌++◌, codes, ◌||◌, ◌==◌, not, if◌then◌else◌, Option, Some, None, Result, Ok, Err}
 use Rattle.std.specs.Fmt.{decimal}
+use Rattle.ether.specs.declared.head.TheConstants.{ETHERTYPE_ARP, ETHERTYPE_IPV4}
 use Rattle.ether.specs.Frame.{Frame, IsParsed as IsFrame}
 use Rattle.ether.specs.declared.view.FrameFault.{FrameFault}
 use Rattle.ether.specs.declared.view.FrameFault.TheVariants as frame
@@ -107,7 +108,7 @@ IsDatagramShown (Err fault) shown = shown ≡ dropped (ipv4_cause fault)
 
 -- what a frame of this type carries
 abbrev pub carried_by : ℕ → Carried
-carried_by kind = if kind == 0x0800 then Ipv4 else if kind == 0x0806 then Arp else Other
+carried_by kind = if kind == ETHERTYPE_IPV4 then Ipv4 else if kind == ETHERTYPE_ARP then Arp else Other
 
 -- what is shown of a frame's payload
 abbrev pub IsPayloadShown : Carried → List ℕ → Shown → Type 0

@@ -3,6 +3,7 @@
 ghost use Rattle.std.specs.Prelude.{◌≡◌};
 ghost use Rattle.decode.specs.Layers.{carried_by, upper_in};
 
+use ether::{ETHERTYPE_ARP, ETHERTYPE_IPV4};
 use ipv4::{Ipv4View, Protocol};
 
 /// What a frame carries.
@@ -13,18 +14,13 @@ pub(crate) enum Carried {
     Other,
 }
 
-/// The types of frames that carry them (RFC 894, RFC 826).
-const IPV4: u16 = 0x0800;
-
-const ARP: u16 = 0x0806;
-
 /// What a frame of this type carries.
 pub(crate) fn carried_by(kind: u16) -> Carried
     ensures { result ≡ carried_by kind }
 {
     match kind {
-        IPV4 => Carried::Ipv4,
-        ARP => Carried::Arp,
+        ETHERTYPE_IPV4 => Carried::Ipv4,
+        ETHERTYPE_ARP => Carried::Arp,
         _ => Carried::Other,
     }
 }

@@ -2,7 +2,7 @@
 
 ghost use Rattle.std.specs.Prelude.{◌≡◌, ◌↔◌, List, ℕ, ◌+◌, ◌<◌, ◌^◌, length, max, replicate, All, Some, None, Result, Ok, Err};
 ghost use Rattle.ether.specs.declared.head.Head.{Head};
-ghost use Rattle.ether.specs.declared.head.TheConstants.{LEAST_PAYLOAD, MOST_PAYLOAD, SPACE};
+ghost use Rattle.ether.specs.declared.head.TheConstants.{ETHERTYPE_ARP, ETHERTYPE_IPV4, FRAME_MAX, HEADER_LEN, LEAST_PAYLOAD, MOST_PAYLOAD};
 ghost use Rattle.ether.specs.declared.mac.TheConstants.Mac.{BROADCAST};
 ghost use Rattle.ether.specs.declared.view.FrameFault.{FrameFault};
 ghost use Rattle.ether.specs.declared.view.FrameFault.TheVariants.{Short};
@@ -41,10 +41,12 @@ pub fn emitted_parses()
 {}
 
 /// What the public constants are: a payload has 46 to 1,500 octets (RFC 894), so a frame with its head of 14 has 1,514 at most,
-/// and the address of every interface has all bits set (RFC 894, IEEE 802).
+/// the types of IPv4 and of ARP (RFC 894, RFC 826), and the address of every interface has all bits set (RFC 894, IEEE 802).
 pub fn constants()
     ensures least { LEAST_PAYLOAD ≡ 46 }
     ensures most { MOST_PAYLOAD ≡ 1500 }
-    ensures space { SPACE ≡ 14 + MOST_PAYLOAD }
+    ensures header { HEADER_LEN ≡ 14 }
+    ensures space { FRAME_MAX ≡ 14 + MOST_PAYLOAD }
+    ensures types { (ETHERTYPE_IPV4 ≡ 0x0800) × (ETHERTYPE_ARP ≡ 0x0806) }
     ensures broadcast { BROADCAST ≡ record { 0 = replicate 6 255 } }
 {}

@@ -6,6 +6,8 @@ pub mod laws;
 mod mac;
 mod view;
 
-pub use head::{Head, LEAST_PAYLOAD, MOST_PAYLOAD, SPACE};
-pub use mac::Mac;
+pub use head::{
+    ETHERTYPE_ARP, ETHERTYPE_IPV4, FRAME_MAX, HEADER_LEN, Head, LEAST_PAYLOAD, MOST_PAYLOAD,
+};
+pub use mac::{Mac, is_whole_mac};
 pub use view::{EtherView, FrameFault};

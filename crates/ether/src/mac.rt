@@ -1,5 +1,7 @@
 //! Addresses of interfaces (RFC 894, IEEE 802).
 
+ghost use Rattle.std.specs.Prelude.{◌≡◌, length};
+
 use std::fmt;
 
 /// The address of an interface: six octets.
@@ -16,4 +18,11 @@ impl fmt::Display for Mac {
         let [a, b, c, d, e, last] = self.0;
         write!(f, "{a:02x}:{b:02x}:{c:02x}:{d:02x}:{e:02x}:{last:02x}")
     }
+}
+
+/// A MAC has six octets. This is for the contracts of those that keep MACs; it changes nothing.
+pub fn is_whole_mac(mac: Mac)
+    ensures { length mac.0 ≡ 6 }
+{
+    let _ = mac;
 }

@@ -1,7 +1,7 @@
 -- What octets are to a host, told by what they spell: for each answer the record of each layer that they spell, and for each
 -- cause to drop them that the layers below it are well and this one isn't. `laws::one_meaning` says that this is `heard`.
 use Rattle.std.specs.Prelude.{◌≡◌, ◌≢◌, ◌<◌, ◌≤◌, ℕ, ◌⊎◌, false, List, length, Result, Ok, Err}
-use Rattle.ether.specs.declared.head.TheConstants.{SPACE}
+use Rattle.ether.specs.declared.head.TheConstants.{FRAME_MAX}
 use Rattle.ether.specs.declared.mac.Mac.{Mac}
 use Rattle.ether.specs.Frame.{Frame, Spells as SpellsFrame}
 use Rattle.arp.specs.declared.packet.ArpFault.TheVariants as packet
@@ -31,7 +31,7 @@ IsFor mac f = (f.destination ≡ mac) ⊎ ((f.destination ≡ broadcast) × (f.k
 pub record Brings (mac : Mac) (octets : List ℕ) (kind : ℕ) (payload : List ℕ) : Type 0 where
   pub frame : Frame
   pub spelled : SpellsFrame frame octets
-  pub most : length octets ≤ SPACE
+  pub most : length octets ≤ FRAME_MAX
   pub ours : IsFor mac frame
   pub type : frame.kind ≡ kind
   pub carried : frame.payload ≡ payload
@@ -73,8 +73,8 @@ IsHeard mac ours octets (Ok (Icmp c)) = (d : Datagram) × BringsIcmp mac ours oc
 IsHeard mac ours octets (Ok (Udp r)) = BringsUdp mac ours octets r.carrier × SpellsUser r.carrier.source r.carrier.destination r.datagram r.carrier.payload
 IsHeard mac ours octets (Ok (Other d)) = BringsDatagram mac ours octets d × IsWhole d × (d.protocol ≢ 6) × (d.protocol ≢ 1) × (d.protocol ≢ 17)
 IsHeard mac ours octets (Ok (UdpFragment d)) = BringsDatagram mac ours octets d × (IsWhole d → ⊥) × (d.protocol ≡ 17)
-IsHeard mac ours octets (Err Short) = (length octets < 14) ⊎ (SPACE < length octets)
-IsHeard mac ours octets (Err OtherMac) = (f : Frame) × SpellsFrame f octets × (length octets ≤ SPACE) × (IsFor mac f → ⊥)
+IsHeard mac ours octets (Err Short) = (length octets < 14) ⊎ (FRAME_MAX < length octets)
+IsHeard mac ours octets (Err OtherMac) = (f : Frame) × SpellsFrame f octets × (length octets ≤ FRAME_MAX) × (IsFor mac f → ⊥)
 IsHeard mac ours octets (Err OtherType) = (kind : ℕ) × (payload : List ℕ) × Brings mac octets kind payload × (kind ≢ ipv4_type) × (kind ≢ arp_type)
 IsHeard mac ours octets (Err IpHeader) = (payload : List ℕ) × Brings mac octets ipv4_type payload × IsDatagram payload (Err datagram.IpHeader)
 IsHeard mac ours octets (Err IpSum) = (payload : List ℕ) × Brings mac octets ipv4_type payload × IsDatagram payload (Err datagram.IpSum)

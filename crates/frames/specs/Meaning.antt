@@ -3,7 +3,7 @@
 -- section 3.2.1.3), and the segment (RFC 9293 section 3.1), the control message (RFC 792) or the user datagram (RFC 768).
 use Rattle.std.specs.Prelude.{ℕ, ◌==◌, nat_eq, nat_lt, Bool, not, ◌&&◌, ◌||◌, if◌then◌else◌, List, length, replicate, Option, Some, None, Result, Ok, Err}
 use Rattle.std.specs.Cmp.Lexicographic.{pointwise}
-use Rattle.ether.specs.declared.head.TheConstants.{SPACE}
+use Rattle.ether.specs.declared.head.TheConstants.{ETHERTYPE_ARP, ETHERTYPE_IPV4, FRAME_MAX}
 use Rattle.ether.specs.declared.mac.Mac.{Mac}
 use Rattle.ether.specs.Frame.{Frame}
 use Rattle.ether.specs.Reading.{frame_in}
@@ -34,10 +34,10 @@ use Rattle.frames.specs.declared.meaning.Meaning.TheVariants.{Arp, Tcp, Icmp, Ud
 
 -- the types of frames that carry IPv4 (RFC 894) and ARP (RFC 826)
 abbrev pub ipv4_type : ℕ
-ipv4_type = 0x0800
+ipv4_type = ETHERTYPE_IPV4
 
 abbrev pub arp_type : ℕ
-arp_type = 0x0806
+arp_type = ETHERTYPE_ARP
 
 -- the address of every interface on a link
 abbrev pub broadcast : Mac
@@ -117,4 +117,4 @@ frame_heard mac ours (Some f) = if is_for mac f then payload_heard ours f.kind f
 
 -- octets: a frame has 1,514 at most
 unfoldable pub heard : Mac → Addr → List ℕ → Result Meaning DropCause
-heard mac ours octets = if nat_lt SPACE (length octets) then Err Short else frame_heard mac ours (frame_in octets)
+heard mac ours octets = if nat_lt FRAME_MAX (length octets) then Err Short else frame_heard mac ours (frame_in octets)

@@ -9,6 +9,7 @@ use Rattle.arp.specs.declared.packet.Operation.{Operation}
 use Rattle.arp.specs.declared.packet.Operation.TheVariants.{Request, Reply}
 use Rattle.arp.specs.Packet.{spelling as packet_octets}
 use Rattle.ipv4.specs.declared.head.Head.{Head as Ipv4Head}
+use Rattle.ipv4.specs.declared.limits.TheConstants.{PAYLOAD_IN_FRAME}
 use Rattle.ipv4.specs.Datagram.{Datagram, HasPlace, spelling as datagram_octets}
 use Rattle.ipv4.specs.Sent.{sent as datagram_sent}
 use Rattle.udp.specs.declared.cutting.Part.{Part}
@@ -74,7 +75,7 @@ part_frame h part payload = framed h (part_head h part) payload
 pub record IsPart (part : Part) (octets : List ℕ) : Type 0 where
   pub identification : part.identification < 2 ^ 16
   pub place : HasPlace part.fragment.more_fragments part.fragment.offset (length octets)
-  pub most : length octets ≤ 1480
+  pub most : length octets ≤ PAYLOAD_IN_FRAME
 
 -- a request is for all of the link, a reply for its target
 abbrev pub packet_destination : Operation → Mac → Mac

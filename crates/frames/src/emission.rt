@@ -1,17 +1,17 @@
 //! The frames that go out.
 
 ghost use Rattle.std.specs.Prelude.{◌≡◌, ◌+◌, ◌≤◌, ◌++◌, drop, max, slice_range};
+ghost use Rattle.ipv4.specs.declared.limits.TheConstants.{PAYLOAD_IN_FRAME};
 ghost use Rattle.ipv4.specs.Datagram.{HasPlace};
 ghost use Rattle.frames.specs.Sent.{framed, ipv4_head, part_head, part_frame, segment_frame, message_frame, packet_frame, packet_destination};
 
-use crate::reading::{ARP, IPV4};
 use arp::{ArpPacket, Operation};
-use ether::{Mac, SPACE};
+use ether::{ETHERTYPE_ARP, ETHERTYPE_IPV4, FRAME_MAX, Mac};
 use ipv4::{Addr, Protocol};
 use udp::Part;
 
-/// The length of the head of a frame, in octets (RFC 894).
-const HEAD: usize = 14;
+/// The length of the heads of a frame and of the datagram that it carries, in octets (RFC 894, RFC 791 section 3.1).
+pub const HEADS: usize = ether::HEADER_LEN + ipv4::HEADER_LEN;
 
 /// What stands before a segment, a control message or a part of a user datagram in a frame, but for what the stack determines.
 #[derive(Clone, Copy, PartialEq, Eq, Debug)]
@@ -30,8 +30,8 @@ impl FrameHead {
     /// Writes the heads of frame and datagram before a segment of so many octets, at most 1,480, which stands at `out[34..]`
     /// already, pads a short frame with zeros, and answers its length, 60 octets at least (RFC 894, RFC 791 section 3.1). What
     /// stands behind it in `out` stays.
-    pub fn emit_tcp(&self, segment_len: usize, out: &mut [u8; SPACE]) -> usize
-        requires { segment_len ≤ 1480 }
+    pub fn emit_tcp(&self, segment_len: usize, out: &mut [u8; FRAME_MAX]) -> usize
+        requires { segment_len ≤ PAYLOAD_IN_FRAME }
         ensures len { result ≡ max (34 + segment_len) 60 }
         ensures octets { out.new ≡ segment_frame self.now (slice_range out.old 34 (34 + segment_len)) ++ drop result out.old }
     {
@@ -41,8 +41,8 @@ impl FrameHead {
     /// Writes the heads of frame and datagram before a control message of so many octets, at most 1,480, which stands at `out[34..]`
     /// already, pads a short frame with zeros, and answers its length, 60 octets at least (RFC 894, RFC 791 section 3.1, RFC 792).
     /// What stands behind it in `out` stays.
-    pub fn emit_icmp(&self, message_len: usize, out: &mut [u8; SPACE]) -> usize
-        requires { message_len ≤ 1480 }
+    pub fn emit_icmp(&self, message_len: usize, out: &mut [u8; FRAME_MAX]) -> usize
+        requires { message_len ≤ PAYLOAD_IN_FRAME }
         ensures len { result ≡ max (34 + message_len) 60 }
         ensures octets { out.new ≡ message_frame self.now (slice_range out.old 34 (34 + message_len)) ++ drop result out.old }
     {
@@ -52,8 +52,8 @@ impl FrameHead {
     /// Writes the heads of frame and datagram before a part of a user datagram, at most 1,480 octets, which stands at `out[34..]`
     /// already, pads a short frame with zeros, and answers its length, 60 octets at least (RFC 894, RFC 791 section 3.2, RFC 768).
     /// What stands behind it in `out` stays.
-    pub fn emit_udp(&self, part: Part, out: &mut [u8; SPACE]) -> usize
-        requires most { part.fragment.len ≤ 1480 }
+    pub fn emit_udp(&self, part: Part, out: &mut [u8; FRAME_MAX]) -> usize
+        requires most { part.fragment.len ≤ PAYLOAD_IN_FRAME }
         requires place { HasPlace part.fragment.more_fragments part.fragment.offset part.fragment.len }
         ensures len { result ≡ max (34 + part.fragment.len) 60 }
         ensures octets { out.new ≡ part_frame self.now part (slice_range out.old 34 (34 + part.fragment.len)) ++ drop result out.old }
@@ -62,17 +62,17 @@ impl FrameHead {
     }
 
     /// Writes the head of the frame and this header of a datagram before a payload.
-    fn emit(&self, head: ipv4::Head, payload_len: usize, out: &mut [u8; SPACE]) -> usize
-        requires most { payload_len ≤ 1480 }
+    fn emit(&self, head: ipv4::Head, payload_len: usize, out: &mut [u8; FRAME_MAX]) -> usize
+        requires most { payload_len ≤ PAYLOAD_IN_FRAME }
         requires place { HasPlace head.more_fragments head.offset payload_len }
         ensures len { result ≡ max (34 + payload_len) 60 }
         ensures octets { out.new ≡ framed self.now head (slice_range out.old 34 (34 + payload_len)) ++ drop result out.old }
     {
-        let datagram_len = head.emit(payload_len, &mut out[HEAD..]);
+        let datagram_len = head.emit(payload_len, &mut out[ether::HEADER_LEN..]);
         ether::Head {
             destination: self.destination,
             source: self.source,
-            kind: IPV4,
+            kind: ETHERTYPE_IPV4,
         }
         .emit(datagram_len, out)
     }
@@ -110,15 +110,15 @@ impl FrameHead {
 
 /// Writes the frame of a packet, from its sender's interface: a request for all of the link, a reply for its target (RFC 826).
 /// Answers its length, 60 octets. What stands behind it in `out` stays.
-pub fn emit_arp(packet: &ArpPacket, out: &mut [u8; SPACE]) -> usize
+pub fn emit_arp(packet: &ArpPacket, out: &mut [u8; FRAME_MAX]) -> usize
     ensures len { result ≡ 60 }
     ensures octets { out.new ≡ packet_frame packet.now ++ drop 60 out.old }
 {
-    packet.emit(&mut out[HEAD..]);
+    packet.emit(&mut out[ether::HEADER_LEN..]);
     ether::Head {
         destination: packet_destination(packet.operation, packet.target_mac),
         source: packet.sender_mac,
-        kind: ARP,
+        kind: ETHERTYPE_ARP,
     }
     .emit(arp::LEN, out)
 }

@@ -7,6 +7,7 @@ ghost use Rattle.arp.specs.declared.packet.Operation.TheVariants.{Request, Reply
 ghost use Rattle.arp.specs.Packet.{HasWidths};
 ghost use Rattle.ipv4.specs.declared.addr.Addr.{Addr};
 ghost use Rattle.ipv4.specs.declared.addr.Pair.{Pair};
+ghost use Rattle.ipv4.specs.declared.limits.TheConstants.{PAYLOAD_IN_FRAME};
 ghost use Rattle.ipv4.specs.Datagram.{Datagram, header_octets};
 ghost use Rattle.icmp.specs.Message.{Message, Spells, spelling};
 ghost use Rattle.udp.specs.declared.cutting.Part.{Part};
@@ -52,7 +53,7 @@ pub fn carried_pairs()
 /// 1,480 octets (RFC 9293 section 3.1).
 pub fn emitted_segments_are_heard()
     ensures { (h : FrameHead) (head : Head) (octets : List ℕ) → CanBeSent h.from h.to head octets
-        → length h.destination.0 ≡ 6 → length h.source.0 ≡ 6 → MaySend h.to h.from → 4 * sent_offset head + length octets ≤ 1480
+        → length h.destination.0 ≡ 6 → length h.source.0 ≡ 6 → MaySend h.to h.from → 4 * sent_offset head + length octets ≤ PAYLOAD_IN_FRAME
         → heard h.destination h.to (segment_frame h (sent_octets h.from h.to head octets)) ≡ Ok (Tcp (record { source = h.from; segment = sent_segment head octets })) }
 {}
 
@@ -128,9 +129,9 @@ pub fn heard_messages_fit()
     ensures message { (mac : Mac) (ours : Addr) (octets : List ℕ) (c : Control) → heard mac ours octets ≡ Ok (Icmp c)
         → length c.message.payload ≤ 1472 }
     ensures user { (mac : Mac) (ours : Addr) (octets : List ℕ) (r : UserReceived) → heard mac ours octets ≡ Ok (Udp r)
-        → (length (header_octets r.carrier) ≤ 60) × (length r.carrier.payload ≤ 1480) }
+        → (length (header_octets r.carrier) ≤ 60) × (length r.carrier.payload ≤ PAYLOAD_IN_FRAME) }
     ensures fragment { (mac : Mac) (ours : Addr) (octets : List ℕ) (d : Datagram) → heard mac ours octets ≡ Ok (UdpFragment d)
-        → (length (header_octets d) ≤ 60) × (length d.payload ≤ 1480) }
+        → (length (header_octets d) ≤ 60) × (length d.payload ≤ PAYLOAD_IN_FRAME) }
     ensures other { (mac : Mac) (ours : Addr) (octets : List ℕ) (d : Datagram) → heard mac ours octets ≡ Ok (Other d)
         → length (header_octets d) ≤ 60 }
 {}
@@ -140,7 +141,7 @@ pub fn heard_messages_fit()
 /// a segment in that of a control message, of a part of a user datagram or of an ARP packet, and so on.
 pub fn heard_as_sent()
     ensures segment { (h : FrameHead) (head : Head) (octets : List ℕ) (mac : Mac) (ours : Addr) (received : Received) → CanBeSent h.from h.to head octets
-        → length h.destination.0 ≡ 6 → length h.source.0 ≡ 6 → 4 * sent_offset head + length octets ≤ 1480
+        → length h.destination.0 ≡ 6 → length h.source.0 ≡ 6 → 4 * sent_offset head + length octets ≤ PAYLOAD_IN_FRAME
         → heard mac ours (segment_frame h (sent_octets h.from h.to head octets)) ≡ Ok (Tcp received)
         → (ours ≡ h.to) × (received ≡ record { source = h.from; segment = sent_segment head octets }) }
     ensures packet { (packet : ArpPacket) (mac : Mac) (ours : Addr) (received : Received) → length packet.sender_mac.0 ≡ 6 → length packet.target_mac.0 ≡ 6
@@ -155,11 +156,11 @@ pub fn heard_as_sent()
         → length h.to.0 ≡ 4 → length h.destination.0 ≡ 6 → length h.source.0 ≡ 6 → heard mac ours (part_frame h part octets) ≡ Ok (UdpFragment d)
         → (ours ≡ h.to) × (d ≡ part_datagram h part octets) }
     ensures segment_in_message { (h : FrameHead) (octets : List ℕ) (mac : Mac) (ours : Addr) (received : Received) → length h.from.0 ≡ 4 → length h.to.0 ≡ 4
-        → length h.destination.0 ≡ 6 → length h.source.0 ≡ 6 → length octets ≤ 1480 → heard mac ours (message_frame h octets) ≢ Ok (Tcp received) }
+        → length h.destination.0 ≡ 6 → length h.source.0 ≡ 6 → length octets ≤ PAYLOAD_IN_FRAME → heard mac ours (message_frame h octets) ≢ Ok (Tcp received) }
     ensures segment_in_part { (h : FrameHead) (part : Part) (octets : List ℕ) (mac : Mac) (ours : Addr) (received : Received) → length h.destination.0 ≡ 6
         → length h.source.0 ≡ 6 → heard mac ours (part_frame h part octets) ≢ Ok (Tcp received) }
     ensures message_in_segment { (h : FrameHead) (octets : List ℕ) (mac : Mac) (ours : Addr) (c : Control) → length h.from.0 ≡ 4 → length h.to.0 ≡ 4
-        → length h.destination.0 ≡ 6 → length h.source.0 ≡ 6 → length octets ≤ 1480 → heard mac ours (segment_frame h octets) ≢ Ok (Icmp c) }
+        → length h.destination.0 ≡ 6 → length h.source.0 ≡ 6 → length octets ≤ PAYLOAD_IN_FRAME → heard mac ours (segment_frame h octets) ≢ Ok (Icmp c) }
     ensures message_in_part { (h : FrameHead) (part : Part) (octets : List ℕ) (mac : Mac) (ours : Addr) (c : Control) → length h.destination.0 ≡ 6
         → length h.source.0 ≡ 6 → heard mac ours (part_frame h part octets) ≢ Ok (Icmp c) }
     ensures message_in_packet { (packet : ArpPacket) (mac : Mac) (ours : Addr) (c : Control) → length packet.sender_mac.0 ≡ 6 → length packet.target_mac.0 ≡ 6
@@ -178,10 +179,10 @@ pub fn heard_as_sent()
 /// a control message or a part of a user datagram (RFC 9293 section 4).
 pub fn emitted_pairs()
     ensures segment { (h : FrameHead) (head : Head) (octets : List ℕ) → CanBeSent h.from h.to head octets
-        → length h.destination.0 ≡ 6 → length h.source.0 ≡ 6 → 4 * sent_offset head + length octets ≤ 1480
+        → length h.destination.0 ≡ 6 → length h.source.0 ≡ 6 → 4 * sent_offset head + length octets ≤ PAYLOAD_IN_FRAME
         → pair_in (segment_frame h (sent_octets h.from h.to head octets)) ≡ Some (pair_between h.from h.to (sent_segment head octets)) }
     ensures packet { (packet : ArpPacket) → length packet.sender_mac.0 ≡ 6 → length packet.target_mac.0 ≡ 6 → pair_in (packet_frame packet) ≡ None }
     ensures message { (h : FrameHead) (octets : List ℕ) → length h.from.0 ≡ 4 → length h.to.0 ≡ 4
-        → length h.destination.0 ≡ 6 → length h.source.0 ≡ 6 → length octets ≤ 1480 → pair_in (message_frame h octets) ≡ None }
+        → length h.destination.0 ≡ 6 → length h.source.0 ≡ 6 → length octets ≤ PAYLOAD_IN_FRAME → pair_in (message_frame h octets) ≡ None }
     ensures part { (h : FrameHead) (part : Part) (octets : List ℕ) → length h.destination.0 ≡ 6 → length h.source.0 ≡ 6 → pair_in (part_frame h part octets) ≡ None }
 {}

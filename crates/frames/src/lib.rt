@@ -11,7 +11,7 @@ mod pairs;
 mod reading;
 
 pub use drop::DropCause;
-pub use emission::{FrameHead, emit_arp};
+pub use emission::{FrameHead, HEADS, emit_arp};
 pub use meaning::{Control, Meaning, Received, UserReceived};
 pub use pairs::pair_in;
 pub use reading::read;

@@ -5,8 +5,8 @@ ghost use Rattle.ipv4.specs.Reading.{datagram_in};
 ghost use Rattle.tcp_segment.specs.Reading.{segment_in};
 ghost use Rattle.frames.specs.Pairs.{pair_in, datagram_pair, segment_pair, pair_between};
 
-use crate::reading::{IPV4, is_fragment};
-use ether::EtherView;
+use crate::reading::is_fragment;
+use ether::{ETHERTYPE_IPV4, EtherView};
 use ipv4::{Addr, Endpoint, Ipv4View, Pair, Protocol};
 use tcp_segment::TcpView;
 
@@ -16,7 +16,7 @@ pub fn pair_in(octets: &[u8]) -> Option<Pair>
     ensures { result ≡ pair_in octets.now }
 {
     match EtherView::parse(octets) {
-        Ok(frame) if frame.kind() == IPV4 => datagram_pair(frame.payload()),
+        Ok(frame) if frame.kind() == ETHERTYPE_IPV4 => datagram_pair(frame.payload()),
         Ok(_) => None,
         Err(_) => None,
     }

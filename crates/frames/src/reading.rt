@@ -1,29 +1,24 @@
 //! Octets, layer by layer.
 
-ghost use Rattle.std.specs.Prelude.{◌≡◌, Ok};
+ghost use Rattle.std.specs.Prelude.{◌≡◌, ◌&&◌};
 ghost use Rattle.ether.specs.Frame.{Frame};
 ghost use Rattle.ether.specs.Reading.{frame_in};
 ghost use Rattle.arp.specs.Reading.{packet_in};
+ghost use Rattle.ipv4.specs.Addresses.{same_addr};
 ghost use Rattle.ipv4.specs.Reading.{datagram_in};
 ghost use Rattle.tcp_segment.specs.Reading.{segment_or_fault};
 ghost use Rattle.icmp.specs.Reading.{message_or_fault};
 ghost use Rattle.udp.specs.Reading.{datagram_or_fault};
-ghost use Rattle.frames.specs.Meaning.{heard, frame_heard, payload_heard, packet_heard, datagram_heard, upper_heard, fragment_heard, whole_heard, segment_heard, message_heard, user_heard, is_for, is_fragment, may_send};
+ghost use Rattle.frames.specs.Meaning.{heard, frame_heard, payload_heard, packet_heard, datagram_heard, upper_heard, fragment_heard, segment_heard, message_heard, user_heard, is_for, is_fragment, may_send};
 
 use crate::drop::DropCause;
 use crate::meaning::{Control, Meaning, Received, UserReceived};
 use arp::ArpPacket;
-use ether::{EtherView, Mac, SPACE};
+use ether::{ETHERTYPE_ARP, ETHERTYPE_IPV4, EtherView, FRAME_MAX, Mac};
 use icmp::{IcmpFault, IcmpView};
 use ipv4::{Addr, Ipv4Fault, Ipv4View, Protocol};
 use tcp_segment::{SegmentFault, TcpView};
 use udp::{UdpFault, UdpView};
-
-/// The type of a frame that carries IPv4 (RFC 894).
-pub(crate) const IPV4: u16 = 0x0800;
-
-/// The type of a frame that carries ARP (RFC 826).
-pub(crate) const ARP: u16 = 0x0806;
 
 /// What these octets are to a host with this MAC and this address, or the first cause to drop them, from the lowest layer up:
 /// the frame (RFC 894), the ARP packet (RFC 826) or the datagram (RFC 791), its addresses (RFC 1122 section 3.2.1.3), and the
@@ -31,7 +26,7 @@ pub(crate) const ARP: u16 = 0x0806;
 pub fn read(mac: Mac, addr: Addr, octets: &[u8]) -> Result<Meaning<'_>, DropCause>
     ensures { result ≡ heard mac addr octets.now }
 {
-    if octets.len() > SPACE {
+    if octets.len() > FRAME_MAX {
         return Err(DropCause::Short);
     }
     match EtherView::parse(octets) {
@@ -46,7 +41,7 @@ fn is_for(mac: Mac, frame: &EtherView<'_>) -> bool
     ensures { result ≡ is_for mac frame.now }
 {
     let destination = frame.destination();
-    destination == mac || (destination == Mac::BROADCAST && frame.kind() == ARP)
+    destination == mac || (destination == Mac::BROADCAST && frame.kind() == ETHERTYPE_ARP)
 }
 
 /// What the payload of a frame for us is.
@@ -54,8 +49,8 @@ fn read_payload(addr: Addr, kind: u16, octets: &[u8]) -> Result<Meaning<'_>, Dro
     ensures { result ≡ payload_heard addr kind octets.now }
 {
     match kind {
-        ARP => read_packet(addr, octets),
-        IPV4 => read_datagram(addr, octets),
+        ETHERTYPE_ARP => read_packet(addr, octets),
+        ETHERTYPE_IPV4 => read_datagram(addr, octets),
         _ => Err(DropCause::OtherType),
     }
 }
@@ -76,21 +71,18 @@ fn read_datagram(addr: Addr, octets: &[u8]) -> Result<Meaning<'_>, DropCause>
     ensures { result ≡ datagram_heard addr (datagram_in octets.now) }
 {
     match Ipv4View::parse(octets) {
-        Ok(datagram) => read_parsed(addr, datagram),
+        Ok(datagram) if is_for_us(addr, &datagram) => read_upper(datagram),
+        Ok(_) => Err(DropCause::OtherAddress),
         Err(Ipv4Fault::IpHeader) => Err(DropCause::IpHeader),
         Err(Ipv4Fault::IpSum) => Err(DropCause::IpSum),
     }
 }
 
-/// What a datagram is that was parsed.
-fn read_parsed<'a>(addr: Addr, datagram: Ipv4View<'a>) -> Result<Meaning<'a>, DropCause>
-    ensures { result ≡ datagram_heard addr (Ok datagram.entry) }
+/// Whether a datagram is for us, from an address that another host may have.
+fn is_for_us(addr: Addr, datagram: &Ipv4View<'_>) -> bool
+    ensures { result ≡ (same_addr datagram.now.destination addr && may_send addr datagram.now.source) }
 {
-    if datagram.destination() == addr && may_send(addr, datagram.source()) {
-        read_upper(datagram)
-    } else {
-        Err(DropCause::OtherAddress)
-    }
+    datagram.destination() == addr && may_send(addr, datagram.source())
 }
 
 /// What a datagram for us carries.
@@ -98,9 +90,17 @@ fn read_upper<'a>(datagram: Ipv4View<'a>) -> Result<Meaning<'a>, DropCause>
     ensures { result ≡ upper_heard datagram.entry }
 {
     if is_fragment(&datagram) {
-        read_fragment(datagram)
-    } else {
-        read_whole(datagram)
+        return read_fragment(datagram);
+    }
+    match datagram.protocol() {
+        Protocol::TCP => read_segment(
+            datagram.source(),
+            datagram.destination(),
+            datagram.payload(),
+        ),
+        Protocol::ICMP => read_message(datagram.source(), datagram.payload()),
+        Protocol::UDP => read_user(datagram),
+        _ => Ok(Meaning::Other(datagram)),
     }
 }
 
@@ -112,22 +112,6 @@ fn read_fragment<'a>(datagram: Ipv4View<'a>) -> Result<Meaning<'a>, DropCause>
         Ok(Meaning::UdpFragment(datagram))
     } else {
         Err(DropCause::Fragment)
-    }
-}
-
-/// What a whole datagram for us carries.
-fn read_whole<'a>(datagram: Ipv4View<'a>) -> Result<Meaning<'a>, DropCause>
-    ensures { result ≡ whole_heard datagram.entry }
-{
-    match datagram.protocol() {
-        Protocol::TCP => read_segment(
-            datagram.source(),
-            datagram.destination(),
-            datagram.payload(),
-        ),
-        Protocol::ICMP => read_message(datagram.source(), datagram.payload()),
-        Protocol::UDP => read_user(datagram),
-        _ => Ok(Meaning::Other(datagram)),
     }
 }
 

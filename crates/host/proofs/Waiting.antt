@@ -28,7 +28,7 @@ use Rattle.sockets.specs.SocketsView.{SocketsView, later_moment}
 use Rattle.sockets.specs.Ticks.{after_tick as sockets_after_tick, least_deadline as timer_deadline}
 use Rattle.sockets.proofs.Deadlines.{tick_waits}
 use Rattle.tcp_state.specs.View.{View}
-use Rattle.udp_socket.specs.declared.tag.TheConstants.{DATAGRAM_WAIT}
+use Rattle.clock.specs.declared.moment.TheConstants.{HOP_WAIT}
 use Rattle.udp_socket.specs.SocketView.{Outgoing, SocketView}
 use Rattle.udp_socket.specs.Waits.{after_giving_up as datagrams_after, deadline, deadline_of as datagram_deadline, is_given_up as is_datagram_given_up, parts_left}
 use Rattle.host.specs.HostView.{HostView, with_sockets}
@@ -186,7 +186,7 @@ datagrams-stay : (h : HostView) (moment : Moment) → h.sockets.kept.0 ≤ momen
     → AllByRecursion (λ (o : Outgoing). not (is_datagram_given_up (lacks_hop h moment) moment o) ≡ true) os
 datagrams-stay h moment order aged [] all = tt
 datagrams-stay h moment order aged (o ∷ os) all =
-    let here = goes-on (after o.since DATAGRAM_WAIT) moment (knows_hop h.interface moment o.peer.addr) (knows_hop h.interface h.sockets.kept o.peer.addr)
+    let here = goes-on (after o.since HOP_WAIT) moment (knows_hop h.interface moment o.peer.addr) (knows_hop h.interface h.sockets.kept o.peer.addr)
     (known-alike h.interface h.sockets.kept moment o.peer.addr order aged) all.0 in
     (ap not here, datagrams-stay h moment order aged os all.1)
 

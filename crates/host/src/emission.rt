@@ -6,7 +6,8 @@ ghost use Rattle.host.specs.Emission.{Sends};
 
 use crate::host::Host;
 use clock::Moment;
-use ether::{Mac, SPACE};
+use ether::{FRAME_MAX, Mac};
+use frames::HEADS;
 use interface::Way;
 use ipv4::Addr;
 use sockets::{Emitted, Entry};
@@ -20,9 +21,6 @@ pub(crate) enum Plan {
     Ask { hop: Addr },
 }
 
-/// The length of the heads of a frame and a datagram, in octets (RFC 894, RFC 791 section 3.1).
-const HEADS: usize = 34;
-
 impl Host {
     ghost use Rattle.host.specs.Emission.{emission_len, after_emission, emission_front, goes_out_from, len_of, octets_of, left_by, front_of, table_emission};
     ghost use Rattle.host.specs.Plans.{planned, planned_or_nothing, plan_to, IsFirst};
@@ -32,9 +30,9 @@ impl Host {
     /// or the part of a datagram of the first entry, in order of id, for which one can (RFC 894, RFC 9293 section 3.8, RFC 768). Where the MAC of the next hop
     /// isn't known, the ARP request for it goes out in that place, once a second an address, and what it is for waits as it is
     /// (RFC 1122 sections 2.3.2.1 and 2.3.2.2). None only where nothing can go out now, and then nothing has changed.
-    pub fn next_frame(&mut self, now: Moment, out: &mut [u8; SPACE]) -> Option<usize>
+    pub fn next_frame(&mut self, now: Moment, out: &mut [u8; FRAME_MAX]) -> Option<usize>
         ensures answer { result ≡ emission_len self.old now }
-        ensures bounds { IfSome result (λ len. (60 ≤ len) × (len ≤ SPACE)) }
+        ensures bounds { IfSome result (λ len. (60 ≤ len) × (len ≤ FRAME_MAX)) }
         ensures after { self.new ≡ after_emission self.old now }
         ensures frame { out.new ≡ emission_front self.old now out.old }
     {
@@ -46,9 +44,9 @@ impl Host {
     }
 
     /// Writes the frame for the first entry, in order of id, for which one can go out now.
-    fn emit_from_table(&mut self, now: Moment, out: &mut [u8; SPACE]) -> Option<usize>
+    fn emit_from_table(&mut self, now: Moment, out: &mut [u8; FRAME_MAX]) -> Option<usize>
         ensures answer { result ≡ len_of self.old now (table_emission self.old now) }
-        ensures bounds { IfSome result (λ len. (60 ≤ len) × (len ≤ SPACE)) }
+        ensures bounds { IfSome result (λ len. (60 ≤ len) × (len ≤ FRAME_MAX)) }
         ensures after { self.new ≡ left_by self.old now (table_emission self.old now) }
         ensures frame { out.new ≡ front_of (octets_of self.old now (table_emission self.old now)) out.old result }
     {
@@ -59,10 +57,10 @@ impl Host {
     }
 
     /// Writes the frame that is planned, and answers its length, 60 to 1,514 octets.
-    fn emit_planned(&mut self, plan: Plan, now: Moment, out: &mut [u8; SPACE]) -> usize
+    fn emit_planned(&mut self, plan: Plan, now: Moment, out: &mut [u8; FRAME_MAX]) -> usize
         requires first { IsFirst self.old now plan }
         ensures len { Some result ≡ len_of self.old now (planned plan) }
-        ensures bounds { (60 ≤ result) × (result ≤ SPACE) }
+        ensures bounds { (60 ≤ result) × (result ≤ FRAME_MAX) }
         ensures after { self.new ≡ left_by self.old now (planned plan) }
         ensures frame { out.new ≡ octets_of self.old now (planned plan) ++ drop result out.old }
     {
@@ -80,11 +78,11 @@ impl Host {
         mac: Mac,
         to: Addr,
         now: Moment,
-        out: &mut [u8; SPACE],
+        out: &mut [u8; FRAME_MAX],
     ) -> usize
         requires first { position (sends (goes_out_from self.old now)) self.old.sockets.entries ≡ Some place }
         ensures len { Some result ≡ len_of self.old now (Sends mac to) }
-        ensures bounds { (60 ≤ result) × (result ≤ SPACE) }
+        ensures bounds { (60 ≤ result) × (result ≤ FRAME_MAX) }
         ensures after { self.new ≡ left_by self.old now (Sends mac to) }
         ensures frame { out.new ≡ octets_of self.old now (Sends mac to) ++ drop result out.old }
     {

@@ -10,7 +10,7 @@ ghost use Rattle.hostc.specs.Types.{moment_of, written};
 use crate::convert::{refused, taken, told};
 use crate::handle::Handle;
 use clock::Moment;
-use ether::SPACE;
+use ether::FRAME_MAX;
 use host::Refusal;
 use std::alloc::Global;
 use tcp_segment::Seq;
@@ -79,7 +79,7 @@ pub extern "C" fn host_next_frame(
     alloc: Global,
     handle: &mut Handle,
     now: u64,
-    out: &mut [u8; SPACE],
+    out: &mut [u8; FRAME_MAX],
 ) -> i64
     ensures answer { result ≡ answered (of_host (λ h. Ok (length_or_none (emission_len h (moment_of now)))) handle.old.host) }
     ensures frame { out.new ≡ left_in (λ h. emission_front h (moment_of now) out.old) handle.old.host out.old }

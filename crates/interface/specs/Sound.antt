@@ -3,10 +3,12 @@
 use Rattle.std.specs.Prelude.{◌≡◌, ◌<◌, ◌≤◌, ◌^◌, ℕ, List, true, [], length, All}
 use Rattle.std.specs.List.{AllByRecursion}
 use Rattle.ipv4.specs.declared.addr.Addr.{Addr}
+use Rattle.ipv4.specs.declared.limits.TheConstants.{ERROR_QUOTE}
 use Rattle.arp.specs.Cache.{HasWholeMacs}
 use Rattle.arp.specs.Packet.{HasWidths}
 use Rattle.tcp_segment.specs.declared.head.Head.{Head}
 use Rattle.tcp_segment.specs.Sent.{CanBeSent}
+use Rattle.interface.specs.declared.room.TheConstants.{ECHO_ROOM}
 use Rattle.interface.specs.declared.reply.Reply.{Reply}
 use Rattle.interface.specs.declared.reply.Reply.TheVariants.{Arp, Reset, Echo, Error}
 use Rattle.interface.specs.declared.reply.Waiting.{Waiting}
@@ -23,13 +25,13 @@ pub record IsSoundEcho (to : Addr) (identifier number : ℕ) (octets : List ℕ)
   pub identifier_fits : identifier < 2 ^ 16
   pub number_fits : number < 2 ^ 16
   pub in_range : All (λ octet. octet < 256) octets
-  pub most : length octets ≤ 1472
+  pub most : length octets ≤ ECHO_ROOM
 
 -- an error can: it quotes a header, which has 60 octets at most, and 8 octets more (RFC 792)
 pub record IsSoundError (to : Addr) (quoted : List ℕ) : Type 0 where
   pub addr : length to.0 ≡ 4
   pub in_range : All (λ octet. octet < 256) quoted
-  pub most : length quoted ≤ 68
+  pub most : length quoted ≤ ERROR_QUOTE
 
 -- a reply can go out from this address
 abbrev pub IsSoundReply : Addr → Reply → Type 0

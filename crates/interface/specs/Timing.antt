@@ -3,6 +3,7 @@
 use Rattle.std.specs.Prelude.{Bool, false, not, ◌&&◌, ◌||◌, nat_le, if◌then◌else◌, List, filter, fold, Option, Some, None, is_some}
 use Rattle.ipv4.specs.declared.addr.Addr.{Addr}
 use Rattle.clock.specs.declared.moment.Moment.{Moment}
+use Rattle.clock.specs.declared.moment.TheConstants.{HOP_WAIT}
 use Rattle.clock.specs.Moments.{after, sooner}
 use Rattle.arp.specs.Cache.{Cache, look, may_ask, after_age}
 use Rattle.arp.specs.Waits.{next_ask}
@@ -31,7 +32,7 @@ lacks_hop h now waiting = is_unknown h.routes h.cache now (sought waiting.reply)
 
 -- the moment until which it waits for a hop
 abbrev pub end_of : Waiting → Moment
-end_of waiting = after waiting.since 3000
+end_of waiting = after waiting.since HOP_WAIT
 
 -- that moment has come
 abbrev pub is_over : Moment → Waiting → Bool

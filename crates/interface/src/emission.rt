@@ -1,26 +1,25 @@
 //! The frames that go out.
 
 ghost use Rattle.std.specs.Prelude.{◌≡◌, ◌+◌, ◌<◌, ◌≤◌, [], ◌++◌, length, drop, max, slice_range, IsTrue};
+ghost use Rattle.ipv4.specs.declared.limits.TheConstants.{ERROR_QUOTE, PAYLOAD_IN_FRAME};
 ghost use Rattle.ipv4.specs.Datagram.{HasPlace};
 ghost use Rattle.icmp.specs.Message.{spelling};
 ghost use Rattle.icmp.specs.Sent.{echo_reply, error_for};
+ghost use Rattle.interface.specs.declared.room.TheConstants.{ECHO_ROOM};
 ghost use Rattle.interface.specs.Replies.{goes_out};
 ghost use Rattle.arp.specs.Cache.{may_ask};
 
-use crate::Interface;
+use crate::interface::Interface;
 use crate::reply::Reply;
 use crate::room::{Quoted, Room};
 use crate::way::Way;
 use arp::ArpPacket;
 use clock::Moment;
-use ether::{Mac, SPACE};
-use frames::{FrameHead, emit_arp};
+use ether::{FRAME_MAX, Mac};
+use frames::{FrameHead, HEADS, emit_arp};
 use icmp::{HEADER_LEN, Reason, emit_echo_reply, emit_error};
 use ipv4::Addr;
 use udp::Part;
-
-/// The length of the heads of a frame and a datagram, in octets (RFC 894, RFC 791 section 3.1).
-const HEADS: usize = 34;
 
 impl Interface {
     ghost use Rattle.interface.specs.Emission.{asked, head_to, segment_frame_to, message_frame_to, part_frame_to, request_frame, reply_frame, reply_len, way_at, len_at, frame_at, after_emission};
@@ -34,9 +33,9 @@ impl Interface {
         mac: Mac,
         to: Addr,
         segment_len: usize,
-        out: &mut [u8; SPACE],
+        out: &mut [u8; FRAME_MAX],
     ) -> usize
-        requires { segment_len ≤ 1480 }
+        requires { segment_len ≤ PAYLOAD_IN_FRAME }
         ensures len { result ≡ max (34 + segment_len) 60 }
         ensures octets { out.new ≡ segment_frame_to self.now mac to (slice_range out.old 34 (34 + segment_len)) ++ drop result out.old }
     {
@@ -46,8 +45,8 @@ impl Interface {
     /// Writes the frame of a part of a user datagram for an address in the same way: its octets, at most 1,480, stand at `out[34..]` already
     /// (RFC 768, RFC 791 section 3.2).
     #[tactic(auto, unfolding(crate::specs::Emission::part_frame_to))]
-    pub fn emit_part(&self, mac: Mac, to: Addr, part: Part, out: &mut [u8; SPACE]) -> usize
-        requires most { part.fragment.len ≤ 1480 }
+    pub fn emit_part(&self, mac: Mac, to: Addr, part: Part, out: &mut [u8; FRAME_MAX]) -> usize
+        requires most { part.fragment.len ≤ PAYLOAD_IN_FRAME }
         requires place { HasPlace part.fragment.more_fragments part.fragment.offset part.fragment.len }
         ensures len { result ≡ max (34 + part.fragment.len) 60 }
         ensures octets { out.new ≡ part_frame_to self.now mac to part (slice_range out.old 34 (34 + part.fragment.len)) ++ drop result out.old }
@@ -57,8 +56,14 @@ impl Interface {
 
     /// Writes the frame of a control message for an address in the same way: it stands at `out[34..]` already and has so many octets.
     #[tactic(auto, unfolding(crate::specs::Emission::message_frame_to))]
-    fn emit_message(&self, mac: Mac, to: Addr, message_len: usize, out: &mut [u8; SPACE]) -> usize
-        requires { message_len ≤ 1480 }
+    fn emit_message(
+        &self,
+        mac: Mac,
+        to: Addr,
+        message_len: usize,
+        out: &mut [u8; FRAME_MAX],
+    ) -> usize
+        requires { message_len ≤ PAYLOAD_IN_FRAME }
         ensures len { result ≡ max (34 + message_len) 60 }
         ensures octets { out.new ≡ message_frame_to self.now mac to (slice_range out.old 34 (34 + message_len)) ++ drop result out.old }
     {
@@ -80,7 +85,7 @@ impl Interface {
     /// Writes the frame of a request for the MAC of a neighbour, and notes that it goes out now (RFC 826). The caller knows that one
     /// may (RFC 1122 section 2.3.2.1). Answers its length, 60 octets. What stands behind it in `out` stays.
     #[tactic(auto, unfolding(crate::specs::Emission::request_frame))]
-    pub fn emit_request(&mut self, now: Moment, hop: Addr, out: &mut [u8; SPACE]) -> usize
+    pub fn emit_request(&mut self, now: Moment, hop: Addr, out: &mut [u8; FRAME_MAX]) -> usize
         requires { IsTrue (may_ask now hop self.old.cache.asked) }
         ensures after { self.new ≡ asked self.old now hop }
         ensures len { result ≡ 60 }
@@ -94,7 +99,7 @@ impl Interface {
     /// request for its hop, which is noted, and the reply stays as it is (RFC 1122 section 2.3.2.2). Answers the frame's length, 60 octets at
     /// least and 1,514 at most; 0 where the reply waits on, and then nothing has changed. What stands behind the frame in `out` stays.
     #[tactic(auto, using(crate::proofs::Waits::at_place, crate::proofs::Waits::reply_asks))]
-    pub fn emit_reply(&mut self, now: Moment, place: usize, out: &mut [u8; SPACE]) -> usize
+    pub fn emit_reply(&mut self, now: Moment, place: usize, out: &mut [u8; FRAME_MAX]) -> usize
         requires { place < length self.old.replies }
         ensures len { result ≡ len_at self.old now place }
         ensures least { IsTrue (goes_out (way_at self.old now place)) → 60 ≤ result }
@@ -117,7 +122,7 @@ impl Interface {
     /// Writes the frame of a reply for the interface with this MAC, and answers its length, 60 octets at least and 1,514 at most. What
     /// stands behind it in `out` stays.
     #[tactic(auto, unfolding(crate::specs::Emission::reply_frame))]
-    fn emit_to(&self, mac: Mac, reply: &Reply, out: &mut [u8; SPACE]) -> usize
+    fn emit_to(&self, mac: Mac, reply: &Reply, out: &mut [u8; FRAME_MAX]) -> usize
         ensures len { result ≡ reply_len reply.now }
         ensures least { 60 ≤ result }
         ensures most { result ≤ 1514 }
@@ -148,9 +153,9 @@ impl Interface {
 
 /// Writes an echo reply with this identifier, number and data, and answers its length, in octets. What stands behind it in `out` stays.
 fn write_echo(identifier: u16, number: u16, room: &Room, out: &mut [u8]) -> usize
-    requires { length out.old ≡ 1480 }
+    requires { length out.old ≡ PAYLOAD_IN_FRAME }
     ensures len { result ≡ 8 + length room.now }
-    ensures most { length room.now ≤ 1472 }
+    ensures most { length room.now ≤ ECHO_ROOM }
     ensures octets { out.new ≡ spelling (echo_reply identifier number room.now) ++ drop result out.old }
 {
     let octets = room.as_slice();
@@ -160,9 +165,9 @@ fn write_echo(identifier: u16, number: u16, room: &Room, out: &mut [u8]) -> usiz
 
 /// Writes an error for this reason that quotes these octets, and answers its length, in octets. What stands behind it in `out` stays.
 fn write_error(reason: Reason, quoted: &Quoted, out: &mut [u8]) -> usize
-    requires { length out.old ≡ 1480 }
+    requires { length out.old ≡ PAYLOAD_IN_FRAME }
     ensures len { result ≡ 8 + length quoted.now }
-    ensures most { length quoted.now ≤ 68 }
+    ensures most { length quoted.now ≤ ERROR_QUOTE }
     ensures octets { out.new ≡ spelling (error_for reason quoted.now []) ++ drop result out.old }
 {
     emit_error(reason, quoted.as_slice(), &[], out)

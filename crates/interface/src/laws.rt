@@ -2,6 +2,7 @@
 
 ghost use Rattle.std.specs.Prelude.{◌≡◌, ◌≢◌, ℕ, ◌+◌, ◌*◌, ◌<◌, ◌≤◌, ◌++◌, [], ◌∷◌, List, length, position, fold, All, Contains, IsTrue, IfSome, false, Option, Some, None, Ok};
 ghost use Rattle.ether.specs.declared.mac.Mac.{Mac};
+ghost use Rattle.ipv4.specs.declared.limits.TheConstants.{PAYLOAD_IN_FRAME};
 ghost use Rattle.ipv4.specs.declared.addr.Addr.{Addr};
 ghost use Rattle.icmp.specs.declared.error.Reason.{Reason};
 ghost use Rattle.icmp.specs.Sent.{echo_reply, error_for};
@@ -24,6 +25,7 @@ ghost use Rattle.frames.specs.declared.meaning.Meaning.TheVariants as meaning;
 ghost use Rattle.frames.specs.Heard.{MaySend};
 ghost use Rattle.frames.specs.Meaning.{heard};
 ghost use Rattle.frames.specs.Sent.{IsPart, part_datagram};
+ghost use Rattle.interface.specs.declared.room.TheConstants.{ECHO_ROOM};
 ghost use Rattle.interface.specs.declared.reply.Reply.TheVariants.{Arp, Reset, Echo, Error};
 ghost use Rattle.interface.specs.declared.reply.Waiting.{Waiting};
 ghost use Rattle.interface.specs.declared.way.Way.TheVariants.{To, Ask, Waits};
@@ -135,7 +137,7 @@ pub fn emitted_frames_are_heard()
     ensures request { (h : InterfaceView) (hop : Addr) (mac : Mac) (ours : Addr) → HasWidths (request_of h.mac h.addr hop) → MaySend ours h.addr
         → heard mac ours (request_frame h hop) ≡ Ok (meaning.Arp (request_of h.mac h.addr hop)) }
     ensures segment { (h : InterfaceView) (mac : Mac) (to : Addr) (head : Head) (octets : List ℕ) → CanBeSent h.addr to head octets
-        → length mac.0 ≡ 6 → length h.mac.0 ≡ 6 → MaySend to h.addr → 4 * sent_offset head + length octets ≤ 1480
+        → length mac.0 ≡ 6 → length h.mac.0 ≡ 6 → MaySend to h.addr → 4 * sent_offset head + length octets ≤ PAYLOAD_IN_FRAME
         → heard mac to (segment_frame_to h mac to (sent_octets h.addr to head octets)) ≡ Ok (meaning.Tcp (record { source = h.addr; segment = sent_segment head octets })) }
     ensures user { (h : InterfaceView) (mac : Mac) (to : Addr) (part : Part) (octets : List ℕ) (d : UserDatagram) → IsPart part octets
         → length mac.0 ≡ 6 → length h.mac.0 ≡ 6 → length h.addr.0 ≡ 4 → length to.0 ≡ 4 → MaySend to h.addr
@@ -146,4 +148,9 @@ pub fn emitted_frames_are_heard()
         → length mac.0 ≡ 6 → length h.mac.0 ≡ 6 → length h.addr.0 ≡ 4 → length to.0 ≡ 4 → MaySend to h.addr
         → (part.fragment.more_fragments ≡ false → part.fragment.offset ≡ 0 → ⊥)
         → heard mac to (part_frame_to h mac to part octets) ≡ Ok (meaning.UdpFragment (part_datagram (head_to h mac to) part octets)) }
+{}
+
+/// What the public constant is: the payload of a datagram in a frame, less the 8 octets of a message's header (RFC 792).
+pub fn constants()
+    ensures echo_room { ECHO_ROOM + 8 ≡ PAYLOAD_IN_FRAME }
 {}

@@ -1,7 +1,9 @@
 //! The queue of the control replies that wait.
 
 ghost use Rattle.std.specs.Prelude.{◌≡◌, ◌<◌, ◌≤◌, ◌++◌, [], length, take, remove, false, IfOk, OnOk};
+ghost use Rattle.ipv4.specs.declared.limits.TheConstants.{ERROR_QUOTE};
 ghost use Rattle.interface.specs.declared.reply.Reply.TheVariants.{Echo, Error};
+ghost use Rattle.interface.specs.declared.room.TheConstants.{ECHO_ROOM};
 ghost use Rattle.interface.specs.Queue.{joined, join_answer, has_room};
 
 use crate::reply::{QueueFault, Reply, Waiting};
@@ -87,7 +89,7 @@ impl Queue {
         number: u16,
         octets: &[u8],
     ) -> Result<(), QueueFault>
-        requires { length octets.now ≤ 1472 }
+        requires { length octets.now ≤ ECHO_ROOM }
         ensures after { self.new ≡ joined now (Echo to identifier number octets.now) self.old }
         ensures answer { result ≡ join_answer self.old }
     {
@@ -139,7 +141,7 @@ impl Queue {
         reason: Reason,
         quote: &[u8],
     ) -> Result<(), QueueFault>
-        ensures after { self.new ≡ joined now (Error to reason (take 68 quote.now)) self.old }
+        ensures after { self.new ≡ joined now (Error to reason (take ERROR_QUOTE quote.now)) self.old }
         ensures answer { result ≡ join_answer self.old }
     {
         self.check_place()?;

@@ -6,16 +6,13 @@ ghost use Rattle.interface.specs.Timing.{sought, end_of, is_over};
 
 use crate::room::{Quoted, Room};
 use arp::ArpPacket;
-use clock::Moment;
+use clock::{HOP_WAIT, Moment};
 use ether::Mac;
 use icmp::Reason;
 use ipv4::Addr;
 use std::marker::Model;
 use tcp_segment::Head;
 use thiserror::Error;
-
-/// How long a reply waits for a hop that isn't known, in milliseconds. It is this stack's own.
-const PATIENCE: u64 = 3_000;
 
 /// Why a control reply isn't queued.
 #[derive(Clone, Copy, PartialEq, Eq, Debug, Error)]
@@ -122,7 +119,7 @@ impl Waiting {
     pub(crate) fn end(&self) -> Moment
         ensures { result ≡ end_of self.now }
     {
-        self.since.after(PATIENCE)
+        self.since.after(HOP_WAIT)
     }
 
     /// Whether that moment has come.

@@ -1,18 +1,17 @@
 //! Room for the octets of replies, made before they are owed.
 
 ghost use Rattle.std.specs.Prelude.{◌≡◌, ◌≤◌, ◌+◌, ◌++◌, [], length, take, IfOk};
-ghost use Rattle.interface.specs.declared.room.TheConstants.{ROOM, QUOTE};
+ghost use Rattle.ipv4.specs.declared.limits.TheConstants.{ERROR_QUOTE};
+ghost use Rattle.interface.specs.declared.room.TheConstants.{ECHO_ROOM};
 
 use icmp::QUOTED_LEN;
+use ipv4::ERROR_QUOTE;
 use std::alloc::{AllocError, Global};
 use std::marker::Model;
 
-/// The octets of data that the largest frame brings of an echo: its payload of 1,500 octets (RFC 894) without the headers of datagram
-/// and message (RFC 791 section 3.1, RFC 792).
-pub(crate) const ROOM: usize = 1_472;
-
-/// The octets that an error quotes at most: the longest header and 8 octets behind it (RFC 792).
-pub(crate) const QUOTE: usize = 68;
+/// The octets of data that the largest frame brings of an echo: its datagram's payload without the header of the message (RFC 791
+/// section 3.1, RFC 792).
+pub const ECHO_ROOM: usize = 1_472;
 
 /// Octets of a reply, in memory that was taken before. A clause sees the octets.
 #[derive(Drop)]
@@ -23,13 +22,13 @@ pub(crate) struct Room {
 impl Model for Room {
     ghost use Rattle.std.specs.Prelude.{ℕ, ◌≤◌, List};
     ghost use Rattle.std.specs.Vec.{vec_len, vec_capacity};
-    ghost use Rattle.interface.specs.declared.room.TheConstants.{ROOM};
+    ghost use Rattle.interface.specs.declared.room.TheConstants.{ECHO_ROOM};
 
     ghost Value = { List ℕ };
 
     ghost view = { λ r. r.octets.items };
 
-    ghost invariant = { λ r. (vec_len r.octets ≤ ROOM) × (ROOM ≤ vec_capacity r.octets) };
+    ghost invariant = { λ r. (vec_len r.octets ≤ ECHO_ROOM) × (ECHO_ROOM ≤ vec_capacity r.octets) };
 }
 
 impl Room {
@@ -37,21 +36,21 @@ impl Room {
     pub(crate) fn new(alloc: Global) -> Result<Room, AllocError>
         ensures { IfOk result (λ room. room ≡ []) }
     {
-        let octets = Vec::with_capacity(alloc, ROOM)?;
+        let octets = Vec::with_capacity(alloc, ECHO_ROOM)?;
         Ok(Room { octets })
     }
 
     /// The octets in it.
     pub(crate) fn as_slice(&self) -> &[u8]
         ensures octets { result.now ≡ self.now }
-        ensures most { length result.now ≤ ROOM }
+        ensures most { length result.now ≤ ECHO_ROOM }
     {
         self.octets.as_slice()
     }
 
     /// The room with these octets in place of its own. It takes no memory.
     pub(crate) fn filled(mut self, octets: &[u8]) -> Room
-        requires { length octets.now ≤ ROOM }
+        requires { length octets.now ≤ ECHO_ROOM }
         ensures { result ≡ octets.now }
     {
         self.octets.clear();
@@ -61,7 +60,7 @@ impl Room {
 
     /// The room with these octets behind its own. It takes no memory.
     fn extended(mut self, octets: &[u8]) -> Room
-        requires { length self + length octets.now ≤ ROOM }
+        requires { length self + length octets.now ≤ ECHO_ROOM }
         ensures { result ≡ self ++ octets.now }
     {
         let _ = self.octets.extend_from_slice(octets);
@@ -77,13 +76,13 @@ pub(crate) struct Quoted {
 
 impl Model for Quoted {
     ghost use Rattle.std.specs.Prelude.{ℕ, ◌≤◌, List, length};
-    ghost use Rattle.interface.specs.declared.room.TheConstants.{QUOTE};
+    ghost use Rattle.ipv4.specs.declared.limits.TheConstants.{ERROR_QUOTE};
 
     ghost Value = { List ℕ };
 
     ghost view = { λ q. q.room };
 
-    ghost invariant = { λ q. length q.room ≤ QUOTE };
+    ghost invariant = { λ q. length q.room ≤ ERROR_QUOTE };
 }
 
 impl Quoted {
@@ -101,9 +100,9 @@ impl Quoted {
 
     /// A quote that was made before, in a room: its first 68 octets, fewer where there are fewer. It takes no memory.
     pub(crate) fn of(room: Room, quote: &[u8]) -> Quoted
-        ensures { result ≡ take 68 quote.now }
+        ensures { result ≡ take ERROR_QUOTE quote.now }
     {
-        let first = &quote[..QUOTE.min(quote.len())];
+        let first = &quote[..ERROR_QUOTE.min(quote.len())];
         Quoted {
             room: room.filled(first),
         }
@@ -112,7 +111,7 @@ impl Quoted {
     /// The octets that are quoted.
     pub(crate) fn as_slice(&self) -> &[u8]
         ensures octets { result.now ≡ self.now }
-        ensures most { length result.now ≤ QUOTE }
+        ensures most { length result.now ≤ ERROR_QUOTE }
     {
         self.room.as_slice()
     }

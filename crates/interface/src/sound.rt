@@ -5,11 +5,11 @@ ghost use Rattle.std.specs.List.{AllByRecursion};
 ghost use Rattle.arp.specs.Packet.{HasWidths};
 ghost use Rattle.interface.specs.Sound.{IsSoundReply, IsSoundReset, IsSoundEcho, IsSoundError};
 
-use crate::Interface;
+use crate::interface::Interface;
 use crate::reply::{Reply, ResetHead, Waiting};
 use crate::room::{Quoted, Room};
 use arp::ArpPacket;
-use ether::Mac;
+use ether::is_whole_mac;
 use ipv4::Addr;
 
 impl Interface {
@@ -100,11 +100,4 @@ fn is_whole(addr: Addr)
     ensures { length addr.0 ≡ 4 }
 {
     let _ = addr;
-}
-
-/// A MAC has six octets.
-fn is_whole_mac(mac: Mac)
-    ensures { length mac.0 ≡ 6 }
-{
-    let _ = mac;
 }

@@ -4,8 +4,8 @@ ghost use Rattle.std.specs.Prelude.{◌≡◌, not, ◌&&◌, filter};
 ghost use Rattle.interface.specs.declared.reply.Waiting.{Waiting as WaitingReply};
 ghost use Rattle.interface.specs.Timing.{is_unknown, is_over, sought, asked_until_over};
 
-use crate::Interface;
 use crate::hop::{hop_mac, next_hop};
+use crate::interface::Interface;
 use crate::queue::Queue;
 use crate::reply::Waiting;
 use arp::ArpCache;

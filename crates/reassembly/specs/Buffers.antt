@@ -1,5 +1,6 @@
 -- How the fields of a data buffer are seen.
 use Rattle.std.specs.Prelude.{◌≡◌, ℕ, ◌≤◌, ◌+◌, Bool, if◌then◌else◌, List, [], ◌∷◌, ◌++◌, length, take, drop, count_by, Option, Some, None}
+use Rattle.ipv4.specs.declared.limits.TheConstants.{MAX_PAYLOAD}
 
 -- the octets whose flags are set
 abbrev pub known : List ℕ → List Bool → List (Option ℕ)
@@ -17,7 +18,7 @@ over at new items = take at items ++ new ++ drop (at + length new) items
 
 -- room for the longest payload, the places that are in use, and how many of these have their octet
 pub record IsBuffer (octets : List ℕ) (present : List Bool) (reach covered : ℕ) : Type 0 where
-  pub octets_room : length octets ≡ 65515
-  pub flags_room : length present ≡ 65515
-  pub within : reach ≤ 65515
+  pub octets_room : length octets ≡ MAX_PAYLOAD
+  pub flags_room : length present ≡ MAX_PAYLOAD
+  pub within : reach ≤ MAX_PAYLOAD
   pub counted : covered ≡ count_set (take reach present)

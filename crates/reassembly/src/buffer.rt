@@ -1,14 +1,13 @@
 //! The octets of one datagram's payload, as far as fragments of it have come.
 
 ghost use Rattle.std.specs.Prelude.{◌≡◌, ◌+◌, ◌-◌, ◌≤◌, [], IfOk, IsTrue, length, count_by, not, replicate};
+ghost use Rattle.ipv4.specs.declared.limits.TheConstants.{MAX_PAYLOAD};
 ghost use Rattle.reassembly.specs.Buffers.{over};
 ghost use Rattle.reassembly.specs.Octets.{reaching, put, laid, is_covered, filled};
 
+use ipv4::MAX_PAYLOAD;
 use std::alloc::{AllocError, Global};
 use std::marker::Model;
-
-/// The octets of the longest payload: those of the longest datagram less its shortest header (RFC 791 section 3.1).
-pub(crate) const MOST: usize = 65_515;
 
 /// The data buffer of a reassembly, with a flag for each octet (RFC 791 section 3.2). It takes memory where it is made alone.
 #[derive(Drop)]
@@ -38,8 +37,8 @@ impl DataBuffer {
         ensures { IfOk result (λ buffer. buffer ≡ []) }
     {
         Ok(DataBuffer {
-            octets: vec![in alloc; 0; MOST]?,
-            present: vec![in alloc; false; MOST]?,
+            octets: vec![in alloc; 0; MAX_PAYLOAD]?,
+            present: vec![in alloc; false; MAX_PAYLOAD]?,
             reach: 0,
             covered: 0,
         })
@@ -55,7 +54,7 @@ impl DataBuffer {
 
     /// Lays octets over those that stand there, from a place on.
     pub(crate) fn lay(&mut self, at: usize, new: &[u8])
-        requires { at + length new.now ≤ 65515 }
+        requires { at + length new.now ≤ MAX_PAYLOAD }
         ensures { self.new ≡ laid at new.now self.old }
     {
         self.widen(at + new.len());
@@ -64,7 +63,7 @@ impl DataBuffer {
 
     /// Brings the places up to `end` into use, where they are not.
     fn widen(&mut self, end: usize)
-        requires { end ≤ 65515 }
+        requires { end ≤ MAX_PAYLOAD }
         ensures { self.new ≡ reaching end self.old }
     {
         if self.reach < end {
@@ -75,7 +74,7 @@ impl DataBuffer {
 
     /// Puts octets at places that are in use.
     fn put(&mut self, at: usize, new: &[u8])
-        requires room { at + length new.now ≤ 65515 }
+        requires room { at + length new.now ≤ MAX_PAYLOAD }
         requires in_use { at + length new.now ≤ length self.old }
         ensures { self.new ≡ put at new.now self.old }
     {
@@ -88,7 +87,7 @@ impl DataBuffer {
     /// How many places are in use: up to the last octet that came.
     pub(crate) fn reach(&self) -> usize
         ensures value { result ≡ length self.now }
-        ensures bound { result ≤ 65515 }
+        ensures bound { result ≤ MAX_PAYLOAD }
     {
         self.reach
     }

@@ -1,6 +1,7 @@
 //! What a fragment says of the whole datagram.
 
 ghost use Rattle.std.specs.Prelude.{◌≡◌, ◌≤◌};
+ghost use Rattle.ipv4.specs.declared.limits.TheConstants.{MAX_PAYLOAD};
 ghost use Rattle.reassembly.specs.Fragments.{begin_of, end_of};
 ghost use Rattle.reassembly.specs.Reassembly.{conflicts};
 
@@ -19,7 +20,7 @@ pub(crate) fn begin(fragment: &Ipv4View) -> usize
 /// The place behind its last octet.
 pub(crate) fn end(fragment: &Ipv4View) -> usize
     ensures value { result ≡ end_of fragment.now }
-    ensures bound { result ≤ 65515 }
+    ensures bound { result ≤ MAX_PAYLOAD }
 {
     begin(fragment) + fragment.payload().len()
 }

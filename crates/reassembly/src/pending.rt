@@ -10,7 +10,7 @@ use clock::Moment;
 use ipv4::Ipv4View;
 
 /// How long the fragments of a datagram are waited for, in milliseconds (RFC 1122 section 3.3.2).
-const PATIENCE: u64 = 60_000;
+const REASSEMBLY_WAIT: u64 = 60_000;
 
 /// What is known of a datagram that is being put together, beside what was gathered of it.
 #[derive(Drop)]
@@ -38,7 +38,7 @@ impl Pending {
     pub(crate) fn deadline(&self) -> Moment
         ensures { result ≡ deadline_after self.now.since }
     {
-        self.since.after(PATIENCE)
+        self.since.after(REASSEMBLY_WAIT)
     }
 
     /// Whether its time has run out.

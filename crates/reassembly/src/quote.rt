@@ -4,11 +4,8 @@ ghost use Rattle.std.specs.Prelude.{◌≡◌};
 ghost use Rattle.reassembly.specs.Fragments.{quote_of};
 
 use arrayvec::ArrayVec;
-use ipv4::Ipv4View;
+use ipv4::{ERROR_QUOTE, Ipv4View};
 use std::marker::Model;
-
-/// The octets of the longest header (RFC 791 section 3.1) and eight more.
-const MOST: usize = 68;
 
 /// How many octets of a datagram's data an error message quotes (RFC 792).
 const DATA: usize = 8;
@@ -17,7 +14,7 @@ const DATA: usize = 8;
 /// fewer (RFC 792).
 #[derive(Drop)]
 pub struct Quote {
-    octets: ArrayVec<u8, MOST>,
+    octets: ArrayVec<u8, ERROR_QUOTE>,
 }
 
 impl Model for Quote {

@@ -3,12 +3,12 @@ use Rattle.std.specs.Prelude.{ℕ, Bool, not, ◌&&◌, filter, fold, List, [], 
 use Rattle.clock.specs.declared.moment.Moment.{Moment}
 use Rattle.clock.specs.Moments.{after, has_come, sooner}
 use Rattle.ipv4.specs.declared.addr.Addr.{Addr}
-use Rattle.udp_socket.specs.declared.tag.TheConstants.{DATAGRAM_WAIT}
+use Rattle.clock.specs.declared.moment.TheConstants.{HOP_WAIT}
 use Rattle.udp_socket.specs.SocketView.{Outgoing, SocketView}
 
 -- a datagram for a lost address is given up once it has waited for 3,000 milliseconds
 abbrev pub is_given_up : (Addr → Bool) → Moment → Outgoing → Bool
-is_given_up lost now o = has_come (Some (after o.since DATAGRAM_WAIT)) now && lost o.peer.addr
+is_given_up lost now o = has_come (Some (after o.since HOP_WAIT)) now && lost o.peer.addr
 
 -- how many fragments of the first datagram that is left have gone out: none where the one before it was given up, and else as many as before
 abbrev pub parts_left : (Addr → Bool) → Moment → List Outgoing → ℕ → ℕ
@@ -24,7 +24,7 @@ after_giving_up s lost now = record s {
 
 -- from when on a datagram is given up: never where its address isn't lost
 abbrev pub deadline_of : (Addr → Bool) → Outgoing → Option Moment
-deadline_of lost o = if lost o.peer.addr then Some (after o.since DATAGRAM_WAIT) else None
+deadline_of lost o = if lost o.peer.addr then Some (after o.since HOP_WAIT) else None
 
 -- from when on one of them is: the least of their moments
 abbrev pub deadline : (Addr → Bool) → SocketView → Option Moment

@@ -8,17 +8,14 @@ ghost use Rattle.ipv4.specs.declared.addr.Endpoint.{Endpoint};
 ghost use Rattle.udp.specs.Datagram.{spelling};
 ghost use Rattle.udp.specs.Waiting.{HasRoom, Waiting};
 ghost use Rattle.udp_socket.specs.declared.socket.TheConstants.{MOST_OCTETS};
-ghost use Rattle.udp_socket.specs.declared.tag.TheConstants.{DATAGRAM_WAIT};
 ghost use Rattle.udp_socket.specs.Emission.{datagram_of};
 ghost use Rattle.udp_socket.specs.Waits.{is_given_up};
 ghost use Rattle.udp_socket.specs.SocketView.{Outgoing, SocketView, new_socket, line_of, waiting_of, read_answer, read_buffer, has_room_in, has_room_out};
 ghost use Rattle.udp_socket.specs.Events.{Event, GivesUp, Run, after_events, gathered, received, read, sent, finished, gone_out, left, begun, pieces_of, whole, IsFrom, IsWithout};
 
-/// What the public constants are: 65,535 octets of a datagram of IPv4 at most, less its header of 20 and the header of 8; and 3
-/// seconds, which are this stack's own.
+/// What the public constant is: 65,535 octets of a datagram of IPv4 at most, less its header of 20 and the header of 8.
 pub fn constants()
     ensures octets { MOST_OCTETS ≡ 65507 }
-    ensures wait { DATAGRAM_WAIT ≡ 3000 }
 {}
 
 /// A further datagram has room in a socket where its queue has room for it: with 64 datagrams at most, and 65,535 octets at most, where

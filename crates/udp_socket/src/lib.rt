@@ -8,4 +8,3 @@ mod socket;
 mod tag;
 
 pub use socket::{MOST_OCTETS, UdpSocket};
-pub use tag::DATAGRAM_WAIT;

@@ -3,11 +3,8 @@
 ghost use Rattle.std.specs.Prelude.{◌≡◌, Bool};
 ghost use Rattle.ipv4.specs.declared.addr.Addr.{Addr};
 
-use clock::Moment;
+use clock::{HOP_WAIT, Moment};
 use ipv4::{Addr, Endpoint};
-
-/// How long a datagram waits for a hop that isn't known, in milliseconds. It is this stack's own.
-pub const DATAGRAM_WAIT: u64 = 3_000;
 
 /// What is known of an outgoing datagram beside its octets.
 #[derive(Clone, Copy, Debug, PartialEq, Eq)]
@@ -24,12 +21,12 @@ impl Tag {
     ghost use Rattle.udp_socket.specs.Stored.{bare};
     ghost use Rattle.udp_socket.specs.Waits.{is_given_up, deadline_of};
 
-    /// Whether the datagram is given up: it has waited for `DATAGRAM_WAIT`, and the address that it is for is lost.
+    /// Whether the datagram is given up: it has waited for `HOP_WAIT`, and the address that it is for is lost.
     pub(crate) fn is_given_up<F: Fn(Addr) -> bool>(&self, now: Moment, lost: &F) -> bool
         requires { F.IsAlwaysCallable lost.now }
         ensures { (test : Addr → Bool) → ((addr : Addr) (answer : Bool) → F.post lost.now addr answer → answer ≡ test addr) → result ≡ is_given_up test now (bare self.now) }
     {
-        self.since.after(DATAGRAM_WAIT) <= now && lost(self.peer.addr)
+        self.since.after(HOP_WAIT) <= now && lost(self.peer.addr)
     }
 
     /// When the datagram may be given up, where the address that it is for is lost.
@@ -38,7 +35,7 @@ impl Tag {
         ensures { (test : Addr → Bool) → ((addr : Addr) (answer : Bool) → F.post lost.now addr answer → answer ≡ test addr) → result ≡ deadline_of test (bare self.now) }
     {
         if lost(self.peer.addr) {
-            Some(self.since.after(DATAGRAM_WAIT))
+            Some(self.since.after(HOP_WAIT))
         } else {
             None
         }

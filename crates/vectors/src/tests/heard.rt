@@ -1,7 +1,7 @@
 //! What frames are to a host: the octets are those that the RFCs' formats give.
 
 use arp::ArpPacket;
-use ether::{Mac, SPACE};
+use ether::{Mac, FRAME_MAX};
 use frames::{DropCause, FrameHead, Meaning, emit_arp, read};
 use icmp::Kind;
 use ipv4::{Addr, Ipv4View, Protocol};
@@ -174,8 +174,8 @@ const LENGTHS: [(&[u8], Heard); 3] = [
         b"\x02\0\0\0\0\x02\x02\0\0\0\0\x01\x08",
         Err(DropCause::Short),
     ),
-    (&[2; SPACE + 1], Err(DropCause::Short)),
-    (&[2; SPACE], Err(DropCause::OtherMac)),
+    (&[2; FRAME_MAX + 1], Err(DropCause::Short)),
+    (&[2; FRAME_MAX], Err(DropCause::OtherMac)),
 ];
 
 /// The frame with these octets in the place of its own.
@@ -210,7 +210,7 @@ const HEAD: FrameHead = FrameHead {
 
 #[test]
 fn frames_go_out(rt: HostRuntime) {
-    let mut out = [7; SPACE];
+    let mut out = [7; FRAME_MAX];
     out[34..58].copy_from_slice(&SYN[34..58]);
     assert!(rt; HEAD.emit_tcp(24, &mut out) == 60 && out.starts_with(&SYN));
     out[34..45].copy_from_slice(&ECHO[34..45]);
@@ -223,7 +223,7 @@ fn frames_go_out(rt: HostRuntime) {
     assert!(rt; HEAD.emit_udp(part, &mut out) == 60 && out.starts_with(&HI));
     let request = ArpPacket::request(OTHER_MAC, OTHER, OURS);
     assert!(rt; emit_arp(&request, &mut out) == 60 && out.starts_with(&REQUEST));
-    assert!(rt; HEAD.emit_tcp(1_480, &mut out) == SPACE);
+    assert!(rt; HEAD.emit_tcp(1_480, &mut out) == FRAME_MAX);
 }
 
 /// Each cause, its number and its text.

@@ -1,6 +1,6 @@
 //! Frames of Ethernet (RFC 894).
 
-use ether::{EtherView, FrameFault, Head, Mac, SPACE};
+use ether::{EtherView, FrameFault, Head, Mac, FRAME_MAX};
 
 /// Destination, source, type and payload, or the fault.
 type Read<'a> = Result<(Mac, Mac, u16, &'a [u8]), FrameFault>;
@@ -56,10 +56,10 @@ fn frames(rt: HostRuntime) {
 
 #[test]
 fn short_payloads_are_padded(rt: HostRuntime) {
-    let mut want = [7; SPACE];
+    let mut want = [7; FRAME_MAX];
     want[..14].copy_from_slice(b"\xff\xff\xff\xff\xff\xff\x02\0\0\0\0\x01\x08\x06");
     for (payload_len, end) in [(1_500, 1_514), (46, 60), (28, 60)] {
-        let mut out = [7; SPACE];
+        let mut out = [7; FRAME_MAX];
         want[14 + payload_len..end].fill(0);
         assert!(rt; HEAD.emit(payload_len, &mut out) == end);
         assert!(rt; out == want);

@@ -3,7 +3,7 @@
 use super::{A, B};
 use arp::{ArpCache, ArpFault, ArpPacket, LEN, Operation};
 use clock::Moment;
-use ether::{EtherView, Head, Mac, SPACE};
+use ether::{EtherView, Head, Mac, FRAME_MAX};
 use ipv4::Addr;
 
 const MAC_A: Mac = Mac([2, 0, 0, 0, 0, 1]);
@@ -108,7 +108,7 @@ fn packet_in(frame: &[u8]) -> Option<ArpPacket> {
 
 /// Whether this frame carries the packet, and is written of it.
 fn carries(frame: &[u8; 60], packet: ArpPacket, destination: Mac) -> bool {
-    let mut out = [0; SPACE];
+    let mut out = [0; FRAME_MAX];
     packet.emit(&mut out[14..]);
     let head = Head {
         destination,

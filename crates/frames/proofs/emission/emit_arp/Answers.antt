@@ -8,6 +8,6 @@ pub returns-clause-octets : goal.returns-clause-octets
 returns-clause-octets c =
     let p = c.args.packet.now in
     let len = length-spelling p c.emit.ensures.spelled.widths in
-    let payload = framed_payload c.args.out.now c.emit.new.out (packet_octets p) 28 c.told-out c.emit.ensures.octets len (omega arith) in
-    let kept = kept_behind c.args.out.now c.emit.new.out (packet_octets p) 28 60 c.told-out c.emit.ensures.octets len (omega arith) (omega arith) in
+    let payload = framed_payload 14 1500 c.args.out.now c.emit.new.out (packet_octets p) 28 c.told-out c.emit.ensures.octets len (omega arith) in
+    let kept = kept_behind 14 1500 c.args.out.now c.emit.new.out (packet_octets p) 28 60 c.told-out c.emit.ensures.octets len (omega arith) (omega arith) in
     rw (c.emit-2.ensures.octets, payload, c.emit-2.ensures.len, kept, c.packet_destination.ensures) (search rules)

@@ -9,12 +9,12 @@ pub returns-in-Ok : goal.returns-in-Ok
 returns-in-Ok c =
     let found = read_ok c.args.octets.now c.in-Ok.frame c.in-Ok.ensures.parsed in
     rw (c.datagram_pair.ensures, c.payload.ensures)
-    (sym (as_frame c.args.octets.now (Some c.in-Ok.frame) found ∙ of_ipv4 c.in-Ok.frame (sym c.kind.ensures ∙ c.if-kind-eq-IPV4.true)))
+    (sym (as_frame c.args.octets.now (Some c.in-Ok.frame) found ∙ of_ipv4 c.in-Ok.frame (sym c.kind.ensures ∙ c.if-kind-eq-ETHERTYPE_IPV4.true)))
 
 pub returns-in-Ok-2 : goal.returns-in-Ok-2
 returns-in-Ok-2 c =
     let found = read_ok c.args.octets.now c.in-Ok.frame c.in-Ok.ensures.parsed in
-    sym (as_frame c.args.octets.now (Some c.in-Ok.frame) found ∙ of_other c.in-Ok.frame (λ is. c.if-kind-eq-IPV4.false (c.kind.ensures ∙ is)))
+    sym (as_frame c.args.octets.now (Some c.in-Ok.frame) found ∙ of_other c.in-Ok.frame (λ is. c.if-kind-eq-ETHERTYPE_IPV4.false (c.kind.ensures ∙ is)))
 
 pub returns-in-Err : goal.returns-in-Err
 returns-in-Err c =

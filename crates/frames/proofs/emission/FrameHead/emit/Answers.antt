@@ -29,8 +29,8 @@ returns-clause-octets c =
     sent_len head segment fields ∙ omega (arith, segment_len out n c.told-out c.requires.most, is_total) in
     let new : c.emit-datagram_len.new.out ≡ datagram_octets (datagram_sent head segment) ++ drop total (mid_of 14 1500 out) =
     written ∙ ap (λ d. datagram_octets d ++ drop total (mid_of 14 1500 out)) same in
-    let payload = framed_payload out c.emit-datagram_len.new.out (datagram_octets (datagram_sent head segment)) total c.told-out new len (omega (arith, is_total, c.requires.most)) in
-    let kept = kept_behind out c.emit-datagram_len.new.out (datagram_octets (datagram_sent head segment)) total c.emit.result c.told-out new len (omega (arith, is_total, c.requires.most)) (omega (arith, c.emit.ensures.len)) in
+    let payload = framed_payload 14 1500 out c.emit-datagram_len.new.out (datagram_octets (datagram_sent head segment)) total c.told-out new len (omega (arith, is_total, c.requires.most)) in
+    let kept = kept_behind 14 1500 out c.emit-datagram_len.new.out (datagram_octets (datagram_sent head segment)) total c.emit.result c.told-out new len (omega (arith, is_total, c.requires.most)) (omega (arith, c.emit.ensures.len)) in
     let frame_head : EtherHead = record { destination = c.args.self.now.destination; source = c.args.self.now.source; kind = ipv4_type } in
     let before : List ℕ = put_mid 14 1500 out c.emit-datagram_len.new.out in
     c.emit.ensures.octets

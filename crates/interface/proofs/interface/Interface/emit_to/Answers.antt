@@ -12,7 +12,7 @@ use Rattle.interface.specs.InterfaceView.{InterfaceView}
 use Rattle.interface.specs.Emission.{segment_frame_to, message_frame_to, reply_frame}
 use Rattle.interface.proofs.Framed.{framed}
 use borrow.Rule.Slice.PartMut.{mid_of}
-use Rattle.interface.proofs.Interface.emit_to.Goals as goal
+use Rattle.interface.proofs.interface.Interface.emit_to.Goals as goal
 
 offset_most : (b : Bool) → 4 * cond b 6 5 ≤ 24
 offset_most true = omega arith
