@@ -21,14 +21,13 @@ use Rattle.sockets.specs.declared.entry.Entry.{Entry}
 use Rattle.sockets.specs.declared.entry.SocketId.{SocketId}
 use Rattle.sockets.specs.declared.role.Role.{Role}
 use Rattle.sockets.specs.declared.role.Role.TheVariants.{Idle, Listener, Connected, Datagrams}
-use Rattle.sockets.specs.declared.role.TheConstants.{RESET_WAIT}
+use Rattle.clock.specs.declared.moment.TheConstants.{HOP_WAIT}
 use Rattle.sockets.specs.Entries.{due_peer, entries_after_steps, is_kept, with_role}
 use Rattle.sockets.specs.Lost.{after_giving_up, give_up_at, give_up_fate_of, is_given_up, role_after_giving_up}
 use Rattle.sockets.specs.SocketsView.{SocketsView, later_moment}
 use Rattle.sockets.specs.Ticks.{after_tick as sockets_after_tick, least_deadline as timer_deadline}
 use Rattle.sockets.proofs.Deadlines.{tick_waits}
 use Rattle.tcp_state.specs.View.{View}
-use Rattle.clock.specs.declared.moment.TheConstants.{HOP_WAIT}
 use Rattle.udp_socket.specs.SocketView.{Outgoing, SocketView}
 use Rattle.udp_socket.specs.Waits.{after_giving_up as datagrams_after, deadline, deadline_of as datagram_deadline, is_given_up as is_datagram_given_up, parts_left}
 use Rattle.host.specs.HostView.{HostView, with_sockets}
@@ -177,7 +176,7 @@ reset-stays h moment order aged c l early = by_owed c.owes_reset early
     by_owed : (b : Bool) → has_come (give_up_at (lacks_hop h h.sockets.kept) (Connected (record c { owes_reset = b }) l)) moment ≡ false → is_given_up (lacks_hop h moment) moment (Connected (record c { owes_reset = b }) l) ≡ false
     by_owed false e = refl
     by_owed true e =
-        goes-on (after c.since RESET_WAIT) moment (knows_hop h.interface moment c.peer.addr) (knows_hop h.interface h.sockets.kept c.peer.addr)
+        goes-on (after c.since HOP_WAIT) moment (knows_hop h.interface moment c.peer.addr) (knows_hop h.interface h.sockets.kept c.peer.addr)
         (known-alike h.interface h.sockets.kept moment c.peer.addr order aged) e
 
 -- the datagrams of a UDP socket

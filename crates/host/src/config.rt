@@ -3,7 +3,7 @@
 ghost use Rattle.std.specs.Prelude.{◌≡◌, ◌↔◌, true, IfOk, IfErr, IsOk, length};
 ghost use Rattle.host.specs.ConfigView.{IsOfOne};
 
-use ether::Mac;
+use ether::{Mac, is_whole_mac};
 use ipv4::Addr;
 use routes::Routes;
 use sockets::Refusal;
@@ -81,11 +81,4 @@ fn is_of_one(mac: Mac) -> bool
     ensures { (result ≡ true) ↔ IsOfOne mac }
 {
     mac.0[0] % 2 == 0
-}
-
-/// A MAC has six octets.
-fn is_whole_mac(mac: Mac)
-    ensures { length mac.0 ≡ 6 }
-{
-    let _ = mac;
 }

@@ -22,11 +22,11 @@ use tcp_segment::Head;
 /// control replies that wait. Only the making takes memory.
 #[derive(Drop)]
 pub struct Interface {
-    mac: Mac,
-    addr: Addr,
-    routes: Routes,
-    cache: ArpCache,
-    replies: Queue,
+    pub(crate) mac: Mac,
+    pub(crate) addr: Addr,
+    pub(crate) routes: Routes,
+    pub(crate) cache: ArpCache,
+    pub(crate) replies: Queue,
 }
 
 impl Model for Interface {
@@ -205,7 +205,7 @@ impl Interface {
     }
 
     /// What can be done now for a reply.
-    fn way_of(&self, now: Moment, reply: &Reply) -> Way
+    pub(crate) fn way_of(&self, now: Moment, reply: &Reply) -> Way
         ensures { result ≡ way_of self.now now reply.now }
     {
         match *reply {

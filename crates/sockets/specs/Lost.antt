@@ -9,7 +9,7 @@ use Rattle.tcp_state.specs.declared.connection.Fate.TheVariants.{Stays, Removed}
 use Rattle.udp_socket.specs.Waits as datagrams
 use Rattle.sockets.specs.declared.role.Role.{Role}
 use Rattle.sockets.specs.declared.role.Role.TheVariants.{Idle, Listener, Connected, Datagrams}
-use Rattle.sockets.specs.declared.role.TheConstants.{RESET_WAIT}
+use Rattle.clock.specs.declared.moment.TheConstants.{HOP_WAIT}
 use Rattle.sockets.specs.Entries.{reset_wait, entries_after_steps}
 use Rattle.sockets.specs.SocketsView.{SocketsView, later_moment}
 
@@ -19,7 +19,7 @@ is_given_up lost now role = of_wait (reset_wait role)
   where
     of_wait : Option (Endpoint × Moment) → Bool
     of_wait None = false
-    of_wait (Some (peer, since)) = has_come (Some (after since RESET_WAIT)) now && lost peer.addr
+    of_wait (Some (peer, since)) = has_come (Some (after since HOP_WAIT)) now && lost peer.addr
 
 -- with it its connection is taken out
 abbrev pub give_up_fate_of : (Addr → Bool) → Moment → Role → Fate
@@ -42,7 +42,7 @@ waiting_resets h = filter_map (λ e. reset_wait e.role) h.entries
 
 -- one of them that has not waited for 3,000 milliseconds, or whose address is not lost
 abbrev pub waits_still : (Addr → Bool) → Moment → Endpoint × Moment → Bool
-waits_still lost now wait = let peer = wait.0 in let since = wait.1 in not (nat_le (since.0 + 3000) now.0 && lost peer.addr)
+waits_still lost now wait = let peer = wait.0 in let since = wait.1 in not (nat_le (since.0 + HOP_WAIT) now.0 && lost peer.addr)
 
 -- the moment from which something of an entry is given up: None where all that waits is for addresses that are not lost
 abbrev pub give_up_at : (Addr → Bool) → Role → Option Moment
@@ -50,7 +50,7 @@ give_up_at lost (Connected c listener) = of_wait (reset_wait (Connected c listen
   where
     of_wait : Option (Endpoint × Moment) → Option Moment
     of_wait None = None
-    of_wait (Some (peer, since)) = if lost peer.addr then Some (after since RESET_WAIT) else None
+    of_wait (Some (peer, since)) = if lost peer.addr then Some (after since HOP_WAIT) else None
 give_up_at lost (Datagrams bound socket) = datagrams.deadline lost socket
 give_up_at lost (Listener local backlog) = None
 give_up_at lost (Idle buffers bound) = None

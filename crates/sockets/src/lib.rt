@@ -26,7 +26,6 @@ pub use datagrams::Reception;
 pub use emission::Emitted;
 pub use entry::{Entry, Kind, SocketId};
 pub use refusal::Refusal;
-pub use role::RESET_WAIT;
 pub use sockets::Sockets;
 pub use state::SocketState;
 pub use table::ENTRIES;

@@ -11,16 +11,13 @@ use crate::emission::Emitted;
 use crate::entry::SocketId;
 use crate::refusal::Refusal;
 use crate::state::SocketState;
-use clock::Moment;
+use clock::{HOP_WAIT, Moment};
 use ipv4::{Addr, Endpoint, Pair};
 use std::mem;
 use tcp_segment::{Seq, TcpView};
 use tcp_state::{Buffers, Connection, Fate, MOST_SEGMENT, Received, State};
 use udp::MOST_IN_FRAGMENT;
 use udp_socket::{MOST_OCTETS, UdpSocket};
-
-/// How long the reset of an abort waits for a hop that isn't known before it is given up, in milliseconds. It is this stack's own.
-pub const RESET_WAIT: u64 = 3_000;
 
 /// Where a socket is that is not bound: at 0.0.0.0 and port 0.
 const UNBOUND: Endpoint = Endpoint {
@@ -289,13 +286,13 @@ impl Role {
         Some((connection.peer(), since))
     }
 
-    /// Whether its reset is given up: it has waited for `RESET_WAIT`, and its peer's address is lost.
+    /// Whether its reset is given up: it has waited for `HOP_WAIT`, and its peer's address is lost.
     fn is_given_up<F: Fn(Addr) -> bool>(&self, now: Moment, lost: &F) -> bool
         requires { F.IsAlwaysCallable lost.now }
         ensures { (test : Addr → Bool) → ((addr : Addr) (answer : Bool) → F.post lost.now addr answer → answer ≡ test addr) → result ≡ is_given_up test now self.now }
     {
         match self.reset_wait() {
-            Some((peer, since)) => since.after(RESET_WAIT) <= now && lost(peer.addr),
+            Some((peer, since)) => since.after(HOP_WAIT) <= now && lost(peer.addr),
             None => false,
         }
     }
@@ -310,7 +307,7 @@ impl Role {
             return socket.deadline(lost);
         }
         match self.reset_wait() {
-            Some((peer, since)) if lost(peer.addr) => Some(since.after(RESET_WAIT)),
+            Some((peer, since)) if lost(peer.addr) => Some(since.after(HOP_WAIT)),
             _ => None,
         }
     }
@@ -576,8 +573,8 @@ impl Role {
         ensures frame { out.new ≡ due_front own self.old out.old }
     {
         match self {
-            Role::Connected { connection, .. } => match connection.emit(now, out) {
-                Some(len) => Emitted::Segment(len),
+            Role::Connected { connection, .. } => match connection.due() {
+                Some(due) => Emitted::Segment(connection.emit(due, now, out)),
                 None => unreachable!(),
             },
             Role::Datagrams { bound, socket } => {
