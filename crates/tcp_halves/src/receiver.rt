@@ -75,7 +75,7 @@ impl Receiver {
         self.buffer.ranges() == 0
     }
 
-    /// Whether the window to advertise is larger by a segment than the one that is known (RFC 9293 section 3.8.6.2.2).
+    /// Whether the window to advertise is larger by a segment than the one that is known: the receiver's silly window avoidance (RFC 9293 section 3.8.6.2.2).
     pub fn has_grown(&self) -> bool
         ensures { result ≡ has_grown self.now }
     {

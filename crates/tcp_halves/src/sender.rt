@@ -237,7 +237,8 @@ impl Sender {
         self.sendable(cwnd).min(self.smss())
     }
 
-    /// Whether a segment of new octets is worth its way (RFC 9293 section 3.8.6.2.1), where they waited as long as they may or didn't.
+    /// Whether a segment of new octets is worth its way (RFC 9293 section 3.8.6.2.1), where they waited as long as they may or
+    /// didn't: the sender's silly window avoidance, with the Nagle algorithm (section 3.7.4).
     pub fn is_worth_sending(&self, cwnd: u32, is_overridden: bool) -> bool
         ensures { result ≡ is_worth_sending self.now cwnd is_overridden }
     {

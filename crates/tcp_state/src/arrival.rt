@@ -122,7 +122,7 @@ impl Connection {
         }
     }
 
-    /// The congestion window takes what a segment is to it, and by the third duplicate ACK the segment at SND.UNA goes out again.
+    /// The congestion window takes what a segment is to it, and by the third duplicate ACK the segment at SND.UNA goes out again: fast retransmit (RFC 5681 section 3.2).
     fn note_signal(&mut self, before: Before, moved: bool)
         requires { moved ≡ is_moved before self.old }
         ensures { self.new ≡ record self.old {

@@ -12,7 +12,7 @@ use clock::Moment;
 use retransmit::Timers;
 use tcp_segment::Seq;
 
-/// How long TIME-WAIT lasts, in milliseconds: twice the time that a segment may live (RFC 9293 section 3.4.2).
+/// How long TIME-WAIT lasts, in milliseconds: twice the maximum segment lifetime (2 MSL, RFC 9293 section 3.4.2).
 const TIME_WAIT: u64 = 240_000;
 
 /// How long FIN-WAIT-2 lasts, in milliseconds, where no caller is left to read.

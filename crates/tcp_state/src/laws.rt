@@ -36,7 +36,7 @@ ghost use Rattle.tcp_state.specs.Simultaneous.{crossed, AnswersSyn, HasOpened};
 ghost use Rattle.tcp_state.specs.Opening.{OpenedBy, Confirmed};
 ghost use Rattle.tcp_state.specs.Edges.{Event, after_event, fate_by, moment_of, state_after, IsEdge, ends_by, is_cause, may_raise, congestion_event_by};
 
-/// The constants have their values: TIME-WAIT lasts twice the two minutes that a segment may live (RFC 9293 section 3.4.2), a peer's segments are taken to have room for 536 octets where its SYN doesn't say for
+/// The constants have their values: TIME-WAIT lasts 2 MSL, twice the two minutes that a segment may live (RFC 9293 section 3.4.2), a peer's segments are taken to have room for 536 octets where its SYN doesn't say for
 /// how many (section 3.7.1), and an acknowledgement waits for less than half a second (RFC 1122 section 4.2.3.2); the others are this stack's own.
 pub fn constants()
     ensures time_wait { TIME_WAIT ≡ 240000 }

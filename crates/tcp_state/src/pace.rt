@@ -159,7 +159,8 @@ impl Pace {
         }
     }
 
-    /// The segment at SND.UNA counts as lost: it alone goes out again, of so many numbers that are outstanding.
+    /// The segment at SND.UNA counts as lost: it alone goes out again, of so many numbers that are outstanding (fast retransmit, RFC 5681
+    /// section 3.2).
     pub(crate) fn mark_lost(&mut self, outstanding: u32)
         ensures after { self.new ≡ pace_lost self.old outstanding }
         ensures paced { IsPaced self.new }
