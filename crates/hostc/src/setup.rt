@@ -14,8 +14,8 @@ use std::alloc::Global;
 
 /// Makes a host with this MAC, address and routes, and has the handle hold it. Answers 0.
 ///
-/// EINVAL where the handle holds a host already, a route's prefix is none, two have one prefix, there are over 32 of them, the address is no
-/// single host's (RFC 1122 section 3.2.1.3) or the MAC is that of a group; ENOMEM. The handle stays as it was then.
+/// EINVAL where the handle holds a host already, a route's prefix is none, two have one prefix, there are over 32 of them, the address is not
+/// unicast (RFC 1122 section 3.2.1.3) or the MAC is that of a group; ENOMEM. The handle stays as it was then.
 #[unsafe(no_mangle)]
 pub extern "C" fn host_new(
     alloc: Global,

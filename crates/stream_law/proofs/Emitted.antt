@@ -8,7 +8,7 @@ use Rattle.tcp_state.specs.View.{View, is_opening, is_syn_sent, is_syn_received,
 use Rattle.tcp_halves.specs.Halves.{Sending as SendingHalf, Receiving as ReceivingHalf}
 use Rattle.tcp_halves.specs.Stream.{outstanding, after_sent}
 use Rattle.tcp_halves.specs.Windows.{receive_room, has_grown, after_advertisement}
-use Rattle.tcp_state.specs.Pace.{pace_probed}
+use Rattle.tcp_state.specs.Resend.{resend_probed}
 use Rattle.tcp_state.specs.Timing.{clocked}
 use Rattle.tcp_state.specs.Due.{probe_stretch, end_of, brings_new_octets, after_ack_paid, after_resent, after_first_sent, after_numbers, after_new_octets, after_stretch, after_probe, after_syn_again, after_syn_out, after_going_out, after_emitted}
 use Rattle.stream_law.specs.Channel.{Sender, Receiver, Waiting, Synchronised}
@@ -78,7 +78,7 @@ stretch-out v stretch now =
 pub probe-out : (v : View) (now : Moment) → GoesOut v (after_emitted v Probe now) (after_sent v.sending (end_of (probe_stretch v)))
 probe-out v now =
     let half = after_sent v.sending (end_of (probe_stretch v)) in
-    let sent : View = record v { sending = half; pace = pace_probed v.pace } in
+    let sent : View = record v { sending = half; resend = resend_probed v.resend } in
     timed v (after_going_out v Probe now) half now
     (paid v (after_probe v) half (renewed v sent half (brings_new_octets v (probe_stretch v)) (record { state = refl; sending = refl; receiver = refl; readable = refl })))
 

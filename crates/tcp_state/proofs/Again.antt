@@ -10,7 +10,7 @@ use Rattle.tcp_halves.specs.Numbers.{later_number}
 use Rattle.tcp_halves.specs.Halves.{Sending}
 use Rattle.tcp_halves.specs.Stream.{outstanding, after_sent}
 use Rattle.tcp_halves.specs.Windows.{open_window}
-use Rattle.tcp_state.specs.Pace.{mark_past}
+use Rattle.tcp_state.specs.Resend.{mark_past}
 use Rattle.tcp_state.specs.View.{View, IsSound, takes_flag_number}
 use Rattle.tcp_state.specs.Due.{first_due, end_of, after_resent, after_first_sent, after_numbers, after_new_octets, brings_new_octets, after_emitted, again, goes_again, new_octets, fin_alone}
 use Rattle.tcp_state.specs.Edges.{Emits, after_first, after_event}
@@ -116,13 +116,13 @@ keeps_within v stretch first = by_due (λ o. (t : Stretch) → o ≡ Some (Text 
 
 -- The mark moves on, and is gone where all that is outstanding went out again.
 
-moved_on : (v : View) (stretch : Stretch) (now : Moment) → IsSound v → v.pace.once ≡ false → first_due v ≡ Some (Text stretch) → stretch.offset < outstanding v.sending
-    → (after_emitted v (Text stretch) now).pace.mark ≡ (if nat_lt (end_of stretch) (outstanding v.sending) then Some (end_of stretch) else None)
+moved_on : (v : View) (stretch : Stretch) (now : Moment) → IsSound v → v.resend.once ≡ false → first_due v ≡ Some (Text stretch) → stretch.offset < outstanding v.sending
+    → (after_emitted v (Text stretch) now).resend.mark ≡ (if nat_lt (end_of stretch) (outstanding v.sending) then Some (end_of stretch) else None)
 moved_on v stretch now sound all first before =
     let o = outstanding v.sending in
     let end = end_of stretch in
     let ends = ends_sent v stretch sound first before in
-    let P : View → Type 0 = λ w. w.pace.mark ≡ mark_past end o in
+    let P : View → Type 0 = λ w. w.resend.mark ≡ mark_past end o in
     let sent = after_numbers v stretch.offset end now in
     let same : outstanding (after_sent v.sending end) ≡ o = ap (λ n. past n v.sending.una) (next_stays v.sending.una v.sending.nxt end sound.una sound.nxt ends.1) in
     let marked : P sent = either View P (nat_lt stretch.offset o) (after_resent v end) (after_first_sent v end now)
@@ -130,6 +130,6 @@ moved_on v stretch now sound all first before =
     (λ new. clash (nat_lt stretch.offset o) (lt-ltb stretch.offset o before) new) in
     either View P (brings_new_octets v stretch) (after_new_octets sent) sent (λ new. marked) (λ old. marked)
 
-pub mark_moves_on : (v : View) (stretch : Stretch) (now : Moment) → IsSound v → v.pace.once ≡ false → first_due v ≡ Some (Text stretch) → stretch.offset < outstanding v.sending
-    → (after_event v (Emits now)).pace.mark ≡ (if nat_lt (end_of stretch) (outstanding v.sending) then Some (end_of stretch) else None)
-mark_moves_on v stretch now sound all first before = ap (λ o. (after_first v o now).pace.mark) first ∙ moved_on v stretch now sound all first before
+pub mark_moves_on : (v : View) (stretch : Stretch) (now : Moment) → IsSound v → v.resend.once ≡ false → first_due v ≡ Some (Text stretch) → stretch.offset < outstanding v.sending
+    → (after_event v (Emits now)).resend.mark ≡ (if nat_lt (end_of stretch) (outstanding v.sending) then Some (end_of stretch) else None)
+mark_moves_on v stretch now sound all first before = ap (λ o. (after_first v o now).resend.mark) first ∙ moved_on v stretch now sound all first before

@@ -13,9 +13,9 @@ use Rattle.tcp_state.specs.declared.emission.Due.TheVariants.{Rst, Syn, Text, Pr
 use Rattle.tcp_state.specs.declared.emission.Stretch.{Stretch}
 use Rattle.tcp_halves.specs.Stream.{outstanding, after_sent}
 use Rattle.tcp_state.specs.View.{View, is_opening, is_syn_received, is_closed}
-use Rattle.tcp_state.specs.Pace.{Pace, pace_probed, pace_acknowledged, pace_lost}
+use Rattle.tcp_state.specs.Resend.{Resend, resend_probed, resend_acknowledged, resend_lost}
 use Rattle.tcp_state.specs.Timing.{KeepsTime, probes, retransmits, awaits_more, running, retransmission_timer, probe_timer, delayed_ack_timer, override_timer, interval_of, clocked, retransmission_expired, probe_expired, after_expiry, delayed_ack_expired, override_expired, after_timers}
-use Rattle.tcp_state.specs.Arrival.{after_heard, is_rejected, begins_wait, answers_probe, is_duplicate, before, since_after, is_moved, pace_heard, pace_after, congestion_event_of, tells_loss, congestion_after, timed_by, after_segment_at}
+use Rattle.tcp_state.specs.Arrival.{after_heard, is_rejected, begins_wait, answers_probe, is_duplicate, before, since_after, is_moved, resend_heard, resend_after, congestion_event_of, tells_loss, congestion_after, timed_by, after_segment_at}
 use Rattle.tcp_state.specs.Due.{probe_stretch, end_of, after_ack_paid, after_resent, after_first_sent, after_numbers, after_new_octets, brings_new_octets, after_syn_again, after_syn_out, after_stretch, after_probe, after_going_out, after_emitted}
 use Rattle.tcp_state.specs.Edges.{after_first}
 use Rattle.tcp_state.specs.Congestion.{Signal, after_signal}
@@ -27,12 +27,12 @@ use Rattle.tcp_state.proofs.Segments.{by_clock}
 
 -- Timers.
 
--- nothing changed but what is owed, the pace, the timers and the congestion window
+-- nothing changed but what is owed, the retransmission state, the timers and the congestion window
 abbrev pub KeepsTo : View → View → Type 0
-KeepsTo v w = w ≡ record v { owes_ack = w.owes_ack; pace = w.pace; timers = w.timers; congestion = w.congestion }
+KeepsTo v w = w ≡ record v { owes_ack = w.owes_ack; resend = w.resend; timers = w.timers; congestion = w.congestion }
 
 keeps_on : (v w x : View) → KeepsTo v w → KeepsTo w x → KeepsTo v x
-keeps_on v w x first then_kept = then_kept ∙ ap (λ (u : View). record u { owes_ack = x.owes_ack; pace = x.pace; timers = x.timers; congestion = x.congestion }) first
+keeps_on v w x first then_kept = then_kept ∙ ap (λ (u : View). record u { owes_ack = x.owes_ack; resend = x.resend; timers = x.timers; congestion = x.congestion }) first
 
 expiry_keeps : (v : View) (now : Moment) → KeepsTo v (after_expiry v now)
 expiry_keeps v now =
@@ -54,9 +54,9 @@ timers_keep v now =
     let third = override_expired second now in
     keeps_on v third (clocked false third now) (keeps_on v second third (keeps_on v first second (expiry_keeps v now) (delayed_ack_keeps first now)) (override_keeps second now)) refl
 
--- the other timers leave the pace, but for the override, and the timers of an expiry
+-- the other timers leave the retransmission state, but for the override, and the timers of an expiry
 pub by_others : (P : View → Type 0) (v : View) (now : Moment) → P (after_expiry v now) → ((w : View) (owes : Bool) → P w → P (record w { owes_ack = owes }))
-    → ((w : View) → P w → P (record w { pace = record w.pace { overridden = true }; timers = record w.timers { overriding = None } })) → P (after_timers v now)
+    → ((w : View) → P w → P (record w { resend = record w.resend { overridden = true }; timers = record w.timers { overriding = None } })) → P (after_timers v now)
 by_others P v now first acks over =
     let one = after_expiry v now in
     let two = delayed_ack_expired one now in
@@ -65,13 +65,13 @@ by_others P v now first acks over =
 
 -- What goes out.
 
--- nothing changed but the two halves, the acknowledgements that are owed, the pace and the timers
+-- nothing changed but the two halves, the acknowledgements that are owed, the retransmission state and the timers
 abbrev pub Emitted : View → View → Type 0
-Emitted v w = w ≡ record v { sending = w.sending; receiving = w.receiving; owes_ack = w.owes_ack; delays_ack = w.delays_ack; pace = w.pace; timers = w.timers }
+Emitted v w = w ≡ record v { sending = w.sending; receiving = w.receiving; owes_ack = w.owes_ack; delays_ack = w.delays_ack; resend = w.resend; timers = w.timers }
 
 emits_on : (v w x : View) → Emitted v w → Emitted w x → Emitted v x
 emits_on v w x first then_kept =
-    then_kept ∙ ap (λ (u : View). record u { sending = x.sending; receiving = x.receiving; owes_ack = x.owes_ack; delays_ack = x.delays_ack; pace = x.pace; timers = x.timers }) first
+    then_kept ∙ ap (λ (u : View). record u { sending = x.sending; receiving = x.receiving; owes_ack = x.owes_ack; delays_ack = x.delays_ack; resend = x.resend; timers = x.timers }) first
 
 numbers_emitted : (v : View) (offset end : ℕ) (now : Moment) → Emitted v (after_numbers v offset end now)
 numbers_emitted v offset end now =
@@ -85,7 +85,7 @@ stretch_emitted v stretch now =
 
 probe_emitted : (v : View) → Emitted v (after_probe v)
 probe_emitted v =
-    let sent = record v { sending = after_sent v.sending (end_of (probe_stretch v)); pace = pace_probed v.pace } in
+    let sent = record v { sending = after_sent v.sending (end_of (probe_stretch v)); resend = resend_probed v.resend } in
     either View (λ w. Emitted v w) (brings_new_octets v (probe_stretch v)) (after_new_octets sent) sent (λ new. refl) (λ old. refl)
 
 -- what holds of a connection whose SYN goes out: it is its number that goes out, and beside that whether it went out again
@@ -139,27 +139,27 @@ owed_still : (owes probing : Bool) → (owes ≡ true → probing ≡ true) → 
 owed_still true probing e = e refl
 owed_still false probing e = refl
 
--- the parts of the pace and the timers, one by one
-parts : (v : View) (owes : Bool) (since : Moment) (interval : ℕ) (probe : Bool) (resend probing ack overriding : Option Moment) → interval ≡ v.pace.interval → probe ≡ v.pace.owes_probe
-    → resend ≡ v.timers.retransmission → probing ≡ v.timers.probe → overriding ≡ v.timers.overriding
+-- the parts of the retransmission state and the timers, one by one
+parts : (v : View) (owes : Bool) (since : Moment) (interval : ℕ) (probe : Bool) (resending probing ack overriding : Option Moment) → interval ≡ v.resend.interval → probe ≡ v.resend.owes_probe
+    → resending ≡ v.timers.retransmission → probing ≡ v.timers.probe → overriding ≡ v.timers.overriding
     → record v {
       owes_ack = owes;
       since = since;
-      pace = record v.pace { interval = interval; owes_probe = probe };
-      timers = record { retransmission = resend; probe = probing; delayed_ack = ack; overriding = overriding };
+      resend = record v.resend { interval = interval; owes_probe = probe };
+      timers = record { retransmission = resending; probe = probing; delayed_ack = ack; overriding = overriding };
     } ≡ record v { owes_ack = owes; since = since; timers = record v.timers { delayed_ack = ack } }
-parts v owes since interval probe resend probing ack overriding a b c d e = rw a (rw b (rw c (rw d (rw e refl))))
+parts v owes since interval probe resending probing ack overriding a b c d e = rw a (rw b (rw c (rw d (rw e refl))))
 
 -- an acknowledgement that is owed ends the wait of one that is delayed, and leaves the other timers as they run
 pub settles : (v : View) (owes : Bool) (since now : Moment) → KeepsTime v
     → (let w = record v { owes_ack = owes; since = since } in clocked false w now ≡ record w { timers = record v.timers { delayed_ack = delayed_ack_timer w now } })
 settles v owes since now keeps =
     let w = record v { owes_ack = owes; since = since } in
-    parts v owes since (interval_of v) (v.pace.owes_probe && probes v) (retransmission_timer v false now) (probe_timer v now) (delayed_ack_timer w now) (override_timer v now)
-    (interval_stays (probes v) (is_some v.timers.probe) v.pace.interval v.pace.timeout.rto keeps.probe keeps.interval)
-    (owed_still v.pace.owes_probe (probes v) keeps.owed)
-    (runs_on (retransmits v) v.timers.retransmission now v.pace.timeout.rto keeps.retransmission)
-    (runs_on (probes v) v.timers.probe now v.pace.timeout.rto keeps.probe)
+    parts v owes since (interval_of v) (v.resend.owes_probe && probes v) (retransmission_timer v false now) (probe_timer v now) (delayed_ack_timer w now) (override_timer v now)
+    (interval_stays (probes v) (is_some v.timers.probe) v.resend.interval v.resend.timeout.rto keeps.probe keeps.interval)
+    (owed_still v.resend.owes_probe (probes v) keeps.owed)
+    (runs_on (retransmits v) v.timers.retransmission now v.resend.timeout.rto keeps.retransmission)
+    (runs_on (probes v) v.timers.probe now v.resend.timeout.rto keeps.probe)
     (goes_on (awaits_more v) v.timers.overriding now OVERRIDE keeps.overriding)
 
 -- Segments.
@@ -185,17 +185,17 @@ pub comes_to : (v : View) (s : Segment) (now : Moment) → is_closed v.state ≡
 comes_to v s now lives taken =
     ap (λ b. if b || is_rejected v s then v else timed_by (before v s) (after_heard v s) now) lives ∙ ap (λ b. if b then v else timed_by (before v s) (after_heard v s) now) taken
 
--- what holds of the pace that a segment leaves: it is progress by an ACK, by an answer to a probe, or none ..
-pub heard_paced : (b : Before) (w : View) (now : Moment) (P : Pace → Type 0) → P (pace_acknowledged w.pace w.sending.una (is_opening b.state) now) → P (record w.pace { expiries = 0 }) → P w.pace
-    → P (pace_heard b w now)
+-- what holds of the retransmission state that a segment leaves: it is progress by an ACK, by an answer to a probe, or none ..
+pub heard_paced : (b : Before) (w : View) (now : Moment) (P : Resend → Type 0) → P (resend_acknowledged w.resend w.sending.una (is_opening b.state) now) → P (record w.resend { expiries = 0 }) → P w.resend
+    → P (resend_heard b w now)
 heard_paced b w now P moved answered same =
-    either Pace P (is_moved b w) (pace_acknowledged w.pace w.sending.una (is_opening b.state) now) _ (λ moves. moved)
-    (λ stays. either Pace P b.answers_probe (record w.pace { expiries = 0 }) w.pace (λ answers. answered) (λ other. same))
+    either Resend P (is_moved b w) (resend_acknowledged w.resend w.sending.una (is_opening b.state) now) _ (λ moves. moved)
+    (λ stays. either Resend P b.answers_probe (record w.resend { expiries = 0 }) w.resend (λ answers. answered) (λ other. same))
 
 -- .. with the segment at SND.UNA lost or not
-pub after_paced : (b : Before) (w : View) (now : Moment) (P : Pace → Type 0) → P (pace_heard b w now) → P (pace_lost (pace_heard b w now) (outstanding w.sending)) → P (pace_after b w now)
+pub after_paced : (b : Before) (w : View) (now : Moment) (P : Resend → Type 0) → P (resend_heard b w now) → P (resend_lost (resend_heard b w now) (outstanding w.sending)) → P (resend_after b w now)
 after_paced b w now P same lost =
-    either Pace P (tells_loss (congestion_event_of b w) w.congestion) (pace_lost (pace_heard b w now) (outstanding w.sending)) (pace_heard b w now) (λ tells. lost) (λ other. same)
+    either Resend P (tells_loss (congestion_event_of b w) w.congestion) (resend_lost (resend_heard b w now) (outstanding w.sending)) (resend_heard b w now) (λ tells. lost) (λ other. same)
 
 -- what a segment is to the congestion window: nothing, the beginning, an ACK, or a duplicate one
 pub signalled : (b : Before) (w : View) (P : Signal → Type 0) → P Nothing → P Begins → P (Counts (NewAck (b.held - length w.sending.held))) → (b.is_duplicate ≡ true → P (Counts (Duplicate (outstanding w.sending)))) → P (congestion_event_of b w)
@@ -216,17 +216,17 @@ event_none b w same first =
     (λ lives. ap (λ t. if t then (if is_opening b.state then Begins else Counts (NewAck (b.held - length w.sending.held))) else if b.is_duplicate then Counts (Duplicate (outstanding w.sending)) else Nothing) same
     ∙ ap (λ t. if t then Counts (Duplicate (outstanding w.sending)) else Nothing) first)
 
-pub pace_unlost : (b : Before) (w : View) (now : Moment) → b.is_duplicate ≡ false → pace_after b w now ≡ pace_heard b w now
-pace_unlost b w now first = ap (λ t. if t then pace_lost (pace_heard b w now) (outstanding w.sending) else pace_heard b w now) (tells_none b w first)
+pub resend_unlost : (b : Before) (w : View) (now : Moment) → b.is_duplicate ≡ false → resend_after b w now ≡ resend_heard b w now
+resend_unlost b w now first = ap (λ t. if t then resend_lost (resend_heard b w now) (outstanding w.sending) else resend_heard b w now) (tells_none b w first)
 
 -- what an acknowledgement tells of time leaves what goes out again, but for the third duplicate
-pub marks_kept : (b : Before) (w : View) (now : Moment) → b.is_duplicate ≡ false → (pace_after b w now).mark ≡ w.pace.mark
-marks_kept b w now first = ap (λ (p : Pace). p.mark) (pace_unlost b w now first) ∙ heard_paced b w now (λ p. p.mark ≡ w.pace.mark) refl refl refl
+pub marks_kept : (b : Before) (w : View) (now : Moment) → b.is_duplicate ≡ false → (resend_after b w now).mark ≡ w.resend.mark
+marks_kept b w now first = ap (λ (p : Resend). p.mark) (resend_unlost b w now first) ∙ heard_paced b w now (λ p. p.mark ≡ w.resend.mark) refl refl refl
 
 -- .. and whether a probe is due
-pub probes_kept : (b : Before) (w : View) (now : Moment) → (pace_after b w now).owes_probe ≡ w.pace.owes_probe
+pub probes_kept : (b : Before) (w : View) (now : Moment) → (resend_after b w now).owes_probe ≡ w.resend.owes_probe
 probes_kept b w now =
-    let P : Pace → Type 0 = λ p. p.owes_probe ≡ w.pace.owes_probe in
+    let P : Resend → Type 0 = λ p. p.owes_probe ≡ w.resend.owes_probe in
     let heard = heard_paced b w now P refl refl refl in
     after_paced b w now P heard heard
 
@@ -247,13 +247,13 @@ pub timed_unmoved : (b : Before) (w : View) (now : Moment) → is_moved b w ≡ 
     → timed_by b w now ≡ clocked false (record w { since = since_after b w now }) now
 timed_unmoved b w now same quiet first =
     let since = since_after b w now in
-    let pace : pace_after b w now ≡ w.pace =
-    pace_unlost b w now first
-    ∙ (ap (λ t. if t then pace_acknowledged w.pace w.sending.una (is_opening b.state) now else if b.answers_probe then record w.pace { expiries = 0 } else w.pace) same
-    ∙ ap (λ t. if t then record w.pace { expiries = 0 } else w.pace) quiet) in
-    let congestion : congestion_after b w ≡ w.congestion = ap (λ e. after_signal w.congestion e w.sending.smss w.pace.syn_resent) (event_none b w same first) in
-    ap (λ t. clocked t (record w { since = since; pace = pace_after b w now; congestion = congestion_after b w }) now) same
-    ∙ (ap (λ (p : Pace). clocked false (record w { since = since; pace = p; congestion = congestion_after b w }) now) pace
+    let resend : resend_after b w now ≡ w.resend =
+    resend_unlost b w now first
+    ∙ (ap (λ t. if t then resend_acknowledged w.resend w.sending.una (is_opening b.state) now else if b.answers_probe then record w.resend { expiries = 0 } else w.resend) same
+    ∙ ap (λ t. if t then record w.resend { expiries = 0 } else w.resend) quiet) in
+    let congestion : congestion_after b w ≡ w.congestion = ap (λ e. after_signal w.congestion e w.sending.smss w.resend.syn_resent) (event_none b w same first) in
+    ap (λ t. clocked t (record w { since = since; resend = resend_after b w now; congestion = congestion_after b w }) now) same
+    ∙ (ap (λ (p : Resend). clocked false (record w { since = since; resend = p; congestion = congestion_after b w }) now) resend
     ∙ ap (λ (c : Window). clocked false (record w { since = since; congestion = c }) now) congestion)
 
 timed_owing : (v : View) (s : Segment) (owes : Bool) (now : Moment) → KeepsTime v → answers_probe v s ≡ false → is_duplicate v s ≡ false

@@ -11,22 +11,22 @@ use Rattle.tcp_state.specs.declared.state.State.{State}
 use Rattle.tcp_state.specs.declared.state.State.TheVariants.{SynSent, SynReceived}
 use Rattle.tcp_state.specs.declared.emission.Due.{Due}
 use Rattle.tcp_halves.specs.Stream.{outstanding}
-use Rattle.tcp_state.specs.Pace.{Pace, stopped, pace_acknowledged}
+use Rattle.tcp_state.specs.Resend.{Resend, stopped, resend_acknowledged}
 use Rattle.tcp_state.specs.View.{View, is_opening, is_syn_sent, is_syn_received, is_closed, is_fin_wait_2}
 use Rattle.tcp_state.specs.Timing.{probes, retransmits, awaits_more, running, clocked, expires, retransmission_expired, probe_expired, after_expiry, delayed_ack_expired, after_timers}
 use Rattle.tcp_state.specs.Calls.{latest, aborted_at}
-use Rattle.tcp_state.specs.Arrival.{after_heard, acknowledges_unsent, is_rejected, is_acceptable_to, answers_probe, timed_by, before, since_after, is_moved, pace_heard, pace_after, congestion_after}
+use Rattle.tcp_state.specs.Arrival.{after_heard, acknowledges_unsent, is_rejected, is_acceptable_to, answers_probe, timed_by, before, since_after, is_moved, resend_heard, resend_after, congestion_after}
 use Rattle.tcp_state.specs.Due.{first_due, after_going_out}
 use Rattle.tcp_state.specs.Edges.{Event, Hears, Ticks, Emits, Sends, Receives, Shuts, Closes, Unreachable, moment_of, after_first, after_event}
 use Rattle.tcp_halves.proofs.Choices.{either, clash, and_left, and_right, both, or_left, or_right, not_true, of_false}
 use Rattle.tcp_state.proofs.Segments.{by_clock}
 use Rattle.tcp_state.proofs.Events.{holding, shut, by_event}
 use Rattle.tcp_state.proofs.Clocked.{heard_paced, after_paced}
-use Rattle.tcp_state.proofs.Paces.{segment_hears, goes_out}
+use Rattle.tcp_state.proofs.Resends.{segment_hears, goes_out}
 
 -- a timer began at the moment of the event, for the timeout
 abbrev pub BeginsAt : Event → View → Moment → Type 0
-BeginsAt e w deadline = (now : Moment) × (moment_of e ≡ Some now) × (deadline ≡ after now w.pace.timeout.rto)
+BeginsAt e w deadline = (now : Moment) × (moment_of e ≡ Some now) × (deadline ≡ after now w.resend.timeout.rto)
 
 -- the event is a tick that has come to a deadline
 abbrev pub HasCome : Event → Moment → Type 0
@@ -34,7 +34,7 @@ HasCome e deadline = (now : Moment) × (e ≡ Ticks now) × (deadline.0 ≤ now.
 
 -- .. at which one more expiry counts
 abbrev pub Counts : View → Event → View → Type 0
-Counts v e w = (now : Moment) × (e ≡ Ticks now) × (expires v now ≡ true) × (w.pace.expiries ≡ v.pace.expiries + 1)
+Counts v e w = (now : Moment) × (e ≡ Ticks now) × (expires v now ≡ true) × (w.resend.expiries ≡ v.resend.expiries + 1)
 
 -- there was progress
 abbrev pub Progress : View → View → Type 0
@@ -48,20 +48,20 @@ Overrides v e = (now : Moment) × (e ≡ Ticks now) × (has_come v.timers.overri
 pub record Clocks (v : View) (e : Event) (w : View) : Type 0 where
   pub runs_on : is_closed w.state ≡ false → (was is : Moment) → v.timers.retransmission ≡ Some was → w.timers.retransmission ≡ Some is → (is ≡ was) ⊎ ((w.sending.una ≢ v.sending.una) ⊎ HasCome e was)
   pub begins : (deadline : Moment) → v.timers.retransmission ≡ None → w.timers.retransmission ≡ Some deadline → BeginsAt e w deadline
-  pub probe_on : is_closed w.state ≡ false → (was is : Moment) → v.timers.probe ≡ Some was → w.timers.probe ≡ Some is → ((is ≡ was) × (w.pace.interval ≡ v.pace.interval)) ⊎ HasCome e was
-  pub probe_begins : (deadline : Moment) → v.timers.probe ≡ None → w.timers.probe ≡ Some deadline → (w.pace.interval ≡ w.pace.timeout.rto) × BeginsAt e w deadline
-  pub expiries : (w.pace.expiries ≡ v.pace.expiries) ⊎ (((w.pace.expiries ≡ 0) × Progress v w) ⊎ Counts v e w)
-  pub overridden : v.pace.overridden ≡ false → w.pace.overridden ≡ true → Overrides v e
+  pub probe_on : is_closed w.state ≡ false → (was is : Moment) → v.timers.probe ≡ Some was → w.timers.probe ≡ Some is → ((is ≡ was) × (w.resend.interval ≡ v.resend.interval)) ⊎ HasCome e was
+  pub probe_begins : (deadline : Moment) → v.timers.probe ≡ None → w.timers.probe ≡ Some deadline → (w.resend.interval ≡ w.resend.timeout.rto) × BeginsAt e w deadline
+  pub expiries : (w.resend.expiries ≡ v.resend.expiries) ⊎ (((w.resend.expiries ≡ 0) × Progress v w) ⊎ Counts v e w)
+  pub overridden : v.resend.overridden ≡ false → w.resend.overridden ≡ true → Overrides v e
   pub override_begins : (deadline : Moment) → v.timers.overriding ≡ None → w.timers.overriding ≡ Some deadline → (now : Moment) × (moment_of e ≡ Some now) × (deadline ≡ after now 500)
 
 -- .. before its clock is set
 record Unset (v : View) (e : Event) (x : View) : Type 0 where
   pub runs : is_closed x.state ≡ false → (was : Moment) → v.timers.retransmission ≡ Some was → (x.timers.retransmission ≡ Some was) ⊎ HasCome e was
   pub none_runs : v.timers.retransmission ≡ None → x.timers.retransmission ≡ None
-  pub probe : is_closed x.state ≡ false → (was : Moment) → v.timers.probe ≡ Some was → ((x.timers.probe ≡ Some was) × (x.pace.interval ≡ v.pace.interval)) ⊎ HasCome e was
+  pub probe : is_closed x.state ≡ false → (was : Moment) → v.timers.probe ≡ Some was → ((x.timers.probe ≡ Some was) × (x.resend.interval ≡ v.resend.interval)) ⊎ HasCome e was
   pub no_probe : v.timers.probe ≡ None → x.timers.probe ≡ None
-  pub expiries : (x.pace.expiries ≡ v.pace.expiries) ⊎ (((x.pace.expiries ≡ 0) × Progress v x) ⊎ Counts v e x)
-  pub overridden : v.pace.overridden ≡ false → x.pace.overridden ≡ true → Overrides v e
+  pub expiries : (x.resend.expiries ≡ v.resend.expiries) ⊎ (((x.resend.expiries ≡ 0) × Progress v x) ⊎ Counts v e x)
+  pub overridden : v.resend.overridden ≡ false → x.resend.overridden ≡ true → Overrides v e
   pub no_override : v.timers.overriding ≡ None → x.timers.overriding ≡ None
 
 -- The clock.
@@ -110,7 +110,7 @@ begun_once false deadline o now milliseconds e f = unless_none o deadline e f
 sets : (v x : View) (e : Event) (moved : Bool) (now : Moment) → moment_of e ≡ Some now → (moved ≡ true → x.sending.una ≢ v.sending.una) → Unset v e x → Clocks v e (clocked moved x now)
 sets v x e moved now at moves u =
     let t = x.timers in
-    let rto = x.pace.timeout.rto in
+    let rto = x.resend.timeout.rto in
     record {
       runs_on = λ lives was is runs set. elim (u.runs lives was runs) [
         | inl same ↦ goes_on moved (retransmits x) was is t.retransmission now rto same set (λ moves_it. inl (moves moves_it))
@@ -118,32 +118,32 @@ sets v x e moved now at moves u =
       ];
       begins = λ deadline none set. (now, at, begun (retransmits x) deadline (if moved then None else t.retransmission) now rto (none_still moved t.retransmission (u.none_runs none)) set);
       probe_on = λ lives was is runs set. elim (u.probe lives was runs) [
-        | inl same ↦ inl (still (probes x) was is t.probe now rto same.0 set, interval_on (probes x) was is t.probe now x.pace.interval rto same.0 set ∙ same.1)
+        | inl same ↦ inl (still (probes x) was is t.probe now rto same.0 set, interval_on (probes x) was is t.probe now x.resend.interval rto same.0 set ∙ same.1)
         | inr comes ↦ inr comes
       ];
-      probe_begins = λ deadline none set. (first_interval (probes x) t.probe x.pace.interval rto (u.no_probe none), (now, at, begun (probes x) deadline t.probe now rto (u.no_probe none) set));
+      probe_begins = λ deadline none set. (first_interval (probes x) t.probe x.resend.interval rto (u.no_probe none), (now, at, begun (probes x) deadline t.probe now rto (u.no_probe none) set));
       expiries = u.expiries;
       overridden = u.overridden;
       override_begins = λ deadline none set. (now, at, begun_once (awaits_more x) deadline t.overriding now 500 (u.no_override none) set);
     }
 
 -- nothing is set
-stays : (v w : View) (e : Event) → w.timers ≡ v.timers → w.pace ≡ v.pace → Clocks v e w
-stays v w e timers pace =
+stays : (v w : View) (e : Event) → w.timers ≡ v.timers → w.resend ≡ v.resend → Clocks v e w
+stays v w e timers resend =
     let retransmission = ap (λ (t : Timers). t.retransmission) timers in
     let probe = ap (λ (t : Timers). t.probe) timers in
     record {
       runs_on = λ lives was is runs set. inl (one is was (sym set ∙ retransmission ∙ runs));
       begins = λ deadline none set. unless_none w.timers.retransmission deadline (retransmission ∙ none) set;
-      probe_on = λ lives was is runs set. inl (one is was (sym set ∙ probe ∙ runs), ap (λ (p : Pace). p.interval) pace);
+      probe_on = λ lives was is runs set. inl (one is was (sym set ∙ probe ∙ runs), ap (λ (p : Resend). p.interval) resend);
       probe_begins = λ deadline none set. unless_none w.timers.probe deadline (probe ∙ none) set;
-      expiries = inl (ap (λ (p : Pace). p.expiries) pace);
-      overridden = λ none over. let bad : true ≡ false = sym over ∙ ap (λ (p : Pace). p.overridden) pace ∙ none in cc;
+      expiries = inl (ap (λ (p : Resend). p.expiries) resend);
+      overridden = λ none over. let bad : true ≡ false = sym over ∙ ap (λ (p : Resend). p.overridden) resend ∙ none in cc;
       override_begins = λ deadline none set. unless_none w.timers.overriding deadline (ap (λ (t : Timers). t.overriding) timers ∙ none) set;
     }
 
 -- the timers stop
-stops : (v w : View) (e : Event) → w.timers ≡ no_timers → w.pace.expiries ≡ v.pace.expiries → w.pace.overridden ≡ false → Clocks v e w
+stops : (v w : View) (e : Event) → w.timers ≡ no_timers → w.resend.expiries ≡ v.resend.expiries → w.resend.overridden ≡ false → Clocks v e w
 stops v w e timers expiries overridden =
     let retransmission : w.timers.retransmission ≡ None = ap (λ (t : Timers). t.retransmission) timers in
     let probe : w.timers.probe ≡ None = ap (λ (t : Timers). t.probe) timers in
@@ -157,15 +157,15 @@ stops v w e timers expiries overridden =
       override_begins = λ deadline none set. unless_none w.timers.overriding deadline (ap (λ (t : Timers). t.overriding) timers) set;
     }
 
--- the timers and the pace are as they were
-as_before : (v x : View) (e : Event) → x.timers ≡ v.timers → x.pace ≡ v.pace → Unset v e x
-as_before v x e timers pace = record {
+-- the timers and the retransmission state are as they were
+as_before : (v x : View) (e : Event) → x.timers ≡ v.timers → x.resend ≡ v.resend → Unset v e x
+as_before v x e timers resend = record {
   runs = λ lives was runs. inl (ap (λ (t : Timers). t.retransmission) timers ∙ runs);
   none_runs = λ none. ap (λ (t : Timers). t.retransmission) timers ∙ none;
-  probe = λ lives was runs. inl (ap (λ (t : Timers). t.probe) timers ∙ runs, ap (λ (p : Pace). p.interval) pace);
+  probe = λ lives was runs. inl (ap (λ (t : Timers). t.probe) timers ∙ runs, ap (λ (p : Resend). p.interval) resend);
   no_probe = λ none. ap (λ (t : Timers). t.probe) timers ∙ none;
-  expiries = inl (ap (λ (p : Pace). p.expiries) pace);
-  overridden = λ none over. let bad : true ≡ false = sym over ∙ ap (λ (p : Pace). p.overridden) pace ∙ none in cc;
+  expiries = inl (ap (λ (p : Resend). p.expiries) resend);
+  overridden = λ none over. let bad : true ≡ false = sym over ∙ ap (λ (p : Resend). p.overridden) resend ∙ none in cc;
   no_override = λ none. ap (λ (t : Timers). t.overriding) timers ∙ none;
 }
 
@@ -184,19 +184,19 @@ closed_window v s e =
     eqb-true v.sending.window 0 (and_right one (v.sending.window == 0) (and_left two (is_acceptable_to v s) (and_left three s.flags.ack (and_left four (not s.flags.rst) e))))
 
 heard_unset : (v : View) (s : Segment) (now : Moment)
-    → (let b = before v s in let w = after_heard v s in Unset v (Hears s now) (record w { since = since_after b w now; pace = pace_after b w now; congestion = congestion_after b w }))
+    → (let b = before v s in let w = after_heard v s in Unset v (Hears s now) (record w { since = since_after b w now; resend = resend_after b w now; congestion = congestion_after b w }))
 heard_unset v s now =
     let b = before v s in
     let w = after_heard v s in
     let h = segment_hears v s in
-    let pace = pace_after b w now in
-    let interval_kept = heard_paced b w now (λ p. p.interval ≡ w.pace.interval) refl refl refl in
-    let interval : pace.interval ≡ w.pace.interval = after_paced b w now (λ p. p.interval ≡ w.pace.interval) interval_kept interval_kept in
-    let override_kept = heard_paced b w now (λ p. p.overridden ≡ w.pace.overridden) refl refl refl in
-    let overridden : pace.overridden ≡ w.pace.overridden = after_paced b w now (λ p. p.overridden ≡ w.pace.overridden) override_kept override_kept in
-    let P : Pace → Type 0 = λ p. (p.expiries ≡ v.pace.expiries) ⊎ (((p.expiries ≡ 0) × Progress v w) ⊎ Counts v (Hears s now) (record w { pace = p })) in
-    let counted : P (pace_heard b w now) = either Pace P (is_moved b w) (pace_acknowledged w.pace w.sending.una (is_opening b.state) now) _ (λ moves. inr (inl (refl, inl (apart v.sending.una w.sending.una moves))))
-    (λ unmoved. either Pace P b.answers_probe (record w.pace { expiries = 0 }) w.pace (λ answers. inr (inl (refl, inr (closed_window v s answers)))) (λ other. inl h.expiries)) in
+    let resend = resend_after b w now in
+    let interval_kept = heard_paced b w now (λ p. p.interval ≡ w.resend.interval) refl refl refl in
+    let interval : resend.interval ≡ w.resend.interval = after_paced b w now (λ p. p.interval ≡ w.resend.interval) interval_kept interval_kept in
+    let override_kept = heard_paced b w now (λ p. p.overridden ≡ w.resend.overridden) refl refl refl in
+    let overridden : resend.overridden ≡ w.resend.overridden = after_paced b w now (λ p. p.overridden ≡ w.resend.overridden) override_kept override_kept in
+    let P : Resend → Type 0 = λ p. (p.expiries ≡ v.resend.expiries) ⊎ (((p.expiries ≡ 0) × Progress v w) ⊎ Counts v (Hears s now) (record w { resend = p })) in
+    let counted : P (resend_heard b w now) = either Resend P (is_moved b w) (resend_acknowledged w.resend w.sending.una (is_opening b.state) now) _ (λ moves. inr (inl (refl, inl (apart v.sending.una w.sending.una moves))))
+    (λ unmoved. either Resend P b.answers_probe (record w.resend { expiries = 0 }) w.resend (λ answers. inr (inl (refl, inr (closed_window v s answers)))) (λ other. inl h.expiries)) in
     record {
       runs = λ lives was runs. elim h.timers [ inl same ↦ inl (ap (λ (t : Timers). t.retransmission) same ∙ runs) | inr stop ↦ clash (is_closed w.state) stop.1 lives ];
       none_runs = λ none. elim h.timers [ inl same ↦ ap (λ (t : Timers). t.retransmission) same ∙ none | inr stop ↦ ap (λ (t : Timers). t.retransmission) stop.0 ];
@@ -244,10 +244,10 @@ came o was now e comes = leb-true was.0 now.0 (ap (λ (m : Option Moment). has_c
 record Expires (v : View) (now : Moment) (w : View) : Type 0 where
   pub runs : (was : Moment) → v.timers.retransmission ≡ Some was → (w.timers.retransmission ≡ Some was) ⊎ (was.0 ≤ now.0)
   pub none_runs : v.timers.retransmission ≡ None → w.timers.retransmission ≡ None
-  pub probe : (was : Moment) → v.timers.probe ≡ Some was → ((w.timers.probe ≡ Some was) × (w.pace.interval ≡ v.pace.interval)) ⊎ (was.0 ≤ now.0)
+  pub probe : (was : Moment) → v.timers.probe ≡ Some was → ((w.timers.probe ≡ Some was) × (w.resend.interval ≡ v.resend.interval)) ⊎ (was.0 ≤ now.0)
   pub no_probe : v.timers.probe ≡ None → w.timers.probe ≡ None
-  pub expiries : (w.pace.expiries ≡ v.pace.expiries) ⊎ ((expires v now ≡ true) × (w.pace.expiries ≡ v.pace.expiries + 1))
-  pub overridden : w.pace.overridden ≡ v.pace.overridden
+  pub expiries : (w.resend.expiries ≡ v.resend.expiries) ⊎ ((expires v now ≡ true) × (w.resend.expiries ≡ v.resend.expiries + 1))
+  pub overridden : w.resend.overridden ≡ v.resend.overridden
   pub overriding : w.timers.overriding ≡ v.timers.overriding
 
 expiry_expires : (v : View) (now : Moment) → Expires v now (after_expiry v now)
@@ -282,9 +282,9 @@ tick_unset v now =
     let a = expiry_expires v now in
     let b : Expires v now second = either View (Expires v now) (has_come first.timers.delayed_ack now) _ first
     (λ comes. record { runs = a.runs; none_runs = a.none_runs; probe = a.probe; no_probe = a.no_probe; expiries = a.expiries; overridden = a.overridden; overriding = a.overriding }) (λ early. a) in
-    let counted : (second.pace.expiries ≡ v.pace.expiries) ⊎ Counts v (Ticks now) second = elim b.expiries [ inl same ↦ inl same | inr expired ↦ inr (now, refl, expired.0, expired.1) ] in
+    let counted : (second.resend.expiries ≡ v.resend.expiries) ⊎ Counts v (Ticks now) second = elim b.expiries [ inl same ↦ inl same | inr expired ↦ inr (now, refl, expired.0, expired.1) ] in
     let runs : (was : Moment) → v.timers.retransmission ≡ Some was → (second.timers.retransmission ≡ Some was) ⊎ HasCome (Ticks now) was = λ was is. elim (b.runs was is) [ inl same ↦ inl same | inr comes ↦ inr (now, refl, comes) ] in
-    let probe : (was : Moment) → v.timers.probe ≡ Some was → ((second.timers.probe ≡ Some was) × (second.pace.interval ≡ v.pace.interval)) ⊎ HasCome (Ticks now) was = λ was is. elim (b.probe was is) [ inl same ↦ inl same | inr comes ↦ inr (now, refl, comes) ] in
+    let probe : (was : Moment) → v.timers.probe ≡ Some was → ((second.timers.probe ≡ Some was) × (second.resend.interval ≡ v.resend.interval)) ⊎ HasCome (Ticks now) was = λ was is. elim (b.probe was is) [ inl same ↦ inl same | inr comes ↦ inr (now, refl, comes) ] in
     either View (Unset v (Ticks now)) (has_come second.timers.overriding now) _ second
     (λ comes. record {
       runs = λ lives was is. runs was is;
@@ -311,7 +311,7 @@ clocks : (v : View) (e : Event) → Clocks v e (after_event v e)
 clocks v = by_event (Clocks v) v (record {
   same = λ e. stays v v e refl refl;
   heard = λ s now lives. let b = before v s in let w = after_heard v s in
-      sets v (record w { since = since_after b w now; pace = pace_after b w now; congestion = congestion_after b w }) (Hears s now) (is_moved b w) now refl
+      sets v (record w { since = since_after b w now; resend = resend_after b w now; congestion = congestion_after b w }) (Hears s now) (is_moved b w) now refl
       (λ moves. apart v.sending.una w.sending.una moves) (heard_unset v s now);
   over = λ now ends. stops v _ (Ticks now) refl refl refl;
   given_up = λ now waits expired. stops v _ (Ticks now) refl refl refl;
@@ -325,8 +325,8 @@ clocks v = by_event (Clocks v) v (record {
   refused = λ number hit. stops v _ (Unreachable number) refl refl refl;
 })
   where
-    called : (x : View) (e : Event) (now : Moment) → moment_of e ≡ Some now → x.timers ≡ v.timers → x.pace ≡ v.pace → Clocks v e (clocked false x now)
-    called x e now at timers pace = sets v x e false now at (λ moves. cc) (as_before v x e timers pace)
+    called : (x : View) (e : Event) (now : Moment) → moment_of e ≡ Some now → x.timers ≡ v.timers → x.resend ≡ v.resend → Clocks v e (clocked false x now)
+    called x e now at timers resend = sets v x e false now at (λ moves. cc) (as_before v x e timers resend)
 
 -- the retransmission timer
 pub runs_on : (v : View) (e : Event) (was is : Moment) → is_closed (after_event v e).state ≡ false → v.timers.retransmission ≡ Some was → (after_event v e).timers.retransmission ≡ Some is
@@ -334,25 +334,25 @@ pub runs_on : (v : View) (e : Event) (was is : Moment) → is_closed (after_even
 runs_on v e was is lives = (clocks v e).runs_on lives was is
 
 pub begins : (v : View) (e : Event) (deadline : Moment) → v.timers.retransmission ≡ None → (after_event v e).timers.retransmission ≡ Some deadline
-    → (now : Moment) × (moment_of e ≡ Some now) × (deadline ≡ after now (after_event v e).pace.timeout.rto)
+    → (now : Moment) × (moment_of e ≡ Some now) × (deadline ≡ after now (after_event v e).resend.timeout.rto)
 begins v e = (clocks v e).begins
 
 -- the probe timer
 pub probe_on : (v : View) (e : Event) (was is : Moment) → is_closed (after_event v e).state ≡ false → v.timers.probe ≡ Some was → (after_event v e).timers.probe ≡ Some is
-    → ((is ≡ was) × ((after_event v e).pace.interval ≡ v.pace.interval)) ⊎ ((now : Moment) × (e ≡ Ticks now) × (was.0 ≤ now.0))
+    → ((is ≡ was) × ((after_event v e).resend.interval ≡ v.resend.interval)) ⊎ ((now : Moment) × (e ≡ Ticks now) × (was.0 ≤ now.0))
 probe_on v e was is lives = (clocks v e).probe_on lives was is
 
 pub probe_begins : (v : View) (e : Event) (deadline : Moment) → v.timers.probe ≡ None → (after_event v e).timers.probe ≡ Some deadline
-    → ((after_event v e).pace.interval ≡ (after_event v e).pace.timeout.rto) × ((now : Moment) × (moment_of e ≡ Some now) × (deadline ≡ after now (after_event v e).pace.timeout.rto))
+    → ((after_event v e).resend.interval ≡ (after_event v e).resend.timeout.rto) × ((now : Moment) × (moment_of e ≡ Some now) × (deadline ≡ after now (after_event v e).resend.timeout.rto))
 probe_begins v e = (clocks v e).probe_begins
 
 -- expiries without progress
-pub counted : (v : View) (e : Event) → ((after_event v e).pace.expiries ≡ v.pace.expiries)
-    ⊎ ((((after_event v e).pace.expiries ≡ 0) × (((after_event v e).sending.una ≢ v.sending.una) ⊎ (v.sending.window ≡ 0)))
-    ⊎ ((now : Moment) × (e ≡ Ticks now) × (expires v now ≡ true) × ((after_event v e).pace.expiries ≡ v.pace.expiries + 1)))
+pub counted : (v : View) (e : Event) → ((after_event v e).resend.expiries ≡ v.resend.expiries)
+    ⊎ ((((after_event v e).resend.expiries ≡ 0) × (((after_event v e).sending.una ≢ v.sending.una) ⊎ (v.sending.window ≡ 0)))
+    ⊎ ((now : Moment) × (e ≡ Ticks now) × (expires v now ≡ true) × ((after_event v e).resend.expiries ≡ v.resend.expiries + 1)))
 counted v e = (clocks v e).expiries
 
-pub overrides : (v : View) (e : Event) → v.pace.overridden ≡ false → (after_event v e).pace.overridden ≡ true → (now : Moment) × (e ≡ Ticks now) × (has_come v.timers.overriding now ≡ true)
+pub overrides : (v : View) (e : Event) → v.resend.overridden ≡ false → (after_event v e).resend.overridden ≡ true → (now : Moment) × (e ≡ Ticks now) × (has_come v.timers.overriding now ≡ true)
 overrides v e = (clocks v e).overridden
 
 pub override_begins : (v : View) (e : Event) (deadline : Moment) → v.timers.overriding ≡ None → (after_event v e).timers.overriding ≡ Some deadline → (now : Moment) × (moment_of e ≡ Some now) × (deadline ≡ after now 500)
@@ -362,16 +362,16 @@ override_begins v e = (clocks v e).override_begins
 
 -- one that moves SND.UNA starts the timer anew
 pub restarts : (v : View) (s : Segment) (now : Moment) → (after_event v (Hears s now)).sending.una ≢ v.sending.una → 0 < outstanding (after_event v (Hears s now)).sending → probes (after_event v (Hears s now)) ≡ false
-    → (after_event v (Hears s now)).timers.retransmission ≡ Some (after now (after_event v (Hears s now)).pace.timeout.rto)
-restarts v s now = by_clock (λ w. w.sending.una ≢ v.sending.una → 0 < outstanding w.sending → probes w ≡ false → w.timers.retransmission ≡ Some (after now w.pace.timeout.rto)) v s now
+    → (after_event v (Hears s now)).timers.retransmission ≡ Some (after now (after_event v (Hears s now)).resend.timeout.rto)
+restarts v s now = by_clock (λ w. w.sending.una ≢ v.sending.una → 0 < outstanding w.sending → probes w ≡ false → w.timers.retransmission ≡ Some (after now w.resend.timeout.rto)) v s now
     (λ moves some unprobed. absurd (moves refl))
     (λ lives moves some unprobed.
     let b = before v s in
     let w = after_heard v s in
-    let x = record w { since = since_after b w now; pace = pace_after b w now; congestion = congestion_after b w } in
+    let x = record w { since = since_after b w now; resend = resend_after b w now; congestion = congestion_after b w } in
     let moved : is_moved b w ≡ true = of_false (v.sending.una == w.sending.una) (apart_test v.sending.una w.sending.una moves) in
     let runs : retransmits x ≡ true = both (nat_lt 0 (outstanding x.sending)) (not (probes x)) (lt-ltb 0 (outstanding x.sending) some) (of_false (probes x) unprobed) in
-    anew (retransmits x) (is_moved b w) x.timers.retransmission now x.pace.timeout.rto runs moved)
+    anew (retransmits x) (is_moved b w) x.timers.retransmission now x.resend.timeout.rto runs moved)
   where
     apart_test : (a b : ℕ) → b ≢ a → (a == b) ≡ false
     apart_test a b other = elim (eqb_tells a b) [ inl same ↦ absurd (other (sym same.1)) | inr differ ↦ differ.0 ]
@@ -382,14 +382,14 @@ restarts v s now = by_clock (λ w. w.sending.una ≢ v.sending.una → 0 < outst
     anew false moved o now milliseconds w m = cc
 
 -- .. and is progress
-pub acknowledged : (v : View) (s : Segment) (now : Moment) → (after_event v (Hears s now)).sending.una ≢ v.sending.una → (after_event v (Hears s now)).pace.expiries ≡ 0
-acknowledged v s now = by_clock (λ w. w.sending.una ≢ v.sending.una → w.pace.expiries ≡ 0) v s now
+pub acknowledged : (v : View) (s : Segment) (now : Moment) → (after_event v (Hears s now)).sending.una ≢ v.sending.una → (after_event v (Hears s now)).resend.expiries ≡ 0
+acknowledged v s now = by_clock (λ w. w.sending.una ≢ v.sending.una → w.resend.expiries ≡ 0) v s now
     (λ moves. absurd (moves refl))
     (λ lives moves.
     let b = before v s in
     let w = after_heard v s in
-    let P : Pace → Type 0 = λ p. p.expiries ≡ 0 in
-    let heard : P (pace_heard b w now) = either Pace P (is_moved b w) (pace_acknowledged w.pace w.sending.una (is_opening b.state) now) _ (λ moved. refl)
+    let P : Resend → Type 0 = λ p. p.expiries ≡ 0 in
+    let heard : P (resend_heard b w now) = either Resend P (is_moved b w) (resend_acknowledged w.resend w.sending.una (is_opening b.state) now) _ (λ moved. refl)
     (λ unmoved. elim (eqb_tells v.sending.una w.sending.una) [ inl same ↦ absurd (moves (sym same.1)) | inr differ ↦ clash (not (v.sending.una == w.sending.una)) (of_false (v.sending.una == w.sending.una) differ.0) unmoved ]) in
     after_paced b w now P heard heard)
 
@@ -402,11 +402,11 @@ unrejected true x y _ e = refl
 
 -- .. and so is the answer of a peer whose window is closed
 pub answered : (v : View) (s : Segment) (now : Moment) → is_closed v.state ≡ false → is_opening v.state ≡ false → v.sending.window ≡ 0 → is_acceptable_to v s ≡ true → s.flags.ack ≡ true → s.flags.rst ≡ false
-    → (after_event v (Hears s now)).pace.expiries ≡ 0
+    → (after_event v (Hears s now)).resend.expiries ≡ 0
 answered v s now lives opened shut fits acks unreset =
     let b = before v s in
     let w = after_heard v s in
-    let P : Pace → Type 0 = λ p. p.expiries ≡ 0 in
+    let P : Resend → Type 0 = λ p. p.expiries ≡ 0 in
     let quiet : (is_closed v.state || is_rejected v s) ≡ false = ap₂ (λ x y. x || y) lives (unrejected (acknowledges_unsent v s) (is_acceptable_to v s) (not s.flags.syn) v.state opened) in
     let told : answers_probe v s ≡ true =
     subst (λ x. (not x && (v.sending.window == 0) && is_acceptable_to v s && s.flags.ack && not s.flags.rst) ≡ true) (sym opened)
@@ -414,6 +414,6 @@ answered v s now lives opened shut fits acks unreset =
     (subst (λ x. (true && true && x && s.flags.ack && not s.flags.rst) ≡ true) (sym fits)
     (subst (λ x. (true && true && true && x && not s.flags.rst) ≡ true) (sym acks)
     (subst (λ x. (true && true && true && true && not x) ≡ true) (sym unreset) refl)))) in
-    let heard : P (pace_heard b w now) = either Pace P (is_moved b w) (pace_acknowledged w.pace w.sending.una (is_opening b.state) now) _ (λ moved. refl)
-    (λ unmoved. either Pace P (answers_probe v s) (record w.pace { expiries = 0 }) w.pace (λ answers. refl) (λ silent. clash (answers_probe v s) told silent)) in
-    either View (λ x. x.pace.expiries ≡ 0) (is_closed v.state || is_rejected v s) v (timed_by b w now) (λ is. clash (is_closed v.state || is_rejected v s) is quiet) (λ goes. after_paced b w now P heard heard)
+    let heard : P (resend_heard b w now) = either Resend P (is_moved b w) (resend_acknowledged w.resend w.sending.una (is_opening b.state) now) _ (λ moved. refl)
+    (λ unmoved. either Resend P (answers_probe v s) (record w.resend { expiries = 0 }) w.resend (λ answers. refl) (λ silent. clash (answers_probe v s) told silent)) in
+    either View (λ x. x.resend.expiries ≡ 0) (is_closed v.state || is_rejected v s) v (timed_by b w now) (λ is. clash (is_closed v.state || is_rejected v s) is quiet) (λ goes. after_paced b w now P heard heard)

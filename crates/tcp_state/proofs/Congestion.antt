@@ -24,7 +24,7 @@ use Rattle.tcp_state.specs.Congestion.{Signal, after_signal, KeepsCongestion}
 use Rattle.tcp_state.specs.Congestion.Signal.{Begins, Counts, Nothing}
 use Rattle.tcp_state.specs.Timing.{clocked, gives_up, retransmission_expired, probe_expired, after_expiry, after_timers, after_tick}
 use Rattle.tcp_state.specs.Calls.{send_count, beyond_shutdown, shutdown_refusal, after_shutdown, aborted_at, after_release, is_removed_by_close, is_aborted_by_close}
-use Rattle.tcp_state.specs.Arrival.{opened_passively, is_receiving, beyond_fin, after_ack, after_window, after_text, after_fin, after_heard, is_rejected, before, is_moved, pace_heard, pace_after, congestion_event_of, congestion_after, timed_by, after_segment_at}
+use Rattle.tcp_state.specs.Arrival.{opened_passively, is_receiving, beyond_fin, after_ack, after_window, after_text, after_fin, after_heard, is_rejected, before, is_moved, resend_heard, resend_after, congestion_event_of, congestion_after, timed_by, after_segment_at}
 use Rattle.tcp_state.specs.Due.{after_ack_paid, after_syn_out, after_going_out, first_due}
 use Rattle.tcp_state.specs.Unreachable.{is_unreachable}
 use Rattle.tcp_state.specs.Edges.{Event, Hears, Ticks, Emits, Sends, Receives, Shuts, Closes, Aborts, Unreachable, after_first, after_event, congestion_event_at, congestion_event_by}
@@ -38,12 +38,12 @@ use Rattle.tcp_state.proofs.Growth.{IsSize, IsWindow, holds_segment, first_sound
 -- Whether our SYN went out again.
 
 -- what an acknowledgement tells of time leaves it
-pub syn_kept : (b : Before) (w : View) (now : Moment) → (pace_heard b w now).syn_resent ≡ w.pace.syn_resent
-syn_kept b w now = heard_paced b w now (λ p. p.syn_resent ≡ w.pace.syn_resent) refl refl refl
+pub syn_kept : (b : Before) (w : View) (now : Moment) → (resend_heard b w now).syn_resent ≡ w.resend.syn_resent
+syn_kept b w now = heard_paced b w now (λ p. p.syn_resent ≡ w.resend.syn_resent) refl refl refl
 
 -- .. and so does the third duplicate ACK
-syn_kept_after : (b : Before) (w : View) (now : Moment) → (pace_after b w now).syn_resent ≡ w.pace.syn_resent
-syn_kept_after b w now = after_paced b w now (λ p. p.syn_resent ≡ w.pace.syn_resent) (syn_kept b w now) (syn_kept b w now)
+syn_kept_after : (b : Before) (w : View) (now : Moment) → (resend_after b w now).syn_resent ≡ w.resend.syn_resent
+syn_kept_after b w now = after_paced b w now (λ p. p.syn_resent ≡ w.resend.syn_resent) (syn_kept b w now) (syn_kept b w now)
 
 -- What a segment leaves without the clock.
 
@@ -162,7 +162,7 @@ few w = omega arith
 -- its window is one that events lead to
 signal_sound : (b : Before) (w : View) → IsSize w.sending.smss → IsWindow w.congestion → IsWindow (congestion_after b w)
 signal_sound b w size sound =
-    signalled b w (λ g. IsWindow (after_signal w.congestion g w.sending.smss w.pace.syn_resent)) sound (first_sound w.sending.smss w.pace.syn_resent size)
+    signalled b w (λ g. IsWindow (after_signal w.congestion g w.sending.smss w.resend.syn_resent)) sound (first_sound w.sending.smss w.resend.syn_resent size)
     (new_ack_sound w.congestion (b.held - length w.sending.held) sound) (λ twice. duplicate_sound w.congestion (outstanding w.sending) (few w) sound)
 
 -- it counts in segments of the peer's size, once it has begun
@@ -172,7 +172,7 @@ signal_segment v s fits lives keeps begun =
     let b = before v s in
     let w = after_heard v s in
     let k = segment_leaves v s in
-    let P : Signal → Type 0 = λ g. (let c = after_signal w.congestion g w.sending.smss w.pace.syn_resent in c.smss) ≡ w.sending.smss in
+    let P : Signal → Type 0 = λ g. (let c = after_signal w.congestion g w.sending.smss w.resend.syn_resent in c.smss) ≡ w.sending.smss in
     let kept : is_opening v.state ≡ false → w.congestion.smss ≡ w.sending.smss = λ opened.
     ap (λ (c : Window). c.smss) k.congestion ∙ keeps.segment (neither (is_opening v.state) (is_closed v.state) opened lives) ∙ sym (k.segment opened) in
     let still_open : is_moved b w ≡ false → is_opening v.state ≡ false = λ still.
@@ -191,7 +191,7 @@ signal_segment v s fits lives keeps begun =
 
 -- an event of a connection is this one of its window, and the window is kept
 record Moves (v : View) (signal : Signal) (w : View) : Type 0 where
-  pub window : w.congestion ≡ after_signal v.congestion signal w.sending.smss w.pace.syn_resent
+  pub window : w.congestion ≡ after_signal v.congestion signal w.sending.smss w.resend.syn_resent
   pub keeps : IsSound v → KeepsCongestion v → KeepsCongestion w
 
 -- nothing else counts for it
@@ -211,7 +211,7 @@ heard_moves v s now lives =
     let k = segment_leaves v s in
     let signal = congestion_event_of b w in
     record {
-      window = ap (λ c. after_signal c signal w.sending.smss w.pace.syn_resent) k.congestion ∙ ap (λ r. after_signal v.congestion signal w.sending.smss r) (sym (syn_kept_after b w now));
+      window = ap (λ c. after_signal c signal w.sending.smss w.resend.syn_resent) k.congestion ∙ ap (λ r. after_signal v.congestion signal w.sending.smss r) (sym (syn_kept_after b w now));
       keeps = λ sound keeps.
           let size = k.size (record { least = sound.segment_least; most = sound.segment }) in
           record { sound = signal_sound b w size (subst IsWindow (sym k.congestion) keeps.sound); segment = signal_segment v s sound.una lives keeps };
@@ -229,11 +229,11 @@ expiry_moves v now = chosen (has_come v.timers.retransmission now)
     chosen false = either View (Moves v Nothing) (has_come v.timers.probe now) (probe_expired v now) v (λ probes. still v _ refl refl (λ begun. begun)) (λ other. still v v refl refl (λ begun. begun))
 
 -- .. and no other timer counts
-on_time : (v : View) (signal : Signal) (w x : View) → x.congestion ≡ w.congestion → x.sending ≡ w.sending → x.pace.syn_resent ≡ w.pace.syn_resent → x.state ≡ w.state → Moves v signal w → Moves v signal x
+on_time : (v : View) (signal : Signal) (w x : View) → x.congestion ≡ w.congestion → x.sending ≡ w.sending → x.resend.syn_resent ≡ w.resend.syn_resent → x.state ≡ w.state → Moves v signal w → Moves v signal x
 on_time v signal w x congestion sending syn state k =
     let segment = ap (λ (t : Sending). t.smss) sending in
     record {
-      window = congestion ∙ k.window ∙ ap (λ n. after_signal v.congestion signal n w.pace.syn_resent) (sym segment) ∙ ap (after_signal v.congestion signal x.sending.smss) (sym syn);
+      window = congestion ∙ k.window ∙ ap (λ n. after_signal v.congestion signal n w.resend.syn_resent) (sym segment) ∙ ap (after_signal v.congestion signal x.sending.smss) (sym syn);
       keeps = λ sound keeps. keeps_on w x congestion segment (λ begun. ap is_idle (sym state) ∙ begun) (k.keeps sound keeps);
     }
 
@@ -306,7 +306,7 @@ moves v (Aborts now) = either View (Moves v Nothing) (is_closed v.state) v (abor
 moves v (Unreachable number) =
     either View (Moves v Nothing) (is_unreachable v number) (after_reset v (Some ECONNREFUSED)) v (λ refused. still v _ refl refl (λ begun. cc)) (λ other. still v v refl refl (λ begun. begun))
 
-pub moves_by_events : (v : View) (e : Event) → (after_event v e).congestion ≡ after_signal v.congestion (congestion_event_by v e) (after_event v e).sending.smss (after_event v e).pace.syn_resent
+pub moves_by_events : (v : View) (e : Event) → (after_event v e).congestion ≡ after_signal v.congestion (congestion_event_by v e) (after_event v e).sending.smss (after_event v e).resend.syn_resent
 moves_by_events v e = (moves v e).window
 
 pub stays_kept : (v : View) (e : Event) → IsSound v → KeepsCongestion v → KeepsCongestion (after_event v e)
@@ -329,9 +329,9 @@ one_segment v keeps begun = subst (λ n. n ≤ v.congestion.cwnd) (keeps.segment
 -- One segment.
 
 signal_adds : (b : Before) (w : View) (c : Window) → IsWindow c → is_opening b.state ≡ false → is_recovering c ≡ false
-    → (let x = after_signal c (congestion_event_of b w) w.sending.smss w.pace.syn_resent in is_recovering x ≡ false → x.cwnd ≤ c.cwnd + c.smss)
+    → (let x = after_signal c (congestion_event_of b w) w.sending.smss w.resend.syn_resent in is_recovering x ≡ false → x.cwnd ≤ c.cwnd + c.smss)
 signal_adds b w c sound opened runs =
-    let P : Signal → Type 0 = λ g. (let x = after_signal c g w.sending.smss w.pace.syn_resent in is_recovering x ≡ false → x.cwnd ≤ c.cwnd + c.smss) in
+    let P : Signal → Type 0 = λ g. (let x = after_signal c g w.sending.smss w.resend.syn_resent in is_recovering x ≡ false → x.cwnd ≤ c.cwnd + c.smss) in
     let none : P Nothing = λ ends. omega arith in
     either Signal P (is_closed w.state) Nothing _ (λ closed. none)
     (λ lives. either Signal P (is_moved b w) _ _
@@ -345,5 +345,5 @@ raised_by_one v s now keeps opened runs =
     let P : Window → Type 0 = λ x. is_recovering x ≡ false → x.cwnd ≤ v.congestion.cwnd + v.congestion.smss in
     let w = after_heard v s in
     by_clock (λ x. P x.congestion) v s now (λ ends. omega arith)
-    (λ lives. subst (λ c. P (after_signal c (congestion_event_of (before v s) w) w.sending.smss w.pace.syn_resent)) (sym (segment_leaves v s).congestion)
+    (λ lives. subst (λ c. P (after_signal c (congestion_event_of (before v s) w) w.sending.smss w.resend.syn_resent)) (sym (segment_leaves v s).congestion)
     (signal_adds (before v s) w v.congestion keeps.sound opened runs))

@@ -6,8 +6,8 @@ use Rattle.clock.specs.declared.moment.Moment.{Moment}
 use Rattle.clock.specs.Moments.{has_come, sooner}
 use Rattle.retransmit.specs.Deadlines.{next_of}
 use Rattle.tcp_state.specs.declared.calls.Refusal.TheVariants.{ETIMEDOUT}
-use Rattle.tcp_state.specs.declared.pace.TheConstants.{MOST_EXPIRIES}
-use Rattle.tcp_state.specs.Pace.{mark_past}
+use Rattle.tcp_state.specs.declared.resend.TheConstants.{MOST_EXPIRIES}
+use Rattle.tcp_state.specs.Resend.{mark_past}
 use Rattle.tcp_halves.specs.Stream.{outstanding}
 use Rattle.tcp_state.specs.View.{View, is_closed, ends_at, is_at_end, after_stop, after_reset}
 use Rattle.tcp_state.specs.Timing.{KeepsTime, probes, clocked, expires, gives_up, retransmission_expired, probe_expired, after_expiry, delayed_ack_expired, override_expired, after_timers, after_tick, wants_out, deadline}
@@ -65,14 +65,14 @@ waits v now early =
     let expired = neither (expires v now) (has_come v.timers.delayed_ack now || has_come v.timers.overriding now) (sym (timers_come v now) ∙ parts.0) in
     let acted = clocked false (after_timers v now) now in
     ap (λ b. if b then after_stop v else if gives_up v now then after_reset v (Some ETIMEDOUT) else if has_come (next_of v.timers) now then acted else v) parts.1
-    ∙ ap (λ b. if b && nat_le MOST_EXPIRIES v.pace.expiries then after_reset v (Some ETIMEDOUT) else if has_come (next_of v.timers) now then acted else v) expired.0
+    ∙ ap (λ b. if b && nat_le MOST_EXPIRIES v.resend.expiries then after_reset v (Some ETIMEDOUT) else if has_come (next_of v.timers) now then acted else v) expired.0
     ∙ ap (λ b. if b then acted else v) parts.0
 
 -- What timers that act leave to be done.
 
 -- once the clock is set, something goes out again, a probe or an acknowledgement goes out, or new octets wait no longer
 abbrev Wants : View → Type 0
-Wants w = (is_some w.pace.mark || (w.pace.owes_probe && probes w) || w.owes_ack || w.pace.overridden) ≡ true
+Wants w = (is_some w.resend.mark || (w.resend.owes_probe && probes w) || w.owes_ack || w.resend.overridden) ≡ true
 
 still_wanted : (again probe ack delayed new : Bool) → (again || probe || ack || new) ≡ true → (again || probe || (ack || delayed) || new) ≡ true
 still_wanted true probe ack delayed new e = refl
@@ -100,23 +100,23 @@ again_wanted false probe ack new e = cc
 wanted_after_ack : (w : View) (now : Moment) → Wants w → Wants (delayed_ack_expired w now)
 wanted_after_ack w now wants =
     either View Wants (has_come w.timers.delayed_ack now) _ w
-    (λ comes. still_wanted (is_some w.pace.mark) (w.pace.owes_probe && probes w) w.owes_ack w.delays_ack w.pace.overridden wants) (λ early. wants)
+    (λ comes. still_wanted (is_some w.resend.mark) (w.resend.owes_probe && probes w) w.owes_ack w.delays_ack w.resend.overridden wants) (λ early. wants)
 
 wanted_after_override : (w : View) (now : Moment) → Wants w → Wants (override_expired w now)
 wanted_after_override w now wants =
     either View Wants (has_come w.timers.overriding now) _ w
-    (λ comes. or_right (is_some w.pace.mark || (w.pace.owes_probe && probes w) || w.owes_ack) true refl) (λ early. wants)
+    (λ comes. or_right (is_some w.resend.mark || (w.resend.owes_probe && probes w) || w.owes_ack) true refl) (λ early. wants)
 
 wanted_by_ack : (w : View) (now : Moment) → has_come w.timers.delayed_ack now ≡ true → w.delays_ack ≡ true → Wants (delayed_ack_expired w now)
 wanted_by_ack w now come delays =
     either View Wants (has_come w.timers.delayed_ack now) _ w
-    (λ comes. ack_wanted (is_some w.pace.mark) (w.pace.owes_probe && probes w) w.owes_ack w.delays_ack w.pace.overridden delays)
+    (λ comes. ack_wanted (is_some w.resend.mark) (w.resend.owes_probe && probes w) w.owes_ack w.delays_ack w.resend.overridden delays)
     (λ early. clash (has_come w.timers.delayed_ack now) come early)
 
 wanted_by_override : (w : View) (now : Moment) → has_come w.timers.overriding now ≡ true → Wants (override_expired w now)
 wanted_by_override w now come =
     either View Wants (has_come w.timers.overriding now) _ w
-    (λ comes. or_right (is_some w.pace.mark || (w.pace.owes_probe && probes w) || w.owes_ack) true refl)
+    (λ comes. or_right (is_some w.resend.mark || (w.resend.owes_probe && probes w) || w.owes_ack) true refl)
     (λ early. clash (has_come w.timers.overriding now) come early)
 
 -- the timer of what is outstanding or of the probe leaves the others
@@ -137,11 +137,11 @@ wanted_by_expiry v now keeps come =
     (λ comes.
     let runs = sym keeps.retransmission ∙ come_runs v.timers.retransmission now comes in
     let some : nat_lt 0 (outstanding v.sending) ≡ true = and_left (nat_lt 0 (outstanding v.sending)) (not (probes v)) runs in
-    again_wanted (is_some (mark_past 0 (outstanding v.sending))) (v.pace.owes_probe && probes v) v.owes_ack v.pace.overridden (ap (λ b. is_some {T = ℕ} (if b then Some 0 else None)) some))
+    again_wanted (is_some (mark_past 0 (outstanding v.sending))) (v.resend.owes_probe && probes v) v.owes_ack v.resend.overridden (ap (λ b. is_some {T = ℕ} (if b then Some 0 else None)) some))
     (λ early.
     let probed : has_come v.timers.probe now ≡ true = elim (or_else (has_come v.timers.retransmission now) (has_come v.timers.probe now) come) [ inl comes ↦ clash (has_come v.timers.retransmission now) comes early | inr comes ↦ comes ] in
     either View Wants (has_come v.timers.probe now) (probe_expired v now) v
-    (λ comes. probe_wanted (is_some v.pace.mark) (probes v) v.owes_ack v.pace.overridden (sym keeps.probe ∙ come_runs v.timers.probe now comes))
+    (λ comes. probe_wanted (is_some v.resend.mark) (probes v) v.owes_ack v.resend.overridden (sym keeps.probe ∙ come_runs v.timers.probe now comes))
     (λ late. clash (has_come v.timers.probe now) probed late))
 
 wanted_by_timers : (v : View) (now : Moment) → KeepsTime v → has_come (next_of v.timers) now ≡ true → Wants (after_timers v now)

@@ -7,7 +7,7 @@ use Rattle.tcp_state.specs.declared.emission.Due.TheVariants.{Rst, Syn, Text, Pr
 use Rattle.tcp_state.specs.declared.emission.Stretch.{Stretch}
 use Rattle.tcp_halves.specs.Stream.{outstanding, after_sent}
 use Rattle.tcp_halves.specs.Windows.{has_grown}
-use Rattle.tcp_state.specs.Pace.{pace_probed}
+use Rattle.tcp_state.specs.Resend.{resend_probed}
 use Rattle.tcp_state.specs.View.{View, is_opening, is_closed}
 use Rattle.tcp_state.specs.Timing.{probes}
 use Rattle.tcp_state.specs.Due.{probe_stretch, end_of, after_resent, after_first_sent, after_numbers, after_new_octets, brings_new_octets, after_syn_out, after_stretch, after_probe, ack_due, again, goes_again, again_from, sends_new, new_octets, sends_fin, fin_alone, new_due, first_due}
@@ -23,7 +23,7 @@ pub record ByDue (P : Option Due → Type 0) (v : View) : Type 0 where
   pub nothing : is_ack_due v ≡ false → P None
   pub rst : v.owes_reset ≡ true → P (Some Rst)
   pub syn : is_opening v.state ≡ true → P (Some Syn)
-  pub once_more : is_opening v.state ≡ false → (mark : ℕ) → v.pace.mark ≡ Some mark → goes_again v mark ≡ true → P (Some (Text (again v mark)))
+  pub once_more : is_opening v.state ≡ false → (mark : ℕ) → v.resend.mark ≡ Some mark → goes_again v mark ≡ true → P (Some (Text (again v mark)))
   pub octets : is_opening v.state ≡ false → sends_new v ≡ true → P (Some (Text (new_octets v)))
   pub fin : is_opening v.state ≡ false → sends_fin v ≡ true → P (Some (Text (fin_alone v)))
   pub probe : is_opening v.state ≡ false → probes v ≡ true → P (Some Probe)
@@ -36,9 +36,9 @@ by_new_due : (P : Option Due → Type 0) (v : View) → ByDue P v → is_opening
 by_new_due P v cases opened =
     either (Option Due) P (sends_new v) (Some (Text (new_octets v))) _ (cases.octets opened)
     (λ no_octets. either (Option Due) P (sends_fin v) (Some (Text (fin_alone v))) _ (cases.fin opened)
-    (λ no_fin. either (Option Due) P (v.pace.owes_probe && probes v) (Some Probe) (ack_due v) (λ owes. cases.probe opened (and_right v.pace.owes_probe (probes v) owes)) (λ none. by_ack_due P v cases)))
+    (λ no_fin. either (Option Due) P (v.resend.owes_probe && probes v) (Some Probe) (ack_due v) (λ owes. cases.probe opened (and_right v.resend.owes_probe (probes v) owes)) (λ none. by_ack_due P v cases)))
 
-by_mark : (P : Option Due → Type 0) (v : View) → ByDue P v → is_opening v.state ≡ false → (mark : Option ℕ) → v.pace.mark ≡ mark → P (option_or (again_from v mark) (new_due v))
+by_mark : (P : Option Due → Type 0) (v : View) → ByDue P v → is_opening v.state ≡ false → (mark : Option ℕ) → v.resend.mark ≡ mark → P (option_or (again_from v mark) (new_due v))
 by_mark P v cases opened None is = by_new_due P v cases opened
 by_mark P v cases opened (Some mark) is =
     either (Option Due) (λ o. P (option_or o (new_due v))) (goes_again v mark) (Some (Text (again v mark))) None (cases.once_more opened mark is) (λ waits. by_new_due P v cases opened)
@@ -47,8 +47,8 @@ pub by_due : (P : Option Due → Type 0) (v : View) → ByDue P v → P (first_d
 by_due P v cases =
     either (Option Due) P v.owes_reset (Some Rst) _ cases.rst
     (λ no_reset. either (Option Due) P (is_opening v.state) _ _
-    (λ opening. either (Option Due) P ((outstanding v.sending == 0) || is_some v.pace.mark) (Some Syn) (ack_due v) (λ goes. cases.syn opening) (λ waits. by_ack_due P v cases))
-    (λ opened. by_mark P v cases opened v.pace.mark refl))
+    (λ opening. either (Option Due) P ((outstanding v.sending == 0) || is_some v.resend.mark) (Some Syn) (ack_due v) (λ goes. cases.syn opening) (λ waits. by_ack_due P v cases))
+    (λ opened. by_mark P v cases opened v.resend.mark refl))
 
 -- The sending half: SND.NXT reaches the end of what went out.
 
@@ -67,7 +67,7 @@ stretch_sends v stretch now =
 
 pub probe_sends : (v : View) → (after_probe v).sending ≡ after_sent v.sending (end_of (probe_stretch v))
 probe_sends v =
-    let sent = record v { sending = after_sent v.sending (end_of (probe_stretch v)); pace = pace_probed v.pace } in
+    let sent = record v { sending = after_sent v.sending (end_of (probe_stretch v)); resend = resend_probed v.resend } in
     either View (λ w. w.sending ≡ after_sent v.sending (end_of (probe_stretch v))) (brings_new_octets v (probe_stretch v)) (after_new_octets sent) sent (λ new. refl) (λ old. refl)
 
 -- The receiving half: it is as it was before the acknowledgement.
@@ -84,5 +84,5 @@ stretch_receives v stretch now =
 
 pub probe_receives : (v : View) → (after_probe v).receiving ≡ v.receiving
 probe_receives v =
-    let sent = record v { sending = after_sent v.sending (end_of (probe_stretch v)); pace = pace_probed v.pace } in
+    let sent = record v { sending = after_sent v.sending (end_of (probe_stretch v)); resend = resend_probed v.resend } in
     either View (λ w. w.receiving ≡ v.receiving) (brings_new_octets v (probe_stretch v)) (after_new_octets sent) sent (λ new. refl) (λ old. refl)

@@ -7,7 +7,7 @@ use Rattle.tcp_state.specs.declared.calls.Refusal.{Refusal}
 use Rattle.tcp_state.specs.declared.calls.Refusal.TheVariants.{ECONNREFUSED, ECONNRESET, ETIMEDOUT}
 use Rattle.tcp_state.specs.declared.state.State.{State}
 use Rattle.tcp_state.specs.declared.state.State.TheVariants.{SynSent, SynReceived, Established, FinWait1, FinWait2, CloseWait}
-use Rattle.tcp_state.specs.declared.pace.TheConstants.{MOST_EXPIRIES}
+use Rattle.tcp_state.specs.declared.resend.TheConstants.{MOST_EXPIRIES}
 use Rattle.tcp_halves.specs.Stream.{outstanding}
 use Rattle.tcp_state.specs.View.{View, IsSound, is_opening, is_syn_sent, is_closed, awaits_fin_ack, is_at_end}
 use Rattle.tcp_state.specs.Timing.{KeepsTime, probes, retransmits, gives_up}
@@ -64,8 +64,8 @@ lives_on v now sound keeps closed =
     let tested = not (is_opening v.state) && (v.sending.window == 0) in
     let silent : probes v ≡ false = ap (λ n. tested && (not (n == 0) || awaits_fin_ack v.state)) none.0 ∙ (ap (λ b. tested && b) fin.1 ∙ and_false tested) in
     let at_rest : retransmits v ≡ false = ap (λ n. nat_lt 0 n && not (probes v)) none.1 in
-    ap (λ b. (b || has_come v.timers.probe now) && nat_le MOST_EXPIRIES v.pace.expiries) (none_come v.timers.retransmission now (keeps.retransmission ∙ at_rest))
-    ∙ ap (λ b. b && nat_le MOST_EXPIRIES v.pace.expiries) (none_come v.timers.probe now (keeps.probe ∙ silent))
+    ap (λ b. (b || has_come v.timers.probe now) && nat_le MOST_EXPIRIES v.resend.expiries) (none_come v.timers.retransmission now (keeps.retransmission ∙ at_rest))
+    ∙ ap (λ b. b && nat_le MOST_EXPIRIES v.resend.expiries) (none_come v.timers.probe now (keeps.probe ∙ silent))
 
 -- what an event tells: what was told, or an error that it may raise, in a connection that is not CLOSED
 record Raises (v : View) (e : Event) (told : Option Refusal) : Type 0 where

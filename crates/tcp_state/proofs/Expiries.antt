@@ -6,7 +6,7 @@ use Rattle.clock.specs.declared.moment.Moment.{Moment}
 use Rattle.clock.specs.Moments.{after, has_come}
 use Rattle.retransmit.specs.Deadlines.{next_of}
 use Rattle.tcp_state.specs.declared.calls.Refusal.TheVariants.{ETIMEDOUT}
-use Rattle.tcp_state.specs.declared.pace.TheConstants.{MOST_EXPIRIES}
+use Rattle.tcp_state.specs.declared.resend.TheConstants.{MOST_EXPIRIES}
 use Rattle.tcp_state.specs.declared.emission.Due.TheVariants.{Rst, Syn, Text}
 use Rattle.tcp_halves.specs.Stream.{outstanding}
 use Rattle.tcp_state.specs.View.{View, IsSound, is_opening, is_closed, is_at_end, after_stop, after_reset}
@@ -30,9 +30,9 @@ by_expiry P v now expired lives acted =
 -- The retransmission timer.
 
 record Expired (v w : View) : Type 0 where
-  pub mark : w.pace.mark ≡ Some 0
-  pub once : w.pace.once ≡ false
-  pub rto : w.pace.timeout.rto ≡ min 60000 (2 * v.pace.timeout.rto)
+  pub mark : w.resend.mark ≡ Some 0
+  pub once : w.resend.once ≡ false
+  pub rto : w.resend.timeout.rto ≡ min 60000 (2 * v.resend.timeout.rto)
   pub none : w.timers.retransmission ≡ None
 
 expired : (v : View) (now : Moment) → has_come v.timers.retransmission now ≡ true → retransmits v ≡ true → Expired v (after_timers v now)
@@ -46,14 +46,14 @@ expired v now come runs =
     (λ w k. record { mark = k.mark; once = k.once; rto = k.rto; none = k.none })
 
 -- what is marked from SND.UNA on is due first
-marked_due : (w : View) → w.owes_reset ≡ false → w.pace.mark ≡ Some 0 → (first_due w ≡ Some Syn) ⊎ (first_due w ≡ Some (Text (again w 0)))
+marked_due : (w : View) → w.owes_reset ≡ false → w.resend.mark ≡ Some 0 → (first_due w ≡ Some Syn) ⊎ (first_due w ≡ Some (Text (again w 0)))
 marked_due w none mark =
     let sent = outstanding w.sending == 0 in
-    let past_opening = option_or (again_from w w.pace.mark) (new_due w) in
-    let opens = if sent || is_some w.pace.mark then Some Syn else ack_due w in
+    let past_opening = option_or (again_from w w.resend.mark) (new_due w) in
+    let opens = if sent || is_some w.resend.mark then Some Syn else ack_due w in
     let no_reset = ap (λ b. if b then Some Rst else if is_opening w.state then opens else past_opening) none in
     by ((first_due w ≡ Some Syn) ⊎ (first_due w ≡ Some (Text (again w 0)))) (is_opening w.state)
-    (λ opening. inl (no_reset ∙ ap (λ b. if b then opens else past_opening) opening ∙ ap (λ b. if b then Some Syn else ack_due w) (or_right sent (is_some w.pace.mark) (ap is_some mark))))
+    (λ opening. inl (no_reset ∙ ap (λ b. if b then opens else past_opening) opening ∙ ap (λ b. if b then Some Syn else ack_due w) (or_right sent (is_some w.resend.mark) (ap is_some mark))))
     (λ opened. inr (no_reset ∙ ap (λ b. if b then opens else past_opening) opened ∙ ap (λ m. option_or (again_from w m) (new_due w)) mark))
 
 begins : (wants : Bool) (o : Option Moment) (now : Moment) (milliseconds timeout : ℕ) → wants ≡ true → o ≡ None → milliseconds ≡ timeout → (if wants then running o now milliseconds else None) ≡ Some (after now timeout)
@@ -62,9 +62,9 @@ begins true (Some deadline) now milliseconds timeout w e same = cc
 begins false o now milliseconds timeout w e same = cc
 
 pub sent_again : (v : View) (now : Moment) → IsSound v → KeepsTime v → has_come v.timers.retransmission now ≡ true → is_closed (after_tick v now).state ≡ false
-    → ((after_tick v now).pace.mark ≡ Some 0) × ((after_tick v now).pace.once ≡ false) × ((first_due (after_tick v now) ≡ Some Syn) ⊎ (first_due (after_tick v now) ≡ Some (Text (again (after_tick v now) 0))))
+    → ((after_tick v now).resend.mark ≡ Some 0) × ((after_tick v now).resend.once ≡ false) × ((first_due (after_tick v now) ≡ Some Syn) ⊎ (first_due (after_tick v now) ≡ Some (Text (again (after_tick v now) 0))))
 sent_again v now sound keeps come lives =
-    let P : View → Type 0 = λ w. is_closed w.state ≡ false → (w.pace.mark ≡ Some 0) × (w.pace.once ≡ false) × ((first_due w ≡ Some Syn) ⊎ (first_due w ≡ Some (Text (again w 0)))) in
+    let P : View → Type 0 = λ w. is_closed w.state ≡ false → (w.resend.mark ≡ Some 0) × (w.resend.once ≡ false) × ((first_due w ≡ Some Syn) ⊎ (first_due w ≡ Some (Text (again w 0)))) in
     let acts = clocked false (after_timers v now) now in
     let k = expired v now come (sym keeps.retransmission ∙ come_runs v.timers.retransmission now come) in
     by_expiry P v now (or_left (has_come v.timers.retransmission now) (has_come v.timers.probe now) come) lives
@@ -75,25 +75,25 @@ sent_again v now sound keeps come lives =
     (k.mark, k.once, marked_due acts none k.mark)) lives
 
 pub backs_off : (v : View) (now : Moment) → KeepsTime v → has_come v.timers.retransmission now ≡ true → is_closed (after_tick v now).state ≡ false
-    → (let timeout = min 60000 (2 * v.pace.timeout.rto) in ((after_tick v now).pace.timeout.rto ≡ timeout) × ((after_tick v now).timers.retransmission ≡ Some (after now timeout)))
+    → (let timeout = min 60000 (2 * v.resend.timeout.rto) in ((after_tick v now).resend.timeout.rto ≡ timeout) × ((after_tick v now).timers.retransmission ≡ Some (after now timeout)))
 backs_off v now keeps come lives =
-    let timeout = min 60000 (2 * v.pace.timeout.rto) in
+    let timeout = min 60000 (2 * v.resend.timeout.rto) in
     let third = after_timers v now in
     let runs : retransmits v ≡ true = sym keeps.retransmission ∙ come_runs v.timers.retransmission now come in
     let k = expired v now come runs in
     let still : retransmits third ≡ true = ap (λ (w : View). retransmits w) (timers_keep v now) ∙ runs in
-    by_expiry (λ w. (w.pace.timeout.rto ≡ timeout) × (w.timers.retransmission ≡ Some (after now timeout))) v now (or_left (has_come v.timers.retransmission now) (has_come v.timers.probe now) come) lives
-    (k.rto, begins (retransmits third) third.timers.retransmission now third.pace.timeout.rto timeout still k.none k.rto)
+    by_expiry (λ w. (w.resend.timeout.rto ≡ timeout) × (w.timers.retransmission ≡ Some (after now timeout))) v now (or_left (has_come v.timers.retransmission now) (has_come v.timers.probe now) come) lives
+    (k.rto, begins (retransmits third) third.timers.retransmission now third.resend.timeout.rto timeout still k.none k.rto)
 
 -- The probe timer.
 
 record Probed (v : View) (now : Moment) (w : View) : Type 0 where
-  pub interval : w.pace.interval ≡ min 60000 (2 * v.pace.interval)
-  pub runs : w.timers.probe ≡ Some (after now (min 60000 (2 * v.pace.interval)))
-  pub owes : w.pace.owes_probe ≡ true
-  pub timeout : w.pace.timeout ≡ v.pace.timeout
+  pub interval : w.resend.interval ≡ min 60000 (2 * v.resend.interval)
+  pub runs : w.timers.probe ≡ Some (after now (min 60000 (2 * v.resend.interval)))
+  pub owes : w.resend.owes_probe ≡ true
+  pub timeout : w.resend.timeout ≡ v.resend.timeout
   pub congestion : w.congestion ≡ v.congestion
-  pub mark : w.pace.mark ≡ v.pace.mark
+  pub mark : w.resend.mark ≡ v.resend.mark
 
 probed : (v : View) (now : Moment) → KeepsTime v → has_come v.timers.probe now ≡ true → Probed v now (after_timers v now)
 probed v now keeps come =
@@ -120,50 +120,50 @@ interval_on true None deadline interval rto wait w e same = cc
 interval_on false o deadline interval rto wait w e same = cc
 
 pub probes_again : (v : View) (now : Moment) → KeepsTime v → has_come v.timers.probe now ≡ true → is_closed (after_tick v now).state ≡ false
-    → (let wait = min 60000 (2 * v.pace.interval) in ((after_tick v now).pace.interval ≡ wait) × ((after_tick v now).timers.probe ≡ Some (after now wait)) × ((after_tick v now).pace.owes_probe ≡ true))
+    → (let wait = min 60000 (2 * v.resend.interval) in ((after_tick v now).resend.interval ≡ wait) × ((after_tick v now).timers.probe ≡ Some (after now wait)) × ((after_tick v now).resend.owes_probe ≡ true))
 probes_again v now keeps come lives =
-    let wait = min 60000 (2 * v.pace.interval) in
+    let wait = min 60000 (2 * v.resend.interval) in
     let third = after_timers v now in
     let k = probed v now keeps come in
     let goes : probes third ≡ true = ap (λ (w : View). probes w) (timers_keep v now) ∙ sym keeps.probe ∙ come_runs v.timers.probe now come in
-    by_expiry (λ w. (w.pace.interval ≡ wait) × (w.timers.probe ≡ Some (after now wait)) × (w.pace.owes_probe ≡ true)) v now (or_right (has_come v.timers.retransmission now) (has_come v.timers.probe now) come) lives (
-      interval_on (probes third) third.timers.probe (after now wait) third.pace.interval third.pace.timeout.rto wait goes k.runs k.interval,
-      runs_on (probes third) third.timers.probe (after now wait) now third.pace.timeout.rto goes k.runs,
-      both third.pace.owes_probe (probes third) k.owes goes,
+    by_expiry (λ w. (w.resend.interval ≡ wait) × (w.timers.probe ≡ Some (after now wait)) × (w.resend.owes_probe ≡ true)) v now (or_right (has_come v.timers.retransmission now) (has_come v.timers.probe now) come) lives (
+      interval_on (probes third) third.timers.probe (after now wait) third.resend.interval third.resend.timeout.rto wait goes k.runs k.interval,
+      runs_on (probes third) third.timers.probe (after now wait) now third.resend.timeout.rto goes k.runs,
+      both third.resend.owes_probe (probes third) k.owes goes,
     )
 
 pub probes_alone : (v : View) (now : Moment) → KeepsTime v → has_come v.timers.probe now ≡ true → is_closed (after_tick v now).state ≡ false
-    → ((after_tick v now).pace.timeout ≡ v.pace.timeout) × ((after_tick v now).congestion ≡ v.congestion) × ((after_tick v now).pace.mark ≡ v.pace.mark)
+    → ((after_tick v now).resend.timeout ≡ v.resend.timeout) × ((after_tick v now).congestion ≡ v.congestion) × ((after_tick v now).resend.mark ≡ v.resend.mark)
 probes_alone v now keeps come lives =
     let k = probed v now keeps come in
-    by_expiry (λ w. (w.pace.timeout ≡ v.pace.timeout) × (w.congestion ≡ v.congestion) × (w.pace.mark ≡ v.pace.mark)) v now (or_right (has_come v.timers.retransmission now) (has_come v.timers.probe now) come) lives
+    by_expiry (λ w. (w.resend.timeout ≡ v.resend.timeout) × (w.congestion ≡ v.congestion) × (w.resend.mark ≡ v.resend.mark)) v now (or_right (has_come v.timers.retransmission now) (has_come v.timers.probe now) come) lives
     (k.timeout, k.congestion, k.mark)
 
 -- The last one.
 
 pub ends_at_thirteenth : (v : View) (now : Moment) → IsSound v → is_closed v.state ≡ false → is_at_end v now ≡ false → is_closed (after_tick v now).state ≡ true
-    → (v.pace.expiries ≡ 12) × (expires v now ≡ true) × ((after_tick v now).pending_error ≡ Some ETIMEDOUT)
+    → (v.resend.expiries ≡ 12) × (expires v now ≡ true) × ((after_tick v now).pending_error ≡ Some ETIMEDOUT)
 ends_at_thirteenth v now sound lives goes_on =
-    let P : View → Type 0 = λ w. is_closed w.state ≡ true → (v.pace.expiries ≡ 12) × (expires v now ≡ true) × (w.pending_error ≡ Some ETIMEDOUT) in
-    let most = nat_le MOST_EXPIRIES v.pace.expiries in
+    let P : View → Type 0 = λ w. is_closed w.state ≡ true → (v.resend.expiries ≡ 12) × (expires v now ≡ true) × (w.pending_error ≡ Some ETIMEDOUT) in
+    let most = nat_le MOST_EXPIRIES v.resend.expiries in
     either View P (is_at_end v now) (after_stop v) _ (λ over. clash (is_at_end v now) over goes_on)
     (λ remains. either View P (gives_up v now) (after_reset v (Some ETIMEDOUT)) _
-    (λ given_up closed. let twelve = leb-true MOST_EXPIRIES v.pace.expiries (and_right (expires v now) most given_up) in (omega (arith, twelve, sound.pace.expiries), and_left (expires v now) most given_up, refl))
+    (λ given_up closed. let twelve = leb-true MOST_EXPIRIES v.resend.expiries (and_right (expires v now) most given_up) in (omega (arith, twelve, sound.resend.expiries), and_left (expires v now) most given_up, refl))
     (λ stays. either View P (has_come (next_of v.timers) now) (clocked false (after_timers v now) now) v
     (λ comes closed. clash (is_closed v.state) (sym (ap (λ (w : View). is_closed w.state) (timers_keep v now)) ∙ closed) lives)
     (λ early closed. clash (is_closed v.state) closed lives)))
 
-pub thirteenth_ends : (v : View) (now : Moment) → v.pace.expiries ≡ 12 → expires v now ≡ true → is_closed (after_tick v now).state ≡ true
+pub thirteenth_ends : (v : View) (now : Moment) → v.resend.expiries ≡ 12 → expires v now ≡ true → is_closed (after_tick v now).state ≡ true
 thirteenth_ends v now twelve expire =
     let P : View → Type 0 = λ w. is_closed w.state ≡ true in
-    let enough : nat_le MOST_EXPIRIES v.pace.expiries ≡ true = le-leb MOST_EXPIRIES v.pace.expiries (omega (arith, twelve)) in
+    let enough : nat_le MOST_EXPIRIES v.resend.expiries ≡ true = le-leb MOST_EXPIRIES v.resend.expiries (omega (arith, twelve)) in
     either View P (is_at_end v now) (after_stop v) _ (λ over. refl)
     (λ goes_on. either View P (gives_up v now) (after_reset v (Some ETIMEDOUT)) _ (λ given_up. refl)
-    (λ stays. clash (gives_up v now) (both (expires v now) (nat_le MOST_EXPIRIES v.pace.expiries) expire enough) stays))
+    (λ stays. clash (gives_up v now) (both (expires v now) (nat_le MOST_EXPIRIES v.resend.expiries) expire enough) stays))
 
-pub each_counts : (v : View) (now : Moment) → expires v now ≡ true → is_closed (after_tick v now).state ≡ false → (after_tick v now).pace.expiries ≡ v.pace.expiries + 1
+pub each_counts : (v : View) (now : Moment) → expires v now ≡ true → is_closed (after_tick v now).state ≡ false → (after_tick v now).resend.expiries ≡ v.resend.expiries + 1
 each_counts v now expire lives =
-    let P : View → Type 0 = λ w. w.pace.expiries ≡ v.pace.expiries + 1 in
+    let P : View → Type 0 = λ w. w.resend.expiries ≡ v.resend.expiries + 1 in
     by_expiry P v now expire lives (by_others P v now
     (either View P (has_come v.timers.retransmission now) (retransmission_expired v) _ (λ comes. omega arith)
     (λ early. either View P (has_come v.timers.probe now) (probe_expired v now) v (λ comes. omega arith)

@@ -53,7 +53,7 @@ held_again v mark sound opened within =
 
 held_new : (v : View) → IsSound v → is_opening v.state ≡ false → sends_new v ≡ true → IsHeld v (new_octets v)
 held_new v sound opened sends =
-    let some : 0 < sendable v.sending v.congestion.cwnd = ltb-true 0 (sendable v.sending v.congestion.cwnd) (and_left (nat_lt 0 (sendable v.sending v.congestion.cwnd)) (is_worth_sending v.sending v.congestion.cwnd v.pace.overridden) sends) in
+    let some : 0 < sendable v.sending v.congestion.cwnd = ltb-true 0 (sendable v.sending v.congestion.cwnd) (and_left (nat_lt 0 (sendable v.sending v.congestion.cwnd)) (is_worth_sending v.sending v.congestion.cwnd v.resend.overridden) sends) in
     record {
       opened = opened;
       joined = omega arith;

@@ -29,7 +29,7 @@ pub mod NewNumbers
 pub mod AckNumbers
 pub mod Deadlines
 pub mod Timers
-pub mod Paces
+pub mod Resends
 pub mod Measured
 pub mod SetSoon
 pub mod Congestion

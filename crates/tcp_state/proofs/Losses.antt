@@ -16,11 +16,11 @@ use Rattle.tcp_halves.specs.Numbers.{is_before}
 use Rattle.tcp_halves.specs.Halves.{Sending}
 use Rattle.tcp_halves.specs.Stream.{outstanding, is_new_ack}
 use Rattle.tcp_halves.specs.Windows.{updates_window}
-use Rattle.tcp_state.specs.Pace.{Pace, stopped, mark_past, mark_left, pace_lost}
+use Rattle.tcp_state.specs.Resend.{Resend, stopped, mark_past, mark_left, resend_lost}
 use Rattle.tcp_state.specs.View.{View, IsSound, is_opening, is_syn_sent, is_syn_received, is_closed}
 use Rattle.tcp_state.specs.Congestion.{Signal}
 use Rattle.tcp_state.specs.Congestion.Signal.{Begins, Counts, Nothing}
-use Rattle.tcp_state.specs.Arrival.{owing_ack, after_establishment, is_receiving, beyond_fin, is_of_fin, fin_acknowledged, after_new_ack, after_ack, is_read, after_window, after_text, counts_fin, after_fin, is_lost, after_lost, after_segment, after_heard, is_duplicate, before, is_moved, pace_heard, pace_after, congestion_event_of, tells_loss, timed_by, after_segment_at}
+use Rattle.tcp_state.specs.Arrival.{owing_ack, after_establishment, is_receiving, beyond_fin, is_of_fin, fin_acknowledged, after_new_ack, after_ack, is_read, after_window, after_text, counts_fin, after_fin, is_lost, after_lost, after_segment, after_heard, is_duplicate, before, is_moved, resend_heard, resend_after, congestion_event_of, tells_loss, timed_by, after_segment_at}
 use Rattle.tcp_state.specs.Due.{end_of, after_resent, after_first_sent, after_numbers, after_new_octets, brings_new_octets, after_emitted, ack_due, again, again_from, new_due, first_due}
 use Rattle.tcp_state.proofs.Clocked.{comes_to, unmoved, heard_paced, signalled}
 use Rattle.tcp_halves.proofs.Choices.{either, clash, and_left, and_right, and_false, both, not_true, unowed}
@@ -110,7 +110,7 @@ numbers_stay v s =
 
 -- by it the segment at SND.UNA is lost
 loses : (v : View) (s : Segment) (now : Moment) → is_closed v.state ≡ false → is_duplicate v s ≡ true → third_is_next v.congestion ≡ true
-    → (let b = before v s in let w = after_window v s in pace_after b w now ≡ pace_lost (pace_heard b w now) (outstanding w.sending))
+    → (let b = before v s in let w = after_window v s in resend_after b w now ≡ resend_lost (resend_heard b w now) (outstanding w.sending))
 loses v s now lives is third =
     let b = before v s in
     let w = after_window v s in
@@ -120,11 +120,11 @@ loses v s now lives is third =
     ap (λ t. if t then Nothing else signal) lives
     ∙ ap (λ t. if t then (if is_opening b.state then Begins else Counts (NewAck (b.held - length w.sending.held))) else if b.is_duplicate then Counts (Duplicate (outstanding w.sending)) else Nothing) still
     ∙ ap (λ t. if t then Counts (Duplicate (outstanding w.sending)) else Nothing) is in
-    let pace = pace_heard b w now in
-    ap (λ g. if tells_loss g w.congestion then pace_lost pace (outstanding w.sending) else pace) event ∙ ap (λ t. if t then pace_lost pace (outstanding w.sending) else pace) third
+    let resend = resend_heard b w now in
+    ap (λ g. if tells_loss g w.congestion then resend_lost resend (outstanding w.sending) else resend) event ∙ ap (λ t. if t then resend_lost resend (outstanding w.sending) else resend) third
 
 pub third_resends : (v : View) (s : Segment) (now : Moment) → IsSound v → is_closed v.state ≡ false → is_duplicate v s ≡ true → third_is_next v.congestion ≡ true
-    → (first_due (after_segment_at v s now) ≡ Some (Text (again (after_segment_at v s now) 0))) × ((after_segment_at v s now).pace.once ≡ true)
+    → (first_due (after_segment_at v s now) ≡ Some (Text (again (after_segment_at v s now) 0))) × ((after_segment_at v s now).resend.once ≡ true)
 third_resends v s now sound lives is third =
     let t = twice v s is in
     let opened = past_opening v.state t.opened in
@@ -132,37 +132,37 @@ third_resends v s now sound lives is third =
     let x = timed_by (before v s) w now in
     let at : after_segment_at v s now ≡ x = comes_to v s now lives (not_rejected v s opened.0 opened.1) ∙ ap (λ u. timed_by (before v s) u now) (told_alone v s sound.una lives t) in
     let lost = loses v s now lives is third in
-    let mark : x.pace.mark ≡ Some 0 =
-    ap (λ (p : Pace). p.mark) lost ∙ ap (λ n. mark_past 0 n) (numbers_stay v s).1 ∙ ap (λ b. if b then Some 0 else None) t.some in
+    let mark : x.resend.mark ≡ Some 0 =
+    ap (λ (p : Resend). p.mark) lost ∙ ap (λ n. mark_past 0 n) (numbers_stay v s).1 ∙ ap (λ b. if b then Some 0 else None) t.some in
     let due : first_due x ≡ Some (Text (again x 0)) =
-    ap (λ b. if b then Some Rst else if is_opening v.state then (if (outstanding x.sending == 0) || is_some x.pace.mark then Some Syn else ack_due x) else option_or (again_from x x.pace.mark) (new_due x))
+    ap (λ b. if b then Some Rst else if is_opening v.state then (if (outstanding x.sending == 0) || is_some x.resend.mark then Some Syn else ack_due x) else option_or (again_from x x.resend.mark) (new_due x))
     (unowed v.owes_reset (is_closed v.state) v.released lives sound.reset)
-    ∙ ap (λ b. if b then (if (outstanding x.sending == 0) || is_some x.pace.mark then Some Syn else ack_due x) else option_or (again_from x x.pace.mark) (new_due x)) t.opened
+    ∙ ap (λ b. if b then (if (outstanding x.sending == 0) || is_some x.resend.mark then Some Syn else ack_due x) else option_or (again_from x x.resend.mark) (new_due x)) t.opened
     ∙ ap (λ m. option_or (again_from x m) (new_due x)) mark in
-    subst (λ u. (first_due u ≡ Some (Text (again u 0))) × (u.pace.once ≡ true)) (sym at) (due, ap (λ (p : Pace). p.once) lost)
+    subst (λ u. (first_due u ≡ Some (Text (again u 0))) × (u.resend.once ≡ true)) (sym at) (due, ap (λ (p : Resend). p.once) lost)
 
 -- No other.
 
 -- past the opening a segment puts nothing out again
-ack_marks_none : (v : View) (ack : ℕ) → v.pace.mark ≡ None → (after_ack v ack).pace.mark ≡ None
+ack_marks_none : (v : View) (ack : ℕ) → v.resend.mark ≡ None → (after_ack v ack).resend.mark ≡ None
 ack_marks_none v ack none =
-    let left : (gained out : ℕ) → mark_left v.pace.mark gained out ≡ None = λ gained out. ap (λ m. mark_left m gained out) none in
+    let left : (gained out : ℕ) → mark_left v.resend.mark gained out ≡ None = λ gained out. ap (λ m. mark_left m gained out) none in
     let sending = (after_new_ack v ack).sending in
-    by_ack (λ w. w.pace.mark ≡ None) v ack (record {
+    by_ack (λ w. w.resend.mark ≡ None) v ack (record {
       old = none;
       beyond = none;
       opens = λ received new. refl;
       octets = λ new. left (past ack v.sending.una) (outstanding sending);
-      fin = λ new fin. let p = (after_new_ack v ack).pace in
-          either Pace (λ q. q.mark ≡ None) (is_closed (beyond_fin v.state)) (stopped p) p (λ closed. refl) (λ lives. left (past ack v.sending.una) (outstanding sending));
+      fin = λ new fin. let p = (after_new_ack v ack).resend in
+          either Resend (λ q. q.mark ≡ None) (is_closed (beyond_fin v.state)) (stopped p) p (λ closed. refl) (λ lives. left (past ack v.sending.una) (outstanding sending));
     })
 
-heard_marks_none : (v : View) (s : Segment) → is_opening v.state ≡ false → v.pace.mark ≡ None → (after_heard v s).pace.mark ≡ None
+heard_marks_none : (v : View) (s : Segment) → is_opening v.state ≡ false → v.resend.mark ≡ None → (after_heard v s).resend.mark ≡ None
 heard_marks_none v s opened none =
     let told = after_window (after_ack v s.acknowledgement) s in
     let text = after_text told s in
     let acked = ack_marks_none v s.acknowledgement none in
-    by_hearing (λ w. w.pace.mark ≡ None) v s refl (record {
+    by_hearing (λ w. w.resend.mark ≡ None) v s refl (record {
       dropped = none;
       drawn = none;
       reset = λ acts. refl;
@@ -170,8 +170,8 @@ heard_marks_none v s opened none =
       opened = λ waits right. refl;
       acknowledged = λ taken. acked;
       read = λ on.
-          let read : text.pace.mark ≡ None = either View (λ w. w.pace.mark ≡ None) ((length s.octets == 0) || not (is_receiving told.state)) told _ (λ none. acked) (λ some. acked) in
-          by_fin (λ w. w.pace.mark ≡ None) text s (λ counts. read) read read;
+          let read : text.resend.mark ≡ None = either View (λ w. w.resend.mark ≡ None) ((length s.octets == 0) || not (is_receiving told.state)) told _ (λ none. acked) (λ some. acked) in
+          by_fin (λ w. w.resend.mark ≡ None) text s (λ counts. read) read read;
     })
 
 -- a loss is told by a third duplicate ACK alone
@@ -179,22 +179,22 @@ pub told_by_third : (b : Before) (w : View) (c : Window) → tells_loss (congest
 told_by_third b w c =
     signalled b w (λ g. tells_loss g c ≡ true → (b.is_duplicate && third_is_next c) ≡ true) (λ none. cc) (λ none. cc) (λ none. cc) (λ twice third. both b.is_duplicate (third_is_next c) twice third)
 
-pub others_resend_none : (v : View) (s : Segment) (now : Moment) → IsSound v → v.pace.mark ≡ None → is_opening v.state ≡ false → (is_duplicate v s && third_is_next v.congestion) ≡ false
-    → (after_segment_at v s now).pace.mark ≡ None
+pub others_resend_none : (v : View) (s : Segment) (now : Moment) → IsSound v → v.resend.mark ≡ None → is_opening v.state ≡ false → (is_duplicate v s && third_is_next v.congestion) ≡ false
+    → (after_segment_at v s now).resend.mark ≡ None
 others_resend_none v s now sound none opened other =
     let b = before v s in
     let w = after_heard v s in
-    let pace = pace_heard b w now in
-    by_clock (λ x. x.pace.mark ≡ None) v s now none
-    (λ lives. either Pace (λ p. p.mark ≡ None) (tells_loss (congestion_event_of b w) w.congestion) (pace_lost pace (outstanding w.sending)) pace
+    let resend = resend_heard b w now in
+    by_clock (λ x. x.resend.mark ≡ None) v s now none
+    (λ lives. either Resend (λ p. p.mark ≡ None) (tells_loss (congestion_event_of b w) w.congestion) (resend_lost resend (outstanding w.sending)) resend
     (λ lost. clash (is_duplicate v s && third_is_next v.congestion) (sym (ap (λ c. is_duplicate v s && third_is_next c) (window_kept v s)) ∙ told_by_third b w w.congestion lost) other)
-    (λ kept. heard_paced b w now (λ p. p.mark ≡ w.pace.mark) refl refl refl ∙ heard_marks_none v s opened none))
+    (λ kept. heard_paced b w now (λ p. p.mark ≡ w.resend.mark) refl refl refl ∙ heard_marks_none v s opened none))
 
 -- That segment alone.
 
-pub resends_alone : (v : View) (stretch : Stretch) (now : Moment) → v.pace.once ≡ true → nat_lt stretch.offset (outstanding v.sending) ≡ true → (after_emitted v (Text stretch) now).pace.mark ≡ None
+pub resends_alone : (v : View) (stretch : Stretch) (now : Moment) → v.resend.once ≡ true → nat_lt stretch.offset (outstanding v.sending) ≡ true → (after_emitted v (Text stretch) now).resend.mark ≡ None
 resends_alone v stretch now once again =
-    let P : View → Type 0 = λ w. w.pace.mark ≡ None in
+    let P : View → Type 0 = λ w. w.resend.mark ≡ None in
     let sent = after_numbers v stretch.offset (end_of stretch) now in
     let resent = after_resent v (end_of stretch) in
     let none : P sent = either View P (nat_lt stretch.offset (outstanding v.sending)) resent (after_first_sent v (end_of stretch) now)

@@ -10,10 +10,10 @@ use Rattle.tcp_state.specs.declared.state.State.TheVariants.{Closed}
 use Rattle.tcp_halves.specs.Halves.{Sending}
 use Rattle.tcp_halves.specs.Stream.{outstanding, is_new_ack}
 use Rattle.tcp_halves.specs.Windows.{updates_window}
-use Rattle.tcp_state.specs.Pace.{Pace, stopped, mark_past, mark_left, pace_lost}
+use Rattle.tcp_state.specs.Resend.{Resend, stopped, mark_past, mark_left, resend_lost}
 use Rattle.tcp_state.specs.View.{View, IsSound, is_opening, is_syn_sent, is_syn_received, is_closed}
 use Rattle.tcp_halves.specs.Numbers.{is_before}
-use Rattle.tcp_state.specs.Arrival.{owing_ack, is_receiving, is_of_fin, beyond_fin, beyond_end, fin_acknowledged, after_new_ack, after_ack, after_window, after_text, is_duplicate, before, pace_heard, congestion_event_of, tells_loss, after_heard, after_segment_at}
+use Rattle.tcp_state.specs.Arrival.{owing_ack, is_receiving, is_of_fin, beyond_fin, beyond_end, fin_acknowledged, after_new_ack, after_ack, after_window, after_text, is_duplicate, before, resend_heard, congestion_event_of, tells_loss, after_heard, after_segment_at}
 use Rattle.tcp_state.proofs.Clocked.{heard_paced}
 use Rattle.tcp_halves.proofs.Choices.{either, clash}
 use Rattle.tcp_state.proofs.Segments.{by_fin, by_hearing, by_clock}
@@ -22,7 +22,7 @@ use Rattle.tcp_state.proofs.Losses.{past_opening, told_by_third}
 
 -- what a connection has of a mark that stood at this distance past this SND.UNA, unless it is CLOSED
 abbrev Left : ℕ → ℕ → View → Type 0
-Left una distance w = is_closed w.state ≡ false → w.pace.mark ≡ mark_past (distance - past w.sending.una una) (outstanding w.sending)
+Left una distance w = is_closed w.state ≡ false → w.resend.mark ≡ mark_past (distance - past w.sending.una una) (outstanding w.sending)
 
 abbrev value : Option ℕ → ℕ
 value (Some n) = n
@@ -37,23 +37,23 @@ left_there una distance out fits within =
     let here : distance - past una una ≡ distance = omega (arith, none_past una fits) in
     sym (ap (λ n. mark_past n out) here ∙ ap (λ b. if b then Some distance else None) (lt-ltb distance out within))
 
-stays : (v : View) (distance : ℕ) → IsSound v → v.pace.mark ≡ Some distance → Left v.sending.una distance v
+stays : (v : View) (distance : ℕ) → IsSound v → v.resend.mark ≡ Some distance → Left v.sending.una distance v
 stays v distance sound mark lives = mark ∙ left_there v.sending.una distance (outstanding v.sending) sound.una (sound.mark distance mark)
 
-ack_leaves : (v : View) (ack distance : ℕ) → IsSound v → is_opening v.state ≡ false → v.pace.mark ≡ Some distance → Left v.sending.una distance (after_ack v ack)
+ack_leaves : (v : View) (ack distance : ℕ) → IsSound v → is_opening v.state ≡ false → v.resend.mark ≡ Some distance → Left v.sending.una distance (after_ack v ack)
 ack_leaves v ack distance sound opened mark =
     let P : View → Type 0 = Left v.sending.una distance in
     let acked = after_new_ack v ack in
     let gained = past ack v.sending.una in
     let out = outstanding acked.sending in
-    let moved : acked.pace.mark ≡ mark_past (distance - gained) out = ap (λ m. mark_left m gained out) mark in
+    let moved : acked.resend.mark ≡ mark_past (distance - gained) out = ap (λ m. mark_left m gained out) mark in
     let closed = is_closed (beyond_fin v.state) in
     let same : P v = stays v distance sound mark in
     either View P (is_syn_received v.state) _ _
     (λ received. clash (is_syn_received v.state) received (past_opening v.state opened).1)
     (λ past. either View P (is_new_ack v.sending ack) _ _
     (λ new. either View P (is_of_fin v ack) (fin_acknowledged acked) acked
-    (λ fin lives. either Pace (λ q. q.mark ≡ mark_past (distance - gained) out) closed (stopped acked.pace) acked.pace (λ ends. clash closed ends lives) (λ goes_on. moved))
+    (λ fin lives. either Resend (λ q. q.mark ≡ mark_past (distance - gained) out) closed (stopped acked.resend) acked.resend (λ ends. clash closed ends lives) (λ goes_on. moved))
     (λ octets lives. moved))
     (λ old. either View P (is_before v.sending.nxt ack) (owing_ack v) v (λ beyond. same) (λ within. same)))
 
@@ -61,7 +61,7 @@ still_closed : (t : State) → is_closed (beyond_end t) ≡ false → is_closed 
 still_closed Closed e = cc
 still_closed _ e = refl
 
-heard_leaves : (v : View) (s : Segment) (distance : ℕ) → IsSound v → is_opening v.state ≡ false → v.pace.mark ≡ Some distance → Left v.sending.una distance (after_heard v s)
+heard_leaves : (v : View) (s : Segment) (distance : ℕ) → IsSound v → is_opening v.state ≡ false → v.resend.mark ≡ Some distance → Left v.sending.una distance (after_heard v s)
 heard_leaves v s distance sound opened mark =
     let P : View → Type 0 = Left v.sending.una distance in
     let acked = after_ack v s.acknowledgement in
@@ -84,17 +84,17 @@ heard_leaves v s distance sound opened mark =
     })
 
 -- .. and with the clock
-mark_left_by : (v : View) (s : Segment) (now : Moment) (distance : ℕ) → IsSound v → is_opening v.state ≡ false → (is_duplicate v s && third_is_next v.congestion) ≡ false → v.pace.mark ≡ Some distance
+mark_left_by : (v : View) (s : Segment) (now : Moment) (distance : ℕ) → IsSound v → is_opening v.state ≡ false → (is_duplicate v s && third_is_next v.congestion) ≡ false → v.resend.mark ≡ Some distance
     → Left v.sending.una distance (after_segment_at v s now)
 mark_left_by v s now distance sound opened other mark =
     let b = before v s in
     let w = after_heard v s in
-    let pace = pace_heard b w now in
+    let resend = resend_heard b w now in
     by_clock (Left v.sending.una distance) v s now (stays v distance sound mark)
-    (λ lives. λ ends_not. let M : Pace → Type 0 = λ p. p.mark ≡ mark_past (distance - past w.sending.una v.sending.una) (outstanding w.sending) in
-    either Pace M (tells_loss (congestion_event_of b w) w.congestion) (pace_lost pace (outstanding w.sending)) pace
+    (λ lives. λ ends_not. let M : Resend → Type 0 = λ p. p.mark ≡ mark_past (distance - past w.sending.una v.sending.una) (outstanding w.sending) in
+    either Resend M (tells_loss (congestion_event_of b w) w.congestion) (resend_lost resend (outstanding w.sending)) resend
     (λ lost. clash (is_duplicate v s && third_is_next v.congestion) (sym (ap (λ c. is_duplicate v s && third_is_next c) (window_kept v s)) ∙ told_by_third b w w.congestion lost) other)
-    (λ kept. heard_paced b w now (λ p. p.mark ≡ w.pace.mark) refl refl refl ∙ heard_leaves v s distance sound opened mark ends_not))
+    (λ kept. heard_paced b w now (λ p. p.mark ≡ w.resend.mark) refl refl refl ∙ heard_leaves v s distance sound opened mark ends_not))
 
 stood : (m : Option ℕ) (rest out left : ℕ) → m ≡ mark_past rest out → m ≡ Some left → left ≡ rest
 stood m rest out left is some = told (nat_lt rest out) (sym is ∙ some)
@@ -110,14 +110,14 @@ passed m rest out is none = ltb-false rest out (told (nat_lt rest out) (sym is �
     told true e = cc
     told false e = refl
 
-pub mark_stays : (v : View) (s : Segment) (now : Moment) (distance left : ℕ) → IsSound v → is_opening v.state ≡ false → (is_duplicate v s && third_is_next v.congestion) ≡ false → v.pace.mark ≡ Some distance
-    → is_closed (after_segment_at v s now).state ≡ false → (after_segment_at v s now).pace.mark ≡ Some left → left ≡ distance - past (after_segment_at v s now).sending.una v.sending.una
+pub mark_stays : (v : View) (s : Segment) (now : Moment) (distance left : ℕ) → IsSound v → is_opening v.state ≡ false → (is_duplicate v s && third_is_next v.congestion) ≡ false → v.resend.mark ≡ Some distance
+    → is_closed (after_segment_at v s now).state ≡ false → (after_segment_at v s now).resend.mark ≡ Some left → left ≡ distance - past (after_segment_at v s now).sending.una v.sending.una
 mark_stays v s now distance left sound opened other mark lives some =
     let w = after_segment_at v s now in
-    stood w.pace.mark (distance - past w.sending.una v.sending.una) (outstanding w.sending) left (mark_left_by v s now distance sound opened other mark lives) some
+    stood w.resend.mark (distance - past w.sending.una v.sending.una) (outstanding w.sending) left (mark_left_by v s now distance sound opened other mark lives) some
 
-pub mark_goes : (v : View) (s : Segment) (now : Moment) (distance : ℕ) → IsSound v → is_opening v.state ≡ false → (is_duplicate v s && third_is_next v.congestion) ≡ false → v.pace.mark ≡ Some distance
-    → is_closed (after_segment_at v s now).state ≡ false → (after_segment_at v s now).pace.mark ≡ None → outstanding (after_segment_at v s now).sending ≤ distance - past (after_segment_at v s now).sending.una v.sending.una
+pub mark_goes : (v : View) (s : Segment) (now : Moment) (distance : ℕ) → IsSound v → is_opening v.state ≡ false → (is_duplicate v s && third_is_next v.congestion) ≡ false → v.resend.mark ≡ Some distance
+    → is_closed (after_segment_at v s now).state ≡ false → (after_segment_at v s now).resend.mark ≡ None → outstanding (after_segment_at v s now).sending ≤ distance - past (after_segment_at v s now).sending.una v.sending.una
 mark_goes v s now distance sound opened other mark lives none =
     let w = after_segment_at v s now in
-    passed w.pace.mark (distance - past w.sending.una v.sending.una) (outstanding w.sending) (mark_left_by v s now distance sound opened other mark lives) none
+    passed w.resend.mark (distance - past w.sending.una v.sending.una) (outstanding w.sending) (mark_left_by v s now distance sound opened other mark lives) none

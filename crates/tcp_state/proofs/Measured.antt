@@ -6,54 +6,54 @@ use Rattle.clock.specs.Moments.{has_come}
 use Rattle.retransmit.specs.Timeout.{Timeout, after_sample, after_lost_syn}
 use Rattle.tcp_state.specs.declared.emission.Due.{Due}
 use Rattle.tcp_state.specs.declared.emission.Due.TheVariants.{Rst, Syn, Text, Probe, Ack}
-use Rattle.tcp_state.specs.declared.pace.Timed.{Timed}
+use Rattle.tcp_state.specs.declared.resend.Timed.{Timed}
 use Rattle.tcp_halves.specs.Stream.{outstanding, after_sent}
-use Rattle.tcp_state.specs.Pace.{Pace, timing_of, pace_probed, is_timed_by, timeout_sampled, timed_left, pace_acknowledged}
+use Rattle.tcp_state.specs.Resend.{Resend, timing_of, resend_probed, is_timed_by, timeout_sampled, timed_left, resend_acknowledged}
 use Rattle.tcp_state.specs.View.{View, is_opening, is_syn_received}
 use Rattle.tcp_state.specs.Timing.{clocked, retransmission_expired, probe_expired, after_timers}
 use Rattle.tcp_state.specs.Calls.{aborted_at}
-use Rattle.tcp_state.specs.Arrival.{after_heard, before, pace_heard, pace_after, timed_by}
+use Rattle.tcp_state.specs.Arrival.{after_heard, before, resend_heard, resend_after, timed_by}
 use Rattle.tcp_state.specs.Due.{MayGoOut, sends_again, after_emitted, probe_stretch, end_of, after_ack_paid, after_resent, after_first_sent, after_numbers, after_new_octets, brings_new_octets, after_syn_out, after_going_out, first_due}
 use Rattle.tcp_state.specs.Edges.{Event, moment_of, after_first, after_event}
 use Rattle.tcp_state.proofs.Clocked.{by_others, syn_out, heard_paced, after_paced}
 use Rattle.tcp_halves.proofs.Choices.{either, clash}
 use Rattle.tcp_state.proofs.Events.{by_event}
-use Rattle.tcp_state.proofs.Paces.{segment_hears, goes_out}
+use Rattle.tcp_state.proofs.Resends.{segment_hears, goes_out}
 
 -- What goes out again.
 
-resent : (v : View) (offset end : ℕ) (now : Moment) → nat_lt offset (outstanding v.sending) ≡ true → (after_numbers v offset end now).pace.timed ≡ None
+resent : (v : View) (offset end : ℕ) (now : Moment) → nat_lt offset (outstanding v.sending) ≡ true → (after_numbers v offset end now).resend.timed ≡ None
 resent v offset end now again =
-    either View (λ w. w.pace.timed ≡ None) (nat_lt offset (outstanding v.sending)) (after_resent v end) (after_first_sent v end now) (λ before. refl) (λ first. clash (nat_lt offset (outstanding v.sending)) again first)
+    either View (λ w. w.resend.timed ≡ None) (nat_lt offset (outstanding v.sending)) (after_resent v end) (after_first_sent v end now) (λ before. refl) (λ first. clash (nat_lt offset (outstanding v.sending)) again first)
 
-pub not_timed : (v : View) (due : Due) (now : Moment) → MayGoOut v due → sends_again v due ≡ true → (after_emitted v due now).pace.timed ≡ None
+pub not_timed : (v : View) (due : Due) (now : Moment) → MayGoOut v due → sends_again v due ≡ true → (after_emitted v due now).resend.timed ≡ None
 not_timed v Rst now may again = cc
 not_timed v Syn now may again =
     let sent = after_syn_out v now in
-    let none = syn_out v now (λ w. w.pace.timed ≡ None) (resent v 0 1 now again) (resent v 0 1 now again) in
-    either View (λ w. w.pace.timed ≡ None) (is_syn_received v.state) (after_ack_paid sent) sent (λ received. none) (λ waits. none)
+    let none = syn_out v now (λ w. w.resend.timed ≡ None) (resent v 0 1 now again) (resent v 0 1 now again) in
+    either View (λ w. w.resend.timed ≡ None) (is_syn_received v.state) (after_ack_paid sent) sent (λ received. none) (λ waits. none)
 not_timed v (Text stretch) now may again =
     let sent = after_numbers v stretch.offset (end_of stretch) now in
     let none = resent v stretch.offset (end_of stretch) now again in
-    either View (λ w. w.pace.timed ≡ None) (brings_new_octets v stretch) (after_new_octets sent) sent (λ new. none) (λ old. none)
+    either View (λ w. w.resend.timed ≡ None) (brings_new_octets v stretch) (after_new_octets sent) sent (λ new. none) (λ old. none)
 not_timed v Probe now may again =
-    let sent = record v { sending = after_sent v.sending (end_of (probe_stretch v)); pace = pace_probed v.pace } in
-    either View (λ w. w.pace.timed ≡ None) (brings_new_octets v (probe_stretch v)) (after_new_octets sent) sent (λ new. refl) (λ old. refl)
+    let sent = record v { sending = after_sent v.sending (end_of (probe_stretch v)); resend = resend_probed v.resend } in
+    either View (λ w. w.resend.timed ≡ None) (brings_new_octets v (probe_stretch v)) (after_new_octets sent) sent (λ new. refl) (λ old. refl)
 not_timed v Ack now may again = cc
 
 -- What is measured.
 
 -- the estimate moves only by a sample of what was measured, which is measured no longer; and what is measured was, or begins to be with numbers that go out
 record Measures (v : View) (now : Option Moment) (w : View) : Type 0 where
-  pub sampled : (w.pace.timeout.estimate ≡ v.pace.timeout.estimate) ⊎ ((is_some v.pace.timed ≡ true) × (w.pace.timed ≡ None))
-  pub begins : (timed : Timed) → w.pace.timed ≡ Some timed
-      → (v.pace.timed ≡ Some timed) ⊎ ((v.pace.timed ≡ None) × (now ≡ Some timed.since) × (first_due v ≢ None) × (timed.end.0 ≡ w.sending.nxt))
+  pub sampled : (w.resend.timeout.estimate ≡ v.resend.timeout.estimate) ⊎ ((is_some v.resend.timed ≡ true) × (w.resend.timed ≡ None))
+  pub begins : (timed : Timed) → w.resend.timed ≡ Some timed
+      → (v.resend.timed ≡ Some timed) ⊎ ((v.resend.timed ≡ None) × (now ≡ Some timed.since) × (first_due v ≢ None) × (timed.end.0 ≡ w.sending.nxt))
 
 -- nothing is measured that was not
-keeps : (v w : View) (now : Option Moment) → w.pace.timeout.estimate ≡ v.pace.timeout.estimate → w.pace.timed ≡ v.pace.timed → Measures v now w
+keeps : (v w : View) (now : Option Moment) → w.resend.timeout.estimate ≡ v.resend.timeout.estimate → w.resend.timed ≡ v.resend.timed → Measures v now w
 keeps v w now estimate timed = record { sampled = inl estimate; begins = λ t is. inl (sym timed ∙ is) }
 
-leaves : (v w : View) (now : Option Moment) → w.pace.timeout.estimate ≡ v.pace.timeout.estimate → w.pace.timed ≡ None → Measures v now w
+leaves : (v w : View) (now : Option Moment) → w.resend.timeout.estimate ≡ v.resend.timeout.estimate → w.resend.timed ≡ None → Measures v now w
 leaves v w now estimate none = record { sampled = inl estimate; begins = λ t is. let bad : None ≡ Some t = sym none ∙ is in cc }
 
 -- Segments.
@@ -76,12 +76,12 @@ still_timed : (o : Option Timed) (una : ℕ) (timed : Timed) → timed_left o un
 still_timed None una timed e = cc
 still_timed (Some other) una timed e = either (Option Timed) (λ x. x ≡ Some timed → Some other ≡ Some timed) (is_timed_by other una) None (Some other) (λ back bad. cc) (λ out same. same) e
 
-acknowledged : (v w : View) (una : ℕ) (opens : Bool) (now : Moment) → w.pace.timeout.estimate ≡ v.pace.timeout.estimate → (w.pace.timed ≡ v.pace.timed) ⊎ (w.pace.timed ≡ None)
-    → Measures v (Some now) (record w { pace = pace_acknowledged w.pace una opens now })
+acknowledged : (v w : View) (una : ℕ) (opens : Bool) (now : Moment) → w.resend.timeout.estimate ≡ v.resend.timeout.estimate → (w.resend.timed ≡ v.resend.timed) ⊎ (w.resend.timed ≡ None)
+    → Measures v (Some now) (record w { resend = resend_acknowledged w.resend una opens now })
 acknowledged v w una opens now estimate was =
-    let last = estimated (opens && nat_lt 0 w.pace.expiries) (timeout_sampled w.pace.timeout w.pace.timed una now) in
+    let last = estimated (opens && nat_lt 0 w.resend.expiries) (timeout_sampled w.resend.timeout w.resend.timed una now) in
     record {
-      sampled = elim (sampled_or_left w.pace.timeout w.pace.timed una now) [
+      sampled = elim (sampled_or_left w.resend.timeout w.resend.timed una now) [
         | inl same ↦ inl (last ∙ same ∙ estimate)
         | inr back ↦ elim was [
           | inl same ↦ inr (ap is_some (sym same) ∙ back.0, back.1)
@@ -89,7 +89,7 @@ acknowledged v w una opens now estimate was =
         ]
       ];
       begins = λ timed is.
-          let out = still_timed w.pace.timed una timed is in
+          let out = still_timed w.resend.timed una timed is in
           elim was [ inl same ↦ inl (sym same ∙ out) | inr none ↦ let bad : None ≡ Some timed = sym none ∙ out in cc ];
     }
 
@@ -102,13 +102,13 @@ heard_measures v s now =
     let b = before v s in
     let w = after_heard v s in
     let k = segment_hears v s in
-    let estimate : w.pace.timeout.estimate ≡ v.pace.timeout.estimate = ap (λ (t : Timeout). t.estimate) k.timeout in
+    let estimate : w.resend.timeout.estimate ≡ v.resend.timeout.estimate = ap (λ (t : Timeout). t.estimate) k.timeout in
     let kept : Measures v (Some now) w = elim k.timed [ inl same ↦ keeps v w (Some now) estimate same | inr none ↦ leaves v w (Some now) estimate none ] in
-    let P : Pace → Type 0 = λ p. Measures v (Some now) (record w { pace = p }) in
-    let still : P (record w.pace { expiries = 0 }) = record { sampled = kept.sampled; begins = kept.begins } in
-    let heard : P (pace_heard b w now) = heard_paced b w now P (acknowledged v w w.sending.una (is_opening b.state) now estimate k.timed) still (record { sampled = kept.sampled; begins = kept.begins }) in
-    let paced : P (pace_after b w now) = after_paced b w now P heard (record { sampled = heard.sampled; begins = heard.begins }) in
-    record { sampled = paced.sampled; begins = paced.begins }
+    let P : Resend → Type 0 = λ p. Measures v (Some now) (record w { resend = p }) in
+    let still : P (record w.resend { expiries = 0 }) = record { sampled = kept.sampled; begins = kept.begins } in
+    let heard : P (resend_heard b w now) = heard_paced b w now P (acknowledged v w w.sending.una (is_opening b.state) now estimate k.timed) still (record { sampled = kept.sampled; begins = kept.begins }) in
+    let resend_view : P (resend_after b w now) = after_paced b w now P heard (record { sampled = heard.sampled; begins = heard.begins }) in
+    record { sampled = resend_view.sampled; begins = resend_view.begins }
 
 -- Emissions.
 
@@ -131,7 +131,7 @@ emission_measures v now = sent (first_due v) refl
             | inl same ↦ inl (sym same ∙ is)
             | inr more ↦ elim more [
               | inl none ↦ let bad : None ≡ Some timed = sym none ∙ is in cc
-              | inr new ↦ elim (begun v.pace.timed (after_going_out v due now).sending.nxt now timed (sym new ∙ is)) [
+              | inr new ↦ elim (begun v.resend.timed (after_going_out v due now).sending.nxt now timed (sym new ∙ is)) [
                 | inl was ↦ inl was
                 | inr begins ↦ inr (begins.0, begins.1, λ none. let bad : None ≡ Some due = sym none ∙ first in cc, begins.2)
               ]
@@ -166,9 +166,9 @@ measures v = by_event (λ e. Measures v (moment_of e)) v (record {
   refused = λ number hit. leaves v _ None refl refl;
 })
 
-pub sampled : (v : View) (e : Event) → ((after_event v e).pace.timeout.estimate ≡ v.pace.timeout.estimate) ⊎ ((is_some v.pace.timed ≡ true) × ((after_event v e).pace.timed ≡ None))
+pub sampled : (v : View) (e : Event) → ((after_event v e).resend.timeout.estimate ≡ v.resend.timeout.estimate) ⊎ ((is_some v.resend.timed ≡ true) × ((after_event v e).resend.timed ≡ None))
 sampled v e = (measures v e).sampled
 
-pub begins : (v : View) (e : Event) (timed : Timed) → (after_event v e).pace.timed ≡ Some timed
-    → (v.pace.timed ≡ Some timed) ⊎ ((v.pace.timed ≡ None) × (moment_of e ≡ Some timed.since) × (first_due v ≢ None) × (timed.end.0 ≡ (after_event v e).sending.nxt))
+pub begins : (v : View) (e : Event) (timed : Timed) → (after_event v e).resend.timed ≡ Some timed
+    → (v.resend.timed ≡ Some timed) ⊎ ((v.resend.timed ≡ None) × (moment_of e ≡ Some timed.since) × (first_due v ≢ None) × (timed.end.0 ≡ (after_event v e).sending.nxt))
 begins v e = (measures v e).begins

@@ -23,7 +23,7 @@ keeps_window v stretch sound first = by_due (λ o. (t : Stretch) → o ≡ Some 
   once_more = λ opened mark is goes t e. let same : again v mark ≡ t = cc in subst (KeepsWindow v) same (λ past. let within = sound.mark mark is in absurd (omega (arith, past, within)));
   octets = λ opened sends t e.
       let same : new_octets v ≡ t = cc in
-      let some = ltb-true 0 (sendable v.sending v.congestion.cwnd) (and_left (nat_lt 0 (sendable v.sending v.congestion.cwnd)) (is_worth_sending v.sending v.congestion.cwnd v.pace.overridden) sends) in
+      let some = ltb-true 0 (sendable v.sending v.congestion.cwnd) (and_left (nat_lt 0 (sendable v.sending v.congestion.cwnd)) (is_worth_sending v.sending v.congestion.cwnd v.resend.overridden) sends) in
       subst (KeepsWindow v) same (λ past. (refl, omega (arith, some)));
   fin = λ opened sends t e.
       let same : fin_alone v ≡ t = cc in
@@ -45,7 +45,7 @@ keeps_cwnd v stretch sound first = by_due (λ o. (t : Stretch) → o ≡ Some (T
   once_more = λ opened mark is goes t e. let same : again v mark ≡ t = cc in subst (KeepsCwnd v) same (λ past some. let within = sound.mark mark is in absurd (omega (arith, past, within)));
   octets = λ opened sends t e.
       let same : new_octets v ≡ t = cc in
-      let some = ltb-true 0 (sendable v.sending v.congestion.cwnd) (and_left (nat_lt 0 (sendable v.sending v.congestion.cwnd)) (is_worth_sending v.sending v.congestion.cwnd v.pace.overridden) sends) in
+      let some = ltb-true 0 (sendable v.sending v.congestion.cwnd) (and_left (nat_lt 0 (sendable v.sending v.congestion.cwnd)) (is_worth_sending v.sending v.congestion.cwnd v.resend.overridden) sends) in
       subst (KeepsCwnd v) same (λ past more. omega (arith, some));
   fin = λ opened sends t e. let same : fin_alone v ≡ t = cc in subst (KeepsCwnd v) same (λ past more. absurd (omega (arith, more)));
   probe = λ opened goes t e. cc;

@@ -20,7 +20,7 @@ use Rattle.tcp_state.proofs.Clocked.{comes_to}
 use Rattle.tcp_state.proofs.Gains.{receiving_lives}
 use Rattle.tcp_state.proofs.Waiting.{owed_where_closed}
 use Rattle.tcp_state.proofs.Emissions.{is_ack_due, by_due}
-use Rattle.tcp_state.proofs.Paces.{segment_hears}
+use Rattle.tcp_state.proofs.Resends.{segment_hears}
 
 -- What is read of a segment.
 

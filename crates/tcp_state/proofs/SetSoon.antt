@@ -9,19 +9,19 @@ use Rattle.retransmit.specs.declared.timers.TimerKind.TheVariants.{Retransmissio
 use Rattle.retransmit.specs.Deadlines.{no_timers, deadline_of}
 use Rattle.retransmit.specs.Timeout.{Timeout, after_lost_syn}
 use Rattle.tcp_state.specs.declared.emission.Due.{Due}
-use Rattle.tcp_state.specs.declared.pace.Timed.{Timed}
+use Rattle.tcp_state.specs.declared.resend.Timed.{Timed}
 use Rattle.tcp_state.specs.declared.timing.TheConstants.{DELAYED_ACK, OVERRIDE}
-use Rattle.tcp_state.specs.Pace.{Pace, is_timed_by, timeout_sampled, pace_acknowledged}
+use Rattle.tcp_state.specs.Resend.{Resend, is_timed_by, timeout_sampled, resend_acknowledged}
 use Rattle.tcp_state.specs.View.{View, IsSound, is_opening, is_fin_wait_2}
 use Rattle.tcp_state.specs.Timing.{probes, retransmits, awaits_second, awaits_more, running, clocked, retransmission_expired, probe_expired, after_expiry, after_timers}
 use Rattle.tcp_state.specs.Calls.{latest}
-use Rattle.tcp_state.specs.Arrival.{after_heard, before, is_moved, since_after, pace_after, congestion_after, timed_by}
+use Rattle.tcp_state.specs.Arrival.{after_heard, before, is_moved, since_after, resend_after, congestion_after, timed_by}
 use Rattle.tcp_state.specs.Due.{first_due, after_going_out}
 use Rattle.tcp_state.specs.Edges.{Event, moment_of, after_first, after_event}
 use Rattle.tcp_state.proofs.Clocked.{by_others, heard_paced, after_paced}
 use Rattle.tcp_halves.proofs.Choices.{either}
 use Rattle.tcp_state.proofs.Events.{holding, shut, by_event}
-use Rattle.tcp_state.proofs.Paces.{segment_hears, goes_out}
+use Rattle.tcp_state.proofs.Resends.{segment_hears, goes_out}
 
 -- a timer runs as before, or until a minute past the moment at the latest
 abbrev Soon : Moment → Option Moment → Option Moment → Type 0
@@ -80,10 +80,10 @@ stopped_soon now t = record {
 }
 
 -- the clock at the end of an event
-clocked_soon : (moved : Bool) (v : View) (now : Moment) (was : Timers) → v.pace.timeout.rto ≤ 60000 → SetSoon now was v.timers → SetSoon now was (clocked moved v now).timers
+clocked_soon : (moved : Bool) (v : View) (now : Moment) (was : Timers) → v.resend.timeout.rto ≤ 60000 → SetSoon now was v.timers → SetSoon now was (clocked moved v now).timers
 clocked_soon moved v now was few k = record {
-  retransmission = runs_where (retransmits v) now was.retransmission (if moved then None else v.timers.retransmission) v.pace.timeout.rto few (anew moved now was.retransmission v.timers.retransmission k.retransmission);
-  probe = runs_where (probes v) now was.probe v.timers.probe v.pace.timeout.rto few k.probe;
+  retransmission = runs_where (retransmits v) now was.retransmission (if moved then None else v.timers.retransmission) v.resend.timeout.rto few (anew moved now was.retransmission v.timers.retransmission k.retransmission);
+  probe = runs_where (probes v) now was.probe v.timers.probe v.resend.timeout.rto few k.probe;
   delayed_ack = runs_where (awaits_second v) now was.delayed_ack v.timers.delayed_ack DELAYED_ACK (omega arith) k.delayed_ack;
   overriding = runs_once (awaits_more v) now was.overriding v.timers.overriding OVERRIDE (omega arith) k.overriding;
 }
@@ -94,21 +94,21 @@ sampled_few : (t : Timeout) (o : Option Timed) (una : ℕ) (now : Moment) → t.
 sampled_few t None una now few = few
 sampled_few t (Some timed) una now few = either Timeout (λ u. u.rto ≤ 60000) (is_timed_by timed una) _ t (λ back. omega arith) (λ out. few)
 
-acknowledged_few : (p : Pace) (una : ℕ) (opens : Bool) (now : Moment) → p.timeout.rto ≤ 60000 → (let q = pace_acknowledged p una opens now in q.timeout.rto ≤ 60000)
+acknowledged_few : (p : Resend) (una : ℕ) (opens : Bool) (now : Moment) → p.timeout.rto ≤ 60000 → (let q = resend_acknowledged p una opens now in q.timeout.rto ≤ 60000)
 acknowledged_few p una opens now few =
     let sampled = timeout_sampled p.timeout p.timed una now in
     either Timeout (λ u. u.rto ≤ 60000) (opens && nat_lt 0 p.expiries) (after_lost_syn sampled) sampled (λ lost. omega arith) (λ came. sampled_few p.timeout p.timed una now few)
 
-heard_few : (v : View) (s : Segment) (now : Moment) → v.pace.timeout.rto ≤ 60000 → (let p = pace_after (before v s) (after_heard v s) now in p.timeout.rto ≤ 60000)
+heard_few : (v : View) (s : Segment) (now : Moment) → v.resend.timeout.rto ≤ 60000 → (let p = resend_after (before v s) (after_heard v s) now in p.timeout.rto ≤ 60000)
 heard_few v s now few =
     let b = before v s in
     let w = after_heard v s in
-    let same : w.pace.timeout.rto ≡ v.pace.timeout.rto = ap (λ (t : Timeout). t.rto) (segment_hears v s).timeout in
-    let still : w.pace.timeout.rto ≤ 60000 = omega (arith, same, few) in
-    let heard = heard_paced b w now (λ p. p.timeout.rto ≤ 60000) (acknowledged_few w.pace w.sending.una (is_opening b.state) now still) still still in
+    let same : w.resend.timeout.rto ≡ v.resend.timeout.rto = ap (λ (t : Timeout). t.rto) (segment_hears v s).timeout in
+    let still : w.resend.timeout.rto ≤ 60000 = omega (arith, same, few) in
+    let heard = heard_paced b w now (λ p. p.timeout.rto ≤ 60000) (acknowledged_few w.resend w.sending.una (is_opening b.state) now still) still still in
     after_paced b w now (λ p. p.timeout.rto ≤ 60000) heard heard
 
-heard_soon : (v : View) (s : Segment) (now : Moment) → v.pace.timeout.rto ≤ 60000 → SetSoon now v.timers (timed_by (before v s) (after_heard v s) now).timers
+heard_soon : (v : View) (s : Segment) (now : Moment) → v.resend.timeout.rto ≤ 60000 → SetSoon now v.timers (timed_by (before v s) (after_heard v s) now).timers
 heard_soon v s now few =
     let b = before v s in
     let w = after_heard v s in
@@ -116,19 +116,19 @@ heard_soon v s now few =
       | inl same ↦ subst (λ t. SetSoon now v.timers t) (sym same) (unset now v.timers)
       | inr none ↦ subst (λ t. SetSoon now v.timers t) (sym none.0) (stopped_soon now v.timers)
     ] in
-    clocked_soon (is_moved b w) (record w { since = since_after b w now; pace = pace_after b w now; congestion = congestion_after b w }) now v.timers (heard_few v s now few) kept
+    clocked_soon (is_moved b w) (record w { since = since_after b w now; resend = resend_after b w now; congestion = congestion_after b w }) now v.timers (heard_few v s now few) kept
 
 -- Emissions.
 
 same_soon : (now : Moment) (was is : Option Moment) → is ≡ was → Soon now was is
 same_soon now was is same deadline e = inl (sym same ∙ e)
 
-emission_soon : (v : View) (o : Option Due) (now : Moment) → v.pace.timeout.rto ≤ 60000 → SetSoon now v.timers (after_first v o now).timers
+emission_soon : (v : View) (o : Option Due) (now : Moment) → v.resend.timeout.rto ≤ 60000 → SetSoon now v.timers (after_first v o now).timers
 emission_soon v None now few = unset now v.timers
 emission_soon v (Some due) now few =
     let out = after_going_out v due now in
     let k = goes_out v due now in
-    let rto : out.pace.timeout.rto ≡ v.pace.timeout.rto = ap (λ (t : Timeout). t.rto) k.timeout in
+    let rto : out.resend.timeout.rto ≡ v.resend.timeout.rto = ap (λ (t : Timeout). t.rto) k.timeout in
     clocked_soon false out now v.timers (omega (arith, rto, few)) (record {
       retransmission = same_soon now v.timers.retransmission out.timers.retransmission (ap (λ (t : Timers). t.retransmission) k.others);
       probe = same_soon now v.timers.probe out.timers.probe (ap (λ (t : Timers). t.probe) k.others);
@@ -143,9 +143,9 @@ emission_soon v (Some due) now few =
 
 record Acted (now : Moment) (v w : View) : Type 0 where
   pub timers : SetSoon now v.timers w.timers
-  pub few : w.pace.timeout.rto ≤ 60000
+  pub few : w.resend.timeout.rto ≤ 60000
 
-expiry_soon : (v : View) (now : Moment) → v.pace.timeout.rto ≤ 60000 → Acted now v (after_expiry v now)
+expiry_soon : (v : View) (now : Moment) → v.resend.timeout.rto ≤ 60000 → Acted now v (after_expiry v now)
 expiry_soon v now few =
     let t = unset now v.timers in
     either View (Acted now v) (has_come v.timers.retransmission now) (retransmission_expired v) _
@@ -154,7 +154,7 @@ expiry_soon v now few =
     (λ comes. record { timers = record { retransmission = t.retransmission; probe = later now v.timers.probe _ (omega arith); delayed_ack = t.delayed_ack; overriding = t.overriding }; few = few })
     (λ late. record { timers = t; few = few }))
 
-timers_soon : (v : View) (now : Moment) → v.pace.timeout.rto ≤ 60000 → SetSoon now v.timers (clocked false (after_timers v now) now).timers
+timers_soon : (v : View) (now : Moment) → v.resend.timeout.rto ≤ 60000 → SetSoon now v.timers (clocked false (after_timers v now) now).timers
 timers_soon v now few =
     let k = by_others (Acted now v) v now (expiry_soon v now few) (λ w owes a. record { timers = a.timers; few = a.few }) (λ w a. let t = a.timers in
     record { timers = record { retransmission = t.retransmission; probe = t.probe; delayed_ack = t.delayed_ack; overriding = none_set now v.timers.overriding }; few = a.few }) in
@@ -164,7 +164,7 @@ timers_soon v now few =
 
 -- the timers are as they were, or stopped, or set by an event that has a moment
 abbrev SetsSoon : View → Event → View → Type 0
-SetsSoon v e w = (w.timers ≡ v.timers) ⊎ ((w.timers ≡ no_timers) ⊎ ((now : Moment) × (moment_of e ≡ Some now) × (v.pace.timeout.rto ≤ 60000 → SetSoon now v.timers w.timers)))
+SetsSoon v e w = (w.timers ≡ v.timers) ⊎ ((w.timers ≡ no_timers) ⊎ ((now : Moment) × (moment_of e ≡ Some now) × (v.resend.timeout.rto ≤ 60000 → SetSoon now v.timers w.timers)))
 
 sets_soon : (v : View) (e : Event) → SetsSoon v e (after_event v e)
 sets_soon v = by_event (SetsSoon v) v (record {
@@ -182,7 +182,7 @@ sets_soon v = by_event (SetsSoon v) v (record {
   refused = λ number hit. inr (inl refl);
 })
   where
-    shut_soon : (released : Bool) (since now : Moment) → v.pace.timeout.rto ≤ 60000 → SetSoon now v.timers (clocked false (shut v released since) now).timers
+    shut_soon : (released : Bool) (since now : Moment) → v.resend.timeout.rto ≤ 60000 → SetSoon now v.timers (clocked false (shut v released since) now).timers
     shut_soon released since now few = clocked_soon false (shut v released since) now v.timers few (unset now v.timers)
 
 none_runs : (kind : TimerKind) → deadline_of no_timers kind ≡ None
@@ -200,7 +200,7 @@ of_kind now was is Override k = k.overriding
 -- a timer that runs after an event ran before, or the event has a moment and set it
 ran_or_set : (v : View) (e : Event) (deadline : Moment) (kind : TimerKind) → deadline_of (after_event v e).timers kind ≡ Some deadline
     → (deadline_of v.timers kind ≡ Some deadline)
-    ⊎ ((now : Moment) × (moment_of e ≡ Some now) × (v.pace.timeout.rto ≤ 60000 → (deadline_of v.timers kind ≡ Some deadline) ⊎ (deadline.0 ≤ now.0 + 60000)))
+    ⊎ ((now : Moment) × (moment_of e ≡ Some now) × (v.resend.timeout.rto ≤ 60000 → (deadline_of v.timers kind ≡ Some deadline) ⊎ (deadline.0 ≤ now.0 + 60000)))
 ran_or_set v e deadline kind set = elim (sets_soon v e) [
   | inl same ↦ inl (sym (ap (λ (t : Timers). deadline_of t kind) same) ∙ set)
   | inr other ↦ elim other [
@@ -214,7 +214,7 @@ pub soon : (v : View) (e : Event) (now deadline : Moment) (kind : TimerKind) →
 soon v e now deadline kind sound is set = elim (ran_or_set v e deadline kind set) [
   | inl was ↦ inl was
   | inr sets ↦ let same : ◌≡◌ {A = Option Moment} (Some sets.0) (Some now) = sym sets.1 ∙ is in let one : sets.0 ≡ now = cc in
-      subst (λ m. (deadline_of v.timers kind ≡ Some deadline) ⊎ (deadline.0 ≤ m.0 + 60000)) one (sets.2 sound.pace.timeout_most)
+      subst (λ m. (deadline_of v.timers kind ≡ Some deadline) ⊎ (deadline.0 ≤ m.0 + 60000)) one (sets.2 sound.resend.timeout_most)
 ]
 
 pub never : (v : View) (e : Event) (deadline : Moment) (kind : TimerKind) → moment_of e ≡ None → deadline_of (after_event v e).timers kind ≡ Some deadline → deadline_of v.timers kind ≡ Some deadline

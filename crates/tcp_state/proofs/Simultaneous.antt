@@ -19,7 +19,7 @@ use Rattle.tcp_halves.specs.Numbers.{is_before, later_number}
 use Rattle.tcp_halves.specs.Halves.{Receiving}
 use Rattle.tcp_halves.specs.Stream.{outstanding, sending_from, receiving_nothing, receive_window, is_in_window, is_acceptable}
 use Rattle.tcp_halves.specs.Windows.{updates_window, is_worth_sending, has_grown, after_advertisement}
-use Rattle.tcp_state.specs.Pace.{Pace, first_pace, mark_past, pace_lost}
+use Rattle.tcp_state.specs.Resend.{Resend, first_resend, mark_past, resend_lost}
 use Rattle.tcp_state.specs.Timing.{clocked}
 use Rattle.tcp_state.specs.View.{View, first_congestion, opened_actively}
 use Rattle.tcp_state.specs.Congestion.{after_signal}
@@ -35,26 +35,26 @@ use Rattle.tcp_state.proofs.Unreachable.{and_no}
 -- What an end is, step by step.
 
 -- its SYN went out at this moment: its round trip is measured, and its timer runs
-abbrev timed_from : ℕ → Moment → Pace
-timed_from isn first = record first_pace { timed = Some (record { end = record { 0 = wire isn 1 }; since = first }) }
+abbrev timed_from : ℕ → Moment → Resend
+timed_from isn first = record first_resend { timed = Some (record { end = record { 0 = wire isn 1 }; since = first }) }
 
 abbrev runs_from : Moment → Timers
 runs_from first = record no_timers { retransmission = Some (after first 1000) }
 
 abbrev waiting : Endpoint → Endpoint → ℕ → Moment → View
-waiting here there isn first = record (opened_actively here there isn) { sending = record (sending_from isn) { nxt = wire isn 1 }; pace = timed_from isn first; timers = runs_from first }
+waiting here there isn first = record (opened_actively here there isn) { sending = record (sending_from isn) { nxt = wire isn 1 }; resend = timed_from isn first; timers = runs_from first }
 
 -- it has both SYNs
 abbrev receives : ℕ → Receiving
 receives other = record { readable = []; kept = receiving_nothing.kept; rnext = wire other 1; edge = (wire other 1 + 65535) % 2 ^ 32 }
 
-abbrev answering : Endpoint → Endpoint → ℕ → ℕ → Bool → Pace → Moment → View
-answering here there isn other owes pace first = record (opened_actively here there isn) {
+abbrev answering : Endpoint → Endpoint → ℕ → ℕ → Bool → Resend → Moment → View
+answering here there isn other owes resend first = record (opened_actively here there isn) {
   state = SynReceived;
   sending = record (sending_from isn) { nxt = wire isn 1; window = 65535; largest = 65535; wl1 = other; smss = 1460 };
   receiving = receives other;
   owes_ack = owes;
-  pace = pace;
+  resend = resend;
   timers = runs_from first;
 }
 
@@ -64,7 +64,7 @@ again_due here there isn other first = answering here there isn other false (rec
 
 -- .. and went out twice, so that its round trip is not measured
 abbrev again_sent : Endpoint → Endpoint → ℕ → ℕ → Bool → Moment → View
-again_sent here there isn other owes first = answering here there isn other owes first_pace first
+again_sent here there isn other owes first = answering here there isn other owes first_resend first
 
 -- it is open, and its congestion window begins
 abbrev opened : Endpoint → Endpoint → ℕ → ℕ → View
@@ -127,7 +127,7 @@ syn_goes here there isn now fits =
     let v = opened_actively here there isn in
     ap (λ d. after_first v d now) (first_is_syn here there isn fits)
     ∙ (ap (λ n. clocked false (out_again v now n) now) (none_out isn fits)
-    ∙ (ap (λ n. clocked false (record v { sending = record (sending_from isn) { nxt = n }; pace = record first_pace { timed = Some (record { end = record { 0 = n }; since = now }) } }) now) (sent_first isn fits)
+    ∙ (ap (λ n. clocked false (record v { sending = record (sending_from isn) { nxt = n }; resend = record first_resend { timed = Some (record { end = record { 0 = n }; since = now }) } }) now) (sent_first isn fits)
     ∙ ap (running_if (waiting here there isn now) now) (one_out isn fits)))
 
 abbrev syn_of : Endpoint → Endpoint → ℕ → Segment
@@ -139,7 +139,7 @@ syn_comes here there isn other first now fits =
     let v = waiting here there isn first in
     let w = again_due here there isn other first in
     let b = before v (syn_of there here other) in
-    ap (λ n. timed_by b (record w { receiving = record w.receiving { edge = (wire other 1 + (if n == 0 then 0 else 65535)) % 2 ^ 32 }; pace = record w.pace { mark = mark_past 0 n } }) now) (one_out isn fits)
+    ap (λ n. timed_by b (record w { receiving = record w.receiving { edge = (wire other 1 + (if n == 0 then 0 else 65535)) % 2 ^ 32 }; resend = record w.resend { mark = mark_past 0 n } }) now) (one_out isn fits)
     ∙ (timed_unmoved b w now (unmoved v) refl refl ∙ ap (running_if w first) (one_out isn fits))
 
 -- The SYN-ACK.
@@ -157,8 +157,8 @@ syn_ack_goes here there isn other first now fits other_fits =
     let w = again_sent here there isn other false first in
     ap (λ d. after_first v d now) (first_is_syn_ack here there isn other first fits)
     ∙ (ap (λ n. clocked false (after_ack_paid (out_again v now n)) now) (one_out isn fits)
-    ∙ (ap (λ n. clocked false (after_ack_paid (record w { sending = record w.sending { nxt = n }; pace = record first_pace { mark = mark_past 1 (past n isn) } })) now) (sent_again isn)
-    ∙ (ap (λ n. clocked false (after_ack_paid (record w { pace = record first_pace { mark = mark_past 1 n } })) now) (one_out isn fits)
+    ∙ (ap (λ n. clocked false (after_ack_paid (record w { sending = record w.sending { nxt = n }; resend = record first_resend { mark = mark_past 1 (past n isn) } })) now) (sent_again isn)
+    ∙ (ap (λ n. clocked false (after_ack_paid (record w { resend = record first_resend { mark = mark_past 1 n } })) now) (one_out isn fits)
     ∙ (ap (λ r. clocked false (record w { receiving = r }) now) (still_told other other_fits) ∙ ap (running_if w first) (one_out isn fits)))))
 
 abbrev syn_ack_of : Endpoint → Endpoint → ℕ → ℕ → Moment → Segment
@@ -256,7 +256,7 @@ ack_comes here there isn other first now fits other_fits =
     comes_to v s now refl (ap (λ a. not a && (is_acceptable_to v s && true)) (acknowledges isn fits))
     ∙ (ap (λ x. timed_by b x now) (ack_heard here there isn other first fits other_fits)
     ∙ (ap (λ m. clocked m (record w {
-      pace = let pace = if m then first_pace else if answers_probe v s then first_pace else first_pace in if tells_loss (if m then Begins else Nothing) w.congestion then pace_lost pace (outstanding w.sending) else pace;
+      resend = let resend = if m then first_resend else if answers_probe v s then first_resend else first_resend in if tells_loss (if m then Begins else Nothing) w.congestion then resend_lost resend (outstanding w.sending) else resend;
       congestion = after_signal w.congestion (if m then Begins else Nothing) 1460 false;
     }) now) (moves isn fits)
     ∙ at_rest here there isn other first now))

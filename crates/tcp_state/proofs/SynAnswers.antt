@@ -17,9 +17,9 @@ use Rattle.tcp_halves.specs.Numbers.{later_number}
 use Rattle.tcp_halves.specs.Halves.{Sending}
 use Rattle.tcp_halves.specs.Stream.{outstanding, is_new_ack}
 use Rattle.tcp_state.specs.View.{View, IsSound, is_opening, is_syn_sent, is_syn_received, is_closed, is_over, is_write_closed, after_reset}
-use Rattle.tcp_state.specs.Pace.{mark_past}
+use Rattle.tcp_state.specs.Resend.{mark_past}
 use Rattle.tcp_state.specs.Timing.{probes}
-use Rattle.tcp_state.specs.Arrival.{reset_error, after_rst_in_syn_sent, after_rst, is_acting_reset, ends_by_reset, ends_by_syn, ends_opening, is_acceptable_to, is_simultaneous_syn, after_simultaneous_syn, after_syn_ack, after_segment, is_receiving, is_read, is_duplicate, brings_more, is_lost, after_lost, after_heard, before, is_moved, pace_after, timed_by, after_segment_at, is_rejected, fate}
+use Rattle.tcp_state.specs.Arrival.{reset_error, after_rst_in_syn_sent, after_rst, is_acting_reset, ends_by_reset, ends_by_syn, ends_opening, is_acceptable_to, is_simultaneous_syn, after_simultaneous_syn, after_syn_ack, after_segment, is_receiving, is_read, is_duplicate, brings_more, is_lost, after_lost, after_heard, before, is_moved, resend_after, timed_by, after_segment_at, is_rejected, fate}
 use Rattle.tcp_state.specs.Due.{first_due, ack_due}
 use Rattle.tcp_state.specs.Edges.{after_first}
 use Rattle.tcp_state.specs.Simultaneous.{AnswersSyn}
@@ -68,7 +68,7 @@ answers v s now sound opens =
     let out = outstanding v.sending in
     let o = opening v sound opens in
     let due : first_due w ≡ Some Syn =
-    ap (λ b. if b then Some Rst else (if (out == 0) || is_some (pace_after (before v s) u now).mark then Some Syn else ack_due w)) o.quiet
+    ap (λ b. if b then Some Rst else (if (out == 0) || is_some (resend_after (before v s) u now).mark then Some Syn else ack_due w)) o.quiet
     ∙ (ap (λ m. if (out == 0) || is_some m then Some Syn else ack_due w) (marks_kept (before v s) u now (repeats_none v s (ap is_opening opens))) ∙ ap (λ b. if b then Some Syn else ack_due w) (goes_at_once out)) in
     let few : out ≤ 1 = one_out v.state (length v.sending.held) out o.waits sound.held sound.flight in
     record {
@@ -140,7 +140,7 @@ refused : (v : View) (s : Segment) (now : Moment) → IsSound v → v.state ≡ 
 refused v s now sound is quiet =
     let b = before v s in
     let w = after_reset v (Some ECONNREFUSED) in
-    let pace = pace_after b w now in
+    let resend = resend_after b w now in
     let timed = timed_by b w now in
     record {
       closed = refl;
@@ -148,8 +148,8 @@ refused v s now sound is quiet =
       recv = λ len. refl;
       held = refl;
       readable = none_listed v.receiving.readable (subst (λ t. length v.receiving.readable ≤ (if is_opening t then 0 else CAPACITY)) is sound.readable);
-      due = silent v timed.pace quiet (marks_kept b w now (repeats_none v s (ap is_opening is))) (ap (λ b. b && probes (record w { pace = pace })) (probes_kept b w now));
-      timer = ap (λ t. sooner (next_of t) None) (at_rest v pace (is_moved b w) now sound.nxt);
+      due = silent v timed.resend quiet (marks_kept b w now (repeats_none v s (ap is_opening is))) (ap (λ b. b && probes (record w { resend = resend })) (probes_kept b w now));
+      timer = ap (λ t. sooner (next_of t) None) (at_rest v resend (is_moved b w) now sound.nxt);
     }
 
 by_no_listener : (acts passive received : Bool) → passive ≡ false → (acts && passive && received) ≡ false

@@ -20,7 +20,7 @@ use Rattle.tcp_halves.specs.Windows.{sendable, is_worth_sending, updates_window}
 use Rattle.tcp_state.specs.View.{View, IsSound, is_opening, is_closed, is_fin_wait_2, awaits_fin_ack, is_write_closed, after_stop, opened_actively}
 use Rattle.tcp_state.specs.Timing.{KeepsTime, probes, retransmits, awaits_second, awaits_more, running, clocked, after_expiry, delayed_ack_expired, after_timers}
 use Rattle.tcp_state.specs.Calls.{beyond_shutdown, latest}
-use Rattle.tcp_state.specs.Arrival.{opened_passively, is_receiving, beyond_end, after_ack, after_window, after_text, after_fin, after_heard, is_moved, since_after, pace_after, congestion_after, before}
+use Rattle.tcp_state.specs.Arrival.{opened_passively, is_receiving, beyond_end, after_ack, after_window, after_text, after_fin, after_heard, is_moved, since_after, resend_after, congestion_after, before}
 use Rattle.tcp_state.specs.Due.{first_due, after_going_out}
 use Rattle.tcp_state.specs.Edges.{Event, after_first, after_event}
 use Rattle.tcp_state.proofs.Clocked.{timers_keep, emission_keeps}
@@ -40,7 +40,7 @@ Quiet v = is_closed v.state ≡ true → (v.timers.overriding ≡ None) × (leng
 awaits_none : (v : View) → length v.sending.held ≡ 0 → awaits_more v ≡ false
 awaits_none v empty =
     let none : sendable v.sending v.congestion.cwnd ≡ 0 = omega (arith, empty) in
-    ap (λ n. not (is_opening v.state) && (nat_lt 0 n && not (is_worth_sending v.sending v.congestion.cwnd v.pace.overridden))) none ∙ and_false (not (is_opening v.state))
+    ap (λ n. not (is_opening v.state) && (nat_lt 0 n && not (is_worth_sending v.sending v.congestion.cwnd v.resend.overridden))) none ∙ and_false (not (is_opening v.state))
 
 runs_where : (wants : Bool) (deadline : Option Moment) (now : Moment) (milliseconds : ℕ) → is_some (if wants then running deadline now milliseconds else None) ≡ wants
 runs_where true None now milliseconds = refl
@@ -63,12 +63,12 @@ none_waits false deadline now milliseconds w e = e
 
 pub clocked_keeps : (moved : Bool) (v : View) (now : Moment) → Quiet v → KeepsTime (clocked moved v now)
 clocked_keeps moved v now quiet = record {
-  retransmission = runs_where (retransmits v) (if moved then None else v.timers.retransmission) now v.pace.timeout.rto;
-  probe = runs_where (probes v) v.timers.probe now v.pace.timeout.rto;
+  retransmission = runs_where (retransmits v) (if moved then None else v.timers.retransmission) now v.resend.timeout.rto;
+  probe = runs_where (probes v) v.timers.probe now v.resend.timeout.rto;
   delayed_ack = runs_where (awaits_second v) v.timers.delayed_ack now DELAYED_ACK;
   overriding = runs_once (awaits_more v) v.timers.overriding now OVERRIDE;
-  interval = first_wait (probes v) (is_some v.timers.probe) v.timers.probe now v.pace.interval v.pace.timeout.rto;
-  owed = and_right v.pace.owes_probe (probes v);
+  interval = first_wait (probes v) (is_some v.timers.probe) v.timers.probe now v.resend.interval v.resend.timeout.rto;
+  owed = and_right v.resend.owes_probe (probes v);
   closed = λ closed. none_waits (awaits_more v) v.timers.overriding now OVERRIDE (awaits_none v (quiet closed).1) (quiet closed).0;
 }
 
@@ -186,7 +186,7 @@ pub stays_timed : (v : View) (e : Event) → IsSound v → KeepsTime v → Keeps
 stays_timed v e sound keeps = by_event (λ e w. KeepsTime w) v (record {
   same = λ e. keeps;
   heard = λ s now lives. let b = before v s in let w = after_heard v s in
-      clocked_keeps (is_moved b w) (record w { since = since_after b w now; pace = pace_after b w now; congestion = congestion_after b w }) now (heard_quiet v s lives);
+      clocked_keeps (is_moved b w) (record w { since = since_after b w now; resend = resend_after b w now; congestion = congestion_after b w }) now (heard_quiet v s lives);
   over = λ now ends. stop_keeps v sound.nxt;
   given_up = λ now waits expired. ended v (Some ETIMEDOUT) v.released v.owes_reset v.since sound.nxt;
   acts = λ now. clocked_keeps false (after_timers v now) now (timers_quiet v now sound keeps);

@@ -98,7 +98,7 @@ rejected_leaves_at v s now e =
 -- no test that makes something due holds but that of a reset
 pub record IsQuiet (v : View) : Type 0 where
   pub opened : is_opening v.state ≡ false
-  pub mark : v.pace.mark ≡ None
+  pub mark : v.resend.mark ≡ None
   pub octets : sendable v.sending v.congestion.cwnd ≡ 0
   pub fin : awaits_fin_ack v.state ≡ false
   pub probe : probes v ≡ false
@@ -119,10 +119,10 @@ none_new false false owed false false opened false grown text end o f p a c = cc
 
 pub none_due : (v : View) → IsQuiet v → first_due v ≡ (if v.owes_reset then Some Rst else None)
 none_due v quiet =
-    let octets = ap (λ n. nat_lt 0 n && is_worth_sending v.sending v.congestion.cwnd v.pace.overridden) quiet.octets in
+    let octets = ap (λ n. nat_lt 0 n && is_worth_sending v.sending v.congestion.cwnd v.resend.overridden) quiet.octets in
     let fin = ap (λ b. b && (outstanding v.sending == length v.sending.held) && nat_lt (outstanding v.sending) v.sending.window) quiet.fin in
-    let new : new_due v ≡ None = none_new _ (sends_fin v) v.pace.owes_probe (probes v) v.owes_ack (not (is_opening v.state)) (is_closed v.state) (has_grown v.receiving) (Text (new_octets v)) (Text (fin_alone v)) octets fin quiet.probe quiet.ack quiet.closed in
-    ap (λ b. if v.owes_reset then Some Rst else if b then (if (outstanding v.sending == 0) || is_some v.pace.mark then Some Syn else ack_due v) else option_or (again_from v v.pace.mark) (new_due v)) quiet.opened
+    let new : new_due v ≡ None = none_new _ (sends_fin v) v.resend.owes_probe (probes v) v.owes_ack (not (is_opening v.state)) (is_closed v.state) (has_grown v.receiving) (Text (new_octets v)) (Text (fin_alone v)) octets fin quiet.probe quiet.ack quiet.closed in
+    ap (λ b. if v.owes_reset then Some Rst else if b then (if (outstanding v.sending == 0) || is_some v.resend.mark then Some Syn else ack_due v) else option_or (again_from v v.resend.mark) (new_due v)) quiet.opened
     ∙ ap (λ m. if v.owes_reset then Some Rst else option_or (again_from v m) (new_due v)) quiet.mark
     ∙ ap (λ d. if v.owes_reset then Some Rst else d) new
 
@@ -157,7 +157,7 @@ closed_quiet v sound closed =
     ∙ ap (λ b. not (is_opening v.state) && (v.sending.window == 0) && b) plain.1 in
     record {
       opened = plain.0;
-      mark = none_below v.pace.mark (outstanding v.sending) holds.1 sound.mark;
+      mark = none_below v.resend.mark (outstanding v.sending) holds.1 sound.mark;
       octets = omega (arith, holds.0);
       fin = plain.1;
       probe = probe ∙ and_false (not (is_opening v.state) && (v.sending.window == 0));

@@ -13,7 +13,7 @@ use Rattle.tcp_state.specs.declared.state.State.TheVariants.{SynSent}
 use Rattle.tcp_halves.specs.Stream.{outstanding}
 use Rattle.tcp_halves.specs.Windows.{sendable, is_worth_sending}
 use Rattle.tcp_state.specs.View.{View, IsSound, is_opening, is_syn_sent, is_closed, is_write_closed, after_stop, after_reset, is_over}
-use Rattle.tcp_state.specs.Pace.{Pace, stopped}
+use Rattle.tcp_state.specs.Resend.{Resend, stopped}
 use Rattle.tcp_state.specs.Timing.{probes, retransmits, awaits_more, running, retransmission_timer, probe_timer, override_timer, clocked}
 use Rattle.tcp_state.specs.Due.{first_due, new_octets, sends_new, new_due}
 use Rattle.tcp_state.specs.Edges.{Unreachable, after_event, fate_by}
@@ -85,33 +85,33 @@ hit v sound waits sent =
     equal n = elim (eqb_tells n n) [ inl same ↦ same.0 | inr other ↦ absurd (other.1 refl) ]
 
 -- of what is CLOSED and owes no reset nothing is due
-pub silent : (v : View) (pace : Pace) → v.owes_reset ≡ false → pace.mark ≡ None → pace.owes_probe ≡ false → first_due (record (after_stop v) { pace = pace }) ≡ None
-silent v pace quiet unmarked unprobed =
-    let w = record (after_stop v) { pace = record pace { mark = None; owes_probe = false } } in
-    let same : record (after_stop v) { pace = pace } ≡ w = rw unmarked (rw unprobed refl) in
+pub silent : (v : View) (resend : Resend) → v.owes_reset ≡ false → resend.mark ≡ None → resend.owes_probe ≡ false → first_due (record (after_stop v) { resend = resend }) ≡ None
+silent v resend quiet unmarked unprobed =
+    let w = record (after_stop v) { resend = record resend { mark = None; owes_probe = false } } in
+    let same : record (after_stop v) { resend = resend } ≡ w = rw unmarked (rw unprobed refl) in
     let least : sendable w.sending w.congestion.cwnd ≡ 0 = omega arith in
-    let none_new : sends_new w ≡ false = ap (λ n. nat_lt 0 n && is_worth_sending w.sending w.congestion.cwnd w.pace.overridden) least in
+    let none_new : sends_new w ≡ false = ap (λ n. nat_lt 0 n && is_worth_sending w.sending w.congestion.cwnd w.resend.overridden) least in
     ap first_due same ∙ (ap (λ b. if b then Some Rst else new_due w) quiet ∙ ap (λ b. if b then Some (Text (new_octets w)) else None) none_new)
 
-none_run : (resend probe overriding : Option Moment) → resend ≡ None → probe ≡ None → overriding ≡ None
-    → record { retransmission = resend; probe = probe; delayed_ack = None; overriding = overriding } ≡ no_timers
-none_run resend probe overriding a b c = rw a (rw b (rw c refl))
+none_run : (resending probe overriding : Option Moment) → resending ≡ None → probe ≡ None → overriding ≡ None
+    → record { retransmission = resending; probe = probe; delayed_ack = None; overriding = overriding } ≡ no_timers
+none_run resending probe overriding a b c = rw a (rw b (rw c refl))
 
 -- no timer of it runs
-pub at_rest : (v : View) (pace : Pace) (moved : Bool) (now : Moment) → v.sending.nxt < 2 ^ 32 → (clocked moved (record (after_stop v) { pace = pace }) now).timers ≡ no_timers
-at_rest v pace moved now fits =
-    let w = record (after_stop v) { pace = pace } in
+pub at_rest : (v : View) (resend : Resend) (moved : Bool) (now : Moment) → v.sending.nxt < 2 ^ 32 → (clocked moved (record (after_stop v) { resend = resend }) now).timers ≡ no_timers
+at_rest v resend moved now fits =
+    let w = record (after_stop v) { resend = resend } in
     let idle : probes w ≡ false = and_no (v.sending.window == 0) false refl in
     let none_out : retransmits w ≡ false = ap (λ n. nat_lt 0 n && not (probes w)) (none_outstanding_at v.sending.nxt fits) in
     let least : sendable w.sending w.congestion.cwnd ≡ 0 = omega arith in
-    let content : awaits_more w ≡ false = ap (λ n. nat_lt 0 n && not (is_worth_sending w.sending w.congestion.cwnd pace.overridden)) least in
+    let content : awaits_more w ≡ false = ap (λ n. nat_lt 0 n && not (is_worth_sending w.sending w.congestion.cwnd resend.overridden)) least in
     none_run (retransmission_timer w moved now) (probe_timer w now) (override_timer w now)
-    (ap (λ b. if b then running (if moved then None else None) now pace.timeout.rto else None) none_out)
-    (ap (λ b. if b then running None now pace.timeout.rto else None) idle)
+    (ap (λ b. if b then running (if moved then None else None) now resend.timeout.rto else None) none_out)
+    (ap (λ b. if b then running None now resend.timeout.rto else None) idle)
     (ap (λ b. if b then running None now OVERRIDE else None) content)
 
 refused : (v : View) → IsSound v → IsOpening v → IsRefused (after_reset v (Some ECONNREFUSED))
-refused v sound o = record { closed = refl; send = λ octets. refl; recv = λ len. refl; held = refl; readable = o.readable; due = silent v (stopped v.pace) o.quiet refl refl; timer = refl }
+refused v sound o = record { closed = refl; send = λ octets. refl; recv = λ len. refl; held = refl; readable = o.readable; due = silent v (stopped v.resend) o.quiet refl refl; timer = refl }
 
 pub opening_ends : (v : View) → IsSound v → v.state ≡ SynSent → v.sending.nxt ≢ v.sending.una
     → IsRefused (after_event v (Unreachable v.sending.una)) × (fate_by v (Unreachable v.sending.una) ≡ Stays)

@@ -79,12 +79,12 @@ opening_unprobed v opening = ap (λ b. not b && (v.sending.window == 0) && has_u
 
 syn_due : (v : View) → v.owes_reset ≡ false → is_opening v.state ≡ true → (outstanding v.sending == 0) ≡ true → takes_numbers (first_due v) ≡ true
 syn_due v none opening unsent =
-    let rest = option_or (again_from v v.pace.mark) (new_due v) in
+    let rest = option_or (again_from v v.resend.mark) (new_due v) in
     let P : Option Due → Type 0 = λ o. takes_numbers o ≡ true in
     either (Option Due) P v.owes_reset (Some Rst) _ (λ owes. clash v.owes_reset owes none)
     (λ past. either (Option Due) P (is_opening v.state) _ rest
-    (λ opens. either (Option Due) P ((outstanding v.sending == 0) || is_some v.pace.mark) (Some Syn) (ack_due v) (λ goes. refl)
-    (λ waits. clash ((outstanding v.sending == 0) || is_some v.pace.mark) (or_left (outstanding v.sending == 0) (is_some v.pace.mark) unsent) waits))
+    (λ opens. either (Option Due) P ((outstanding v.sending == 0) || is_some v.resend.mark) (Some Syn) (ack_due v) (λ goes. refl)
+    (λ waits. clash ((outstanding v.sending == 0) || is_some v.resend.mark) (or_left (outstanding v.sending == 0) (is_some v.resend.mark) unsent) waits))
     (λ opened. clash (is_opening v.state) opening opened))
 
 opening_goes : (v : View) → IsSound v → KeepsTime v → HasToSend v → is_opening v.state ≡ true → (takes_numbers (first_due v) || is_some (deadline v)) ≡ true
@@ -100,7 +100,7 @@ new_goes : (v : View) → v.owes_reset ≡ false → is_opening v.state ≡ fals
 new_goes v none opened new =
     let P : Option Due → Type 0 = λ o. takes_numbers o ≡ true in
     either (Option Due) P v.owes_reset (Some Rst) _ (λ owes. clash v.owes_reset owes none)
-    (λ past. either (Option Due) P (is_opening v.state) _ _ (λ opens. clash (is_opening v.state) opens opened) (λ opens_not. marked v.pace.mark))
+    (λ past. either (Option Due) P (is_opening v.state) _ _ (λ opens. clash (is_opening v.state) opens opened) (λ opens_not. marked v.resend.mark))
   where
     marked : (mark : Option ℕ) → takes_numbers (option_or (again_from v mark) (new_due v)) ≡ true
     marked None = new
@@ -108,7 +108,7 @@ new_goes v none opened new =
 
 octets_go : (v : View) → sends_new v ≡ true → takes_numbers (new_due v) ≡ true
 octets_go v sends =
-    ap (λ b. takes_numbers (if b then Some (Text (new_octets v)) else if sends_fin v then Some (Text (fin_alone v)) else if v.pace.owes_probe && probes v then Some Probe else ack_due v)) sends
+    ap (λ b. takes_numbers (if b then Some (Text (new_octets v)) else if sends_fin v then Some (Text (fin_alone v)) else if v.resend.owes_probe && probes v then Some Probe else ack_due v)) sends
 
 fin_goes : (v : View) → sends_fin v ≡ true → takes_numbers (new_due v) ≡ true
 fin_goes v sends =
@@ -120,7 +120,7 @@ fin_goes v sends =
 sendable_goes : (v : View) → v.owes_reset ≡ false → KeepsTime v → is_opening v.state ≡ false → 0 < sendable v.sending v.congestion.cwnd → (takes_numbers (first_due v) || is_some (deadline v)) ≡ true
 sendable_goes v none keeps opened some =
     let goes = nat_lt 0 (sendable v.sending v.congestion.cwnd) in
-    let worth = is_worth_sending v.sending v.congestion.cwnd v.pace.overridden in
+    let worth = is_worth_sending v.sending v.congestion.cwnd v.resend.overridden in
     let may : goes ≡ true = lt-ltb 0 (sendable v.sending v.congestion.cwnd) some in
     by ((takes_numbers (first_due v) || is_some (deadline v)) ≡ true) worth
     (λ is. or_left (takes_numbers (first_due v)) (is_some (deadline v)) (new_goes v none opened (octets_go v (both goes worth may is))))

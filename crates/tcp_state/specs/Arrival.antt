@@ -14,7 +14,7 @@ use Rattle.tcp_state.specs.declared.state.State.TheVariants.{SynSent, SynReceive
 use Rattle.tcp_halves.specs.Stream.{outstanding, is_new_ack, sending_from, receiving_nothing, after_syn_acknowledged, after_acknowledged, is_in_window, is_acceptable, after_syn, after_octets, stands_next, after_end}
 use Rattle.tcp_halves.specs.Windows.{after_syn_heard, after_window_update}
 use Rattle.tcp_state.specs.View.{View, first_congestion, is_opening, is_syn_sent, is_syn_received, is_closed, is_fin_wait_2, is_time_wait, awaits_fin_ack, after_reset, is_over}
-use Rattle.tcp_state.specs.Pace.{Pace, first_pace, stopped, mark_past, mark_moved, unmarked, pace_acknowledged, pace_lost}
+use Rattle.tcp_state.specs.Resend.{Resend, first_resend, stopped, mark_past, mark_moved, unmarked, resend_acknowledged, resend_lost}
 use Rattle.congestion.specs.Window.{Window, third_is_next}
 use Rattle.congestion.specs.Events.Event.{NewAck, Duplicate}
 use Rattle.tcp_state.specs.Congestion.{Signal, after_signal}
@@ -40,7 +40,7 @@ opened_passively local peer isn syn = record {
   receiving = after_syn receiving_nothing syn.number 0;
   owes_ack = false;
   delays_ack = false;
-  pace = first_pace;
+  resend = first_resend;
   timers = no_timers;
   congestion = first_congestion;
   pending_error = None;
@@ -75,7 +75,7 @@ after_syn_ack v s =
       sending = after_syn_acknowledged (after_syn_heard v.sending s.number s.window (smss_of s));
       receiving = after_syn v.receiving s.number CAPACITY;
       owes_ack = true;
-      pace = unmarked v.pace;
+      resend = unmarked v.resend;
     } else v
 
 -- .. or one without ACK, of a peer that opens at the same time (section 3.5, figure 7): a SYN-ACK is due, with the number of our SYN. That had advertised the
@@ -88,7 +88,7 @@ after_simultaneous_syn v s = record v {
   state = SynReceived;
   sending = after_syn_heard v.sending s.number s.window (smss_of s);
   receiving = after_syn v.receiving s.number (if outstanding v.sending == 0 then 0 else CAPACITY);
-  pace = record v.pace { mark = mark_past 0 (outstanding v.sending) };
+  resend = record v.resend { mark = mark_past 0 (outstanding v.sending) };
 }
 
 -- the acceptability test, in every state but SYN-SENT (section 3.10.7.4, first)
@@ -116,7 +116,7 @@ after_rst v s =
 
 -- our SYN is acknowledged
 abbrev pub after_establishment : View → View
-after_establishment v = record v { state = Established; sending = after_syn_acknowledged v.sending; pace = unmarked v.pace }
+after_establishment v = record v { state = Established; sending = after_syn_acknowledged v.sending; resend = unmarked v.resend }
 
 -- an acknowledgement past all that is held is of our FIN (section 3.10.7.4, fifth)
 abbrev pub is_of_fin : View → ℕ → Bool
@@ -134,14 +134,14 @@ fin_acknowledged v = let closed = is_closed (beyond_fin v.state) in record v {
   state = beyond_fin v.state;
   owes_ack = v.owes_ack && not closed;
   delays_ack = v.delays_ack && not closed;
-  pace = if closed then stopped v.pace else v.pace;
+  resend = if closed then stopped v.resend else v.resend;
   timers = if closed then no_timers else v.timers;
 }
 
 -- numbers that were outstanding are acknowledged
 abbrev pub after_new_ack : View → ℕ → View
 after_new_ack v ack = let sending = after_acknowledged v.sending ack in
-    record v { sending = sending; pace = mark_moved v.pace (past ack v.sending.una) (outstanding sending) }
+    record v { sending = sending; resend = mark_moved v.resend (past ack v.sending.una) (outstanding sending) }
 
 -- the acknowledgement field (section 3.10.7.4, fifth): what it makes of the connection ..
 abbrev pub after_ack : View → ℕ → View
@@ -284,11 +284,11 @@ since_after b w now = if b.repeats_fin || begins_wait b.state w.state || (w.owes
 abbrev pub is_moved : Before → View → Bool
 is_moved b w = not (b.una.0 == w.sending.una)
 
-abbrev pub pace_heard : Before → View → Moment → Pace
-pace_heard b w now =
-    if is_moved b w then pace_acknowledged w.pace w.sending.una (is_opening b.state) now
-    else if b.answers_probe then record w.pace { expiries = 0 }
-    else w.pace
+abbrev pub resend_heard : Before → View → Moment → Resend
+resend_heard b w now =
+    if is_moved b w then resend_acknowledged w.resend w.sending.una (is_opening b.state) now
+    else if b.answers_probe then record w.resend { expiries = 0 }
+    else w.resend
 
 -- What a segment that was heard is to the congestion window: its beginning, where it acknowledges our SYN; an ACK of new octets; or a duplicate one. To what is CLOSED it is nothing.
 abbrev pub congestion_event_of : Before → View → Signal
@@ -303,17 +303,17 @@ abbrev pub tells_loss : Signal → Window → Bool
 tells_loss (Counts (Duplicate flight)) window = third_is_next window
 tells_loss _ window = false
 
-abbrev pub pace_after : Before → View → Moment → Pace
-pace_after b w now =
-    let pace = pace_heard b w now in
-    if tells_loss (congestion_event_of b w) w.congestion then pace_lost pace (outstanding w.sending) else pace
+abbrev pub resend_after : Before → View → Moment → Resend
+resend_after b w now =
+    let resend = resend_heard b w now in
+    if tells_loss (congestion_event_of b w) w.congestion then resend_lost resend (outstanding w.sending) else resend
 
 abbrev pub congestion_after : Before → View → Window
-congestion_after b w = after_signal w.congestion (congestion_event_of b w) w.sending.smss w.pace.syn_resent
+congestion_after b w = after_signal w.congestion (congestion_event_of b w) w.sending.smss w.resend.syn_resent
 
 -- what the clock makes of the connection once a segment was heard
 abbrev pub timed_by : Before → View → Moment → View
-timed_by b w now = clocked (is_moved b w) (record w { since = since_after b w now; pace = pace_after b w now; congestion = congestion_after b w }) now
+timed_by b w now = clocked (is_moved b w) (record w { since = since_after b w now; resend = resend_after b w now; congestion = congestion_after b w }) now
 
 -- a segment that is rejected, or comes to what is CLOSED, changes nothing
 abbrev pub after_segment_at : View → Segment → Moment → View

@@ -9,7 +9,7 @@ use Rattle.tcp_state.specs.declared.emission.Due.{Due}
 use Rattle.tcp_state.specs.declared.emission.Due.TheVariants.{Rst, Syn, Text, Probe, Ack}
 use Rattle.tcp_state.specs.declared.emission.Stretch.{Stretch}
 use Rattle.clock.specs.declared.moment.Moment.{Moment}
-use Rattle.tcp_state.specs.Pace.{pace_resent, pace_sent, pace_probed, pace_syn_again}
+use Rattle.tcp_state.specs.Resend.{resend_again, resend_sent, resend_probed, resend_syn_again}
 use Rattle.tcp_halves.specs.Stream.{outstanding, after_sent, receive_window}
 use Rattle.tcp_halves.specs.Windows.{open_window, sendable, next_count, is_worth_sending, has_grown, after_advertisement}
 use Rattle.tcp_state.specs.View.{View, is_opening, is_syn_sent, is_syn_received, is_closed, awaits_fin_ack}
@@ -111,12 +111,12 @@ after_ack_paid v = record v { receiving = after_advertisement v.receiving; owes_
 -- so many numbers from SND.UNA on went out before, in part at least: once more
 abbrev pub after_resent : View → ℕ → View
 after_resent v end = let sending = after_sent v.sending end in
-    record v { sending = sending; pace = pace_resent v.pace end (outstanding sending) }
+    record v { sending = sending; resend = resend_again v.resend end (outstanding sending) }
 
 -- .. or now for the first time
 abbrev pub after_first_sent : View → ℕ → Moment → View
 after_first_sent v end now = let sending = after_sent v.sending end in
-    record v { sending = sending; pace = pace_sent v.pace sending.nxt now }
+    record v { sending = sending; resend = resend_sent v.resend sending.nxt now }
 
 -- what begins below SND.NXT went out before
 abbrev pub after_numbers : View → ℕ → ℕ → Moment → View
@@ -124,7 +124,7 @@ after_numbers v offset end now = if nat_lt offset (outstanding v.sending) then a
 
 -- new octets that go out end the wait for more
 abbrev pub after_new_octets : View → View
-after_new_octets v = record v { pace = record v.pace { overridden = false }; timers = record v.timers { overriding = None } }
+after_new_octets v = record v { resend = record v.resend { overridden = false }; timers = record v.timers { overriding = None } }
 
 abbrev pub brings_new_octets : View → Stretch → Bool
 brings_new_octets v stretch = nat_lt 0 stretch.count && not (nat_lt stretch.offset (outstanding v.sending))
@@ -137,11 +137,11 @@ after_stretch v stretch now =
 abbrev pub after_probe : View → View
 after_probe v =
     let stretch = probe_stretch v in
-    let sent = record v { sending = after_sent v.sending (end_of stretch); pace = pace_probed v.pace } in
+    let sent = record v { sending = after_sent v.sending (end_of stretch); resend = resend_probed v.resend } in
     if brings_new_octets v stretch then after_new_octets sent else sent
 
 abbrev pub after_syn_again : View → View
-after_syn_again v = record v { pace = pace_syn_again v.pace }
+after_syn_again v = record v { resend = resend_syn_again v.resend }
 
 abbrev pub after_syn_out : View → Moment → View
 after_syn_out v now = let sent = after_numbers v 0 1 now in if nat_lt 0 (outstanding v.sending) then after_syn_again sent else sent
@@ -196,7 +196,7 @@ again_from v (Some mark) = if goes_again v mark then Some (Text (again v mark)) 
 
 -- new octets: both windows take some, and they are worth a segment
 abbrev pub sends_new : View → Bool
-sends_new v = nat_lt 0 (sendable v.sending v.congestion.cwnd) && is_worth_sending v.sending v.congestion.cwnd v.pace.overridden
+sends_new v = nat_lt 0 (sendable v.sending v.congestion.cwnd) && is_worth_sending v.sending v.congestion.cwnd v.resend.overridden
 
 abbrev pub new_octets : View → Stretch
 new_octets v = record { offset = outstanding v.sending; count = next_count v.sending v.congestion.cwnd; fin = false }
@@ -213,7 +213,7 @@ abbrev pub new_due : View → Option Due
 new_due v =
     if sends_new v then Some (Text (new_octets v))
     else if sends_fin v then Some (Text (fin_alone v))
-    else if v.pace.owes_probe && probes v then Some Probe
+    else if v.resend.owes_probe && probes v then Some Probe
     else ack_due v
 
 -- The reset of an abort is first, and after it nothing. While the connection opens, its SYN is due until it went out, and again where a mark stands before it. Later, what goes out again is before what
@@ -221,5 +221,5 @@ new_due v =
 abbrev pub first_due : View → Option Due
 first_due v =
     if v.owes_reset then Some Rst
-    else if is_opening v.state then (if (outstanding v.sending == 0) || is_some v.pace.mark then Some Syn else ack_due v)
-    else option_or (again_from v v.pace.mark) (new_due v)
+    else if is_opening v.state then (if (outstanding v.sending == 0) || is_some v.resend.mark then Some Syn else ack_due v)
+    else option_or (again_from v v.resend.mark) (new_due v)

@@ -2,8 +2,8 @@ pub use Rattle.tcp_halves.specs.Numbers
 pub use Rattle.tcp_halves.specs.Halves
 pub use Rattle.tcp_halves.specs.Stream
 pub use Rattle.tcp_halves.specs.Windows
-pub mod Pace
-pub mod PaceInside
+pub mod Resend
+pub mod ResendInside
 pub mod View
 pub mod Congestion
 pub mod Timing

@@ -8,9 +8,9 @@ use Rattle.congestion.specs.Events.Event.{Expiry}
 use Rattle.tcp_state.specs.declared.calls.Refusal.TheVariants.{ETIMEDOUT}
 use Rattle.tcp_state.specs.declared.connection.Fate.{Fate}
 use Rattle.tcp_state.specs.declared.connection.Fate.TheVariants.{Stays, Removed}
-use Rattle.tcp_state.specs.declared.pace.TheConstants.{MOST_EXPIRIES}
+use Rattle.tcp_state.specs.declared.resend.TheConstants.{MOST_EXPIRIES}
 use Rattle.tcp_state.specs.declared.timing.TheConstants.{DELAYED_ACK, OVERRIDE}
-use Rattle.tcp_state.specs.Pace.{pace_expired, pace_probes}
+use Rattle.tcp_state.specs.Resend.{resend_expired, resend_probes}
 use Rattle.tcp_halves.specs.Stream.{outstanding}
 use Rattle.tcp_halves.specs.Windows.{waits_for_more}
 use Rattle.tcp_state.specs.View.{View, is_opening, is_syn_received, is_closed, awaits_fin_ack, ends_at, is_at_end, after_stop, after_reset}
@@ -35,7 +35,7 @@ awaits_second v = v.delays_ack && not v.owes_ack
 
 -- new octets wait for more (section 3.8.6.2.1)
 abbrev pub awaits_more : View → Bool
-awaits_more v = not (is_opening v.state) && waits_for_more v.sending v.congestion.cwnd v.pace.overridden
+awaits_more v = not (is_opening v.state) && waits_for_more v.sending v.congestion.cwnd v.resend.overridden
 
 -- it goes on where it runs, and else begins
 abbrev pub running : Option Moment → Moment → ℕ → Option Moment
@@ -45,11 +45,11 @@ running None now milliseconds = Some (after now milliseconds)
 -- it starts with the first number that is outstanding, and anew where SND.UNA moved (RFC 6298 sections 5.1 to 5.3)
 abbrev pub retransmission_timer : View → Bool → Moment → Option Moment
 retransmission_timer v moved now =
-    if retransmits v then running (if moved then None else v.timers.retransmission) now v.pace.timeout.rto else None
+    if retransmits v then running (if moved then None else v.timers.retransmission) now v.resend.timeout.rto else None
 
 -- the first wait is the retransmission timeout
 abbrev pub probe_timer : View → Moment → Option Moment
-probe_timer v now = if probes v then running v.timers.probe now v.pace.timeout.rto else None
+probe_timer v now = if probes v then running v.timers.probe now v.resend.timeout.rto else None
 
 abbrev pub delayed_ack_timer : View → Moment → Option Moment
 delayed_ack_timer v now = if awaits_second v then running v.timers.delayed_ack now DELAYED_ACK else None
@@ -60,12 +60,12 @@ override_timer v now = if awaits_more v then running v.timers.overriding now OVE
 
 -- the wait of the probe timer that doesn't go on is the timeout
 abbrev pub interval_of : View → ℕ
-interval_of v = if probes v && is_some v.timers.probe then v.pace.interval else v.pace.timeout.rto
+interval_of v = if probes v && is_some v.timers.probe then v.resend.interval else v.resend.timeout.rto
 
 -- At the end of each event its timers run, stop or begin as the connection wants them, and no probe is due of a window that is open. `moved` tells whether the event moved SND.UNA.
 abbrev pub clocked : Bool → View → Moment → View
 clocked moved v now = record v {
-  pace = record v.pace { interval = interval_of v; owes_probe = v.pace.owes_probe && probes v };
+  resend = record v.resend { interval = interval_of v; owes_probe = v.resend.owes_probe && probes v };
   timers = record {
     retransmission = retransmission_timer v moved now;
     probe = probe_timer v now;
@@ -80,8 +80,8 @@ pub record KeepsTime (v : View) : Type 0 where
   pub probe : is_some v.timers.probe ≡ probes v
   pub delayed_ack : is_some v.timers.delayed_ack ≡ awaits_second v
   pub overriding : awaits_more v ≡ true → is_some v.timers.overriding ≡ true
-  pub interval : is_some v.timers.probe ≡ false → v.pace.interval ≡ v.pace.timeout.rto
-  pub owed : v.pace.owes_probe ≡ true → probes v ≡ true
+  pub interval : is_some v.timers.probe ≡ false → v.resend.interval ≡ v.resend.timeout.rto
+  pub owed : v.resend.owes_probe ≡ true → probes v ≡ true
   pub closed : is_closed v.state ≡ true → v.timers.overriding ≡ None
 
 -- What a tick does.
@@ -92,18 +92,18 @@ expires v now = has_come v.timers.retransmission now || has_come v.timers.probe 
 
 -- it expired as often as it may without progress: the next expiry ends the connection (RFC 9293 section 3.8.3)
 abbrev pub gives_up : View → Moment → Bool
-gives_up v now = expires v now && nat_le MOST_EXPIRIES v.pace.expiries
+gives_up v now = expires v now && nat_le MOST_EXPIRIES v.resend.expiries
 
 -- what is outstanding counts as lost, and the congestion window begins again with one segment (RFC 5681 section 3.1)
 abbrev pub retransmission_expired : View → View
 retransmission_expired v = record v {
-  pace = pace_expired v.pace (outstanding v.sending);
+  resend = resend_expired v.resend (outstanding v.sending);
   timers = record v.timers { retransmission = None };
   congestion = after_event v.congestion (Expiry (outstanding v.sending));
 }
 
 abbrev pub probe_expired : View → Moment → View
-probe_expired v now = let pace = pace_probes v.pace in record v { pace = pace; timers = record v.timers { probe = Some (after now pace.interval) } }
+probe_expired v now = let resend = resend_probes v.resend in record v { resend = resend; timers = record v.timers { probe = Some (after now resend.interval) } }
 
 abbrev pub after_expiry : View → Moment → View
 after_expiry v now =
@@ -116,7 +116,7 @@ delayed_ack_expired v now = if has_come v.timers.delayed_ack now then record v {
 
 abbrev pub override_expired : View → Moment → View
 override_expired v now =
-    if has_come v.timers.overriding now then record v { pace = record v.pace { overridden = true }; timers = record v.timers { overriding = None } } else v
+    if has_come v.timers.overriding now then record v { resend = record v.resend { overridden = true }; timers = record v.timers { overriding = None } } else v
 
 -- each timer acts whose moment has come, once
 abbrev pub after_timers : View → Moment → View
@@ -132,7 +132,7 @@ after_tick v now =
 
 -- what a timer that acted left to be done: something goes out again, a probe or an acknowledgement goes out, or new octets wait no longer
 abbrev pub wants_out : View → Bool
-wants_out v = is_some v.pace.mark || v.pace.owes_probe || v.owes_ack || v.pace.overridden
+wants_out v = is_some v.resend.mark || v.resend.owes_probe || v.owes_ack || v.resend.overridden
 
 -- taken out is what its caller closed, and what a listener opened and is not established
 abbrev pub tick_fate : View → Moment → Fate

@@ -12,7 +12,7 @@ use Rattle.tcp_state.specs.declared.calls.Refusal.{Refusal}
 use Rattle.retransmit.specs.declared.timers.Timers.{Timers}
 use Rattle.congestion.specs.Window.{Window, initial_window}
 use Rattle.retransmit.specs.Deadlines.{no_timers}
-use Rattle.tcp_state.specs.Pace.{Pace, IsPaced, first_pace, stopped}
+use Rattle.tcp_state.specs.Resend.{Resend, IsSoundResend, first_resend, stopped}
 use Rattle.std.specs.Option.{ForSome}
 use Rattle.tcp_halves.specs.Halves.{Sending, Receiving}
 use Rattle.stream_buf.specs.Receiving.{IsReceiving}
@@ -31,7 +31,7 @@ pub record View : Type 0 where
   -- octets came since the last acknowledgement went out, and theirs may wait
   pub delays_ack : Bool
   -- what goes out again, and what is measured
-  pub pace : Pace
+  pub resend : Resend
   -- the deadlines of its timers
   pub timers : Timers
   -- the congestion window: how much the network takes
@@ -125,7 +125,7 @@ after_stop v = record v {
   sending = record v.sending { held = []; una = v.sending.nxt };
   owes_ack = false;
   delays_ack = false;
-  pace = stopped v.pace;
+  resend = stopped v.resend;
   timers = no_timers;
 }
 
@@ -156,7 +156,7 @@ opened_actively local peer isn = record {
   receiving = receiving_nothing;
   owes_ack = false;
   delays_ack = false;
-  pace = first_pace;
+  resend = first_resend;
   timers = no_timers;
   congestion = first_congestion;
   pending_error = None;
@@ -188,8 +188,8 @@ pub record IsSound (v : View) : Type 0 where
   pub buffer : IsReceiving (buffer_of v.receiving)
   pub kept : KeptInWindow v.receiving
   pub flight : outstanding v.sending ≤ most_outstanding v
-  pub mark : ForSome v.pace.mark (λ distance. distance < outstanding v.sending)
-  pub pace : IsPaced v.pace
+  pub mark : ForSome v.resend.mark (λ distance. distance < outstanding v.sending)
+  pub resend : IsSoundResend v.resend
   pub connection : is_listening v.state ≡ false
   pub segment : v.sending.smss ≤ MSS
   pub segment_least : LEAST_MSS ≤ v.sending.smss

@@ -2,13 +2,13 @@
 
 ghost use Rattle.std.specs.Prelude.{◌≡◌, ◌≤◌, ◌-◌, [], length, true, false, ◌&&◌, ◌||◌, not, if◌then◌else◌, IsTrue, ◌==◌};
 ghost use Rattle.tcp_state.specs.View.{is_opening, is_syn_sent, is_syn_received, is_closed, awaits_fin_ack, after_reset};
-ghost use Rattle.tcp_state.specs.Arrival.{after_segment, after_syn_ack, owing_ack, after_establishment, after_ack, is_read_on, after_window, after_text, after_acknowledging_segment, after_acceptable_segment, ends_by_syn, is_acceptable_to, fin_acknowledged, after_new_ack, after_fin, reset_error, after_rst_in_syn_sent, after_rst, is_acting_reset, ends_by_reset, is_right_syn_ack, is_simultaneous_syn, after_simultaneous_syn, fate, after_segment_at, after_heard, is_lost, is_read, brings_more, after_lost, repeats_fin, is_rejected, ends_opening, is_of_fin, may_delay, answers_probe, is_duplicate, before, is_moved, pace_heard, congestion_event_of, tells_loss, congestion_after, timed_by, begins_wait};
+ghost use Rattle.tcp_state.specs.Arrival.{after_segment, after_syn_ack, owing_ack, after_establishment, after_ack, is_read_on, after_window, after_text, after_acknowledging_segment, after_acceptable_segment, ends_by_syn, is_acceptable_to, fin_acknowledged, after_new_ack, after_fin, reset_error, after_rst_in_syn_sent, after_rst, is_acting_reset, ends_by_reset, is_right_syn_ack, is_simultaneous_syn, after_simultaneous_syn, fate, after_segment_at, after_heard, is_lost, is_read, brings_more, after_lost, repeats_fin, is_rejected, ends_opening, is_of_fin, may_delay, answers_probe, is_duplicate, before, is_moved, resend_heard, congestion_event_of, tells_loss, congestion_after, timed_by, begins_wait};
 ghost use Rattle.tcp_state.specs.declared.state.State.{State};
 ghost use Rattle.tcp_segment.specs.Segment.{smss_of};
 ghost use Rattle.tcp_segment.specs.Wire.{past};
 ghost use Rattle.tcp_halves.specs.Stream.{outstanding, is_new_ack, after_syn};
 ghost use Rattle.tcp_halves.specs.Windows.{after_syn_heard};
-ghost use Rattle.tcp_state.specs.Pace.{pace_lost};
+ghost use Rattle.tcp_state.specs.Resend.{resend_lost};
 ghost use Rattle.congestion.specs.Window.{initial_window};
 ghost use Rattle.congestion.specs.Events.{after_event};
 ghost use Rattle.congestion.specs.Events.Event.{NewAck};
@@ -112,13 +112,13 @@ impl Connection {
     /// A segment that moved SND.UNA is progress, and so is one that answers a probe.
     fn note_progress(&mut self, before: Before, moved: bool, now: Moment)
         requires { moved ≡ is_moved before self.old }
-        ensures { self.new ≡ record self.old { pace = pace_heard before self.old now } }
+        ensures { self.new ≡ record self.old { resend = resend_heard before self.old now } }
     {
         if moved {
-            self.pace
+            self.resend
                 .acknowledge(self.sender.una(), before.state.is_opening(), now);
         } else if before.answers_probe {
-            self.pace.progress();
+            self.resend.progress();
         }
     }
 
@@ -126,7 +126,7 @@ impl Connection {
     fn note_signal(&mut self, before: Before, moved: bool)
         requires { moved ≡ is_moved before self.old }
         ensures { self.new ≡ record self.old {
-          pace = if tells_loss (congestion_event_of before self.old) self.old.congestion then pace_lost self.old.pace (outstanding self.old.sending) else self.old.pace;
+          resend = if tells_loss (congestion_event_of before self.old) self.old.congestion then resend_lost self.old.resend (outstanding self.old.sending) else self.old.resend;
           congestion = congestion_after before self.old;
         } }
     {
@@ -136,16 +136,16 @@ impl Connection {
         if moved {
             self.note_acknowledged(before);
         } else if before.is_duplicate && self.congestion.duplicate(self.sender.outstanding()) {
-            self.pace.mark_lost(self.sender.outstanding());
+            self.resend.mark_lost(self.sender.outstanding());
         }
     }
 
     /// The congestion window begins where our SYN is acknowledged, and else takes the octets that are.
     fn note_acknowledged(&mut self, before: Before)
-        ensures { self.new ≡ record self.old { congestion = if is_opening before.state then initial_window self.old.sending.smss self.old.pace.syn_resent else after_event self.old.congestion (NewAck (before.held - length self.old.sending.held)) } }
+        ensures { self.new ≡ record self.old { congestion = if is_opening before.state then initial_window self.old.sending.smss self.old.resend.syn_resent else after_event self.old.congestion (NewAck (before.held - length self.old.sending.held)) } }
     {
         if before.state.is_opening() {
-            self.congestion = Cwnd::new(self.sender.smss() as u16, self.pace.is_syn_resent());
+            self.congestion = Cwnd::new(self.sender.smss() as u16, self.resend.is_syn_resent());
         } else {
             let left = self.sender.held_len() as u32;
             self.congestion.acked(before.held.saturating_sub(left));
@@ -361,7 +361,7 @@ impl Connection {
     {
         let was_sent = self.sender.outstanding() != 0;
         self.take_syn(segment, if was_sent { CAPACITY as u16 } else { 0 });
-        self.pace.mark_all(self.sender.outstanding());
+        self.resend.mark_all(self.sender.outstanding());
     }
 
     /// Takes what the peer's SYN says, which leads to SYN-RECEIVED. Our SYN advertised a window of so many octets to it.
@@ -383,7 +383,7 @@ impl Connection {
         self.take_syn(segment, CAPACITY as u16);
         self.sender.acknowledge_syn();
         self.state = State::Established;
-        self.pace.unmark();
+        self.resend.unmark();
         self.owes_ack = true;
     }
 
@@ -452,7 +452,7 @@ impl Connection {
     {
         let gained = acknowledgement.past(self.sender.una());
         self.sender.acknowledge(acknowledgement);
-        self.pace.move_mark(gained, self.sender.outstanding());
+        self.resend.move_mark(gained, self.sender.outstanding());
     }
 
     /// Our FIN is acknowledged, and all octets before it.
@@ -466,7 +466,7 @@ impl Connection {
         if self.state == State::Closed {
             self.owes_ack = false;
             self.delays_ack = false;
-            self.pace.stop();
+            self.resend.stop();
             self.timers = Timers::new();
         }
     }
@@ -478,7 +478,7 @@ impl Connection {
     {
         self.sender.acknowledge_syn();
         self.state = State::Established;
-        self.pace.unmark();
+        self.resend.unmark();
     }
 
     /// Takes the octets, those ahead of a gap to be kept, and owes an ACK for any, at once or later.

@@ -5,7 +5,7 @@ ghost use Rattle.tcp_state.specs.View.{View, IsSound, opened_actively, is_over, 
 ghost use Rattle.tcp_state.specs.Arrival.{opened_passively};
 
 use crate::calls::Refusal;
-use crate::pace::Pace;
+use crate::resend::Resend;
 use crate::state::State;
 use clock::Moment;
 use congestion::Cwnd;
@@ -48,7 +48,7 @@ pub struct Connection {
     /// Whether octets came since the last acknowledgement went out, so that one is due at a second segment or after a while.
     pub(crate) delays_ack: bool,
     /// What goes out again, and what is measured of a round trip.
-    pub(crate) pace: Pace,
+    pub(crate) resend: Resend,
     /// When each of its timers expires.
     pub(crate) timers: Timers,
     /// How many octets the network takes at once.
@@ -90,7 +90,7 @@ impl Connection {
             receiver,
             owes_ack: false,
             delays_ack: false,
-            pace: Pace::new(),
+            resend: Resend::new(),
             timers: Timers::new(),
             congestion: Cwnd::new(DEFAULT_MSS, false),
             pending_error: None,

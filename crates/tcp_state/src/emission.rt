@@ -75,10 +75,10 @@ impl Connection {
     /// What is due first while the connection opens.
     fn opening_due(&self) -> Option<Due>
         requires { is_opening self.now.state ≡ true }
-        ensures first { result ≡ (if (outstanding self.now.sending == 0) || is_some self.now.pace.mark then Some Due.Syn else ack_due self.now) }
+        ensures first { result ≡ (if (outstanding self.now.sending == 0) || is_some self.now.resend.mark then Some Due.Syn else ack_due self.now) }
         ensures may { IfSome result (MayGoOut self.now) }
     {
-        if self.sender.outstanding() == 0 || self.pace.mark().is_some() {
+        if self.sender.outstanding() == 0 || self.resend.mark().is_some() {
             return Some(Due::Syn);
         }
         self.ack_due()
@@ -98,10 +98,10 @@ impl Connection {
     /// What goes out again from the resend mark on, within both windows.
     fn again_due(&self) -> Option<Due>
         requires { is_opening self.now.state ≡ false }
-        ensures first { result ≡ again_from self.now self.now.pace.mark }
+        ensures first { result ≡ again_from self.now self.now.resend.mark }
         ensures may { IfSome result (MayGoOut self.now) }
     {
-        let mark = self.pace.mark()?;
+        let mark = self.resend.mark()?;
         self.goes_again(mark).then_some(Due::Text(self.again(mark)))
     }
 
@@ -144,7 +144,7 @@ impl Connection {
         if self.sends_fin() {
             return Some(Due::Text(self.fin_alone()));
         }
-        if self.pace.owes_probe() && self.probes() {
+        if self.resend.owes_probe() && self.probes() {
             return Some(self.probe());
         }
         self.ack_due()
@@ -158,7 +158,7 @@ impl Connection {
         self.sender.sendable(cwnd) > 0
             && self
                 .sender
-                .is_worth_sending(cwnd, self.pace.is_overridden())
+                .is_worth_sending(cwnd, self.resend.is_overridden())
     }
 
     /// The new octets of the next segment.
@@ -397,7 +397,7 @@ impl Connection {
         let is_again = self.sender.outstanding() > 0;
         self.note_numbers(0, 1, now);
         if is_again {
-            self.pace.note_syn_again();
+            self.resend.note_syn_again();
         }
     }
 
@@ -438,7 +438,7 @@ impl Connection {
     {
         let is_new = self.brings_new_octets(self.probe_stretch());
         self.sender.sent(1);
-        self.pace.note_probe();
+        self.resend.note_probe();
         if is_new {
             self.end_override();
         }
@@ -448,7 +448,7 @@ impl Connection {
     fn end_override(&mut self)
         ensures { self.new ≡ after_new_octets self.old }
     {
-        self.pace.end_override();
+        self.resend.end_override();
         self.timers.clear(TimerKind::Override);
     }
 
@@ -462,9 +462,9 @@ impl Connection {
         let is_new = self.sender.outstanding() <= offset;
         self.sender.sent(end);
         if is_new {
-            self.pace.note_sent(self.sender.nxt(), now);
+            self.resend.note_sent(self.sender.nxt(), now);
         } else {
-            self.pace.note_resent(end, self.sender.outstanding());
+            self.resend.note_resent(end, self.sender.outstanding());
         }
     }
 

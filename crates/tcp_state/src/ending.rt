@@ -48,7 +48,7 @@ impl Connection {
         self.sender.abandon();
         self.owes_ack = false;
         self.delays_ack = false;
-        self.pace.stop();
+        self.resend.stop();
         self.timers = Timers::new();
     }
 

@@ -24,7 +24,7 @@ ghost use Rattle.tcp_halves.specs.Windows.{updates_window};
 ghost use Rattle.tcp_state.specs.Positions.{ReceivesAt, IsNear, MeetsWindow, AreNear, brought, known_at, places_after, takes_octets, kept_with, AreFree, NeverBack, HasNumber, HasToSend, takes_numbers};
 ghost use Rattle.retransmit.specs.declared.timers.TimerKind.{TimerKind};
 ghost use Rattle.retransmit.specs.Deadlines.{deadline_of};
-ghost use Rattle.tcp_state.specs.declared.pace.Timed.{Timed};
+ghost use Rattle.tcp_state.specs.declared.resend.Timed.{Timed};
 ghost use Rattle.tcp_state.specs.declared.emission.Stretch.{Stretch};
 ghost use Rattle.tcp_state.specs.Timing.{KeepsTime, probes, expires, wants_out, after_tick, deadline};
 ghost use Rattle.congestion.specs.Window.{is_recovering, third_is_next};
@@ -229,7 +229,7 @@ pub fn the_congestion_window_is_kept()
 /// Each event of a connection is one event of its congestion window, or none (RFC 5681 sections 3.1 and 3.2): an ACK of new octets, a duplicate one, or the expiry of the retransmission timer. The window begins
 /// where our SYN is acknowledged: with one segment where that expired and went out again.
 pub fn the_congestion_window_moves_by_events()
-    ensures { (v : View) (e : Event) → (after_event v e).congestion ≡ after_signal v.congestion (congestion_event_by v e) (after_event v e).sending.smss (after_event v e).pace.syn_resent }
+    ensures { (v : View) (e : Event) → (after_event v e).congestion ≡ after_signal v.congestion (congestion_event_by v e) (after_event v e).sending.smss (after_event v e).resend.syn_resent }
 {}
 
 /// A segment raises the congestion window by one segment at most, where it begins and ends no recovery (RFC 5681 section 3.1).
@@ -241,34 +241,34 @@ pub fn one_segment_raises_the_window_by_one()
 /// The third duplicate ACK in a row, and no other segment, sends the segment at SND.UNA again, and that alone (RFC 5681 section 3.2).
 pub fn the_third_duplicate_resends()
     ensures third { (v : View) (s : Segment) (now : Moment) → IsSound v → is_closed v.state ≡ false → is_duplicate v s ≡ true → third_is_next v.congestion ≡ true
-        → (first_due (after_segment_at v s now) ≡ Some (Due.Text (again (after_segment_at v s now) 0))) × ((after_segment_at v s now).pace.once ≡ true) }
-    ensures others { (v : View) (s : Segment) (now : Moment) → IsSound v → v.pace.mark ≡ None → is_opening v.state ≡ false → is_duplicate v s && third_is_next v.congestion ≡ false
-        → (after_segment_at v s now).pace.mark ≡ None }
-    ensures alone { (v : View) (stretch : Stretch) (now : Moment) → v.pace.once ≡ true → nat_lt stretch.offset (outstanding v.sending) ≡ true
-        → (after_emitted v (Due.Text stretch) now).pace.mark ≡ None }
+        → (first_due (after_segment_at v s now) ≡ Some (Due.Text (again (after_segment_at v s now) 0))) × ((after_segment_at v s now).resend.once ≡ true) }
+    ensures others { (v : View) (s : Segment) (now : Moment) → IsSound v → v.resend.mark ≡ None → is_opening v.state ≡ false → is_duplicate v s && third_is_next v.congestion ≡ false
+        → (after_segment_at v s now).resend.mark ≡ None }
+    ensures alone { (v : View) (stretch : Stretch) (now : Moment) → v.resend.once ≡ true → nat_lt stretch.offset (outstanding v.sending) ≡ true
+        → (after_emitted v (Due.Text stretch) now).resend.mark ≡ None }
 {}
 
 /// The resend mark keeps its number (RFC 6298 section 5.4): an acknowledgement that moves SND.UNA brings it as much nearer to that, or to it, and takes it away only where nothing is outstanding past it.
 /// The third duplicate ACK alone puts it back.
 pub fn the_mark_keeps_its_number()
-    ensures stays { (v : View) (s : Segment) (now : Moment) (distance left : ℕ) → IsSound v → is_opening v.state ≡ false → (is_duplicate v s && third_is_next v.congestion) ≡ false → v.pace.mark ≡ Some distance
-        → is_closed (after_segment_at v s now).state ≡ false → (after_segment_at v s now).pace.mark ≡ Some left → left ≡ distance - past (after_segment_at v s now).sending.una v.sending.una }
-    ensures goes { (v : View) (s : Segment) (now : Moment) (distance : ℕ) → IsSound v → is_opening v.state ≡ false → (is_duplicate v s && third_is_next v.congestion) ≡ false → v.pace.mark ≡ Some distance
-        → is_closed (after_segment_at v s now).state ≡ false → (after_segment_at v s now).pace.mark ≡ None → outstanding (after_segment_at v s now).sending ≤ distance - past (after_segment_at v s now).sending.una v.sending.una }
+    ensures stays { (v : View) (s : Segment) (now : Moment) (distance left : ℕ) → IsSound v → is_opening v.state ≡ false → (is_duplicate v s && third_is_next v.congestion) ≡ false → v.resend.mark ≡ Some distance
+        → is_closed (after_segment_at v s now).state ≡ false → (after_segment_at v s now).resend.mark ≡ Some left → left ≡ distance - past (after_segment_at v s now).sending.una v.sending.una }
+    ensures goes { (v : View) (s : Segment) (now : Moment) (distance : ℕ) → IsSound v → is_opening v.state ≡ false → (is_duplicate v s && third_is_next v.congestion) ≡ false → v.resend.mark ≡ Some distance
+        → is_closed (after_segment_at v s now).state ≡ false → (after_segment_at v s now).resend.mark ≡ None → outstanding (after_segment_at v s now).sending ≤ distance - past (after_segment_at v s now).sending.una v.sending.una }
 {}
 
 /// What goes out again, or as a probe, is measured no longer (RFC 6298 section 3, Karn's algorithm).
 pub fn resent_segments_are_not_timed()
-    ensures { (v : View) (due : Due) (now : Moment) → MayGoOut v due → sends_again v due ≡ true → (after_emitted v due now).pace.timed ≡ None }
+    ensures { (v : View) (due : Due) (now : Moment) → MayGoOut v due → sends_again v due ≡ true → (after_emitted v due now).resend.timed ≡ None }
 {}
 
 /// One round trip is measured at a time, and each once: a sample is taken only of the segment that is measured, which then is measured no longer; and what is measured next is what goes out next with
 /// new numbers (RFC 6298 section 3).
 pub fn rounds_are_measured_once()
-    ensures sampled { (v : View) (e : Event) → ((after_event v e).pace.timeout.estimate ≡ v.pace.timeout.estimate)
-        ⊎ ((is_some v.pace.timed ≡ true) × ((after_event v e).pace.timed ≡ None)) }
-    ensures begins { (v : View) (e : Event) (timed : Timed) → (after_event v e).pace.timed ≡ Some timed
-        → (v.pace.timed ≡ Some timed) ⊎ ((v.pace.timed ≡ None) × (moment_of e ≡ Some timed.since) × (first_due v ≢ None) × (timed.end.0 ≡ (after_event v e).sending.nxt)) }
+    ensures sampled { (v : View) (e : Event) → ((after_event v e).resend.timeout.estimate ≡ v.resend.timeout.estimate)
+        ⊎ ((is_some v.resend.timed ≡ true) × ((after_event v e).resend.timed ≡ None)) }
+    ensures begins { (v : View) (e : Event) (timed : Timed) → (after_event v e).resend.timed ≡ Some timed
+        → (v.resend.timed ≡ Some timed) ⊎ ((v.resend.timed ≡ None) × (moment_of e ≡ Some timed.since) × (first_due v ≢ None) × (timed.end.0 ≡ (after_event v e).sending.nxt)) }
 {}
 
 /// An error that tells that a segment can't be delivered ends the connection in SYN-SENT whose SYN is that segment and has gone out, and no other (RFC 1122 section
@@ -319,17 +319,17 @@ pub fn what_goes_out_again_went_out_before()
         → (after_event v (Event.Emits now)).sending.nxt ≡ v.sending.nxt }
     ensures within { (v : View) (stretch : Stretch) → first_due v ≡ Some (Due.Text stretch) → stretch.offset < outstanding v.sending
         → (stretch.offset ≡ 0) ⊎ ((stretch.offset < v.sending.window) × (stretch.offset < v.congestion.cwnd)) }
-    ensures moves_on { (v : View) (stretch : Stretch) (now : Moment) → IsSound v → v.pace.once ≡ false → first_due v ≡ Some (Due.Text stretch) → stretch.offset < outstanding v.sending
-        → (after_event v (Event.Emits now)).pace.mark ≡ (if nat_lt (end_of stretch) (outstanding v.sending) then Some (end_of stretch) else None) }
+    ensures moves_on { (v : View) (stretch : Stretch) (now : Moment) → IsSound v → v.resend.once ≡ false → first_due v ≡ Some (Due.Text stretch) → stretch.offset < outstanding v.sending
+        → (after_event v (Event.Emits now)).resend.mark ≡ (if nat_lt (end_of stretch) (outstanding v.sending) then Some (end_of stretch) else None) }
 {}
 
 /// A segment of new octets that isn't full waits for what is outstanding (Nagle, RFC 1122 section 4.2.3.4). Where nothing is, it takes all that is held, or is half of the largest window that the peer ever
 /// advertised (RFC 9293 section 3.8.6.2.1). The wait is over otherwise only by the clock, at the deadline of the override,
 /// 500 ms after the event by which that began.
 pub fn small_segments_wait()
-    ensures waits { (v : View) (stretch : Stretch) → IsSound v → first_due v ≡ Some (Due.Text stretch) → outstanding v.sending ≤ stretch.offset → 0 < stretch.count → stretch.count < v.sending.smss → v.pace.overridden ≡ false
+    ensures waits { (v : View) (stretch : Stretch) → IsSound v → first_due v ≡ Some (Due.Text stretch) → outstanding v.sending ≤ stretch.offset → 0 < stretch.count → stretch.count < v.sending.smss → v.resend.overridden ≡ false
         → (outstanding v.sending ≡ 0) × ((stretch.count ≡ length v.sending.held) ⊎ (v.sending.largest ≤ 2 * stretch.count)) }
-    ensures overridden { (v : View) (e : Event) → v.pace.overridden ≡ false → (after_event v e).pace.overridden ≡ true → (now : Moment) × (e ≡ Event.Ticks now) × (has_come v.timers.overriding now ≡ true) }
+    ensures overridden { (v : View) (e : Event) → v.resend.overridden ≡ false → (after_event v e).resend.overridden ≡ true → (now : Moment) × (e ≡ Event.Ticks now) × (has_come v.timers.overriding now ≡ true) }
     ensures begins { (v : View) (e : Event) (deadline : Moment) → v.timers.overriding ≡ None → (after_event v e).timers.overriding ≡ Some deadline → (now : Moment) × (moment_of e ≡ Some now) × (deadline ≡ after now 500) }
 {}
 
@@ -363,9 +363,9 @@ pub fn windows_are_told_in_whole_steps()
 /// begins: for the timeout, from that moment on. No other event moves it while it runs, but a tick that has come to it.
 pub fn new_acknowledgements_restart_the_timer()
     ensures restarts { (v : View) (s : Segment) (now : Moment) → (after_event v (Event.Hears s now)).sending.una ≢ v.sending.una → 0 < outstanding (after_event v (Event.Hears s now)).sending
-        → probes (after_event v (Event.Hears s now)) ≡ false → (after_event v (Event.Hears s now)).timers.retransmission ≡ Some (after now (after_event v (Event.Hears s now)).pace.timeout.rto) }
+        → probes (after_event v (Event.Hears s now)) ≡ false → (after_event v (Event.Hears s now)).timers.retransmission ≡ Some (after now (after_event v (Event.Hears s now)).resend.timeout.rto) }
     ensures begins { (v : View) (e : Event) (deadline : Moment) → v.timers.retransmission ≡ None → (after_event v e).timers.retransmission ≡ Some deadline
-        → (now : Moment) × (moment_of e ≡ Some now) × (deadline ≡ after now (after_event v e).pace.timeout.rto) }
+        → (now : Moment) × (moment_of e ≡ Some now) × (deadline ≡ after now (after_event v e).resend.timeout.rto) }
     ensures runs_on { (v : View) (e : Event) (was is : Moment) → is_closed (after_event v e).state ≡ false → v.timers.retransmission ≡ Some was → (after_event v e).timers.retransmission ≡ Some is
         → (is ≡ was) ⊎ (((after_event v e).sending.una ≢ v.sending.una) ⊎ ((now : Moment) × (e ≡ Event.Ticks now) × (was.0 ≤ now.0))) }
 {}
@@ -374,35 +374,35 @@ pub fn new_acknowledgements_restart_the_timer()
 /// and starts the timer anew for that (RFC 6298 sections 5.4 to 5.6).
 pub fn expiries_resend_from_una()
     ensures resends { (v : View) (now : Moment) → IsSound v → KeepsTime v → has_come v.timers.retransmission now ≡ true → is_closed (after_tick v now).state ≡ false
-        → ((after_tick v now).pace.mark ≡ Some 0) × ((after_tick v now).pace.once ≡ false) × ((first_due (after_tick v now) ≡ Some Due.Syn) ⊎ (first_due (after_tick v now) ≡ Some (Due.Text (again (after_tick v now) 0)))) }
+        → ((after_tick v now).resend.mark ≡ Some 0) × ((after_tick v now).resend.once ≡ false) × ((first_due (after_tick v now) ≡ Some Due.Syn) ⊎ (first_due (after_tick v now) ≡ Some (Due.Text (again (after_tick v now) 0)))) }
     ensures backs_off { (v : View) (now : Moment) → KeepsTime v → has_come v.timers.retransmission now ≡ true → is_closed (after_tick v now).state ≡ false
-        → (let timeout = min 60000 (2 * v.pace.timeout.rto) in ((after_tick v now).pace.timeout.rto ≡ timeout) × ((after_tick v now).timers.retransmission ≡ Some (after now timeout))) }
+        → (let timeout = min 60000 (2 * v.resend.timeout.rto) in ((after_tick v now).resend.timeout.rto ≡ timeout) × ((after_tick v now).timers.retransmission ≡ Some (after now timeout))) }
 {}
 
 /// The probe of a closed window (RFC 9293 section 3.8.6.1): the first waits for the timeout, and each further one twice as long as the one before, up to a minute. A probe leaves the timeout, the congestion
 /// window and the resend mark as they are.
 pub fn probes_wait_twice_as_long()
     ensures first { (v : View) (e : Event) (deadline : Moment) → v.timers.probe ≡ None → (after_event v e).timers.probe ≡ Some deadline
-        → ((after_event v e).pace.interval ≡ (after_event v e).pace.timeout.rto) × ((now : Moment) × (moment_of e ≡ Some now) × (deadline ≡ after now (after_event v e).pace.timeout.rto)) }
+        → ((after_event v e).resend.interval ≡ (after_event v e).resend.timeout.rto) × ((now : Moment) × (moment_of e ≡ Some now) × (deadline ≡ after now (after_event v e).resend.timeout.rto)) }
     ensures next { (v : View) (now : Moment) → KeepsTime v → has_come v.timers.probe now ≡ true → is_closed (after_tick v now).state ≡ false
-        → (let wait = min 60000 (2 * v.pace.interval) in ((after_tick v now).pace.interval ≡ wait) × ((after_tick v now).timers.probe ≡ Some (after now wait)) × ((after_tick v now).pace.owes_probe ≡ true)) }
+        → (let wait = min 60000 (2 * v.resend.interval) in ((after_tick v now).resend.interval ≡ wait) × ((after_tick v now).timers.probe ≡ Some (after now wait)) × ((after_tick v now).resend.owes_probe ≡ true)) }
     ensures alone { (v : View) (now : Moment) → KeepsTime v → has_come v.timers.probe now ≡ true → is_closed (after_tick v now).state ≡ false
-        → ((after_tick v now).pace.timeout ≡ v.pace.timeout) × ((after_tick v now).congestion ≡ v.congestion) × ((after_tick v now).pace.mark ≡ v.pace.mark) }
+        → ((after_tick v now).resend.timeout ≡ v.resend.timeout) × ((after_tick v now).congestion ≡ v.congestion) × ((after_tick v now).resend.mark ≡ v.resend.mark) }
     ensures runs_on { (v : View) (e : Event) (was is : Moment) → is_closed (after_event v e).state ≡ false → v.timers.probe ≡ Some was → (after_event v e).timers.probe ≡ Some is
-        → ((is ≡ was) × ((after_event v e).pace.interval ≡ v.pace.interval)) ⊎ ((now : Moment) × (e ≡ Event.Ticks now) × (was.0 ≤ now.0)) }
+        → ((is ≡ was) × ((after_event v e).resend.interval ≡ v.resend.interval)) ⊎ ((now : Moment) × (e ≡ Event.Ticks now) × (was.0 ≤ now.0)) }
 {}
 
 /// The clock ends a connection, but at the end of its wait, at the thirteenth expiry without progress and at no other (RFC 9293 section 3.8.3), and then every call reports ETIMEDOUT. Each expiry counts,
 /// and only progress begins the count anew: SND.UNA moved, or a peer whose window is closed acknowledged. Either always does: a peer that answers the probes of its closed window is never given up.
 pub fn the_thirteenth_expiry_ends()
     ensures ends { (v : View) (now : Moment) → IsSound v → is_closed v.state ≡ false → is_at_end v now ≡ false → is_closed (after_tick v now).state ≡ true
-        → (v.pace.expiries ≡ 12) × (expires v now ≡ true) × ((after_tick v now).pending_error ≡ Some Refusal.ETIMEDOUT) }
-    ensures thirteenth { (v : View) (now : Moment) → v.pace.expiries ≡ 12 → expires v now ≡ true → is_closed (after_tick v now).state ≡ true }
-    ensures each { (v : View) (now : Moment) → expires v now ≡ true → is_closed (after_tick v now).state ≡ false → (after_tick v now).pace.expiries ≡ v.pace.expiries + 1 }
-    ensures counted { (v : View) (e : Event) → ((after_event v e).pace.expiries ≡ v.pace.expiries)
-        ⊎ ((((after_event v e).pace.expiries ≡ 0) × (((after_event v e).sending.una ≢ v.sending.una) ⊎ (v.sending.window ≡ 0)))
-        ⊎ ((now : Moment) × (e ≡ Event.Ticks now) × (expires v now ≡ true) × ((after_event v e).pace.expiries ≡ v.pace.expiries + 1))) }
-    ensures progress { (v : View) (s : Segment) (now : Moment) → (after_event v (Event.Hears s now)).sending.una ≢ v.sending.una → (after_event v (Event.Hears s now)).pace.expiries ≡ 0 }
+        → (v.resend.expiries ≡ 12) × (expires v now ≡ true) × ((after_tick v now).pending_error ≡ Some Refusal.ETIMEDOUT) }
+    ensures thirteenth { (v : View) (now : Moment) → v.resend.expiries ≡ 12 → expires v now ≡ true → is_closed (after_tick v now).state ≡ true }
+    ensures each { (v : View) (now : Moment) → expires v now ≡ true → is_closed (after_tick v now).state ≡ false → (after_tick v now).resend.expiries ≡ v.resend.expiries + 1 }
+    ensures counted { (v : View) (e : Event) → ((after_event v e).resend.expiries ≡ v.resend.expiries)
+        ⊎ ((((after_event v e).resend.expiries ≡ 0) × (((after_event v e).sending.una ≢ v.sending.una) ⊎ (v.sending.window ≡ 0)))
+        ⊎ ((now : Moment) × (e ≡ Event.Ticks now) × (expires v now ≡ true) × ((after_event v e).resend.expiries ≡ v.resend.expiries + 1))) }
+    ensures progress { (v : View) (s : Segment) (now : Moment) → (after_event v (Event.Hears s now)).sending.una ≢ v.sending.una → (after_event v (Event.Hears s now)).resend.expiries ≡ 0 }
     ensures answered { (v : View) (s : Segment) (now : Moment) → is_closed v.state ≡ false → is_opening v.state ≡ false → v.sending.window ≡ 0 → is_acceptable_to v s ≡ true
-        → s.flags.ack ≡ true → s.flags.rst ≡ false → (after_event v (Event.Hears s now)).pace.expiries ≡ 0 }
+        → s.flags.ack ≡ true → s.flags.rst ≡ false → (after_event v (Event.Hears s now)).resend.expiries ≡ 0 }
 {}

@@ -8,13 +8,13 @@ mod connection;
 mod emission;
 mod ending;
 pub mod laws;
-mod pace;
+mod resend;
 mod state;
 mod timing;
 
 pub use calls::{Received, Refusal};
 pub use connection::{Connection, Fate};
 pub use emission::{Due, MOST_SEGMENT, Stretch};
-pub use pace::Timed;
+pub use resend::Timed;
 pub use state::State;
 pub use tcp_halves::{Buffers, CAPACITY};

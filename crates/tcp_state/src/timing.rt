@@ -7,7 +7,7 @@ ghost use Rattle.tcp_state.specs.Timing.{has_unacknowledged, probes, awaits_more
 
 use crate::calls::Refusal;
 use crate::connection::{Connection, Fate};
-use crate::pace::MOST_EXPIRIES;
+use crate::resend::MOST_EXPIRIES;
 use crate::state::State;
 use clock::{Moment, sooner};
 use retransmit::{TimerKind, Timers};
@@ -40,7 +40,7 @@ impl Connection {
         !self.state.is_opening()
             && self
                 .sender
-                .waits_for_more(self.congestion.window(), self.pace.is_overridden())
+                .waits_for_more(self.congestion.window(), self.resend.is_overridden())
     }
 
     /// At the end of an event: the timers run, stop or begin as the connection wants them. `moved` tells whether the event moved
@@ -51,9 +51,9 @@ impl Connection {
         let is_probing = self.probes();
         let retransmits = self.sender.outstanding() > 0 && !is_probing;
         let awaits_second = self.delays_ack && !self.owes_ack;
-        let timeout = u64::from(self.pace.timeout());
+        let timeout = u64::from(self.resend.timeout());
         self.start_override(now);
-        self.pace
+        self.resend
             .update_probing(is_probing, self.timers.probe.is_some());
         if moved {
             self.timers.clear(TimerKind::Retransmission);
@@ -118,7 +118,7 @@ impl Connection {
     {
         let expires = self.timers.due(TimerKind::Retransmission, now)
             || self.timers.due(TimerKind::Probe, now);
-        expires && MOST_EXPIRIES <= self.pace.expiries()
+        expires && MOST_EXPIRIES <= self.resend.expiries()
     }
 
     /// Lets each timer act whose moment has come, once.
@@ -138,12 +138,12 @@ impl Connection {
     {
         if self.timers.due(TimerKind::Retransmission, now) {
             let outstanding = self.sender.outstanding();
-            self.pace.expire(outstanding);
+            self.resend.expire(outstanding);
             self.timers.clear(TimerKind::Retransmission);
             self.congestion.timeout(outstanding);
         } else if self.timers.due(TimerKind::Probe, now) {
-            self.pace.probe();
-            let deadline = now.after(u64::from(self.pace.interval()));
+            self.resend.probe();
+            let deadline = now.after(u64::from(self.resend.interval()));
             self.timers.set(TimerKind::Probe, deadline);
         }
     }
@@ -162,7 +162,7 @@ impl Connection {
         ensures { self.new ≡ override_expired self.old now }
     {
         if self.timers.due(TimerKind::Override, now) {
-            self.pace.begin_override();
+            self.resend.begin_override();
             self.timers.clear(TimerKind::Override);
         }
     }

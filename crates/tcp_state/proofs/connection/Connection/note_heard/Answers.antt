@@ -3,10 +3,10 @@ use Rattle.clock.specs.declared.moment.Moment.{Moment}
 use Rattle.tcp_state.specs.declared.arrival.Before.{Before}
 use Rattle.tcp_state.specs.View.{View}
 use Rattle.tcp_halves.specs.Stream.{outstanding}
-use Rattle.tcp_state.specs.Pace.{pace_lost}
+use Rattle.tcp_state.specs.Resend.{resend_lost}
 use Rattle.tcp_state.specs.Timing.{clocked}
 use Rattle.tcp_state.specs.Congestion.{after_signal}
-use Rattle.tcp_state.specs.Arrival.{begins_wait, is_moved, pace_heard, pace_after, congestion_event_of, tells_loss, congestion_after, timed_by}
+use Rattle.tcp_state.specs.Arrival.{begins_wait, is_moved, resend_heard, resend_after, congestion_event_of, tells_loss, congestion_after, timed_by}
 use Rattle.tcp_state.proofs.Congestion.{syn_kept}
 use Rattle.tcp_state.proofs.connection.Connection.note_heard.Goals as goal
 use Rattle.tcp_state.proofs.connection.Connection.note_heard.Goals.{then-starts_wait, else-starts_wait}
@@ -14,16 +14,16 @@ use Rattle.tcp_state.proofs.connection.Connection.note_heard.Goals.{then-starts_
 -- what a segment tells, once its progress is noted
 abbrev signalled : Before → View → View
 signalled b w = record w {
-  pace = if tells_loss (congestion_event_of b w) w.congestion then pace_lost w.pace (outstanding w.sending) else w.pace;
+  resend = if tells_loss (congestion_event_of b w) w.congestion then resend_lost w.resend (outstanding w.sending) else w.resend;
   congestion = congestion_after b w;
 }
 
 -- its progress, its signal, the wait that it begins, and then the clock
-noted : (b : Before) (v progress signal waits : View) (moved starts : Bool) (now : Moment) → progress ≡ record v { pace = pace_heard b v now } → signal ≡ signalled b progress
+noted : (b : Before) (v progress signal waits : View) (moved starts : Bool) (now : Moment) → progress ≡ record v { resend = resend_heard b v now } → signal ≡ signalled b progress
     → waits ≡ record signal { since = if starts then now else signal.since } → moved ≡ is_moved b v
     → starts ≡ (b.repeats_fin || begins_wait b.state signal.state || (signal.owes_reset && not b.owes_reset)) → clocked moved waits now ≡ timed_by b v now
 noted b v progress signal waits moved starts now progressed told since moves begins =
-    let w = record v { pace = pace_after b v now; congestion = congestion_after b v } in
+    let w = record v { resend = resend_after b v now; congestion = congestion_after b v } in
     let signal_is : signal ≡ w = told ∙ ap (signalled b) progressed
     ∙ ap (λ resent. record w { congestion = after_signal v.congestion (congestion_event_of b v) v.sending.smss resent }) (syn_kept b v now) in
     let starts_is = begins ∙ ap (λ (x : View). b.repeats_fin || begins_wait b.state x.state || (x.owes_reset && not b.owes_reset)) signal_is in

@@ -1,4 +1,4 @@
--- What events leave of the pace and of the timers, before the clock is set.
+-- What events leave of the retransmission state and of the timers, before the clock is set.
 use Rattle.std.proofs.Common.{◌≡◌, ℕ, ◌==◌, ◌||◌, ◌&&◌, ◌⊎◌, not, nat_lt, if◌then◌else◌, Bool, true, false, length, None, inl, inr, refl, sym, ◌∙◌, ap, subst}
 use Rattle.tcp_segment.specs.Segment.{Segment}
 use Rattle.clock.specs.declared.moment.Moment.{Moment}
@@ -8,7 +8,7 @@ use Rattle.tcp_state.specs.declared.emission.Due.{Due}
 use Rattle.tcp_state.specs.declared.emission.Due.TheVariants.{Rst, Syn, Text, Probe, Ack}
 use Rattle.tcp_state.specs.declared.emission.Stretch.{Stretch}
 use Rattle.tcp_halves.specs.Stream.{outstanding, after_sent}
-use Rattle.tcp_state.specs.Pace.{Pace, stopped, timing_of, pace_probed}
+use Rattle.tcp_state.specs.Resend.{Resend, stopped, timing_of, resend_probed}
 use Rattle.tcp_state.specs.View.{View, is_closed, is_syn_received}
 use Rattle.tcp_state.specs.Arrival.{is_receiving, beyond_fin, fin_acknowledged, after_new_ack, after_ack, after_window, after_text, after_heard}
 use Rattle.tcp_state.specs.Due.{probe_stretch, end_of, after_ack_paid, after_resent, after_first_sent, after_numbers, after_new_octets, brings_new_octets, after_stretch, after_probe, after_syn_out, after_going_out}
@@ -19,14 +19,14 @@ use Rattle.tcp_state.proofs.Gains.{receiving_lives}
 
 -- Segments.
 
--- the pace stays but for the mark, and the timers run on ..
+-- the retransmission state stays but for the mark, and the timers run on ..
 record Stays (v w : View) : Type 0 where
-  pub pace : w.pace ≡ record v.pace { mark = w.pace.mark }
+  pub resend : w.resend ≡ record v.resend { mark = w.resend.mark }
   pub timers : w.timers ≡ v.timers
 
 -- .. or all stops, where it closes
 record Stops (v w : View) : Type 0 where
-  pub pace : w.pace ≡ stopped v.pace
+  pub resend : w.resend ≡ stopped v.resend
   pub timers : w.timers ≡ no_timers
   pub closed : is_closed w.state ≡ true
 
@@ -40,26 +40,26 @@ fin_leaves v ack = chosen (is_closed (beyond_fin v.state)) refl
       state = beyond_fin v.state;
       owes_ack = v.owes_ack && not closed;
       delays_ack = v.delays_ack && not closed;
-      pace = let p = after_new_ack v ack in if closed then stopped p.pace else p.pace;
+      resend = let p = after_new_ack v ack in if closed then stopped p.resend else p.resend;
       timers = if closed then no_timers else v.timers;
     })
-    chosen true closed = inr (record { pace = refl; timers = refl; closed = closed })
-    chosen false lives = inl (record { pace = refl; timers = refl })
+    chosen true closed = inr (record { resend = refl; timers = refl; closed = closed })
+    chosen false lives = inl (record { resend = refl; timers = refl })
 
 ack_leaves : (v : View) (ack : ℕ) → Leaves v (after_ack v ack)
 ack_leaves v ack = by_ack (Leaves v) v ack (record {
-  old = inl (record { pace = refl; timers = refl });
-  beyond = inl (record { pace = refl; timers = refl });
-  opens = λ received new. inl (record { pace = refl; timers = refl });
-  octets = λ new. inl (record { pace = refl; timers = refl });
+  old = inl (record { resend = refl; timers = refl });
+  beyond = inl (record { resend = refl; timers = refl });
+  opens = λ received new. inl (record { resend = refl; timers = refl });
+  octets = λ new. inl (record { resend = refl; timers = refl });
   fin = λ new fin. fin_leaves v ack;
 })
 
--- nothing else of a segment is of the pace or the timers
-on : (v w x : View) → x.pace ≡ w.pace → x.timers ≡ w.timers → (is_closed w.state ≡ true → is_closed x.state ≡ true) → Leaves v w → Leaves v x
-on v w x pace timers closes leaves = elim leaves [
-  | inl k ↦ inl (record { pace = subst (λ (p : Pace). p ≡ record v.pace { mark = p.mark }) (sym pace) k.pace; timers = timers ∙ k.timers })
-  | inr k ↦ inr (record { pace = pace ∙ k.pace; timers = timers ∙ k.timers; closed = closes k.closed })
+-- nothing else of a segment is of the retransmission state or the timers
+on : (v w x : View) → x.resend ≡ w.resend → x.timers ≡ w.timers → (is_closed w.state ≡ true → is_closed x.state ≡ true) → Leaves v w → Leaves v x
+on v w x resend timers closes leaves = elim leaves [
+  | inl k ↦ inl (record { resend = subst (λ (p : Resend). p ≡ record v.resend { mark = p.mark }) (sym resend) k.resend; timers = timers ∙ k.timers })
+  | inr k ↦ inr (record { resend = resend ∙ k.resend; timers = timers ∙ k.timers; closed = closes k.closed })
 ]
 
 segment_leaves : (v : View) (s : Segment) → Leaves v (after_heard v s)
@@ -70,12 +70,12 @@ segment_leaves v s =
     let k = ack_leaves v s.acknowledgement in
     let window : Leaves v told = on v acked told refl refl (λ closed. closed) k in
     let text : Leaves v read = either View (Leaves v) ((length s.octets == 0) || not (is_receiving told.state)) told _ (λ none. window) (λ some. on v told _ refl refl (λ closed. closed) window) in
-    by_hearing (Leaves v) v s (inr (record { pace = elim k [ inl stays ↦ ap stopped stays.pace | inr stops ↦ ap stopped stops.pace ]; timers = refl; closed = refl })) (record {
-      dropped = inl (record { pace = refl; timers = refl });
-      drawn = inl (record { pace = refl; timers = refl });
-      reset = λ acts. inr (record { pace = refl; timers = refl; closed = refl });
-      crossed = λ waits. inl (record { pace = refl; timers = refl });
-      opened = λ waits right. inl (record { pace = refl; timers = refl });
+    by_hearing (Leaves v) v s (inr (record { resend = elim k [ inl stays ↦ ap stopped stays.resend | inr stops ↦ ap stopped stops.resend ]; timers = refl; closed = refl })) (record {
+      dropped = inl (record { resend = refl; timers = refl });
+      drawn = inl (record { resend = refl; timers = refl });
+      reset = λ acts. inr (record { resend = refl; timers = refl; closed = refl });
+      crossed = λ waits. inl (record { resend = refl; timers = refl });
+      opened = λ waits right. inl (record { resend = refl; timers = refl });
       acknowledged = λ taken. k;
       read = λ is_read. by_fin (Leaves v) read s
           (λ counts. on v read _ refl refl (λ closed. clash (is_closed read.state) closed (receiving_lives read.state (and_right s.flags.fin (is_receiving read.state) (and_left (s.flags.fin && is_receiving read.state) _ counts))).0) text)
@@ -84,30 +84,30 @@ segment_leaves v s =
 
 -- what a segment leaves, one by one
 pub record Hears (v w : View) : Type 0 where
-  pub timeout : w.pace.timeout ≡ v.pace.timeout
-  pub timed : (w.pace.timed ≡ v.pace.timed) ⊎ (w.pace.timed ≡ None)
+  pub timeout : w.resend.timeout ≡ v.resend.timeout
+  pub timed : (w.resend.timed ≡ v.resend.timed) ⊎ (w.resend.timed ≡ None)
   pub timers : (w.timers ≡ v.timers) ⊎ ((w.timers ≡ no_timers) × (is_closed w.state ≡ true))
-  pub expiries : w.pace.expiries ≡ v.pace.expiries
-  pub interval : (w.pace.interval ≡ v.pace.interval) ⊎ (is_closed w.state ≡ true)
-  pub overridden : (w.pace.overridden ≡ v.pace.overridden) ⊎ (w.pace.overridden ≡ false)
+  pub expiries : w.resend.expiries ≡ v.resend.expiries
+  pub interval : (w.resend.interval ≡ v.resend.interval) ⊎ (is_closed w.state ≡ true)
+  pub overridden : (w.resend.overridden ≡ v.resend.overridden) ⊎ (w.resend.overridden ≡ false)
 
 pub segment_hears : (v : View) (s : Segment) → Hears v (after_heard v s)
 segment_hears v s = elim (segment_leaves v s) [
   | inl k ↦ record {
-    timeout = ap (λ (p : Pace). p.timeout) k.pace;
-    timed = inl (ap (λ (p : Pace). p.timed) k.pace);
+    timeout = ap (λ (p : Resend). p.timeout) k.resend;
+    timed = inl (ap (λ (p : Resend). p.timed) k.resend);
     timers = inl k.timers;
-    expiries = ap (λ (p : Pace). p.expiries) k.pace;
-    interval = inl (ap (λ (p : Pace). p.interval) k.pace);
-    overridden = inl (ap (λ (p : Pace). p.overridden) k.pace);
+    expiries = ap (λ (p : Resend). p.expiries) k.resend;
+    interval = inl (ap (λ (p : Resend). p.interval) k.resend);
+    overridden = inl (ap (λ (p : Resend). p.overridden) k.resend);
   }
   | inr k ↦ record {
-    timeout = ap (λ (p : Pace). p.timeout) k.pace;
-    timed = inr (ap (λ (p : Pace). p.timed) k.pace);
+    timeout = ap (λ (p : Resend). p.timeout) k.resend;
+    timed = inr (ap (λ (p : Resend). p.timed) k.resend);
     timers = inr (k.timers, k.closed);
-    expiries = ap (λ (p : Pace). p.expiries) k.pace;
+    expiries = ap (λ (p : Resend). p.expiries) k.resend;
     interval = inr k.closed;
-    overridden = inr (ap (λ (p : Pace). p.overridden) k.pace);
+    overridden = inr (ap (λ (p : Resend). p.overridden) k.resend);
   }
 ]
 
@@ -115,13 +115,13 @@ segment_hears v s = elim (segment_leaves v s) [
 
 -- the timeout stays; what is measured stays, or is given up, or begins to be where nothing was; and the timer of octets that wait for more may stop
 pub record GoesOut (v : View) (now : Moment) (w : View) : Type 0 where
-  pub timeout : w.pace.timeout ≡ v.pace.timeout
-  pub timed : (w.pace.timed ≡ v.pace.timed) ⊎ ((w.pace.timed ≡ None) ⊎ (w.pace.timed ≡ timing_of v.pace.timed w.sending.nxt now))
+  pub timeout : w.resend.timeout ≡ v.resend.timeout
+  pub timed : (w.resend.timed ≡ v.resend.timed) ⊎ ((w.resend.timed ≡ None) ⊎ (w.resend.timed ≡ timing_of v.resend.timed w.sending.nxt now))
   pub overriding : (w.timers.overriding ≡ v.timers.overriding) ⊎ (w.timers.overriding ≡ None)
   pub others : w.timers ≡ record v.timers { overriding = w.timers.overriding }
-  pub expiries : w.pace.expiries ≡ v.pace.expiries
-  pub interval : w.pace.interval ≡ v.pace.interval
-  pub overridden : (w.pace.overridden ≡ v.pace.overridden) ⊎ (w.pace.overridden ≡ false)
+  pub expiries : w.resend.expiries ≡ v.resend.expiries
+  pub interval : w.resend.interval ≡ v.resend.interval
+  pub overridden : (w.resend.overridden ≡ v.resend.overridden) ⊎ (w.resend.overridden ≡ false)
 
 numbers_out : (v : View) (offset end : ℕ) (now : Moment) → GoesOut v now (after_numbers v offset end now)
 numbers_out v offset end now =
@@ -145,7 +145,7 @@ stretch_out v stretch now =
 
 probe_out : (v : View) (now : Moment) → GoesOut v now (after_probe v)
 probe_out v now =
-    let sent = record v { sending = after_sent v.sending (end_of (probe_stretch v)); pace = pace_probed v.pace } in
+    let sent = record v { sending = after_sent v.sending (end_of (probe_stretch v)); resend = resend_probed v.resend } in
     let k : GoesOut v now sent = record { timeout = refl; timed = inr (inl refl); overriding = inl refl; others = refl; expiries = refl; interval = refl; overridden = inl refl } in
     either View (GoesOut v now) (brings_new_octets v (probe_stretch v)) (after_new_octets sent) sent (λ new. new_out v sent now k) (λ old. k)
 

@@ -1,12 +1,12 @@
--- The pace of a connection: what goes out again, and what the clock measures of a round trip (RFC 6298, RFC 9293 sections 3.8.1 and 3.8.6.1).
+-- The retransmission state of a connection: what goes out again, and what the clock measures of a round trip (RFC 6298, RFC 9293 sections 3.8.1 and 3.8.6.1).
 use Rattle.std.specs.Prelude.{ℕ, suc, ◌-◌, ◌*◌, ◌≤◌, ◌&&◌, ◌||◌, nat_lt, min, Bool, true, false, if◌then◌else◌, not, Option, Some, None}
 use Rattle.clock.specs.declared.moment.Moment.{Moment}
 use Rattle.retransmit.specs.Timeout.{Timeout, first_timeout, after_sample, after_expiry, after_lost_syn}
 use Rattle.tcp_halves.specs.Numbers.{is_before}
-use Rattle.tcp_state.specs.declared.pace.TheConstants.{MOST_EXPIRIES, MOST_INTERVAL}
-use Rattle.tcp_state.specs.declared.pace.Timed.{Timed}
+use Rattle.tcp_state.specs.declared.resend.TheConstants.{MOST_EXPIRIES, MOST_INTERVAL}
+use Rattle.tcp_state.specs.declared.resend.Timed.{Timed}
 
-pub record Pace : Type 0 where
+pub record Resend : Type 0 where
   -- the resend mark, as a distance past SND.UNA: what is outstanding from there on goes out again
   pub mark : Option ℕ
   -- .. but no more than one segment of it
@@ -27,7 +27,7 @@ pub record Pace : Type 0 where
   pub syn_resent : Bool
 
 -- the timeout and the wait of a probe last a second at least and a minute at most, and the timers expire twelve times without progress at most
-pub record IsPaced (p : Pace) : Type 0 where
+pub record IsSoundResend (p : Resend) : Type 0 where
   pub timeout_least : 1000 ≤ p.timeout.rto
   pub timeout_most : p.timeout.rto ≤ MOST_INTERVAL
   pub interval_least : 1000 ≤ p.interval
@@ -35,8 +35,8 @@ pub record IsPaced (p : Pace) : Type 0 where
   pub expiries : p.expiries ≤ MOST_EXPIRIES
 
 -- nothing has gone out
-abbrev pub first_pace : Pace
-first_pace = record {
+abbrev pub first_resend : Resend
+first_resend = record {
   mark = None;
   once = false;
   timeout = first_timeout;
@@ -49,7 +49,7 @@ first_pace = record {
 }
 
 -- nothing is outstanding or waits any longer
-abbrev pub stopped : Pace → Pace
+abbrev pub stopped : Resend → Resend
 stopped p = record p { mark = None; once = false; timed = None; interval = p.timeout.rto; owes_probe = false; overridden = false }
 
 -- What goes out.
@@ -59,34 +59,34 @@ abbrev pub mark_past : ℕ → ℕ → Option ℕ
 mark_past end outstanding = if nat_lt end outstanding then Some end else None
 
 -- what was outstanding went out again, up to this distance past SND.UNA: what comes back tells no round trip (RFC 6298 section 3). A mark for one segment is gone.
-abbrev pub pace_resent : Pace → ℕ → ℕ → Pace
-pace_resent p end outstanding = record p { mark = if p.once then None else mark_past end outstanding; once = false; timed = None }
+abbrev pub resend_again : Resend → ℕ → ℕ → Resend
+resend_again p end outstanding = record p { mark = if p.once then None else mark_past end outstanding; once = false; timed = None }
 
 -- our SYN went out again: after an expiry as one that may be lost, else in answer to the peer's
-abbrev pub pace_syn_again : Pace → Pace
-pace_syn_again p = record p { syn_resent = p.syn_resent || nat_lt 0 p.expiries }
+abbrev pub resend_syn_again : Resend → Resend
+resend_syn_again p = record p { syn_resent = p.syn_resent || nat_lt 0 p.expiries }
 
 -- new numbers went out, up to this one: their round trip is measured where no other is
 abbrev pub timing_of : Option Timed → ℕ → Moment → Option Timed
 timing_of None end now = Some (record { end = record { 0 = end }; since = now })
 timing_of (Some timed) end now = Some timed
 
-abbrev pub pace_sent : Pace → ℕ → Moment → Pace
-pace_sent p end now = record p { timed = timing_of p.timed end now }
+abbrev pub resend_sent : Resend → ℕ → Moment → Resend
+resend_sent p end now = record p { timed = timing_of p.timed end now }
 
 -- the probe that was due went out: it isn't measured, nor is what it sent again
-abbrev pub pace_probed : Pace → Pace
-pace_probed p = record p { owes_probe = false; timed = None }
+abbrev pub resend_probed : Resend → Resend
+resend_probed p = record p { owes_probe = false; timed = None }
 
 -- The timers expire.
 
 -- the retransmission timer: all that is outstanding goes out again, from SND.UNA on, and the timeout backs off (RFC 6298 sections 5.4 and 5.5)
-abbrev pub pace_expired : Pace → ℕ → Pace
-pace_expired p outstanding = record p { mark = mark_past 0 outstanding; once = false; timeout = after_expiry p.timeout; expiries = suc p.expiries }
+abbrev pub resend_expired : Resend → ℕ → Resend
+resend_expired p outstanding = record p { mark = mark_past 0 outstanding; once = false; timeout = after_expiry p.timeout; expiries = suc p.expiries }
 
 -- the probe timer: a probe is due, and the next wait is twice as long, a minute at most (RFC 9293 section 3.8.6.1)
-abbrev pub pace_probes : Pace → Pace
-pace_probes p = record p { owes_probe = true; interval = min MOST_INTERVAL (2 * p.interval); expiries = suc p.expiries }
+abbrev pub resend_probes : Resend → Resend
+resend_probes p = record p { owes_probe = true; interval = min MOST_INTERVAL (2 * p.interval); expiries = suc p.expiries }
 
 -- Acknowledgements.
 
@@ -95,15 +95,15 @@ abbrev pub mark_left : Option ℕ → ℕ → ℕ → Option ℕ
 mark_left None gained outstanding = None
 mark_left (Some distance) gained outstanding = mark_past (distance - gained) outstanding
 
-abbrev pub mark_moved : Pace → ℕ → ℕ → Pace
+abbrev pub mark_moved : Resend → ℕ → ℕ → Resend
 mark_moved p gained outstanding = record p { mark = mark_left p.mark gained outstanding }
 
 -- the segment at SND.UNA counts as lost: it alone goes out again (RFC 5681 section 3.2)
-abbrev pub pace_lost : Pace → ℕ → Pace
-pace_lost p outstanding = record p { mark = mark_past 0 outstanding; once = true }
+abbrev pub resend_lost : Resend → ℕ → Resend
+resend_lost p outstanding = record p { mark = mark_past 0 outstanding; once = true }
 
 -- nothing is outstanding
-abbrev pub unmarked : Pace → Pace
+abbrev pub unmarked : Resend → Resend
 unmarked p = record p { mark = None }
 
 -- SND.UNA is at the end of what is measured, or past it
@@ -121,8 +121,8 @@ timed_left None una = None
 timed_left (Some timed) una = if is_timed_by timed una then None else Some timed
 
 -- Numbers that were outstanding are acknowledged, up to this one: that is progress. Where one was our SYN's, and its timer had expired, the timeout begins anew (RFC 6298 section 5.7).
-abbrev pub pace_acknowledged : Pace → ℕ → Bool → Moment → Pace
-pace_acknowledged p una opens now = let sampled = timeout_sampled p.timeout p.timed una now in record p {
+abbrev pub resend_acknowledged : Resend → ℕ → Bool → Moment → Resend
+resend_acknowledged p una opens now = let sampled = timeout_sampled p.timeout p.timed una now in record p {
   timeout = if opens && nat_lt 0 p.expiries then after_lost_syn sampled else sampled;
   timed = timed_left p.timed una;
   expiries = 0;

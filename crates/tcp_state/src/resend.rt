@@ -1,7 +1,7 @@
 //! What goes out again, and what the clock measures of a round trip (RFC 6298, RFC 9293 sections 3.8.1 and 3.8.6.1).
 
 ghost use Rattle.std.specs.Prelude.{◌≡◌, ◌<◌, ◌&&◌, if◌then◌else◌, true, false, None, ◌||◌, nat_lt};
-ghost use Rattle.tcp_state.specs.Pace.{IsPaced, first_pace, stopped, mark_past, pace_resent, pace_syn_again, pace_sent, pace_probed, pace_expired, pace_probes, mark_moved, pace_lost, unmarked, is_timed_by, pace_acknowledged};
+ghost use Rattle.tcp_state.specs.Resend.{IsSoundResend, first_resend, stopped, mark_past, resend_again, resend_syn_again, resend_sent, resend_probed, resend_expired, resend_probes, mark_moved, resend_lost, unmarked, is_timed_by, resend_acknowledged};
 
 use clock::Moment;
 use retransmit::Rto;
@@ -24,9 +24,9 @@ pub struct Timed {
     pub since: Moment,
 }
 
-/// The pace of a connection.
+/// The retransmission state of a connection.
 #[derive(Drop)]
-pub(crate) struct Pace {
+pub(crate) struct Resend {
     /// The resend mark, as a distance past SND.UNA: what is outstanding from there on goes out again.
     mark: Option<u32>,
     /// Whether only one segment goes out again from the mark.
@@ -47,26 +47,26 @@ pub(crate) struct Pace {
     syn_resent: bool,
 }
 
-impl Model for Pace {
-    ghost use Rattle.tcp_state.specs.Pace.{Pace, IsPaced};
-    ghost use Rattle.tcp_state.specs.PaceInside.{paced};
+impl Model for Resend {
+    ghost use Rattle.tcp_state.specs.Resend.{Resend, IsSoundResend};
+    ghost use Rattle.tcp_state.specs.ResendInside.{resend_view};
 
-    ghost Value = { Pace };
+    ghost Value = { Resend };
 
-    ghost view = { paced };
+    ghost view = { resend_view };
 
-    ghost invariant = { λ p. IsPaced (paced p) };
+    ghost invariant = { λ p. IsSoundResend (resend_view p) };
 }
 
-impl Pace {
+impl Resend {
     /// Nothing has gone out.
-    pub(crate) fn new() -> Pace
-        ensures value { result ≡ first_pace }
-        ensures paced { IsPaced result }
+    pub(crate) fn new() -> Resend
+        ensures value { result ≡ first_resend }
+        ensures resend_view { IsSoundResend result }
     {
         let timeout = Rto::new();
         let interval = timeout.rto();
-        Pace {
+        Resend {
             mark: None,
             once: false,
             timeout,
@@ -131,7 +131,7 @@ impl Pace {
     /// Nothing is outstanding or waits any longer.
     pub(crate) fn stop(&mut self)
         ensures after { self.new ≡ stopped self.old }
-        ensures paced { IsPaced self.new }
+        ensures resend_view { IsSoundResend self.new }
     {
         self.mark = None;
         self.once = false;
@@ -144,7 +144,7 @@ impl Pace {
     /// All of so many numbers that are outstanding go out again.
     pub(crate) fn mark_all(&mut self, outstanding: u32)
         ensures after { self.new ≡ record self.old { mark = mark_past 0 outstanding } }
-        ensures paced { IsPaced self.new }
+        ensures resend_view { IsSoundResend self.new }
     {
         self.mark = mark_past(0, outstanding);
     }
@@ -152,7 +152,7 @@ impl Pace {
     /// So many numbers are acknowledged, and so many are outstanding still.
     pub(crate) fn move_mark(&mut self, gained: u32, outstanding: u32)
         ensures after { self.new ≡ mark_moved self.old gained outstanding }
-        ensures paced { IsPaced self.new }
+        ensures resend_view { IsSoundResend self.new }
     {
         if let Some(distance) = self.mark {
             self.mark = mark_past(distance.saturating_sub(gained), outstanding);
@@ -162,8 +162,8 @@ impl Pace {
     /// The segment at SND.UNA counts as lost: it alone goes out again, of so many numbers that are outstanding (fast retransmit, RFC 5681
     /// section 3.2).
     pub(crate) fn mark_lost(&mut self, outstanding: u32)
-        ensures after { self.new ≡ pace_lost self.old outstanding }
-        ensures paced { IsPaced self.new }
+        ensures after { self.new ≡ resend_lost self.old outstanding }
+        ensures resend_view { IsSoundResend self.new }
     {
         self.mark = mark_past(0, outstanding);
         self.once = true;
@@ -172,15 +172,15 @@ impl Pace {
     /// Nothing is outstanding.
     pub(crate) fn unmark(&mut self)
         ensures after { self.new ≡ unmarked self.old }
-        ensures paced { IsPaced self.new }
+        ensures resend_view { IsSoundResend self.new }
     {
         self.mark = None;
     }
 
     /// What was outstanding went out again, up to this distance past SND.UNA.
     pub(crate) fn note_resent(&mut self, end: u32, outstanding: u32)
-        ensures after { self.new ≡ pace_resent self.old end outstanding }
-        ensures paced { IsPaced self.new }
+        ensures after { self.new ≡ resend_again self.old end outstanding }
+        ensures resend_view { IsSoundResend self.new }
     {
         self.mark = if self.once {
             None
@@ -193,16 +193,16 @@ impl Pace {
 
     /// Our SYN went out again.
     pub(crate) fn note_syn_again(&mut self)
-        ensures after { self.new ≡ pace_syn_again self.old }
-        ensures paced { IsPaced self.new }
+        ensures after { self.new ≡ resend_syn_again self.old }
+        ensures resend_view { IsSoundResend self.new }
     {
         self.syn_resent = self.syn_resent || self.expiries > 0;
     }
 
     /// New numbers went out, up to this one.
     pub(crate) fn note_sent(&mut self, end: Seq, now: Moment)
-        ensures after { self.new ≡ pace_sent self.old end.0 now }
-        ensures paced { IsPaced self.new }
+        ensures after { self.new ≡ resend_sent self.old end.0 now }
+        ensures resend_view { IsSoundResend self.new }
     {
         if self.timed.is_none() {
             self.timed = Some(Timed { end, since: now });
@@ -212,7 +212,7 @@ impl Pace {
     /// New octets went out, so that none wait for more any longer.
     pub(crate) fn end_override(&mut self)
         ensures after { self.new ≡ record self.old { overridden = false } }
-        ensures paced { IsPaced self.new }
+        ensures resend_view { IsSoundResend self.new }
     {
         self.overridden = false;
     }
@@ -220,15 +220,15 @@ impl Pace {
     /// New octets waited for more as long as they may.
     pub(crate) fn begin_override(&mut self)
         ensures after { self.new ≡ record self.old { overridden = true } }
-        ensures paced { IsPaced self.new }
+        ensures resend_view { IsSoundResend self.new }
     {
         self.overridden = true;
     }
 
     /// The probe that was due went out.
     pub(crate) fn note_probe(&mut self)
-        ensures after { self.new ≡ pace_probed self.old }
-        ensures paced { IsPaced self.new }
+        ensures after { self.new ≡ resend_probed self.old }
+        ensures resend_view { IsSoundResend self.new }
     {
         self.owes_probe = false;
         self.timed = None;
@@ -237,8 +237,8 @@ impl Pace {
     /// The retransmission timer expired, while so many numbers are outstanding.
     pub(crate) fn expire(&mut self, outstanding: u32)
         requires { self.old.expiries < MOST_EXPIRIES }
-        ensures after { self.new ≡ pace_expired self.old outstanding }
-        ensures paced { IsPaced self.new }
+        ensures after { self.new ≡ resend_expired self.old outstanding }
+        ensures resend_view { IsSoundResend self.new }
     {
         self.mark = mark_past(0, outstanding);
         self.once = false;
@@ -249,8 +249,8 @@ impl Pace {
     /// The probe timer expired.
     pub(crate) fn probe(&mut self)
         requires { self.old.expiries < MOST_EXPIRIES }
-        ensures after { self.new ≡ pace_probes self.old }
-        ensures paced { IsPaced self.new }
+        ensures after { self.new ≡ resend_probes self.old }
+        ensures resend_view { IsSoundResend self.new }
     {
         self.owes_probe = true;
         self.interval = (2 * self.interval).min(MOST_INTERVAL);
@@ -259,8 +259,8 @@ impl Pace {
 
     /// Numbers that were outstanding are acknowledged, up to `una`; `opens` tells whether one was our SYN's.
     pub(crate) fn acknowledge(&mut self, una: Seq, opens: bool, now: Moment)
-        ensures after { self.new ≡ pace_acknowledged self.old una.0 opens now }
-        ensures paced { IsPaced self.new }
+        ensures after { self.new ≡ resend_acknowledged self.old una.0 opens now }
+        ensures resend_view { IsSoundResend self.new }
     {
         if let Some(timed) = self.timed
             && timed.is_by(una)
@@ -277,7 +277,7 @@ impl Pace {
     /// The peer is there.
     pub(crate) fn progress(&mut self)
         ensures after { self.new ≡ record self.old { expiries = 0 } }
-        ensures paced { IsPaced self.new }
+        ensures resend_view { IsSoundResend self.new }
     {
         self.expiries = 0;
     }
@@ -285,7 +285,7 @@ impl Pace {
     /// The end of an event, by which the probe timer runs or doesn't; `goes_on` tells whether it ran before.
     pub(crate) fn update_probing(&mut self, is_probing: bool, goes_on: bool)
         ensures after { self.new ≡ record self.old { interval = if is_probing && goes_on then self.old.interval else self.old.timeout.rto; owes_probe = self.old.owes_probe && is_probing } }
-        ensures paced { IsPaced self.new }
+        ensures resend_view { IsSoundResend self.new }
     {
         if !(is_probing && goes_on) {
             self.interval = self.timeout.rto();
