@@ -379,7 +379,7 @@ arrives-stream cap limit v s c d rnext room fits past_syn from came =
 window_told : (v : View) (s : Segment) → sender_of v ≡ sender_of (after_window v s)
 window_told v s = told (updates_window v.sending s.number s.acknowledgement)
   where
-    told : (tells : Bool) → sender_of v ≡ sender_of (record v { sending = if tells then record v.sending { window = s.window; largest = max v.sending.largest s.window; wl1 = s.number; wl2 = s.acknowledgement } else v.sending })
+    told : (tells : Bool) → sender_of v ≡ sender_of (record v { sending = if tells then record v.sending { window = s.window; max_window = max v.sending.max_window s.window; wl1 = s.number; wl2 = s.acknowledgement } else v.sending })
     told true = refl
     told false = refl
 

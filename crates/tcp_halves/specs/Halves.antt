@@ -8,7 +8,7 @@ pub record Sending : Type 0 where
   pub una : ℕ
   pub nxt : ℕ
   pub window : ℕ
-  pub largest : ℕ
+  pub max_window : ℕ
   pub wl1 : ℕ
   pub wl2 : ℕ
   pub smss : ℕ

@@ -38,7 +38,7 @@ is_new_ack s ack = nat_lt 0 (past ack s.una) && nat_le (past ack s.una) (outstan
 
 -- nothing sent yet, and the SYN will have the number isn
 abbrev pub sending_from : ℕ → Sending
-sending_from isn = record { held = []; una = isn; nxt = isn; window = 0; largest = 0; wl1 = isn; wl2 = isn; smss = DEFAULT_MSS }
+sending_from isn = record { held = []; una = isn; nxt = isn; window = 0; max_window = 0; wl1 = isn; wl2 = isn; smss = DEFAULT_MSS }
 
 -- our SYN is acknowledged, the one number that is outstanding
 abbrev pub after_syn_acknowledged : Sending → Sending

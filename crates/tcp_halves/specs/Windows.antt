@@ -8,7 +8,7 @@ use Rattle.tcp_halves.specs.Stream.{outstanding, receive_window}
 
 -- the peer's SYN has its window and the size of the segments that it takes
 abbrev pub after_syn_heard : Sending → ℕ → ℕ → ℕ → Sending
-after_syn_heard s number window smss = record s { window = window; largest = max s.largest window; wl1 = number; smss = smss }
+after_syn_heard s number window smss = record s { window = window; max_window = max s.max_window window; wl1 = number; smss = smss }
 
 -- A segment updates the send window where its acknowledgement is not below SND.UNA, and where it is no older than the one that updated it last
 -- (section 3.10.7.4, fifth): SND.UNA =< SEG.ACK, and SND.WL1 < SEG.SEQ or (SND.WL1 = SEG.SEQ and SND.WL2 =< SEG.ACK)
@@ -16,7 +16,7 @@ abbrev pub updates_window : Sending → ℕ → ℕ → Bool
 updates_window s number ack = not (is_before ack s.una) && (is_before s.wl1 number || (s.wl1 == number && not (is_before ack s.wl2)))
 
 abbrev pub after_window_update : Sending → ℕ → ℕ → ℕ → Sending
-after_window_update s number ack window = if updates_window s number ack then record s { window = window; largest = max s.largest window; wl1 = number; wl2 = ack } else s
+after_window_update s number ack window = if updates_window s number ack then record s { window = window; max_window = max s.max_window window; wl1 = number; wl2 = ack } else s
 
 -- how many octets are held that have not gone out: D
 abbrev pub unsent : Sending → ℕ
@@ -43,7 +43,7 @@ next_count s cwnd = min (sendable s cwnd) s.smss
 abbrev pub is_worth_sending : Sending → ℕ → Bool → Bool
 is_worth_sending s cwnd overridden =
     nat_le s.smss (sendable s cwnd)
-    || ((outstanding s == 0) && (nat_le (unsent s) (usable s cwnd) || nat_le s.largest (2 * sendable s cwnd)))
+    || ((outstanding s == 0) && (nat_le (unsent s) (usable s cwnd) || nat_le s.max_window (2 * sendable s cwnd)))
     || overridden
 
 -- there are new octets that may go out and are not worth it yet

@@ -25,7 +25,7 @@ pub struct Sender {
     /// SND.WND, the peer's window in octets from SND.UNA on.
     window: u32,
     /// The largest window that the peer ever advertised, in octets.
-    largest: u32,
+    max_window: u32,
     /// SND.WL1, the number of the segment that gave the window.
     wl1: Seq,
     /// SND.WL2, the acknowledgement of the segment that gave the window.
@@ -41,7 +41,7 @@ impl Model for Sender {
 
     ghost Value = { Sending };
 
-    ghost view = { λ s. record { held = s.buffer.held; una = s.una.0; nxt = s.nxt.0; window = s.window; largest = s.largest; wl1 = s.wl1.0; wl2 = s.wl2.0; smss = s.smss } };
+    ghost view = { λ s. record { held = s.buffer.held; una = s.una.0; nxt = s.nxt.0; window = s.window; max_window = s.max_window; wl1 = s.wl1.0; wl2 = s.wl2.0; smss = s.smss } };
 
     ghost invariant = { λ s. (s.buffer.capacity ≡ CAPACITY) × (length s.buffer.held ≤ CAPACITY) };
 }
@@ -57,7 +57,7 @@ impl Sender {
             una: isn,
             nxt: isn,
             window: 0,
-            largest: 0,
+            max_window: 0,
             wl1: isn,
             wl2: isn,
             smss: DEFAULT_MSS,
@@ -182,10 +182,10 @@ impl Sender {
 
     /// The peer's window is this one from now on.
     fn note_window(&mut self, window: u32)
-        ensures { self.new ≡ record self.old { window = window; largest = max self.old.largest window } }
+        ensures { self.new ≡ record self.old { window = window; max_window = max self.old.max_window window } }
     {
         self.window = window;
-        self.largest = self.largest.max(window);
+        self.max_window = self.max_window.max(window);
     }
 
     /// SND.WND, the peer's window.
@@ -246,7 +246,7 @@ impl Sender {
         let is_idle = self.outstanding() == 0;
         self.smss() <= sendable
             || is_idle
-                && (self.unsent() <= self.usable(cwnd) || self.largest as usize <= 2 * sendable)
+                && (self.unsent() <= self.usable(cwnd) || self.max_window as usize <= 2 * sendable)
             || is_overridden
     }
 

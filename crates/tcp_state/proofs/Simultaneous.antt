@@ -51,7 +51,7 @@ receives other = record { readable = []; kept = receiving_nothing.kept; rnext = 
 abbrev answering : Endpoint → Endpoint → ℕ → ℕ → Bool → Resend → Moment → View
 answering here there isn other owes resend first = record (opened_actively here there isn) {
   state = SynReceived;
-  sending = record (sending_from isn) { nxt = wire isn 1; window = 65535; largest = 65535; wl1 = other; smss = 1460 };
+  sending = record (sending_from isn) { nxt = wire isn 1; window = 65535; max_window = 65535; wl1 = other; smss = 1460 };
   receiving = receives other;
   owes_ack = owes;
   resend = resend;
@@ -70,7 +70,7 @@ again_sent here there isn other owes first = answering here there isn other owes
 abbrev opened : Endpoint → Endpoint → ℕ → ℕ → View
 opened here there isn other = record (opened_actively here there isn) {
   state = Established;
-  sending = record { held = []; una = wire isn 1; nxt = wire isn 1; window = 65535; largest = 65535; wl1 = wire other 1; wl2 = wire isn 1; smss = 1460 };
+  sending = record { held = []; una = wire isn 1; nxt = wire isn 1; window = 65535; max_window = 65535; wl1 = wire other 1; wl2 = wire isn 1; smss = 1460 };
   receiving = receives other;
   congestion = initial_window 1460 false;
 }
@@ -215,7 +215,7 @@ not_behind : (n : ℕ) → n < 2 ^ 32 → is_before n n ≡ false
 not_behind n fits = lt-leb (2 ^ 31) (past n n) (omega (arith, none_out n fits))
 
 updates : (isn other : ℕ) → other < 2 ^ 32
-    → updates_window (record (sending_from isn) { una = wire isn 1; nxt = wire isn 1; window = 65535; largest = 65535; wl1 = other; wl2 = wire isn 1; smss = 1460 }) (wire other 1) (wire isn 1) ≡ true
+    → updates_window (record (sending_from isn) { una = wire isn 1; nxt = wire isn 1; window = 65535; max_window = 65535; wl1 = other; wl2 = wire isn 1; smss = 1460 }) (wire other 1) (wire isn 1) ≡ true
 updates isn other fits =
     let same = is_before (wire isn 1) (wire isn 1) in
     both (not same) (is_before other (wire other 1) || (other == wire other 1 && not same))
@@ -231,9 +231,9 @@ ack_heard here there isn other first fits other_fits =
     let e = after_establishment v in
     ap (λ b. if b then after_acceptable_segment v s else owing_ack v) (in_order other other_fits)
     ∙ (ap (λ b. if b then after_fin (after_text (after_window (if b then e else v) s) s) s else (if b then e else v)) (acknowledges isn fits)
-    ∙ (ap (λ b. record w { sending = if b then record w.sending { window = s.window; largest = max 65535 s.window } else e.sending }) (updates isn other other_fits)
-    ∙ (ap (λ r. record w { sending = record w.sending { window = receive_window r; largest = max 65535 (receive_window r) } }) (still_told isn fits)
-    ∙ ap (λ n. record w { sending = record w.sending { window = n; largest = max 65535 n } }) (told isn fits))))
+    ∙ (ap (λ b. record w { sending = if b then record w.sending { window = s.window; max_window = max 65535 s.window } else e.sending }) (updates isn other other_fits)
+    ∙ (ap (λ r. record w { sending = record w.sending { window = receive_window r; max_window = max 65535 (receive_window r) } }) (still_told isn fits)
+    ∙ ap (λ n. record w { sending = record w.sending { window = n; max_window = max 65535 n } }) (told isn fits))))
 
 -- the connection is open: no timer runs
 at_rest : (here there : Endpoint) (isn other : ℕ) (first now : Moment) → clocked true (record (opened here there isn other) { timers = runs_from first }) now ≡ opened here there isn other

@@ -14,7 +14,7 @@ use Rattle.tcp_state.proofs.Emissions.{by_due}
 -- new octets of less than a segment, without the override
 abbrev Waits : View → Stretch → Type 0
 Waits v t = outstanding v.sending ≤ t.offset → 0 < t.count → t.count < v.sending.smss → v.resend.overridden ≡ false
-    → (outstanding v.sending ≡ 0) × ((t.count ≡ length v.sending.held) ⊎ (v.sending.largest ≤ 2 * t.count))
+    → (outstanding v.sending ≡ 0) × ((t.count ≡ length v.sending.held) ⊎ (v.sending.max_window ≤ 2 * t.count))
 
 new_octets_wait : (v : View) → sends_new v ≡ true → Waits v (new_octets v)
 new_octets_wait v sends past some small quiet =
@@ -23,23 +23,23 @@ new_octets_wait v sends past some small quiet =
     let u = usable v.sending v.congestion.cwnd in
     let full = nat_le v.sending.smss n in
     let none = outstanding v.sending == 0 in
-    let much = nat_le d u || nat_le v.sending.largest (2 * n) in
+    let much = nat_le d u || nat_le v.sending.max_window (2 * n) in
     let short : full ≡ false = elim (leb_tells v.sending.smss n) [ inl t ↦ absurd (omega (arith, t.1, small)) | inr t ↦ t.0 ] in
     elim (or_else (full || (none && much)) v.resend.overridden (and_right (nat_lt 0 n) (is_worth_sending v.sending v.congestion.cwnd v.resend.overridden) sends)) [
       | inl worth ↦ elim (or_else full (none && much) worth) [
         | inl whole ↦ clash full whole short
         | inr idle ↦
             let zero = eqb-true (outstanding v.sending) 0 (and_left none much idle) in
-            elim (or_else (nat_le d u) (nat_le v.sending.largest (2 * n)) (and_right none much idle)) [
+            elim (or_else (nat_le d u) (nat_le v.sending.max_window (2 * n)) (and_right none much idle)) [
               | inl all ↦ let fits = leb-true d u all in (zero, inl (omega (arith, zero, fits, small)))
-              | inr half ↦ let most = leb-true v.sending.largest (2 * n) half in (zero, inr (omega (arith, most, small)))
+              | inr half ↦ let most = leb-true v.sending.max_window (2 * n) half in (zero, inr (omega (arith, most, small)))
             ]
       ]
       | inr over ↦ clash v.resend.overridden over quiet
     ]
 
 pub small_waits : (v : View) (stretch : Stretch) → IsSound v → first_due v ≡ Some (Text stretch) → outstanding v.sending ≤ stretch.offset → 0 < stretch.count → stretch.count < v.sending.smss → v.resend.overridden ≡ false
-    → (outstanding v.sending ≡ 0) × ((stretch.count ≡ length v.sending.held) ⊎ (v.sending.largest ≤ 2 * stretch.count))
+    → (outstanding v.sending ≡ 0) × ((stretch.count ≡ length v.sending.held) ⊎ (v.sending.max_window ≤ 2 * stretch.count))
 small_waits v stretch sound first = by_due (λ o. (t : Stretch) → o ≡ Some (Text t) → Waits v t) v (record {
   nothing = λ quiet t e. cc;
   rst = λ owes t e. cc;

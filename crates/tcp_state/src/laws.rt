@@ -328,7 +328,7 @@ pub fn what_goes_out_again_went_out_before()
 /// 500 ms after the event by which that began.
 pub fn small_segments_wait()
     ensures waits { (v : View) (stretch : Stretch) → IsSound v → first_due v ≡ Some (Due.Text stretch) → outstanding v.sending ≤ stretch.offset → 0 < stretch.count → stretch.count < v.sending.smss → v.resend.overridden ≡ false
-        → (outstanding v.sending ≡ 0) × ((stretch.count ≡ length v.sending.held) ⊎ (v.sending.largest ≤ 2 * stretch.count)) }
+        → (outstanding v.sending ≡ 0) × ((stretch.count ≡ length v.sending.held) ⊎ (v.sending.max_window ≤ 2 * stretch.count)) }
     ensures overridden { (v : View) (e : Event) → v.resend.overridden ≡ false → (after_event v e).resend.overridden ≡ true → (now : Moment) × (e ≡ Event.Ticks now) × (has_come v.timers.overriding now ≡ true) }
     ensures begins { (v : View) (e : Event) (deadline : Moment) → v.timers.overriding ≡ None → (after_event v e).timers.overriding ≡ Some deadline → (now : Moment) × (moment_of e ≡ Some now) × (deadline ≡ after now 500) }
 {}
