@@ -103,7 +103,7 @@ extern "C" {
 #define HOST_DROP_OTHER_TYPE (-3)    /* neither IPv4 nor ARP */
 #define HOST_DROP_IP_HEADER (-4)     /* the IPv4 header has not the form of one */
 #define HOST_DROP_IP_SUM (-5)        /* the checksum of the IPv4 header is wrong */
-#define HOST_DROP_OTHER_ADDRESS (-6) /* not for our address, or from ours or no single host's; of an ARP packet the sender alone */
+#define HOST_DROP_OTHER_ADDRESS (-6) /* not for our address, or from ours or not unicast; of an ARP packet the sender alone */
 #define HOST_DROP_FRAGMENT (-10)     /* a fragment of another protocol than UDP */
 #define HOST_DROP_UPPER_HEADER (-7)  /* a malformed ARP packet or header of ICMP, UDP or TCP */
 #define HOST_DROP_UPPER_SUM (-8)     /* the checksum of ICMP, UDP or TCP is wrong */
@@ -136,7 +136,7 @@ struct host_route {
 /* Makes a host at `addr`, whose interface has this MAC, with `count` routes, and puts it into `host`, which held none. It answers 0, and then
  * host_free is owed. Where it is refused the handle stays as it was.
  *
- * HOST_EINVAL: the handle holds a host, the address is no single host's (its first octet is 1 to 223 other than 127), the MAC is one of a group
+ * HOST_EINVAL: the handle holds a host, the address isn't unicast (its first octet is 1 to 223 other than 127), the MAC is one of a group
  * (the low bit of its first octet is set), a prefix is longer than 32 bits or has bits set past its length, two routes have the same prefix,
  * or there are more than HOST_ROUTES. HOST_ENOMEM. */
 int64_t host_new(struct host *host, const uint8_t mac[6], uint32_t addr, const struct host_route *routes, size_t count);
@@ -179,7 +179,7 @@ int64_t host_accept(struct host *host, uint64_t id, struct host_endpoint *peer);
  * HOST_ETIMEDOUT, whatever is unread, until host_close.
  *
  * HOST_EBADF. HOST_EOPNOTSUPP: UDP, or listening. HOST_ECONNREFUSED, HOST_ECONNRESET, HOST_ETIMEDOUT. HOST_EALREADY: it is opening one.
- * HOST_EISCONN: it has had one. HOST_EADDRNOTAVAIL: port 0, no single host's address, or our own. HOST_ENETUNREACH: no route leads there.
+ * HOST_EISCONN: it has had one. HOST_EADDRNOTAVAIL: port 0, not a unicast address, or our own. HOST_ENETUNREACH: no route leads there.
  * HOST_EADDRINUSE: there is a connection between these two ends, or no dynamic port is free. */
 int64_t host_connect(struct host *host, uint64_t now, uint32_t isn, uint64_t id, uint32_t addr, uint16_t port);
 
@@ -214,7 +214,7 @@ int64_t host_close(struct host *host, uint64_t id);
 /* Gives a datagram to a UDP socket, for `port` of `addr`: answers `len`. It may be lost on its way, come twice, and come before an earlier one. A
  * socket that isn't bound is bound to a dynamic port.
  *
- * HOST_EBADF. HOST_EOPNOTSUPP: TCP. HOST_EMSGSIZE: over HOST_DATAGRAM_SIZE. HOST_EADDRNOTAVAIL: port 0, no single host's address, or our own.
+ * HOST_EBADF. HOST_EOPNOTSUPP: TCP. HOST_EMSGSIZE: over HOST_DATAGRAM_SIZE. HOST_EADDRNOTAVAIL: port 0, not a unicast address, or our own.
  * HOST_ENETUNREACH: no route leads there. HOST_EADDRINUSE: no dynamic port is free. HOST_EAGAIN: no room. */
 int64_t host_sendto(struct host *host, uint64_t id, uint32_t addr, uint16_t port, const uint8_t *octets, size_t len);
 

@@ -6,7 +6,7 @@ use Rattle.std.proofs.lemmas.Slice.Eq.{bytes_eq-Decides}
 use Rattle.ether.specs.declared.mac.Mac.{Mac}
 use Rattle.ether.specs.Frame.{Frame}
 use Rattle.ipv4.specs.declared.addr.Addr.{Addr}
-use Rattle.ipv4.specs.Addresses.{IsSingleHost, is_single_host, same_addr}
+use Rattle.ipv4.specs.Addresses.{IsUnicast, is_unicast, same_addr}
 use Rattle.ipv4.specs.Datagram.{Datagram}
 use Rattle.frames.specs.Heard.{IsFor, IsWhole, MaySend}
 use Rattle.frames.specs.Meaning.{arp_type, broadcast, is_for, is_fragment, may_send, same_mac}
@@ -53,8 +53,8 @@ for-Decides mac f =
     either (same_mac f.destination mac) (same_mac f.destination broadcast && f.kind == arp_type) (mac-Decides f.destination mac)
     (both (same_mac f.destination broadcast) (f.kind == arp_type) (mac-Decides f.destination broadcast) (number-Decides f.kind arp_type))
 
-single-Decides : (a : Addr) → length a.0 ≡ 4 → Decides (is_single_host a) (IsSingleHost a)
-single-Decides a len =
+unicast-Decides : (a : Addr) → length a.0 ≡ 4 → Decides (is_unicast a) (IsUnicast a)
+unicast-Decides a len =
     let first : ℕ = slice_index a.0 0 in
     let tests = both (nat_le 1 first && nat_le first 223) (not (first == 127)) (both (nat_le 1 first) (nat_le first 223) (lower first) (upper first)) (contrary (first == 127) (number-Decides first 127)) in (
       λ e. let facts = tests.0 e in record { octets = len; not_this_network = facts.0.0; class_a_to_c = facts.0.1; not_loopback = facts.1 },
@@ -69,7 +69,7 @@ single-Decides a len =
 
 pub send-Decides : (ours source : Addr) → length source.0 ≡ 4 → Decides (may_send ours source) (MaySend ours source)
 send-Decides ours source len =
-    let tests = both (is_single_host source) (not (same_addr source ours)) (single-Decides source len) (contrary (same_addr source ours) (addr-Decides source ours)) in
+    let tests = both (is_unicast source) (not (same_addr source ours)) (unicast-Decides source len) (contrary (same_addr source ours) (addr-Decides source ours)) in
     (λ e. let facts = tests.0 e in record { single = facts.0; other = facts.1 }, λ s. tests.1 (s.single, s.other))
 
 -- the addresses of a datagram for us

@@ -9,7 +9,7 @@ use Rattle.arp.specs.declared.packet.ArpPacket.{ArpPacket}
 use Rattle.arp.specs.Packet.{Spells as SpellsPacket, IsParsed as IsPacket}
 use Rattle.ipv4.specs.declared.addr.Addr.{Addr}
 use Rattle.ipv4.specs.declared.fault.Ipv4Fault.TheVariants as datagram
-use Rattle.ipv4.specs.Addresses.{IsSingleHost}
+use Rattle.ipv4.specs.Addresses.{IsUnicast}
 use Rattle.ipv4.specs.Datagram.{Datagram, Spells as SpellsDatagram, IsParsed as IsDatagram}
 use Rattle.tcp_segment.specs.declared.fault.SegmentFault.TheVariants as segment
 use Rattle.tcp_segment.specs.Segment.{Spells as SpellsSegment, IsParsed as IsSegment}
@@ -38,7 +38,7 @@ pub record Brings (mac : Mac) (octets : List ℕ) (kind : ℕ) (payload : List �
 
 -- another host may send from this address
 pub record MaySend (ours source : Addr) : Type 0 where
-  pub single : IsSingleHost source
+  pub single : IsUnicast source
   pub other : source ≢ ours
 
 -- the octets are a frame for this interface with a datagram for this address, from one that may send

@@ -10,7 +10,7 @@ use Rattle.ether.specs.Reading.{frame_in}
 use Rattle.arp.specs.declared.packet.ArpPacket.{ArpPacket}
 use Rattle.arp.specs.Reading.{packet_in}
 use Rattle.ipv4.specs.declared.addr.Addr.{Addr}
-use Rattle.ipv4.specs.Addresses.{is_single_host, same_addr}
+use Rattle.ipv4.specs.Addresses.{is_unicast, same_addr}
 use Rattle.ipv4.specs.declared.fault.Ipv4Fault.{Ipv4Fault}
 use Rattle.ipv4.specs.declared.fault.Ipv4Fault.TheVariants as datagram
 use Rattle.ipv4.specs.Datagram.{Datagram}
@@ -52,7 +52,7 @@ is_for mac f = same_mac f.destination mac || (same_mac f.destination broadcast &
 
 -- another host may send from this address
 abbrev pub may_send : Addr → Addr → Bool
-may_send ours source = is_single_host source && not (same_addr source ours)
+may_send ours source = is_unicast source && not (same_addr source ours)
 
 -- a part of a datagram
 abbrev pub is_fragment : Datagram → Bool

@@ -152,7 +152,7 @@ fn read_user<'a>(carrier: Ipv4View<'a>) -> Result<Meaning<'a>, DropCause>
 fn may_send(addr: Addr, source: Addr) -> bool
     ensures { result ≡ may_send addr source }
 {
-    source.is_single_host() && source != addr
+    source.is_unicast() && source != addr
 }
 
 /// Whether a datagram is a part of one.

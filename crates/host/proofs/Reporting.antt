@@ -4,7 +4,7 @@ use Rattle.ether.specs.declared.mac.Mac.{Mac}
 use Rattle.ether.specs.Frame.{Frame}
 use Rattle.ether.specs.Reading.{frame_in}
 use Rattle.ipv4.specs.declared.addr.Addr.{Addr}
-use Rattle.ipv4.specs.Addresses.{IsSingleHost}
+use Rattle.ipv4.specs.Addresses.{IsUnicast}
 use Rattle.ipv4.specs.Datagram.{Datagram}
 use Rattle.ipv4.specs.Reading.{datagram_in}
 use Rattle.clock.specs.declared.moment.Moment.{Moment}
@@ -40,9 +40,9 @@ use Rattle.host.specs.HostView.{HostView, with_interface}
 use Rattle.host.specs.Messages.{Told, Asks, Refuses, Nothing, errors_of, is_error, refused_quote, told_by, told_by_quote}
 
 -- a datagram of another protocol than ICMP, from one host, for one host, and no later fragment
-may-so : (ours : Addr) (d : Datagram) → IsSingleHost ours → d.destination ≡ ours → IsSingleHost d.source → d.protocol ≢ 1 → d.offset ≡ 0 → MayAnswer d false
+may-so : (ours : Addr) (d : Datagram) → IsUnicast ours → d.destination ≡ ours → IsUnicast d.source → d.protocol ≢ 1 → d.offset ≡ 0 → MayAnswer d false
 may-so ours d single here from other first =
-    let at : IsSingleHost d.destination = subst IsSingleHost (sym here) single in
+    let at : IsUnicast d.destination = subst IsUnicast (sym here) single in
     record {
       no_error = λ is. other is.protocol;
       no_broadcast = λ is. let octet : slice_index d.destination.0 0 ≡ 255 = ap (λ (l : List ℕ). slice_index l 0) is in omega (arith, octet, at.class_a_to_c);
@@ -56,7 +56,7 @@ not-icmp : (n : ℕ) → n ≡ 17 → n ≢ 1
 not-icmp n is other = omega (arith, is, other)
 
 -- what an error is about
-pub may-answer : (mac : Mac) (ours : Addr) (octets : List ℕ) (reason : Reason) (d : Datagram) (meaning : Meaning) → IsSingleHost ours → heard mac ours octets ≡ Ok meaning → IsAbout reason d meaning → MayAnswer d false
+pub may-answer : (mac : Mac) (ours : Addr) (octets : List ℕ) (reason : Reason) (d : Datagram) (meaning : Meaning) → IsUnicast ours → heard mac ours octets ≡ Ok meaning → IsAbout reason d meaning → MayAnswer d false
 may-answer mac ours octets _ _ _ single e (Untaken d) =
     let others = others_are_whole mac ours octets d e in
     let whole = others.1 in

@@ -2,7 +2,7 @@
 use Rattle.std.specs.Prelude.{◌≡◌, ◌%◌, List, length, slice_index}
 use Rattle.ether.specs.declared.mac.Mac.{Mac}
 use Rattle.ipv4.specs.declared.addr.Addr.{Addr}
-use Rattle.ipv4.specs.Addresses.{IsSingleHost}
+use Rattle.ipv4.specs.Addresses.{IsUnicast}
 use Rattle.routes.specs.declared.route.Route.{Route}
 
 -- its MAC, its address and its routes
@@ -17,6 +17,6 @@ IsOfOne mac = slice_index mac.0 0 % 2 ≡ 0
 
 -- one host's address and one interface's MAC
 pub record IsConfig (c : ConfigView) : Type 0 where
-  pub addr : IsSingleHost c.addr
+  pub addr : IsUnicast c.addr
   pub mac : IsOfOne c.mac
   pub octets : length c.mac.0 ≡ 6

@@ -24,7 +24,7 @@ impl Host {
     /// The first cause to drop it from the lowest layer up, and then nothing has changed: Short under 14 octets or over 1,514; OtherMac
     /// where it isn't for us, and a broadcast is for us with ARP alone; OtherType with neither IPv4 nor ARP; IpHeader, IpSum where the header
     /// of the datagram isn't well; OtherAddress where the datagram is for another host, or it or the ARP packet comes from our own
-    /// address or from no single host; Fragment for one of any protocol but UDP; UpperHeader, UpperSum where the ARP packet, the
+    /// address or not from a unicast address; Fragment for one of any protocol but UDP; UpperHeader, UpperSum where the ARP packet, the
     /// segment, the message or the user datagram isn't well. NoRoom where it would open a connection and there is no place in the backlog or
     /// the table, no id, no memory or no route to its source, where its user datagram finds 64 others at the socket, where it is a fragment of
     /// a datagram that has no place in the pool, where it is to be answered by a reset, an echo or an error and 16 control replies wait, and where

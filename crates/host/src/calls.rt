@@ -66,7 +66,7 @@ impl Host {
     /// Opens a connection to `peer`, whose initial sequence number here is `isn` (RFC 9293 section 3.10.1).
     ///
     /// EBADF; EOPNOTSUPP where the socket listens or is a datagram socket; the error that its connection reports; EALREADY while it opens a
-    /// connection; EISCONN where it has had one; EADDRNOTAVAIL for port 0, no single host or our own address; ENETUNREACH where no route leads
+    /// connection; EISCONN where it has had one; EADDRNOTAVAIL for port 0, an address that isn't unicast or our own; ENETUNREACH where no route leads
     /// to the peer's address (RFC 1122 section 3.3.1.1); EADDRINUSE where the pair is held or no dynamic port is free.
     pub fn connect(
         &mut self,
@@ -134,8 +134,8 @@ impl Host {
     /// Gives a user datagram to a socket, for `peer` (RFC 768), and answers how many octets that were: all. It waits behind the others. The socket
     /// is bound to a dynamic port where it wasn't bound.
     ///
-    /// EBADF; EOPNOTSUPP for a stream socket; EMSGSIZE for more than 65,507 octets; EADDRNOTAVAIL for port 0, no single host or our own
-    /// address; ENETUNREACH where no route leads to the peer's address (RFC 1122 section 3.3.1.1); EADDRINUSE where no dynamic port is free;
+    /// EBADF; EOPNOTSUPP for a stream socket; EMSGSIZE for more than 65,507 octets; EADDRNOTAVAIL for port 0, an address that isn't unicast or our
+    /// own; ENETUNREACH where no route leads to the peer's address (RFC 1122 section 3.3.1.1); EADDRINUSE where no dynamic port is free;
     /// EAGAIN where there is no room.
     pub fn sendto(&mut self, id: SocketId, peer: Endpoint, octets: &[u8]) -> Result<usize, Refusal>
         ensures answer { result ≡ sendto_answer self.old.sockets id peer octets.now (is_routed self.old.interface peer.addr) }

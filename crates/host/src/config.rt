@@ -18,28 +18,28 @@ pub struct Config {
 }
 
 impl Model for Config {
-    ghost use Rattle.ipv4.specs.Addresses.{IsSingleHost};
+    ghost use Rattle.ipv4.specs.Addresses.{IsUnicast};
     ghost use Rattle.host.specs.ConfigView.{ConfigView, IsOfOne};
 
     ghost Value = { ConfigView };
 
     ghost view = { λ c. record { mac = c.mac; addr = c.addr; routes = c.routes } };
 
-    ghost invariant = { λ c. IsSingleHost c.addr × IsOfOne c.mac };
+    ghost invariant = { λ c. IsUnicast c.addr × IsOfOne c.mac };
 }
 
 impl Config {
-    ghost use Rattle.ipv4.specs.Addresses.{IsSingleHost};
+    ghost use Rattle.ipv4.specs.Addresses.{IsUnicast};
     ghost use Rattle.host.specs.ConfigView.{IsConfig};
 
-    /// A host at `addr`, whose interface has this MAC, with these routes. EINVAL where the address is no single host's (RFC 1122
+    /// A host at `addr`, whose interface has this MAC, with these routes. EINVAL where the address isn't unicast (RFC 1122
     /// section 3.2.1.3), or the MAC is that of a group, with the low bit of its first octet set.
     pub fn new(mac: Mac, addr: Addr, routes: Routes) -> Result<Config, Refusal>
-        ensures valid { IsOk result ↔ (IsSingleHost addr × IsOfOne mac) }
+        ensures valid { IsOk result ↔ (IsUnicast addr × IsOfOne mac) }
         ensures value { IfOk result (λ config. config ≡ record { mac = mac; addr = addr; routes = routes }) }
         ensures refusal { IfErr result (λ refusal. refusal ≡ Refusal.EINVAL) }
     {
-        if addr.is_single_host() && is_of_one(mac) {
+        if addr.is_unicast() && is_of_one(mac) {
             Ok(Config { mac, addr, routes })
         } else {
             Err(Refusal::EINVAL)
@@ -70,7 +70,7 @@ impl Config {
     /// Its parts.
     pub(crate) fn into_parts(self) -> (Mac, Addr, Routes)
         ensures parts { (result.0 ≡ self.mac) × (result.1 ≡ self.addr) × (result.2 ≡ self.routes) }
-        ensures single { IsSingleHost self.addr }
+        ensures single { IsUnicast self.addr }
     {
         (self.mac, self.addr, self.routes)
     }

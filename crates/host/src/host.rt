@@ -23,14 +23,14 @@ pub struct Host {
 
 impl Model for Host {
     ghost use Rattle.std.specs.Prelude.{◌≡◌};
-    ghost use Rattle.ipv4.specs.Addresses.{IsSingleHost};
+    ghost use Rattle.ipv4.specs.Addresses.{IsUnicast};
     ghost use Rattle.host.specs.HostView.{HostView};
 
     ghost Value = { HostView };
 
     ghost view = { λ h. record { interface = h.interface; sockets = h.sockets; pool = h.pool } };
 
-    ghost invariant = { λ h. (h.interface.addr ≡ h.sockets.addr) × IsSingleHost h.interface.addr };
+    ghost invariant = { λ h. (h.interface.addr ≡ h.sockets.addr) × IsUnicast h.interface.addr };
 }
 
 impl Host {

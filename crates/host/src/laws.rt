@@ -6,7 +6,7 @@ ghost use Rattle.ether.specs.declared.mac.Mac.{Mac};
 ghost use Rattle.ether.specs.Frame.{Frame};
 ghost use Rattle.ether.specs.Reading.{frame_in};
 ghost use Rattle.ipv4.specs.declared.addr.Addr.{Addr};
-ghost use Rattle.ipv4.specs.Addresses.{IsSingleHost};
+ghost use Rattle.ipv4.specs.Addresses.{IsUnicast};
 ghost use Rattle.ipv4.specs.Datagram.{Datagram, header_octets};
 ghost use Rattle.clock.specs.declared.moment.Moment.{Moment};
 ghost use Rattle.clock.specs.Moments.{has_come};
@@ -110,7 +110,7 @@ pub fn ticks_wait()
 /// control message, are for one host, are no later fragments and come from one host; and no frame for all of the link brings one. Nothing else
 /// that is heard adds an error to the control replies: no segment does, and no message, which may be an error itself.
 pub fn answered_datagrams_may_be()
-    ensures may { (mac : Mac) (ours : Addr) (octets : List ℕ) (reason : Reason) (d : Datagram) (meaning : Meaning) → IsSingleHost ours
+    ensures may { (mac : Mac) (ours : Addr) (octets : List ℕ) (reason : Reason) (d : Datagram) (meaning : Meaning) → IsUnicast ours
         → heard mac ours octets ≡ Ok meaning → IsAbout reason d meaning → MayAnswer d false }
     ensures link { (mac : Mac) (ours : Addr) (octets : List ℕ) (reason : Reason) (d : Datagram) (meaning : Meaning) (f : Frame) → IsOfOne mac
         → heard mac ours octets ≡ Ok meaning → IsAbout reason d meaning → frame_in octets ≡ Some f → f.destination ≢ broadcast }

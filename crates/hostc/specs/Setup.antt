@@ -2,7 +2,7 @@
 use Rattle.std.specs.Prelude.{◌≡◌, ◌⊎◌, ℕ, ℤ, pos, List, map, Option, Some, None}
 use Rattle.ether.specs.declared.mac.Mac.{Mac}
 use Rattle.ipv4.specs.declared.addr.Addr.{Addr}
-use Rattle.ipv4.specs.Addresses.{IsSingleHost}
+use Rattle.ipv4.specs.Addresses.{IsUnicast}
 use Rattle.routes.specs.declared.route.Hop.{Hop}
 use Rattle.routes.specs.declared.route.Route.{Route}
 use Rattle.routes.specs.Routes.{IsTable}
@@ -35,7 +35,7 @@ IsValidTable given = (table : List Route) × IsTable table × IsTold given table
 -- one interface's MAC, one host's address, and routes that make a table
 pub record IsValidSetup (mac : Mac) (addr : ℕ) (given : List HostRoute) : Type 0 where
   pub one_interface : IsOfOne mac
-  pub one_host : IsSingleHost (addr_of addr)
+  pub one_host : IsUnicast (addr_of addr)
   pub table : IsValidTable given
 
 -- A handle that holds a host keeps it: EINVAL. Another one stays as it was where the set-up isn't valid, EINVAL, and else where memory runs

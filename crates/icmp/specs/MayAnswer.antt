@@ -1,7 +1,7 @@
 -- Which datagrams may be answered by an error (RFC 1122 section 3.2.2).
 use Rattle.std.specs.Prelude.{◌≡◌, ℕ, ◌≤◌, Bool, IsTrue, List, [], ◌∷◌, slice_index}
 use Rattle.ipv4.specs.declared.addr.Addr.{Addr}
-use Rattle.ipv4.specs.Addresses.{IsSingleHost}
+use Rattle.ipv4.specs.Addresses.{IsUnicast}
 use Rattle.ipv4.specs.Datagram.{Datagram}
 use Rattle.icmp.specs.Errors.{IsErrorKind}
 
@@ -31,4 +31,4 @@ pub record MayAnswer (d : Datagram) (link_broadcast : Bool) : Type 0 where
   pub no_multicast : IsMulticast d.destination → ⊥
   pub no_link_broadcast : IsTrue link_broadcast → ⊥
   pub first_fragment : d.offset ≡ 0
-  pub single_source : IsSingleHost d.source
+  pub single_source : IsUnicast d.source

@@ -8,13 +8,13 @@ use ipv4::{Addr, Ipv4View, Protocol};
 
 /// Whether an error may be sent to the source of this datagram, whose frame was a broadcast of the link or not. It may not
 /// where the datagram carries an error itself, is for a broadcast or a multicast address, came in a link broadcast, is a
-/// fragment other than the first, or has a source that is no single host (RFC 1122 section 3.2.2).
+/// fragment other than the first, or has a source that isn't unicast (RFC 1122 section 3.2.2).
 pub fn may_answer(datagram: &Ipv4View, link_broadcast: bool) -> bool
     ensures { IsTrue result ↔ MayAnswer datagram.now link_broadcast }
 {
     !link_broadcast
         && datagram.offset() == 0
-        && datagram.source().is_single_host()
+        && datagram.source().is_unicast()
         && !is_broadcast(datagram.destination())
         && !is_multicast(datagram.destination())
         && !is_error(datagram)

@@ -8,15 +8,15 @@ use Rattle.ipv4.specs.declared.addr.Endpoint.{Endpoint}
 use Rattle.ipv4.specs.declared.addr.Pair.{Pair}
 
 -- an address that one host may have: none of network 0, the loopback network 127, or the classes D and E
-pub record IsSingleHost (addr : Addr) : Type 0 where
+pub record IsUnicast (addr : Addr) : Type 0 where
   pub octets : length addr.0 ≡ 4
   pub not_this_network : 1 ≤ slice_index addr.0 0
   pub class_a_to_c : slice_index addr.0 0 ≤ 223
   pub not_loopback : slice_index addr.0 0 ≢ 127
 
 -- the test for it: the first octet is 1 to 223, and not 127
-abbrev pub is_single_host : Addr → Bool
-is_single_host addr = let first = slice_index addr.0 0 in nat_le 1 first && nat_le first 223 && not (first == 127)
+abbrev pub is_unicast : Addr → Bool
+is_unicast addr = let first = slice_index addr.0 0 in nat_le 1 first && nat_le first 223 && not (first == 127)
 
 -- octet by octet
 abbrev pub same_addr : Addr → Addr → Bool

@@ -1,7 +1,7 @@
 //! Addresses, endpoints, and the pair of endpoints of a connection.
 
 ghost use Rattle.std.specs.Prelude.{◌≡◌, ◌≤◌, ◌+◌, ◌↔◌, IsTrue, length, take, drop};
-ghost use Rattle.ipv4.specs.Addresses.{IsSingleHost, is_single_host, pair_of};
+ghost use Rattle.ipv4.specs.Addresses.{IsUnicast, is_unicast, pair_of};
 
 use std::fmt::{Display, Error, Formatter, Write};
 
@@ -11,9 +11,9 @@ pub struct Addr(pub [u8; 4]);
 
 impl Addr {
     /// Whether one host may have this address: the first octet is 1 to 223, and not 127.
-    pub fn is_single_host(self) -> bool
-        ensures test { result ≡ is_single_host self }
-        ensures host { IsTrue result ↔ IsSingleHost self }
+    pub fn is_unicast(self) -> bool
+        ensures test { result ≡ is_unicast self }
+        ensures host { IsTrue result ↔ IsUnicast self }
     {
         matches!(self.0[0], 1..=126 | 128..=223)
     }

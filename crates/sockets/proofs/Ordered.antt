@@ -23,7 +23,7 @@ use Rattle.sockets.specs.declared.datagrams.Reception.{Reception}
 use Rattle.sockets.specs.declared.datagrams.Reception.TheVariants.{Queued, NoRoom, NoSocket}
 use Rattle.sockets.specs.declared.entry.SocketId.{SocketId}
 use Rattle.sockets.specs.declared.entry.Entry.{Entry}
-use Rattle.ipv4.specs.Addresses.{is_single_host, same_addr, same_end}
+use Rattle.ipv4.specs.Addresses.{is_unicast, same_addr, same_end}
 use Rattle.sockets.specs.declared.role.Role.{Role}
 use Rattle.sockets.specs.declared.role.Role.TheVariants.{Idle, Listener, Connected, Datagrams}
 use Rattle.sockets.specs.Entries.{is_socket, waits_at, is_between, is_live_between, is_listening_at, sends, is_kept, is_offered_by, has_port, uses_port, entries_after_step, fate_of, role_after_segment, role_after_unreachable, unreachable_fate_of, role_after_tick, tick_fate_of, role_after_emission, emission_fate_of, role_after_abort, role_after_listener_close, listener_close_fate_of, role_after_close, close_fate_of, role_after_bind, role_after_listen, role_after_connect, role_after_accept, role_after_send, role_after_recv, role_after_shutdown, new_socket, new_datagram_socket, new_waiting, on_datagrams, is_datagrams_at, with_role}
@@ -259,7 +259,7 @@ reach_test false false false d x y e = refl
 
 -- the peer is at another address
 peer_apart : (h : SocketsView) (peer : Endpoint) (routed : Bool) → reach_refusal h peer routed ≡ None → same_addr peer.addr h.addr ≡ false
-peer_apart h peer routed reached = reach_test (peer.port == 0) (not (is_single_host peer.addr)) (same_addr peer.addr h.addr) routed EADDRNOTAVAIL ENETUNREACH reached
+peer_apart h peer routed reached = reach_test (peer.port == 0) (not (is_unicast peer.addr)) (same_addr peer.addr h.addr) routed EADDRNOTAVAIL ENETUNREACH reached
 
 -- a port that is given holds no connection to the peer
 port_free : (h : SocketsView) (bound : Option Endpoint) (peer : Endpoint) (port : ℕ) → port_for h bound peer ≡ Some port → is_pair_held h port peer ≡ false

@@ -6,7 +6,7 @@ use Rattle.std.specs.Result.{result_ok, result_err}
 use Rattle.ipv4.specs.declared.addr.Addr.{Addr}
 use Rattle.ipv4.specs.declared.addr.Endpoint.{Endpoint}
 use Rattle.ipv4.specs.declared.addr.Pair.{Pair}
-use Rattle.ipv4.specs.Addresses.{pair_of, same_addr, is_single_host}
+use Rattle.ipv4.specs.Addresses.{pair_of, same_addr, is_unicast}
 use Rattle.tcp_halves.specs.declared.buffers.Buffers.{Buffers}
 use Rattle.tcp_state.specs.declared.state.State.{State}
 use Rattle.tcp_state.specs.declared.calls.Received.{Received}
@@ -282,10 +282,10 @@ abbrev pub port_for : SocketsView → Option Endpoint → Endpoint → Option �
 port_for h (Some bound) peer = if is_pair_held h bound.port peer then None else Some bound.port
 port_for h None peer = first_port (is_free_port h.entries h.addr peer) h.last_port 0 16384
 
--- no single host's address or our own, or port 0; then no route that leads to it
+-- an address that isn't unicast, our own, or port 0; then no route that leads to it
 abbrev pub reach_refusal : SocketsView → Endpoint → Bool → Option Refusal
 reach_refusal h peer routed =
-    if (peer.port == 0) || not (is_single_host peer.addr) || same_addr peer.addr h.addr then Some EADDRNOTAVAIL
+    if (peer.port == 0) || not (is_unicast peer.addr) || same_addr peer.addr h.addr then Some EADDRNOTAVAIL
     else if routed then None
     else Some ENETUNREACH
 

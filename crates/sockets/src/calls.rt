@@ -225,7 +225,7 @@ impl Sockets {
     /// Opens a connection to `peer`, whose initial sequence number here is `isn` (RFC 9293 section 3.10.1).
     ///
     /// EBADF; EOPNOTSUPP of a UDP socket and where the socket listens; the error that its connection is told; EALREADY while it opens a connection; EISCONN where it has had
-    /// one; EADDRNOTAVAIL for port 0, no single host or our own address; ENETUNREACH where no route leads to the peer, which `is_routed`
+    /// one; EADDRNOTAVAIL for port 0, an address that isn't unicast or our own; ENETUNREACH where no route leads to the peer, which `is_routed`
     /// says; EADDRINUSE where the pair is held or no dynamic port is free.
     pub fn connect(
         &mut self,
@@ -267,7 +267,7 @@ impl Sockets {
     pub(crate) fn may_reach(&self, peer: Endpoint, is_routed: bool) -> Result<(), Refusal>
         ensures { result_err result ≡ reach_refusal self.now peer is_routed }
     {
-        if peer.port == 0 || !peer.addr.is_single_host() || peer.addr == self.addr {
+        if peer.port == 0 || !peer.addr.is_unicast() || peer.addr == self.addr {
             return Err(Refusal::EADDRNOTAVAIL);
         }
         if !is_routed {

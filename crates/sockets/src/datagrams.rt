@@ -31,7 +31,7 @@ impl Sockets {
     /// Gives a datagram for `peer` to a UDP socket, which sends it behind the others, and answers its length in octets. It has the next
     /// identification, and waits since the kept moment. A socket that is not bound is bound to our address and a dynamic port.
     ///
-    /// EBADF; EOPNOTSUPP of a TCP socket; EMSGSIZE over 65,507 octets; EADDRNOTAVAIL for port 0, no single host or our own address;
+    /// EBADF; EOPNOTSUPP of a TCP socket; EMSGSIZE over 65,507 octets; EADDRNOTAVAIL for port 0, an address that isn't unicast or our own;
     /// ENETUNREACH where no route leads to the peer, which `is_routed` says; EADDRINUSE where no dynamic port is free; EAGAIN where the socket
     /// has no room.
     pub fn sendto(

@@ -101,7 +101,7 @@ const NO_REPLY_HAS_ROOM: &[Step] = &[
     (B, Act::RecvFrom(ONE, b"hi", Ok(SENDING))),
 ];
 
-/// A datagram is for a single host that isn't this one, and to which a route leads. What is refused binds nothing.
+/// A datagram is for a unicast address that isn't ours, and to which a route leads. What is refused binds nothing.
 const REFUSED: &[Step] = &[
     (A, Act::DatagramSocket(ONE)),
     (

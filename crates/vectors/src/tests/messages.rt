@@ -173,7 +173,7 @@ const ANSWERED: [(&[u8], bool, bool); 20] = [
         false,
         false,
     ),
-    // for no single host, and for the last that is one
+    // not for a unicast address, and for the last that is one
     (
         b"\x45\0\0\x1c\0\0\0\0\0\x11\xb0\xd1\x0a\0\0\x01\xff\xff\xff\xff\x03\0\0\0\0\0\0\0",
         false,
@@ -194,7 +194,7 @@ const ANSWERED: [(&[u8], bool, bool); 20] = [
         false,
         true,
     ),
-    // from no single host
+    // not from a unicast address
     (
         b"\x45\0\0\x1c\0\0\0\0\0\x11\xb0\xd0\0\0\0\0\x0a\0\0\x02\x03\0\0\0\0\0\0\0",
         false,

@@ -33,7 +33,7 @@ fn prefixes(rt: HostRuntime) {
 
 #[test]
 fn endpoints(rt: HostRuntime) {
-    assert!(rt; A.is_single_host() && !Addr([127, 0, 0, 1]).is_single_host());
+    assert!(rt; A.is_unicast() && !Addr([127, 0, 0, 1]).is_unicast());
     let low = Endpoint { addr: A, port: 80 };
     let high = Endpoint { addr: B, port: 7 };
     for pair in &[Pair::new(high, low), Pair::new(low, high)] {

@@ -6,7 +6,7 @@ use Rattle.clock.specs.declared.moment.Moment.{Moment}
 use Rattle.ipv4.specs.declared.addr.Addr.{Addr}
 use Rattle.ipv4.specs.declared.addr.Endpoint.{Endpoint}
 use Rattle.ipv4.specs.declared.addr.Pair.{Pair}
-use Rattle.ipv4.specs.Addresses.{pair_of, same_addr, is_single_host}
+use Rattle.ipv4.specs.Addresses.{pair_of, same_addr, is_unicast}
 use Rattle.ipv4.proofs.Pairs.{pair_of-swapped}
 use Rattle.tcp_segment.specs.Segment.{Segment}
 use Rattle.frames.specs.declared.drop.DropCause.{DropCause}
@@ -167,7 +167,7 @@ unheld-received_from own source d pair free = ap (option_map (λ (e : Entry). e.
 
 -- a segment comes from another address
 from-another : (own : Addr) (source : Addr) → may_send own source ≡ true → same_addr own source ≡ false
-from-another own source may = same_addr-other source own (not_true (same_addr source own) (and_parts (is_single_host source) (not (same_addr source own)) may).1)
+from-another own source may = same_addr-other source own (not_true (same_addr source own) (and_parts (is_unicast source) (not (same_addr source own)) may).1)
 
 -- the pair of what is heard, at our end first
 named-pair : (from to : Side) (out : Sent) (own : SocketsView) (a : Addr) (o : Option Note) (r : Received) → own.addr ≡ a → (k : IsOf a from to out o r) → k.note.pair ≡ pair_of (local_end own r.segment) (peer_end r.source r.segment)

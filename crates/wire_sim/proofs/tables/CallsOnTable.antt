@@ -4,7 +4,7 @@ use Rattle.std.specs.List.{find, list_any}
 use Rattle.std.specs.Option.{option_or}
 use Rattle.std.proofs.lemmas.Bool.{eqb-true}
 use Rattle.ipv4.specs.declared.addr.Endpoint.{Endpoint}
-use Rattle.ipv4.specs.Addresses.{pair_of, same_addr, is_single_host}
+use Rattle.ipv4.specs.Addresses.{pair_of, same_addr, is_unicast}
 use Rattle.tcp_halves.specs.declared.buffers.Buffers.{Buffers}
 use Rattle.tcp_state.specs.declared.calls.Received.{Received}
 use Rattle.tcp_state.specs.declared.calls.Received.TheVariants.{Octets, EndOfStream}
@@ -265,7 +265,7 @@ port_for-free h (Some bound) peer port given = step (is_pair_held h bound.port p
 
 -- a peer that may be reached is another host
 pub reached-apart : (h : SocketsView) (peer : Endpoint) (routed : Bool) → reach_refusal h peer routed ≡ None → same_addr h.addr peer.addr ≡ false
-reached-apart h peer routed = step (peer.port == 0) (not (is_single_host peer.addr)) (same_addr peer.addr h.addr) routed refl
+reached-apart h peer routed = step (peer.port == 0) (not (is_unicast peer.addr)) (same_addr peer.addr h.addr) routed refl
   where
     step : (none many own near : Bool) → same_addr peer.addr h.addr ≡ own
         → cond (none || many || own) (Some EADDRNOTAVAIL) (cond near None (Some ENETUNREACH)) ≡ None → same_addr h.addr peer.addr ≡ false

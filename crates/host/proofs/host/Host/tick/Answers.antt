@@ -1,6 +1,6 @@
 -- Both sides and the pool, at the later of the moment and the kept one.
 use Rattle.std.proofs.Common.{rules, ◌≡◌, List, sym, subst, ◌∙◌, ap}
-use Rattle.ipv4.specs.Addresses.{IsSingleHost}
+use Rattle.ipv4.specs.Addresses.{IsUnicast}
 use Rattle.clock.specs.declared.moment.Moment.{Moment}
 use Rattle.interface.specs.InterfaceView.{InterfaceView}
 use Rattle.interface.specs.Timing.{after_tick as interface_after_tick}
@@ -30,7 +30,7 @@ invariant_of-self c =
     ap (λ (i : InterfaceView). i.addr) c.report_expired.ensures ∙ all_reported-addr now c.deref.result.now c.tick-2.new.self in
     let own : c.report_expired.new.interface.addr ≡ c.self.inside.interface.addr = told ∙ ap (λ (i : InterfaceView). i.addr) c.tick-2.ensures in
     let table : c.give_up.new.self.addr ≡ c.self.inside.sockets.addr = ap (λ (t : SocketsView). t.addr) given_up ∙ ap (λ (t : SocketsView). t.addr) c.tick.ensures in
-    (own ∙ c.self.invariant.0 ∙ sym table, subst IsSingleHost (sym own) c.self.invariant.1)
+    (own ∙ c.self.invariant.0 ∙ sym table, subst IsUnicast (sym own) c.self.invariant.1)
 
 pub returns : goal.returns
 unfolding after
