@@ -391,7 +391,7 @@ module _ (xs : List Entry) (sorted : AreInOrder xs) (local peer : Endpoint) wher
           (λ fails. fails))
           (get_or_default xs place y e there.0) parts.1
 
--- Searches by halves.
+-- Binary search.
 
 -- none stands before one in front of it, or before itself
 sorted_from : (l : List Filed) → AreSorted l → (i j : ℕ) (d : Filed) → i ≤ j → j < length l → is_before (get_or l j d) (get_or l i d) ≡ false

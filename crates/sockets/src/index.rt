@@ -1,4 +1,4 @@
-//! The connections of the table by their two ends, so that a segment finds its own by halves.
+//! The connections of the table by their two ends, so that a segment finds its own by binary search.
 
 ghost use Rattle.std.specs.Prelude.{◌≡◌, ◌<◌, nat_lt, if◌then◌else◌, length, position, filter};
 ghost use Rattle.std.specs.List.{list_any};
@@ -65,7 +65,7 @@ pub(crate) fn forget(index: &mut ArrayVec<Filed, ENTRIES>, entries: &[Entry], he
     }
 }
 
-/// The place of the connection from `local` to `peer`, in any state but CLOSED: halves find the first that is filed by the two ends, and of those
+/// The place of the connection from `local` to `peer`, in any state but CLOSED: a binary search finds the first that is filed by the two ends, and of those
 /// that are, it is the first that is not CLOSED.
 pub(crate) fn connection_between(
     entries: &[Entry],

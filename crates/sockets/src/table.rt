@@ -22,7 +22,7 @@ use tcp_state::Fate;
 /// How many entries the table holds: sockets, and connections that no socket names, not yet or no longer.
 pub const ENTRIES: usize = 64;
 
-/// The place of the entry of this id, which halves find: the entries stand in order of id.
+/// The place of the entry of this id, by binary search: the entries stand in order of id.
 pub(crate) fn place_of(entries: &[Entry], id: SocketId) -> Option<usize>
     requires { AreInOrder entries.now }
     ensures { result ≡ position (has_id id) entries.now }
