@@ -1,4 +1,4 @@
--- The user datagrams that a host accepted from its callers, the first one first (RFC 768).
+-- The UDP datagrams that a host accepted from its callers, the first one first (RFC 768).
 use Rattle.std.specs.Prelude.{◌≡◌, ℕ, ◌%◌, ◌<◌, ◌≤◌, ◌^◌, List, length, slice_get, All, Some}
 use Rattle.std.specs.List.{Any}
 use Rattle.ipv4.specs.declared.addr.Endpoint.{Endpoint}
@@ -17,7 +17,7 @@ pub record Accepted : Type 0 where
 abbrev pub head_of : Accepted → Head
 head_of a = record { source = a.source.port; destination = a.peer.port }
 
--- the user datagram as it goes out
+-- the UDP datagram as it goes out
 abbrev pub datagram_of : Accepted → UserDatagram
 datagram_of a = sent a.source.addr a.peer.addr (head_of a) a.octets
 

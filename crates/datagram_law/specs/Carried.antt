@@ -30,7 +30,7 @@ IsWholeOfOne accepted d payload = Any (λ a. IsOf a d × (payload ≡ spelling (
 abbrev pub accepted_of : Endpoint → Outgoing → Accepted
 accepted_of source o = record { source = source; peer = o.peer; identification = o.identification; octets = o.octets }
 
--- the datagram of IPv4 that carries these octets of a user datagram between these addresses, as is told of this part
+-- the datagram of IPv4 that carries these octets of a UDP datagram between these addresses, as is told of this part
 pub record Carries (from to : Addr) (part : Part) (octets : List ℕ) (d : Datagram) : Type 0 where
   pub source : d.source ≡ from
   pub destination : d.destination ≡ to

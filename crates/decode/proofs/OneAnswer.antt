@@ -9,7 +9,7 @@ use Rattle.ether.proofs.Answering.{one_answer as one_frame}
 use Rattle.arp.proofs.OnePacket.{one_answer as one_packet}
 use Rattle.ipv4.proofs.Answering.{one_answer as one_datagram}
 use Rattle.icmp.proofs.Answering.{one_answer as one_message}
-use Rattle.udp.proofs.Answering.{one_answer as one_user_datagram}
+use Rattle.udp.proofs.Answering.{one_answer as one_udp_datagram}
 use Rattle.tcp_segment.proofs.Answering.{one_answer as one_segment}
 use Rattle.decode.specs.declared.drop.DropCause.{DropCause}
 use Rattle.decode.specs.declared.carried.Carried.{Carried}
@@ -22,7 +22,7 @@ use Rattle.decode.specs.Layers.{Shown, Decodes, IsShown, IsFrameShown, IsPayload
 one-upper : (upper : Upper) (d : Datagram) (first second : Shown) → IsUpperShown upper d first → IsUpperShown upper d second → first ≡ second
 one-upper Unread d first second a b = a ∙ sym b
 one-upper Icmp d first second a b = a.2 ∙ ap icmp_shown (one_message d.payload a.0 b.0 a.1 b.1) ∙ sym b.2
-one-upper Udp d first second a b = a.2 ∙ ap udp_shown (one_user_datagram d.source d.destination d.payload a.0 b.0 a.1 b.1) ∙ sym b.2
+one-upper Udp d first second a b = a.2 ∙ ap udp_shown (one_udp_datagram d.source d.destination d.payload a.0 b.0 a.1 b.1) ∙ sym b.2
 one-upper Tcp d first second a b = a.2 ∙ ap tcp_shown (one_segment d.source d.destination d.payload a.0 b.0 a.1 b.1) ∙ sym b.2
 
 one-datagram : (read : Result Datagram Ipv4Fault) (first second : Shown) → IsDatagramShown read first → IsDatagramShown read second → first ≡ second

@@ -69,7 +69,7 @@ icmp_shown (Ok m) = line (icmp_line m)
 icmp_shown (Err message.UpperHeader) = dropped UpperHeader
 icmp_shown (Err message.UpperSum) = dropped UpperSum
 
--- a user datagram
+-- a UDP datagram
 abbrev pub udp_shown : Result UserDatagram UdpFault → Shown
 udp_shown (Ok d) = line (udp_line d)
 udp_shown (Err user.UpperHeader) = dropped UpperHeader

@@ -114,7 +114,7 @@ fn show_upper(datagram: &Ipv4View<'_>, lines: &mut String) -> Result<Option<Drop
     match upper_in(datagram) {
         Upper::Unread => Ok(None),
         Upper::Icmp => show_message(IcmpView::parse(octets), lines),
-        Upper::Udp => show_user_datagram(UdpView::parse(source, destination, octets), lines),
+        Upper::Udp => show_udp_datagram(UdpView::parse(source, destination, octets), lines),
         Upper::Tcp => show_segment(TcpView::parse(source, destination, octets), lines),
     }
 }
@@ -136,8 +136,8 @@ fn show_message(
     }
 }
 
-/// Adds the line of a user datagram.
-fn show_user_datagram(
+/// Adds the line of a UDP datagram.
+fn show_udp_datagram(
     read: Result<UdpView<'_>, UdpFault>,
     lines: &mut String,
 ) -> Result<Option<DropCause>, AllocError>

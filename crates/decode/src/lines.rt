@@ -119,7 +119,7 @@ pub fn push_message(message: &IcmpView<'_>, text: &mut String) -> Result<(), All
     )
 }
 
-/// Adds the line of a user datagram.
+/// Adds the line of a UDP datagram.
 pub(crate) fn push_udp(datagram: &UdpView<'_>, lines: &mut String) -> Result<(), AllocError>
     ensures { OnOk result (string_bytes lines.new ≡ string_bytes lines.old ++ udp_line datagram.now) }
 {
@@ -127,7 +127,7 @@ pub(crate) fn push_udp(datagram: &UdpView<'_>, lines: &mut String) -> Result<(),
     lines.push_str("\n")
 }
 
-/// Adds what a user datagram says, with no newline: its ports, and the octets of its data (RFC 768). An error is want of memory.
+/// Adds what a UDP datagram says, with no newline: its ports, and the octets of its data (RFC 768). An error is want of memory.
 pub fn push_user(datagram: &UdpView<'_>, text: &mut String) -> Result<(), AllocError>
     ensures { OnOk result (string_bytes text.new ≡ string_bytes text.old ++ user_text datagram.now) }
 {

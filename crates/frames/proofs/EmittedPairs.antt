@@ -69,14 +69,14 @@ reads h head payload are destination source =
       found = datagram_found frame.payload d (datagram_spelled head payload (padding (datagram_octets d)) are);
     }
 
--- a control message has no pair
+-- an ICMP message has no pair
 pub message_pairs : (h : FrameHead) (octets : List ℕ) → length h.from.0 ≡ 4 → length h.to.0 ≡ 4 → length h.destination.0 ≡ 6 → length h.source.0 ≡ 6
     → length octets ≤ 1480 → pair_in (message_frame h octets) ≡ None
 message_pairs h octets from to destination source most =
     let r = reads h (ipv4_head h 1) octets (fields h 1 octets (omega arith) from to most) destination source in
     as_frame (message_frame h octets) (Some r.frame) r.framed ∙ of_ipv4 r.frame r.type ∙ ap datagram_pair r.found
 
--- nor has a part of a user datagram, whether it is the whole or not
+-- nor has a part of a UDP datagram, whether it is the whole or not
 no_pair : (b : Bool) (d : Datagram) → d.protocol ≡ 17
     → cond (b && d.protocol == 6) (segment_pair d.source d.destination (segment_in d.source d.destination d.payload)) None ≡ None
 no_pair false d is = refl

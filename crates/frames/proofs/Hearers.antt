@@ -1,4 +1,4 @@
--- Who hears a segment or a control message, of octets and of what goes out, and what is known of the datagrams that are heard.
+-- Who hears a segment or an ICMP message, of octets and of what goes out, and what is known of the datagrams that are heard.
 use Rattle.std.proofs.Common.{◌≡◌, ◌≢◌, ℕ, ◌+◌, ◌*◌, ◌^◌, ◌<◌, ◌≤◌, true, false, List, length, Option, Some, Result, Ok, arith, sym, ◌∙◌, ap, subst}
 use Rattle.ether.specs.declared.mac.Mac.{Mac}
 use Rattle.ether.specs.declared.head.Head.{Head as EtherHead}
@@ -116,7 +116,7 @@ others_are_whole mac ours octets d answer =
     ((send-Decides ours from.0.source own.source).0 from.1.may, whole from.0 from.2.0, from.2.1, from.2.2, from.2.3) in
     subst (λ (e : Datagram). MaySend ours e.source × IsWhole e × (e.protocol ≢ 6) × (e.protocol ≢ 1) × (e.protocol ≢ 17)) (sym from.2.4) facts
 
--- what carries a user datagram is, and a fragment isn't
+-- what carries a UDP datagram is, and a fragment isn't
 pub users_are_carried : (mac : Mac) (ours : Addr) (octets : List ℕ) (r : UserReceived) → heard mac ours octets ≡ Ok (Udp r)
     → MaySend ours r.carrier.source × IsWhole r.carrier × (r.carrier.protocol ≡ 17)
     × (datagram_or_fault r.carrier.source r.carrier.destination r.carrier.payload ≡ Ok r.datagram)

@@ -126,7 +126,7 @@ no_socket mac ours octets d brings is other =
     let segments : Result Meaning DropCause = segment_heard d.source (segment_or_fault d.source d.destination d.payload) in
     for_whole mac ours octets d brings is ∙ ap (λ b. cond b segments (beside_tcp d)) (refuted (d.protocol == 6) (number-Decides d.protocol 6) other)
 
--- of a control message for us
+-- of an ICMP message for us
 for_control : (mac : Mac) (ours : Addr) (octets : List ℕ) (d : Datagram) (read : Result Message IcmpFault) → BringsIcmp mac ours octets d
     → message_or_fault d.payload ≡ read → heard mac ours octets ≡ message_heard d.source read
 for_control mac ours octets d read brings found =
@@ -142,7 +142,7 @@ no_control mac ours octets d brings is no_tcp no_icmp =
     no_socket mac ours octets d brings is no_tcp
     ∙ ap (λ b. cond b (message_heard d.source (message_or_fault d.payload)) (beside_icmp d)) (refuted (d.protocol == 1) (number-Decides d.protocol 1) no_icmp)
 
--- of a user datagram for us
+-- of a UDP datagram for us
 for_user : (mac : Mac) (ours : Addr) (octets : List ℕ) (d : Datagram) (read : Result UserDatagram UdpFault) → BringsUdp mac ours octets d
     → datagram_or_fault d.source d.destination d.payload ≡ read → heard mac ours octets ≡ user_heard d read
 for_user mac ours octets d read brings found =
@@ -151,7 +151,7 @@ for_user mac ours octets d read brings found =
     ∙ ap (λ b. cond b one (Ok (Other d))) (eq-eqb d.protocol 17 brings.2)
     ∙ ap (user_heard d) found
 
--- what octets spell is heard: a packet, a segment, a control message, another datagram
+-- what octets spell is heard: a packet, a segment, an ICMP message, another datagram
 pub heard_packet : (mac : Mac) (ours : Addr) (octets : List ℕ) (p : ArpPacket) → IsHeard mac ours octets (Ok (Arp p)) → heard mac ours octets ≡ Ok (Arp p)
 heard_packet mac ours octets p is =
     brought_packet mac ours octets is.0 (Some p) is.1 (packet_found is.0 p is.2) ∙ from_other ours p ((send-Decides ours p.sender_addr is.2.widths.sender_addr).1 is.3)

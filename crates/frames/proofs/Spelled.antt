@@ -49,14 +49,14 @@ of_segment mac ours octets d (Ok s) brings is = (d, brings, is, refl)
 of_segment mac ours octets d (Err segment.UpperHeader) brings is = inr (inl (d, brings, is))
 of_segment mac ours octets d (Err segment.UpperSum) brings is = inl (d, brings, is)
 
--- a control message
+-- an ICMP message
 of_message : (mac : Mac) (ours : Addr) (octets : List ℕ) (d : Datagram) (read : Result Message IcmpFault) → BringsIcmp mac ours octets d
     → IsMessage d.payload read → IsHeard mac ours octets (message_heard d.source read)
 of_message mac ours octets d (Ok m) brings is = (d, brings, is, refl)
 of_message mac ours octets d (Err message.UpperHeader) brings is = inr (inr (inl (d, brings, is)))
 of_message mac ours octets d (Err message.UpperSum) brings is = inr (inl (d, brings, is))
 
--- a user datagram
+-- a UDP datagram
 of_user : (mac : Mac) (ours : Addr) (octets : List ℕ) (d : Datagram) (read : Result UserDatagram UdpFault) → BringsUdp mac ours octets d
     → IsUser d.source d.destination d.payload read → IsHeard mac ours octets (user_heard d read)
 of_user mac ours octets d (Ok u) brings is = (brings, is)

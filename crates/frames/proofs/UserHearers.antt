@@ -1,4 +1,4 @@
--- Who hears a user datagram or a fragment of what goes out, and that nobody hears anything else in the frame of a part.
+-- Who hears a UDP datagram or a fragment of what goes out, and that nobody hears anything else in the frame of a part.
 use Rattle.std.proofs.Common.{◌≡◌, ◌≢◌, ℕ, List, length, Ok, arith, sym, ◌∙◌, ap, subst}
 use Rattle.ether.specs.declared.mac.Mac.{Mac}
 use Rattle.arp.specs.declared.packet.ArpPacket.{ArpPacket}
@@ -54,7 +54,7 @@ no_message_in_part h part octets mac ours c destination source answer =
     let protocol : 1 ≡ 17 = sym from.2.1 ∙ other in
     omega (arith, protocol)
 
--- and nobody hears a user datagram or a fragment in the frame of another kind
+-- and nobody hears a UDP datagram or a fragment in the frame of another kind
 no_user : (h : FrameHead) (protocol : ℕ) (octets : List ℕ) (mac : Mac) (ours : Addr) (r : UserReceived) (d : Datagram) → protocol ≢ 17
     → length h.destination.0 ≡ 6 → length h.source.0 ≡ 6
     → (heard mac ours (datagram_frame h protocol octets) ≢ Ok (Udp r)) × (heard mac ours (datagram_frame h protocol octets) ≢ Ok (UdpFragment d))

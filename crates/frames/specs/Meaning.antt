@@ -1,6 +1,6 @@
 -- What octets are to a host with this MAC and this address, or the first cause to drop them. They are tested layer by layer,
 -- from the lowest up: the frame (RFC 894), the ARP packet (RFC 826) or the datagram (RFC 791), its addresses (RFC 1122
--- section 3.2.1.3), and the segment (RFC 9293 section 3.1), the control message (RFC 792) or the user datagram (RFC 768).
+-- section 3.2.1.3), and the segment (RFC 9293 section 3.1), the ICMP message (RFC 792) or the UDP datagram (RFC 768).
 use Rattle.std.specs.Prelude.{ℕ, ◌==◌, nat_eq, nat_lt, Bool, not, ◌&&◌, ◌||◌, if◌then◌else◌, List, length, replicate, Option, Some, None, Result, Ok, Err}
 use Rattle.std.specs.Cmp.Lexicographic.{pointwise}
 use Rattle.ether.specs.declared.head.TheConstants.{ETHERTYPE_ARP, ETHERTYPE_IPV4, FRAME_MAX}
@@ -69,13 +69,13 @@ segment_heard source (Err segment.UpperHeader) = Err UpperHeader
 segment_heard source (Err segment.UpperSum) = Err UpperSum
 segment_heard source (Ok s) = Ok (Tcp (record { source = source; segment = s }))
 
--- a control message from this address
+-- an ICMP message from this address
 abbrev pub message_heard : Addr → Result Message IcmpFault → Result Meaning DropCause
 message_heard source (Err message.UpperHeader) = Err UpperHeader
 message_heard source (Err message.UpperSum) = Err UpperSum
 message_heard source (Ok m) = Ok (Icmp (record { source = source; message = m }))
 
--- a user datagram in this datagram of IPv4
+-- a UDP datagram in this datagram of IPv4
 abbrev pub user_heard : Datagram → Result UserDatagram UdpFault → Result Meaning DropCause
 user_heard d (Err user.UpperHeader) = Err UpperHeader
 user_heard d (Err user.UpperSum) = Err UpperSum

@@ -1,5 +1,5 @@
--- The frames that go out (RFC 894): a segment or a control message in a datagram that is no fragment (RFC 791 section 3.1), a part of
--- a user datagram (RFC 791 section 3.2), and an ARP packet (RFC 826).
+-- The frames that go out (RFC 894): a segment or an ICMP message in a datagram that is no fragment (RFC 791 section 3.1), a part of
+-- a UDP datagram (RFC 791 section 3.2), and an ARP packet (RFC 826).
 use Rattle.std.specs.Prelude.{ℕ, ◌<◌, ◌≤◌, ◌^◌, List, length, false, true}
 use Rattle.ether.specs.declared.mac.Mac.{Mac}
 use Rattle.ether.specs.declared.head.Head.{Head as EtherHead}
@@ -47,11 +47,11 @@ datagram_frame h protocol payload = framed h (ipv4_head h protocol) payload
 abbrev pub segment_frame : FrameHead → List ℕ → List ℕ
 segment_frame h segment = datagram_frame h 6 segment
 
--- the frame of a control message: ICMP is protocol 1
+-- the frame of an ICMP message: ICMP is protocol 1
 abbrev pub message_frame : FrameHead → List ℕ → List ℕ
 message_frame h message = datagram_frame h 1 message
 
--- the header of a part of a user datagram: UDP is protocol 17, and a part may be cut further on its way
+-- the header of a part of a UDP datagram: UDP is protocol 17, and a part may be cut further on its way
 abbrev pub part_head : FrameHead → Part → Ipv4Head
 part_head h part = record {
   source = h.from;

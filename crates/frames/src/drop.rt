@@ -36,7 +36,7 @@ pub enum DropCause {
     /// There is no place for what it carries, or no memory. What octets are to a host never tells this.
     #[error("F9 NoRoom")]
     NoRoom,
-    /// It carries a fragment of anything but a user datagram.
+    /// It carries a fragment of anything but a UDP datagram.
     #[error("F10 Fragment")]
     Fragment,
 }

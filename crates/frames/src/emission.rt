@@ -13,7 +13,7 @@ use udp::Part;
 /// The length of the heads of a frame and of the datagram that it carries, in octets (RFC 894, RFC 791 section 3.1).
 pub const HEADS: usize = ether::HEADER_LEN + ipv4::HEADER_LEN;
 
-/// What stands before a segment, a control message or a part of a user datagram in a frame, but for what the stack determines.
+/// What stands before a segment, an ICMP message or a part of a UDP datagram in a frame, but for what the stack determines.
 #[derive(Clone, Copy, PartialEq, Eq, Debug)]
 pub struct FrameHead {
     /// The interface that the frame is for.
@@ -38,7 +38,7 @@ impl FrameHead {
         self.emit(self.ipv4_head(Protocol::TCP), segment_len, out)
     }
 
-    /// Writes the heads of frame and datagram before a control message of so many octets, at most 1,480, which stands at `out[34..]`
+    /// Writes the heads of frame and datagram before an ICMP message of so many octets, at most 1,480, which stands at `out[34..]`
     /// already, pads a short frame with zeros, and answers its length, 60 octets at least (RFC 894, RFC 791 section 3.1, RFC 792).
     /// What stands behind it in `out` stays.
     pub fn emit_icmp(&self, message_len: usize, out: &mut [u8; FRAME_MAX]) -> usize
@@ -49,7 +49,7 @@ impl FrameHead {
         self.emit(self.ipv4_head(Protocol::ICMP), message_len, out)
     }
 
-    /// Writes the heads of frame and datagram before a part of a user datagram, at most 1,480 octets, which stands at `out[34..]`
+    /// Writes the heads of frame and datagram before a part of a UDP datagram, at most 1,480 octets, which stands at `out[34..]`
     /// already, pads a short frame with zeros, and answers its length, 60 octets at least (RFC 894, RFC 791 section 3.2, RFC 768).
     /// What stands behind it in `out` stays.
     pub fn emit_udp(&self, part: Part, out: &mut [u8; FRAME_MAX]) -> usize
@@ -92,7 +92,7 @@ impl FrameHead {
         }
     }
 
-    /// The header of the datagram that carries this part of a user datagram.
+    /// The header of the datagram that carries this part of a UDP datagram.
     fn part_head(&self, part: Part) -> ipv4::Head
         ensures { result ≡ part_head self.now part }
     {

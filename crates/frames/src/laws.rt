@@ -57,7 +57,7 @@ pub fn emitted_segments_are_heard()
         → heard h.destination h.to (segment_frame h (sent_octets h.from h.to head octets)) ≡ Ok (Tcp (record { source = h.from; segment = sent_segment head octets })) }
 {}
 
-/// A frame that `FrameHead::emit_icmp` writes is heard, where it is for, as the very control message that is meant, from the address
+/// A frame that `FrameHead::emit_icmp` writes is heard, where it is for, as the very ICMP message that is meant, from the address
 /// that sends it, padded or not. That address is one that may send, and the message fits into a frame: its data are at most 1,472
 /// octets (RFC 792).
 pub fn emitted_messages_are_heard()
@@ -66,7 +66,7 @@ pub fn emitted_messages_are_heard()
         → heard h.destination h.to (message_frame h (spelling m)) ≡ Ok (Icmp (record { source = h.from; message = m })) }
 {}
 
-/// A frame that `FrameHead::emit_udp` writes is heard where it is for, padded or not: a part that is the whole as the very user datagram
+/// A frame that `FrameHead::emit_udp` writes is heard where it is for, padded or not: a part that is the whole as the very UDP datagram
 /// that its octets spell, any other as a fragment. Either stands in a datagram of IPv4 between the two addresses with the part's own
 /// identification, place and octets, which may be cut further (RFC 791 section 3.2, RFC 768).
 pub fn emitted_parts_are_heard()
@@ -92,7 +92,7 @@ pub fn emitted_packets_are_heard()
         → heard packet.target_mac ours (packet_frame packet) ≡ Ok (Arp packet) }
 {}
 
-/// What is heard as a segment, a control message, a user datagram, a fragment or a datagram of another protocol comes from another host,
+/// What is heard as a segment, an ICMP message, a UDP datagram, a fragment or a datagram of another protocol comes from another host,
 /// from an address that a host may have (RFC 1122 section 3.2.1.3); such a datagram of IPv4 is for the host that hears it.
 pub fn heard_from_others()
     ensures segment { (mac : Mac) (ours : Addr) (octets : List ℕ) (received : Received) → heard mac ours octets ≡ Ok (Tcp received) → may_send ours received.source ≡ true }
@@ -112,7 +112,7 @@ pub fn heard_others_are_whole()
         → MaySend ours d.source × IsWhole d × (d.protocol ≢ 6) × (d.protocol ≢ 1) × (d.protocol ≢ 17) }
 {}
 
-/// A user datagram that is heard came in a whole datagram of UDP from an address that another host may have, and its payload is read as
+/// A UDP datagram that is heard came in a whole datagram of UDP from an address that another host may have, and its payload is read as
 /// this one. A fragment that is heard is one of UDP from such an address (RFC 768, RFC 791 section 3.2, RFC 1122 section 3.2.1.3).
 pub fn heard_users_are_carried()
     ensures whole { (mac : Mac) (ours : Addr) (octets : List ℕ) (r : UserReceived) → heard mac ours octets ≡ Ok (Udp r)
@@ -122,7 +122,7 @@ pub fn heard_users_are_carried()
         → MaySend ours d.source × (IsWhole d → ⊥) × (d.protocol ≡ 17) }
 {}
 
-/// A control message that is heard has at most 1,472 octets of data. The header of a user datagram, of a fragment or of a datagram of
+/// An ICMP message that is heard has at most 1,472 octets of data. The header of a UDP datagram, of a fragment or of a datagram of
 /// another protocol has at most 60, and the payload of either of the first two at most 1,480: each fits into the frame that it came in (RFC 894,
 /// RFC 791 section 3.1).
 pub fn heard_messages_fit()
@@ -136,9 +136,9 @@ pub fn heard_messages_fit()
         → length (header_octets d) ≤ 60 }
 {}
 
-/// Whoever hears a segment, a control message, a user datagram or a fragment in a frame that goes out is the host at the address that it is
+/// Whoever hears a segment, an ICMP message, a UDP datagram or a fragment in a frame that goes out is the host at the address that it is
 /// for, and hears the very one that is meant, from the address that sends it. Nobody hears anything of the four in the frame of another kind:
-/// a segment in that of a control message, of a part of a user datagram or of an ARP packet, and so on.
+/// a segment in that of an ICMP message, of a part of a UDP datagram or of an ARP packet, and so on.
 pub fn heard_as_sent()
     ensures segment { (h : FrameHead) (head : Head) (octets : List ℕ) (mac : Mac) (ours : Addr) (received : Received) → CanBeSent h.from h.to head octets
         → length h.destination.0 ≡ 6 → length h.source.0 ≡ 6 → 4 * sent_offset head + length octets ≤ PAYLOAD_IN_FRAME
@@ -176,7 +176,7 @@ pub fn heard_as_sent()
 {}
 
 /// What goes out carries the pair of its two ends, whoever it is for, where it is a segment, and no pair where it is an ARP packet,
-/// a control message or a part of a user datagram (RFC 9293 section 4).
+/// an ICMP message or a part of a UDP datagram (RFC 9293 section 4).
 pub fn emitted_pairs()
     ensures segment { (h : FrameHead) (head : Head) (octets : List ℕ) → CanBeSent h.from h.to head octets
         → length h.destination.0 ≡ 6 → length h.source.0 ≡ 6 → 4 * sent_offset head + length octets ≤ PAYLOAD_IN_FRAME

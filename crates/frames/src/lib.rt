@@ -1,4 +1,4 @@
-//! What octets are to a host with a MAC and an address (an ARP packet, a TCP segment, a control message, a user datagram or a fragment of one, another
+//! What octets are to a host with a MAC and an address (an ARP packet, a TCP segment, an ICMP message, a UDP datagram or a fragment of one, another
 //! datagram, or the cause to drop them), and the frames that carry what it sends. It knows the formats alone (RFC 894, RFC 826, RFC 791, RFC 792,
 //! RFC 768, RFC 9293), and no host.
 #![tactic(auto)]

@@ -13,13 +13,13 @@ pub enum Meaning<'a> {
     Arp(ArpPacket),
     /// A TCP segment for us (RFC 9293 section 3.1).
     Tcp(Received<'a>),
-    /// A control message for us (RFC 792).
+    /// An ICMP message for us (RFC 792).
     Icmp(Control<'a>),
-    /// A whole user datagram for us (RFC 768).
+    /// A whole UDP datagram for us (RFC 768).
     Udp(UserReceived<'a>),
     /// A whole datagram for us of a protocol that nothing here takes: not TCP, ICMP or UDP (RFC 791 section 3.1).
     Other(Ipv4View<'a>),
-    /// A fragment of a user datagram for us (RFC 791 section 3.1).
+    /// A fragment of a UDP datagram for us (RFC 791 section 3.1).
     UdpFragment(Ipv4View<'a>),
 }
 
@@ -32,7 +32,7 @@ pub struct Received<'a> {
     pub segment: TcpView<'a>,
 }
 
-/// A control message, and the address that it comes from.
+/// An ICMP message, and the address that it comes from.
 #[derive(Drop)]
 pub struct Control<'a> {
     /// The address that it comes from.
@@ -41,11 +41,11 @@ pub struct Control<'a> {
     pub message: IcmpView<'a>,
 }
 
-/// A user datagram, and the datagram of IPv4 that carries it.
+/// A UDP datagram, and the datagram of IPv4 that carries it.
 #[derive(Drop)]
 pub struct UserReceived<'a> {
     /// The datagram of IPv4, whole.
     pub carrier: Ipv4View<'a>,
-    /// The user datagram in its payload.
+    /// The UDP datagram in its payload.
     pub datagram: UdpView<'a>,
 }

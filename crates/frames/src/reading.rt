@@ -22,7 +22,7 @@ use udp::{UdpFault, UdpView};
 
 /// What these octets are to a host with this MAC and this address, or the first cause to drop them, from the lowest layer up:
 /// the frame (RFC 894), the ARP packet (RFC 826) or the datagram (RFC 791), its addresses (RFC 1122 section 3.2.1.3), and the
-/// segment (RFC 9293 section 3.1), the control message (RFC 792) or the user datagram (RFC 768). It is never `NoRoom`.
+/// segment (RFC 9293 section 3.1), the ICMP message (RFC 792) or the UDP datagram (RFC 768). It is never `NoRoom`.
 pub fn read(mac: Mac, addr: Addr, octets: &[u8]) -> Result<Meaning<'_>, DropCause>
     ensures { result ≡ heard mac addr octets.now }
 {
@@ -126,7 +126,7 @@ fn read_segment(source: Addr, destination: Addr, octets: &[u8]) -> Result<Meanin
     }
 }
 
-/// What a control message from this address is.
+/// What an ICMP message from this address is.
 fn read_message(source: Addr, octets: &[u8]) -> Result<Meaning<'_>, DropCause>
     ensures { result ≡ message_heard source (message_or_fault octets.now) }
 {

@@ -50,7 +50,7 @@ owed_addr b now reply h = by_test (b && not (is_full h))
     by_test true = refl
     by_test false = refl
 
--- nor does what is reported, or a user datagram
+-- nor does what is reported, or a UDP datagram
 pub all_reported-addr : (moment : Moment) (datagrams : List Expired) (i : InterfaceView) → (let after = all_reported moment i datagrams in after.addr) ≡ i.addr
 all_reported-addr moment [] i = refl
 all_reported-addr moment (d ∷ ds) i =

@@ -282,7 +282,7 @@ stands-told : (c : ConfigView) (events : List Event) (h : HostView) (moment : Mo
 stands-told c events h moment to reason quoted stands caused =
     with-side c events h (after_report h.interface moment to reason quoted) stands (stands-reported c events moment to reason quoted h.interface stands.interface caused)
 
--- a user datagram comes to the table
+-- a UDP datagram comes to the table
 stands-user : (c : ConfigView) (events : List Event) (to : Reception) (h : HostView) (moment : Moment) (source : Addr) (u : UserDatagram) (quote : List ℕ) → HostStands c events h
     → HasCause c events source PortUnreachable quote → HostStands c events (after_user_datagram to h moment source u quote)
 stands-user c events socket.Queued h moment source u quote stands caused = with-table c events h (after_reception h.sockets source u) stands

@@ -1,5 +1,5 @@
--- What is heard of a frame that goes out: a segment or a control message at its address, as it was meant, and neither in anything else, such as
--- a part of a user datagram.
+-- What is heard of a frame that goes out: a segment or an ICMP message at its address, as it was meant, and neither in anything else, such as
+-- a part of a UDP datagram.
 use Rattle.std.proofs.Common.{◌≡◌, ℕ, ◌+◌, ◌*◌, ◌≤◌, Bool, true, false, cond, if◌then◌else◌, List, [], ◌++◌, length, append-nil, Option, Some, None, Ok, refl, ap, arith}
 use Rattle.ether.specs.declared.mac.Mac.{Mac}
 use Rattle.ipv4.specs.declared.addr.Addr.{Addr}
@@ -116,7 +116,7 @@ message-reset i theirs to head mac ours c can whole own e =
     let most : 4 * sent_offset head ≤ 1480 = offset_most head.flags.syn in
     message-segment i theirs to head [] mac ours c can whole own (omega (arith, most)) e
 
--- A control message.
+-- An ICMP message.
 
 -- a frame from this interface to that one can carry the message to an address
 pub record CanGo (i : InterfaceView) (theirs : Mac) (to : Addr) (m : Message) : Type 0 where
@@ -175,7 +175,7 @@ error-can i theirs to reason quoted sound solid whole = record {
   spelled = error_spelled reason quoted [];
 }
 
--- A part of a user datagram.
+-- A part of a UDP datagram.
 
 pub segment-part : (i : InterfaceView) (theirs : Mac) (to : Addr) (part : Part) (octets : List ℕ) (mac : Mac) (ours : Addr) (r : Received) → length theirs.0 ≡ 6 → length i.mac.0 ≡ 6
     → heard mac ours (part_frame_to i theirs to part octets) ≡ Ok (Tcp r) → ⊥

@@ -1,4 +1,4 @@
--- Who hears a control message in what goes out, and what it answers.
+-- Who hears an ICMP message in what goes out, and what it answers.
 use Rattle.std.proofs.Common.{◌≡◌, ◌≢◌, ℕ, List, [], append-nil, Option, Some, None, Ok, refl, sym, ◌∙◌, ap, subst, arith}
 use Rattle.std.specs.List.{slice_get}
 use Rattle.ether.specs.declared.mac.Mac.{Mac}

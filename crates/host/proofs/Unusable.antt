@@ -29,7 +29,7 @@ untaken_reported h now isn octets d new is routed delivered =
     let met = subst (λ (m : Result Meaning DropCause). MeetsHeard m h moment isn (Ok tt) new) is delivered in
     ap (λ (x : HostView). x.interface.replies) met.1 ∙ ap (λ (i : InterfaceView). i.replies) (queued-so h.interface moment d.source r routed met.0)
 
--- a user datagram to whose port no socket is bound
+-- a UDP datagram to whose port no socket is bound
 pub unbound_reported : (h : HostView) (now : Moment) (isn : ℕ) (octets : List ℕ) (u : UserReceived) (new : HostView) → heard_by h octets ≡ Ok (Udp u) → find (is_datagrams_at u.datagram.destination) h.sockets.entries ≡ None
     → is_routed h.interface u.carrier.source ≡ true → IsDelivered h now isn octets (Ok tt) new
     → new.interface.replies ≡ h.interface.replies ++ record { since = later_moment h.sockets now; reply = Error u.carrier.source PortUnreachable (header_octets u.carrier ++ take 8 u.carrier.payload) } ∷ []

@@ -74,7 +74,7 @@ MeetsDatagram reason h moment d answer new =
     (answer ≡ queue_answer (answer_result h.interface d.source))
     × (new ≡ with_interface h (after_report h.interface moment d.source reason (quote_of d)))
 
--- A user datagram from an address goes to the socket that is bound to its port. Where none is, its source is told so, with this quote of it
+-- A UDP datagram from an address goes to the socket that is bound to its port. Where none is, its source is told so, with this quote of it
 -- (RFC 1122 section 4.1.3.1); a socket without room loses it.
 abbrev pub after_user_datagram : Reception → HostView → Moment → Addr → UserDatagram → List ℕ → HostView
 after_user_datagram socket.Queued h moment source d quote = with_sockets h (after_reception h.sockets source d)
@@ -112,7 +112,7 @@ abbrev pub MeetsFragment : Option Outcome → HostView → Moment → Datagram �
 MeetsFragment None h moment d answer new = (answer ≡ Err NoRoom) × (new ≡ h)
 MeetsFragment (Some outcome) h moment d answer new = (answer ≡ Ok tt) × (new ≡ after_outcome outcome (with_pool h (after_take moment d h.pool)) moment d)
 
--- An ARP packet is learnt, and answered where it asks for our address; a segment goes to the table; a message is met by what it tells; a user
+-- An ARP packet is learnt, and answered where it asks for our address; a segment goes to the table; a message is met by what it tells; a UDP
 -- datagram goes to its socket, and a fragment of one to the pool; a datagram that nothing takes is reported; what is dropped changes nothing.
 abbrev pub MeetsHeard : Result Meaning DropCause → HostView → Moment → ℕ → Result (Unit {0}) DropCause → HostView → Type 0
 MeetsHeard (Ok (Arp packet)) h moment isn answer new =

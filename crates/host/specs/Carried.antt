@@ -1,4 +1,4 @@
--- The segment that what goes out carries (RFC 9293 section 3.1); a user datagram carries none. `laws::layers_compose` says that it is the one which is heard.
+-- The segment that what goes out carries (RFC 9293 section 3.1); a UDP datagram carries none. `laws::layers_compose` says that it is the one which is heard.
 use Rattle.std.specs.Prelude.{[], find, slice_get, Option, Some, None, option_map, option_and_then}
 use Rattle.ether.specs.declared.mac.Mac.{Mac}
 use Rattle.ipv4.specs.declared.addr.Addr.{Addr}
@@ -24,7 +24,7 @@ pub record Carried : Type 0 where
   pub to : Addr
   pub segment : Segment
 
--- a reset that goes out itself; an ARP packet and a control message carry none
+-- a reset that goes out itself; an ARP packet and an ICMP message carry none
 abbrev pub carried_reply : Reply → Way → Option Carried
 carried_reply (Reset to head) (To mac) = Some (record { mac = mac; to = to; segment = sent_segment head [] })
 carried_reply (Reset to head) (Ask hop) = None

@@ -7,7 +7,7 @@ use Rattle.frames.specs.declared.meaning.Meaning.{Meaning}
 use Rattle.frames.specs.declared.meaning.Meaning.TheVariants.{Udp, Other, UdpFragment}
 use Rattle.udp.specs.Datagram.{UserDatagram}
 
--- Nothing takes its protocol; no socket is bound to the port of a user datagram, that came whole or in fragments; or its other fragments haven't
+-- Nothing takes its protocol; no socket is bound to the port of a UDP datagram, that came whole or in fragments; or its other fragments haven't
 -- come in time. Of one in fragments an error is about a fragment zero.
 pub data IsAbout : Reason → Datagram → Meaning → Type 0 where
   Untaken : (d : Datagram) → IsAbout ProtocolUnreachable d (Other d)

@@ -1,4 +1,4 @@
--- What a control message tells a host (RFC 792, RFC 1122 sections 3.2.2.6 and 4.2.3.9).
+-- What an ICMP message tells a host (RFC 792, RFC 1122 sections 3.2.2.6 and 4.2.3.9).
 use Rattle.std.specs.Prelude.{◌==◌, ◌&&◌, ◌||◌, Bool, true, false, if◌then◌else◌, List, filter, Option, Some, None}
 use Rattle.icmp.specs.declared.quote.Quote.{Quote}
 use Rattle.icmp.specs.Message.{Message}

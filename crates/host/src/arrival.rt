@@ -25,8 +25,8 @@ impl Host {
     /// where it isn't for us, and a broadcast is for us with ARP alone; OtherType with neither IPv4 nor ARP; IpHeader, IpSum where the header
     /// of the datagram isn't well; OtherAddress where the datagram is for another host, or it or the ARP packet comes from our own
     /// address or not from a unicast address; Fragment for one of any protocol but UDP; UpperHeader, UpperSum where the ARP packet, the
-    /// segment, the message or the user datagram isn't well. NoRoom where it would open a connection and there is no place in the backlog or
-    /// the table, no id, no memory or no route to its source, where its user datagram finds 64 others at the socket, where it is a fragment of
+    /// segment, the message or the UDP datagram isn't well. NoRoom where it would open a connection and there is no place in the backlog or
+    /// the table, no id, no memory or no route to its source, where its UDP datagram finds 64 others at the socket, where it is a fragment of
     /// a datagram that has no place in the pool, where it is to be answered by a reset, an echo or an error and 16 control replies wait, and where
     /// it asks for our MAC and 16 wait: what that ARP packet says is learnt all the same.
     ///
@@ -62,7 +62,7 @@ impl Host {
         }
     }
 
-    /// Takes a control message for us, at this moment: an echo request is answered (RFC 1122 section 3.2.2.6), and a hard error that quotes a
+    /// Takes an ICMP message for us, at this moment: an echo request is answered (RFC 1122 section 3.2.2.6), and a hard error that quotes a
     /// segment of ours is told to the connection of its two ends (section 4.2.3.9). All others change nothing.
     fn hear(&mut self, now: Moment, control: &Control<'_>) -> Result<(), DropCause>
         requires { length control.now.message.payload ≤ 1472 }

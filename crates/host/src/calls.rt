@@ -131,7 +131,7 @@ impl Host {
         self.sockets.shutdown_write(id)
     }
 
-    /// Gives a user datagram to a socket, for `peer` (RFC 768), and answers how many octets that were: all. It waits behind the others. The socket
+    /// Gives a UDP datagram to a socket, for `peer` (RFC 768), and answers how many octets that were: all. It waits behind the others. The socket
     /// is bound to a dynamic port where it wasn't bound.
     ///
     /// EBADF; EOPNOTSUPP for a stream socket; EMSGSIZE for more than 65,507 octets; EADDRNOTAVAIL for port 0, an address that isn't unicast or our
@@ -146,7 +146,7 @@ impl Host {
             .sendto(id, peer, octets, self.interface.is_routed(peer.addr))
     }
 
-    /// Reads the first user datagram that came to a socket into `buffer`, as far as it fits (RFC 768), and answers how many octets that were, and
+    /// Reads the first UDP datagram that came to a socket into `buffer`, as far as it fits (RFC 768), and answers how many octets that were, and
     /// where it is from. The whole datagram is gone then.
     ///
     /// EBADF; EOPNOTSUPP for a stream socket; EINVAL for an empty buffer; EAGAIN where no datagram waits.

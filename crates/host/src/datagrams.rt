@@ -1,4 +1,4 @@
-//! The user datagrams that come in, whole or in fragments.
+//! The UDP datagrams that come in, whole or in fragments.
 
 ghost use Rattle.std.specs.Prelude.{◌≡◌, List, Option, take};
 ghost use Rattle.reassembly.specs.Reassembly.{Reassembly};
@@ -19,7 +19,7 @@ use udp::UdpView;
 impl Host {
     ghost use Rattle.host.specs.Arrival.{MeetsFragment, MeetsUserDatagram, fragment_outcome};
 
-    /// Takes a user datagram for us that came whole, at this moment: it goes to the socket that is bound to its port, and where none is,
+    /// Takes a UDP datagram for us that came whole, at this moment: it goes to the socket that is bound to its port, and where none is,
     /// its source is told so (RFC 1122 section 4.1.3.1).
     pub(crate) fn receive(
         &mut self,
@@ -36,7 +36,7 @@ impl Host {
         }
     }
 
-    /// Takes a fragment of a user datagram for us, at this moment (RFC 791 section 3.2). Once its datagram is whole, that goes to its
+    /// Takes a fragment of a UDP datagram for us, at this moment (RFC 791 section 3.2). Once its datagram is whole, that goes to its
     /// socket, where it is well.
     pub(crate) fn gather(&mut self, now: Moment, fragment: &Ipv4View<'_>) -> Result<(), DropCause>
         ensures { MeetsFragment (fragment_outcome now fragment.now self.old.pool) self.old now fragment.now result self.new }
@@ -62,7 +62,7 @@ impl Host {
     }
 }
 
-/// Takes a user datagram that was put together of fragments, at this moment. Where no socket is bound to its port, its source is told so, with
+/// Takes a UDP datagram that was put together of fragments, at this moment. Where no socket is bound to its port, its source is told so, with
 /// 68 octets of the quote at most; where no more replies may wait, it isn't.
 fn receive_gathered(
     sockets: &mut Sockets,

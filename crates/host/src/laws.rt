@@ -106,8 +106,8 @@ pub fn ticks_wait()
         → after_tick h now ≡ with_sockets h (record h.sockets { kept = moment }) }
 {}
 
-/// What is answered by an error may be (RFC 1122 section 3.2.2). A datagram that nothing takes, a whole user datagram and a fragment zero carry no
-/// control message, are for one host, are no later fragments and come from one host; and no frame for all of the link brings one. Nothing else
+/// What is answered by an error may be (RFC 1122 section 3.2.2). A datagram that nothing takes, a whole UDP datagram and a fragment zero carry no
+/// ICMP message, are for one host, are no later fragments and come from one host; and no frame for all of the link brings one. Nothing else
 /// that is heard adds an error to the control replies: no segment does, and no message, which may be an error itself.
 pub fn answered_datagrams_may_be()
     ensures may { (mac : Mac) (ours : Addr) (octets : List ℕ) (reason : Reason) (d : Datagram) (meaning : Meaning) → IsUnicast ours
@@ -132,9 +132,9 @@ pub fn echo_replies_have_requests()
         new.interface.replies ≡ h.interface.replies ++ record { since = later_moment h.sockets now; reply = reply } ∷ [] }
 {}
 
-/// An error has its cause, over every list of events of a host (RFC 792). Whoever hears another control message than an echo reply in what the
+/// An error has its cause, over every list of events of a host (RFC 792). Whoever hears another ICMP message than an echo reply in what the
 /// host gives out is at an address from which a datagram was delivered to the host, and the message is the error about that datagram, for
-/// its reason: nothing there takes the datagram; it is a whole user datagram, or the fragment zero of one, and its port is unreachable; or
+/// its reason: nothing there takes the datagram; it is a whole UDP datagram, or the fragment zero of one, and its port is unreachable; or
 /// the time for its other fragments ran out.
 pub fn errors_have_causes()
     ensures { (c : ConfigView) (events : List Event) (h : HostView) (now : Moment) (mac : Mac) (ours : Addr) (error : Control)
@@ -143,7 +143,7 @@ pub fn errors_have_causes()
         × (error.message ≡ error_for reason (header_octets d) d.payload) }
 {}
 
-/// A datagram for which a host has no use is reported to its source, where a route leads there: one of a protocol that it hasn't, and a whole user datagram to whose port no socket is bound (RFC 1122
+/// A datagram for which a host has no use is reported to its source, where a route leads there: one of a protocol that it hasn't, and a whole UDP datagram to whose port no socket is bound (RFC 1122
 /// sections 3.2.2.1 and 4.1.3.1). Once it is taken, the error stands behind all other replies that wait, and quotes its header and 8 octets behind it.
 pub fn unusable_datagrams_are_reported()
     ensures protocol { (h : HostView) (now : Moment) (isn : ℕ) (octets : List ℕ) (d : Datagram) (new : HostView) → heard_by h octets ≡ Ok (Other d)

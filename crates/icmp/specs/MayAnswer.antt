@@ -10,7 +10,7 @@ abbrev pub BeginsAsError : List ℕ → Type 0
 BeginsAsError [] = ⊥
 BeginsAsError (kind ∷ rest) = IsErrorKind kind
 
--- it carries an error: its protocol is that of control messages, and the type is one of an error
+-- it carries an error: its protocol is that of ICMP messages, and the type is one of an error
 pub record IsError (d : Datagram) : Type 0 where
   pub protocol : d.protocol ≡ 1
   pub kind : BeginsAsError d.payload

@@ -1,4 +1,4 @@
--- A control message, and the octets that spell it (RFC 792).
+-- An ICMP message, and the octets that spell it (RFC 792).
 use Rattle.std.specs.Prelude.{◌≡◌, ℕ, ◌<◌, ◌^◌, List, [], ◌∷◌, ◌++◌, Result, Ok, Err}
 use Rattle.byteorder.specs.Endian.{big_bytes}
 use Rattle.inet_sum.specs.Sum.{sum_of}

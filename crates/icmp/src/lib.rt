@@ -1,4 +1,4 @@
-//! Control messages both ways: echo requests and their replies, and errors (RFC 792, RFC 1122 section 3.2.2).
+//! ICMP messages both ways: echo requests and their replies, and errors (RFC 792, RFC 1122 section 3.2.2).
 #![tactic(auto)]
 
 mod answer;

@@ -20,7 +20,7 @@ use Rattle.interface.specs.declared.way.Way.TheVariants.{To, Ask, Waits}
 use Rattle.interface.specs.InterfaceView.{InterfaceView}
 use Rattle.interface.specs.Replies.{way_of}
 
--- what stands before a segment, a message or a part of a user datagram for this address in a frame for this interface
+-- what stands before a segment, a message or a part of a UDP datagram for this address in a frame for this interface
 abbrev pub head_to : InterfaceView → Mac → Addr → FrameHead
 head_to h mac to = record { destination = mac; source = h.mac; from = h.addr; to = to }
 
@@ -28,11 +28,11 @@ head_to h mac to = record { destination = mac; source = h.mac; from = h.addr; to
 unfoldable pub segment_frame_to : InterfaceView → Mac → Addr → List ℕ → List ℕ
 segment_frame_to h mac to segment = segment_frame (head_to h mac to) segment
 
--- the frame of a control message
+-- the frame of an ICMP message
 unfoldable pub message_frame_to : InterfaceView → Mac → Addr → List ℕ → List ℕ
 message_frame_to h mac to message = message_frame (head_to h mac to) message
 
--- the frame of a part of a user datagram
+-- the frame of a part of a UDP datagram
 unfoldable pub part_frame_to : InterfaceView → Mac → Addr → Part → List ℕ → List ℕ
 part_frame_to h mac to part octets = part_frame (head_to h mac to) part octets
 

@@ -42,7 +42,7 @@ impl Interface {
         self.head_to(mac, to).emit_tcp(segment_len, out)
     }
 
-    /// Writes the frame of a part of a user datagram for an address in the same way: its octets, at most 1,480, stand at `out[34..]` already
+    /// Writes the frame of a part of a UDP datagram for an address in the same way: its octets, at most 1,480, stand at `out[34..]` already
     /// (RFC 768, RFC 791 section 3.2).
     #[tactic(auto, unfolding(crate::specs::Emission::part_frame_to))]
     pub fn emit_part(&self, mac: Mac, to: Addr, part: Part, out: &mut [u8; FRAME_MAX]) -> usize
@@ -54,7 +54,7 @@ impl Interface {
         self.head_to(mac, to).emit_udp(part, out)
     }
 
-    /// Writes the frame of a control message for an address in the same way: it stands at `out[34..]` already and has so many octets.
+    /// Writes the frame of an ICMP message for an address in the same way: it stands at `out[34..]` already and has so many octets.
     #[tactic(auto, unfolding(crate::specs::Emission::message_frame_to))]
     fn emit_message(
         &self,
@@ -70,7 +70,7 @@ impl Interface {
         self.head_to(mac, to).emit_icmp(message_len, out)
     }
 
-    /// What stands before a segment, a message or a part of a user datagram for an address, in a frame for the interface with this MAC.
+    /// What stands before a segment, a message or a part of a UDP datagram for an address, in a frame for the interface with this MAC.
     fn head_to(&self, mac: Mac, to: Addr) -> FrameHead
         ensures { result ≡ head_to self.now mac to }
     {

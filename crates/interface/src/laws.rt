@@ -118,7 +118,7 @@ pub fn deadlines_are_the_least()
     ensures asked { (hop : Addr) (asked : List Asked) → length asked ≤ 64 → IsNextAsk hop asked (next_ask hop asked) }
 {}
 
-/// A frame that goes out is heard, where it is for, as the very packet, segment, message, user datagram or fragment of one that is meant (RFC
+/// A frame that goes out is heard, where it is for, as the very packet, segment, message, UDP datagram or fragment of one that is meant (RFC
 /// 826, RFC 9293 section 3.1, RFC 792, RFC 768, RFC 791 section 3.2), where its sender may send.
 pub fn emitted_frames_are_heard()
     ensures packet { (h : InterfaceView) (mac : Mac) (ours : Addr) (packet : ArpPacket) → HasWidths packet → packet.operation ≡ operation.Reply

@@ -7,11 +7,11 @@ use std::fmt;
 pub struct Protocol(pub u8);
 
 impl Protocol {
-    /// Control messages (RFC 792).
+    /// ICMP messages (RFC 792).
     pub const ICMP: Protocol = Protocol(1);
     /// TCP (RFC 9293 section 3.1).
     pub const TCP: Protocol = Protocol(6);
-    /// User datagrams (RFC 768).
+    /// UDP datagrams (RFC 768).
     pub const UDP: Protocol = Protocol(17);
 }
 

@@ -31,7 +31,7 @@ one_answer src dst octets (Err UpperSum) (Ok t) p q = absurd (other_sum src dst 
 one_answer src dst octets (Err UpperSum) (Err UpperHeader) p q = absurd (q p.0 p.1)
 one_answer src dst octets (Err UpperSum) (Err UpperSum) p q = refl
 
--- a user datagram has one spelling
+-- a UDP datagram has one spelling
 pub one_spelling : (src dst : Addr) (d : UserDatagram) (octets : List ℕ) → Spells src dst d octets → take (datagram_len d) octets ≡ spelling d
 one_spelling src dst d octets spells = (form_read d octets spells.form).spelled
 
@@ -90,7 +90,7 @@ sum_right src dst head payload can =
     ap (λ (c : ℕ). sum_of (summed src dst (spelling (sent_with head payload c)))) is_told
     ∙ ap sum_of (summed_is src dst head payload told) ∙ ap ones_complement are.0 ∙ told_complement before are.1
 
--- what is sent spells the user datagram that is meant
+-- what is sent spells the UDP datagram that is meant
 pub sent_spelled : (src dst : Addr) (head : Head) (payload padding : List ℕ) → CanBeSent src dst head payload
     → Spells src dst (sent src dst head payload) (spelling (sent src dst head payload) ++ padding)
 sent_spelled src dst head payload padding can = record {

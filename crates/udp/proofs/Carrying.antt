@@ -1,4 +1,4 @@
--- What the fragments of a user datagram carry.
+-- What the fragments of a UDP datagram carry.
 use Rattle.std.proofs.Common.{◌≡◌, ℕ, zero, suc, ◌+◌, ◌-◌, ◌*◌, ◌<◌, ◌≤◌, min, List, [], ◌∷◌, ◌++◌, length, take, drop, slice_range, Some, refl, sym, ◌∙◌, ap, length-append, arith}
 use Rattle.std.proofs.lemmas.List.{length-drop, take_all, drop_all, take_min}
 use Rattle.std.proofs.lemmas.List.Sums.{sum_by-cons}
@@ -75,7 +75,7 @@ place_is_number len before after f is =
     let same : 0 + length before ≡ length before = omega arith in
     (found.0 ∙ ap (λ (n : ℕ). fragment len n) same, found.1)
 
--- a part of a user datagram, by the length of its octets
+-- a part of a UDP datagram, by the length of its octets
 part_spelled : (d : UserDatagram) (number : ℕ) → part_of (spelling d) (fragment (datagram_len d) number) ≡ take 1480 (drop (1480 * number) (spelling d))
 part_spelled d number =
     let len : datagram_len d ≡ length (spelling d) = omega arith in

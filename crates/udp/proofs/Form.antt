@@ -1,4 +1,4 @@
--- The user datagram that is read is the one whose form the octets have.
+-- The UDP datagram that is read is the one whose form the octets have.
 use Rattle.std.proofs.Common.{◌≡◌, ℕ, zero, suc, ◌+◌, ◌*◌, ◌<◌, ◌≤◌, ◌||◌, Bool, true, false, nat_lt, List, [], ◌∷◌, ◌++◌, length, slice_index, drop, take, Option, Some, None, cond, refl, sym, ◌∙◌, ap, subst, length-append, arith}
 use Rattle.std.proofs.lemmas.Bool.Decides.{nat_tests}
 use Rattle.std.proofs.lemmas.List.{length-take, take-append-drop, take_at}
@@ -39,7 +39,7 @@ cells x0 x1 x2 x3 x4 x5 x6 x7 payload b told =
       most = omega arith;
     }
 
--- octets of the length that they tell are those of a user datagram
+-- octets of the length that they tell are those of a UDP datagram
 is_whole : (xs : List ℕ) → AreOctets xs → 8 ≤ length xs → word_at xs 4 ≡ length xs → IsWhole xs
 is_whole (x0 ∷ x1 ∷ x2 ∷ x3 ∷ x4 ∷ x5 ∷ x6 ∷ x7 ∷ payload) b least told =
     cells x0 x1 x2 x3 x4 x5 x6 x7 payload b (omega (arith, told))
@@ -74,7 +74,7 @@ len_facts xs n e =
     let told : word_at xs 4 ≡ n = cc in
     record { told = sym told; least = grind (arith, nat_tests, fit.0, told); given = grind (arith, nat_tests, fit.0, told) }
 
--- octets whose length is read are those of a user datagram and padding
+-- octets whose length is read are those of a UDP datagram and padding
 pub are_read : (xs : List ℕ) (n : ℕ) → AreOctets xs → len_in xs ≡ Some n → IsWhole (take n xs)
 are_read xs n b e =
     let facts = len_facts xs n e in
@@ -92,7 +92,7 @@ has_form xs n whole = record {
   spelled = sym (take-append-drop n xs) ∙ ap (λ (ys : List ℕ). ys ++ drop n xs) whole.spelled;
 }
 
--- what is read of a user datagram that is spelled
+-- what is read of a UDP datagram that is spelled
 pub read_spelled : (d : UserDatagram) (rest : List ℕ) → IsDatagram d
     → (datagram_of (spelling d) ≡ d) × (word_at (spelling d ++ rest) 4 ≡ datagram_len d) × (length (spelling d) ≡ datagram_len d)
 read_spelled d rest fields =
@@ -137,7 +137,7 @@ form_read d xs form = subst (λ (ys : List ℕ). ReadAs d ys) (sym form.spelled)
 same_length : (m n : ℕ) (read : Option ℕ) → read ≡ Some m → read ≡ Some n → m ≡ n
 same_length m n read e f = cc
 
--- octets have the form of one user datagram
+-- octets have the form of one UDP datagram
 pub one_form : (first second : UserDatagram) (xs : List ℕ) → HasForm first xs → HasForm second xs → first ≡ second
 one_form first second xs f g =
     let a = form_read first xs f in

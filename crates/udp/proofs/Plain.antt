@@ -53,7 +53,7 @@ no_form src dst xs octets none = by_len (len_in xs) refl
     by_len None is = refl
     by_len (Some n) is = absurd (none (datagram_of (take n xs)) (has_form xs n (are_read xs n octets is)))
 
--- what octets are read as, a user datagram or a fault
+-- what octets are read as, a UDP datagram or a fault
 pub fault_ok : (src dst : Addr) (octets : List ℕ) (d : UserDatagram) → IsParsed src dst octets (Ok d) → datagram_or_fault src dst octets ≡ Ok d
 fault_ok src dst octets d spells = sym (form_right src dst d octets spells.form spells.sum)
 

@@ -1,4 +1,4 @@
--- A user datagram, and the octets that spell it (RFC 768).
+-- A UDP datagram, and the octets that spell it (RFC 768).
 use Rattle.std.specs.Prelude.{◌≡◌, ℕ, ◌+◌, ◌<◌, ◌^◌, ◌⊎◌, List, ◌++◌, length, Result, Ok, Err}
 use Rattle.byteorder.specs.Endian.{big_bytes}
 use Rattle.inet_sum.specs.Sum.{sum_of}
@@ -7,7 +7,7 @@ use Rattle.ipv4.specs.Sums.{summed_for}
 use Rattle.udp.specs.declared.fault.UdpFault.{UdpFault}
 use Rattle.udp.specs.declared.fault.UdpFault.TheVariants.{UpperHeader, UpperSum}
 
--- what a user datagram says: the ports, the checksum, where 0 says that there is none, and the payload
+-- what a UDP datagram says: the ports, the checksum, where 0 says that there is none, and the payload
 pub record UserDatagram : Type 0 where
   pub source : ℕ
   pub destination : ℕ
@@ -22,7 +22,7 @@ datagram_len d = 8 + length d.payload
 abbrev pub header_octets : UserDatagram → List ℕ
 header_octets d = big_bytes 2 d.source ++ big_bytes 2 d.destination ++ big_bytes 2 (datagram_len d) ++ big_bytes 2 d.checksum
 
--- the octets of a user datagram
+-- the octets of a UDP datagram
 abbrev pub spelling : UserDatagram → List ℕ
 spelling d = header_octets d ++ d.payload
 
@@ -33,13 +33,13 @@ pub record IsDatagram (d : UserDatagram) : Type 0 where
   pub len : datagram_len d < 2 ^ 16
   pub checksum : d.checksum < 2 ^ 16
 
--- The octets have the form of this user datagram, whatever its checksum. Behind its length anything may stand: padding.
+-- The octets have the form of this UDP datagram, whatever its checksum. Behind its length anything may stand: padding.
 pub record HasForm (d : UserDatagram) (octets : List ℕ) : Type 0 where
   pub padding : List ℕ
   pub fields : IsDatagram d
   pub spelled : octets ≡ spelling d ++ padding
 
--- what the checksum covers: the pseudo header of a user datagram of this length, and its octets
+-- what the checksum covers: the pseudo header of a UDP datagram of this length, and its octets
 abbrev pub summed : Addr → Addr → List ℕ → List ℕ
 summed src dst octets = summed_for 17 src dst octets
 
@@ -47,12 +47,12 @@ summed src dst octets = summed_for 17 src dst octets
 abbrev pub SumIsRight : Addr → Addr → UserDatagram → Type 0
 SumIsRight src dst d = (d.checksum ≡ 0) ⊎ (sum_of (summed src dst (spelling d)) ≡ 65535)
 
--- the octets that came from src for dst spell this user datagram
+-- the octets that came from src for dst spell this UDP datagram
 pub record Spells (src dst : Addr) (d : UserDatagram) (octets : List ℕ) : Type 0 where
   pub form : HasForm d octets
   pub sum : SumIsRight src dst d
 
--- What is made of octets: the user datagram that they spell, or the first fault. A fault of the form comes first, whatever
+-- What is made of octets: the UDP datagram that they spell, or the first fault. A fault of the form comes first, whatever
 -- the checksum is.
 abbrev pub IsParsed : Addr → Addr → List ℕ → Result UserDatagram UdpFault → Type 0
 IsParsed src dst octets (Ok d) = Spells src dst d octets

@@ -1,4 +1,4 @@
--- The user datagram that octets spell, as the plain reading of them from left to right (RFC 768). The clause `parsed` of
+-- The UDP datagram that octets spell, as the plain reading of them from left to right (RFC 768). The clause `parsed` of
 -- `UdpView::parse` does not rest on this page: it says what is read by the spelling alone. What octets are to a host rests on it.
 use Rattle.std.specs.Prelude.{◌≡◌, ℕ, ◌<◌, ◌≤◌, ◌^◌, nat_lt, ◌||◌, ◌==◌, if◌then◌else◌, List, length, take, drop, Option, Some, None, Result, Ok, Err}
 use Rattle.byteorder.specs.Endian.{big_number}
@@ -12,7 +12,7 @@ use Rattle.udp.specs.Datagram.{UserDatagram, IsDatagram, spelling, summed}
 abbrev pub word_at : List ℕ → ℕ → ℕ
 word_at octets at = big_number 2 (drop at octets)
 
--- the user datagram of these octets, without padding
+-- the UDP datagram of these octets, without padding
 abbrev pub datagram_of : List ℕ → UserDatagram
 datagram_of octets = record {
   source = word_at octets 0;
@@ -21,7 +21,7 @@ datagram_of octets = record {
   payload = drop 8 octets;
 }
 
--- these octets are those of a user datagram, without padding
+-- these octets are those of a UDP datagram, without padding
 pub record IsWhole (octets : List ℕ) : Type 0 where
   pub fields : IsDatagram (datagram_of octets)
   pub spelled : octets ≡ spelling (datagram_of octets)
@@ -35,7 +35,7 @@ len_in octets =
     else if nat_lt (word_at octets 4) 8 || nat_lt (length octets) (word_at octets 4) then None
     else Some (word_at octets 4)
 
--- the user datagram of these octets, without padding, where it has no checksum or a right one
+-- the UDP datagram of these octets, without padding, where it has no checksum or a right one
 abbrev pub summed_datagram : Addr → Addr → List ℕ → Result UserDatagram UdpFault
 summed_datagram src dst octets =
     if word_at octets 6 == 0 || sum_of (summed src dst octets) == 65535 then Ok (datagram_of octets) else Err UpperSum
@@ -45,6 +45,6 @@ abbrev pub read_at : Addr → Addr → List ℕ → Option ℕ → Result UserDa
 read_at src dst octets None = Err UpperHeader
 read_at src dst octets (Some len) = summed_datagram src dst (take len octets)
 
--- the user datagram that octets from src for dst spell, or the first fault: one of the length comes before the checksum
+-- the UDP datagram that octets from src for dst spell, or the first fault: one of the length comes before the checksum
 abbrev pub datagram_or_fault : Addr → Addr → List ℕ → Result UserDatagram UdpFault
 datagram_or_fault src dst octets = read_at src dst octets (len_in octets)

@@ -1,4 +1,4 @@
--- A user datagram as this stack sends it (RFC 768).
+-- A UDP datagram as this stack sends it (RFC 768).
 use Rattle.std.specs.Prelude.{◌≡◌, ℕ, ◌==◌, List, length, if◌then◌else◌}
 use Rattle.inet_sum.specs.Sum.{checksum_of}
 use Rattle.ipv4.specs.declared.addr.Addr.{Addr}
@@ -23,7 +23,7 @@ abbrev pub sent : Addr → Addr → Head → List ℕ → UserDatagram
 sent src dst head payload =
     sent_with head payload (told_checksum (checksum_of (summed src dst (spelling (sent_with head payload 0)))))
 
--- a user datagram that can be sent: its fields are of their width, and the addresses have four octets
+-- a UDP datagram that can be sent: its fields are of their width, and the addresses have four octets
 pub record CanBeSent (src dst : Addr) (head : Head) (payload : List ℕ) : Type 0 where
   pub src_octets : length src.0 ≡ 4
   pub dst_octets : length dst.0 ≡ 4

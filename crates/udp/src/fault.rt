@@ -1,8 +1,8 @@
-//! Why octets are no user datagram.
+//! Why octets are no UDP datagram.
 
 use thiserror::Error;
 
-/// What is wrong with a user datagram: the first fault in this order (RFC 768, RFC 1122 section 4.1.3).
+/// What is wrong with a UDP datagram: the first fault in this order (RFC 768, RFC 1122 section 4.1.3).
 #[derive(Clone, Copy, Debug, PartialEq, Eq, Error)]
 pub enum UdpFault {
     /// The octets have not the form of one: the length that they tell is under 8, or more octets than are given.

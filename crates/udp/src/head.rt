@@ -11,7 +11,7 @@ use ipv4::Addr;
 /// The length of a header, in octets (RFC 768).
 pub const HEADER_LEN: usize = 8;
 
-/// The header of a user datagram that is sent, but for its length and the checksum (RFC 768).
+/// The header of a UDP datagram that is sent, but for its length and the checksum (RFC 768).
 #[derive(Clone, Copy, Debug, PartialEq, Eq)]
 pub struct Head {
     /// The sender's port.
@@ -22,7 +22,7 @@ pub struct Head {
 
 impl Head {
     /// Writes the header before a payload of so many octets, which stands at `out[8..]` already and whose one's complement sum is
-    /// `payload_sum`, and answers the length of the user datagram, in octets. The payload isn't read again. There is always a
+    /// `payload_sum`, and answers the length of the UDP datagram, in octets. The payload isn't read again. There is always a
     /// checksum: one that is computed as 0 goes out as 0xFFFF. What stands behind it in `out` stays.
     pub fn emit(
         &self,
@@ -67,7 +67,7 @@ impl Head {
         out[..HEADER_LEN].copy_from_slice(&header);
     }
 
-    /// The header of a user datagram of this length, in octets, with this checksum.
+    /// The header of a UDP datagram of this length, in octets, with this checksum.
     fn header(&self, len: u16, checksum: u16) -> [u8; HEADER_LEN]
         ensures { (payload : List ℕ) → 8 + length payload ≡ len → result ≡ header_octets (sent_with self.now payload checksum) }
     {

@@ -22,7 +22,7 @@ pub fn one_answer()
         → IsParsed src dst octets first → IsParsed src dst octets second → first ≡ second }
 {}
 
-/// The plain reading of octets from left to right answers what `UdpView::parse` does: the user datagram that they spell, or the same
+/// The plain reading of octets from left to right answers what `UdpView::parse` does: the UDP datagram that they spell, or the same
 /// fault (RFC 768).
 pub fn read_plainly()
     ensures ok { (src dst : Addr) (octets : List ℕ) (d : UserDatagram) → Spells src dst d octets → datagram_or_fault src dst octets ≡ Ok d }
@@ -31,12 +31,12 @@ pub fn read_plainly()
     ensures parsed { (src dst : Addr) (octets : List ℕ) → All (λ octet. octet < 256) octets → IsParsed src dst octets (datagram_or_fault src dst octets) }
 {}
 
-/// A user datagram has one spelling, up to the padding behind it (RFC 768).
+/// A UDP datagram has one spelling, up to the padding behind it (RFC 768).
 pub fn one_spelling()
     ensures { (src dst : Addr) (d : UserDatagram) (octets : List ℕ) → Spells src dst d octets → take (datagram_len d) octets ≡ spelling d }
 {}
 
-/// What `Head::emit` writes spells the user datagram that is meant, whatever padding stands behind it, and so parses to it. There
+/// What `Head::emit` writes spells the UDP datagram that is meant, whatever padding stands behind it, and so parses to it. There
 /// is always a checksum, and it is right: one that is computed as 0 goes out as 0xFFFF, since 0 says that there is none (RFC 768).
 pub fn emitted_parses()
     ensures len { (src dst : Addr) (head : Head) (payload : List ℕ) → length (spelling (sent src dst head payload)) ≡ 8 + length payload }
@@ -63,7 +63,7 @@ pub fn fragments_cover()
     ensures places { (len : ℕ) → len ≤ 65515 → All (λ f. HasPlace f.more_fragments f.offset f.len) (fragments_of len) }
 {}
 
-/// What the fragments of a user datagram carry, told by their numbers, from 0 on: the first its header of 8 octets and the first
+/// What the fragments of a UDP datagram carry, told by their numbers, from 0 on: the first its header of 8 octets and the first
 /// 1,472 of its payload, each later one the 1,480 octets of the payload, or the rest, from 8 before its own place on. Each begins
 /// where those before it end (RFC 791 section 3.2).
 pub fn fragments_carry()

@@ -1,4 +1,4 @@
-//! User datagrams on the wire both ways (RFC 768), the fragments that a long one goes out in (RFC 791 section 3.2), and the
+//! UDP datagrams on the wire both ways (RFC 768), the fragments that a long one goes out in (RFC 791 section 3.2), and the
 //! queues in which datagrams wait.
 #![tactic(auto)]
 

@@ -1,4 +1,4 @@
-//! A user datagram that was received (RFC 768).
+//! A UDP datagram that was received (RFC 768).
 
 ghost use Rattle.std.specs.Prelude.{◌≡◌, ◌<◌, ◌≤◌, ◌^◌, ◌↔◌, IsTrue, IfSome, IfNone, length};
 ghost use Rattle.udp.specs.Datagram.{UserDatagram, HasForm, IsParsed, SumIsRight, datagram_len};
@@ -11,7 +11,7 @@ use byteorder::{BigEndian, ByteOrder};
 use ipv4::Addr;
 use std::marker::Model;
 
-/// A user datagram that was received and is well-formed, its octets lent from the payload of IPv4.
+/// A UDP datagram that was received and is well-formed, its octets lent from the payload of IPv4.
 #[derive(Drop)]
 pub struct UdpView<'a> {
     octets: &'a [u8],
@@ -29,7 +29,7 @@ impl<'a> Model for UdpView<'a> {
 }
 
 impl<'a> UdpView<'a> {
-    /// The user datagram that these octets spell, which came from `src` for `dst`; what stands behind its length is padding.
+    /// The UDP datagram that these octets spell, which came from `src` for `dst`; what stands behind its length is padding.
     /// Refuses octets that spell none with the first fault: one of the form first, whatever the checksum is. A checksum of 0
     /// is none, and is not tested (RFC 768).
     pub fn parse(src: Addr, dst: Addr, octets: &'a [u8]) -> Result<UdpView<'a>, UdpFault>
@@ -46,7 +46,7 @@ impl<'a> UdpView<'a> {
         }
     }
 
-    /// The user datagram whose form these octets have, whatever its checksum.
+    /// The UDP datagram whose form these octets have, whatever its checksum.
     fn form(octets: &'a [u8]) -> Option<UdpView<'a>>
         ensures some { IfSome result (λ view. HasForm view octets.now) }
         ensures none { IfNone result ((d : UserDatagram) → HasForm d octets.now → ⊥) }

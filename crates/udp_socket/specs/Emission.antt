@@ -18,7 +18,7 @@ due_peer (o ∷ rest) = Some o.peer
 abbrev pub head_of : Endpoint → Outgoing → Head
 head_of source o = record { source = source.port; destination = o.peer.port }
 
--- the user datagram as it goes out
+-- the UDP datagram as it goes out
 abbrev pub datagram_of : Endpoint → Outgoing → UserDatagram
 datagram_of source o = sent source.addr o.peer.addr (head_of source o) o.octets
 

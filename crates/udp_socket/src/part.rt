@@ -8,7 +8,7 @@ ghost use Rattle.udp.specs.Waiting.{first_octets};
 use ipv4::Addr;
 use udp::{HEADER_LEN, Head, Queue};
 
-/// Fills `out` with the first octets of the user datagram of this header whose payload is the first datagram of the queue, which has
+/// Fills `out` with the first octets of the UDP datagram of this header whose payload is the first datagram of the queue, which has
 /// `len` octets.
 pub(crate) fn fill_first(
     datagrams: &Queue,

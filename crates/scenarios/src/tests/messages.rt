@@ -1,4 +1,4 @@
-//! Control messages (RFC 792): echo, what is told of a protocol that nothing takes, and errors that a host hears.
+//! ICMP messages (RFC 792): echo, what is told of a protocol that nothing takes, and errors that a host hears.
 
 use super::octets::{
     ASKED_BACK, CUT_QUOTE, ECHO, ECHOED, NOT_TAKEN, OTHER_PROTOCOL, REPLIED_BACK, REPLY, SYN,

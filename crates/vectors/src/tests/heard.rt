@@ -28,7 +28,7 @@ const REQUEST: [u8; 60] =
 const ECHO: [u8; 60] =
     *b"\x02\0\0\0\0\x02\x02\0\0\0\0\x01\x08\0\x45\0\0\x1f\0\0\x40\0\x40\x01\x26\xdc\x0a\0\0\x01\x0a\0\0\x02\x08\0\x33\x9b\0\x01\0\x01\x61\x62\x63\0\0\0\0\0\0\0\0\0\0\0\0\0\0\0";
 
-/// A user datagram of 10.0.0.1 for 10.0.0.2 with the data `hi`, padded (RFC 768).
+/// A UDP datagram of 10.0.0.1 for 10.0.0.2 with the data `hi`, padded (RFC 768).
 const HI: [u8; 60] =
     *b"\x02\0\0\0\0\x02\x02\0\0\0\0\x01\x08\0\x45\0\0\x1e\0\x07\0\0\x40\x11\x66\xc6\x0a\0\0\x01\x0a\0\0\x02\x13\x88\x13\x89\0\x0a\x5c\x5dhi\0\0\0\0\0\0\0\0\0\0\0\0\0\0\0\0";
 
@@ -43,7 +43,7 @@ enum Layer {
     UdpFragment,
 }
 
-/// What a frame carries, from whom, and by what it is told apart: a segment and a user datagram by the port that it comes from, a
+/// What a frame carries, from whom, and by what it is told apart: a segment and a UDP datagram by the port that it comes from, a
 /// message by its type, a datagram by its protocol, and a packet by nothing more.
 type Heard = Result<(Layer, Addr, u16), DropCause>;
 

@@ -77,7 +77,7 @@ tcp 1 65535 seq 7 ack 9 flags SPA win 256 mss 536 data 0
     ),
 ];
 
-/// A user datagram with a checksum, and one without (RFC 768), and one behind options of IPv4; an echo request and an unreachable (RFC 792).
+/// A UDP datagram with a checksum, and one without (RFC 768), and one behind options of IPv4; an echo request and an unreachable (RFC 792).
 const OTHERS: [Row; 5] = [
     (
         "020000000002020000000001 0800 4500001e00004000401126cd0a0000010a000002 13881389000a5c5d6869",

@@ -1,4 +1,4 @@
-//! Control messages (RFC 792, RFC 1122 section 3.2.2).
+//! ICMP messages (RFC 792, RFC 1122 section 3.2.2).
 
 use super::{A, B};
 use icmp::{IcmpFault, IcmpView, Kind, Quote, Reason, emit_echo_reply, emit_error, may_answer};
@@ -220,7 +220,7 @@ const ANSWERED: [(&[u8], bool, bool); 20] = [
         false,
         false,
     ),
-    // control messages: errors, and others
+    // ICMP messages: errors, and others
     (
         b"\x45\0\0\x1c\0\0\0\0\0\x01\xa6\xdf\x0a\0\0\x01\x0a\0\0\x02\0\0\0\0\0\0\0\0",
         false,

@@ -9,7 +9,7 @@ const SUMS: [(&[u8], u16); 3] = [
     (&[0x01], 0x0100),
 ];
 
-/// A user datagram from 10.0.0.1 to 10.0.0.2, and its sum with the pseudo header (RFC 768): with the right checksum, and with none.
+/// A UDP datagram from 10.0.0.1 to 10.0.0.2, and its sum with the pseudo header (RFC 768): with the right checksum, and with none.
 const WITH_PSEUDO: [([u8; 10], u16); 2] = [
     (*b"\x13\x88\x13\x89\x00\x0a\x5c\x5dhi", 0xffff),
     (*b"\x13\x88\x13\x89\x00\x0a\x00\x00hi", 0xa3a2),

@@ -28,7 +28,7 @@ use Rattle.datagram_law.proofs.Keeping.{due_is_of_one}
 use Rattle.datagram_law.proofs.Reading.{widths_of}
 use Rattle.std.proofs.lemmas.List.Elements.{All-head}
 
--- whoever hears a user datagram or a fragment in these octets hears what is of one of those that were accepted
+-- whoever hears a UDP datagram or a fragment in these octets hears what is of one of those that were accepted
 pub record KeepsTo (accepted : List Accepted) (octets : List ℕ) : Type 0 where
   pub whole : (mac : Mac) (ours : Addr) (r : UserReceived) → heard mac ours octets ≡ Ok (Udp r) → IsOfOne accepted r.carrier
   pub fragment : (mac : Mac) (ours : Addr) (d : Datagram) → heard mac ours octets ≡ Ok (UdpFragment d) → IsOfOne accepted d

@@ -39,11 +39,11 @@ use Rattle.datagram_law.proofs.Parting.{no_fragment}
 use Rattle.datagram_law.proofs.Reading.{came}
 use Rattle.wire_sim.proofs.datagrams.PartsGoOut.{KeepsTo}
 
--- a user datagram from an address was accepted by the other host for ours, while it accepted few
+-- a UDP datagram from an address was accepted by the other host for ours, while it accepted few
 abbrev pub WasSent : List Accepted → Addr → Addr → UserDatagram → Type 0
 WasSent other source ours d = AreFew other → CameFrom other (record { addr = source; port = d.source }) (record { addr = ours; port = d.destination }) d.payload
 
--- What a table took of a frame: nothing, a user datagram, a segment, or an error that tells of one.
+-- What a table took of a frame: nothing, a UDP datagram, a segment, or an error that tells of one.
 pub data TableTakes (other : List Accepted) (own own' : SocketsView) : Type 0 where
   Stays : own' ≡ own → TableTakes other own own'
   Queues : (source : Addr) (d : UserDatagram) → WasSent other source own.addr d → own' ≡ after_reception own source d → TableTakes other own own'
@@ -82,7 +82,7 @@ segment-takes other h h' moment isn source s answer pool = by_arrival (is_routed
     by_arrival routed NoPlace is meets = still meets.1
     by_arrival routed (Answers head) is meets = aside other h h' (ap (λ (w : HostView). w.sockets) meets.1) (ap (λ (w : HostView). w.pool) meets.1) pool
 
--- A user datagram.
+-- A UDP datagram.
 user-takes : (other : List Accepted) (r : Reception) (h h' : HostView) (moment : Moment) (source : Addr) (d : UserDatagram) (quote : List ℕ) → WasSent other source h.sockets.addr d → IsPoolOf other h.pool → h' ≡ after_user_datagram r h moment source d quote
     → HostTakes other h h'
 user-takes other reception.Queued h h' moment source d quote sent pool becomes = with-pool-kept other h h' (ap (λ (w : HostView). w.pool) becomes) pool (Queues source d sent (ap (λ (w : HostView). w.sockets) becomes))

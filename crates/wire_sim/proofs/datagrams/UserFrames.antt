@@ -1,4 +1,4 @@
--- A frame that goes out of a host whose table keeps to what the host accepted: whoever hears a user datagram or a fragment in it hears what is
+-- A frame that goes out of a host whose table keeps to what the host accepted: whoever hears a UDP datagram or a fragment in it hears what is
 -- of one of these.
 use Rattle.std.proofs.Common.{◌≡◌, ℕ, List, [], ◌∷◌, length, Option, Some, None, Ok, refl, sym, ◌∙◌, ap, subst}
 use Rattle.std.specs.List.{find, position, slice_get}

@@ -1,4 +1,4 @@
--- What a user datagram that arrived, whole or in fragments, makes of the table.
+-- What a UDP datagram that arrived, whole or in fragments, makes of the table.
 use Rattle.std.proofs.Common.{◌≡◌, ℕ, List, Option, Some, None, Result, Ok, Err, take, ap}
 use Rattle.ipv4.specs.declared.addr.Addr.{Addr}
 use Rattle.ipv4.specs.Datagram.{Datagram}
