@@ -16,7 +16,7 @@ use Rattle.sockets.specs.declared.datagrams.Reception.{Reception}
 use Rattle.sockets.specs.declared.datagrams.Reception.TheVariants as socket
 use Rattle.sockets.specs.Datagrams.{after_reception, reception}
 use Rattle.sockets.specs.declared.taken.Taken.TheVariants as taken
-use Rattle.sockets.specs.Arrival.{Arrival, Becomes, Opens, NoPlace, Answers, Meets, arrival}
+use Rattle.sockets.specs.Arrival.{Arrival, Becomes, Opens, NoRoom as NoRoomInTable, Answers, Meets, arrival}
 use Rattle.sockets.specs.SocketsView.{SocketsView}
 use Rattle.host.specs.Arrival.{MeetsSegment, after_user_datagram, arrival_by_route, queue_answer, segment_arrival}
 use Rattle.udp.specs.Datagram.{UserDatagram}
@@ -27,7 +27,7 @@ use Rattle.host.specs.Ticks.{all_reported, reported}
 pub answered : (a : Arrival) (h new : SocketsView) (head : Head) → Meets a h (taken.Answer head) new → (a ≡ Answers head) × (new ≡ h)
 answered (Becomes next) h new head is = let no = is.0 in cc
 answered (Opens next) h new head is = ⊎_elim (λ x. let no = x.0 in cc) (λ x. let no = x.0 in cc) is
-answered NoPlace h new head is = let no = is.0 in cc
+answered NoRoomInTable h new head is = let no = is.0 in cc
 answered (Answers other) h new head is = let same = is.0 in (cc, is.1)
 
 -- .. and what joins the control replies then is what the segment leads to

@@ -30,7 +30,7 @@ use Rattle.interface.specs.Emission.{left_by as reply_left_by, way_at}
 use Rattle.interface.specs.Replies.{after_report, is_full, learnt, owed, queued}
 use Rattle.interface.specs.Timing.{after_tick as interface_after_tick, stays}
 use Rattle.interface.specs.Ways.{is_routed}
-use Rattle.sockets.specs.Arrival.{Arrival, Becomes, Opens, NoPlace, Answers}
+use Rattle.sockets.specs.Arrival.{Arrival, Becomes, Opens, NoRoom as NoRoomInTable, Answers}
 use Rattle.reassembly.specs.declared.expired.Expired.{Expired}
 use Rattle.reassembly.specs.Fragments.{key_of, quote_of}
 use Rattle.reassembly.specs.Places.{after_take, expired, outcome_at, place_for}
@@ -243,7 +243,7 @@ stands-segment : (c : ConfigView) (events : List Event) (a : Arrival) (h : HostV
 stands-segment c events (Becomes next) h moment source answer new stands met = to-new c events (with_sockets h next) new met.1 (with-table c events h next stands)
 stands-segment c events (Opens next) h moment source (Ok done) new stands met = to-new c events (with_sockets h next) new met (with-table c events h next stands)
 stands-segment c events (Opens next) h moment source (Err cause) new stands met = to-new c events h new met.1 stands
-stands-segment c events NoPlace h moment source answer new stands met = to-new c events h new met.1 stands
+stands-segment c events NoRoomInTable h moment source answer new stands met = to-new c events h new met.1 stands
 stands-segment c events (Answers head) h moment source answer new stands met =
     let side = owed (is_routed h.interface source) moment (reply.Reset source head) h.interface in
     to-new c events (with_interface h side) new met.1

@@ -12,7 +12,7 @@ use Rattle.frames.specs.declared.meaning.UserReceived.{UserReceived}
 use Rattle.reassembly.specs.Reassembly.{Outcome}
 use Rattle.interface.specs.declared.reply.QueueFault.{QueueFault}
 use Rattle.interface.specs.Replies.{heard_answer, answer_result}
-use Rattle.sockets.specs.Arrival.{Arrival, Becomes, Opens, NoPlace, Answers}
+use Rattle.sockets.specs.Arrival.{Arrival, Becomes, Opens, NoRoom as NoRoomInTable, Answers}
 use Rattle.sockets.specs.declared.datagrams.Reception.{Reception}
 use Rattle.sockets.specs.declared.datagrams.Reception.TheVariants as socket
 use Rattle.sockets.specs.Datagrams.{reception}
@@ -29,7 +29,7 @@ of_queue cause (Err fault) e = cc
 of_segment : (a : Arrival) (h : HostView) (moment : Moment) (source : Addr) (cause : DropCause) (new : HostView) → MeetsSegment a h moment source (Err cause) new → cause ≢ NoRoom → new ≡ h
 of_segment (Becomes next) h moment source cause new is other = let no = is.0 in cc
 of_segment (Opens next) h moment source cause new is other = is.1
-of_segment NoPlace h moment source cause new is other = is.1
+of_segment NoRoomInTable h moment source cause new is other = is.1
 of_segment (Answers head) h moment source cause new is other = absurd (other (of_queue cause (answer_result h.interface source) is.0))
 
 of_message : (told : Told) (h : HostView) (moment : Moment) (c : Control) (cause : DropCause) (new : HostView) → MeetsMessage told h moment c (Err cause) new → cause ≢ NoRoom → new ≡ h

@@ -31,7 +31,7 @@ use Rattle.interface.specs.declared.reply.Waiting.{Waiting}
 use Rattle.interface.specs.InterfaceView.{InterfaceView}
 use Rattle.interface.specs.Replies.{is_full, learnt, owed, owed_answer, queued}
 use Rattle.interface.specs.Ways.{is_routed}
-use Rattle.sockets.specs.Arrival.{Arrival, Becomes, Opens, NoPlace, Answers}
+use Rattle.sockets.specs.Arrival.{Arrival, Becomes, Opens, NoRoom as NoRoomInTable, Answers}
 use Rattle.sockets.specs.SocketsView.{later_moment}
 use Rattle.host.specs.Arrival.{IsDelivered, MeetsHeard, MeetsMessage, MeetsSegment, heard_by, queue_answer, segment_arrival}
 use Rattle.host.specs.Causes.{IsAbout, Untaken, Unbound, UnboundInFragments, Late}
@@ -150,7 +150,7 @@ of_segment : (a : Arrival) (h : HostView) (moment : Moment) (source : Addr) (ans
 of_segment (Becomes next) h moment source answer new met = ap errors_of met.1
 of_segment (Opens next) h moment source (Ok done) new met = ap errors_of met
 of_segment (Opens next) h moment source (Err cause) new met = ap errors_of met.1
-of_segment NoPlace h moment source answer new met = ap errors_of met.1
+of_segment NoRoomInTable h moment source answer new met = ap errors_of met.1
 of_segment (Answers head) h moment source answer new met = ap errors_of met.1 ∙ owed-adds-none h (is_routed h.interface source) moment (reply.Reset source head) refl
 
 of_message : (told : Told) (h : HostView) (moment : Moment) (c : Control) (answer : Result (Unit {0}) DropCause) (new : HostView) → MeetsMessage told h moment c answer new → errors_of new ≡ errors_of h

@@ -18,7 +18,7 @@ use Rattle.frames.specs.Meaning.{heard}
 use Rattle.interface.specs.declared.reply.QueueFault.{QueueFault}
 use Rattle.interface.specs.Ways.{is_routed}
 use Rattle.interface.specs.Replies.{after_heard, heard_answer, after_answer, after_echo, after_report, answer_result}
-use Rattle.sockets.specs.Arrival.{Arrival, Becomes, Opens, NoPlace, Answers, arrival, pair_opened}
+use Rattle.sockets.specs.Arrival.{Arrival, Becomes, Opens, NoRoom as NoRoomInTable, Answers, arrival, pair_opened}
 use Rattle.reassembly.specs.Fragments.{key_of, quote_of}
 use Rattle.reassembly.specs.Places.{after_take, outcome_at, place_for}
 use Rattle.reassembly.specs.Reassembly.{Outcome, Reassembly}
@@ -41,9 +41,9 @@ queue_answer (Err fault) = Err NoRoom
 
 -- a connection isn't opened to an address that no route leads to
 abbrev pub arrival_by_route : Bool → Arrival → Arrival
-arrival_by_route routed (Opens next) = if routed then Opens next else NoPlace
+arrival_by_route routed (Opens next) = if routed then Opens next else NoRoomInTable
 arrival_by_route routed (Becomes next) = Becomes next
-arrival_by_route routed NoPlace = NoPlace
+arrival_by_route routed NoRoomInTable = NoRoomInTable
 arrival_by_route routed (Answers head) = Answers head
 
 -- what a segment from an address leads to
@@ -54,7 +54,7 @@ segment_arrival h moment isn source s = arrival_by_route (is_routed h.interface 
 abbrev pub MeetsSegment : Arrival → HostView → Moment → Addr → Result (Unit {0}) DropCause → HostView → Type 0
 MeetsSegment (Becomes next) h moment source answer new = (answer ≡ Ok tt) × (new ≡ with_sockets h next)
 MeetsSegment (Opens next) h moment source answer new = MatchResult answer (λ _. new ≡ with_sockets h next) (λ cause. (cause ≡ NoRoom) × (new ≡ h))
-MeetsSegment NoPlace h moment source answer new = (answer ≡ Err NoRoom) × (new ≡ h)
+MeetsSegment NoRoomInTable h moment source answer new = (answer ≡ Err NoRoom) × (new ≡ h)
 MeetsSegment (Answers head) h moment source answer new =
     (answer ≡ queue_answer (answer_result h.interface source)) × (new ≡ with_interface h (after_answer h.interface moment source head))
 

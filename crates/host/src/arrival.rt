@@ -57,7 +57,7 @@ impl Host {
         }
         match self.sockets.take(now, isn, source, segment) {
             Taken::Done => Ok(()),
-            Taken::NoPlace => Err(DropCause::NoRoom),
+            Taken::NoRoom => Err(DropCause::NoRoom),
             Taken::Answer(head) => room(self.interface.answer(now, source, head)),
         }
     }

@@ -57,7 +57,7 @@ impl Host {
                 Ok(())
             }
             Taken::Waiting | Taken::Dropped(Loss::GivenUp) => Ok(()),
-            Taken::Dropped(Loss::NoPlace) => Err(DropCause::NoRoom),
+            Taken::Dropped(Loss::NoRoom) => Err(DropCause::NoRoom),
         }
     }
 }

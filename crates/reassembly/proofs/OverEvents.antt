@@ -13,7 +13,7 @@ use Rattle.clock.specs.declared.moment.Moment.{Moment}
 use Rattle.ipv4.specs.Addresses.{same_addr}
 use Rattle.ipv4.specs.Datagram.{Datagram}
 use Rattle.reassembly.specs.declared.key.Key.{Key}
-use Rattle.reassembly.specs.declared.taken.Loss.TheVariants.{NoPlace, GivenUp}
+use Rattle.reassembly.specs.declared.taken.Loss.TheVariants.{NoRoom, GivenUp}
 use Rattle.reassembly.specs.declared.taken.Taken.{Taken}
 use Rattle.reassembly.specs.declared.taken.Taken.TheVariants.{Waiting, Whole, Dropped}
 use Rattle.reassembly.specs.Events.{Event, after_event, after_events, has_place, taken_for, gathered_after, gathered_from, gathered, IsRight, IsRightFor}
@@ -407,7 +407,7 @@ answered events now d taken h = step (goes now d (after_events events) (λ key. 
         is_right d (continued now d (at (after_events events) g.i)) (gathered (key_of d) events) taken g.comes
         (subst (λ o. AnswersAt now d (after_events events) o taken) g.found h)
     step (inr n) =
-        let none : taken ≡ Dropped NoPlace = subst (λ o. AnswersAt now d (after_events events) o taken) n.found h in
+        let none : taken ≡ Dropped NoRoom = subst (λ o. AnswersAt now d (after_events events) o taken) n.found h in
         subst (IsRight (gathered (key_of d) events ++ d ∷ [])) (sym none) tt
 
 -- where they are parts of one payload
@@ -419,7 +419,7 @@ right_for events now d taken payload h parts = step taken (answered events now d
     step (Whole whole) k = made payload whole.octets.now (gathered (key_of d) events ++ d ∷ []) parts k.0
     step Waiting k = tt
     step (Dropped GivenUp) k = let both : true ≡ false = sym k ∙ agree payload (gathered (key_of d) events ++ d ∷ []) parts in cc
-    step (Dropped NoPlace) k = tt
+    step (Dropped NoRoom) k = tt
 
 pub whole_for : (events : List Event) (now : Moment) (d : Datagram) (taken : Taken) (payload : List ℕ) → AnswersTake now d (after_events events) taken
     → ArePartsOf payload (gathered (key_of d) events ++ d ∷ []) → CoverAll payload (gathered (key_of d) events ++ d ∷ []) → taken ≢ Waiting

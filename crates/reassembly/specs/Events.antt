@@ -4,7 +4,7 @@ use Rattle.std.specs.List.{list_any}
 use Rattle.clock.specs.declared.moment.Moment.{Moment}
 use Rattle.ipv4.specs.Datagram.{Datagram}
 use Rattle.reassembly.specs.declared.key.Key.{Key}
-use Rattle.reassembly.specs.declared.taken.Loss.TheVariants.{NoPlace, GivenUp}
+use Rattle.reassembly.specs.declared.taken.Loss.TheVariants.{NoRoom, GivenUp}
 use Rattle.reassembly.specs.declared.taken.Taken.{Taken}
 use Rattle.reassembly.specs.declared.taken.Taken.TheVariants.{Waiting, Whole, Dropped}
 use Rattle.reassembly.specs.Fragments.{key_of, latest_quote, is_contradictory, IsPayload}
@@ -52,11 +52,11 @@ abbrev pub IsRight : List Datagram → Taken → Type 0
 IsRight fragments (Whole whole) = IsPayload fragments whole.octets.now × (latest_quote fragments ≡ Some whole.quote.now)
 IsRight fragments Waiting = (payload : List ℕ) → IsPayload fragments payload → ⊥
 IsRight fragments (Dropped GivenUp) = is_contradictory fragments ≡ true
-IsRight fragments (Dropped NoPlace) = Unit {0}
+IsRight fragments (Dropped NoRoom) = Unit {0}
 
 -- The answer is right for parts of one payload: it is that payload or none, and they are not given up.
 abbrev pub IsRightFor : List ℕ → Taken → Type 0
 IsRightFor payload (Whole whole) = whole.octets.now ≡ payload
 IsRightFor payload Waiting = Unit {0}
 IsRightFor payload (Dropped GivenUp) = ⊥
-IsRightFor payload (Dropped NoPlace) = Unit {0}
+IsRightFor payload (Dropped NoRoom) = Unit {0}

@@ -7,7 +7,7 @@ use Rattle.reassembly.specs.declared.expired.Expired.{Expired}
 use Rattle.reassembly.specs.declared.key.Key.{Key}
 use Rattle.clock.specs.declared.moment.Moment.{Moment}
 use Rattle.clock.specs.Moments.{sooner}
-use Rattle.reassembly.specs.declared.taken.Loss.TheVariants.{NoPlace}
+use Rattle.reassembly.specs.declared.taken.Loss.TheVariants.{NoRoom}
 use Rattle.reassembly.specs.declared.taken.Taken.{Taken}
 use Rattle.reassembly.specs.declared.taken.Taken.TheVariants.{Dropped}
 use Rattle.reassembly.specs.Fragments.{key_of}
@@ -33,7 +33,7 @@ after_take_at now d places None = places
 after_take_at now d places (Some i) = slice_set places i (left (outcome_at now d places i))
 
 abbrev pub AnswersAt : Moment → Datagram → List (Option Reassembly) → Option ℕ → Taken → Type 0
-AnswersAt now d places None taken = taken ≡ Dropped NoPlace
+AnswersAt now d places None taken = taken ≡ Dropped NoRoom
 AnswersAt now d places (Some i) taken = Answers (outcome_at now d places i) taken
 
 abbrev pub after_take : Moment → Datagram → List (Option Reassembly) → List (Option Reassembly)

@@ -60,7 +60,7 @@ impl Pool {
         ensures* pool { sem 𝓛 (Rests the_row self.entry (λ pool. pool ≡ after_take now fragment.now self.old)) }
     {
         match place_for(&self.places, Key::of(fragment)) {
-            None => Taken::Dropped(Loss::NoPlace),
+            None => Taken::Dropped(Loss::NoRoom),
             Some(i) => {
                 let place = &mut self.places[i];
                 place.take(now, fragment)

@@ -28,7 +28,7 @@ pub struct Whole<'a> {
 pub enum Loss {
     /// It is of a datagram of which nothing came before, and four others are being put together.
     #[error("F9 NoRoom")]
-    NoPlace,
+    NoRoom,
     /// It contradicts those that came before: it has an octet past the end, or tells another end. Its datagram is given up,
     /// and the place is free again.
     #[error("given up")]

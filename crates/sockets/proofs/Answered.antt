@@ -11,7 +11,7 @@ use Rattle.tcp_state.specs.declared.connection.Fate.TheVariants.{Stays, Removed,
 use Rattle.sockets.specs.declared.entry.Entry.{Entry}
 use Rattle.sockets.specs.SocketsView.{SocketsView}
 use Rattle.sockets.specs.Entries.{is_between, is_listening_at, fate_of}
-use Rattle.sockets.specs.Arrival.{Answers, NoPlace, local_end, peer_end, is_opening, has_no_place, after_opening, arrival_with_reply, arrival, arrival_alone, Opens}
+use Rattle.sockets.specs.Arrival.{Answers, NoRoom, local_end, peer_end, is_opening, has_no_room, after_opening, arrival_with_reply, arrival, arrival_alone, Opens}
 use Rattle.sockets.specs.Replies.{reset_at_ack, reset_past, answer_to, answer_at_listener}
 use Rattle.sockets.proofs.Followed.{by_test}
 
@@ -37,12 +37,12 @@ listener_reset h s head answers = by_test s.flags.rst
 alone_reset : (h : SocketsView) (isn : ℕ) (source : Addr) (s : Segment) (head : Head) → arrival_alone h isn source s ≡ Answers head → IsReset s head
 alone_reset h isn source s head answers = by_listener (find (is_listening_at s.destination) h.entries) refl
   where
-    by_place : (listener : Entry) → find (is_listening_at s.destination) h.entries ≡ Some listener → is_opening s.flags ≡ true → (b : Bool) → has_no_place h listener ≡ b → IsReset s head
-    by_place listener found opens true full = let no_place : arrival_alone h isn source s ≡ NoPlace = rw (found, opens, full) in cc
+    by_place : (listener : Entry) → find (is_listening_at s.destination) h.entries ≡ Some listener → is_opening s.flags ≡ true → (b : Bool) → has_no_room h listener ≡ b → IsReset s head
+    by_place listener found opens true full = let no_place : arrival_alone h isn source s ≡ NoRoom = rw (found, opens, full) in cc
     by_place listener found opens false full = let opened : arrival_alone h isn source s ≡ Opens (after_opening h isn listener source s) = rw (found, opens, full) in cc
 
     by_flags : (listener : Entry) → find (is_listening_at s.destination) h.entries ≡ Some listener → (b : Bool) → is_opening s.flags ≡ b → IsReset s head
-    by_flags listener found true opens = by_place listener found opens (has_no_place h listener) refl
+    by_flags listener found true opens = by_place listener found opens (has_no_room h listener) refl
     by_flags listener found false opens =
         let replies : arrival_alone h isn source s ≡ arrival_with_reply h (answer_at_listener s) = rw (found, opens) in
         listener_reset h s head (sym replies ∙ answers)

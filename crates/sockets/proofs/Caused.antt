@@ -43,7 +43,7 @@ use Rattle.sockets.specs.Emission.{after_segment_sent}
 use Rattle.sockets.specs.Unreachable.{after_unreachable}
 use Rattle.sockets.specs.Calls.{port_bound, after_bind, is_next_at, port_connected, after_connect, after_socket_closed, after_close}
 use Rattle.sockets.specs.Datagrams.{end_sent_from, after_sendto, reception, after_reception}
-use Rattle.sockets.specs.Arrival.{local_end, peer_end, is_opening as opens, has_no_place, arrival_with_reply, arrival, arrival_alone}
+use Rattle.sockets.specs.Arrival.{local_end, peer_end, is_opening as opens, has_no_room, arrival_with_reply, arrival, arrival_alone}
 use Rattle.sockets.specs.Replies.{reset_at_ack, answer_to, answer_at_listener}
 use Rattle.sockets.specs.Sound.{IsSoundRole, IsSoundTable}
 use Rattle.sockets.specs.Lists.{change_first}
@@ -564,13 +564,13 @@ opened_by_it h isn source s listener found opening = record {
 alone_followed : (h : SocketsView) (now : Moment) (isn : ℕ) (source : Addr) (s : Segment) → Follows (IsStep h (Hears now isn source s)) (IsAdded h (Hears now isn source s)) h.entries (let after = after_arrival h (arrival_alone h isn source s) in after.entries)
 alone_followed h now isn source s = by_listener (find (is_listening_at s.destination) h.entries) refl
   where
-    by_place : (listener : Entry) → find (is_listening_at s.destination) h.entries ≡ Some listener → opens s.flags ≡ true → (b : Bool) → has_no_place h listener ≡ b
+    by_place : (listener : Entry) → find (is_listening_at s.destination) h.entries ≡ Some listener → opens s.flags ≡ true → (b : Bool) → has_no_room h listener ≡ b
         → Follows (IsStep h (Hears now isn source s)) (IsAdded h (Hears now isn source s)) h.entries (let after = after_arrival h (arrival_alone h isn source s) in after.entries)
     by_place listener found opened true full = rw (found, opened, full) (as_it_was (IsStep h (Hears now isn source s)) (IsAdded h (Hears now isn source s)) (inl refl) (same_step h (Hears now isn source s)) h.entries)
     by_place listener found opened false full = rw (found, opened, full) (joined_by (IsStep h (Hears now isn source s)) (IsAdded h (Hears now isn source s)) (same_step h (Hears now isn source s)) h.entries _ (inr (_, refl, opened_by_it h isn source s listener found opened)))
 
     by_flags : (listener : Entry) → find (is_listening_at s.destination) h.entries ≡ Some listener → (b : Bool) → opens s.flags ≡ b → Follows (IsStep h (Hears now isn source s)) (IsAdded h (Hears now isn source s)) h.entries (let after = after_arrival h (arrival_alone h isn source s) in after.entries)
-    by_flags listener found true opened = by_place listener found opened (has_no_place h listener) refl
+    by_flags listener found true opened = by_place listener found opened (has_no_room h listener) refl
     by_flags listener found false opened = rw (found, opened) (answer_followed h (Hears now isn source s) (inl refl) (answer_at_listener s))
 
     by_listener : (o : Option Entry) → find (is_listening_at s.destination) h.entries ≡ o → Follows (IsStep h (Hears now isn source s)) (IsAdded h (Hears now isn source s)) h.entries (let after = after_arrival h (arrival_alone h isn source s) in after.entries)

@@ -14,7 +14,7 @@ use Rattle.sockets.specs.declared.entry.Entry.{Entry}
 use Rattle.sockets.specs.declared.refusal.Refusal.{Refusal}
 use Rattle.sockets.specs.SocketsView.{SocketsView}
 use Rattle.sockets.specs.Entries.{is_between, is_listening_at, fate_of}
-use Rattle.sockets.specs.Arrival.{local_end, peer_end, is_opening, has_no_place, arrival_with_reply, arrival, opened_by, pair_opened}
+use Rattle.sockets.specs.Arrival.{local_end, peer_end, is_opening, has_no_room, arrival_with_reply, arrival, opened_by, pair_opened}
 use Rattle.sockets.specs.Replies.{reset_at_ack, answer_to, answer_at_listener}
 use Rattle.sockets.specs.Calls.{port_connected, connect_refusal, pair_connected}
 
@@ -27,14 +27,14 @@ pub opening_foreseen : (h : SocketsView) (now : Moment) (isn : ℕ) (source : Ad
 opening_foreseen h now isn source s = by_entry (find (is_between (local_end h s) (peer_end source s)) h.entries) refl
   where
     by_place : (listener : Entry) → find (is_between (local_end h s) (peer_end source s)) h.entries ≡ None → is_opening s.flags ≡ true → find (is_listening_at s.destination) h.entries ≡ Some listener
-        → (full : Bool) → has_no_place h listener ≡ full → pair_opened h source s ≡ opened_by h source s (arrival h now isn source s)
+        → (full : Bool) → has_no_room h listener ≡ full → pair_opened h source s ≡ opened_by h source s (arrival h now isn source s)
     by_place listener none opens found true full = rw (none, found, opens, full)
     by_place listener none opens found false full = rw (none, found, opens, full)
 
     by_listener : find (is_between (local_end h s) (peer_end source s)) h.entries ≡ None → (b : Bool) → is_opening s.flags ≡ b
         → (o : Option Entry) → find (is_listening_at s.destination) h.entries ≡ o → pair_opened h source s ≡ opened_by h source s (arrival h now isn source s)
     by_listener none true opens None found = rw (none, found, opens) (answer-opens_nothing h source s (answer_to s))
-    by_listener none true opens (Some listener) found = by_place listener none opens found (has_no_place h listener) refl
+    by_listener none true opens (Some listener) found = by_place listener none opens found (has_no_room h listener) refl
     by_listener none false opens None found = rw (none, found, opens) (answer-opens_nothing h source s (answer_to s))
     by_listener none false opens (Some listener) found = rw (none, found, opens) (answer-opens_nothing h source s (answer_at_listener s))
 

@@ -20,7 +20,7 @@ use Rattle.sockets.specs.declared.role.Role.{Role}
 use Rattle.sockets.specs.declared.role.Role.TheVariants.{Idle, Listener, Connected, Datagrams}
 use Rattle.sockets.specs.Entries.{is_between, is_of_pair, is_listening_at, is_live_between, joins, fate_of, new_waiting}
 use Rattle.sockets.specs.SocketsView.{SocketsView, holder_id}
-use Rattle.sockets.specs.Arrival.{Opens, NoPlace, local_end, peer_end, is_opening, has_no_place, arrival_with_reply, after_opening, arrival}
+use Rattle.sockets.specs.Arrival.{Opens, NoRoom, local_end, peer_end, is_opening, has_no_room, arrival_with_reply, after_opening, arrival}
 use Rattle.sockets.specs.Replies.{reset_at_ack, answer_to, answer_at_listener}
 use Rattle.sockets.specs.Order.{LiesAt, IsOrdered}
 use Rattle.sockets.proofs.Ends.{same_addr-same, same_addr-true, same_end-same}
@@ -90,14 +90,14 @@ answers_not h (Some head) next e = cc
 opening_of : (h : SocketsView) (now : Moment) (isn : ℕ) (source : Addr) (s : Segment) (next : SocketsView) → arrival h now isn source s ≡ Opens next → IsOpening h isn source s next
 opening_of h now isn source s next opened = by_entry (find (is_between (local_end h s) (peer_end source s)) h.entries) refl
   where
-    by_place : find (is_between (local_end h s) (peer_end source s)) h.entries ≡ None → (listener : Entry) → find (is_listening_at s.destination) h.entries ≡ Some listener → is_opening s.flags ≡ true → (b : Bool) → has_no_place h listener ≡ b → IsOpening h isn source s next
-    by_place none listener found opens true full = let no_place : arrival h now isn source s ≡ NoPlace = rw (none, found, opens, full) in cc
+    by_place : find (is_between (local_end h s) (peer_end source s)) h.entries ≡ None → (listener : Entry) → find (is_listening_at s.destination) h.entries ≡ Some listener → is_opening s.flags ≡ true → (b : Bool) → has_no_room h listener ≡ b → IsOpening h isn source s next
+    by_place none listener found opens true full = let no_place : arrival h now isn source s ≡ NoRoom = rw (none, found, opens, full) in cc
     by_place none listener found opens false full =
         let opens_it : arrival h now isn source s ≡ Opens (after_opening h isn listener source s) = rw (none, found, opens, full) in
         record { none = none; listener = listener; is = cc }
 
     by_flags : find (is_between (local_end h s) (peer_end source s)) h.entries ≡ None → (listener : Entry) → find (is_listening_at s.destination) h.entries ≡ Some listener → (b : Bool) → is_opening s.flags ≡ b → IsOpening h isn source s next
-    by_flags none listener found true opens = by_place none listener found opens (has_no_place h listener) refl
+    by_flags none listener found true opens = by_place none listener found opens (has_no_room h listener) refl
     by_flags none listener found false opens =
         let answers : arrival h now isn source s ≡ arrival_with_reply h (answer_at_listener s) = rw (none, found, opens) in
         absurd (answers_not h (answer_at_listener s) next (sym answers ∙ opened))

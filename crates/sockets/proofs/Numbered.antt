@@ -23,7 +23,7 @@ use Rattle.sockets.specs.Emission.{after_segment_sent}
 use Rattle.sockets.specs.Unreachable.{after_unreachable}
 use Rattle.sockets.specs.Calls.{port_bound, after_bind, port_connected, after_connect, after_socket_closed}
 use Rattle.sockets.specs.Datagrams.{end_sent_from, after_sendto, reception, after_reception}
-use Rattle.sockets.specs.Arrival.{local_end, peer_end, is_opening as opens, has_no_place, arrival_with_reply, arrival, arrival_alone}
+use Rattle.sockets.specs.Arrival.{local_end, peer_end, is_opening as opens, has_no_room, arrival_with_reply, arrival, arrival_alone}
 use Rattle.sockets.specs.Replies.{reset_at_ack, answer_to, answer_at_listener}
 use Rattle.sockets.specs.Causes.{Event, Makes, MakesDatagrams, Binds, Listens, Accepts, Connects, Sends, Receives, Shuts, Closes, Ticks, Hears, Emits, GivesUp, Unreachable, SendsTo, ReceivesFrom, HearsDatagram, after_arrival, after_event}
 use Rattle.sockets.proofs.Followed.{by_test}
@@ -62,12 +62,12 @@ answer_numbered h (Some head) = as_before h
 alone_numbered : (h : SocketsView) (isn : ℕ) (source : Addr) (s : Segment) → NotBefore h (after_arrival h (arrival_alone h isn source s))
 alone_numbered h isn source s = by_listener (find (is_listening_at s.destination) h.entries) refl
   where
-    by_place : (listener : Entry) → find (is_listening_at s.destination) h.entries ≡ Some listener → opens s.flags ≡ true → (b : Bool) → has_no_place h listener ≡ b → NotBefore h (after_arrival h (arrival_alone h isn source s))
+    by_place : (listener : Entry) → find (is_listening_at s.destination) h.entries ≡ Some listener → opens s.flags ≡ true → (b : Bool) → has_no_room h listener ≡ b → NotBefore h (after_arrival h (arrival_alone h isn source s))
     by_place listener found opened true full = rw (found, opened, full) (as_before h)
     by_place listener found opened false full = rw (found, opened, full) (omega arith, omega arith)
 
     by_flags : (listener : Entry) → find (is_listening_at s.destination) h.entries ≡ Some listener → (b : Bool) → opens s.flags ≡ b → NotBefore h (after_arrival h (arrival_alone h isn source s))
-    by_flags listener found true opened = by_place listener found opened (has_no_place h listener) refl
+    by_flags listener found true opened = by_place listener found opened (has_no_room h listener) refl
     by_flags listener found false opened = rw (found, opened) (answer_numbered h (answer_at_listener s))
 
     by_listener : (o : Option Entry) → find (is_listening_at s.destination) h.entries ≡ o → NotBefore h (after_arrival h (arrival_alone h isn source s))

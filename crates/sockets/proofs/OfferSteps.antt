@@ -28,7 +28,7 @@ use Rattle.sockets.specs.Emission.{after_segment_sent}
 use Rattle.sockets.specs.Unreachable.{after_unreachable}
 use Rattle.sockets.specs.Calls.{is_table_full, port_bound, after_bind, next_offered, is_next_at, after_accept, port_connected, after_connect, after_socket_closed, after_close}
 use Rattle.sockets.specs.Datagrams.{end_sent_from, after_sendto, reception, after_reception}
-use Rattle.sockets.specs.Arrival.{local_end, peer_end, is_opening as opens, has_no_place, arrival_with_reply, offered_with, arrival, arrival_alone, after_opening}
+use Rattle.sockets.specs.Arrival.{local_end, peer_end, is_opening as opens, has_no_room, arrival_with_reply, offered_with, arrival, arrival_alone, after_opening}
 use Rattle.sockets.specs.Replies.{reset_at_ack, answer_to, answer_at_listener}
 use Rattle.sockets.specs.Lists.{change_first, remove_first}
 use Rattle.sockets.specs.Causes.{Event, Makes, MakesDatagrams, Binds, Listens, Accepts, Connects, Sends, Receives, Shuts, Closes, Ticks, Hears, Emits, GivesUp, Unreachable, SendsTo, ReceivesFrom, HearsDatagram, Follows, after_arrival, after_event}
@@ -306,7 +306,7 @@ answer-outcome : (h : SocketsView) (reply : Option Head) → Outcome h (after_ar
 answer-outcome h None = nothing-happens h
 answer-outcome h (Some head) = nothing-happens h
 
-opening-outcome : (h : SocketsView) (isn : ℕ) (listener : Entry) (source : Addr) (s : Segment) → find (is_listening_at s.destination) h.entries ≡ Some listener → has_no_place h listener ≡ false → Outcome h (after_opening h isn listener source s)
+opening-outcome : (h : SocketsView) (isn : ℕ) (listener : Entry) (source : Addr) (s : Segment) → find (is_listening_at s.destination) h.entries ≡ Some listener → has_no_room h listener ≡ false → Outcome h (after_opening h isn listener source s)
 opening-outcome h isn listener source s found place =
     let parts = or_parts _ _ place in
     Joined (record {
@@ -333,12 +333,12 @@ opening-outcome h isn listener source s found place =
 alone-outcome : (h : SocketsView) (isn : ℕ) (source : Addr) (s : Segment) → Outcome h (after_arrival h (arrival_alone h isn source s))
 alone-outcome h isn source s = by_listener (find (is_listening_at s.destination) h.entries) refl
   where
-    by_place : (listener : Entry) → find (is_listening_at s.destination) h.entries ≡ Some listener → opens s.flags ≡ true → (b : Bool) → has_no_place h listener ≡ b → Outcome h (after_arrival h (arrival_alone h isn source s))
+    by_place : (listener : Entry) → find (is_listening_at s.destination) h.entries ≡ Some listener → opens s.flags ≡ true → (b : Bool) → has_no_room h listener ≡ b → Outcome h (after_arrival h (arrival_alone h isn source s))
     by_place listener found opened true full = rw (found, opened, full) (nothing-happens h)
     by_place listener found opened false full = rw (found, opened, full) (opening-outcome h isn listener source s found full)
 
     by_flags : (listener : Entry) → find (is_listening_at s.destination) h.entries ≡ Some listener → (b : Bool) → opens s.flags ≡ b → Outcome h (after_arrival h (arrival_alone h isn source s))
-    by_flags listener found true opened = by_place listener found opened (has_no_place h listener) refl
+    by_flags listener found true opened = by_place listener found opened (has_no_room h listener) refl
     by_flags listener found false opened = rw (found, opened) (answer-outcome h (answer_at_listener s))
 
     by_listener : (o : Option Entry) → find (is_listening_at s.destination) h.entries ≡ o → Outcome h (after_arrival h (arrival_alone h isn source s))

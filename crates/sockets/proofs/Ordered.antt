@@ -33,7 +33,7 @@ use Rattle.sockets.specs.Emission.{after_segment_sent}
 use Rattle.sockets.specs.Unreachable.{after_unreachable}
 use Rattle.sockets.specs.Calls.{open_answer, reach_refusal, port_for, last_port_after, is_pair_held, bound_of, port_at, port_bound, last_port_bound, bind_refusal, after_bind, is_next_at, connect_refusal, after_connect, after_socket_closed}
 use Rattle.sockets.specs.Datagrams.{sending_end, end_sent_from, after_sendto, reception, after_reception}
-use Rattle.sockets.specs.Arrival.{local_end, peer_end, is_opening as opens, has_no_place, arrival_with_reply, offered_with, arrival, arrival_alone, after_opening}
+use Rattle.sockets.specs.Arrival.{local_end, peer_end, is_opening as opens, has_no_room, arrival_with_reply, offered_with, arrival, arrival_alone, after_opening}
 use Rattle.sockets.specs.Replies.{reset_at_ack, answer_to, answer_at_listener}
 use Rattle.sockets.specs.Lists.{change_first}
 use Rattle.sockets.specs.Ports.{IsDynamic, first_port, is_free_port, is_unused_port, is_free_datagram_port}
@@ -374,12 +374,12 @@ opening_ordered h isn listener source s none apart o =
 alone_ordered : (h : SocketsView) (isn : ℕ) (source : Addr) (s : Segment) → find (is_between (local_end h s) (peer_end source s)) h.entries ≡ None → same_addr source h.addr ≡ false → IsOrdered h → IsOrdered (after_arrival h (arrival_alone h isn source s))
 alone_ordered h isn source s none apart o = by_listener (find (is_listening_at s.destination) h.entries) refl
   where
-    by_place : (listener : Entry) → find (is_listening_at s.destination) h.entries ≡ Some listener → opens s.flags ≡ true → (b : Bool) → has_no_place h listener ≡ b → IsOrdered (after_arrival h (arrival_alone h isn source s))
+    by_place : (listener : Entry) → find (is_listening_at s.destination) h.entries ≡ Some listener → opens s.flags ≡ true → (b : Bool) → has_no_room h listener ≡ b → IsOrdered (after_arrival h (arrival_alone h isn source s))
     by_place listener found opened true full = rw (found, opened, full) o
     by_place listener found opened false full = rw (found, opened, full) (opening_ordered h isn listener source s none apart o)
 
     by_flags : (listener : Entry) → find (is_listening_at s.destination) h.entries ≡ Some listener → (b : Bool) → opens s.flags ≡ b → IsOrdered (after_arrival h (arrival_alone h isn source s))
-    by_flags listener found true opened = by_place listener found opened (has_no_place h listener) refl
+    by_flags listener found true opened = by_place listener found opened (has_no_room h listener) refl
     by_flags listener found false opened = rw (found, opened) (answer_ordered h (answer_at_listener s) o)
 
     by_listener : (l : Option Entry) → find (is_listening_at s.destination) h.entries ≡ l → IsOrdered (after_arrival h (arrival_alone h isn source s))

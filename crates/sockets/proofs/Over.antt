@@ -33,7 +33,7 @@ use Rattle.sockets.specs.Emission.{after_segment_sent}
 use Rattle.sockets.specs.Unreachable.{after_unreachable as after_table_told}
 use Rattle.sockets.specs.Calls.{port_bound, after_bind, is_next_at, port_connected, after_connect, after_socket_closed}
 use Rattle.sockets.specs.Datagrams.{end_sent_from, after_sendto, reception, after_reception}
-use Rattle.sockets.specs.Arrival.{local_end, peer_end, is_opening as opens, has_no_place, arrival_with_reply, arrival, arrival_alone}
+use Rattle.sockets.specs.Arrival.{local_end, peer_end, is_opening as opens, has_no_room, arrival_with_reply, arrival, arrival_alone}
 use Rattle.sockets.specs.Replies.{reset_at_ack, answer_to, answer_at_listener}
 use Rattle.sockets.specs.Sound.{is_over_in, NoneIsOver}
 use Rattle.sockets.specs.Lists.{change_first, remove_first}
@@ -294,12 +294,12 @@ answer_left h o all = subst AreLeft (sym (answered_same h o)) all
 alone_left : (h : SocketsView) (isn : ℕ) (source : Addr) (s : Segment) → NoneIsOver h → NoneIsOver (after_arrival h (arrival_alone h isn source s))
 alone_left h isn source s all = by_listener (find (is_listening_at s.destination) h.entries) refl
   where
-    by_place : (listener : Entry) → find (is_listening_at s.destination) h.entries ≡ Some listener → opens s.flags ≡ true → (b : Bool) → has_no_place h listener ≡ b → NoneIsOver (after_arrival h (arrival_alone h isn source s))
+    by_place : (listener : Entry) → find (is_listening_at s.destination) h.entries ≡ Some listener → opens s.flags ≡ true → (b : Bool) → has_no_room h listener ≡ b → NoneIsOver (after_arrival h (arrival_alone h isn source s))
     by_place listener found opened true full = rw (found, opened, full) all
     by_place listener found opened false full = rw (found, opened, full) (all_joined h.entries _ all (refl, tt))
 
     by_flags : (listener : Entry) → find (is_listening_at s.destination) h.entries ≡ Some listener → (b : Bool) → opens s.flags ≡ b → NoneIsOver (after_arrival h (arrival_alone h isn source s))
-    by_flags listener found true opened = by_place listener found opened (has_no_place h listener) refl
+    by_flags listener found true opened = by_place listener found opened (has_no_room h listener) refl
     by_flags listener found false opened = rw (found, opened) (answer_left h (answer_at_listener s) all)
 
     by_listener : (o : Option Entry) → find (is_listening_at s.destination) h.entries ≡ o → NoneIsOver (after_arrival h (arrival_alone h isn source s))

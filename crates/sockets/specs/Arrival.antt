@@ -33,8 +33,8 @@ abbrev pub is_opening : Flags → Bool
 is_opening flags = flags.syn && not flags.rst && not flags.ack
 
 -- no place at this listener: as many wait as its backlog allows, or the table is full, or the last id is given
-abbrev pub has_no_place : SocketsView → Entry → Bool
-has_no_place h listener = nat_le (backlog_of listener.role) (count_by (is_waiting_at listener.id) h.entries) || is_table_full h
+abbrev pub has_no_room : SocketsView → Entry → Bool
+has_no_room h listener = nat_le (backlog_of listener.role) (count_by (is_waiting_at listener.id) h.entries) || is_table_full h
 
 -- a connection in SYN-RECEIVED at the end of the table, which waits at the listener
 abbrev pub after_opening : SocketsView → ℕ → Entry → Addr → Segment → SocketsView
@@ -48,7 +48,7 @@ after_opening h isn listener source s = record h {
 pub data Arrival : Type 0 where
   Becomes : SocketsView → Arrival
   Opens : SocketsView → Arrival
-  NoPlace : Arrival
+  NoRoom : Arrival
   Answers : Head → Arrival
 
 -- the segment is answered so; nothing changes where nothing answers it
@@ -58,7 +58,7 @@ arrival_with_reply h (Some head) = Answers head
 
 -- a segment that opens a connection at this listener
 abbrev pub opening : SocketsView → ℕ → Addr → Segment → Entry → Arrival
-opening h isn source s listener = if has_no_place h listener then NoPlace else Opens (after_opening h isn listener source s)
+opening h isn source s listener = if has_no_room h listener then NoRoom else Opens (after_opening h isn listener source s)
 
 -- a segment for a listener and no connection (section 3.10.7.2): it opens one, or is answered, or changes nothing
 abbrev pub arrival_at : SocketsView → ℕ → Addr → Segment → Entry → Arrival
@@ -96,7 +96,7 @@ arrival h now isn source s = of_entry (find (is_between (local_end h s) (peer_en
 abbrev pub opened_by : SocketsView → Addr → Segment → Arrival → Option Pair
 opened_by h source s (Opens next) = Some (pair_of (local_end h s) (peer_end source s))
 opened_by h source s (Becomes next) = None
-opened_by h source s NoPlace = None
+opened_by h source s NoRoom = None
 opened_by h source s (Answers head) = None
 
 -- the same by its tests: the pair of a segment that opens a connection where none is, at a listener that has a place
@@ -105,7 +105,7 @@ pair_at_listener h source s = of_listener (find (is_listening_at s.destination) 
   where
     of_listener : Option Entry → Option Pair
     of_listener None = None
-    of_listener (Some listener) = if has_no_place h listener then None else Some (pair_of (local_end h s) (peer_end source s))
+    of_listener (Some listener) = if has_no_room h listener then None else Some (pair_of (local_end h s) (peer_end source s))
 
 abbrev pub pair_opened : SocketsView → Addr → Segment → Option Pair
 pair_opened h source s = of_entry (find (is_between (local_end h s) (peer_end source s)) h.entries)
@@ -117,6 +117,6 @@ pair_opened h source s = of_entry (find (is_between (local_end h s) (peer_end so
 -- the answer to a segment and the new table are those that the segment leads to
 abbrev pub Meets : Arrival → SocketsView → Taken → SocketsView → Type 0
 Meets (Becomes next) h answer new = (answer ≡ taken.Done) × (new ≡ next)
-Meets (Opens next) h answer new = ((answer ≡ taken.Done) × (new ≡ next)) ⊎ ((answer ≡ taken.NoPlace) × (new ≡ h))
-Meets NoPlace h answer new = (answer ≡ taken.NoPlace) × (new ≡ h)
+Meets (Opens next) h answer new = ((answer ≡ taken.Done) × (new ≡ next)) ⊎ ((answer ≡ taken.NoRoom) × (new ≡ h))
+Meets NoRoom h answer new = (answer ≡ taken.NoRoom) × (new ≡ h)
 Meets (Answers head) h answer new = (answer ≡ taken.Answer head) × (new ≡ h)

@@ -23,7 +23,7 @@ use Rattle.sockets.specs.Emission.{after_segment_sent}
 use Rattle.sockets.specs.Unreachable.{after_unreachable}
 use Rattle.sockets.specs.Calls.{after_socket, after_datagram_socket, after_bind, after_listen, after_accept, after_connect, after_send, after_recv, after_shutdown, after_close}
 use Rattle.sockets.specs.Datagrams.{after_sendto, after_recvfrom, after_reception}
-use Rattle.sockets.specs.Arrival.{Arrival, Becomes, Opens, NoPlace, Answers, local_end, peer_end, is_opening, arrival}
+use Rattle.sockets.specs.Arrival.{Arrival, Becomes, Opens, NoRoom, Answers, local_end, peer_end, is_opening, arrival}
 
 -- what may happen to the table: a call that is not refused, a tick, a segment or a datagram from an address, something goes out, resets and
 -- datagrams are given up, or a hard error about the segment of a number from one end to another
@@ -50,7 +50,7 @@ pub data Event : Type 0 where
 abbrev pub after_arrival : SocketsView → Arrival → SocketsView
 after_arrival h (Becomes next) = next
 after_arrival h (Opens next) = next
-after_arrival h NoPlace = h
+after_arrival h NoRoom = h
 after_arrival h (Answers head) = h
 
 -- the table after an event

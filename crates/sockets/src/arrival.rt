@@ -18,12 +18,12 @@ use tcp_state::{Buffers, Connection, Fate};
 
 #[tactic(auto, using(crate::proofs::Firsts::firsts))]
 impl Sockets {
-    ghost use Rattle.sockets.specs.Arrival.{after_opening, local_end, peer_end, arrival, arrival_alone, Meets, pair_opened, pair_at_listener, has_no_place};
+    ghost use Rattle.sockets.specs.Arrival.{after_opening, local_end, peer_end, arrival, arrival_alone, Meets, pair_opened, pair_at_listener, has_no_room};
 
     /// Takes a segment that came from this address, at the later of `now` and the kept moment: it goes to the connection of its two ends,
     /// where there is one, else to the listener at its destination port. `isn` is used only where it opens a connection.
     ///
-    /// NoPlace where it would open one and there is no place in the backlog or the table, no id or no memory. The table stays as it was
+    /// NoRoom where it would open one and there is no place in the backlog or the table, no id or no memory. The table stays as it was
     /// then, and where the segment is to be answered.
     pub fn take(&mut self, now: Moment, isn: Seq, source: Addr, segment: &TcpView<'_>) -> Taken
         ensures { Meets (arrival self.old now isn.0 source segment.now) self.old result self.new }
@@ -72,14 +72,14 @@ impl Sockets {
         ensures { Meets (arrival_alone self.old isn.0 source syn.now) self.old result self.new }
     {
         let listener = &self.entries[place];
-        if self.has_no_place(listener) {
-            return Taken::NoPlace;
+        if self.has_no_room(listener) {
+            return Taken::NoRoom;
         }
         let listener = listener.id;
         self.open_with(Buffers::new(self.alloc), isn, listener, source, syn)
     }
 
-    /// Opens a connection for `syn` in these buffers, where the listener at its port has a place for it. NoPlace exactly where memory was
+    /// Opens a connection for `syn` in these buffers, where the listener at its port has a place for it. NoRoom exactly where memory was
     /// refused them.
     fn open_with(
         &mut self,
@@ -91,11 +91,11 @@ impl Sockets {
     ) -> Taken
         requires place { length self.old.entries < ENTRIES }
         requires id { self.old.last_id < u64.MAX }
-        ensures answer { MatchResult buffers (λ given. result ≡ Taken.Done) (λ refused. result ≡ Taken.NoPlace) }
+        ensures answer { MatchResult buffers (λ given. result ≡ Taken.Done) (λ refused. result ≡ Taken.NoRoom) }
         ensures table { MatchResult buffers (λ given. (entry : Entry) → entry.id ≡ listener → self.new ≡ after_opening self.old isn.0 entry source syn.now) (λ refused. self.new ≡ self.old) }
     {
         let Ok(buffers) = buffers else {
-            return Taken::NoPlace;
+            return Taken::NoRoom;
         };
         let (local, peer) = self.ends(source, syn);
         let connection = Connection::passive(buffers, local, peer, isn, syn);
@@ -124,7 +124,7 @@ impl Sockets {
         ensures { result ≡ pair_at_listener self.now source segment.now }
     {
         let place = table::listener_at(&self.entries, segment.destination())?;
-        if self.has_no_place(&self.entries[place]) {
+        if self.has_no_room(&self.entries[place]) {
             return None;
         }
         let (local, peer) = self.ends(source, segment);
@@ -132,8 +132,8 @@ impl Sockets {
     }
 
     /// Whether a further connection has no place at this listener.
-    fn has_no_place(&self, listener: &Entry) -> bool
-        ensures value { result ≡ has_no_place self.now listener.now }
+    fn has_no_room(&self, listener: &Entry) -> bool
+        ensures value { result ≡ has_no_room self.now listener.now }
         ensures bound { length self.now.entries ≤ ENTRIES }
     {
         table::waiting_at(&self.entries, listener.id) >= listener.role.backlog()

@@ -19,7 +19,7 @@ ghost use Rattle.sockets.specs.Entries.{is_listening_at, is_waiting_at, backlog_
 ghost use Rattle.sockets.specs.SocketsView.{SocketsView, holder_id, new_sockets, later_moment, role_of};
 ghost use Rattle.sockets.specs.Ticks.{after_tick, least_deadline, IsLeastDeadline, HasNoDeadline};
 ghost use Rattle.sockets.specs.Lost.{role_after_giving_up, after_giving_up, waiting_resets, waits_still};
-ghost use Rattle.sockets.specs.Arrival.{Opens, NoPlace, Answers, local_end, peer_end, arrival, opened_by, pair_opened};
+ghost use Rattle.sockets.specs.Arrival.{Opens, NoRoom, Answers, local_end, peer_end, arrival, opened_by, pair_opened};
 ghost use Rattle.sockets.specs.declared.role.Role.TheVariants.{Connected, Datagrams};
 ghost use Rattle.sockets.specs.Datagrams.{sendto_answer, after_sendto, sending_end};
 ghost use Rattle.sockets.specs.Calls.{refusal_of, connect_refusal, after_connect, send_answer, recv_answer, shutdown_refusal, pair_connected};
@@ -115,7 +115,7 @@ pub fn identifications_are_drawn_in_turn()
 
 /// A SYN finds no place only at a listener at which as many connections wait as its backlog allows, or where the table has 64 entries, or the last id is given.
 pub fn places_are_given_while_there_are_any()
-    ensures { (h : SocketsView) (now : Moment) (isn : ℕ) (source : Addr) (s : Segment) → arrival h now isn source s ≡ NoPlace → (listener : Entry) × (find (is_listening_at s.destination) h.entries ≡ Some listener)
+    ensures { (h : SocketsView) (now : Moment) (isn : ℕ) (source : Addr) (s : Segment) → arrival h now isn source s ≡ NoRoom → (listener : Entry) × (find (is_listening_at s.destination) h.entries ≡ Some listener)
         × ((backlog_of listener.role ≤ count_by (is_waiting_at listener.id) h.entries) ⊎ ((length h.entries ≡ 64) ⊎ (h.last_id + 1 ≡ 2 ^ 64))) }
 {}
 

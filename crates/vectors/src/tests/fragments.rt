@@ -96,7 +96,7 @@ const FIVE: [Row; 5] = [
         Came::Waiting,
         Some(60_000),
     ),
-    (40, FIFTH, Came::Dropped(Loss::NoPlace), Some(60_000)),
+    (40, FIFTH, Came::Dropped(Loss::NoRoom), Some(60_000)),
 ];
 
 /// Whether a fragment comes to this.

@@ -50,7 +50,7 @@ fn refusals(rt: HostRuntime) -> Result<(), Fail> {
         PrefixFault::EINVAL,
         PoolFault::ENOMEM,
         QueueFault::NoRoom,
-        Loss::NoPlace,
+        Loss::NoRoom,
         Loss::GivenUp,
         AddFault::Full,
         AddFault::SamePrefix,

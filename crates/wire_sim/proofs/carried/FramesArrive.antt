@@ -20,7 +20,7 @@ use Rattle.interface.specs.Ways.{is_routed}
 use Rattle.sockets.specs.declared.entry.SocketId.{SocketId}
 use Rattle.sockets.specs.declared.entry.Entry.{Entry}
 use Rattle.sockets.specs.declared.taken.Taken.TheVariants as taken
-use Rattle.sockets.specs.Arrival.{Arrival, Becomes, Opens as OpensTable, NoPlace, Answers, local_end, peer_end, arrival, pair_opened, Meets as MeetsTable}
+use Rattle.sockets.specs.Arrival.{Arrival, Becomes, Opens as OpensTable, NoRoom, Answers, local_end, peer_end, arrival, pair_opened, Meets as MeetsTable}
 use Rattle.sockets.specs.SocketsView.{SocketsView, later_moment, holder_id}
 use Rattle.sockets.specs.Unreachable.{after_unreachable}
 use Rattle.reassembly.specs.Fragments.{quote_of}
@@ -88,7 +88,7 @@ segment-taken h moment isn source s answer new = by_arrival (is_routed h.interfa
     by_arrival true (OpensTable next) is meets = by_answer next is answer meets
     by_arrival false (OpensTable next) is meets = Ignored (ap (λ (w : HostView). w.sockets) meets.1)
     by_arrival routed (Becomes next) is meets = taken-so (if routed then pair_opened h.sockets source s else None) (λ n o. let bad : Becomes next ≡ OpensTable n = sym is ∙ o in cc) (Becomes next) is (refl, ap (λ (w : HostView). w.sockets) meets.1)
-    by_arrival routed NoPlace is meets = Ignored (ap (λ (w : HostView). w.sockets) meets.1)
+    by_arrival routed NoRoom is meets = Ignored (ap (λ (w : HostView). w.sockets) meets.1)
     by_arrival routed (Answers head) is meets = Ignored (ap (λ (w : HostView). w.sockets) meets.1)
 
 -- What the frame's note tells of the segment.

@@ -11,7 +11,7 @@ use Rattle.tcp_state.specs.declared.connection.Fate.{Fate}
 use Rattle.tcp_state.specs.declared.connection.Fate.TheVariants.{Stays, Removed, Rejected}
 use Rattle.sockets.specs.declared.entry.Entry.{Entry}
 use Rattle.sockets.specs.declared.entry.SocketId.{SocketId}
-use Rattle.sockets.specs.Arrival.{Arrival, Becomes, Opens, NoPlace, Answers, local_end, peer_end, is_opening, has_no_place, after_opening, arrival_with_reply, opening, arrival_at, arrival_alone, arrival_at_connection, arrival}
+use Rattle.sockets.specs.Arrival.{Arrival, Becomes, Opens, NoRoom, Answers, local_end, peer_end, is_opening, has_no_room, after_opening, arrival_with_reply, opening, arrival_at, arrival_alone, arrival_at_connection, arrival}
 use Rattle.sockets.specs.Entries.{sends, is_between, is_listening_at, new_waiting, fate_of, role_after_segment, role_after_unreachable, unreachable_fate_of, role_after_tick, tick_fate_of, role_after_emission, emission_fate_of, entries_after_step}
 use Rattle.sockets.specs.Emission.{after_segment_sent}
 use Rattle.sockets.specs.Lost.{after_giving_up, give_up_fate_of, role_after_giving_up}
@@ -34,7 +34,7 @@ with_entries own other h entries t are = record { numbered = t.numbered; in_turn
 abbrev LeadsTo : List Accepted → List Accepted → Arrival → Type 0
 LeadsTo own other (Becomes next) = IsTableOf own other next
 LeadsTo own other (Opens next) = IsTableOf own other next
-LeadsTo own other NoPlace = Unit {0}
+LeadsTo own other NoRoom = Unit {0}
 LeadsTo own other (Answers head) = Unit {0}
 
 leads_to : (own other : List Accepted) (h : SocketsView) (now : Moment) (isn : ℕ) (source : Addr) (s : Segment) → IsTableOf own other h → LeadsTo own other (arrival h now isn source s)
@@ -52,12 +52,12 @@ leads_to own other h now isn source s t = by_entry (find (is_between (local_end 
           (new_waiting (record { 0 = h.last_id + 1 }) listener.id (opened_passively (local_end h s) (peer_end source s) isn s)) t.sockets tt;
     }
 
-    by_place : (listener : Entry) (b : Bool) → LeadsTo own other (cond b NoPlace (Opens (after_opening h isn listener source s)))
+    by_place : (listener : Entry) (b : Bool) → LeadsTo own other (cond b NoRoom (Opens (after_opening h isn listener source s)))
     by_place listener true = tt
     by_place listener false = opened listener
 
     by_flags : (listener : Entry) (b : Bool) → LeadsTo own other (cond b (opening h isn source s listener) (arrival_with_reply h (answer_at_listener s)))
-    by_flags listener true = by_place listener (has_no_place h listener)
+    by_flags listener true = by_place listener (has_no_room h listener)
     by_flags listener false = replied (answer_at_listener s)
 
     by_listener : (o : Option Entry) → find (is_listening_at s.destination) h.entries ≡ o → LeadsTo own other (arrival_alone h isn source s)

@@ -23,7 +23,7 @@ use Rattle.udp.specs.Datagram.{UserDatagram}
 use Rattle.udp.specs.Reading.{datagram_or_fault}
 use Rattle.sockets.specs.declared.datagrams.Reception.{Reception}
 use Rattle.sockets.specs.declared.datagrams.Reception.TheVariants as reception
-use Rattle.sockets.specs.Arrival.{Arrival, Becomes, Opens, NoPlace, Answers, arrival}
+use Rattle.sockets.specs.Arrival.{Arrival, Becomes, Opens, NoRoom, Answers, arrival}
 use Rattle.sockets.specs.Datagrams.{reception, after_reception}
 use Rattle.sockets.specs.SocketsView.{SocketsView, later_moment}
 use Rattle.sockets.specs.Unreachable.{after_unreachable}
@@ -79,7 +79,7 @@ segment-takes other h h' moment isn source s answer pool = by_arrival (is_routed
     by_arrival true (Opens next) is meets = by_answer next is answer meets
     by_arrival false (Opens next) is meets = still meets.1
     by_arrival routed (Becomes next) is meets = with-pool-kept other h h' (ap (λ (w : HostView). w.pool) meets.1) pool (Hears moment isn source s next (inl is) (ap (λ (w : HostView). w.sockets) meets.1))
-    by_arrival routed NoPlace is meets = still meets.1
+    by_arrival routed NoRoom is meets = still meets.1
     by_arrival routed (Answers head) is meets = aside other h h' (ap (λ (w : HostView). w.sockets) meets.1) (ap (λ (w : HostView). w.pool) meets.1) pool
 
 -- A UDP datagram.

@@ -17,7 +17,7 @@ use Rattle.sockets.specs.declared.entry.Entry.{Entry}
 use Rattle.sockets.specs.declared.role.Role.{Role}
 use Rattle.sockets.specs.declared.role.Role.TheVariants.{Idle, Listener, Connected, Datagrams}
 use Rattle.sockets.specs.declared.taken.Taken.{Taken}
-use Rattle.sockets.specs.Arrival.{Opens, NoPlace, local_end, peer_end, is_opening, has_no_place, after_opening, arrival_with_reply, opening, arrival_at, arrival_alone, offered_with, arrival_at_connection, arrival, pair_opened, Meets}
+use Rattle.sockets.specs.Arrival.{Opens, NoRoom, local_end, peer_end, is_opening, has_no_room, after_opening, arrival_with_reply, opening, arrival_at, arrival_alone, offered_with, arrival_at_connection, arrival, pair_opened, Meets}
 use Rattle.sockets.specs.Entries.{is_live_between, is_between, is_listening_at, role_after_segment, fate_of, is_offered_by, entries_after_step, new_waiting}
 use Rattle.sockets.specs.Replies.{reset_at_ack, answer_to, answer_at_listener}
 use Rattle.sockets.specs.SocketsView.{SocketsView, later_moment}
@@ -86,14 +86,14 @@ segment-arrived h now isn source s opened said new seen = by_entry (find (is_bet
     of_opens listener none opens foreseen (inr refused) = Ignored refused.1
 
     by_place : (listener : Entry) → find (is_between local peer) h.entries ≡ None → is_opening s.flags ≡ true → find (is_listening_at s.destination) h.entries ≡ Some listener
-        → (full : Bool) → has_no_place h listener ≡ full → Meets (cond full NoPlace (Opens (after_opening h isn listener source s))) h said new → Shown
+        → (full : Bool) → has_no_room h listener ≡ full → Meets (cond full NoRoom (Opens (after_opening h isn listener source s))) h said new → Shown
     by_place listener none opens at true full meets = Ignored meets.1
     by_place listener none opens at false full meets = of_opens listener none opens (seen (after_opening h isn listener source s) (rw (none, at, opens, full)) ∙ rw (none, opens, at, full)) meets
 
     by_flags : (listener : Entry) → find (is_between local peer) h.entries ≡ None → find (is_listening_at s.destination) h.entries ≡ Some listener
         → (b : Bool) → is_opening s.flags ≡ b → Meets (cond b (opening h isn source s listener) (arrival_with_reply h (answer_at_listener s))) h said new → Shown
     by_flags listener none at false is meets = by_reply (answer_at_listener s) meets
-    by_flags listener none at true is meets = by_place listener none is at (has_no_place h listener) refl meets
+    by_flags listener none at true is meets = by_place listener none is at (has_no_room h listener) refl meets
 
     by_listener : find (is_between local peer) h.entries ≡ None → (o : Option Entry) → find (is_listening_at s.destination) h.entries ≡ o → Meets (arrival_alone h isn source s) h said new → Shown
     by_listener none None at meets =
