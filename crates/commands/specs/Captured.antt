@@ -4,7 +4,7 @@ use Rattle.std.specs.Fmt.{decimal}
 use Rattle.std.specs.Io.KnownBytes.{Appends}
 use Rattle.capture.specs.declared.fault.RecordFault.{RecordFault}
 use Rattle.capture.specs.Reading.{AreRead, Record, Unread, moment_of, opened}
-use Rattle.decode.specs.declared.drop.DropCause.{DropCause}
+use Rattle.decode.specs.declared.unreadable.Unreadable.{Unreadable}
 use Rattle.decode.specs.Layers.{Decodes}
 use Rattle.commands.specs.declared.fault.TextFault.{TextFault}
 use Rattle.commands.specs.declared.fault.TextFault.TheVariants.{Line, TooLong, NotHex, Header, Record as OfRecord, Read, Write, NoMemory}
@@ -21,7 +21,7 @@ frame_line number r = codes "frame " ++ decimal number ++ codes " " ++ decimal (
 
 -- what is printed of a frame: its line, and behind it what its octets say
 abbrev pub IsTextOf : ℕ → Record → List ℕ → Type 0
-IsTextOf number r text = (cause : Option DropCause) × Decodes r.octets cause (frame_line number r) text
+IsTextOf number r text = (cause : Option Unreadable) × Decodes r.octets cause (frame_line number r) text
 
 -- what is printed of frames in turn, which are numbered from 0 on
 pub data AreShown : List Record → List ℕ → Type 0 where

@@ -1,7 +1,7 @@
 -- What `decode` makes of the text of a frame.
 use Rattle.std.specs.Prelude.{◌≡◌, List, [], ℕ, Option, Some, None, Result, Ok, Err, ⊤}
 use Rattle.std.specs.Io.KnownBytes.{Appends}
-use Rattle.decode.specs.declared.drop.DropCause.{DropCause}
+use Rattle.decode.specs.declared.unreadable.Unreadable.{Unreadable}
 use Rattle.decode.specs.declared.pairs.HexFault.{HexFault}
 use Rattle.decode.specs.declared.pairs.HexFault.TheVariants as hex
 use Rattle.decode.specs.Pairs.{octets_in}
@@ -16,7 +16,7 @@ fault_by hex.NotHex = NotHex
 fault_by hex.NoMemory = NoMemory
 
 -- this is printed of a text: what the frame says whose octets it spells
-abbrev pub IsPrinted : List ℕ → Option DropCause → List ℕ → Type 0
+abbrev pub IsPrinted : List ℕ → Option Unreadable → List ℕ → Type 0
 IsPrinted text cause printed = (octets : List ℕ) × (octets_in text ≡ Some octets) × Decodes octets cause [] printed
 
 -- why nothing is printed of a text: it isn't hexadecimal digits, or memory runs out
@@ -32,9 +32,9 @@ IsUnspelled text NoMemory = ⊤
 
 -- What a text makes a sink take: all that is printed of it, or a front of that where the sink fails. Nothing is printed of a text that isn't
 -- hexadecimal digits, nor where another fault ends the command.
-abbrev pub TakesPrinted : List ℕ → Result (Option DropCause) TextFault → Option (List ℕ) → Option (List ℕ) → Type 0
+abbrev pub TakesPrinted : List ℕ → Result (Option Unreadable) TextFault → Option (List ℕ) → Option (List ℕ) → Type 0
 TakesPrinted text (Ok cause) old new = (printed : List ℕ) × IsPrinted text cause printed × Appends old new printed
-TakesPrinted text (Err Write) old new = (cause : Option DropCause) × (printed : List ℕ) × IsPrinted text cause printed × TakesFront old new printed
+TakesPrinted text (Err Write) old new = (cause : Option Unreadable) × (printed : List ℕ) × IsPrinted text cause printed × TakesFront old new printed
 TakesPrinted text (Err NotHex) old new = (octets_in text ≡ None) × Appends old new []
 TakesPrinted text (Err Read) old new = Appends old new []
 TakesPrinted text (Err NoMemory) old new = Appends old new []

@@ -8,7 +8,7 @@ ghost use Rattle.commands.specs.Hex.{IsPrinted, IsUnspelled, TakesPrinted};
 use crate::fault::TextFault;
 use crate::input::whole;
 use crate::output::finish;
-use decode::{DropCause, octets_of};
+use decode::{Unreadable, octets_of};
 use devices::{Sink, Source};
 use std::alloc::Global;
 
@@ -19,7 +19,7 @@ pub fn decode<R: Source, W: Sink>(
     alloc: Global,
     hex: &mut R,
     out: &mut W,
-) -> Result<Option<DropCause>, TextFault>
+) -> Result<Option<Unreadable>, TextFault>
     ensures read { R.failures hex.new ≡ counted (read_fails result) (R.failures hex.old) }
     ensures written { W.failures out.new ≡ counted (write_fails_in result) (W.failures out.old) }
     ensures silent { write_fails_in result ≡ false → IfErr result (λ fault. out.new ≡ out.old) }
@@ -33,7 +33,7 @@ pub fn decode<R: Source, W: Sink>(
 }
 
 /// What is printed of a text, and why a layer of its frame can't be read, if so.
-fn printed(alloc: Global, text: &[u8]) -> Result<(String, Option<DropCause>), TextFault>
+fn printed(alloc: Global, text: &[u8]) -> Result<(String, Option<Unreadable>), TextFault>
     ensures ok { IfOk result (λ told. IsPrinted text.now told.1 (string_bytes told.0)) }
     ensures err { IfErr result (λ fault. IsUnspelled text.now fault) }
 {

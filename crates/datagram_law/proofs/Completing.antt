@@ -5,10 +5,10 @@ use Rattle.clock.specs.declared.moment.Moment.{Moment}
 use Rattle.ipv4.specs.Datagram.{Datagram}
 use Rattle.udp.specs.Datagram.{spelling}
 use Rattle.reassembly.specs.declared.key.Key.{Key}
-use Rattle.reassembly.specs.declared.taken.Loss.TheVariants.{GivenUp}
-use Rattle.reassembly.specs.declared.taken.Taken.{Taken}
-use Rattle.reassembly.specs.declared.taken.Taken.TheVariants.{Whole, Dropped}
-use Rattle.reassembly.specs.declared.taken.Whole as wholes
+use Rattle.reassembly.specs.declared.assembled.Loss.TheVariants.{GivenUp}
+use Rattle.reassembly.specs.declared.assembled.Assembled.{Assembled}
+use Rattle.reassembly.specs.declared.assembled.Assembled.TheVariants.{Whole, Dropped}
+use Rattle.reassembly.specs.declared.assembled.Whole as wholes
 use Rattle.reassembly.specs.Events.{Event, after_events, gathered}
 use Rattle.reassembly.specs.Fragments.{key_of}
 use Rattle.reassembly.specs.Parts.{IsPartOf, ArePartsOf}
@@ -51,7 +51,7 @@ answered accepted events now d whole turn few taken (k, a, within, there, of) an
 )
 
 -- the outcome in a place, as it is answered
-answers_at : (places : List (Option Reassembly)) (now : Moment) (d : Datagram) (place : ℕ) (outcome : Outcome) (taken : Taken)
+answers_at : (places : List (Option Reassembly)) (now : Moment) (d : Datagram) (place : ℕ) (outcome : Outcome) (taken : Assembled)
     → place_for (key_of d) places ≡ Some place → outcome_at now d places place ≡ outcome → Answers outcome taken → AnswersTake now d places taken
 answers_at places now d place outcome taken found is answers =
     subst (λ (o : Option ℕ). AnswersAt now d places o taken) (sym found) (subst (λ (o : Outcome). Answers o taken) (sym is) answers)

@@ -11,7 +11,7 @@ use Rattle.ipv4.proofs.Answering.{one_answer as one_datagram}
 use Rattle.icmp.proofs.Answering.{one_answer as one_message}
 use Rattle.udp.proofs.Answering.{one_answer as one_udp_datagram}
 use Rattle.tcp_segment.proofs.Answering.{one_answer as one_segment}
-use Rattle.decode.specs.declared.drop.DropCause.{DropCause}
+use Rattle.decode.specs.declared.unreadable.Unreadable.{Unreadable}
 use Rattle.decode.specs.declared.carried.Carried.{Carried}
 use Rattle.decode.specs.declared.carried.Carried.TheVariants.{Arp, Ipv4, Other}
 use Rattle.decode.specs.declared.carried.Upper.{Upper}
@@ -43,7 +43,7 @@ pub one-shown : (octets : List ℕ) (first second : Shown) → IsShown octets fi
 one-shown octets first second a b =
     one-frame-shown b.0 first second (subst (λ read. IsFrameShown read first) (one_frame octets a.0 b.0 a.1 b.1) a.2) b.2
 
-pub one-decoded : (octets old first second : List ℕ) (one other : Option DropCause) →
+pub one-decoded : (octets old first second : List ℕ) (one other : Option Unreadable) →
     Decodes octets one old first → Decodes octets other old second → (first ≡ second) × (one ≡ other)
 one-decoded octets old first second one other a b =
     let same = one-shown octets a.0 b.0 a.1 b.1 in

@@ -21,8 +21,8 @@ use Rattle.udp.specs.declared.fault.UdpFault.TheVariants as user
 use Rattle.tcp_segment.specs.Segment.{Segment, IsParsed as IsSegment}
 use Rattle.tcp_segment.specs.declared.fault.SegmentFault.{SegmentFault}
 use Rattle.tcp_segment.specs.declared.fault.SegmentFault.TheVariants as segment
-use Rattle.decode.specs.declared.drop.DropCause.{DropCause}
-use Rattle.decode.specs.declared.drop.DropCause.TheVariants.{Short, OtherType, IpHeader, IpSum, UpperHeader, UpperSum}
+use Rattle.decode.specs.declared.unreadable.Unreadable.{Unreadable}
+use Rattle.decode.specs.declared.unreadable.Unreadable.TheVariants.{Short, OtherType, IpHeader, IpSum, UpperHeader, UpperSum}
 use Rattle.decode.specs.declared.carried.Carried.{Carried}
 use Rattle.decode.specs.declared.carried.Carried.TheVariants.{Arp, Ipv4, Other}
 use Rattle.decode.specs.declared.carried.Upper.{Upper}
@@ -30,7 +30,7 @@ use Rattle.decode.specs.declared.carried.Upper.TheVariants.{Icmp, Tcp, Udp, Unre
 use Rattle.decode.specs.Lines.{ether_line, arp_line, ipv4_line, icmp_line, udp_line, tcp_line}
 
 -- the number of a cause
-abbrev pub number_of : DropCause → ℕ
+abbrev pub number_of : Unreadable → ℕ
 number_of Short = 1
 number_of OtherType = 3
 number_of IpHeader = 4
@@ -41,13 +41,13 @@ number_of UpperSum = 8
 -- the lines of layers, and why what stands above them can't be read, if so
 pub record Shown : Type 0 where
   pub lines : List ℕ
-  pub cause : Option DropCause
+  pub cause : Option Unreadable
 
 -- no line: nothing more is to be read, or it can't be
 abbrev pub nothing : Shown
 nothing = record { lines = []; cause = None }
 
-abbrev pub dropped : DropCause → Shown
+abbrev pub dropped : Unreadable → Shown
 dropped cause = record { lines = []; cause = Some cause }
 
 -- one line alone
@@ -97,7 +97,7 @@ IsUpperShown Udp d shown = (read : Result UserDatagram UdpFault) × IsUserDatagr
 IsUpperShown Tcp d shown = (read : Result Segment SegmentFault) × IsSegment d.source d.destination d.payload read × (shown ≡ tcp_shown read)
 
 -- why there is no datagram
-abbrev pub ipv4_cause : Ipv4Fault → DropCause
+abbrev pub ipv4_cause : Ipv4Fault → Unreadable
 ipv4_cause datagram.IpHeader = IpHeader
 ipv4_cause datagram.IpSum = IpSum
 
@@ -126,19 +126,19 @@ abbrev pub IsShown : List ℕ → Shown → Type 0
 IsShown octets shown = (read : Result Frame FrameFault) × IsFrame octets read × IsFrameShown read shown
 
 -- `drop F4`, and so on, where something can't be read
-abbrev pub drop_line : Option DropCause → List ℕ
+abbrev pub drop_line : Option Unreadable → List ℕ
 drop_line (Some cause) = codes "drop F" ++ (decimal (number_of cause) ++ codes "\n")
 drop_line None = []
 
 -- a text grew by these lines, and this is why what stands above them can't be read
-pub record Shows (shown : Shown) (cause : Option DropCause) (old new : List ℕ) : Type 0 where
+pub record Shows (shown : Shown) (cause : Option Unreadable) (old new : List ℕ) : Type 0 where
   pub why : cause ≡ shown.cause
   pub grown : new ≡ old ++ shown.lines
 
 -- the same of lines that are shown so
-abbrev pub Grows : (Shown → Type 0) → Option DropCause → List ℕ → List ℕ → Type 0
+abbrev pub Grows : (Shown → Type 0) → Option Unreadable → List ℕ → List ℕ → Type 0
 Grows Is cause old new = (shown : Shown) × Is shown × Shows shown cause old new
 
 -- a text grew by all that is shown of octets, and by the line of a drop
-abbrev pub Decodes : List ℕ → Option DropCause → List ℕ → List ℕ → Type 0
+abbrev pub Decodes : List ℕ → Option Unreadable → List ℕ → List ℕ → Type 0
 Decodes octets cause old new = (shown : Shown) × IsShown octets shown × (cause ≡ shown.cause) × (new ≡ old ++ (shown.lines ++ drop_line cause))

@@ -4,7 +4,7 @@ ghost use Rattle.std.specs.Prelude.{◌≡◌, ◌++◌, IfOk, OnOk, string_byte
 ghost use Rattle.decode.specs.Layers.{Decodes, Grows, Shows, IsShown, IsPayloadShown, IsDatagramShown, IsUpperShown, carried_by, upper_in, drop_line, ipv4_cause, arp_shown, icmp_shown, udp_shown, tcp_shown};
 
 use crate::carried::{Carried, Upper, carried_by, upper_in};
-use crate::drop::DropCause;
+use crate::unreadable::Unreadable;
 use crate::lines::{push_arp, push_ether, push_icmp, push_ipv4, push_tcp, push_udp};
 use arp::{ArpFault, ArpPacket};
 use ether::{EtherView, FrameFault};
@@ -17,7 +17,7 @@ use udp::{UdpFault, UdpView};
 /// Adds a line for each layer of a frame to `lines`: `ether`, then `arp`, or `ipv4` and then `icmp`, `udp` or `tcp`. Nothing is printed
 /// above a fragment, nor of another protocol. Where a layer can't be read, the last line says why, and that cause is answered.
 /// Addresses aren't looked at. An error is want of memory.
-pub fn decode(frame: &[u8], lines: &mut String) -> Result<Option<DropCause>, AllocError>
+pub fn decode(frame: &[u8], lines: &mut String) -> Result<Option<Unreadable>, AllocError>
     ensures { IfOk result (λ cause. Decodes frame.now cause (string_bytes lines.old) (string_bytes lines.new)) }
 {
     let cause = show_frame(frame, lines)?;
@@ -26,7 +26,7 @@ pub fn decode(frame: &[u8], lines: &mut String) -> Result<Option<DropCause>, All
 }
 
 /// Adds the line that says why something can't be read.
-fn push_drop(cause: Option<DropCause>, lines: &mut String) -> Result<(), AllocError>
+fn push_drop(cause: Option<Unreadable>, lines: &mut String) -> Result<(), AllocError>
     ensures { OnOk result (string_bytes lines.new ≡ string_bytes lines.old ++ drop_line cause) }
 {
     match cause {
@@ -36,7 +36,7 @@ fn push_drop(cause: Option<DropCause>, lines: &mut String) -> Result<(), AllocEr
 }
 
 /// Adds the lines of a frame.
-fn show_frame(octets: &[u8], lines: &mut String) -> Result<Option<DropCause>, AllocError>
+fn show_frame(octets: &[u8], lines: &mut String) -> Result<Option<Unreadable>, AllocError>
     ensures { IfOk result (λ cause. Grows (IsShown octets.now) cause (string_bytes lines.old) (string_bytes lines.new)) }
 {
     match EtherView::parse(octets) {
@@ -44,7 +44,7 @@ fn show_frame(octets: &[u8], lines: &mut String) -> Result<Option<DropCause>, Al
             push_ether(&frame, lines)?;
             show_payload(frame.kind(), frame.payload(), lines)
         }
-        Err(FrameFault::Short) => Ok(Some(DropCause::Short)),
+        Err(FrameFault::Short) => Ok(Some(Unreadable::Short)),
     }
 }
 
@@ -53,13 +53,13 @@ fn show_payload(
     kind: u16,
     octets: &[u8],
     lines: &mut String,
-) -> Result<Option<DropCause>, AllocError>
+) -> Result<Option<Unreadable>, AllocError>
     ensures { IfOk result (λ cause. Grows (IsPayloadShown (carried_by kind) octets.now) cause (string_bytes lines.old) (string_bytes lines.new)) }
 {
     match carried_by(kind) {
         Carried::Arp => show_packet(ArpPacket::parse(octets), lines),
         Carried::Ipv4 => show_datagram(Ipv4View::parse(octets), lines),
-        Carried::Other => Ok(Some(DropCause::OtherType)),
+        Carried::Other => Ok(Some(Unreadable::OtherType)),
     }
 }
 
@@ -67,7 +67,7 @@ fn show_payload(
 fn show_packet(
     read: Result<ArpPacket, ArpFault>,
     lines: &mut String,
-) -> Result<Option<DropCause>, AllocError>
+) -> Result<Option<Unreadable>, AllocError>
     ensures { IfOk result (λ cause. Shows (arp_shown read) cause (string_bytes lines.old) (string_bytes lines.new)) }
 {
     match read {
@@ -75,7 +75,7 @@ fn show_packet(
             push_arp(&packet, lines)?;
             Ok(None)
         }
-        Err(ArpFault::UpperHeader) => Ok(Some(DropCause::UpperHeader)),
+        Err(ArpFault::UpperHeader) => Ok(Some(Unreadable::UpperHeader)),
     }
 }
 
@@ -83,7 +83,7 @@ fn show_packet(
 fn show_datagram(
     read: Result<Ipv4View<'_>, Ipv4Fault>,
     lines: &mut String,
-) -> Result<Option<DropCause>, AllocError>
+) -> Result<Option<Unreadable>, AllocError>
     ensures { IfOk result (λ cause. Grows (IsDatagramShown read.entry) cause (string_bytes lines.old) (string_bytes lines.new)) }
 {
     match read {
@@ -96,17 +96,17 @@ fn show_datagram(
 }
 
 /// Why there is no datagram.
-fn ipv4_cause(fault: Ipv4Fault) -> DropCause
+fn ipv4_cause(fault: Ipv4Fault) -> Unreadable
     ensures { result ≡ ipv4_cause fault }
 {
     match fault {
-        Ipv4Fault::IpHeader => DropCause::IpHeader,
-        Ipv4Fault::IpSum => DropCause::IpSum,
+        Ipv4Fault::IpHeader => Unreadable::IpHeader,
+        Ipv4Fault::IpSum => Unreadable::IpSum,
     }
 }
 
 /// Adds the line of what a datagram carries, where that is read.
-fn show_upper(datagram: &Ipv4View<'_>, lines: &mut String) -> Result<Option<DropCause>, AllocError>
+fn show_upper(datagram: &Ipv4View<'_>, lines: &mut String) -> Result<Option<Unreadable>, AllocError>
     ensures { IfOk result (λ cause. Grows (IsUpperShown (upper_in datagram.now) datagram.now) cause (string_bytes lines.old) (string_bytes lines.new)) }
 {
     let (source, destination) = (datagram.source(), datagram.destination());
@@ -123,7 +123,7 @@ fn show_upper(datagram: &Ipv4View<'_>, lines: &mut String) -> Result<Option<Drop
 fn show_message(
     read: Result<IcmpView<'_>, IcmpFault>,
     lines: &mut String,
-) -> Result<Option<DropCause>, AllocError>
+) -> Result<Option<Unreadable>, AllocError>
     ensures { IfOk result (λ cause. Shows (icmp_shown read.entry) cause (string_bytes lines.old) (string_bytes lines.new)) }
 {
     match read {
@@ -131,8 +131,8 @@ fn show_message(
             push_icmp(&message, lines)?;
             Ok(None)
         }
-        Err(IcmpFault::UpperHeader) => Ok(Some(DropCause::UpperHeader)),
-        Err(IcmpFault::UpperSum) => Ok(Some(DropCause::UpperSum)),
+        Err(IcmpFault::UpperHeader) => Ok(Some(Unreadable::UpperHeader)),
+        Err(IcmpFault::UpperSum) => Ok(Some(Unreadable::UpperSum)),
     }
 }
 
@@ -140,7 +140,7 @@ fn show_message(
 fn show_udp_datagram(
     read: Result<UdpView<'_>, UdpFault>,
     lines: &mut String,
-) -> Result<Option<DropCause>, AllocError>
+) -> Result<Option<Unreadable>, AllocError>
     ensures { IfOk result (λ cause. Shows (udp_shown read.entry) cause (string_bytes lines.old) (string_bytes lines.new)) }
 {
     match read {
@@ -148,8 +148,8 @@ fn show_udp_datagram(
             push_udp(&datagram, lines)?;
             Ok(None)
         }
-        Err(UdpFault::UpperHeader) => Ok(Some(DropCause::UpperHeader)),
-        Err(UdpFault::UpperSum) => Ok(Some(DropCause::UpperSum)),
+        Err(UdpFault::UpperHeader) => Ok(Some(Unreadable::UpperHeader)),
+        Err(UdpFault::UpperSum) => Ok(Some(Unreadable::UpperSum)),
     }
 }
 
@@ -157,7 +157,7 @@ fn show_udp_datagram(
 fn show_segment(
     read: Result<TcpView<'_>, SegmentFault>,
     lines: &mut String,
-) -> Result<Option<DropCause>, AllocError>
+) -> Result<Option<Unreadable>, AllocError>
     ensures { IfOk result (λ cause. Shows (tcp_shown read.entry) cause (string_bytes lines.old) (string_bytes lines.new)) }
 {
     match read {
@@ -165,7 +165,7 @@ fn show_segment(
             push_tcp(&segment, lines)?;
             Ok(None)
         }
-        Err(SegmentFault::UpperHeader) => Ok(Some(DropCause::UpperHeader)),
-        Err(SegmentFault::UpperSum) => Ok(Some(DropCause::UpperSum)),
+        Err(SegmentFault::UpperHeader) => Ok(Some(Unreadable::UpperHeader)),
+        Err(SegmentFault::UpperSum) => Ok(Some(Unreadable::UpperSum)),
     }
 }

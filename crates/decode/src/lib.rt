@@ -2,14 +2,14 @@
 #![tactic(auto)]
 
 mod carried;
-mod drop;
+mod unreadable;
 pub mod laws;
 mod layers;
 mod lines;
 mod pairs;
 mod words;
 
-pub use drop::DropCause;
+pub use unreadable::Unreadable;
 pub use layers::decode;
 pub use lines::{push_message, push_packet, push_user};
 pub use pairs::{HexFault, octets_of};

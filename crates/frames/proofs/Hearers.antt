@@ -29,8 +29,8 @@ use Rattle.tcp_segment.proofs.Checksum.{sent_octets_len, sent_spelled as segment
 use Rattle.frames.specs.declared.emission.FrameHead.{FrameHead}
 use Rattle.frames.specs.declared.meaning.Control.{Control}
 use Rattle.frames.specs.declared.meaning.Meaning.TheVariants.{Icmp, Other, Tcp, Udp, UdpFragment}
-use Rattle.frames.specs.declared.meaning.Received.{Received}
-use Rattle.frames.specs.declared.meaning.UserReceived.{UserReceived}
+use Rattle.frames.specs.declared.meaning.ReceivedSegment.{ReceivedSegment}
+use Rattle.frames.specs.declared.meaning.ReceivedDatagram.{ReceivedDatagram}
 use Rattle.frames.specs.Heard.{IsWhole, MaySend}
 use Rattle.frames.specs.Meaning.{arp_type, heard, may_send}
 use Rattle.frames.specs.Sent.{datagram_frame, datagram_of, framed, ipv4_head, message_frame, packet_destination, packet_frame, part_frame, segment_frame}
@@ -43,7 +43,7 @@ use Rattle.frames.proofs.PairLemmas.{heard_pairs}
 
 -- What is heard comes from another host.
 
-pub from_others : (mac : Mac) (ours : Addr) (octets : List ℕ) (received : Received) → heard mac ours octets ≡ Ok (Tcp received) → may_send ours received.source ≡ true
+pub from_others : (mac : Mac) (ours : Addr) (octets : List ℕ) (received : ReceivedSegment) → heard mac ours octets ≡ Ok (Tcp received) → may_send ours received.source ≡ true
 from_others mac ours octets r answer =
     let from = from_datagram mac ours octets (Tcp r) answer (λ p no. cc) in
     ap (may_send ours) from.2.2 ∙ from.1.may
@@ -63,7 +63,7 @@ others_from_others mac ours octets d answer =
     let from = from_datagram mac ours octets (Other d) answer (λ p no. cc) in
     ends_of ours octets d from.0 from.1 from.2.4
 
-pub users_from_others : (mac : Mac) (ours : Addr) (octets : List ℕ) (r : UserReceived) → heard mac ours octets ≡ Ok (Udp r)
+pub users_from_others : (mac : Mac) (ours : Addr) (octets : List ℕ) (r : ReceivedDatagram) → heard mac ours octets ≡ Ok (Udp r)
     → (may_send ours r.carrier.source ≡ true) × (r.carrier.destination ≡ ours)
 users_from_others mac ours octets r answer =
     let from = from_datagram mac ours octets (Udp r) answer (λ p no. cc) in
@@ -94,7 +94,7 @@ headers_fit mac ours octets d answer =
     let from = from_datagram mac ours octets (Other d) answer (λ p no. cc) in
     (datagram_fits ours octets d from.0 from.1 from.2.4).0
 
-pub users_fit : (mac : Mac) (ours : Addr) (octets : List ℕ) (r : UserReceived) → heard mac ours octets ≡ Ok (Udp r)
+pub users_fit : (mac : Mac) (ours : Addr) (octets : List ℕ) (r : ReceivedDatagram) → heard mac ours octets ≡ Ok (Udp r)
     → (length (header_octets r.carrier) ≤ 60) × (length r.carrier.payload ≤ 1480)
 users_fit mac ours octets r answer =
     let from = from_datagram mac ours octets (Udp r) answer (λ p no. cc) in
@@ -117,7 +117,7 @@ others_are_whole mac ours octets d answer =
     subst (λ (e : Datagram). MaySend ours e.source × IsWhole e × (e.protocol ≢ 6) × (e.protocol ≢ 1) × (e.protocol ≢ 17)) (sym from.2.4) facts
 
 -- what carries a UDP datagram is, and a fragment isn't
-pub users_are_carried : (mac : Mac) (ours : Addr) (octets : List ℕ) (r : UserReceived) → heard mac ours octets ≡ Ok (Udp r)
+pub users_are_carried : (mac : Mac) (ours : Addr) (octets : List ℕ) (r : ReceivedDatagram) → heard mac ours octets ≡ Ok (Udp r)
     → MaySend ours r.carrier.source × IsWhole r.carrier × (r.carrier.protocol ≡ 17)
     × (datagram_or_fault r.carrier.source r.carrier.destination r.carrier.payload ≡ Ok r.datagram)
 users_are_carried mac ours octets r answer =
@@ -144,10 +144,10 @@ same_ok x y e = cc
 same_some : {A : Type 0} (x y : A) → ◌≡◌ {A = Option A} (Some x) (Some y) → x ≡ y
 same_some x y e = cc
 
-same_received : (r : Received) (source : Addr) (s : Segment) → r.source ≡ source → r.segment ≡ s → r ≡ record { source = source; segment = s }
+same_received : (r : ReceivedSegment) (source : Addr) (s : Segment) → r.source ≡ source → r.segment ≡ s → r ≡ record { source = source; segment = s }
 same_received r source s is_source is_segment =
-    let with_source : Addr → Received = λ a. record { source = a; segment = r.segment } in
-    let with_segment : Segment → Received = λ t. record { source = source; segment = t } in
+    let with_source : Addr → ReceivedSegment = λ a. record { source = a; segment = r.segment } in
+    let with_segment : Segment → ReceivedSegment = λ t. record { source = source; segment = t } in
     ap with_source is_source ∙ ap with_segment is_segment
 
 same_control : (c : Control) (source : Addr) (m : Message) → c.source ≡ source → c.message ≡ m → c ≡ record { source = source; message = m }
@@ -173,7 +173,7 @@ only_whole : (h : FrameHead) (protocol : ℕ) (payload : List ℕ) (ours : Addr)
 only_whole h protocol payload ours d octet from to destination source most brought =
     only_datagram h (ipv4_head h protocol) payload ours d (fields h protocol payload octet from to most) destination source brought
 
-pub as_sent : (h : FrameHead) (head : Head) (octets : List ℕ) (mac : Mac) (ours : Addr) (received : Received) → CanBeSent h.from h.to head octets
+pub as_sent : (h : FrameHead) (head : Head) (octets : List ℕ) (mac : Mac) (ours : Addr) (received : ReceivedSegment) → CanBeSent h.from h.to head octets
     → length h.destination.0 ≡ 6 → length h.source.0 ≡ 6 → 4 * sent_offset head + length octets ≤ 1480
     → heard mac ours (segment_frame h (sent_octets h.from h.to head octets)) ≡ Ok (Tcp received)
     → (ours ≡ h.to) × (received ≡ record { source = h.from; segment = sent_segment head octets })
@@ -206,20 +206,20 @@ messages_as_sent h m mac ours c spells from_len to_len destination source most a
     )
 
 -- a packet, a message and a part carry no pair, and what is heard as a segment does
-pub no_packet : (p : ArpPacket) (mac : Mac) (ours : Addr) (received : Received) → length p.sender_mac.0 ≡ 6 → length p.target_mac.0 ≡ 6 → heard mac ours (packet_frame p) ≢ Ok (Tcp received)
+pub no_packet : (p : ArpPacket) (mac : Mac) (ours : Addr) (received : ReceivedSegment) → length p.sender_mac.0 ≡ 6 → length p.target_mac.0 ≡ 6 → heard mac ours (packet_frame p) ≢ Ok (Tcp received)
 no_packet p mac ours received sender target is =
     let some = heard_pairs mac ours (packet_frame p) received is in
     let none = packet_pairs p sender target in
     cc
 
-pub no_segment_in_message : (h : FrameHead) (octets : List ℕ) (mac : Mac) (ours : Addr) (received : Received) → length h.from.0 ≡ 4 → length h.to.0 ≡ 4
+pub no_segment_in_message : (h : FrameHead) (octets : List ℕ) (mac : Mac) (ours : Addr) (received : ReceivedSegment) → length h.from.0 ≡ 4 → length h.to.0 ≡ 4
     → length h.destination.0 ≡ 6 → length h.source.0 ≡ 6 → length octets ≤ 1480 → heard mac ours (message_frame h octets) ≢ Ok (Tcp received)
 no_segment_in_message h octets mac ours received from to destination source most is =
     let some = heard_pairs mac ours (message_frame h octets) received is in
     let none = message_pairs h octets from to destination source most in
     cc
 
-pub no_segment_in_part : (h : FrameHead) (part : Part) (octets : List ℕ) (mac : Mac) (ours : Addr) (received : Received) → length h.destination.0 ≡ 6
+pub no_segment_in_part : (h : FrameHead) (part : Part) (octets : List ℕ) (mac : Mac) (ours : Addr) (received : ReceivedSegment) → length h.destination.0 ≡ 6
     → length h.source.0 ≡ 6 → heard mac ours (part_frame h part octets) ≢ Ok (Tcp received)
 no_segment_in_part h part octets mac ours received destination source is =
     let some = heard_pairs mac ours (part_frame h part octets) received is in

@@ -36,7 +36,7 @@ use Rattle.udp.proofs.Plain.{fault_ok as user_found, fault_err as user_malformed
 use Rattle.frames.specs.declared.drop.DropCause.{DropCause}
 use Rattle.frames.specs.declared.drop.DropCause.TheVariants.{Short, OtherMac, OtherType, IpHeader, IpSum, OtherAddress, UpperHeader, UpperSum, NoRoom, Fragment}
 use Rattle.frames.specs.declared.meaning.Meaning.{Meaning}
-use Rattle.frames.specs.declared.meaning.UserReceived.{UserReceived}
+use Rattle.frames.specs.declared.meaning.ReceivedDatagram.{ReceivedDatagram}
 use Rattle.frames.specs.declared.meaning.Meaning.TheVariants.{Arp, Tcp, Icmp, Udp, Other, UdpFragment}
 use Rattle.frames.specs.Heard.{Brings, BringsDatagram, BringsIcmp, BringsTcp, BringsUdp, IsHeard, IsWhole, MaySend}
 use Rattle.frames.specs.Meaning.{arp_type, datagram_heard, fragment_heard, heard, ipv4_type, is_for, may_send, message_heard, packet_heard, payload_heard, segment_heard, upper_heard, user_heard, whole_heard}
@@ -170,7 +170,7 @@ heard_other mac ours octets d is =
     no_control mac ours octets d is.0 is.1 is.2 is.3
     ∙ ap (λ b. cond b one (Ok (Other d))) (refuted (d.protocol == 17) (number-Decides d.protocol 17) is.4)
 
-pub heard_user : (mac : Mac) (ours : Addr) (octets : List ℕ) (r : UserReceived) → IsHeard mac ours octets (Ok (Udp r)) → heard mac ours octets ≡ Ok (Udp r)
+pub heard_user : (mac : Mac) (ours : Addr) (octets : List ℕ) (r : ReceivedDatagram) → IsHeard mac ours octets (Ok (Udp r)) → heard mac ours octets ≡ Ok (Udp r)
 heard_user mac ours octets r is =
     let d : Datagram = r.carrier in
     for_user mac ours octets d (Ok r.datagram) is.0 (user_found d.source d.destination d.payload r.datagram is.1)

@@ -10,7 +10,7 @@ use Rattle.frames.specs.declared.emission.FrameHead.{FrameHead}
 use Rattle.frames.specs.declared.meaning.Control.{Control}
 use Rattle.frames.specs.declared.meaning.Meaning.{Meaning}
 use Rattle.frames.specs.declared.meaning.Meaning.TheVariants.{Arp, Icmp, Udp, UdpFragment}
-use Rattle.frames.specs.declared.meaning.UserReceived.{UserReceived}
+use Rattle.frames.specs.declared.meaning.ReceivedDatagram.{ReceivedDatagram}
 use Rattle.frames.specs.Meaning.{heard}
 use Rattle.frames.specs.Sent.{IsPart, datagram_frame, ipv4_head, message_frame, packet_frame, part_datagram, part_frame, part_head, segment_frame}
 use Rattle.frames.proofs.Carried.{part_fields}
@@ -31,7 +31,7 @@ of_part h part octets mac ours m is from to destination source answer other =
     )
 
 -- whoever hears a part hears the very one that is meant
-pub parts_as_sent : (h : FrameHead) (part : Part) (octets : List ℕ) (mac : Mac) (ours : Addr) (r : UserReceived) → IsPart part octets → length h.from.0 ≡ 4
+pub parts_as_sent : (h : FrameHead) (part : Part) (octets : List ℕ) (mac : Mac) (ours : Addr) (r : ReceivedDatagram) → IsPart part octets → length h.from.0 ≡ 4
     → length h.to.0 ≡ 4 → length h.destination.0 ≡ 6 → length h.source.0 ≡ 6 → heard mac ours (part_frame h part octets) ≡ Ok (Udp r)
     → (ours ≡ h.to) × (r.carrier ≡ part_datagram h part octets) × (datagram_or_fault h.from h.to octets ≡ Ok r.datagram)
 parts_as_sent h part octets mac ours r is from to destination source answer =
@@ -55,7 +55,7 @@ no_message_in_part h part octets mac ours c destination source answer =
     omega (arith, protocol)
 
 -- and nobody hears a UDP datagram or a fragment in the frame of another kind
-no_user : (h : FrameHead) (protocol : ℕ) (octets : List ℕ) (mac : Mac) (ours : Addr) (r : UserReceived) (d : Datagram) → protocol ≢ 17
+no_user : (h : FrameHead) (protocol : ℕ) (octets : List ℕ) (mac : Mac) (ours : Addr) (r : ReceivedDatagram) (d : Datagram) → protocol ≢ 17
     → length h.destination.0 ≡ 6 → length h.source.0 ≡ 6
     → (heard mac ours (datagram_frame h protocol octets) ≢ Ok (Udp r)) × (heard mac ours (datagram_frame h protocol octets) ≢ Ok (UdpFragment d))
 no_user h protocol octets mac ours r d other destination source = (
@@ -65,15 +65,15 @@ no_user h protocol octets mac ours r d other destination source = (
       other (sym (protocol_brought h (ipv4_head h protocol) octets ours from.0 destination source from.1) ∙ from.2.1),
 )
 
-pub no_user_in_segment : (h : FrameHead) (octets : List ℕ) (mac : Mac) (ours : Addr) (r : UserReceived) (d : Datagram) → length h.destination.0 ≡ 6 → length h.source.0 ≡ 6
+pub no_user_in_segment : (h : FrameHead) (octets : List ℕ) (mac : Mac) (ours : Addr) (r : ReceivedDatagram) (d : Datagram) → length h.destination.0 ≡ 6 → length h.source.0 ≡ 6
     → (heard mac ours (segment_frame h octets) ≢ Ok (Udp r)) × (heard mac ours (segment_frame h octets) ≢ Ok (UdpFragment d))
 no_user_in_segment h octets mac ours r d = no_user h 6 octets mac ours r d (λ (is : 6 ≡ 17). omega (arith, is))
 
-pub no_user_in_message : (h : FrameHead) (octets : List ℕ) (mac : Mac) (ours : Addr) (r : UserReceived) (d : Datagram) → length h.destination.0 ≡ 6 → length h.source.0 ≡ 6
+pub no_user_in_message : (h : FrameHead) (octets : List ℕ) (mac : Mac) (ours : Addr) (r : ReceivedDatagram) (d : Datagram) → length h.destination.0 ≡ 6 → length h.source.0 ≡ 6
     → (heard mac ours (message_frame h octets) ≢ Ok (Udp r)) × (heard mac ours (message_frame h octets) ≢ Ok (UdpFragment d))
 no_user_in_message h octets mac ours r d = no_user h 1 octets mac ours r d (λ (is : 1 ≡ 17). omega (arith, is))
 
-pub no_user_in_packet : (p : ArpPacket) (mac : Mac) (ours : Addr) (r : UserReceived) (d : Datagram) → length p.sender_mac.0 ≡ 6
+pub no_user_in_packet : (p : ArpPacket) (mac : Mac) (ours : Addr) (r : ReceivedDatagram) (d : Datagram) → length p.sender_mac.0 ≡ 6
     → length p.target_mac.0 ≡ 6 → (heard mac ours (packet_frame p) ≢ Ok (Udp r)) × (heard mac ours (packet_frame p) ≢ Ok (UdpFragment d))
 no_user_in_packet p mac ours r d sender target =
     (λ answer. nothing (Udp r) answer (λ q no. cc), λ answer. nothing (UdpFragment d) answer (λ q no. cc))

@@ -19,8 +19,8 @@ ghost use Rattle.frames.specs.declared.drop.DropCause.{DropCause};
 ghost use Rattle.frames.specs.declared.emission.FrameHead.{FrameHead};
 ghost use Rattle.frames.specs.declared.meaning.Control.{Control};
 ghost use Rattle.frames.specs.declared.meaning.Meaning.{Meaning};
-ghost use Rattle.frames.specs.declared.meaning.Received.{Received};
-ghost use Rattle.frames.specs.declared.meaning.UserReceived.{UserReceived};
+ghost use Rattle.frames.specs.declared.meaning.ReceivedSegment.{ReceivedSegment};
+ghost use Rattle.frames.specs.declared.meaning.ReceivedDatagram.{ReceivedDatagram};
 ghost use Rattle.frames.specs.declared.meaning.Meaning.TheVariants.{Arp, Tcp, Icmp, Udp, Other, UdpFragment};
 ghost use Rattle.frames.specs.Heard.{IsHeard, IsWhole, MaySend};
 ghost use Rattle.frames.specs.Meaning.{heard, may_send};
@@ -38,7 +38,7 @@ pub fn one_meaning()
 
 /// A frame that is heard as a segment carries the pair of the segment's two ends (RFC 9293 section 4).
 pub fn heard_pairs()
-    ensures { (mac : Mac) (ours : Addr) (octets : List ℕ) (received : Received) → heard mac ours octets ≡ Ok (Tcp received)
+    ensures { (mac : Mac) (ours : Addr) (octets : List ℕ) (received : ReceivedSegment) → heard mac ours octets ≡ Ok (Tcp received)
         → pair_in octets ≡ Some (pair_between received.source ours received.segment) }
 {}
 
@@ -95,9 +95,9 @@ pub fn emitted_packets_are_heard()
 /// What is heard as a segment, an ICMP message, a UDP datagram, a fragment or a datagram of another protocol comes from another host,
 /// from an address that a host may have (RFC 1122 section 3.2.1.3); such a datagram of IPv4 is for the host that hears it.
 pub fn heard_from_others()
-    ensures segment { (mac : Mac) (ours : Addr) (octets : List ℕ) (received : Received) → heard mac ours octets ≡ Ok (Tcp received) → may_send ours received.source ≡ true }
+    ensures segment { (mac : Mac) (ours : Addr) (octets : List ℕ) (received : ReceivedSegment) → heard mac ours octets ≡ Ok (Tcp received) → may_send ours received.source ≡ true }
     ensures message { (mac : Mac) (ours : Addr) (octets : List ℕ) (c : Control) → heard mac ours octets ≡ Ok (Icmp c) → may_send ours c.source ≡ true }
-    ensures user { (mac : Mac) (ours : Addr) (octets : List ℕ) (r : UserReceived) → heard mac ours octets ≡ Ok (Udp r)
+    ensures user { (mac : Mac) (ours : Addr) (octets : List ℕ) (r : ReceivedDatagram) → heard mac ours octets ≡ Ok (Udp r)
         → (may_send ours r.carrier.source ≡ true) × (r.carrier.destination ≡ ours) }
     ensures fragment { (mac : Mac) (ours : Addr) (octets : List ℕ) (d : Datagram) → heard mac ours octets ≡ Ok (UdpFragment d)
         → (may_send ours d.source ≡ true) × (d.destination ≡ ours) }
@@ -115,7 +115,7 @@ pub fn heard_others_are_whole()
 /// A UDP datagram that is heard came in a whole datagram of UDP from an address that another host may have, and its payload is read as
 /// this one. A fragment that is heard is one of UDP from such an address (RFC 768, RFC 791 section 3.2, RFC 1122 section 3.2.1.3).
 pub fn heard_users_are_carried()
-    ensures whole { (mac : Mac) (ours : Addr) (octets : List ℕ) (r : UserReceived) → heard mac ours octets ≡ Ok (Udp r)
+    ensures whole { (mac : Mac) (ours : Addr) (octets : List ℕ) (r : ReceivedDatagram) → heard mac ours octets ≡ Ok (Udp r)
         → MaySend ours r.carrier.source × IsWhole r.carrier × (r.carrier.protocol ≡ 17)
         × (datagram_or_fault r.carrier.source r.carrier.destination r.carrier.payload ≡ Ok r.datagram) }
     ensures fragment { (mac : Mac) (ours : Addr) (octets : List ℕ) (d : Datagram) → heard mac ours octets ≡ Ok (UdpFragment d)
@@ -128,7 +128,7 @@ pub fn heard_users_are_carried()
 pub fn heard_messages_fit()
     ensures message { (mac : Mac) (ours : Addr) (octets : List ℕ) (c : Control) → heard mac ours octets ≡ Ok (Icmp c)
         → length c.message.payload ≤ 1472 }
-    ensures user { (mac : Mac) (ours : Addr) (octets : List ℕ) (r : UserReceived) → heard mac ours octets ≡ Ok (Udp r)
+    ensures user { (mac : Mac) (ours : Addr) (octets : List ℕ) (r : ReceivedDatagram) → heard mac ours octets ≡ Ok (Udp r)
         → (length (header_octets r.carrier) ≤ 60) × (length r.carrier.payload ≤ PAYLOAD_IN_FRAME) }
     ensures fragment { (mac : Mac) (ours : Addr) (octets : List ℕ) (d : Datagram) → heard mac ours octets ≡ Ok (UdpFragment d)
         → (length (header_octets d) ≤ 60) × (length d.payload ≤ PAYLOAD_IN_FRAME) }
@@ -140,24 +140,24 @@ pub fn heard_messages_fit()
 /// for, and hears the very one that is meant, from the address that sends it. Nobody hears anything of the four in the frame of another kind:
 /// a segment in that of an ICMP message, of a part of a UDP datagram or of an ARP packet, and so on.
 pub fn heard_as_sent()
-    ensures segment { (h : FrameHead) (head : Head) (octets : List ℕ) (mac : Mac) (ours : Addr) (received : Received) → CanBeSent h.from h.to head octets
+    ensures segment { (h : FrameHead) (head : Head) (octets : List ℕ) (mac : Mac) (ours : Addr) (received : ReceivedSegment) → CanBeSent h.from h.to head octets
         → length h.destination.0 ≡ 6 → length h.source.0 ≡ 6 → 4 * sent_offset head + length octets ≤ PAYLOAD_IN_FRAME
         → heard mac ours (segment_frame h (sent_octets h.from h.to head octets)) ≡ Ok (Tcp received)
         → (ours ≡ h.to) × (received ≡ record { source = h.from; segment = sent_segment head octets }) }
-    ensures packet { (packet : ArpPacket) (mac : Mac) (ours : Addr) (received : Received) → length packet.sender_mac.0 ≡ 6 → length packet.target_mac.0 ≡ 6
+    ensures packet { (packet : ArpPacket) (mac : Mac) (ours : Addr) (received : ReceivedSegment) → length packet.sender_mac.0 ≡ 6 → length packet.target_mac.0 ≡ 6
         → heard mac ours (packet_frame packet) ≢ Ok (Tcp received) }
     ensures message { (h : FrameHead) (m : Message) (mac : Mac) (ours : Addr) (c : Control) → Spells m (spelling m) → length h.from.0 ≡ 4 → length h.to.0 ≡ 4
         → length h.destination.0 ≡ 6 → length h.source.0 ≡ 6 → length m.payload ≤ 1472
         → heard mac ours (message_frame h (spelling m)) ≡ Ok (Icmp c) → (ours ≡ h.to) × (c ≡ record { source = h.from; message = m }) }
-    ensures user { (h : FrameHead) (part : Part) (octets : List ℕ) (mac : Mac) (ours : Addr) (r : UserReceived) → IsPart part octets → length h.from.0 ≡ 4
+    ensures user { (h : FrameHead) (part : Part) (octets : List ℕ) (mac : Mac) (ours : Addr) (r : ReceivedDatagram) → IsPart part octets → length h.from.0 ≡ 4
         → length h.to.0 ≡ 4 → length h.destination.0 ≡ 6 → length h.source.0 ≡ 6 → heard mac ours (part_frame h part octets) ≡ Ok (Udp r)
         → (ours ≡ h.to) × (r.carrier ≡ part_datagram h part octets) × (datagram_or_fault h.from h.to octets ≡ Ok r.datagram) }
     ensures fragment { (h : FrameHead) (part : Part) (octets : List ℕ) (mac : Mac) (ours : Addr) (d : Datagram) → IsPart part octets → length h.from.0 ≡ 4
         → length h.to.0 ≡ 4 → length h.destination.0 ≡ 6 → length h.source.0 ≡ 6 → heard mac ours (part_frame h part octets) ≡ Ok (UdpFragment d)
         → (ours ≡ h.to) × (d ≡ part_datagram h part octets) }
-    ensures segment_in_message { (h : FrameHead) (octets : List ℕ) (mac : Mac) (ours : Addr) (received : Received) → length h.from.0 ≡ 4 → length h.to.0 ≡ 4
+    ensures segment_in_message { (h : FrameHead) (octets : List ℕ) (mac : Mac) (ours : Addr) (received : ReceivedSegment) → length h.from.0 ≡ 4 → length h.to.0 ≡ 4
         → length h.destination.0 ≡ 6 → length h.source.0 ≡ 6 → length octets ≤ PAYLOAD_IN_FRAME → heard mac ours (message_frame h octets) ≢ Ok (Tcp received) }
-    ensures segment_in_part { (h : FrameHead) (part : Part) (octets : List ℕ) (mac : Mac) (ours : Addr) (received : Received) → length h.destination.0 ≡ 6
+    ensures segment_in_part { (h : FrameHead) (part : Part) (octets : List ℕ) (mac : Mac) (ours : Addr) (received : ReceivedSegment) → length h.destination.0 ≡ 6
         → length h.source.0 ≡ 6 → heard mac ours (part_frame h part octets) ≢ Ok (Tcp received) }
     ensures message_in_segment { (h : FrameHead) (octets : List ℕ) (mac : Mac) (ours : Addr) (c : Control) → length h.from.0 ≡ 4 → length h.to.0 ≡ 4
         → length h.destination.0 ≡ 6 → length h.source.0 ≡ 6 → length octets ≤ PAYLOAD_IN_FRAME → heard mac ours (segment_frame h octets) ≢ Ok (Icmp c) }
@@ -165,13 +165,13 @@ pub fn heard_as_sent()
         → length h.source.0 ≡ 6 → heard mac ours (part_frame h part octets) ≢ Ok (Icmp c) }
     ensures message_in_packet { (packet : ArpPacket) (mac : Mac) (ours : Addr) (c : Control) → length packet.sender_mac.0 ≡ 6 → length packet.target_mac.0 ≡ 6
         → heard mac ours (packet_frame packet) ≢ Ok (Icmp c) }
-    ensures user_in_segment { (h : FrameHead) (octets : List ℕ) (mac : Mac) (ours : Addr) (r : UserReceived) (d : Datagram) → length h.destination.0 ≡ 6
+    ensures user_in_segment { (h : FrameHead) (octets : List ℕ) (mac : Mac) (ours : Addr) (r : ReceivedDatagram) (d : Datagram) → length h.destination.0 ≡ 6
         → length h.source.0 ≡ 6
         → (heard mac ours (segment_frame h octets) ≢ Ok (Udp r)) × (heard mac ours (segment_frame h octets) ≢ Ok (UdpFragment d)) }
-    ensures user_in_message { (h : FrameHead) (octets : List ℕ) (mac : Mac) (ours : Addr) (r : UserReceived) (d : Datagram) → length h.destination.0 ≡ 6
+    ensures user_in_message { (h : FrameHead) (octets : List ℕ) (mac : Mac) (ours : Addr) (r : ReceivedDatagram) (d : Datagram) → length h.destination.0 ≡ 6
         → length h.source.0 ≡ 6
         → (heard mac ours (message_frame h octets) ≢ Ok (Udp r)) × (heard mac ours (message_frame h octets) ≢ Ok (UdpFragment d)) }
-    ensures user_in_packet { (packet : ArpPacket) (mac : Mac) (ours : Addr) (r : UserReceived) (d : Datagram) → length packet.sender_mac.0 ≡ 6
+    ensures user_in_packet { (packet : ArpPacket) (mac : Mac) (ours : Addr) (r : ReceivedDatagram) (d : Datagram) → length packet.sender_mac.0 ≡ 6
         → length packet.target_mac.0 ≡ 6 → (heard mac ours (packet_frame packet) ≢ Ok (Udp r)) × (heard mac ours (packet_frame packet) ≢ Ok (UdpFragment d)) }
 {}
 

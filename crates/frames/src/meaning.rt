@@ -12,11 +12,11 @@ pub enum Meaning<'a> {
     /// An ARP packet, whoever its target is (RFC 826).
     Arp(ArpPacket),
     /// A TCP segment for us (RFC 9293 section 3.1).
-    Tcp(Received<'a>),
+    Tcp(ReceivedSegment<'a>),
     /// An ICMP message for us (RFC 792).
     Icmp(Control<'a>),
     /// A whole UDP datagram for us (RFC 768).
-    Udp(UserReceived<'a>),
+    Udp(ReceivedDatagram<'a>),
     /// A whole datagram for us of a protocol that nothing here takes: not TCP, ICMP or UDP (RFC 791 section 3.1).
     Other(Ipv4View<'a>),
     /// A fragment of a UDP datagram for us (RFC 791 section 3.1).
@@ -25,7 +25,7 @@ pub enum Meaning<'a> {
 
 /// A segment, and the address that it comes from.
 #[derive(Drop)]
-pub struct Received<'a> {
+pub struct ReceivedSegment<'a> {
     /// The address that it comes from.
     pub source: Addr,
     /// The segment.
@@ -43,7 +43,7 @@ pub struct Control<'a> {
 
 /// A UDP datagram, and the datagram of IPv4 that carries it.
 #[derive(Drop)]
-pub struct UserReceived<'a> {
+pub struct ReceivedDatagram<'a> {
     /// The datagram of IPv4, whole.
     pub carrier: Ipv4View<'a>,
     /// The UDP datagram in its payload.

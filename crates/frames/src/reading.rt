@@ -12,7 +12,7 @@ ghost use Rattle.udp.specs.Reading.{datagram_or_fault};
 ghost use Rattle.frames.specs.Meaning.{heard, frame_heard, payload_heard, packet_heard, datagram_heard, upper_heard, fragment_heard, segment_heard, message_heard, user_heard, is_for, is_fragment, may_send};
 
 use crate::drop::DropCause;
-use crate::meaning::{Control, Meaning, Received, UserReceived};
+use crate::meaning::{Control, Meaning, ReceivedSegment, ReceivedDatagram};
 use arp::ArpPacket;
 use ether::{ETHERTYPE_ARP, ETHERTYPE_IPV4, EtherView, FRAME_MAX, Mac};
 use icmp::{IcmpFault, IcmpView};
@@ -120,7 +120,7 @@ fn read_segment(source: Addr, destination: Addr, octets: &[u8]) -> Result<Meanin
     ensures { result ≡ segment_heard source (segment_or_fault source destination octets.now) }
 {
     match TcpView::parse(source, destination, octets) {
-        Ok(segment) => Ok(Meaning::Tcp(Received { source, segment })),
+        Ok(segment) => Ok(Meaning::Tcp(ReceivedSegment { source, segment })),
         Err(SegmentFault::UpperHeader) => Err(DropCause::UpperHeader),
         Err(SegmentFault::UpperSum) => Err(DropCause::UpperSum),
     }
@@ -142,7 +142,7 @@ fn read_user<'a>(carrier: Ipv4View<'a>) -> Result<Meaning<'a>, DropCause>
     ensures { result ≡ user_heard carrier.entry (datagram_or_fault carrier.entry.source carrier.entry.destination carrier.entry.payload) }
 {
     match UdpView::parse(carrier.source(), carrier.destination(), carrier.payload()) {
-        Ok(datagram) => Ok(Meaning::Udp(UserReceived { carrier, datagram })),
+        Ok(datagram) => Ok(Meaning::Udp(ReceivedDatagram { carrier, datagram })),
         Err(UdpFault::UpperHeader) => Err(DropCause::UpperHeader),
         Err(UdpFault::UpperSum) => Err(DropCause::UpperSum),
     }

@@ -17,7 +17,7 @@ use Rattle.icmp.specs.Sent.{echo_reply, error_for}
 use Rattle.frames.specs.declared.drop.DropCause.{DropCause}
 use Rattle.frames.specs.declared.meaning.Meaning.{Meaning}
 use Rattle.frames.specs.declared.meaning.Meaning.TheVariants.{Tcp}
-use Rattle.frames.specs.declared.meaning.Received.{Received}
+use Rattle.frames.specs.declared.meaning.ReceivedSegment.{ReceivedSegment}
 use Rattle.frames.specs.Heard.{MaySend}
 use Rattle.frames.specs.Meaning.{heard}
 use Rattle.frames.specs.Pairs.{pair_in, pair_between}
@@ -56,7 +56,7 @@ use Rattle.host.proofs.Hearing.{CanGo, echo-can, echo-frame, error-can, error-fr
 
 -- octets in which nobody hears a segment
 record GoesNone (octets : List ℕ) : Type 0 where
-  pub unheard : (mac : Mac) (ours : Addr) (r : Received) → heard mac ours octets ≡ Ok (Tcp r) → ⊥
+  pub unheard : (mac : Mac) (ours : Addr) (r : ReceivedSegment) → heard mac ours octets ≡ Ok (Tcp r) → ⊥
   pub pairless : pair_in octets ≡ None
 
 -- octets that are the frame of this segment
@@ -314,15 +314,15 @@ carries h moment sound ordered Nothing is = nothing-goes
 goes-heard : (i : InterfaceView) (octets : List ℕ) (c : Carried) → length i.mac.0 ≡ 6 → MaySend c.to i.addr → Goes i octets c → heard c.mac c.to octets ≡ Ok (Tcp (record { source = i.addr; segment = c.segment }))
 goes-heard i octets c own may g =
     ap (heard c.mac c.to) g.is ∙ segment_heard i c.mac c.to g.head g.text g.can g.whole own may g.fits
-    ∙ ap (λ (s : Segment). let r : Received = record { source = i.addr; segment = s } in let m : Result Meaning DropCause = Ok (Tcp r) in m) (sym g.segment)
+    ∙ ap (λ (s : Segment). let r : ReceivedSegment = record { source = i.addr; segment = s } in let m : Result Meaning DropCause = Ok (Tcp r) in m) (sym g.segment)
 
 -- and nowhere else
-goes-hearer : (i : InterfaceView) (octets : List ℕ) (o : Option Carried) (mac : Mac) (ours : Addr) (r : Received) → length i.mac.0 ≡ 6 → Carry i octets o → heard mac ours octets ≡ Ok (Tcp r)
+goes-hearer : (i : InterfaceView) (octets : List ℕ) (o : Option Carried) (mac : Mac) (ours : Addr) (r : ReceivedSegment) → length i.mac.0 ≡ 6 → Carry i octets o → heard mac ours octets ≡ Ok (Tcp r)
     → (c : Carried) × (o ≡ Some c) × (ours ≡ c.to) × (r ≡ record { source = i.addr; segment = c.segment })
 goes-hearer i octets None mac ours r own g e = absurd (g.unheard mac ours r e)
 goes-hearer i octets (Some c) mac ours r own g e =
     let two = heard-segment i c.mac c.to g.head g.text mac ours r g.can g.whole own g.fits (subst (λ (l : List ℕ). heard mac ours l ≡ Ok (Tcp r)) g.is e) in
-    (c, refl, two.0, two.1 ∙ ap (λ (s : Segment). let x : Received = record { source = i.addr; segment = s } in x) (sym g.segment))
+    (c, refl, two.0, two.1 ∙ ap (λ (s : Segment). let x : ReceivedSegment = record { source = i.addr; segment = s } in x) (sym g.segment))
 
 goes-pair : (i : InterfaceView) (octets : List ℕ) (o : Option Carried) → length i.mac.0 ≡ 6 → Carry i octets o → pair_in octets ≡ option_map (λ (c : Carried). pair_between i.addr c.to c.segment) o
 goes-pair i octets None own g = g.pairless
@@ -344,7 +344,7 @@ carried-met h g now then isn c answer new sound ordered is other for at delivere
     let heard_is = ap (λ (m : Mac). heard m g.interface.addr (emission_octets h now)) for ∙ ap (λ (a : Addr). heard c.mac a (emission_octets h now)) at ∙ carried-heard h now c sound ordered is other in
     subst (λ (m : Result Meaning DropCause). MeetsHeard m g (later_moment g.sockets then) isn answer new) heard_is delivered
 
-pub carried-hearer : (h : HostView) (now : Moment) (mac : Mac) (ours : Addr) (received : Received) → IsSoundHost h → IsOrdered h.sockets → heard mac ours (emission_octets h now) ≡ Ok (Tcp received)
+pub carried-hearer : (h : HostView) (now : Moment) (mac : Mac) (ours : Addr) (received : ReceivedSegment) → IsSoundHost h → IsOrdered h.sockets → heard mac ours (emission_octets h now) ≡ Ok (Tcp received)
     → (c : Carried) × (carried h now ≡ Some c) × (ours ≡ c.to) × (received ≡ record { source = h.interface.addr; segment = c.segment })
 carried-hearer h now mac ours r sound ordered e =
     let moment = later_moment h.sockets now in

@@ -8,7 +8,7 @@ use Rattle.frames.specs.declared.drop.DropCause.TheVariants.{NoRoom}
 use Rattle.frames.specs.declared.meaning.Control.{Control}
 use Rattle.frames.specs.declared.meaning.Meaning.{Meaning}
 use Rattle.frames.specs.declared.meaning.Meaning.TheVariants.{Arp, Tcp, Icmp, Udp, Other, UdpFragment}
-use Rattle.frames.specs.declared.meaning.UserReceived.{UserReceived}
+use Rattle.frames.specs.declared.meaning.ReceivedDatagram.{ReceivedDatagram}
 use Rattle.reassembly.specs.Reassembly.{Outcome}
 use Rattle.interface.specs.declared.reply.QueueFault.{QueueFault}
 use Rattle.interface.specs.Replies.{heard_answer, answer_result}
@@ -37,7 +37,7 @@ of_message Asks h moment c cause new is other = absurd (other (of_queue cause (a
 of_message (Refuses quote) h moment c cause new is other = let no = is.0 in cc
 of_message Nothing h moment c cause new is other = is.1
 
-of_user : (to : Reception) (h : HostView) (moment : Moment) (r : UserReceived) (cause : DropCause) (new : HostView) → MeetsUserDatagram to h moment r (Err cause) new → cause ≢ NoRoom → new ≡ h
+of_user : (to : Reception) (h : HostView) (moment : Moment) (r : ReceivedDatagram) (cause : DropCause) (new : HostView) → MeetsUserDatagram to h moment r (Err cause) new → cause ≢ NoRoom → new ≡ h
 of_user socket.Queued h moment r cause new is other = let no = is.0 in cc
 of_user socket.NoRoom h moment r cause new is other = is.1
 of_user socket.NoSocket h moment r cause new is other = absurd (other (of_queue cause (answer_result h.interface r.carrier.source) is.0))

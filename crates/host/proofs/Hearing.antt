@@ -14,7 +14,7 @@ use Rattle.icmp.specs.Sent.{echo_reply, error_for}
 use Rattle.icmp.proofs.Answering.{echo_spelled, error_spelled}
 use Rattle.tcp_segment.proofs.Checksum.{sent_octets_len}
 use Rattle.frames.specs.declared.meaning.Control.{Control}
-use Rattle.frames.specs.declared.meaning.Received.{Received}
+use Rattle.frames.specs.declared.meaning.ReceivedSegment.{ReceivedSegment}
 use Rattle.frames.specs.declared.meaning.Meaning.TheVariants.{Tcp, Icmp}
 use Rattle.frames.specs.Meaning.{heard}
 use Rattle.frames.specs.Pairs.{pair_in, pair_between}
@@ -33,7 +33,7 @@ use Rattle.interface.proofs.KnownMacs.{known_macs}
 use Rattle.udp.specs.declared.cutting.Part.{Part}
 
 -- in no octets there is no segment
-pub heard-nothing : (mac : Mac) (ours : Addr) (r : Received) → heard mac ours [] ≡ Ok (Tcp r) → ⊥
+pub heard-nothing : (mac : Mac) (ours : Addr) (r : ReceivedSegment) → heard mac ours [] ≡ Ok (Tcp r) → ⊥
 unfolding heard
 heard-nothing mac ours r e = cc
 
@@ -46,7 +46,7 @@ unfolding pair_in
 pair-nothing = refl
 
 -- nor in a request
-pub heard-request : (i : InterfaceView) (hop : Addr) (mac : Mac) (ours : Addr) (r : Received) → length i.mac.0 ≡ 6 → heard mac ours (request_frame i hop) ≡ Ok (Tcp r) → ⊥
+pub heard-request : (i : InterfaceView) (hop : Addr) (mac : Mac) (ours : Addr) (r : ReceivedSegment) → length i.mac.0 ≡ 6 → heard mac ours (request_frame i hop) ≡ Ok (Tcp r) → ⊥
 unfolding request_frame
 heard-request i hop mac ours r own e = no_packet (request_of i.mac i.addr hop) mac ours r own refl e
 
@@ -59,7 +59,7 @@ unfolding request_frame
 message-request i hop mac ours c own e = no_message_in_packet (request_of i.mac i.addr hop) mac ours c own refl e
 
 -- nor in an ARP reply
-pub heard-reply : (i : InterfaceView) (to mac : Mac) (ours : Addr) (packet : ArpPacket) (r : Received) → length packet.sender_mac.0 ≡ 6 → length packet.target_mac.0 ≡ 6 → heard mac ours (reply_frame i to (Arp packet)) ≡ Ok (Tcp r) → ⊥
+pub heard-reply : (i : InterfaceView) (to mac : Mac) (ours : Addr) (packet : ArpPacket) (r : ReceivedSegment) → length packet.sender_mac.0 ≡ 6 → length packet.target_mac.0 ≡ 6 → heard mac ours (reply_frame i to (Arp packet)) ≡ Ok (Tcp r) → ⊥
 unfolding reply_frame
 heard-reply i to mac ours packet r sender target e = no_packet packet mac ours r sender target e
 
@@ -72,7 +72,7 @@ unfolding reply_frame
 message-reply i to mac ours packet c sender target e = no_message_in_packet packet mac ours c sender target e
 
 -- a segment is heard at its address, as it was sent
-pub heard-segment : (i : InterfaceView) (theirs : Mac) (to : Addr) (head : Head) (octets : List ℕ) (mac : Mac) (ours : Addr) (r : Received) → CanBeSent i.addr to head octets → length theirs.0 ≡ 6 → length i.mac.0 ≡ 6
+pub heard-segment : (i : InterfaceView) (theirs : Mac) (to : Addr) (head : Head) (octets : List ℕ) (mac : Mac) (ours : Addr) (r : ReceivedSegment) → CanBeSent i.addr to head octets → length theirs.0 ≡ 6 → length i.mac.0 ≡ 6
     → 4 * sent_offset head + length octets ≤ 1480 → heard mac ours (segment_frame_to i theirs to (sent_octets i.addr to head octets)) ≡ Ok (Tcp r)
     → (ours ≡ to) × (r ≡ record { source = i.addr; segment = sent_segment head octets })
 unfolding segment_frame_to
@@ -95,7 +95,7 @@ offset_most true = omega arith
 offset_most false = omega arith
 
 -- a reset
-pub heard-reset : (i : InterfaceView) (theirs : Mac) (to : Addr) (head : Head) (mac : Mac) (ours : Addr) (r : Received) → CanBeSent i.addr to head [] → length theirs.0 ≡ 6 → length i.mac.0 ≡ 6
+pub heard-reset : (i : InterfaceView) (theirs : Mac) (to : Addr) (head : Head) (mac : Mac) (ours : Addr) (r : ReceivedSegment) → CanBeSent i.addr to head [] → length theirs.0 ≡ 6 → length i.mac.0 ≡ 6
     → heard mac ours (reply_frame i theirs (Reset to head)) ≡ Ok (Tcp r) → (ours ≡ to) × (r ≡ record { source = i.addr; segment = sent_segment head [] })
 unfolding reply_frame
 heard-reset i theirs to head mac ours r can whole own e =
@@ -137,7 +137,7 @@ unfolding message_frame_to
 heard-message i theirs to m mac ours c can e = messages_as_sent (head_to i theirs to) m mac ours c can.spelled can.from_octets can.to_octets can.whole can.own can.most e
 
 -- no segment is heard there, and there is no pair in it
-pub segment-message : (i : InterfaceView) (theirs : Mac) (to : Addr) (m : Message) (mac : Mac) (ours : Addr) (r : Received) → CanGo i theirs to m → heard mac ours (message_frame_to i theirs to (spelling m)) ≡ Ok (Tcp r) → ⊥
+pub segment-message : (i : InterfaceView) (theirs : Mac) (to : Addr) (m : Message) (mac : Mac) (ours : Addr) (r : ReceivedSegment) → CanGo i theirs to m → heard mac ours (message_frame_to i theirs to (spelling m)) ≡ Ok (Tcp r) → ⊥
 unfolding message_frame_to
 segment-message i theirs to m mac ours r can e =
     no_segment_in_message (head_to i theirs to) (spelling m) mac ours r can.from_octets can.to_octets can.whole can.own (omega (arith, message_len m, can.most)) e
@@ -177,7 +177,7 @@ error-can i theirs to reason quoted sound solid whole = record {
 
 -- A part of a UDP datagram.
 
-pub segment-part : (i : InterfaceView) (theirs : Mac) (to : Addr) (part : Part) (octets : List ℕ) (mac : Mac) (ours : Addr) (r : Received) → length theirs.0 ≡ 6 → length i.mac.0 ≡ 6
+pub segment-part : (i : InterfaceView) (theirs : Mac) (to : Addr) (part : Part) (octets : List ℕ) (mac : Mac) (ours : Addr) (r : ReceivedSegment) → length theirs.0 ≡ 6 → length i.mac.0 ≡ 6
     → heard mac ours (part_frame_to i theirs to part octets) ≡ Ok (Tcp r) → ⊥
 unfolding part_frame_to
 segment-part i theirs to part octets mac ours r whole own e = no_segment_in_part (head_to i theirs to) part octets mac ours r whole own e

@@ -20,7 +20,7 @@ use Rattle.frames.specs.declared.drop.DropCause.TheVariants.{Short, OtherMac, Ot
 use Rattle.frames.specs.declared.meaning.Control.{Control}
 use Rattle.frames.specs.declared.meaning.Meaning.{Meaning}
 use Rattle.frames.specs.declared.meaning.Meaning.TheVariants.{Arp, Tcp, Icmp, Udp, Other, UdpFragment}
-use Rattle.frames.specs.declared.meaning.UserReceived.{UserReceived}
+use Rattle.frames.specs.declared.meaning.ReceivedDatagram.{ReceivedDatagram}
 use Rattle.frames.specs.Meaning.{broadcast, datagram_heard, frame_heard, heard, may_send, packet_heard, same_mac}
 use Rattle.frames.proofs.Deciding.{mac-Decides}
 use Rattle.frames.proofs.Hearers.{fragments_are_parts, fragments_from_others, others_are_whole, others_from_others, users_are_carried, users_from_others}
@@ -62,7 +62,7 @@ may-answer mac ours octets _ _ _ single e (Untaken d) =
     let whole = others.1 in
     may-so ours d single (others_from_others mac ours octets d e).1 others.0.single others.3 whole.1
 may-answer mac ours octets _ _ _ single e (Unbound d u) =
-    let r : UserReceived = record { carrier = d; datagram = u } in
+    let r : ReceivedDatagram = record { carrier = d; datagram = u } in
     let users = users_are_carried mac ours octets r e in
     let whole = users.1 in
     may-so ours d single (users_from_others mac ours octets r e).1 users.0.single (not-icmp d.protocol users.2) whole.1
@@ -160,7 +160,7 @@ of_message (Refuses quote) h moment c answer new met = ap errors_of met.1
 of_message Nothing h moment c answer new met = ap errors_of met.1
 
 of_meaning : (m : Result Meaning DropCause) (h : HostView) (moment : Moment) (isn : ℕ) (answer : Result (Unit {0}) DropCause) (new : HostView)
-    → ((d : Datagram) → m ≢ Ok (Other d)) → ((r : UserReceived) → m ≢ Ok (Udp r)) → ((d : Datagram) → m ≢ Ok (UdpFragment d)) → MeetsHeard m h moment isn answer new → errors_of new ≡ errors_of h
+    → ((d : Datagram) → m ≢ Ok (Other d)) → ((r : ReceivedDatagram) → m ≢ Ok (Udp r)) → ((d : Datagram) → m ≢ Ok (UdpFragment d)) → MeetsHeard m h moment isn answer new → errors_of new ≡ errors_of h
 of_meaning (Ok (Arp packet)) h moment isn answer new none user part met =
     let aware : HostView = with_interface h (learnt moment packet h.interface) in
     ap errors_of met.1 ∙ owed-adds-none aware (is_request_for h.interface.addr packet) moment (reply.Arp (reply_to packet h.interface.mac)) refl
@@ -172,7 +172,7 @@ of_meaning (Ok (UdpFragment d)) h moment isn answer new none user part met = abs
 of_meaning (Err cause) h moment isn answer new none user part met = ap errors_of met.1
 
 pub others-add-none : (h : HostView) (now : Moment) (isn : ℕ) (octets : List ℕ) (answer : Result (Unit {0}) DropCause) (new : HostView)
-    → ((d : Datagram) → heard_by h octets ≢ Ok (Other d)) → ((r : UserReceived) → heard_by h octets ≢ Ok (Udp r)) → ((d : Datagram) → heard_by h octets ≢ Ok (UdpFragment d))
+    → ((d : Datagram) → heard_by h octets ≢ Ok (Other d)) → ((r : ReceivedDatagram) → heard_by h octets ≢ Ok (Udp r)) → ((d : Datagram) → heard_by h octets ≢ Ok (UdpFragment d))
     → IsDelivered h now isn octets answer new → errors_of new ≡ errors_of h
 others-add-none h now isn octets answer new none user part delivered = of_meaning (heard_by h octets) h (later_moment h.sockets now) isn answer new none user part delivered
 

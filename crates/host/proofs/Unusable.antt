@@ -7,7 +7,7 @@ use Rattle.icmp.specs.declared.error.Reason.TheVariants.{ProtocolUnreachable, Po
 use Rattle.frames.specs.declared.drop.DropCause.{DropCause}
 use Rattle.frames.specs.declared.meaning.Meaning.{Meaning}
 use Rattle.frames.specs.declared.meaning.Meaning.TheVariants.{Udp, Other}
-use Rattle.frames.specs.declared.meaning.UserReceived.{UserReceived}
+use Rattle.frames.specs.declared.meaning.ReceivedDatagram.{ReceivedDatagram}
 use Rattle.interface.specs.declared.reply.Reply.TheVariants.{Error}
 use Rattle.interface.specs.InterfaceView.{InterfaceView}
 use Rattle.interface.specs.Ways.{is_routed}
@@ -30,7 +30,7 @@ untaken_reported h now isn octets d new is routed delivered =
     ap (λ (x : HostView). x.interface.replies) met.1 ∙ ap (λ (i : InterfaceView). i.replies) (queued-so h.interface moment d.source r routed met.0)
 
 -- a UDP datagram to whose port no socket is bound
-pub unbound_reported : (h : HostView) (now : Moment) (isn : ℕ) (octets : List ℕ) (u : UserReceived) (new : HostView) → heard_by h octets ≡ Ok (Udp u) → find (is_datagrams_at u.datagram.destination) h.sockets.entries ≡ None
+pub unbound_reported : (h : HostView) (now : Moment) (isn : ℕ) (octets : List ℕ) (u : ReceivedDatagram) (new : HostView) → heard_by h octets ≡ Ok (Udp u) → find (is_datagrams_at u.datagram.destination) h.sockets.entries ≡ None
     → is_routed h.interface u.carrier.source ≡ true → IsDelivered h now isn octets (Ok tt) new
     → new.interface.replies ≡ h.interface.replies ++ record { since = later_moment h.sockets now; reply = Error u.carrier.source PortUnreachable (header_octets u.carrier ++ take 8 u.carrier.payload) } ∷ []
 unbound_reported h now isn octets u new is none routed delivered =

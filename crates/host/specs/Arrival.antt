@@ -11,7 +11,7 @@ use Rattle.icmp.specs.declared.error.Reason.TheVariants.{ProtocolUnreachable, Po
 use Rattle.frames.specs.declared.drop.DropCause.{DropCause}
 use Rattle.frames.specs.declared.drop.DropCause.TheVariants.{NoRoom}
 use Rattle.frames.specs.declared.meaning.Control.{Control}
-use Rattle.frames.specs.declared.meaning.UserReceived.{UserReceived}
+use Rattle.frames.specs.declared.meaning.ReceivedDatagram.{ReceivedDatagram}
 use Rattle.frames.specs.declared.meaning.Meaning.{Meaning}
 use Rattle.frames.specs.declared.meaning.Meaning.TheVariants.{Arp, Tcp, Icmp, Udp, Other, UdpFragment}
 use Rattle.frames.specs.Meaning.{heard}
@@ -87,7 +87,7 @@ user_datagram_answer socket.Queued h source = Ok tt
 user_datagram_answer socket.NoRoom h source = Err NoRoom
 user_datagram_answer socket.NoSocket h source = queue_answer (answer_result h.interface source)
 
-abbrev pub MeetsUserDatagram : Reception → HostView → Moment → UserReceived → Result (Unit {0}) DropCause → HostView → Type 0
+abbrev pub MeetsUserDatagram : Reception → HostView → Moment → ReceivedDatagram → Result (Unit {0}) DropCause → HostView → Type 0
 MeetsUserDatagram to h moment r answer new =
     (answer ≡ user_datagram_answer to h r.carrier.source)
     × (new ≡ after_user_datagram to h moment r.carrier.source r.datagram (quote_of r.carrier))

@@ -9,7 +9,7 @@ ghost use Rattle.host.specs.Messages.{is_hard, refused_quote, told_by};
 
 use crate::host::Host;
 use clock::Moment;
-use frames::{Control, DropCause, Meaning, Received, read};
+use frames::{Control, DropCause, Meaning, ReceivedSegment, read};
 use icmp::{IcmpView, Quote, Reason};
 use interface::QueueFault;
 use ipv4::{Ipv4View, Pair, Protocol};
@@ -48,7 +48,7 @@ impl Host {
 
     /// Takes a segment for us, at this moment.
     #[tactic(auto, using(crate::proofs::Answered::answered, crate::proofs::Answered::met_answer, crate::proofs::Answered::owed_addr))]
-    fn take(&mut self, now: Moment, isn: Seq, received: &Received<'_>) -> Result<(), DropCause>
+    fn take(&mut self, now: Moment, isn: Seq, received: &ReceivedSegment<'_>) -> Result<(), DropCause>
         ensures { MeetsHeard (Ok (Tcp received.now)) self.old now isn.0 result self.new }
     {
         let (source, segment) = (received.source, &received.segment);
@@ -114,7 +114,7 @@ impl Host {
     }
 
     /// The pair that a segment for us would open.
-    fn pair_opened(&self, received: &Received<'_>) -> Option<Pair>
+    fn pair_opened(&self, received: &ReceivedSegment<'_>) -> Option<Pair>
         ensures { result ≡ foreseen_of self.now (Ok (Tcp received.now)) }
     {
         if self.interface.is_routed(received.source) {
@@ -125,7 +125,7 @@ impl Host {
     }
 
     /// Whether a segment would open a connection to an address that no route leads to.
-    fn lacks_route_to_open(&self, received: &Received<'_>) -> bool
+    fn lacks_route_to_open(&self, received: &ReceivedSegment<'_>) -> bool
         ensures { result ≡ (not (is_routed self.now.interface received.now.source) && is_some (pair_opened self.now.sockets received.now.source received.now.segment)) }
     {
         !self.interface.is_routed(received.source)

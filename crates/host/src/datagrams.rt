@@ -8,11 +8,11 @@ ghost use Rattle.host.specs.HostView.{HostView};
 
 use crate::host::Host;
 use clock::Moment;
-use frames::{DropCause, UserReceived};
+use frames::{DropCause, ReceivedDatagram};
 use icmp::Reason;
 use interface::Interface;
 use ipv4::{Addr, Ipv4View};
-use reassembly::{Loss, Taken};
+use reassembly::{Loss, Assembled};
 use sockets::{Reception, Sockets};
 use udp::UdpView;
 
@@ -24,7 +24,7 @@ impl Host {
     pub(crate) fn receive(
         &mut self,
         now: Moment,
-        received: &UserReceived<'_>,
+        received: &ReceivedDatagram<'_>,
     ) -> Result<(), DropCause>
         ensures { MeetsUserDatagram (reception self.old.sockets received.now.datagram) self.old now received.now result self.new }
     {
@@ -42,7 +42,7 @@ impl Host {
         ensures { MeetsFragment (fragment_outcome now fragment.now self.old.pool) self.old now fragment.now result self.new }
     {
         match self.pool.take(now, fragment) {
-            Taken::Whole(whole) => {
+            Assembled::Whole(whole) => {
                 let (source, destination) = (fragment.source(), fragment.destination());
                 if let Ok(datagram) = UdpView::parse(source, destination, whole.octets) {
                     receive_gathered(
@@ -56,8 +56,8 @@ impl Host {
                 }
                 Ok(())
             }
-            Taken::Waiting | Taken::Dropped(Loss::GivenUp) => Ok(()),
-            Taken::Dropped(Loss::NoRoom) => Err(DropCause::NoRoom),
+            Assembled::Waiting | Assembled::Dropped(Loss::GivenUp) => Ok(()),
+            Assembled::Dropped(Loss::NoRoom) => Err(DropCause::NoRoom),
         }
     }
 }

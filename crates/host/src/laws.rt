@@ -19,8 +19,8 @@ ghost use Rattle.icmp.specs.Sent.{RepliesTo, error_for};
 ghost use Rattle.frames.specs.declared.drop.DropCause.{DropCause};
 ghost use Rattle.frames.specs.declared.drop.DropCause.TheVariants.{NoRoom};
 ghost use Rattle.frames.specs.declared.meaning.Control.{Control};
-ghost use Rattle.frames.specs.declared.meaning.Received.{Received};
-ghost use Rattle.frames.specs.declared.meaning.UserReceived.{UserReceived};
+ghost use Rattle.frames.specs.declared.meaning.ReceivedSegment.{ReceivedSegment};
+ghost use Rattle.frames.specs.declared.meaning.ReceivedDatagram.{ReceivedDatagram};
 ghost use Rattle.frames.specs.declared.meaning.Meaning.{Meaning};
 ghost use Rattle.frames.specs.declared.meaning.Meaning.TheVariants.{Tcp, Icmp, Udp, Other, UdpFragment};
 ghost use Rattle.frames.specs.Meaning.{heard, broadcast};
@@ -58,7 +58,7 @@ pub fn layers_compose()
     ensures met { (h g : HostView) (now then : Moment) (isn : ℕ) (c : Carried) (answer : Result (Unit {0}) DropCause) (new : HostView) → IsSoundHost h → IsOrdered h.sockets
         → carried h now ≡ Some c → h.interface.addr ≢ c.to → g.interface.mac ≡ c.mac → g.interface.addr ≡ c.to → IsDelivered g then isn (emission_octets h now) answer new
         → let moment = later_moment g.sockets then in MeetsSegment (segment_arrival g moment isn h.interface.addr c.segment) g moment h.interface.addr answer new }
-    ensures hearer { (h : HostView) (now : Moment) (mac : Mac) (ours : Addr) (received : Received) → IsSoundHost h → IsOrdered h.sockets
+    ensures hearer { (h : HostView) (now : Moment) (mac : Mac) (ours : Addr) (received : ReceivedSegment) → IsSoundHost h → IsOrdered h.sockets
         → heard mac ours (emission_octets h now) ≡ Ok (Tcp received)
         → (c : Carried) × (carried h now ≡ Some c) × (ours ≡ c.to) × (received ≡ record { source = h.interface.addr; segment = c.segment }) }
     ensures pair { (h : HostView) (now : Moment) → IsSoundHost h → IsOrdered h.sockets
@@ -115,7 +115,7 @@ pub fn answered_datagrams_may_be()
     ensures link { (mac : Mac) (ours : Addr) (octets : List ℕ) (reason : Reason) (d : Datagram) (meaning : Meaning) (f : Frame) → IsOfOne mac
         → heard mac ours octets ≡ Ok meaning → IsAbout reason d meaning → frame_in octets ≡ Some f → f.destination ≢ broadcast }
     ensures others { (h : HostView) (now : Moment) (isn : ℕ) (octets : List ℕ) (answer : Result (Unit {0}) DropCause) (new : HostView)
-        → ((d : Datagram) → heard_by h octets ≢ Ok (Other d)) → ((r : UserReceived) → heard_by h octets ≢ Ok (Udp r)) → ((d : Datagram) → heard_by h octets ≢ Ok (UdpFragment d))
+        → ((d : Datagram) → heard_by h octets ≢ Ok (Other d)) → ((r : ReceivedDatagram) → heard_by h octets ≢ Ok (Udp r)) → ((d : Datagram) → heard_by h octets ≢ Ok (UdpFragment d))
         → IsDelivered h now isn octets answer new → errors_of new ≡ errors_of h }
 {}
 
@@ -150,7 +150,7 @@ pub fn unusable_datagrams_are_reported()
         → IsTrue (is_routed h.interface d.source) → IsDelivered h now isn octets (Ok tt) new
         → let reply = Error d.source ProtocolUnreachable (header_octets d ++ take 8 d.payload) in
         new.interface.replies ≡ h.interface.replies ++ record { since = later_moment h.sockets now; reply = reply } ∷ [] }
-    ensures port { (h : HostView) (now : Moment) (isn : ℕ) (octets : List ℕ) (u : UserReceived) (new : HostView) → heard_by h octets ≡ Ok (Udp u)
+    ensures port { (h : HostView) (now : Moment) (isn : ℕ) (octets : List ℕ) (u : ReceivedDatagram) (new : HostView) → heard_by h octets ≡ Ok (Udp u)
         → find (is_datagrams_at u.datagram.destination) h.sockets.entries ≡ None → IsTrue (is_routed h.interface u.carrier.source) → IsDelivered h now isn octets (Ok tt) new
         → let reply = Error u.carrier.source PortUnreachable (header_octets u.carrier ++ take 8 u.carrier.payload) in
         new.interface.replies ≡ h.interface.replies ++ record { since = later_moment h.sockets now; reply = reply } ∷ [] }

@@ -7,7 +7,7 @@ use Rattle.tcp_segment.specs.Segment.{Segment}
 use Rattle.frames.specs.declared.drop.DropCause.{DropCause}
 use Rattle.frames.specs.declared.meaning.Meaning.{Meaning}
 use Rattle.frames.specs.declared.meaning.Meaning.TheVariants.{Arp, Tcp, Icmp, Udp, Other, UdpFragment}
-use Rattle.frames.specs.declared.meaning.Received.{Received}
+use Rattle.frames.specs.declared.meaning.ReceivedSegment.{ReceivedSegment}
 use Rattle.frames.specs.Drops.{number_of}
 use Rattle.decode.specs.Words.{flags_text, fragment_flags}
 use Rattle.decode.specs.Lines.{message_text, packet_text, user_text}
@@ -17,7 +17,7 @@ use Rattle.ladder.specs.declared.numbers.Numbering.{Numbering}
 use Rattle.ladder.specs.Numbers.{back, initial_in, number_text}
 
 -- where a segment goes that came to this address
-abbrev pub direction_of : Addr → Received → Direction
+abbrev pub direction_of : Addr → ReceivedSegment → Direction
 direction_of to r = record {
   source = record { addr = r.source; port = r.segment.source };
   destination = record { addr = to; port = r.segment.destination };

@@ -5,13 +5,13 @@ ghost use Rattle.ladder.specs.Text.{acknowledgement_text, datagram_text, directi
 
 use crate::numbers::{Direction, Numbering, Syn, initial_in, push_number};
 use decode::{fragment_name, push_flags, push_message, push_packet, push_user};
-use frames::{DropCause, Meaning, Received};
+use frames::{DropCause, Meaning, ReceivedSegment};
 use ipv4::{Addr, Endpoint, Ipv4View};
 use std::alloc::AllocError;
 use tcp_segment::TcpView;
 
 /// Where a segment goes that came to this address.
-fn direction_of(to: Addr, received: &Received<'_>) -> Direction
+fn direction_of(to: Addr, received: &ReceivedSegment<'_>) -> Direction
     ensures { result ≡ direction_of to received.now }
 {
     Direction {

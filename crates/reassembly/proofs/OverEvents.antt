@@ -13,9 +13,9 @@ use Rattle.clock.specs.declared.moment.Moment.{Moment}
 use Rattle.ipv4.specs.Addresses.{same_addr}
 use Rattle.ipv4.specs.Datagram.{Datagram}
 use Rattle.reassembly.specs.declared.key.Key.{Key}
-use Rattle.reassembly.specs.declared.taken.Loss.TheVariants.{NoRoom, GivenUp}
-use Rattle.reassembly.specs.declared.taken.Taken.{Taken}
-use Rattle.reassembly.specs.declared.taken.Taken.TheVariants.{Waiting, Whole, Dropped}
+use Rattle.reassembly.specs.declared.assembled.Loss.TheVariants.{NoRoom, GivenUp}
+use Rattle.reassembly.specs.declared.assembled.Assembled.{Assembled}
+use Rattle.reassembly.specs.declared.assembled.Assembled.TheVariants.{Waiting, Whole, Dropped}
 use Rattle.reassembly.specs.Events.{Event, after_event, after_events, has_place, taken_for, gathered_after, gathered_from, gathered, IsRight, IsRightFor}
 use Rattle.reassembly.specs.Events.Event.{Takes, Ages}
 use Rattle.reassembly.specs.Fragments.{key_of, latest_quote, is_contradictory, IsPayload}
@@ -249,7 +249,7 @@ left_for d r key fragments same c = by_conflict (conflicts d r.end (length r.oct
     by_conflict true e = subst (λ o. LeftFor key (fragments ++ d ∷ []) (left o)) (sym (outcome_given_up d r e)) tt
     by_conflict false e = by_whole (whole_of (with_fragment r d).end (with_fragment r d).octets) e refl
 
-is_right : (d : Datagram) (r : Reassembly) (fragments : List Datagram) (taken : Taken) → Comes r fragments → Answers (outcome d r) taken
+is_right : (d : Datagram) (r : Reassembly) (fragments : List Datagram) (taken : Assembled) → Comes r fragments → Answers (outcome d r) taken
     → IsRight (fragments ++ d ∷ []) taken
 is_right d r fragments taken c h = by_conflict (conflicts d r.end (length r.octets)) refl
   where
@@ -263,7 +263,7 @@ is_right d r fragments taken c h = by_conflict (conflicts d r.end (length r.octe
         ap (λ (z : Reassembly). Some (quoted z.quote)) next
         ∙ ap (λ (o : Option (List ℕ)). Some (quoted o)) (latest_is_quoted c.now c.first (fragments ++ d ∷ []) ∙ e) ∙ sym e
 
-    of_whole : (payload : List ℕ) → IsPayload (fragments ++ d ∷ []) payload → (t : Taken) → Answers (Completes payload (quoted (with_fragment r d).quote)) t
+    of_whole : (payload : List ℕ) → IsPayload (fragments ++ d ∷ []) payload → (t : Assembled) → Answers (Completes payload (quoted (with_fragment r d).quote)) t
         → IsRight (fragments ++ d ∷ []) t
     of_whole payload p (Whole whole) k = (
       subst (IsPayload (fragments ++ d ∷ [])) (sym k.0) p,
@@ -397,7 +397,7 @@ pub one_place : (events : List Event) (i j : ℕ) (a b : Reassembly) → at (aft
     → same_key a.key b.key ≡ true → i ≡ j
 one_place events i j a b e f same = (sound events).apart i j a b e f (same_key_is a.key b.key same)
 
-pub answered : (events : List Event) (now : Moment) (d : Datagram) (taken : Taken) → AnswersTake now d (after_events events) taken
+pub answered : (events : List Event) (now : Moment) (d : Datagram) (taken : Assembled) → AnswersTake now d (after_events events) taken
     → IsRight (gathered (key_of d) events ++ d ∷ []) taken
 answered events now d taken h = step (goes now d (after_events events) (λ key. gathered key events) (sound events))
   where
@@ -411,17 +411,17 @@ answered events now d taken h = step (goes now d (after_events events) (λ key. 
         subst (IsRight (gathered (key_of d) events ++ d ∷ [])) (sym none) tt
 
 -- where they are parts of one payload
-pub right_for : (events : List Event) (now : Moment) (d : Datagram) (taken : Taken) (payload : List ℕ) → AnswersTake now d (after_events events) taken
+pub right_for : (events : List Event) (now : Moment) (d : Datagram) (taken : Assembled) (payload : List ℕ) → AnswersTake now d (after_events events) taken
     → ArePartsOf payload (gathered (key_of d) events ++ d ∷ []) → IsRightFor payload taken
 right_for events now d taken payload h parts = step taken (answered events now d taken h)
   where
-    step : (t : Taken) → IsRight (gathered (key_of d) events ++ d ∷ []) t → IsRightFor payload t
+    step : (t : Assembled) → IsRight (gathered (key_of d) events ++ d ∷ []) t → IsRightFor payload t
     step (Whole whole) k = made payload whole.octets.now (gathered (key_of d) events ++ d ∷ []) parts k.0
     step Waiting k = tt
     step (Dropped GivenUp) k = let both : true ≡ false = sym k ∙ agree payload (gathered (key_of d) events ++ d ∷ []) parts in cc
     step (Dropped NoRoom) k = tt
 
-pub whole_for : (events : List Event) (now : Moment) (d : Datagram) (taken : Taken) (payload : List ℕ) → AnswersTake now d (after_events events) taken
+pub whole_for : (events : List Event) (now : Moment) (d : Datagram) (taken : Assembled) (payload : List ℕ) → AnswersTake now d (after_events events) taken
     → ArePartsOf payload (gathered (key_of d) events ++ d ∷ []) → CoverAll payload (gathered (key_of d) events ++ d ∷ []) → taken ≢ Waiting
 whole_for events now d taken payload h parts all waits =
     subst (IsRight (gathered (key_of d) events ++ d ∷ [])) waits (answered events now d taken h) payload

@@ -4,9 +4,9 @@ use Rattle.std.specs.List.{list_any}
 use Rattle.clock.specs.declared.moment.Moment.{Moment}
 use Rattle.ipv4.specs.Datagram.{Datagram}
 use Rattle.reassembly.specs.declared.key.Key.{Key}
-use Rattle.reassembly.specs.declared.taken.Loss.TheVariants.{NoRoom, GivenUp}
-use Rattle.reassembly.specs.declared.taken.Taken.{Taken}
-use Rattle.reassembly.specs.declared.taken.Taken.TheVariants.{Waiting, Whole, Dropped}
+use Rattle.reassembly.specs.declared.assembled.Loss.TheVariants.{NoRoom, GivenUp}
+use Rattle.reassembly.specs.declared.assembled.Assembled.{Assembled}
+use Rattle.reassembly.specs.declared.assembled.Assembled.TheVariants.{Waiting, Whole, Dropped}
 use Rattle.reassembly.specs.Fragments.{key_of, latest_quote, is_contradictory, IsPayload}
 use Rattle.reassembly.specs.Keys.{same_key}
 use Rattle.reassembly.specs.Places.{is_of, after_take, after_age}
@@ -48,14 +48,14 @@ gathered key events = gathered_from key (replicate 4 None) [] events
 
 -- The answer is right for these fragments of one datagram: it is their payload with the quote of the last fragment zero of them, or
 -- they make none yet, or they contradict each other. A fragment that finds no place is of none.
-abbrev pub IsRight : List Datagram → Taken → Type 0
+abbrev pub IsRight : List Datagram → Assembled → Type 0
 IsRight fragments (Whole whole) = IsPayload fragments whole.octets.now × (latest_quote fragments ≡ Some whole.quote.now)
 IsRight fragments Waiting = (payload : List ℕ) → IsPayload fragments payload → ⊥
 IsRight fragments (Dropped GivenUp) = is_contradictory fragments ≡ true
 IsRight fragments (Dropped NoRoom) = Unit {0}
 
 -- The answer is right for parts of one payload: it is that payload or none, and they are not given up.
-abbrev pub IsRightFor : List ℕ → Taken → Type 0
+abbrev pub IsRightFor : List ℕ → Assembled → Type 0
 IsRightFor payload (Whole whole) = whole.octets.now ≡ payload
 IsRightFor payload Waiting = Unit {0}
 IsRightFor payload (Dropped GivenUp) = ⊥

@@ -7,9 +7,9 @@ use Rattle.reassembly.specs.declared.expired.Expired.{Expired}
 use Rattle.reassembly.specs.declared.key.Key.{Key}
 use Rattle.clock.specs.declared.moment.Moment.{Moment}
 use Rattle.clock.specs.Moments.{sooner}
-use Rattle.reassembly.specs.declared.taken.Loss.TheVariants.{NoRoom}
-use Rattle.reassembly.specs.declared.taken.Taken.{Taken}
-use Rattle.reassembly.specs.declared.taken.Taken.TheVariants.{Dropped}
+use Rattle.reassembly.specs.declared.assembled.Loss.TheVariants.{NoRoom}
+use Rattle.reassembly.specs.declared.assembled.Assembled.{Assembled}
+use Rattle.reassembly.specs.declared.assembled.Assembled.TheVariants.{Dropped}
 use Rattle.reassembly.specs.Fragments.{key_of}
 use Rattle.reassembly.specs.Keys.{same_key}
 use Rattle.reassembly.specs.Reassembly.{Reassembly, Outcome, deadline_of, is_over_after, continued, outcome, left, Answers}
@@ -32,14 +32,14 @@ abbrev pub after_take_at : Moment → Datagram → List (Option Reassembly) → 
 after_take_at now d places None = places
 after_take_at now d places (Some i) = slice_set places i (left (outcome_at now d places i))
 
-abbrev pub AnswersAt : Moment → Datagram → List (Option Reassembly) → Option ℕ → Taken → Type 0
+abbrev pub AnswersAt : Moment → Datagram → List (Option Reassembly) → Option ℕ → Assembled → Type 0
 AnswersAt now d places None taken = taken ≡ Dropped NoRoom
 AnswersAt now d places (Some i) taken = Answers (outcome_at now d places i) taken
 
 abbrev pub after_take : Moment → Datagram → List (Option Reassembly) → List (Option Reassembly)
 after_take now d places = after_take_at now d places (place_for (key_of d) places)
 
-abbrev pub AnswersTake : Moment → Datagram → List (Option Reassembly) → Taken → Type 0
+abbrev pub AnswersTake : Moment → Datagram → List (Option Reassembly) → Assembled → Type 0
 AnswersTake now d places taken = AnswersAt now d places (place_for (key_of d) places) taken
 
 -- The time.

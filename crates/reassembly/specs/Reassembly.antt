@@ -5,9 +5,9 @@ use Rattle.ipv4.specs.Datagram.{Datagram}
 use Rattle.reassembly.specs.declared.key.Key.{Key}
 use Rattle.clock.specs.declared.moment.Moment.{Moment}
 use Rattle.clock.specs.Moments.{after}
-use Rattle.reassembly.specs.declared.taken.Loss.TheVariants.{GivenUp}
-use Rattle.reassembly.specs.declared.taken.Taken.{Taken}
-use Rattle.reassembly.specs.declared.taken.Taken.TheVariants.{Waiting, Whole, Dropped}
+use Rattle.reassembly.specs.declared.assembled.Loss.TheVariants.{GivenUp}
+use Rattle.reassembly.specs.declared.assembled.Assembled.{Assembled}
+use Rattle.reassembly.specs.declared.assembled.Assembled.TheVariants.{Waiting, Whole, Dropped}
 use Rattle.reassembly.specs.Fragments.{key_of, begin_of, end_of, is_last, quote_of}
 use Rattle.reassembly.specs.Octets.{laid, whole_of}
 
@@ -80,7 +80,7 @@ left (Completes payload quote) = None
 left GivesUp = None
 
 -- what is answered
-abbrev pub Answers : Outcome → Taken → Type 0
+abbrev pub Answers : Outcome → Assembled → Type 0
 Answers (Waits r) taken = taken ≡ Waiting
 Answers (Completes payload quote) (Whole whole) = (whole.octets.now ≡ payload) × (whole.quote.now ≡ quote)
 Answers (Completes payload quote) Waiting = ⊥

@@ -8,7 +8,7 @@ ghost use Rattle.reassembly.specs.Reassembly.{quote_after, quoted};
 use crate::buffer::DataBuffer;
 use crate::fragment;
 use crate::quote::Quote;
-use crate::taken::Whole;
+use crate::assembled::Whole;
 use ipv4::Ipv4View;
 use std::alloc::{AllocError, Global};
 

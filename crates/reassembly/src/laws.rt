@@ -5,8 +5,8 @@ ghost use Rattle.std.specs.List.{Any};
 ghost use Rattle.ipv4.specs.Datagram.{Datagram};
 ghost use Rattle.clock.specs.declared.moment.Moment.{Moment};
 ghost use Rattle.reassembly.specs.declared.pool.TheConstants.{PLACES};
-ghost use Rattle.reassembly.specs.declared.taken.Taken.{Taken};
-ghost use Rattle.reassembly.specs.declared.taken.Taken.TheVariants.{Waiting};
+ghost use Rattle.reassembly.specs.declared.assembled.Assembled.{Assembled};
+ghost use Rattle.reassembly.specs.declared.assembled.Assembled.TheVariants.{Waiting};
 ghost use Rattle.reassembly.specs.Events.{Event, after_events, gathered, IsRight, IsRightFor};
 ghost use Rattle.reassembly.specs.Fragments.{key_of, latest, latest_quote, told_end, is_contradictory, IsPayload};
 ghost use Rattle.reassembly.specs.Keys.{same_key};
@@ -149,7 +149,7 @@ pub fn one_place_a_key()
 /// Whatever was taken and told, from a new pool on, a fragment is answered by those that were taken with its key since this had no
 /// place last: as whole by their payload, with the quote of the last fragment zero of them (RFC 791 section 3.2, RFC 792).
 pub fn answers_over_events()
-    ensures { (events : List Event) (now : Moment) (d : Datagram) (taken : Taken)
+    ensures { (events : List Event) (now : Moment) (d : Datagram) (taken : Assembled)
         → AnswersTake now d (after_events events) taken
         → IsRight (gathered (key_of d) events ++ d ∷ []) taken }
 {}
@@ -157,11 +157,11 @@ pub fn answers_over_events()
 /// So where all of these are parts of one payload, in any order, some of them repeated or missing, it is put together right or not at
 /// all, whatever else is taken and told; and it no longer waits where no part is missing (RFC 791 section 3.2).
 pub fn parts_over_events()
-    ensures right { (events : List Event) (now : Moment) (d : Datagram) (taken : Taken) (payload : List ℕ)
+    ensures right { (events : List Event) (now : Moment) (d : Datagram) (taken : Assembled) (payload : List ℕ)
         → AnswersTake now d (after_events events) taken
         → ArePartsOf payload (gathered (key_of d) events ++ d ∷ [])
         → IsRightFor payload taken }
-    ensures whole { (events : List Event) (now : Moment) (d : Datagram) (taken : Taken) (payload : List ℕ)
+    ensures whole { (events : List Event) (now : Moment) (d : Datagram) (taken : Assembled) (payload : List ℕ)
         → AnswersTake now d (after_events events) taken
         → ArePartsOf payload (gathered (key_of d) events ++ d ∷ [])
         → CoverAll payload (gathered (key_of d) events ++ d ∷ [])

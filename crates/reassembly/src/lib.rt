@@ -12,11 +12,11 @@ mod pending;
 mod place;
 mod pool;
 mod quote;
-mod taken;
+mod assembled;
 
 pub use expired::Expired;
 pub use fault::PoolFault;
 pub use key::Key;
 pub use pool::{PLACES, Pool};
 pub use quote::Quote;
-pub use taken::{Loss, Taken, Whole};
+pub use assembled::{Assembled, Loss, Whole};

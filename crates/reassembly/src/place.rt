@@ -16,7 +16,7 @@ use crate::fragment;
 use crate::gathered::Gathered;
 use crate::key::Key;
 use crate::pending::Pending;
-use crate::taken::{Loss, Taken};
+use crate::assembled::{Loss, Assembled};
 use clock::Moment;
 use ipv4::Ipv4View;
 use std::alloc::{AllocError, Global};
@@ -80,21 +80,21 @@ impl Place {
     }
 
     /// Lays a fragment over those of its datagram that came before, or begins with it.
-    pub(crate) fn take(&mut self, now: Moment, fragment: &Ipv4View) -> Taken<'_>
+    pub(crate) fn take(&mut self, now: Moment, fragment: &Ipv4View) -> Assembled<'_>
         ensures answer { Answers (outcome fragment.now (continued now fragment.now self.old)) result }
         ensures* place { sem 𝓛 (Rests the_row self.entry (λ place. place ≡ left (outcome fragment.now (continued now fragment.now self.old)))) }
     {
         let mut pending = resume(self.pending.take(), &mut self.gathered, now, fragment);
         if fragment::conflicts(fragment, pending.end, self.gathered.octets.reach()) {
-            return Taken::Dropped(Loss::GivenUp);
+            return Assembled::Dropped(Loss::GivenUp);
         }
         self.gathered.add(fragment);
         pending.note_end(fragment);
         if is_whole(pending.end, &self.gathered.octets) {
-            return Taken::Whole(self.gathered.whole());
+            return Assembled::Whole(self.gathered.whole());
         }
         self.pending = Some(pending);
-        Taken::Waiting
+        Assembled::Waiting
     }
 
     /// Ends a datagram whose time ran out, and tells what an error message quotes where a fragment zero came.

@@ -10,7 +10,7 @@ use crate::expired::Expired;
 use crate::fault::PoolFault;
 use crate::key::Key;
 use crate::place::Place;
-use crate::taken::{Loss, Taken};
+use crate::assembled::{Loss, Assembled};
 use arrayvec::ArrayVec;
 use clock::{Moment, sooner};
 use ipv4::Ipv4View;
@@ -55,12 +55,12 @@ impl Pool {
     /// 3.2). The datagram is whole once its end is known and every octet below it came; its octets are then those that came
     /// last. The places of other datagrams stay as they are. A datagram that was never cut is whole at once, where it has a
     /// place. The time is not looked at: `age` ends what has waited too long.
-    pub fn take(&mut self, now: Moment, fragment: &Ipv4View) -> Taken<'_>
+    pub fn take(&mut self, now: Moment, fragment: &Ipv4View) -> Assembled<'_>
         ensures answer { AnswersTake now fragment.now self.old result }
         ensures* pool { sem 𝓛 (Rests the_row self.entry (λ pool. pool ≡ after_take now fragment.now self.old)) }
     {
         match place_for(&self.places, Key::of(fragment)) {
-            None => Taken::Dropped(Loss::NoRoom),
+            None => Assembled::Dropped(Loss::NoRoom),
             Some(i) => {
                 let place = &mut self.places[i];
                 place.take(now, fragment)

@@ -25,7 +25,7 @@ use commands::fault::TextFault;
 use commands::laddered::{sim_ladder, sim_ladder_captured};
 use commands::sim::{Ends, sim, sim_captured};
 use commands::{captured, frame};
-use decode::DropCause;
+use decode::Unreadable;
 use devices::{MemorySink, MemorySource, Sink, Source};
 use ladder::Numbering;
 use std::alloc::Global;
@@ -117,7 +117,7 @@ const ALL_GOOD: Devices = Devices {
 };
 
 /// How a command does, and how its capture does.
-type Answers = (Result<Option<DropCause>, TextFault>, Result<(), TextFault>);
+type Answers = (Result<Option<Unreadable>, TextFault>, Result<(), TextFault>);
 
 /// How a command ended: its answers, how often each of its devices failed, and what its sinks took.
 #[derive(Drop)]
@@ -142,7 +142,7 @@ struct Told<'a> {
 struct Row {
     asked: Asked,
     text: &'static [u8],
-    ends: Result<Option<DropCause>, TextFault>,
+    ends: Result<Option<Unreadable>, TextFault>,
     prints: &'static [u8],
     captures: &'static [u8],
 }

@@ -4,7 +4,7 @@ use super::{
     ALL_GOOD, Asked, Device, Devices, GOOD, Row, Told, captures, ended, ends, lines, recordings,
 };
 use commands::fault::TextFault;
-use decode::DropCause;
+use decode::Unreadable;
 use std::alloc::{AllocError, Global};
 use std::process::Abort;
 
@@ -69,14 +69,14 @@ const ROWS: &[Row] = &[
     Row {
         asked: Asked::Decode,
         text: BARE,
-        ends: Ok(Some(DropCause::IpHeader)),
+        ends: Ok(Some(Unreadable::IpHeader)),
         prints: BARE_SAYS,
         captures: b"",
     },
     Row {
         asked: Asked::Decode,
         text: b"",
-        ends: Ok(Some(DropCause::Short)),
+        ends: Ok(Some(Unreadable::Short)),
         prints: b"drop F1\n",
         captures: b"",
     },
@@ -240,7 +240,7 @@ struct Many {
     count: usize,
     end: &'static [u8],
     fails_at: u64,
-    ends: Result<Option<DropCause>, TextFault>,
+    ends: Result<Option<Unreadable>, TextFault>,
     begins: &'static [u8],
     last: &'static [u8],
     len: usize,
@@ -314,7 +314,7 @@ const MANY: [Many; 8] = [
         asked: Asked::Decode,
         each: b" ",
         count: 1_000_001,
-        ends: Ok(Some(DropCause::Short)),
+        ends: Ok(Some(Unreadable::Short)),
         begins: b"drop F1\n",
         last: b"drop F1\n",
         len: 8,

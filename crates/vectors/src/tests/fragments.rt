@@ -3,7 +3,7 @@
 use super::A;
 use clock::Moment;
 use ipv4::Ipv4View;
-use reassembly::{Expired, Loss, Pool, Taken};
+use reassembly::{Expired, Loss, Pool, Assembled};
 use std::test::Fail;
 
 /// What a fragment comes to.
@@ -105,9 +105,9 @@ fn comes_to(pool: &mut Pool, now: u64, octets: &[u8], want: Came) -> bool {
         return false;
     };
     match pool.take(Moment(now), &view) {
-        Taken::Waiting => matches!(want, Came::Waiting),
-        Taken::Whole(whole) => matches!(want, Came::Whole(want) if whole.octets == want),
-        Taken::Dropped(loss) => matches!(want, Came::Dropped(want) if loss == want),
+        Assembled::Waiting => matches!(want, Came::Waiting),
+        Assembled::Whole(whole) => matches!(want, Came::Whole(want) if whole.octets == want),
+        Assembled::Dropped(loss) => matches!(want, Came::Dropped(want) if loss == want),
     }
 }
 

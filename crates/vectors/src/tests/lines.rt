@@ -1,11 +1,11 @@
 //! What is printed of frames. The octets and the lines are those that the RFCs' formats give.
 
-use decode::{DropCause, HexFault, decode, octets_of};
+use decode::{Unreadable, HexFault, decode, octets_of};
 use std::alloc::Global;
 use std::test::Fail;
 
 /// A frame, the lines that are printed of it, and why it is dropped.
-type Row = (&'static str, &'static str, Option<DropCause>);
+type Row = (&'static str, &'static str, Option<Unreadable>);
 
 /// A request, padded to 60 octets, and the reply to it (RFC 826).
 const ARP: [Row; 2] = [
@@ -173,62 +173,62 @@ const DROPS: [Row; 15] = [
         "020000000002020000000001 08",
         "drop F1
 ",
-        Some(DropCause::Short),
+        Some(Unreadable::Short),
     ),
     (
         "",
         "drop F1
 ",
-        Some(DropCause::Short),
+        Some(Unreadable::Short),
     ),
     (
         "020000000002 020000000001 86dd 6000000000003b40",
         "ether 02:00:00:00:00:02 02:00:00:00:00:01 86dd
 drop F3
 ",
-        Some(DropCause::OtherType),
+        Some(Unreadable::OtherType),
     ),
     (
         "020000000002020000000001 0800 6500002d00004000400606c90a0000010a000002 c000005000000000000000085018ffff979a000068656c6c6f",
         "ether 02:00:00:00:00:02 02:00:00:00:00:01 0800
 drop F4
 ",
-        Some(DropCause::IpHeader),
+        Some(Unreadable::IpHeader),
     ),
     (
         "020000000002020000000001 0800 4400002d00004000400627c90a0000010a000002 c000005000000000000000085018ffff979a000068656c6c6f",
         "ether 02:00:00:00:00:02 02:00:00:00:00:01 0800
 drop F4
 ",
-        Some(DropCause::IpHeader),
+        Some(Unreadable::IpHeader),
     ),
     (
         "020000000002020000000001 0800",
         "ether 02:00:00:00:00:02 02:00:00:00:00:01 0800
 drop F4
 ",
-        Some(DropCause::IpHeader),
+        Some(Unreadable::IpHeader),
     ),
     (
         "020000000002020000000001 0800 4500002d00004000400626ca0a0000010a000002 c000005000000000000000085018ffff979a000068656c6c6f",
         "ether 02:00:00:00:00:02 02:00:00:00:00:01 0800
 drop F5
 ",
-        Some(DropCause::IpSum),
+        Some(Unreadable::IpSum),
     ),
     (
         "ffffffffffff020000000001 0806 0002080006040001 020000000001 0a000001 000000000000 0a000002",
         "ether ff:ff:ff:ff:ff:ff 02:00:00:00:00:01 0806
 drop F7
 ",
-        Some(DropCause::UpperHeader),
+        Some(Unreadable::UpperHeader),
     ),
     (
         "ffffffffffff020000000001 0806 0001080006040001 020000000001 0a000001 000000000000 0a0000",
         "ether ff:ff:ff:ff:ff:ff 02:00:00:00:00:01 0806
 drop F7
 ",
-        Some(DropCause::UpperHeader),
+        Some(Unreadable::UpperHeader),
     ),
     (
         "020000000002020000000001 0800 4500002d00004000400626c90a0000010a000002 c000005000000000000000084018ffffa79a000068656c6c6f",
@@ -236,7 +236,7 @@ drop F7
 ipv4 10.0.0.1 10.0.0.2 proto 6 ttl 64 id 0 off 0 flags DF payload 25
 drop F7
 ",
-        Some(DropCause::UpperHeader),
+        Some(Unreadable::UpperHeader),
     ),
     (
         "020000000002020000000001 0800 4500001e00004000401126cd0a0000010a000002 1388138900075c636869",
@@ -244,7 +244,7 @@ drop F7
 ipv4 10.0.0.1 10.0.0.2 proto 17 ttl 64 id 0 off 0 flags DF payload 10
 drop F7
 ",
-        Some(DropCause::UpperHeader),
+        Some(Unreadable::UpperHeader),
     ),
     (
         "020000000002020000000001 0800 4500001b00004000400126e00a0000010a000002 0800f7fe000100",
@@ -252,7 +252,7 @@ drop F7
 ipv4 10.0.0.1 10.0.0.2 proto 1 ttl 64 id 0 off 0 flags DF payload 7
 drop F7
 ",
-        Some(DropCause::UpperHeader),
+        Some(Unreadable::UpperHeader),
     ),
     (
         "020000000002020000000001 0800 4500002d00004000400626c90a0000010a000002 c000005000000000000000085018ffff979b000068656c6c6f",
@@ -260,7 +260,7 @@ drop F7
 ipv4 10.0.0.1 10.0.0.2 proto 6 ttl 64 id 0 off 0 flags DF payload 25
 drop F8
 ",
-        Some(DropCause::UpperSum),
+        Some(Unreadable::UpperSum),
     ),
     (
         "020000000002020000000001 0800 4500001e00004000401126cd0a0000010a000002 13881389000a5c5e6869",
@@ -268,7 +268,7 @@ drop F8
 ipv4 10.0.0.1 10.0.0.2 proto 17 ttl 64 id 0 off 0 flags DF payload 10
 drop F8
 ",
-        Some(DropCause::UpperSum),
+        Some(Unreadable::UpperSum),
     ),
     (
         "020000000002020000000001 0800 4500001f00004000400126dc0a0000010a000002 0800339c00010001616263",
@@ -276,7 +276,7 @@ drop F8
 ipv4 10.0.0.1 10.0.0.2 proto 1 ttl 64 id 0 off 0 flags DF payload 11
 drop F8
 ",
-        Some(DropCause::UpperSum),
+        Some(Unreadable::UpperSum),
     ),
 ];
 
@@ -322,7 +322,7 @@ fn frames_are_told(rt: HostRuntime) -> Result<(), Fail> {
 fn lines_are_added(rt: HostRuntime) -> Result<(), Fail> {
     let mut lines = String::new(rt.alloc());
     lines.push_str("frame 0\n")?;
-    assert!(rt; decode(b"hello", &mut lines)? == Some(DropCause::Short));
+    assert!(rt; decode(b"hello", &mut lines)? == Some(Unreadable::Short));
     assert!(rt; lines.as_str() == "frame 0\ndrop F1\n");
     Ok(())
 }

@@ -2,7 +2,7 @@
 
 use super::A;
 use arp::ArpFault;
-use decode::{DropCause, HexFault};
+use decode::{Unreadable, HexFault};
 use ether::{FrameFault, Mac};
 use icmp::{IcmpFault, Kind};
 use ipv4::{Addr, Ipv4Fault, Prefix, PrefixFault, Protocol};
@@ -66,13 +66,13 @@ fn refusals(rt: HostRuntime) -> Result<(), Fail> {
 }
 
 /// The causes of a drop by their numbers.
-const CAUSES: [(DropCause, u8, &str); 6] = [
-    (DropCause::Short, 1, "F1 Short"),
-    (DropCause::OtherType, 3, "F3 OtherType"),
-    (DropCause::IpHeader, 4, "F4 IpHeader"),
-    (DropCause::IpSum, 5, "F5 IpSum"),
-    (DropCause::UpperHeader, 7, "F7 UpperHeader"),
-    (DropCause::UpperSum, 8, "F8 UpperSum"),
+const CAUSES: [(Unreadable, u8, &str); 6] = [
+    (Unreadable::Short, 1, "F1 Short"),
+    (Unreadable::OtherType, 3, "F3 OtherType"),
+    (Unreadable::IpHeader, 4, "F4 IpHeader"),
+    (Unreadable::IpSum, 5, "F5 IpSum"),
+    (Unreadable::UpperHeader, 7, "F7 UpperHeader"),
+    (Unreadable::UpperSum, 8, "F8 UpperSum"),
 ];
 
 #[test]

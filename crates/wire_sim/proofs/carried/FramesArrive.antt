@@ -13,7 +13,7 @@ use Rattle.frames.specs.declared.drop.DropCause.{DropCause}
 use Rattle.frames.specs.declared.meaning.Meaning.{Meaning}
 use Rattle.frames.specs.declared.meaning.Meaning.TheVariants.{Arp, Tcp, Icmp, Udp, Other, UdpFragment}
 use Rattle.frames.specs.declared.meaning.Control.{Control}
-use Rattle.frames.specs.declared.meaning.Received.{Received}
+use Rattle.frames.specs.declared.meaning.ReceivedSegment.{ReceivedSegment}
 use Rattle.frames.specs.Meaning.{heard, may_send}
 use Rattle.frames.proofs.Hearers.{from_others}
 use Rattle.interface.specs.Ways.{is_routed}
@@ -113,7 +113,7 @@ came-in-time limit hs ts own other n bag trace note s is_limit tallied fresh x =
     record { own = omega (arith, own_time, own_count, at_other, is_limit); other = omega (arith, other_time, other_count, at_own, is_limit) }
 
 -- so it may come
-may-come : (limit : ℕ) (hs ts : Side) (own other : SocketsView) (n : NetworkView) (bag : Bag) (trace : List Happening) (dst : Addr) (o : Option Note) (r : Received) → n.limit ≡ limit → IsTallied n trace → (k : IsOf dst ts hs bag.arrived o r)
+may-come : (limit : ℕ) (hs ts : Side) (own other : SocketsView) (n : NetworkView) (bag : Bag) (trace : List Happening) (dst : Addr) (o : Option Note) (r : ReceivedSegment) → n.limit ≡ limit → IsTallied n trace → (k : IsOf dst ts hs bag.arrived o r)
     → is_stale n k.note ≡ false → epoch_of n.openings k.note.pair ≡ k.note.epoch → MayCome limit hs ts own other bag n.openings trace k.note.pair r.segment
 may-come limit hs ts own other n bag trace dst o r is_limit tallied k fresh present = elim k.kind [
   | inl reset ↦ inl reset
@@ -170,7 +170,7 @@ from-another : (own : Addr) (source : Addr) → may_send own source ≡ true →
 from-another own source may = same_addr-other source own (not_true (same_addr source own) (and_parts (is_unicast source) (not (same_addr source own)) may).1)
 
 -- the pair of what is heard, at our end first
-named-pair : (from to : Side) (out : Sent) (own : SocketsView) (a : Addr) (o : Option Note) (r : Received) → own.addr ≡ a → (k : IsOf a from to out o r) → k.note.pair ≡ pair_of (local_end own r.segment) (peer_end r.source r.segment)
+named-pair : (from to : Side) (out : Sent) (own : SocketsView) (a : Addr) (o : Option Note) (r : ReceivedSegment) → own.addr ≡ a → (k : IsOf a from to out o r) → k.note.pair ≡ pair_of (local_end own r.segment) (peer_end r.source r.segment)
 named-pair from to out own a o r at k =
     let s = r.segment in
     k.pair ∙ (pair_of-swapped (record { addr = r.source; port = s.source }) (record { addr = a; port = s.destination }) ∙ ap (λ x. pair_of (record { addr = x; port = s.destination }) (peer_end r.source s)) (sym at))
@@ -179,7 +179,7 @@ named-pair from to out own a o r at k =
 -- for a UDP socket.
 pub data IsToTable (h h' : HostView) (moment : Moment) (isn : ℕ) (o : Option Note) : Type 0 where
   Aside : h'.sockets ≡ h.sockets → IsToTable h h' moment isn o
-  Brings : (r : Received) (note : Note) → o ≡ Some note → note.pair ≡ pair_of (local_end h.sockets r.segment) (peer_end r.source r.segment)
+  Brings : (r : ReceivedSegment) (note : Note) → o ≡ Some note → note.pair ≡ pair_of (local_end h.sockets r.segment) (peer_end r.source r.segment)
       → Arrived h.sockets moment isn (local_end h.sockets r.segment) (peer_end r.source r.segment) r.segment (segment_foreseen h r.source r.segment) h'.sockets → IsToTable h h' moment isn o
   Tells : (local peer : Endpoint) (number : ℕ) → h'.sockets ≡ after_unreachable h.sockets local peer number → IsToTable h h' moment isn o
   Receives : (source : Addr) (d : UserDatagram) → h'.sockets ≡ after_reception h.sockets source d → IsToTable h h' moment isn o
@@ -218,7 +218,7 @@ frame-to_table from to out a h h' clock isn f (reply.Dropped cause) own at carri
 frame-to_table from to out a h h' clock isn f _ own at carries meets = absurd meets
 
 -- the frame is heard as a segment
-segment-arrives : (limit : ℕ) (hs ts : Side) (a b : Addr) (h h' : HostView) (other : SocketsView) (n : NetworkView) (bag : Bag) (trace : List Happening) (moment : Moment) (isn place : ℕ) (f : Frame) (r : Received) (answer : Result (Unit {0}) DropCause) → n.limit ≡ limit → IsTallied n trace
+segment-arrives : (limit : ℕ) (hs ts : Side) (a b : Addr) (h h' : HostView) (other : SocketsView) (n : NetworkView) (bag : Bag) (trace : List Happening) (moment : Moment) (isn place : ℕ) (f : Frame) (r : ReceivedSegment) (answer : Result (Unit {0}) DropCause) → n.limit ≡ limit → IsTallied n trace
     → IsSoundHost h → isn < 2 ^ 32 → Projects limit hs ts a b h.sockets other bag n.openings trace → Carries a ts hs bag.arrived f → late_note n (written_at n) f.note ≡ None → second_by_frame n hs (foreseen h f.octets.items) ≡ None
     → heard_by h f.octets.items ≡ Ok (Tcp r) → MeetsSegment (segment_arrival h moment isn r.source r.segment) h moment r.source answer h'
     → Opens limit hs ts a b h'.sockets other bag n.openings (noted_opening n.openings hs place f.note h.sockets h'.sockets) trace

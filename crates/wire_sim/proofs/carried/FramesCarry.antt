@@ -5,7 +5,7 @@ use Rattle.ether.specs.declared.mac.Mac.{Mac}
 use Rattle.ipv4.specs.declared.addr.Addr.{Addr}
 use Rattle.ipv4.specs.declared.addr.Pair.{Pair}
 use Rattle.tcp_segment.specs.Segment.{Segment}
-use Rattle.frames.specs.declared.meaning.Received.{Received}
+use Rattle.frames.specs.declared.meaning.ReceivedSegment.{ReceivedSegment}
 use Rattle.frames.specs.declared.meaning.Meaning.TheVariants.{Tcp}
 use Rattle.frames.specs.Meaning.{heard}
 use Rattle.frames.specs.Pairs.{pair_between}
@@ -45,7 +45,7 @@ pub record IsSent (from to : Side) (out : Sent) (note : Note) (s : Segment) : Ty
   pub other_at : at_side to note ≡ emission.other_written
 
 -- what was heard at an address is of the frame's note: a reset, or a segment that was sent
-pub record IsOf (dst : Addr) (from to : Side) (out : Sent) (o : Option Note) (r : Received) : Type 0 where
+pub record IsOf (dst : Addr) (from to : Side) (out : Sent) (o : Option Note) (r : ReceivedSegment) : Type 0 where
   pub note : Note
   pub noted : o ≡ Some note
   pub pair : note.pair ≡ pair_between r.source dst r.segment
@@ -53,7 +53,7 @@ pub record IsOf (dst : Addr) (from to : Side) (out : Sent) (o : Option Note) (r 
 
 -- a frame that `from` emitted, as it may be heard at the address of `to`
 abbrev pub Carries : Addr → Side → Side → Sent → Frame → Type 0
-Carries dst from to out f = (mac : Mac) (r : Received) → heard mac dst f.octets.items ≡ Ok (Tcp r) → IsOf dst from to out f.note r
+Carries dst from to out f = (mac : Mac) (r : ReceivedSegment) → heard mac dst f.octets.items ≡ Ok (Tcp r) → IsOf dst from to out f.note r
 
 -- each frame is of our side, for the other's address, or the other way round
 abbrev pub Carried : Side → Side → Addr → Addr → Bag → Frame → Type 0

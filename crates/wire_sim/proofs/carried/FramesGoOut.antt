@@ -14,7 +14,7 @@ use Rattle.tcp_state.specs.Due.{first_due, flags_of, head_of, octets_of, segment
 use Rattle.tcp_state.proofs.GoesOut.{due-may}
 use Rattle.udp.specs.declared.cutting.Part.{Part}
 use Rattle.udp_socket.specs.SocketView.{SocketView}
-use Rattle.frames.specs.declared.meaning.Received.{Received}
+use Rattle.frames.specs.declared.meaning.ReceivedSegment.{ReceivedSegment}
 use Rattle.frames.specs.declared.meaning.Meaning.TheVariants.{Tcp}
 use Rattle.frames.specs.Meaning.{heard}
 use Rattle.frames.specs.Pairs.{pair_in, pair_between}
@@ -63,28 +63,28 @@ use Rattle.wire_sim.proofs.tables.TableById.{entry_with, IsOpened, found-role}
 -- What a frame carries as it goes out.
 
 -- nothing
-carries-none : (dst : Addr) (hs ts : Side) (out : Sent) (f : Frame) (octets : List ℕ) → f.octets.items ≡ octets → ((mac : Mac) (r : Received) → heard mac dst octets ≡ Ok (Tcp r) → ⊥) → Carries dst hs ts out f
+carries-none : (dst : Addr) (hs ts : Side) (out : Sent) (f : Frame) (octets : List ℕ) → f.octets.items ≡ octets → ((mac : Mac) (r : ReceivedSegment) → heard mac dst octets ≡ Ok (Tcp r) → ⊥) → Carries dst hs ts out f
 carries-none dst hs ts out f octets is none = λ mac r e. absurd (none mac r (subst (λ x. heard mac dst x ≡ Ok (Tcp r)) is e))
 
 -- the note of what is heard
-heard-noted : (n : NetworkView) (dst : Addr) (f : Frame) (mac : Mac) (r : Received) → f.note ≡ option_map (note_of n) (pair_in f.octets.items) → heard mac dst f.octets.items ≡ Ok (Tcp r) → f.note ≡ Some (note_of n (pair_between r.source dst r.segment))
+heard-noted : (n : NetworkView) (dst : Addr) (f : Frame) (mac : Mac) (r : ReceivedSegment) → f.note ≡ option_map (note_of n) (pair_in f.octets.items) → heard mac dst f.octets.items ≡ Ok (Tcp r) → f.note ≡ Some (note_of n (pair_between r.source dst r.segment))
 heard-noted n dst f mac r note e = note ∙ ap (option_map (note_of n)) (heard_pairs mac dst f.octets.items r e)
 
 -- a reset
 carries-reset : (n : NetworkView) (dst : Addr) (hs ts : Side) (out : Sent) (f : Frame) (octets : List ℕ) (source to : Addr) (head : Head) → f.octets.items ≡ octets → f.note ≡ option_map (note_of n) (pair_in f.octets.items) → head.flags.rst ≡ true
-    → ((mac : Mac) (r : Received) → heard mac dst octets ≡ Ok (Tcp r) → (dst ≡ to) × (r ≡ record { source = source; segment = sent_segment head [] })) → Carries dst hs ts out f
+    → ((mac : Mac) (r : ReceivedSegment) → heard mac dst octets ≡ Ok (Tcp r) → (dst ≡ to) × (r ≡ record { source = source; segment = sent_segment head [] })) → Carries dst hs ts out f
 carries-reset n dst hs ts out f octets source to head is note reset hears = λ mac r e.
     let two = hears mac r (subst (λ x. heard mac dst x ≡ Ok (Tcp r)) is e) in
     record {
       note = note_of n (pair_between r.source dst r.segment);
       noted = heard-noted n dst f mac r note e;
       pair = refl;
-      kind = inl (ap (λ (x : Received). x.segment.flags.rst) two.1 ∙ reset);
+      kind = inl (ap (λ (x : ReceivedSegment). x.segment.flags.rst) two.1 ∙ reset);
     }
 
 -- a connection's segment
 carries-sent : (n : NetworkView) (trace : List Happening) (dst : Addr) (hs ts : Side) (bag : Bag) (f : Frame) (octets : List ℕ) (source : Addr) (c : View) (due : Due) → IsTallied n trace → f.octets.items ≡ octets → f.note ≡ option_map (note_of n) (pair_in f.octets.items)
-    → source ≡ c.local.addr → ((mac : Mac) (r : Received) → heard mac dst octets ≡ Ok (Tcp r) → (dst ≡ c.peer.addr) × (r ≡ record { source = source; segment = sent_segment (head_of c due) (octets_of c due) }))
+    → source ≡ c.local.addr → ((mac : Mac) (r : ReceivedSegment) → heard mac dst octets ≡ Ok (Tcp r) → (dst ≡ c.peer.addr) × (r ≡ record { source = source; segment = sent_segment (head_of c due) (octets_of c due) }))
     → Carries dst hs ts (let g = bag_after hs ts n.openings trace c due bag in g.out) f
 carries-sent n trace dst hs ts bag f octets source c due tallied is note is_source hears = λ mac r e.
     let two = hears mac r (subst (λ x. heard mac dst x ≡ Ok (Tcp r)) is e) in
@@ -93,13 +93,13 @@ carries-sent n trace dst hs ts bag f octets source c due tallied is note is_sour
     let epoch = epoch_of n.openings pair in
     let new = emission_of hs ts n.openings trace c due in
     let same : pair_between r.source dst r.segment ≡ pair =
-    ap (λ (x : Received). pair_between x.source dst x.segment) two.1
+    ap (λ (x : ReceivedSegment). pair_between x.source dst x.segment) two.1
     ∙ (ap (λ y. pair_between source y s) two.0 ∙ ap (λ x. pair_between x c.peer.addr s) is_source) in
     let g = bag_after hs ts n.openings trace c due bag in
     let sent : IsSent hs ts g.out (note_of n pair) r.segment = record {
       emission = new;
       among = among-new pair epoch new bag.out;
-      segment = sym (ap (λ (x : Received). x.segment) two.1);
+      segment = sym (ap (λ (x : ReceivedSegment). x.segment) two.1);
       own_at = at_side-noted n pair hs ∙ tallied hs pair epoch;
       other_at = at_side-noted n pair ts ∙ tallied ts pair epoch;
     } in
@@ -168,7 +168,7 @@ segment-sent limit hs ts a b h other n bag trace f moment mac to e c l due found
     octets ∙ (segment-framed h.interface mac to own goes e c l due found is_role first ∙ (ap (λ t. segment_frame_to h.interface mac t (connection_octets c due)) is_to
     ∙ ap (λ x. segment_frame_to h.interface mac c.peer.addr (sent_octets x c.peer.addr (head_of c due) (octets_of c due))) (sym source))) in
     let can : CanBeSent h.interface.addr c.peer.addr (head_of c due) (octets_of c due) = subst (λ x. CanBeSent x c.peer.addr (head_of c due) (octets_of c due)) (sym source) (due-can c due solid may) in
-    let hears : (m : Mac) (r : Received) → heard m b (segment_frame_to h.interface mac c.peer.addr (sent_octets h.interface.addr c.peer.addr (head_of c due) (octets_of c due))) ≡ Ok (Tcp r)
+    let hears : (m : Mac) (r : ReceivedSegment) → heard m b (segment_frame_to h.interface mac c.peer.addr (sent_octets h.interface.addr c.peer.addr (head_of c due) (octets_of c due))) ≡ Ok (Tcp r)
     → (b ≡ c.peer.addr) × (r ≡ record { source = h.interface.addr; segment = sent_segment (head_of c due) (octets_of c due) }) =
     λ m r e. heard-segment h.interface mac c.peer.addr (head_of c due) (octets_of c due) m b r can (way-mac h.interface moment to mac sound.interface leads) sound.interface.mac (due-fits c due may) e in
     subst (λ w. WentOut limit hs ts a b w other (n.frames ++ f ∷ []) n.openings trace) (sym becomes)
@@ -177,7 +177,7 @@ segment-sent limit hs ts a b h other n bag trace f moment mac to e c l due found
           went-aside limit hs ts a b next other bag n.frames n.openings trace f sender q carried
           (carries-reset n b hs ts bag.out f (segment_frame_to h.interface mac c.peer.addr (sent_octets h.interface.addr c.peer.addr (head_of c due) (octets_of c due))) h.interface.addr c.peer.addr (head_of c due) frame note
           (ap (λ d. let x = flags_of c d in x.rst) is_reset)
-          (λ m r e. let two = hears m r e in (two.0, two.1 ∙ ap (λ l. let x : Received = record { source = h.interface.addr; segment = sent_segment (head_of c due) l } in x) (ap (octets_of c) is_reset))))
+          (λ m r e. let two = hears m r e in (two.0, two.1 ∙ ap (λ l. let x : ReceivedSegment = record { source = h.interface.addr; segment = sent_segment (head_of c due) l } in x) (ap (octets_of c) is_reset))))
       | GoesOn unreset q ↦
           let more = bag_after hs ts n.openings trace c due bag in
           record {

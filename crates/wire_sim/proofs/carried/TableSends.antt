@@ -11,7 +11,7 @@ use Rattle.tcp_state.specs.Due.{first_due, emitted_len as segment_len, segment_o
 use Rattle.udp.specs.declared.cutting.Part.{Part}
 use Rattle.udp_socket.specs.Emission.{fragment_of, due_peer as first_peer}
 use Rattle.udp_socket.specs.SocketView.{Outgoing, SocketView}
-use Rattle.frames.specs.declared.meaning.Received.{Received}
+use Rattle.frames.specs.declared.meaning.ReceivedSegment.{ReceivedSegment}
 use Rattle.frames.specs.declared.meaning.Meaning.TheVariants.{Tcp}
 use Rattle.frames.specs.Meaning.{heard}
 use Rattle.frames.proofs.Hearers.{no_segment_in_part}
@@ -102,7 +102,7 @@ part-framed i mac to own goes e part found due =
     ap (λ o. emitted_frame i mac to o (emitted_octets own goes)) (told ∙ due)
 
 -- nobody hears a segment in it
-pub part-unheard : (i : InterfaceView) (theirs : Mac) (to : Addr) (part : Part) (octets : List ℕ) (mac : Mac) (ours : Addr) (r : Received) → length theirs.0 ≡ 6 → length i.mac.0 ≡ 6
+pub part-unheard : (i : InterfaceView) (theirs : Mac) (to : Addr) (part : Part) (octets : List ℕ) (mac : Mac) (ours : Addr) (r : ReceivedSegment) → length theirs.0 ≡ 6 → length i.mac.0 ≡ 6
     → heard mac ours (part_frame_to i theirs to part octets) ≡ Ok (Tcp r) → ⊥
 unfolding part_frame_to
 part-unheard i theirs to part octets mac ours r whole own e = no_segment_in_part (head_to i theirs to) part octets mac ours r whole own e

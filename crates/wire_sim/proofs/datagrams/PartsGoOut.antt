@@ -14,7 +14,7 @@ use Rattle.udp.proofs.Answering.{sent_len}
 use Rattle.udp_socket.specs.Emission.{due_octets, due_part, due_peer, fragment_of, octets_of, head_of, datagram_of}
 use Rattle.udp_socket.specs.SocketView.{Outgoing, SocketView}
 use Rattle.udp_socket.proofs.Due.{placed}
-use Rattle.frames.specs.declared.meaning.UserReceived.{UserReceived}
+use Rattle.frames.specs.declared.meaning.ReceivedDatagram.{ReceivedDatagram}
 use Rattle.frames.specs.declared.meaning.Meaning.TheVariants.{Udp, UdpFragment}
 use Rattle.frames.specs.Meaning.{heard}
 use Rattle.frames.specs.Sent.{IsPart, part_datagram}
@@ -30,7 +30,7 @@ use Rattle.std.proofs.lemmas.List.Elements.{All-head}
 
 -- whoever hears a UDP datagram or a fragment in these octets hears what is of one of those that were accepted
 pub record KeepsTo (accepted : List Accepted) (octets : List ℕ) : Type 0 where
-  pub whole : (mac : Mac) (ours : Addr) (r : UserReceived) → heard mac ours octets ≡ Ok (Udp r) → IsOfOne accepted r.carrier
+  pub whole : (mac : Mac) (ours : Addr) (r : ReceivedDatagram) → heard mac ours octets ≡ Ok (Udp r) → IsOfOne accepted r.carrier
   pub fragment : (mac : Mac) (ours : Addr) (d : Datagram) → heard mac ours octets ≡ Ok (UdpFragment d) → IsOfOne accepted d
 
 -- a fragment has as many octets as it says

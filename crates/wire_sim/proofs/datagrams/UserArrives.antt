@@ -10,7 +10,7 @@ use Rattle.frames.specs.declared.drop.DropCause.{DropCause}
 use Rattle.frames.specs.declared.meaning.Control.{Control}
 use Rattle.frames.specs.declared.meaning.Meaning.{Meaning}
 use Rattle.frames.specs.declared.meaning.Meaning.TheVariants.{Arp, Tcp, Icmp, Udp, Other, UdpFragment}
-use Rattle.frames.specs.declared.meaning.UserReceived.{UserReceived}
+use Rattle.frames.specs.declared.meaning.ReceivedDatagram.{ReceivedDatagram}
 use Rattle.frames.proofs.Hearers.{users_from_others, users_are_carried, fragments_from_others}
 use Rattle.interface.specs.Ways.{is_routed}
 use Rattle.reassembly.specs.Events.Event.{Takes as taken}
@@ -139,7 +139,7 @@ frame-takes other h h' clock isn octets answer own turn pool keeps = by_meaning 
     still : h'.sockets ≡ h.sockets → h'.pool ≡ h.pool → HostTakes other h h'
     still same pools = aside other h h' same pools pool
 
-    whole : (r : UserReceived) → heard_by h octets ≡ Ok (Udp r) → AreFew other → IsWholeOfOne other r.carrier r.carrier.payload
+    whole : (r : ReceivedDatagram) → heard_by h octets ≡ Ok (Udp r) → AreFew other → IsWholeOfOne other r.carrier r.carrier.payload
     whole r is few =
         let told = users_are_carried h.interface.mac h.interface.addr octets r is in
         no_fragment other r.carrier (keeps.whole h.interface.mac h.interface.addr r is) told.1.0 told.1.1

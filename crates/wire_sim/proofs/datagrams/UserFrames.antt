@@ -14,7 +14,7 @@ use Rattle.tcp_state.specs.Due.{segment_octets}
 use Rattle.udp.specs.declared.cutting.Part.{Part}
 use Rattle.udp_socket.specs.Emission.{due_part, due_peer as first_peer, fragment_of, due_octets as socket_octets}
 use Rattle.udp_socket.specs.SocketView.{Outgoing, SocketView}
-use Rattle.frames.specs.declared.meaning.UserReceived.{UserReceived}
+use Rattle.frames.specs.declared.meaning.ReceivedDatagram.{ReceivedDatagram}
 use Rattle.frames.specs.declared.meaning.Meaning.TheVariants.{Udp, UdpFragment}
 use Rattle.frames.specs.Meaning.{heard}
 use Rattle.frames.proofs.UserHearers.{no_user_in_segment, no_user_in_message, no_user_in_packet}
@@ -47,7 +47,7 @@ use Rattle.wire_sim.proofs.datagrams.TablesKeepToAccepted.{IsEntryOf, IsTableOf}
 
 -- Nobody hears any of them in these.
 
-keeps-nobody : (own : List Accepted) (octets : List ℕ) → ((mac : Mac) (ours : Addr) (r : UserReceived) (d : Datagram) → (heard mac ours octets ≡ Ok (Udp r) → ⊥) × (heard mac ours octets ≡ Ok (UdpFragment d) → ⊥)) → KeepsTo own octets
+keeps-nobody : (own : List Accepted) (octets : List ℕ) → ((mac : Mac) (ours : Addr) (r : ReceivedDatagram) (d : Datagram) → (heard mac ours octets ≡ Ok (Udp r) → ⊥) × (heard mac ours octets ≡ Ok (UdpFragment d) → ⊥)) → KeepsTo own octets
 keeps-nobody own octets none = record {
   whole = λ mac ours r e. absurd ((none mac ours r r.carrier).0 e);
   fragment = λ mac ours d e. absurd (nothing mac ours d e);

@@ -5,7 +5,7 @@ use Rattle.ether.specs.declared.view.FrameFault.{FrameFault}
 use Rattle.ether.specs.declared.view.FrameFault.TheVariants as frame
 use Rattle.decode.specs.Lines.{ether_line}
 use Rattle.decode.specs.Layers.{above, dropped}
-use Rattle.decode.specs.declared.drop.DropCause.TheVariants.{Short}
+use Rattle.decode.specs.declared.unreadable.Unreadable.TheVariants.{Short}
 use Rattle.decode.proofs.LayerLemmas.{shows-drop, shows-above}
 use Rattle.decode.proofs.layers.show_frame.Goals as goal
 

@@ -1,6 +1,6 @@
 use Rattle.std.proofs.Common.{refl, subst}
 use Rattle.decode.specs.Layers.{IsPayloadShown, dropped}
-use Rattle.decode.specs.declared.drop.DropCause.TheVariants.{OtherType}
+use Rattle.decode.specs.declared.unreadable.Unreadable.TheVariants.{OtherType}
 use Rattle.decode.proofs.LayerLemmas.{shows-drop}
 use Rattle.decode.proofs.layers.show_payload.Goals as goal
 

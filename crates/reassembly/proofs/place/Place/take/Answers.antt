@@ -3,8 +3,8 @@ use Rattle.ipv4.specs.Datagram.{Datagram}
 use Rattle.clock.specs.declared.moment.Moment.{Moment}
 use Rattle.reassembly.specs.declared.gathered.Gathered.{Gathered}
 use Rattle.reassembly.specs.declared.pending.Pending.{Pending}
-use Rattle.reassembly.specs.declared.taken.Loss.TheVariants.{GivenUp as LossGivenUp}
-use Rattle.reassembly.specs.declared.taken.Taken.TheVariants.{Waiting, Whole, Dropped}
+use Rattle.reassembly.specs.declared.assembled.Loss.TheVariants.{GivenUp as LossGivenUp}
+use Rattle.reassembly.specs.declared.assembled.Assembled.TheVariants.{Waiting, Whole, Dropped}
 use Rattle.reassembly.specs.Fragments.{begin_of}
 use Rattle.reassembly.specs.Inside.{seen, place_seen, EndsWithin}
 use Rattle.reassembly.specs.Octets.{laid, whole_of, filled}

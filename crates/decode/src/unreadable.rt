@@ -7,7 +7,7 @@ use thiserror::Error;
 
 /// Why a frame, or a part of it, can't be read. Each has the name and the number by which a host drops it.
 #[derive(Clone, Copy, PartialEq, Eq, Debug, Error)]
-pub enum DropCause {
+pub enum Unreadable {
     /// The frame has fewer octets than its head (RFC 894).
     #[error("F1 Short")]
     Short,
@@ -28,18 +28,18 @@ pub enum DropCause {
     UpperSum,
 }
 
-impl DropCause {
+impl Unreadable {
     /// Its number.
     pub fn number(self) -> u8
         ensures { result ≡ number_of self }
     {
         match self {
-            DropCause::Short => 1,
-            DropCause::OtherType => 3,
-            DropCause::IpHeader => 4,
-            DropCause::IpSum => 5,
-            DropCause::UpperHeader => 7,
-            DropCause::UpperSum => 8,
+            Unreadable::Short => 1,
+            Unreadable::OtherType => 3,
+            Unreadable::IpHeader => 4,
+            Unreadable::IpSum => 5,
+            Unreadable::UpperHeader => 7,
+            Unreadable::UpperSum => 8,
         }
     }
 }

@@ -4,7 +4,7 @@ use thiserror::Error;
 
 /// What a fragment comes to.
 #[derive(Drop)]
-pub enum Taken<'a> {
+pub enum Assembled<'a> {
     /// Its datagram waits for others.
     Waiting,
     /// With it the datagram is whole. Its place is free again.
