@@ -6,13 +6,13 @@ ghost use Rattle.congestion.specs.Window.{IsSound, initial_cwnd, initial_window,
 use std::marker::Model;
 
 /// The greatest congestion window, in octets.
-const GREATEST: u32 = 1 << 30;
+const MOST_CWND: u32 = 1 << 30;
 
 /// The slow start threshold of a new connection, in octets.
 const FIRST_SSTHRESH: u32 = 65_535;
 
 /// The duplicate ACK at which a segment counts as lost (RFC 5681 section 3.2).
-const THIRD: u8 = 3;
+const DUPLICATE_THRESHOLD: u8 = 3;
 
 /// The congestion window of a connection (RFC 5681 section 2).
 #[derive(Debug, Drop)]
@@ -73,7 +73,7 @@ impl Cwnd {
     pub fn is_recovering(&self) -> bool
         ensures { result ≡ is_recovering self.now }
     {
-        self.duplicates >= THIRD
+        self.duplicates >= DUPLICATE_THRESHOLD
     }
 
     /// Takes an ACK of so many new octets (RFC 5681 sections 3.1 and 3.2).
@@ -85,7 +85,7 @@ impl Cwnd {
         } else {
             self.cwnd + self.growth(octets)
         };
-        self.cwnd = cwnd.min(GREATEST);
+        self.cwnd = cwnd.min(MOST_CWND);
         self.duplicates = 0;
         self.expired = false;
     }
@@ -110,14 +110,14 @@ impl Cwnd {
     {
         let smss = u32::from(self.smss);
         if self.is_recovering() {
-            self.cwnd = (self.cwnd + smss).min(GREATEST);
+            self.cwnd = (self.cwnd + smss).min(MOST_CWND);
             return false;
         }
         self.duplicates += 1;
         let is_third = self.is_recovering();
         if is_third {
             self.ssthresh = half_of(flight, self.smss);
-            self.cwnd = (self.ssthresh + 3 * smss).min(GREATEST);
+            self.cwnd = (self.ssthresh + 3 * smss).min(MOST_CWND);
         }
         is_third
     }

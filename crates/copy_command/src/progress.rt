@@ -10,7 +10,7 @@ use std::alloc::{AllocError, Global};
 use std::io;
 
 /// It is said again once so many octets more were written.
-const OFTEN: u64 = 65_536;
+const PROGRESS_STEP: u64 = 65_536;
 
 /// Says how many octets were written, and which share of the whole they are where that is known, in a line that is written over itself.
 #[derive(Debug, Drop)]
@@ -49,7 +49,7 @@ impl<E: Sink> Progress<E> {
         ensures early { is_due self.old.told written ≡ false → self.new ≡ self.old }
         ensures whole { self.new.whole ≡ self.old.whole }
     {
-        if written.saturating_sub(self.told) >= OFTEN {
+        if written.saturating_sub(self.told) >= PROGRESS_STEP {
             self.told = written;
             let _ = self.say(written);
         }

@@ -12,14 +12,14 @@ use crate::happened::Happened;
 use crate::nodes::Nodes;
 use crate::numbers::{Numbering, Syn};
 use crate::passage::Passage;
-use crate::rung::{SPAN, brought_rung, push_fill, sent_rung};
+use crate::rung::{RUNG_WIDTH, brought_rung, push_fill, sent_rung};
 use crate::text::{note_syn, push_text};
 use std::alloc::{AllocError, Global};
 use std::marker::Model;
 use wire_sim::{Side, World};
 
 /// The columns of a line at most.
-const WIDTH: usize = 80;
+const LINE_WIDTH: usize = 80;
 
 /// A run that is to be told: the world in which it ended, its two hosts, how numbers are told, and all that happened, in order.
 #[derive(Drop)]
@@ -175,7 +175,7 @@ fn names(alloc: Global) -> Result<String, AllocError>
     ensures { IfOk result (λ names. string_bytes names ≡ names_line) }
 {
     let mut names = String::from_str(alloc, "      a")?;
-    push_fill(' ', SPAN, &mut names)?;
+    push_fill(' ', RUNG_WIDTH, &mut names)?;
     names.push_str("b")?;
     Ok(names)
 }
@@ -193,10 +193,10 @@ fn printed(alloc: Global, text: &str) -> Result<String, AllocError>
 fn push_line(line: &[u8], ladder: &mut Vec<u8>) -> Result<(), AllocError>
     ensures { OnOk result (ladder.new.items ≡ ladder.old.items ++ ended (fitted line.now)) }
 {
-    if line.len() <= WIDTH {
+    if line.len() <= LINE_WIDTH {
         ladder.extend_from_slice(line)?;
     } else {
-        ladder.extend_from_slice(&line[..WIDTH - 2])?;
+        ladder.extend_from_slice(&line[..LINE_WIDTH - 2])?;
         ladder.extend_from_slice(b"..")?;
     }
     ladder.extend_from_slice(b"\n")

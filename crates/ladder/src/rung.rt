@@ -11,7 +11,7 @@ use wire_sim::Side;
 const NUMBER: usize = 6;
 
 /// The columns between the uprights.
-pub(crate) const SPAN: usize = 72;
+pub(crate) const RUNG_WIDTH: usize = 72;
 
 /// The rung of a frame that a side sent, with a text at its tail. It ends in `x` where the frame never arrives.
 pub(crate) fn sent_rung(
@@ -59,7 +59,7 @@ fn number_column(alloc: Global, index: usize) -> Result<String, AllocError>
 fn push_arrow(side: Side, arrives: bool, text: &str, rung: &mut String) -> Result<(), AllocError>
     ensures { OnOk result (string_bytes rung.new ≡ string_bytes rung.old ++ arrow side arrives text.now) }
 {
-    let missing = (SPAN - 4).saturating_sub(text.len());
+    let missing = (RUNG_WIDTH - 4).saturating_sub(text.len());
     match side {
         Side::A => {
             rung.push_str("|- ")?;
@@ -84,7 +84,7 @@ fn push_arrow(side: Side, arrives: bool, text: &str, rung: &mut String) -> Resul
 fn push_landing(side: Side, arrives: bool, text: &str, rung: &mut String) -> Result<(), AllocError>
     ensures { OnOk result (string_bytes rung.new ≡ string_bytes rung.old ++ landing side arrives text.now) }
 {
-    let missing = (SPAN - 3).saturating_sub(text.len());
+    let missing = (RUNG_WIDTH - 3).saturating_sub(text.len());
     match side {
         Side::A => {
             rung.push_str("| ")?;

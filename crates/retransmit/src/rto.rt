@@ -7,19 +7,19 @@ ghost use Rattle.retransmit.specs.Timeout.{first_timeout, estimate_after, timeou
 use std::marker::Model;
 
 /// The timeout before the first sample, in milliseconds (RFC 6298 section 2.1).
-const FIRST: u32 = 1_000;
+const FIRST_RTO: u32 = 1_000;
 
 /// The least timeout, in milliseconds (RFC 6298 section 2.4).
-const LEAST: u32 = 1_000;
+const LEAST_RTO: u32 = 1_000;
 
 /// The greatest timeout and the greatest sample, in milliseconds (RFC 6298 section 2.5).
-const GREATEST: u32 = 60_000;
+const MOST_RTO: u32 = 60_000;
 
 /// The timeout of a connection whose SYN was lost, in milliseconds (RFC 6298 section 5.7).
 const AFTER_LOST_SYN: u32 = 3_000;
 
 /// The granularity of the clock, in milliseconds (RFC 6298 section 2).
-const GRANULARITY: u32 = 1;
+const CLOCK_GRANULARITY: u32 = 1;
 
 /// What the samples tell of the round-trip time (RFC 6298 section 2).
 #[derive(Clone, Copy, Debug, PartialEq, Eq)]
@@ -56,7 +56,7 @@ impl Rto {
     {
         Rto {
             estimate: None,
-            rto: FIRST,
+            rto: FIRST_RTO,
         }
     }
 
@@ -74,7 +74,7 @@ impl Rto {
     pub fn sample(&mut self, milliseconds: u64)
         ensures { self.new ≡ after_sample self.old milliseconds }
     {
-        let round_trip = milliseconds.min(u64::from(GREATEST)) as u32;
+        let round_trip = milliseconds.min(u64::from(MOST_RTO)) as u32;
         let estimate = Estimate::after(self.estimate, round_trip);
         self.estimate = Some(estimate);
         self.rto = estimate.timeout();
@@ -84,7 +84,7 @@ impl Rto {
     pub fn expire(&mut self)
         ensures { self.new ≡ after_expiry self.old }
     {
-        self.rto = (2 * self.rto).min(GREATEST);
+        self.rto = (2 * self.rto).min(MOST_RTO);
     }
 
     /// The connection is established, and the timer of its SYN had expired (RFC 6298 section 5.7).
@@ -123,6 +123,6 @@ impl Estimate {
         requires variation { self.v4 ≤ 240000 }
         ensures { result ≡ timeout_of self }
     {
-        (self.s8 / 8 + self.v4.max(GRANULARITY)).clamp(LEAST, GREATEST)
+        (self.s8 / 8 + self.v4.max(CLOCK_GRANULARITY)).clamp(LEAST_RTO, MOST_RTO)
     }
 }

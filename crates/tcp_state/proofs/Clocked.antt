@@ -5,7 +5,7 @@ use Rattle.clock.specs.declared.moment.Moment.{Moment}
 use Rattle.tcp_segment.specs.Segment.{Segment}
 use Rattle.tcp_state.specs.declared.state.State.{State}
 use Rattle.tcp_state.specs.declared.state.State.TheVariants.{FinWait2, TimeWait}
-use Rattle.tcp_state.specs.declared.timing.TheConstants.{OVERRIDE}
+use Rattle.tcp_state.specs.declared.timing.TheConstants.{OVERRIDE_WAIT}
 use Rattle.clock.specs.Moments.{has_come}
 use Rattle.tcp_state.specs.declared.arrival.Before.{Before}
 use Rattle.tcp_state.specs.declared.emission.Due.{Due}
@@ -160,7 +160,7 @@ settles v owes since now keeps =
     (owed_still v.resend.owes_probe (probes v) keeps.owed)
     (runs_on (retransmits v) v.timers.retransmission now v.resend.timeout.rto keeps.retransmission)
     (runs_on (probes v) v.timers.probe now v.resend.timeout.rto keeps.probe)
-    (goes_on (awaits_more v) v.timers.overriding now OVERRIDE keeps.overriding)
+    (goes_on (awaits_more v) v.timers.overriding now OVERRIDE_WAIT keeps.overriding)
 
 -- Segments.
 

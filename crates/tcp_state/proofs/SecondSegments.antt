@@ -9,7 +9,7 @@ use Rattle.tcp_state.specs.declared.emission.Due.{Due}
 use Rattle.tcp_state.specs.declared.emission.Due.TheVariants.{Syn, Text, Probe, Ack}
 use Rattle.tcp_state.specs.declared.state.State.{State}
 use Rattle.tcp_state.specs.declared.state.State.TheVariants.{SynSent, SynReceived, Established, FinWait1, FinWait2}
-use Rattle.tcp_state.specs.declared.timing.TheConstants.{DELAYED_ACK}
+use Rattle.tcp_state.specs.declared.timing.TheConstants.{DELAYED_ACK_WAIT}
 use Rattle.tcp_state.specs.View.{View, IsSound, is_opening, is_syn_sent, is_syn_received, is_closed}
 use Rattle.tcp_state.specs.Timing.{KeepsTime, running}
 use Rattle.tcp_state.specs.Arrival.{is_receiving, beyond_fin, after_ack, is_read, after_window, may_delay, after_text, after_fin, after_segment, brings_more, is_lost, after_lost, after_heard, before, timed_by, after_segment_at}
@@ -104,7 +104,7 @@ none_runs : (o : Option Moment) → is_some o ≡ false → o ≡ None
 none_runs None e = refl
 none_runs (Some deadline) e = cc
 
-begun : (waits owes : Bool) (o : Option Moment) (now : Moment) → waits ≡ true → owes ≡ false → o ≡ None → (if waits && not owes then running o now DELAYED_ACK else None) ≡ Some (after now DELAYED_ACK)
+begun : (waits owes : Bool) (o : Option Moment) (now : Moment) → waits ≡ true → owes ≡ false → o ≡ None → (if waits && not owes then running o now DELAYED_ACK_WAIT else None) ≡ Some (after now DELAYED_ACK_WAIT)
 begun true false None now w o e = refl
 begun true false (Some deadline) now w o e = cc
 begun true true o now w f e = cc
@@ -122,7 +122,7 @@ first_answered v s now keeps kept on read some =
     let a = read_answers v s on some in
     let P : View → Type 0 = λ u. (u.owes_ack ≡ true) ⊎ ((deadline : Moment) × (u.timers.delayed_ack ≡ Some deadline) × (deadline.0 < now.0 + 500)) in
     subst P (sym (hears v s now kept on read)) (by (P x) w.owes_ack inl
-    (λ unowed. inr (after now DELAYED_ACK, begun w.delays_ack w.owes_ack w.timers.delayed_ack now a.waits unowed (none_before v s keeps kept on read (first v w a unowed)), omega arith)))
+    (λ unowed. inr (after now DELAYED_ACK_WAIT, begun w.delays_ack w.owes_ack w.timers.delayed_ack now a.waits unowed (none_before v s keeps kept on read (first v w a unowed)), omega arith)))
   where
     -- no acknowledgement waited before
     first : (v w : View) → Answers v w → w.owes_ack ≡ false → v.delays_ack ≡ false

@@ -10,7 +10,7 @@ use Rattle.retransmit.specs.Deadlines.{no_timers, deadline_of}
 use Rattle.retransmit.specs.Timeout.{Timeout, after_lost_syn}
 use Rattle.tcp_state.specs.declared.emission.Due.{Due}
 use Rattle.tcp_state.specs.declared.resend.Timed.{Timed}
-use Rattle.tcp_state.specs.declared.timing.TheConstants.{DELAYED_ACK, OVERRIDE}
+use Rattle.tcp_state.specs.declared.timing.TheConstants.{DELAYED_ACK_WAIT, OVERRIDE_WAIT}
 use Rattle.tcp_state.specs.Resend.{Resend, is_timed_by, timeout_sampled, resend_acknowledged}
 use Rattle.tcp_state.specs.View.{View, IsSound, is_opening, is_fin_wait_2}
 use Rattle.tcp_state.specs.Timing.{probes, retransmits, awaits_second, awaits_more, running, clocked, retransmission_expired, probe_expired, after_expiry, after_timers}
@@ -84,8 +84,8 @@ clocked_soon : (moved : Bool) (v : View) (now : Moment) (was : Timers) → v.res
 clocked_soon moved v now was few k = record {
   retransmission = runs_where (retransmits v) now was.retransmission (if moved then None else v.timers.retransmission) v.resend.timeout.rto few (anew moved now was.retransmission v.timers.retransmission k.retransmission);
   probe = runs_where (probes v) now was.probe v.timers.probe v.resend.timeout.rto few k.probe;
-  delayed_ack = runs_where (awaits_second v) now was.delayed_ack v.timers.delayed_ack DELAYED_ACK (omega arith) k.delayed_ack;
-  overriding = runs_once (awaits_more v) now was.overriding v.timers.overriding OVERRIDE (omega arith) k.overriding;
+  delayed_ack = runs_where (awaits_second v) now was.delayed_ack v.timers.delayed_ack DELAYED_ACK_WAIT (omega arith) k.delayed_ack;
+  overriding = runs_once (awaits_more v) now was.overriding v.timers.overriding OVERRIDE_WAIT (omega arith) k.overriding;
 }
 
 -- Segments.

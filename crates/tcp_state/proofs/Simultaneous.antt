@@ -11,7 +11,7 @@ use Rattle.tcp_segment.specs.Wire.{wire, past}
 use Rattle.retransmit.specs.declared.timers.Timers.{Timers}
 use Rattle.retransmit.specs.Deadlines.{no_timers}
 use Rattle.congestion.specs.Window.{initial_window}
-use Rattle.tcp_state.specs.declared.timing.TheConstants.{OVERRIDE}
+use Rattle.tcp_state.specs.declared.timing.TheConstants.{OVERRIDE_WAIT}
 use Rattle.tcp_state.specs.declared.emission.Due.{Due}
 use Rattle.tcp_state.specs.declared.emission.Due.TheVariants.{Syn, Text, Ack}
 use Rattle.tcp_state.specs.declared.state.State.TheVariants.{SynReceived, Established}
@@ -242,7 +242,7 @@ at_rest here there isn other first now =
     ap (λ n. record w {
       timers = record no_timers {
         retransmission = if nat_lt 0 n && true then Some (after now 1000) else None;
-        overriding = if nat_lt 0 (min (0 - n) (w.congestion.cwnd - n)) && not (is_worth_sending w.sending w.congestion.cwnd false) then Some (after now OVERRIDE) else None;
+        overriding = if nat_lt 0 (min (0 - n) (w.congestion.cwnd - n)) && not (is_worth_sending w.sending w.congestion.cwnd false) then Some (after now OVERRIDE_WAIT) else None;
       };
     }) (none_out (wire isn 1) (omega arith))
 

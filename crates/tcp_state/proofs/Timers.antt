@@ -14,7 +14,7 @@ use Rattle.tcp_state.specs.declared.emission.Due.{Due}
 use Rattle.tcp_state.specs.declared.emission.Due.TheVariants.{Rst}
 use Rattle.tcp_state.specs.declared.state.State.{State}
 use Rattle.tcp_state.specs.declared.state.State.TheVariants.{Closed, Established, CloseWait}
-use Rattle.tcp_state.specs.declared.timing.TheConstants.{DELAYED_ACK, OVERRIDE}
+use Rattle.tcp_state.specs.declared.timing.TheConstants.{DELAYED_ACK_WAIT, OVERRIDE_WAIT}
 use Rattle.tcp_halves.specs.Halves.{Sending}
 use Rattle.tcp_halves.specs.Windows.{sendable, is_worth_sending, updates_window}
 use Rattle.tcp_state.specs.View.{View, IsSound, is_opening, is_closed, is_fin_wait_2, awaits_fin_ack, is_write_closed, after_stop, opened_actively}
@@ -65,11 +65,11 @@ pub clocked_keeps : (moved : Bool) (v : View) (now : Moment) → Quiet v → Kee
 clocked_keeps moved v now quiet = record {
   retransmission = runs_where (retransmits v) (if moved then None else v.timers.retransmission) now v.resend.timeout.rto;
   probe = runs_where (probes v) v.timers.probe now v.resend.timeout.rto;
-  delayed_ack = runs_where (awaits_second v) v.timers.delayed_ack now DELAYED_ACK;
-  overriding = runs_once (awaits_more v) v.timers.overriding now OVERRIDE;
+  delayed_ack = runs_where (awaits_second v) v.timers.delayed_ack now DELAYED_ACK_WAIT;
+  overriding = runs_once (awaits_more v) v.timers.overriding now OVERRIDE_WAIT;
   interval = first_wait (probes v) (is_some v.timers.probe) v.timers.probe now v.resend.interval v.resend.timeout.rto;
   owed = and_right v.resend.owes_probe (probes v);
-  closed = λ closed. none_waits (awaits_more v) v.timers.overriding now OVERRIDE (awaits_none v (quiet closed).1) (quiet closed).0;
+  closed = λ closed. none_waits (awaits_more v) v.timers.overriding now OVERRIDE_WAIT (awaits_none v (quiet closed).1) (quiet closed).0;
 }
 
 -- An end.

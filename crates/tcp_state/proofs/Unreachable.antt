@@ -4,7 +4,7 @@ use Rattle.std.proofs.lemmas.Bool.Decides.{eqb_tells}
 use Rattle.clock.specs.declared.moment.Moment.{Moment}
 use Rattle.retransmit.specs.Deadlines.{no_timers}
 use Rattle.tcp_segment.specs.Wire.{past}
-use Rattle.tcp_state.specs.declared.timing.TheConstants.{OVERRIDE}
+use Rattle.tcp_state.specs.declared.timing.TheConstants.{OVERRIDE_WAIT}
 use Rattle.tcp_state.specs.declared.calls.Refusal.TheVariants.{ECONNREFUSED}
 use Rattle.tcp_state.specs.declared.connection.Fate.TheVariants.{Stays, Removed}
 use Rattle.tcp_state.specs.declared.emission.Due.TheVariants.{Rst, Text}
@@ -108,7 +108,7 @@ at_rest v resend moved now fits =
     none_run (retransmission_timer w moved now) (probe_timer w now) (override_timer w now)
     (ap (λ b. if b then running (if moved then None else None) now resend.timeout.rto else None) none_out)
     (ap (λ b. if b then running None now resend.timeout.rto else None) idle)
-    (ap (λ b. if b then running None now OVERRIDE else None) content)
+    (ap (λ b. if b then running None now OVERRIDE_WAIT else None) content)
 
 refused : (v : View) → IsSound v → IsOpening v → IsRefused (after_reset v (Some ECONNREFUSED))
 refused v sound o = record { closed = refl; send = λ octets. refl; recv = λ len. refl; held = refl; readable = o.readable; due = silent v (stopped v.resend) o.quiet refl refl; timer = refl }

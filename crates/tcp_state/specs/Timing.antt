@@ -9,7 +9,7 @@ use Rattle.tcp_state.specs.declared.calls.Refusal.TheVariants.{ETIMEDOUT}
 use Rattle.tcp_state.specs.declared.connection.Fate.{Fate}
 use Rattle.tcp_state.specs.declared.connection.Fate.TheVariants.{Stays, Removed}
 use Rattle.tcp_state.specs.declared.resend.TheConstants.{MOST_EXPIRIES}
-use Rattle.tcp_state.specs.declared.timing.TheConstants.{DELAYED_ACK, OVERRIDE}
+use Rattle.tcp_state.specs.declared.timing.TheConstants.{DELAYED_ACK_WAIT, OVERRIDE_WAIT}
 use Rattle.tcp_state.specs.Resend.{resend_expired, resend_probes}
 use Rattle.tcp_halves.specs.Stream.{outstanding}
 use Rattle.tcp_halves.specs.Windows.{waits_for_more}
@@ -52,11 +52,11 @@ abbrev pub probe_timer : View → Moment → Option Moment
 probe_timer v now = if probes v then running v.timers.probe now v.resend.timeout.rto else None
 
 abbrev pub delayed_ack_timer : View → Moment → Option Moment
-delayed_ack_timer v now = if awaits_second v then running v.timers.delayed_ack now DELAYED_ACK else None
+delayed_ack_timer v now = if awaits_second v then running v.timers.delayed_ack now DELAYED_ACK_WAIT else None
 
 -- once it runs, only the going out of new octets ends it
 abbrev pub override_timer : View → Moment → Option Moment
-override_timer v now = if awaits_more v then running v.timers.overriding now OVERRIDE else v.timers.overriding
+override_timer v now = if awaits_more v then running v.timers.overriding now OVERRIDE_WAIT else v.timers.overriding
 
 -- the wait of the probe timer that doesn't go on is the timeout
 abbrev pub interval_of : View → ℕ

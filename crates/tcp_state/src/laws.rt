@@ -6,7 +6,7 @@ ghost use Rattle.tcp_segment.specs.Segment.{Segment, span_of};
 ghost use Rattle.tcp_segment.specs.declared.TheConstants.{DEFAULT_MSS, LEAST_MSS, MSS};
 ghost use Rattle.tcp_halves.specs.declared.buffers.TheConstants.{CAPACITY};
 ghost use Rattle.tcp_state.specs.declared.ending.TheConstants.{TIME_WAIT, FIN_WAIT_2};
-ghost use Rattle.tcp_state.specs.declared.timing.TheConstants.{DELAYED_ACK};
+ghost use Rattle.tcp_state.specs.declared.timing.TheConstants.{DELAYED_ACK_WAIT};
 ghost use Rattle.tcp_state.specs.declared.calls.Refusal.{Refusal};
 ghost use Rattle.clock.specs.declared.moment.Moment.{Moment};
 ghost use Rattle.clock.specs.Moments.{after, has_come};
@@ -41,7 +41,7 @@ ghost use Rattle.tcp_state.specs.Edges.{Event, after_event, fate_by, moment_of, 
 pub fn constants()
     ensures time_wait { TIME_WAIT ≡ 240000 }
     ensures fin_wait { FIN_WAIT_2 ≡ 60000 }
-    ensures delayed_ack { DELAYED_ACK ≡ 200 }
+    ensures delayed_ack { DELAYED_ACK_WAIT ≡ 200 }
     ensures default_size { DEFAULT_MSS ≡ 536 }
     ensures least_size { LEAST_MSS ≡ 64 }
     ensures size { MSS ≡ 1460 }

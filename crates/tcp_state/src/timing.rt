@@ -13,10 +13,10 @@ use clock::{Moment, sooner};
 use retransmit::{TimerKind, Timers};
 
 /// How long an acknowledgement waits for a second segment, in milliseconds (RFC 9293 section 3.8.6.3 allows 500).
-const DELAYED_ACK: u64 = 200;
+const DELAYED_ACK_WAIT: u64 = 200;
 
 /// How long new octets wait for more, in milliseconds (RFC 9293 section 3.8.6.2.1: between 100 and 1,000).
-const OVERRIDE: u64 = 500;
+const OVERRIDE_WAIT: u64 = 500;
 
 impl Connection {
     /// Whether octets, or the FIN of a closed side, are unacknowledged or unsent.
@@ -64,7 +64,7 @@ impl Connection {
             awaits_second,
             &mut self.timers.delayed_ack,
             now,
-            DELAYED_ACK,
+            DELAYED_ACK_WAIT,
         );
     }
 
@@ -73,7 +73,7 @@ impl Connection {
         ensures { self.new ≡ record self.old { timers = record self.old.timers { overriding = override_timer self.old now } } }
     {
         if self.timers.overriding.is_none() && self.awaits_more() {
-            self.timers.set(TimerKind::Override, now.after(OVERRIDE));
+            self.timers.set(TimerKind::Override, now.after(OVERRIDE_WAIT));
         }
     }
 
