@@ -6,14 +6,14 @@ use Rattle.ipv4.specs.declared.addr.Endpoint.{Endpoint}
 use Rattle.ipv4.specs.Datagram.{Datagram}
 use Rattle.udp.specs.declared.fault.UdpFault.{UdpFault}
 use Rattle.udp.specs.Datagram.{UserDatagram, IsParsed, Spells, spelling}
-use Rattle.udp.specs.Sent.{CanBeSent, told_checksum}
+use Rattle.udp.specs.Sent.{CanBeSent, checksum_field}
 use Rattle.udp.specs.Reading.{datagram_or_fault}
 use Rattle.udp.proofs.Plain.{fault_ok}
 use Rattle.udp.proofs.Answering.{one_answer, sent_spelled}
 use Rattle.datagram_law.specs.Accepted.{Accepted, AreInTurn, CameFrom, IsInWidths, datagram_of, head_of}
 use Rattle.datagram_law.specs.Carried.{IsOf, IsWholeOfOne}
 
-told_fits : (sum : ℕ) → told_checksum (65535 - sum) < 2 ^ 16
+told_fits : (sum : ℕ) → checksum_field (65535 - sum) < 2 ^ 16
 told_fits sum = by_test (nat_eq (65535 - sum) 0)
   where
     by_test : (b : Bool) → cond b 65535 (65535 - sum) < 2 ^ 16

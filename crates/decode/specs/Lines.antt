@@ -9,7 +9,7 @@ use Rattle.ipv4.specs.Datagram.{Datagram}
 use Rattle.icmp.specs.Message.{Message}
 use Rattle.udp.specs.Datagram.{UserDatagram}
 use Rattle.tcp_segment.specs.Segment.{Segment, mss_option_of}
-use Rattle.decode.specs.Words.{hex_of_two, mac_text, addr_text, fragment_flags, flags_text, told_text}
+use Rattle.decode.specs.Words.{hex_of_two, mac_text, addr_text, fragment_flags, flags_text, mss_text}
 
 -- two words, with a blank between them
 abbrev pub parted : List ℕ → List ℕ → List ℕ
@@ -60,4 +60,4 @@ abbrev pub tcp_line : Segment → List ℕ
 tcp_line s =
     codes "tcp " ++ (decimal s.source ++ (codes " " ++ (decimal s.destination ++ (codes " seq " ++ (decimal s.number
     ++ (codes " ack " ++ (decimal s.acknowledgement ++ (codes " flags " ++ (flags_text s.flags ++ (codes " win " ++ (decimal s.window
-    ++ (codes " mss " ++ (told_text (mss_option_of s) ++ (codes " data " ++ (decimal (length s.octets) ++ codes "\n")))))))))))))))
+    ++ (codes " mss " ++ (mss_text (mss_option_of s) ++ (codes " data " ++ (decimal (length s.octets) ++ codes "\n")))))))))))))))

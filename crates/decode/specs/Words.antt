@@ -51,6 +51,6 @@ unfoldable pub flags_text : Flags → List ℕ
 flags_text flags = if length (letters flags) == 0 then codes "-" else letters flags
 
 -- a number that may be left out, or a dash
-unfoldable pub told_text : Option ℕ → List ℕ
-told_text (Some number) = decimal number
-told_text None = codes "-"
+unfoldable pub mss_text : Option ℕ → List ℕ
+mss_text (Some number) = decimal number
+mss_text None = codes "-"

@@ -4,7 +4,7 @@ ghost use Rattle.std.specs.Prelude.{◌≡◌, ◌++◌, OnOk, string_bytes};
 ghost use Rattle.decode.specs.Words.{mac_text, addr_text};
 ghost use Rattle.decode.specs.Lines.{parted, ether_line, arp_line, packet_text, operation_text, ipv4_line, icmp_line, message_text, udp_line, user_text, tcp_line};
 
-use crate::words::{fragment_name, push_addr, push_flags, push_hex_of_two, push_mac, push_told};
+use crate::words::{fragment_name, push_addr, push_flags, push_hex_of_two, push_mac, push_mss};
 use arp::{ArpPacket, Operation};
 use ether::{EtherView, Mac};
 use icmp::IcmpView;
@@ -154,6 +154,6 @@ pub(crate) fn push_tcp(segment: &TcpView<'_>, lines: &mut String) -> Result<(), 
     )?;
     push_flags(segment.flags(), lines)?;
     write!(lines, " win {} mss ", segment.window())?;
-    push_told(segment.mss_option(), lines)?;
+    push_mss(segment.mss_option(), lines)?;
     write!(lines, " data {}\n", segment.payload().len())
 }

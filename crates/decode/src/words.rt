@@ -1,7 +1,7 @@
 //! The words of a printed line.
 
 ghost use Rattle.std.specs.Prelude.{◌≡◌, ◌++◌, OnOk, string_bytes};
-ghost use Rattle.decode.specs.Words.{hex_of, hex_of_two, three_text, mac_text, addr_text, fragment_flags, flags_text, letter, letters, told_text};
+ghost use Rattle.decode.specs.Words.{hex_of, hex_of_two, three_text, mac_text, addr_text, fragment_flags, flags_text, letter, letters, mss_text};
 
 use ether::Mac;
 use ipv4::Addr;
@@ -98,9 +98,9 @@ fn push_letter(is_set: bool, name: &str, line: &mut String) -> Result<(), AllocE
 }
 
 /// Adds a number, or a dash where there is none.
-#[tactic(auto, unfolding(crate::specs::Words::told_text))]
-pub(crate) fn push_told(told: Option<u16>, line: &mut String) -> Result<(), AllocError>
-    ensures { OnOk result (string_bytes line.new ≡ string_bytes line.old ++ told_text told) }
+#[tactic(auto, unfolding(crate::specs::Words::mss_text))]
+pub(crate) fn push_mss(told: Option<u16>, line: &mut String) -> Result<(), AllocError>
+    ensures { OnOk result (string_bytes line.new ≡ string_bytes line.old ++ mss_text told) }
 {
     match told {
         Some(number) => write!(line, "{number}"),

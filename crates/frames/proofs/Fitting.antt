@@ -7,7 +7,7 @@ use Rattle.ether.specs.Reading.{frame_of}
 use Rattle.ipv4.specs.declared.addr.Addr.{Addr}
 use Rattle.ipv4.specs.declared.fault.Ipv4Fault.TheVariants.{IpSum}
 use Rattle.ipv4.specs.Datagram.{Datagram, header_octets}
-use Rattle.ipv4.specs.Reading.{checked, datagram_in, datagram_of, datagram_with, has_place, lengths_in, told_header, word_at}
+use Rattle.ipv4.specs.Reading.{checked, datagram_in, datagram_of, datagram_with, has_place, lengths_in, header_length_field, word_at}
 use Rattle.icmp.specs.declared.fault.IcmpFault.{IcmpFault}
 use Rattle.icmp.specs.declared.fault.IcmpFault.TheVariants.{UpperHeader, UpperSum}
 use Rattle.icmp.specs.Message.{Message}
@@ -48,12 +48,12 @@ passed false x y fault e = cc
 
 -- the lengths that are told
 told : (octets : List ℕ) (header total : ℕ) → lengths_in octets ≡ Some (header, total)
-    → (20 ≤ header) × (header ≤ 60) × (header ≤ length octets) × (told_header octets ≡ header)
+    → (20 ≤ header) × (header ≤ 60) × (header ≤ length octets) × (header_length_field octets ≡ header)
 told octets header total is =
     let room = guarded (nat_lt (length octets) 20) _ (header, total) is in
-    let fit = guarded (nat_lt (told_header octets) 20 || nat_lt (word_at octets 2) (told_header octets) || nat_lt (length octets) (word_at octets 2)) _ (header, total) room.1 in
-    let both : ◌≡◌ {A = ℕ × ℕ} (told_header octets, word_at octets 2) (header, total) = granted (slice_index octets 0 / 16 == 4) (told_header octets, word_at octets 2) (header, total) fit.1 in
-    let same : told_header octets ≡ header = ap (λ (pair : ℕ × ℕ). pair.0) both in
+    let fit = guarded (nat_lt (header_length_field octets) 20 || nat_lt (word_at octets 2) (header_length_field octets) || nat_lt (length octets) (word_at octets 2)) _ (header, total) room.1 in
+    let both : ◌≡◌ {A = ℕ × ℕ} (header_length_field octets, word_at octets 2) (header, total) = granted (slice_index octets 0 / 16 == 4) (header_length_field octets, word_at octets 2) (header, total) fit.1 in
+    let same : header_length_field octets ≡ header = ap (λ (pair : ℕ × ℕ). pair.0) both in
     (grind (arith, nat_tests, fit.0, same), omega (arith, same), grind (arith, nat_tests, fit.0, same), same)
 
 -- a datagram that is read
@@ -73,11 +73,11 @@ read octets d found = by_lengths (lengths_in octets) refl found
         subst (λ (d : Datagram). Fits d (length octets)) same (parts octets header total lens.0 lens.1 lens.2)
 
 -- its protocol stands behind eight octets and another
-pub protocol_told : (octets : List ℕ) (d : Datagram) → datagram_in octets ≡ Ok d → d.protocol ≡ slice_index (take (told_header octets) octets) 9
+pub protocol_told : (octets : List ℕ) (d : Datagram) → datagram_in octets ≡ Ok d → d.protocol ≡ slice_index (take (header_length_field octets) octets) 9
 protocol_told octets d found = by_lengths (lengths_in octets) refl found
   where
     by_lengths : (lengths : Option (ℕ × ℕ)) → lengths_in octets ≡ lengths → checked (datagram_with octets lengths) ≡ Ok d
-        → d.protocol ≡ slice_index (take (told_header octets) octets) 9
+        → d.protocol ≡ slice_index (take (header_length_field octets) octets) 9
     by_lengths None is e = cc
     by_lengths (Some (header, total)) is e =
         let own : Datagram = datagram_of (take header octets) (take (total - header) (drop header octets)) in

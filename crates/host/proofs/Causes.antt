@@ -49,7 +49,7 @@ use Rattle.host.specs.Causes.{IsAbout, Untaken, Unbound, UnboundInFragments, Lat
 use Rattle.host.specs.ConfigView.{ConfigView}
 use Rattle.host.specs.Emission.{Emission, Replies, Sends, Asks as AsksFor, Nothing as NothingGoes, after_emission, emission, left_by}
 use Rattle.host.specs.HostView.{HostView, with_interface, with_pool, with_sockets}
-use Rattle.host.specs.Messages.{Told, Asks, Refuses, Nothing, refused_quote, told_by, told_by_quote}
+use Rattle.host.specs.Messages.{Told, Asks, Refuses, Nothing, refused_quote, told_by, error_of_quote}
 use Rattle.host.specs.Runs.{Event, Calls, Ticks, Delivers, Emits, Makes, Runs, Begins, GoesOn, WasHeard}
 use Rattle.host.specs.Ticks.{after_tick, all_reported, reported}
 use Rattle.host.proofs.Gathering.{AreGathered, IsExpired, IsLeft, IsQuoted, after-ageing, after-taking, expired-quoted, gathered-more, none-gathered, outcome-left}
@@ -253,11 +253,11 @@ stands-segment c events (Answers head) h moment source answer new stands met =
 asks-is : (m : Message) → told_by m ≡ Asks → IsEchoRequest m
 asks-is m told = by_tests (m.kind == 8) (m.code == 0) refl refl told
   where
-    by_quote : (o : Option Quote) → told_by_quote o ≡ Asks → ⊥
+    by_quote : (o : Option Quote) → error_of_quote o ≡ Asks → ⊥
     by_quote None e = cc
     by_quote (Some quote) e = cc
 
-    by_tests : (k o : Bool) → (m.kind == 8) ≡ k → (m.code == 0) ≡ o → cond (k && o) Asks (told_by_quote (refused_quote m)) ≡ Asks → IsEchoRequest m
+    by_tests : (k o : Bool) → (m.kind == 8) ≡ k → (m.code == 0) ≡ o → cond (k && o) Asks (error_of_quote (refused_quote m)) ≡ Asks → IsEchoRequest m
     by_tests true true kind code e = record { kind = eqb-true m.kind 8 kind; code = eqb-true m.code 0 code }
     by_tests true false kind code e = absurd (by_quote (refused_quote m) e)
     by_tests false o kind code e = absurd (by_quote (refused_quote m) e)

@@ -37,7 +37,7 @@ use Rattle.host.specs.Arrival.{IsDelivered, MeetsHeard, MeetsMessage, MeetsSegme
 use Rattle.host.specs.Causes.{IsAbout, Untaken, Unbound, UnboundInFragments, Late}
 use Rattle.host.specs.ConfigView.{IsOfOne}
 use Rattle.host.specs.HostView.{HostView, with_interface}
-use Rattle.host.specs.Messages.{Told, Asks, Refuses, Nothing, errors_of, is_error, refused_quote, told_by, told_by_quote}
+use Rattle.host.specs.Messages.{Told, Asks, Refuses, Nothing, errors_of, is_error, refused_quote, told_by, error_of_quote}
 
 -- a datagram of another protocol than ICMP, from one host, for one host, and no later fragment
 may-so : (ours : Addr) (d : Datagram) → IsUnicast ours → d.destination ≡ ours → IsUnicast d.source → d.protocol ≢ 1 → d.offset ≡ 0 → MayAnswer d false
@@ -180,7 +180,7 @@ others-add-none h now isn octets answer new none user part delivered = of_meanin
 
 asks-so : (m : Message) → IsEchoRequest m → told_by m ≡ Asks
 asks-so m is =
-    ap (λ k. cond (k == 8 && m.code == 0) Asks (told_by_quote (refused_quote m))) is.kind ∙ ap (λ k. cond (k == 0) Asks (told_by_quote (refused_quote m))) is.code
+    ap (λ k. cond (k == 8 && m.code == 0) Asks (error_of_quote (refused_quote m))) is.kind ∙ ap (λ k. cond (k == 0) Asks (error_of_quote (refused_quote m))) is.code
 
 pub queued-so : (i : InterfaceView) (moment : Moment) (to : Addr) (r : Reply) → is_routed i to ≡ true → Ok tt ≡ queue_answer (owed_answer (is_routed i to) i) → owed (is_routed i to) moment r i ≡ queued moment r i
 queued-so i moment to r routed e = by_tests (is_routed i to) (is_full i) routed e

@@ -32,12 +32,12 @@ pub data Told : Type 0 where
   Refuses : Quote → Told
   Nothing : Told
 
-abbrev pub told_by_quote : Option Quote → Told
-told_by_quote None = Nothing
-told_by_quote (Some quote) = Refuses quote
+abbrev pub error_of_quote : Option Quote → Told
+error_of_quote None = Nothing
+error_of_quote (Some quote) = Refuses quote
 
 abbrev pub told_by : Message → Told
-told_by m = if is_echo_request m then Asks else told_by_quote (refused_quote m)
+told_by m = if is_echo_request m then Asks else error_of_quote (refused_quote m)
 
 -- The control replies that are errors about datagrams.
 

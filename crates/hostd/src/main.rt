@@ -180,7 +180,7 @@ fn copy_file(
     if let Some((one, other)) = twice_meant(rt, source, destination, capture) {
         return report(rt, format_args!("{one} and {other} are the same file"));
     }
-    let Ok(capture) = create_told(rt, capture) else {
+    let Ok(capture) = create_reporting(rt, capture) else {
         return report(rt, TextFault::Write);
     };
     let Ok((a, b)) = pair(rt) else {
@@ -232,7 +232,7 @@ fn are_same_file(rt: &HostRuntime, one: &str, other: &str) -> bool {
 }
 
 /// The sink of a new file, if a path of one is told.
-fn create_told(rt: &HostRuntime, path: Option<&str>) -> io::Result<Option<FileSink>> {
+fn create_reporting(rt: &HostRuntime, path: Option<&str>) -> io::Result<Option<FileSink>> {
     match path {
         Some(path) => Ok(Some(create(rt, path)?)),
         None => Ok(None),

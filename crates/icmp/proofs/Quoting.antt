@@ -7,7 +7,7 @@ use Rattle.std.specs.Option.{option_map}
 use Rattle.byteorder.specs.Endian.{big_bytes, big_number}
 use Rattle.ipv4.specs.declared.addr.Addr.{Addr}
 use Rattle.ipv4.specs.Datagram.{Datagram, IsDatagram, header_octets, total_len, fragment_field}
-use Rattle.ipv4.specs.Reading.{told_header}
+use Rattle.ipv4.specs.Reading.{header_length_field}
 use Rattle.icmp.specs.declared.quote.Quote.{Quote}
 use Rattle.icmp.specs.Quotes.{Quotes, quoted, quote_of}
 use Rattle.icmp.specs.Reading.{header_in, quote_at, quote_in}
@@ -39,7 +39,7 @@ granted false x y e = cc
 
 -- what the length of a header is read from
 record IsHeader (xs : List ℕ) (header : ℕ) : Type 0 where
-  pub told : header ≡ told_header xs
+  pub told : header ≡ header_length_field xs
   pub least : 20 ≤ header
   pub within : header + 8 ≤ length xs
   pub version : slice_index xs 0 / 16 ≡ 4
@@ -47,9 +47,9 @@ record IsHeader (xs : List ℕ) (header : ℕ) : Type 0 where
 header_facts : (xs : List ℕ) (header : ℕ) → header_in xs ≡ Some header → IsHeader xs header
 header_facts xs header e =
     let room = guarded (nat_lt (length xs) 28) _ header e in
-    let fit = guarded (nat_lt (told_header xs) 20 || nat_lt (length xs) (told_header xs + 8)) _ header room.1 in
-    let version = granted (nat_eq (slice_index xs 0 / 16) 4) (told_header xs) header fit.1 in
-    let told : told_header xs ≡ header = version.1 in
+    let fit = guarded (nat_lt (header_length_field xs) 20 || nat_lt (length xs) (header_length_field xs + 8)) _ header room.1 in
+    let version = granted (nat_eq (slice_index xs 0 / 16) 4) (header_length_field xs) header fit.1 in
+    let told : header_length_field xs ≡ header = version.1 in
     record {
       told = sym told;
       least = grind (arith, nat_tests, fit.0, told);
@@ -194,10 +194,10 @@ parts_read (s1 ∷ s2 ∷ s3 ∷ s4 ∷ s5 ∷ s6 ∷ s7 ∷ s8 ∷ []) (c1 ∷ 
     let two : drop (header + 2) xs ≡ drop 2 behind = sym (drop-drop 2 header xs) ∙ ap (λ (ys : List ℕ). drop 2 ys) end in
     let four : drop (header + 4) xs ≡ drop 4 behind = sym (drop-drop 4 header xs) ∙ ap (λ (ys : List ℕ). drop 4 ys) end in
     let len : length xs ≡ 28 + length options + length rest = omega (arith, ap length tail, length-append options behind) in
-    let told : told_header xs ≡ header = omega arith in
+    let told : header_length_field xs ≡ header = omega arith in
     let version : nat_eq (slice_index xs 0 / 16) 4 ≡ true = grind (arith, nat_tests) in
     let room : nat_lt (length xs) 28 ≡ false = grind (arith, nat_tests, len) in
-    let fit : (nat_lt (told_header xs) 20 || nat_lt (length xs) (told_header xs + 8)) ≡ false = grind (arith, nat_tests, len, told) in
+    let fit : (nat_lt (header_length_field xs) 20 || nat_lt (length xs) (header_length_field xs + 8)) ≡ false = grind (arith, nat_tests, len, told) in
     let port : big_number 2 (drop header xs) ≡ source_port = ap (big_number 2) end ∙ omega (arith, source_fits) in
     let port_2 : big_number 2 (drop (header + 2) xs) ≡ destination_port = ap (big_number 2) two ∙ omega (arith, destination_fits) in
     let number_is : big_number 4 (drop (header + 4) xs) ≡ number = ap (big_number 4) four ∙ omega (arith, number_fits) in

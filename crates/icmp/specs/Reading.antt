@@ -5,7 +5,7 @@ use Rattle.std.specs.Prelude.{ℕ, ◌+◌, ◌/◌, ◌≤◌, ◌==◌, nat_lt
 use Rattle.std.specs.Option.{option_map}
 use Rattle.byteorder.specs.Endian.{big_number}
 use Rattle.inet_sum.specs.Sum.{sum_of}
-use Rattle.ipv4.specs.Reading.{told_header}
+use Rattle.ipv4.specs.Reading.{header_length_field}
 use Rattle.icmp.specs.declared.fault.IcmpFault.{IcmpFault}
 use Rattle.icmp.specs.declared.fault.IcmpFault.TheVariants.{UpperHeader, UpperSum}
 use Rattle.icmp.specs.declared.head.TheConstants.{HEADER_LEN}
@@ -39,8 +39,8 @@ pub record AreRead (octets : List ℕ) : Type 0 where
 abbrev pub header_in : List ℕ → Option ℕ
 header_in octets =
     if nat_lt (length octets) 28 then None
-    else if nat_lt (told_header octets) 20 || nat_lt (length octets) (told_header octets + 8) then None
-    else if slice_index octets 0 / 16 == 4 then Some (told_header octets)
+    else if nat_lt (header_length_field octets) 20 || nat_lt (length octets) (header_length_field octets + 8) then None
+    else if slice_index octets 0 / 16 == 4 then Some (header_length_field octets)
     else None
 
 -- the quote of octets whose header has this length

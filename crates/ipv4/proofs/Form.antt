@@ -4,7 +4,7 @@ use Rattle.std.proofs.lemmas.Bool.Decides.{nat_tests}
 use Rattle.std.proofs.lemmas.List.{length-take, length-drop, take-append-drop, drop_at, take_at}
 use Rattle.std.specs.Int.{byte_at}
 use Rattle.ipv4.specs.Datagram.{Datagram, flag, fragment_field, header_len, total_len, header_octets, spelling, HasPlace, IsDatagram, HasForm}
-use Rattle.ipv4.specs.Reading.{word_at, datagram_of, AreParts, told_header, lengths_in}
+use Rattle.ipv4.specs.Reading.{word_at, datagram_of, AreParts, header_length_field, lengths_in}
 
 -- each item is an octet
 abbrev pub AreOctets : List ℕ → Type 0
@@ -82,7 +82,7 @@ cells x0 x1 x2 x3 x4 x5 x6 x7 x8 x9 x10 x11 x12 x13 x14 x15 x16 x17 x18 x19 opti
 
 -- a header and a payload of the right lengths are those of a datagram
 are_parts : (header payload : List ℕ) → AreOctets header → 20 ≤ length header → slice_index header 0 / 16 ≡ 4
-    → told_header header ≡ length header → word_at header 2 ≡ length header + length payload
+    → header_length_field header ≡ length header → word_at header 2 ≡ length header + length payload
     → HasPlace (nat_eq (word_at header 6 / 2 ^ 13 % 2) 1) (word_at header 6 % 2 ^ 13) (length payload) → AreParts header payload
 are_parts (x0 ∷ x1 ∷ x2 ∷ x3 ∷ x4 ∷ x5 ∷ x6 ∷ x7 ∷ x8 ∷ x9 ∷ x10 ∷ x11 ∷ x12 ∷ x13 ∷ x14 ∷ x15 ∷ x16 ∷ x17 ∷ x18 ∷ x19 ∷ options) payload b least version words total place =
     cells x0 x1 x2 x3 x4 x5 x6 x7 x8 x9 x10 x11 x12 x13 x14 x15 x16 x17 x18 x19 options payload b version (omega (arith, words)) (omega (arith, total)) place
@@ -117,7 +117,7 @@ granted false x y e = cc
 -- what lengths are read from
 pub record AreLengths (xs : List ℕ) (header total : ℕ) : Type 0 where
   pub room : 20 ≤ length xs
-  pub told : header ≡ told_header xs
+  pub told : header ≡ header_length_field xs
   pub whole : total ≡ word_at xs 2
   pub least : 20 ≤ header
   pub within : header ≤ total
@@ -127,9 +127,9 @@ pub record AreLengths (xs : List ℕ) (header total : ℕ) : Type 0 where
 pub lengths_facts : (xs : List ℕ) (header total : ℕ) → lengths_in xs ≡ Some (header, total) → AreLengths xs header total
 lengths_facts xs header total e =
     let room = guarded (nat_lt (length xs) 20) _ (header, total) e in
-    let fit = guarded (nat_lt (told_header xs) 20 || nat_lt (word_at xs 2) (told_header xs) || nat_lt (length xs) (word_at xs 2)) _ (header, total) room.1 in
-    let version = granted (nat_eq (slice_index xs 0 / 16) 4) (told_header xs, word_at xs 2) (header, total) fit.1 in
-    let told : told_header xs ≡ header = ap (λ (p : ℕ × ℕ). p.0) version.1 in
+    let fit = guarded (nat_lt (header_length_field xs) 20 || nat_lt (word_at xs 2) (header_length_field xs) || nat_lt (length xs) (word_at xs 2)) _ (header, total) room.1 in
+    let version = granted (nat_eq (slice_index xs 0 / 16) 4) (header_length_field xs, word_at xs 2) (header, total) fit.1 in
+    let told : header_length_field xs ≡ header = ap (λ (p : ℕ × ℕ). p.0) version.1 in
     let whole : word_at xs 2 ≡ total = ap (λ (p : ℕ × ℕ). p.1) version.1 in
     record {
       room = grind (arith, nat_tests, room.0);
@@ -157,7 +157,7 @@ are_read xs header total b e place =
     let second : word_at xs 2 ≡ word_at front 2 = ap (λ (ys : List ℕ). word_at ys 2) (sym whole) ∙ starts.1 in
     let third : word_at xs 6 ≡ word_at front 6 = ap (λ (ys : List ℕ). word_at ys 6) (sym whole) ∙ starts.2 in
     let version : slice_index front 0 / 16 ≡ 4 = omega (arith, first, facts.version) in
-    let words : told_header front ≡ length front = omega (arith, first, facts.told, front_len) in
+    let words : header_length_field front ≡ length front = omega (arith, first, facts.told, front_len) in
     let total_is : word_at front 2 ≡ length front + length payload = omega (arith, second, facts.whole, front_len, payload_len, facts.within) in
     are_parts front payload (take_octets header xs b) (omega (arith, front_len, facts.least)) version words total_is
     (subst (λ (n : ℕ). HasPlace (nat_eq (n / 2 ^ 13 % 2) 1) (n % 2 ^ 13) (length payload)) third
@@ -207,7 +207,7 @@ made service identification reserved dont_fragment more_fragments offset ttl pro
 read_parts : (service identification : ℕ) (reserved dont_fragment more_fragments : Bool) (offset ttl protocol checksum : ℕ) (source destination options payload rest : List ℕ)
     → IsDatagram (made service identification reserved dont_fragment more_fragments offset ttl protocol checksum source destination options payload)
     → let d : Datagram = made service identification reserved dont_fragment more_fragments offset ttl protocol checksum source destination options payload in
-    (datagram_of (header_octets d) payload ≡ d) × (told_header (header_octets d ++ rest) ≡ header_len d) × (word_at (header_octets d ++ rest) 2 ≡ total_len d)
+    (datagram_of (header_octets d) payload ≡ d) × (header_length_field (header_octets d ++ rest) ≡ header_len d) × (word_at (header_octets d ++ rest) 2 ≡ total_len d)
     × (slice_index (header_octets d ++ rest) 0 / 16 ≡ 4) × (length (header_octets d) ≡ header_len d)
 read_parts service identification reserved dont_fragment more_fragments offset ttl protocol checksum (s0 ∷ s1 ∷ s2 ∷ s3 ∷ []) (t0 ∷ t1 ∷ t2 ∷ t3 ∷ []) options payload rest fields =
     let d : Datagram = made service identification reserved dont_fragment more_fragments offset ttl protocol checksum (s0 ∷ s1 ∷ s2 ∷ s3 ∷ []) (t0 ∷ t1 ∷ t2 ∷ t3 ∷ []) options payload in
@@ -229,7 +229,7 @@ read_parts service identification reserved dont_fragment more_fragments offset t
 
 -- the same of a datagram
 read_spelled : (d : Datagram) (rest : List ℕ) → IsDatagram d
-    → (datagram_of (header_octets d) d.payload ≡ d) × (told_header (header_octets d ++ rest) ≡ header_len d) × (word_at (header_octets d ++ rest) 2 ≡ total_len d)
+    → (datagram_of (header_octets d) d.payload ≡ d) × (header_length_field (header_octets d ++ rest) ≡ header_len d) × (word_at (header_octets d ++ rest) 2 ≡ total_len d)
     × (slice_index (header_octets d ++ rest) 0 / 16 ≡ 4) × (length (header_octets d) ≡ header_len d)
 read_spelled d rest fields =
     read_parts d.service d.identification d.reserved d.dont_fragment d.more_fragments d.offset d.ttl d.protocol d.checksum d.source.0 d.destination.0 d.options d.payload rest fields
@@ -241,8 +241,8 @@ taken : {A : Type 0} (b : Bool) (x : A) → b ≡ true → cond b (Some x) None 
 taken b x e = rw e refl
 
 -- the lengths that are read where no test fails
-lengths_read : (xs : List ℕ) (header total : ℕ) → told_header xs ≡ header → word_at xs 2 ≡ total → nat_lt (length xs) 20 ≡ false
-    → (nat_lt (told_header xs) 20 || nat_lt (word_at xs 2) (told_header xs) || nat_lt (length xs) (word_at xs 2)) ≡ false
+lengths_read : (xs : List ℕ) (header total : ℕ) → header_length_field xs ≡ header → word_at xs 2 ≡ total → nat_lt (length xs) 20 ≡ false
+    → (nat_lt (header_length_field xs) 20 || nat_lt (word_at xs 2) (header_length_field xs) || nat_lt (length xs) (word_at xs 2)) ≡ false
     → nat_eq (slice_index xs 0 / 16) 4 ≡ true → lengths_in xs ≡ Some (header, total)
 lengths_read xs header total told whole room fit version =
     passed _ _ room ∙ passed _ _ fit ∙ taken _ _ version ∙ ap (λ (h : ℕ). Some (h, word_at xs 2)) told ∙ ap (λ (t : ℕ). Some (header, t)) whole
@@ -259,13 +259,13 @@ spelled_read d padding fields =
     let rest : List ℕ = d.payload ++ padding in
     let whole : xs ≡ header_octets d ++ rest = append_assoc (header_octets d) d.payload padding in
     let read = read_spelled d rest fields in
-    let told : told_header xs ≡ header_len d = ap told_header whole ∙ read.1 in
+    let told : header_length_field xs ≡ header_len d = ap header_length_field whole ∙ read.1 in
     let total : word_at xs 2 ≡ total_len d = ap (λ (ys : List ℕ). word_at ys 2) whole ∙ read.2 in
     let version : slice_index xs 0 / 16 ≡ 4 = ap (λ (ys : List ℕ). slice_index ys 0 / 16) whole ∙ read.3 in
     let len : length xs ≡ total_len d + length padding =
     omega (arith, ap length whole, length-append (header_octets d) rest, length-append d.payload padding, read.4) in
     let room : nat_lt (length xs) 20 ≡ false = grind (arith, nat_tests, len) in
-    let fit : (nat_lt (told_header xs) 20 || nat_lt (word_at xs 2) (told_header xs) || nat_lt (length xs) (word_at xs 2)) ≡ false = grind (arith, nat_tests, len, told, total) in
+    let fit : (nat_lt (header_length_field xs) 20 || nat_lt (word_at xs 2) (header_length_field xs) || nat_lt (length xs) (word_at xs 2)) ≡ false = grind (arith, nat_tests, len, told, total) in
     let four : nat_eq (slice_index xs 0 / 16) 4 ≡ true = grind (arith, nat_tests, version) in
     let front : take (header_len d) xs ≡ header_octets d = ap (λ (ys : List ℕ). take (header_len d) ys) whole ∙ take_at (header_octets d) rest (header_len d) read.4 in
     let behind : drop (header_len d) xs ≡ rest = ap (λ (ys : List ℕ). drop (header_len d) ys) whole ∙ drop_at (header_octets d) rest (header_len d) read.4 in

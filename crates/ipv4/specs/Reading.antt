@@ -38,15 +38,15 @@ pub record AreParts (header payload : List ℕ) : Type 0 where
   pub total : length header + length payload < 2 ^ 16
 
 -- the length of the header that octets tell, in octets
-abbrev pub told_header : List ℕ → ℕ
-told_header octets = 4 * (slice_index octets 0 % 16)
+abbrev pub header_length_field : List ℕ → ℕ
+header_length_field octets = 4 * (slice_index octets 0 % 16)
 
 -- the lengths of the header and of the whole that octets tell, where they have room for these and each for what it holds
 abbrev pub lengths_in : List ℕ → Option (ℕ × ℕ)
 lengths_in octets =
     if nat_lt (length octets) 20 then None
-    else if nat_lt (told_header octets) 20 || nat_lt (word_at octets 2) (told_header octets) || nat_lt (length octets) (word_at octets 2) then None
-    else if slice_index octets 0 / 16 == 4 then Some (told_header octets, word_at octets 2)
+    else if nat_lt (header_length_field octets) 20 || nat_lt (word_at octets 2) (header_length_field octets) || nat_lt (length octets) (word_at octets 2) then None
+    else if slice_index octets 0 / 16 == 4 then Some (header_length_field octets, word_at octets 2)
     else None
 
 -- whether a payload of this length has a place at this offset, in units of eight octets

@@ -6,7 +6,7 @@ use Rattle.std.proofs.lemmas.Bool.Decides.{nat_tests}
 use Rattle.std.proofs.lemmas.List.{length-take-le, length-map, get_or_append_left, get_or-append_right, get_or-drop, get_or-take, get_or-map, get_or_past, reverse-append}
 use Rattle.std.proofs.lemmas.List.Folds.{find-append}
 use Rattle.ipv4.specs.Datagram.{Datagram}
-use Rattle.reassembly.specs.Fragments.{begin_of, end_of, is_last, covers, octet_for, latest, told_end}
+use Rattle.reassembly.specs.Fragments.{begin_of, end_of, is_last, covers, octet_for, latest, end_shown_by}
 use Rattle.reassembly.specs.Octets.{reaching, put, laid}
 use Rattle.reassembly.proofs.BufferSteps.{length-reaching}
 use Rattle.reassembly.specs.Reassembly.{Reassembly, with_fragment, after_fragments}
@@ -80,14 +80,14 @@ option_or-none None = refl
 option_or-none (Some x) = refl
 
 -- the end that was told first
-pub end_folded : (r : Reassembly) (fragments : List Datagram) → (after_fragments r fragments).end ≡ option_or r.end (told_end fragments)
+pub end_folded : (r : Reassembly) (fragments : List Datagram) → (after_fragments r fragments).end ≡ option_or r.end (end_shown_by fragments)
 end_folded r [] = sym (option_or-none r.end)
 end_folded r (d ∷ fragments) =
     end_folded (with_fragment r d) fragments
-    ∙ option_or-assoc r.end (cond (is_last d) (Some (end_of d)) None) (told_end fragments)
+    ∙ option_or-assoc r.end (cond (is_last d) (Some (end_of d)) None) (end_shown_by fragments)
     ∙ ap (option_or r.end) (either (is_last d))
   where
-    either : (b : Bool) → option_or (cond b (Some (end_of d)) None) (told_end fragments) ≡ option_map end_of (cond b (Some d) (find is_last fragments))
+    either : (b : Bool) → option_or (cond b (Some (end_of d)) None) (end_shown_by fragments) ≡ option_map end_of (cond b (Some d) (find is_last fragments))
     either true = refl
     either false = refl
 

@@ -8,7 +8,7 @@ use Rattle.std.proofs.lemmas.List.Elements.{recursion_from_All}
 use Rattle.std.proofs.lemmas.List.Folds.{find-append}
 use Rattle.ipv4.specs.Datagram.{Datagram}
 use Rattle.clock.specs.declared.moment.Moment.{Moment}
-use Rattle.reassembly.specs.Fragments.{begin_of, end_of, is_last, covers, octet_for, latest, latest_quote, told_end, contradicts, is_contradictory, IsPayload}
+use Rattle.reassembly.specs.Fragments.{begin_of, end_of, is_last, covers, octet_for, latest, latest_quote, end_shown_by, contradicts, is_contradictory, IsPayload}
 use Rattle.reassembly.specs.Octets.{whole_of}
 use Rattle.reassembly.specs.Parts.{IsPartOf, ArePartsOf, CoverAll}
 use Rattle.reassembly.specs.Reassembly.{Reassembly, begun, after_fragments, with_fragment, conflicts, outcome, quoted}
@@ -111,7 +111,7 @@ latest_is payload fragments h i octet e = step (find (covers i) (reverse fragmen
         sym same ∙ octet_is payload d i has.1 has.0
 
 -- the end of a last part is that of the payload
-end_is : (payload : List ℕ) (fragments : List Datagram) → AllByRecursion (IsPartOf payload) fragments → (end : ℕ) → told_end fragments ≡ Some end
+end_is : (payload : List ℕ) (fragments : List Datagram) → AllByRecursion (IsPartOf payload) fragments → (end : ℕ) → end_shown_by fragments ≡ Some end
     → end ≡ length payload
 end_is payload fragments h end e = step (find is_last fragments) refl e
   where
@@ -132,7 +132,7 @@ made payload octets fragments h p = making payload octets fragments (recursion_f
 
 -- where no part is missing
 end_told : (payload : List ℕ) (fragments : List Datagram) → AllByRecursion (IsPartOf payload) fragments → list_any is_last fragments ≡ true
-    → told_end fragments ≡ Some (length payload)
+    → end_shown_by fragments ≡ Some (length payload)
 end_told payload fragments h any = step (find is_last fragments) refl
   where
     step : (found : Option Datagram) → find is_last fragments ≡ found → option_map end_of found ≡ Some (length payload)

@@ -3,7 +3,7 @@ use Rattle.std.proofs.Common.{◌≡◌, ℕ, List, slice_index_or, Option, Some
 use Rattle.std.specs.Option.{option_or}
 use Rattle.ipv4.specs.Datagram.{Datagram}
 use Rattle.clock.specs.declared.moment.Moment.{Moment}
-use Rattle.reassembly.specs.Fragments.{latest, told_end, IsPayload}
+use Rattle.reassembly.specs.Fragments.{latest, end_shown_by, IsPayload}
 use Rattle.reassembly.specs.Octets.{whole_of}
 use Rattle.reassembly.specs.Reassembly.{begun, after_fragments}
 use Rattle.reassembly.proofs.Latest.{octet_folded, end_folded}
@@ -17,7 +17,7 @@ pub latest_octets : (now : Moment) (first : Datagram) (fragments : List Datagram
     → slice_index_or (after_fragments (begun now first) fragments).octets i None ≡ latest fragments i
 latest_octets now first fragments i = octet_folded (begun now first) fragments i ∙ or_none (latest fragments i)
 
-pub known_end : (now : Moment) (first : Datagram) (fragments : List Datagram) → (after_fragments (begun now first) fragments).end ≡ told_end fragments
+pub known_end : (now : Moment) (first : Datagram) (fragments : List Datagram) → (after_fragments (begun now first) fragments).end ≡ end_shown_by fragments
 known_end now first fragments = end_folded (begun now first) fragments
 
 no_end : (octets : List (Option ℕ)) (payload : List ℕ) → whole_of None octets ≡ Some payload → ⊥
@@ -25,7 +25,7 @@ unfolding whole_of
 no_end octets payload h = cc
 
 -- the fields are those of a payload where they are whole
-payload_of : (fragments : List Datagram) (octets : List (Option ℕ)) (payload : List ℕ) (end : Option ℕ) → end ≡ told_end fragments
+payload_of : (fragments : List Datagram) (octets : List (Option ℕ)) (payload : List ℕ) (end : Option ℕ) → end ≡ end_shown_by fragments
     → ((i : ℕ) → slice_index_or octets i None ≡ latest fragments i) → whole_of end octets ≡ Some payload → IsPayload fragments payload
 payload_of fragments octets payload None e each h = absurd (no_end octets payload h)
 payload_of fragments octets payload (Some end) e each h =

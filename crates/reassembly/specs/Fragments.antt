@@ -40,8 +40,8 @@ abbrev pub latest_quote : List Datagram → Option (List ℕ)
 latest_quote fragments = option_map quote_of (find (λ d. d.offset == 0) (reverse fragments))
 
 -- the end of the payload, where a last fragment is among them
-abbrev pub told_end : List Datagram → Option ℕ
-told_end fragments = option_map end_of (find is_last fragments)
+abbrev pub end_shown_by : List Datagram → Option ℕ
+end_shown_by fragments = option_map end_of (find is_last fragments)
 
 -- a fragment contradicts a last one: it has an octet past that one's end, or it is a last one with another end
 abbrev pub contradicts : Datagram → Datagram → Bool
@@ -53,5 +53,5 @@ is_contradictory fragments = list_any (λ last. list_any (contradicts last) frag
 
 -- These octets are the payload: the end is known, and each octet below it is the latest that came for its place.
 pub record IsPayload (fragments : List Datagram) (payload : List ℕ) : Type 0 where
-  pub ends : told_end fragments ≡ Some (length payload)
+  pub ends : end_shown_by fragments ≡ Some (length payload)
   pub latest_octets : (i : ℕ) → i < length payload → latest fragments i ≡ Some (slice_index payload i)

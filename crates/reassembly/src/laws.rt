@@ -8,7 +8,7 @@ ghost use Rattle.reassembly.specs.declared.pool.TheConstants.{PLACES};
 ghost use Rattle.reassembly.specs.declared.assembled.Assembled.{Assembled};
 ghost use Rattle.reassembly.specs.declared.assembled.Assembled.TheVariants.{Waiting};
 ghost use Rattle.reassembly.specs.Events.{Event, after_events, gathered, IsRight, IsRightFor};
-ghost use Rattle.reassembly.specs.Fragments.{key_of, latest, latest_quote, told_end, is_contradictory, IsPayload};
+ghost use Rattle.reassembly.specs.Fragments.{key_of, latest, latest_quote, end_shown_by, is_contradictory, IsPayload};
 ghost use Rattle.reassembly.specs.Keys.{same_key};
 ghost use Rattle.reassembly.specs.Octets.{whole_of};
 ghost use Rattle.reassembly.specs.Parts.{ArePartsOf, CoverAll};
@@ -27,7 +27,7 @@ pub fn latest_octets()
 /// 3.2).
 pub fn known_end()
     ensures { (now : Moment) (first : Datagram) (fragments : List Datagram)
-        → (after_fragments (begun now first) fragments).end ≡ told_end fragments }
+        → (after_fragments (begun now first) fragments).end ≡ end_shown_by fragments }
 {}
 
 /// A datagram is whole exactly where its end is known and every octet below it came; its octets are then the latest of each place

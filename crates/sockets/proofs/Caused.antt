@@ -47,7 +47,7 @@ use Rattle.sockets.specs.Arrival.{local_end, peer_end, is_opening as opens, has_
 use Rattle.sockets.specs.Replies.{reset_at_ack, answer_to, answer_at_listener}
 use Rattle.sockets.specs.Sound.{IsSoundRole, IsSoundTable}
 use Rattle.sockets.specs.Lists.{change_first}
-use Rattle.sockets.specs.Causes.{Event, Makes, MakesDatagrams, Binds, Listens, Accepts, Connects, Sends, Receives, Shuts, Closes, Ticks, Hears, Emits, GivesUp, Unreachable, SendsTo, ReceivesFrom, HearsDatagram, after_arrival, after_event, is_connection_cause, is_close_cause, is_closed_state, becomes_closed, IsEdge, pending_error_in, is_telling, is_telling_to, is_next_out, IsOpenedBy, IsAdded, IsStep, Follows}
+use Rattle.sockets.specs.Causes.{Event, Makes, MakesDatagrams, Binds, Listens, Accepts, Connects, Sends, Receives, Shuts, Closes, Ticks, Hears, Emits, GivesUp, Unreachable, SendsTo, ReceivesFrom, HearsDatagram, after_arrival, after_event, is_connection_cause, is_close_cause, is_closed_state, becomes_closed, IsEdge, pending_error_in, reports, reports_to, is_next_out, IsOpenedBy, IsAdded, IsStep, Follows}
 use Rattle.sockets.proofs.Emitting.{segment_sent-found}
 use Rattle.sockets.proofs.Queues.{sendto-refused, sendto-given, queued-change, no_room-same, no_socket-same}
 use Rattle.sockets.proofs.Told.{told-found, told-none}
@@ -467,7 +467,7 @@ close_followed h id =
 tick_step : (h : SocketsView) (now : Moment) (x : Entry) → is_kept (tick_fate_of (later_moment h now) x.role) ≡ true → IsStep h (Ticks now) x (Some (with_role (role_after_tick (later_moment h now)) x))
 tick_step h now x kept = (refl, along x.role kept, by_role x.role, λ error told. tells x.role error told)
   where
-    tells : (role : Role) (error : Error) → pending_error_in (role_after_tick (later_moment h now) role) ≡ Some error → (pending_error_in role ≡ Some error) ⊎ (is_telling (edge.Ticks (later_moment h now)) error role ≡ true)
+    tells : (role : Role) (error : Error) → pending_error_in (role_after_tick (later_moment h now) role) ≡ Some error → (pending_error_in role ≡ Some error) ⊎ (reports (edge.Ticks (later_moment h now)) error role ≡ true)
     tells (Idle buffers bound) error told = inl told
     tells (Listener l b) error told = inl told
     tells (Datagrams ours queues) error told = inl told
@@ -506,13 +506,13 @@ answered_same h (Some head) = refl
 heard_step : (h : SocketsView) (now : Moment) (isn : ℕ) (source : Addr) (s : Segment) (x : Entry) → is_between (local_end h s) (peer_end source s) x ≡ true → is_kept (fate_of s x.role) ≡ true → IsStep h (Hears now isn source s) x (Some (with_role (role_after_segment (later_moment h now) s) x))
 heard_step h now isn source s x passes kept = (refl, along x.role kept, λ closes. both _ _ passes (by_role x.role closes), λ error told. for_it error (tells x.role error told))
   where
-    tells : (role : Role) (error : Error) → pending_error_in (role_after_segment (later_moment h now) s role) ≡ Some error → (pending_error_in role ≡ Some error) ⊎ (is_telling (edge.Hears s (later_moment h now)) error role ≡ true)
+    tells : (role : Role) (error : Error) → pending_error_in (role_after_segment (later_moment h now) s role) ≡ Some error → (pending_error_in role ≡ Some error) ⊎ (reports (edge.Hears s (later_moment h now)) error role ≡ true)
     tells (Idle buffers bound) error told = inl told
     tells (Listener l b) error told = inl told
     tells (Datagrams ours queues) error told = inl told
     tells (Connected c l) error told = errors_caused c (edge.Hears s (later_moment h now)) error told
 
-    for_it : (error : Error) → (pending_error_in x.role ≡ Some error) ⊎ (is_telling (edge.Hears s (later_moment h now)) error x.role ≡ true) → (pending_error_in x.role ≡ Some error) ⊎ (is_telling_to h (Hears now isn source s) error x ≡ true)
+    for_it : (error : Error) → (pending_error_in x.role ≡ Some error) ⊎ (reports (edge.Hears s (later_moment h now)) error x.role ≡ true) → (pending_error_in x.role ≡ Some error) ⊎ (reports_to h (Hears now isn source s) error x ≡ true)
     for_it error (inl told) = inl told
     for_it error (inr tells_now) = inr (both _ _ passes tells_now)
 
@@ -687,13 +687,13 @@ given_up_followed h lost now =
 told_step : (h : SocketsView) (local peer : Endpoint) (number : ℕ) (x : Entry) → is_between local peer x ≡ true → is_kept (unreachable_fate_of number x.role) ≡ true → IsStep h (Unreachable local peer number) x (Some (with_role (role_after_unreachable number) x))
 told_step h local peer number x passes kept = (refl, along x.role kept, λ closes. both _ _ passes (by_role x.role closes), λ error told. for_it error (tells x.role error told))
   where
-    tells : (role : Role) (error : Error) → pending_error_in (role_after_unreachable number role) ≡ Some error → (pending_error_in role ≡ Some error) ⊎ (is_telling (edge.Unreachable number) error role ≡ true)
+    tells : (role : Role) (error : Error) → pending_error_in (role_after_unreachable number role) ≡ Some error → (pending_error_in role ≡ Some error) ⊎ (reports (edge.Unreachable number) error role ≡ true)
     tells (Idle buffers bound) error told = inl told
     tells (Listener l b) error told = inl told
     tells (Datagrams ours queues) error told = inl told
     tells (Connected c l) error told = errors_caused c (edge.Unreachable number) error told
 
-    for_it : (error : Error) → (pending_error_in x.role ≡ Some error) ⊎ (is_telling (edge.Unreachable number) error x.role ≡ true) → (pending_error_in x.role ≡ Some error) ⊎ (is_telling_to h (Unreachable local peer number) error x ≡ true)
+    for_it : (error : Error) → (pending_error_in x.role ≡ Some error) ⊎ (reports (edge.Unreachable number) error x.role ≡ true) → (pending_error_in x.role ≡ Some error) ⊎ (reports_to h (Unreachable local peer number) error x ≡ true)
     for_it error (inl told) = inl told
     for_it error (inr tells_now) = inr (both _ _ passes tells_now)
 

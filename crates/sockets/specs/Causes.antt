@@ -123,18 +123,18 @@ abbrev pub pending_error_in : Role → Option Error
 pending_error_in role = in_connection None (λ c. c.pending_error) role
 
 -- an event of the entry's connection makes it tell an error: a reset that acts or a hard error, in a state that has it, or the last expiry of its timer
-abbrev pub is_telling : edge.Event → Error → Role → Bool
-is_telling e error role = in_connection false (λ c. edge.may_raise c e error) role
+abbrev pub reports : edge.Event → Error → Role → Bool
+reports e error role = in_connection false (λ c. edge.may_raise c e error) role
 
-abbrev pub is_telling_to : SocketsView → Event → Error → Entry → Bool
-is_telling_to h (Hears now isn source s) error x = is_between (local_end h s) (peer_end source s) x && is_telling (edge.Hears s (later_moment h now)) error x.role
-is_telling_to h (Ticks now) error x = is_telling (edge.Ticks (later_moment h now)) error x.role
-is_telling_to h (Unreachable local peer number) error x = is_between local peer x && is_telling (edge.Unreachable number) error x.role
-is_telling_to h _ error x = false
+abbrev pub reports_to : SocketsView → Event → Error → Entry → Bool
+reports_to h (Hears now isn source s) error x = is_between (local_end h s) (peer_end source s) x && reports (edge.Hears s (later_moment h now)) error x.role
+reports_to h (Ticks now) error x = reports (edge.Ticks (later_moment h now)) error x.role
+reports_to h (Unreachable local peer number) error x = is_between local peer x && reports (edge.Unreachable number) error x.role
+reports_to h _ error x = false
 
 -- the errors that are told after an event were told before, or the event makes the connection tell them
 abbrev pub IsToldBy : SocketsView → Event → Entry → Entry → Type 0
-IsToldBy h e x y = (error : Error) → pending_error_in y.role ≡ Some error → (pending_error_in x.role ≡ Some error) ⊎ (is_telling_to h e error x ≡ true)
+IsToldBy h e x y = (error : Error) → pending_error_in y.role ≡ Some error → (pending_error_in x.role ≡ Some error) ⊎ (reports_to h e error x ≡ true)
 
 -- An entry, and what an event leaves of it: its state stays, or goes along an edge of the table; where it is taken out, or becomes
 -- CLOSED, that has a cause; and so has an error that it tells.

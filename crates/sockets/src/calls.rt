@@ -224,7 +224,7 @@ impl Sockets {
 
     /// Opens a connection to `peer`, whose initial sequence number here is `isn` (RFC 9293 section 3.10.1).
     ///
-    /// EBADF; EOPNOTSUPP of a UDP socket and where the socket listens; the error that its connection is told; EALREADY while it opens a connection; EISCONN where it has had
+    /// EBADF; EOPNOTSUPP of a UDP socket and where the socket listens; the error that its connection reports; EALREADY while it opens a connection; EISCONN where it has had
     /// one; EADDRNOTAVAIL for port 0, an address that isn't unicast or our own; ENETUNREACH where no route leads to the peer, which `is_routed`
     /// says; EADDRINUSE where the pair is held or no dynamic port is free.
     pub fn connect(
@@ -309,7 +309,7 @@ impl Sockets {
 
     /// Gives octets to a connection (RFC 9293 section 3.10.2), and answers how many it took: the first that find room.
     ///
-    /// EBADF; EDESTADDRREQ of a UDP socket; EOPNOTSUPP where the socket listens; ENOTCONN where it has no connection; the error that its connection is told; EAGAIN
+    /// EBADF; EDESTADDRREQ of a UDP socket; EOPNOTSUPP where the socket listens; ENOTCONN where it has no connection; the error that its connection reports; EAGAIN
     /// while the connection is opened; EPIPE once our side is closed; EAGAIN where octets are given and there is no room.
     pub fn send(&mut self, id: SocketId, octets: &[u8]) -> Result<usize, Refusal>
         ensures answer { result ≡ send_answer self.old id octets.now }
@@ -322,11 +322,11 @@ impl Sockets {
     }
 
     /// Reads octets of a connection into `buffer` (RFC 9293 section 3.10.3), in order, as many as there are or as fit. The end of the stream
-    /// is told where nothing is readable and the peer's FIN has come behind all its octets, and where the connection is CLOSED and told no
+    /// is told where nothing is readable and the peer's FIN has come behind all its octets, and where the connection is CLOSED and reports no
     /// error.
     ///
     /// EBADF; EOPNOTSUPP of a UDP socket and where the socket listens; EINVAL for an empty buffer; ENOTCONN where it has no connection; the error that its
-    /// connection is told; EAGAIN while the connection is opened, or where nothing is readable before the end.
+    /// connection reports; EAGAIN while the connection is opened, or where nothing is readable before the end.
     pub fn recv(&mut self, id: SocketId, buffer: &mut [u8]) -> Result<Received, Refusal>
         ensures answer { result ≡ recv_answer self.old id (length buffer.old) }
         ensures octets { buffer.new ≡ recv_front self.old id buffer.old }
@@ -339,7 +339,7 @@ impl Sockets {
 
     /// Closes our side of a connection (RFC 9293 section 3.10.4): a FIN follows the octets that were given. Closed again, it stays so.
     ///
-    /// EBADF; EOPNOTSUPP of a UDP socket and where the socket listens; the error that its connection is told; ENOTCONN where it has no connection or is opening
+    /// EBADF; EOPNOTSUPP of a UDP socket and where the socket listens; the error that its connection reports; ENOTCONN where it has no connection or is opening
     /// one.
     pub fn shutdown_write(&mut self, id: SocketId) -> Result<(), Refusal>
         ensures refused { result_err result ≡ shutdown_refusal self.old id }

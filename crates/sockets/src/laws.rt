@@ -126,7 +126,7 @@ pub fn resets_are_given_up_in_time()
 {}
 
 /// The error that a connection tells, one that was refused, reset, or whose peer was silent, comes before all else that a call would tell of it: of its state, and of octets that are not read.
-pub fn errors_are_told_first()
+pub fn errors_are_reported_first()
     ensures connect { (h : SocketsView) (id : SocketId) (c : View) (listener : Option SocketId) (error : Error) (peer : Endpoint) (routed : Bool) → role_of h id ≡ Some (Connected c listener) → c.pending_error ≡ Some error
         → connect_refusal h id peer routed ≡ Some (refusal_of error) }
     ensures send { (h : SocketsView) (id : SocketId) (c : View) (listener : Option SocketId) (error : Error) (octets : List ℕ) → role_of h id ≡ Some (Connected c listener) → c.pending_error ≡ Some error

@@ -12,7 +12,7 @@ use Rattle.tcp_state.specs.Unreachable.{is_unreachable, after_unreachable}
 use Rattle.tcp_state.specs.Arrival.{after_segment, after_rst_in_syn_sent, after_rst, reset_error, owing_ack, fate, is_acting_reset, ends_by_reset}
 use Rattle.stream_law.specs.Channel.{Channel, Receiver, Open, Waiting, Synchronised}
 use Rattle.stream_law.specs.ChannelSteps.{closes}
-use Rattle.stream_law.specs.ChannelViews.{Leads, stays, goes, sender_of, kept_at, receiver_of, receiving_of, is_telling, SameStream, Stops}
+use Rattle.stream_law.specs.ChannelViews.{Leads, stays, goes, sender_of, kept_at, receiver_of, receiving_of, reports, SameStream, Stops}
 use Rattle.stream_law.specs.Pairing.{Presence, Present, Departed, Pairing, remains}
 use Rattle.stream_law.proofs.ConnectionArrival.{either}
 use Rattle.stream_law.proofs.PairingInvariant.{Connected, ConnectionFits, Shown, runs_on, other_stays, connected, open_tells, remains-fits}
@@ -23,7 +23,7 @@ same-owing v = record { state = refl; held = refl; una = refl; nxt = refl; reada
 -- nothing of the stream changed
 pub rests-fits : (v w : View) (into from : Channel) → SameStream v w → Connected v into from → Connected w into from
 rests-fits v w into from same k =
-    let tells : is_telling w ≡ true → is_telling v ≡ true =
+    let tells : reports w ≡ true → reports v ≡ true =
     λ e. still (is_closed v.state) (is_some v.pending_error) w.released v.released same.released (sym (ap (λ t. not (is_closed t && (is_some w.pending_error || w.released))) same.state ∙ ap (λ o. not (is_closed v.state && (is_some o || w.released))) same.pending_error) ∙ e) in
     let same_closed : is_closed w.state ≡ is_closed v.state = ap is_closed same.state in
     record {
@@ -87,7 +87,7 @@ stops-reset v unclosed unlistening = record {
 pub stops-left : (v w : View) → is_closed w.state ≡ true → w.released ≡ true → Stops v w
 stops-left v w closed left = record {
   closed = closed;
-  telling = λ t. absurd_closed (is_telling w) t (ap (λ b. not (b && (is_some w.pending_error || w.released))) closed ∙ ap not (ap (λ b. is_some w.pending_error || b) left ∙ or_true (is_some w.pending_error)));
+  telling = λ t. absurd_closed (reports w) t (ap (λ b. not (b && (is_some w.pending_error || w.released))) closed ∙ ap not (ap (λ b. is_some w.pending_error || b) left ∙ or_true (is_some w.pending_error)));
 }
   where
     or_true : (b : Bool) → (b || true) ≡ true
@@ -98,7 +98,7 @@ stops-left v w closed left = record {
 pub stops-told : (v w : View) → is_closed w.state ≡ true → is_some w.pending_error ≡ true → Stops v w
 stops-told v w closed told = record {
   closed = closed;
-  telling = λ t. absurd_closed (is_telling w) t (ap (λ b. not (b && (is_some w.pending_error || w.released))) closed ∙ ap (λ b. not (b || w.released)) told);
+  telling = λ t. absurd_closed (reports w) t (ap (λ b. not (b && (is_some w.pending_error || w.released))) closed ∙ ap (λ b. not (b || w.released)) told);
 }
 
 -- so does an opening that an error about its SYN ends

@@ -5,7 +5,7 @@ use Rattle.tcp_state.specs.declared.connection.Fate.TheVariants.{Stays, Removed,
 use Rattle.tcp_state.specs.View.{View, is_closed, is_listening, is_read_closed}
 use Rattle.stream_law.specs.Channel.{Channel, Unopened, Waiting, IsAmong}
 use Rattle.stream_law.specs.ChannelSteps.{Runs, starts, steps, fresh}
-use Rattle.stream_law.specs.ChannelViews.{Leads, stays, goes, SendsInto, ReceivesFrom, receiving_of, is_telling, IsOfWidth, frame_of, ack_of}
+use Rattle.stream_law.specs.ChannelViews.{Leads, stays, goes, SendsInto, ReceivesFrom, receiving_of, reports, IsOfWidth, frame_of, ack_of}
 use Rattle.stream_law.specs.Pairing.{Presence, Absent, Present, Departed, End, Emission, Pairing, remains, from_other, apart}
 
 pub record Unconnected (into from : Channel) : Type 0 where
@@ -22,8 +22,8 @@ pub record Connected (v : View) (into from : Channel) : Type 0 where
   pub unlistening : is_listening v.state ≡ false
   pub sends : is_closed v.state ≡ false → SendsInto v into
   pub receiving : is_closed v.state ≡ false → from.receiving ≡ receiving_of v
-  pub readable : is_telling v ≡ true → from.readable ≡ v.receiving.readable
-  pub end_seen : is_telling v ≡ true → from.end_seen ≡ is_read_closed v.state
+  pub readable : reports v ≡ true → from.readable ≡ v.receiving.readable
+  pub end_seen : reports v ≡ true → from.end_seen ≡ is_read_closed v.state
 
 abbrev pub ConnectionFits : Presence → Channel → Channel → Type 0
 ConnectionFits Absent into from = Unconnected into from
@@ -120,10 +120,10 @@ pub unconnected : (o : Presence) (into from : Channel) → o ≡ Absent → Conn
 unconnected o into from is k = subst (λ o. ConnectionFits o into from) is k
 
 -- a connection that is not CLOSED tells, and so does one without an error that its caller keeps
-pub open_tells : (v : View) → is_closed v.state ≡ false → is_telling v ≡ true
+pub open_tells : (v : View) → is_closed v.state ≡ false → reports v ≡ true
 open_tells v e = ap (λ b. not (b && (is_some v.pending_error || v.released))) e
 
-pub untold_tells : (v : View) → is_some v.pending_error ≡ false → v.released ≡ false → is_telling v ≡ true
+pub untold_tells : (v : View) → is_some v.pending_error ≡ false → v.released ≡ false → reports v ≡ true
 untold_tells v untold kept = tells (is_closed v.state) (is_some v.pending_error || v.released) (ap (λ b. b || v.released) untold ∙ kept)
   where
     tells : (a b : Bool) → b ≡ false → not (a && b) ≡ true

@@ -17,7 +17,7 @@ use Rattle.tcp_state.specs.Calls.{send_count, unless_pending, after_send, recv_c
 use Rattle.tcp_state.specs.Arrival.{opened_passively}
 use Rattle.stream_law.specs.Channel.{Channel, Open, Waiting, Synchronised, IsAmong}
 use Rattle.stream_law.specs.ChannelSteps.{steps, opens, reads_end, synchronises, nothing_kept}
-use Rattle.stream_law.specs.ChannelViews.{sender_of, receiver_of, receiving_of, SameStream, is_telling, frame_of}
+use Rattle.stream_law.specs.ChannelViews.{sender_of, receiver_of, receiving_of, SameStream, reports, frame_of}
 use Rattle.stream_law.specs.Pairing.{Absent, Present, Emission, Pairing, with_connection}
 use Rattle.stream_law.proofs.Kept.{keeps_nothing, keeps_same}
 use Rattle.stream_law.proofs.ConnectionSends.{takes-octets, sends}
@@ -140,7 +140,7 @@ moves-closes cap limit p v now is sound opened h =
     let k = connected p.own.connection v h.into h.from is h.own.connection in
     let t = shut_shows v.state opened sound.connection in
     let same_closed : is_closed (beyond_shutdown v.state) ≡ is_closed v.state = t.5 in
-    let tells : is_telling (after_shutdown v now) ≡ is_telling v = ap (λ b. not (b && (is_some v.pending_error || v.released))) same_closed in
+    let tells : reports (after_shutdown v now) ≡ reports v = ap (λ b. not (b && (is_some v.pending_error || v.released))) same_closed in
     ending cap limit p (Present (after_shutdown v now)) true (λ e. refl) h (record {
       unlistening = t.6;
       sends = λ e. let s = k.sends (sym same_closed ∙ e) in record {

@@ -57,13 +57,13 @@ pub record SameStream (v w : View) : Type 0 where
 
 -- whether a caller is still given what is readable, and then the end: not where a connection that is CLOSED tells an error, or has
 -- no caller any more
-abbrev pub is_telling : View → Bool
-is_telling v = not (is_closed v.state && (is_some v.pending_error || v.released))
+abbrev pub reports : View → Bool
+reports v = not (is_closed v.state && (is_some v.pending_error || v.released))
 
 -- it became CLOSED; a caller that is still told something is told what it would have been before, and the end was seen
 pub record Stops (v w : View) : Type 0 where
   pub closed : is_closed w.state ≡ true
-  pub telling : is_telling w ≡ true → (is_telling v ≡ true) × (w.receiving.readable ≡ v.receiving.readable) × (is_read_closed v.state ≡ true)
+  pub telling : reports w ≡ true → (reports v ≡ true) × (w.receiving.readable ≡ v.receiving.readable) × (is_read_closed v.state ≡ true)
 
 -- a segment as a frame of its direction, and as an acknowledgement of the other
 abbrev pub frame_of : Segment → ℕ → Frame

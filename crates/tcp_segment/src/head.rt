@@ -38,7 +38,7 @@ impl Head {
     pub fn len(&self) -> usize
         ensures { result ≡ 4 * sent_offset self.now }
     {
-        if self.tells_mss() {
+        if self.has_mss_option() {
             FIXED_LEN + MSS_OPTION_LEN
         } else {
             FIXED_LEN
@@ -71,7 +71,7 @@ impl Head {
     }
 
     /// Whether the header carries the MSS option.
-    fn tells_mss(&self) -> bool
+    fn has_mss_option(&self) -> bool
         ensures { result ≡ self.now.flags.syn }
     {
         self.flags.syn
@@ -92,7 +92,7 @@ impl Head {
     fn option_words(&self) -> u16
         ensures { result ≡ (if self.now.flags.syn then 1976 else 0) }
     {
-        if self.tells_mss() {
+        if self.has_mss_option() {
             u16::from_be_bytes([MAXIMUM_SEGMENT_SIZE, MSS_OPTION_LEN as u8]) + MSS
         } else {
             0
@@ -103,7 +103,7 @@ impl Head {
     fn control(&self) -> u16
         ensures { result ≡ 4096 * sent_offset self.now + control_bits self.now.flags }
     {
-        let offset: u16 = if self.tells_mss() { 6 } else { 5 };
+        let offset: u16 = if self.has_mss_option() { 6 } else { 5 };
         4096 * offset + u16::from(octet_of(self.flags))
     }
 
@@ -114,7 +114,7 @@ impl Head {
         ensures fit { FieldsFit (sent_segment self.now []) }
     {
         out[..FIXED_LEN].copy_from_slice(&self.fixed(checksum));
-        if self.tells_mss() {
+        if self.has_mss_option() {
             let [high, low] = MSS.to_be_bytes();
             let option = [MAXIMUM_SEGMENT_SIZE, MSS_OPTION_LEN as u8, high, low];
             out[FIXED_LEN..FIXED_LEN + MSS_OPTION_LEN].copy_from_slice(&option);

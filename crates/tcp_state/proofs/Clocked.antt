@@ -15,7 +15,7 @@ use Rattle.tcp_halves.specs.Stream.{outstanding, after_sent}
 use Rattle.tcp_state.specs.View.{View, is_opening, is_syn_received, is_closed}
 use Rattle.tcp_state.specs.Resend.{Resend, resend_probed, resend_acknowledged, resend_lost}
 use Rattle.tcp_state.specs.Timing.{KeepsTime, probes, retransmits, awaits_more, running, retransmission_timer, probe_timer, delayed_ack_timer, override_timer, interval_of, clocked, retransmission_expired, probe_expired, after_expiry, delayed_ack_expired, override_expired, after_timers}
-use Rattle.tcp_state.specs.Arrival.{after_heard, is_rejected, begins_wait, answers_probe, is_duplicate, before, since_after, is_moved, resend_heard, resend_after, congestion_event_of, tells_loss, congestion_after, timed_by, after_segment_at}
+use Rattle.tcp_state.specs.Arrival.{after_heard, is_rejected, begins_wait, answers_probe, is_duplicate, before, since_after, is_moved, resend_heard, resend_after, congestion_event_of, reveals_loss, congestion_after, timed_by, after_segment_at}
 use Rattle.tcp_state.specs.Due.{probe_stretch, end_of, after_ack_paid, after_resent, after_first_sent, after_numbers, after_new_octets, brings_new_octets, after_syn_again, after_syn_out, after_stretch, after_probe, after_going_out, after_emitted}
 use Rattle.tcp_state.specs.Edges.{after_first}
 use Rattle.tcp_state.specs.Congestion.{Signal, after_signal}
@@ -195,7 +195,7 @@ heard_paced b w now P moved answered same =
 -- .. with the segment at SND.UNA lost or not
 pub after_paced : (b : Before) (w : View) (now : Moment) (P : Resend → Type 0) → P (resend_heard b w now) → P (resend_lost (resend_heard b w now) (outstanding w.sending)) → P (resend_after b w now)
 after_paced b w now P same lost =
-    either Resend P (tells_loss (congestion_event_of b w) w.congestion) (resend_lost (resend_heard b w now) (outstanding w.sending)) (resend_heard b w now) (λ tells. lost) (λ other. same)
+    either Resend P (reveals_loss (congestion_event_of b w) w.congestion) (resend_lost (resend_heard b w now) (outstanding w.sending)) (resend_heard b w now) (λ tells. lost) (λ other. same)
 
 -- what a segment is to the congestion window: nothing, the beginning, an ACK, or a duplicate one
 pub signalled : (b : Before) (w : View) (P : Signal → Type 0) → P Nothing → P Begins → P (Counts (NewAck (b.held - length w.sending.held))) → (b.is_duplicate ≡ true → P (Counts (Duplicate (outstanding w.sending)))) → P (congestion_event_of b w)
@@ -206,8 +206,8 @@ signalled b w P nothing begins acks repeats =
     (λ stays. either Signal P b.is_duplicate (Counts (Duplicate (outstanding w.sending))) Nothing (λ same. repeats same) (λ other. nothing)))
 
 -- no duplicate ACK tells of a loss ..
-pub tells_none : (b : Before) (w : View) → b.is_duplicate ≡ false → tells_loss (congestion_event_of b w) w.congestion ≡ false
-tells_none b w first = signalled b w (λ e. tells_loss e w.congestion ≡ false) refl refl refl (λ again. let bad : true ≡ false = sym again ∙ first in cc)
+pub tells_none : (b : Before) (w : View) → b.is_duplicate ≡ false → reveals_loss (congestion_event_of b w) w.congestion ≡ false
+tells_none b w first = signalled b w (λ e. reveals_loss e w.congestion ≡ false) refl refl refl (λ again. let bad : true ≡ false = sym again ∙ first in cc)
 
 -- .. and of a segment that moves nothing either, the congestion window hears nothing
 pub event_none : (b : Before) (w : View) → is_moved b w ≡ false → b.is_duplicate ≡ false → congestion_event_of b w ≡ Nothing

@@ -20,7 +20,7 @@ use Rattle.tcp_state.specs.Resend.{Resend, stopped, mark_past, mark_left, resend
 use Rattle.tcp_state.specs.View.{View, IsSound, is_opening, is_syn_sent, is_syn_received, is_closed}
 use Rattle.tcp_state.specs.Congestion.{Signal}
 use Rattle.tcp_state.specs.Congestion.Signal.{Begins, Counts, Nothing}
-use Rattle.tcp_state.specs.Arrival.{owing_ack, after_establishment, is_receiving, beyond_fin, is_of_fin, fin_acknowledged, after_new_ack, after_ack, is_read, after_window, after_text, counts_fin, after_fin, is_lost, after_lost, after_segment, after_heard, is_duplicate, before, is_moved, resend_heard, resend_after, congestion_event_of, tells_loss, timed_by, after_segment_at}
+use Rattle.tcp_state.specs.Arrival.{owing_ack, after_establishment, is_receiving, beyond_fin, is_of_fin, fin_acknowledged, after_new_ack, after_ack, is_read, after_window, after_text, counts_fin, after_fin, is_lost, after_lost, after_segment, after_heard, is_duplicate, before, is_moved, resend_heard, resend_after, congestion_event_of, reveals_loss, timed_by, after_segment_at}
 use Rattle.tcp_state.specs.Due.{end_of, after_resent, after_first_sent, after_numbers, after_new_octets, brings_new_octets, after_emitted, ack_due, again, again_from, new_due, first_due}
 use Rattle.tcp_state.proofs.Clocked.{comes_to, unmoved, heard_paced, signalled}
 use Rattle.tcp_halves.proofs.Choices.{either, clash, and_left, and_right, and_false, both, not_true, unowed}
@@ -121,7 +121,7 @@ loses v s now lives is third =
     ∙ ap (λ t. if t then (if is_opening b.state then Begins else Counts (NewAck (b.held - length w.sending.held))) else if b.is_duplicate then Counts (Duplicate (outstanding w.sending)) else Nothing) still
     ∙ ap (λ t. if t then Counts (Duplicate (outstanding w.sending)) else Nothing) is in
     let resend = resend_heard b w now in
-    ap (λ g. if tells_loss g w.congestion then resend_lost resend (outstanding w.sending) else resend) event ∙ ap (λ t. if t then resend_lost resend (outstanding w.sending) else resend) third
+    ap (λ g. if reveals_loss g w.congestion then resend_lost resend (outstanding w.sending) else resend) event ∙ ap (λ t. if t then resend_lost resend (outstanding w.sending) else resend) third
 
 pub third_resends : (v : View) (s : Segment) (now : Moment) → IsSound v → is_closed v.state ≡ false → is_duplicate v s ≡ true → third_is_next v.congestion ≡ true
     → (first_due (after_segment_at v s now) ≡ Some (Text (again (after_segment_at v s now) 0))) × ((after_segment_at v s now).resend.once ≡ true)
@@ -175,9 +175,9 @@ heard_marks_none v s opened none =
     })
 
 -- a loss is told by a third duplicate ACK alone
-pub told_by_third : (b : Before) (w : View) (c : Window) → tells_loss (congestion_event_of b w) c ≡ true → (b.is_duplicate && third_is_next c) ≡ true
+pub told_by_third : (b : Before) (w : View) (c : Window) → reveals_loss (congestion_event_of b w) c ≡ true → (b.is_duplicate && third_is_next c) ≡ true
 told_by_third b w c =
-    signalled b w (λ g. tells_loss g c ≡ true → (b.is_duplicate && third_is_next c) ≡ true) (λ none. cc) (λ none. cc) (λ none. cc) (λ twice third. both b.is_duplicate (third_is_next c) twice third)
+    signalled b w (λ g. reveals_loss g c ≡ true → (b.is_duplicate && third_is_next c) ≡ true) (λ none. cc) (λ none. cc) (λ none. cc) (λ twice third. both b.is_duplicate (third_is_next c) twice third)
 
 pub others_resend_none : (v : View) (s : Segment) (now : Moment) → IsSound v → v.resend.mark ≡ None → is_opening v.state ≡ false → (is_duplicate v s && third_is_next v.congestion) ≡ false
     → (after_segment_at v s now).resend.mark ≡ None
@@ -186,7 +186,7 @@ others_resend_none v s now sound none opened other =
     let w = after_heard v s in
     let resend = resend_heard b w now in
     by_clock (λ x. x.resend.mark ≡ None) v s now none
-    (λ lives. either Resend (λ p. p.mark ≡ None) (tells_loss (congestion_event_of b w) w.congestion) (resend_lost resend (outstanding w.sending)) resend
+    (λ lives. either Resend (λ p. p.mark ≡ None) (reveals_loss (congestion_event_of b w) w.congestion) (resend_lost resend (outstanding w.sending)) resend
     (λ lost. clash (is_duplicate v s && third_is_next v.congestion) (sym (ap (λ c. is_duplicate v s && third_is_next c) (window_kept v s)) ∙ told_by_third b w w.congestion lost) other)
     (λ kept. heard_paced b w now (λ p. p.mark ≡ w.resend.mark) refl refl refl ∙ heard_marks_none v s opened none))
 

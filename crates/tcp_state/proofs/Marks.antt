@@ -13,7 +13,7 @@ use Rattle.tcp_halves.specs.Windows.{updates_window}
 use Rattle.tcp_state.specs.Resend.{Resend, stopped, mark_past, mark_left, resend_lost}
 use Rattle.tcp_state.specs.View.{View, IsSound, is_opening, is_syn_sent, is_syn_received, is_closed}
 use Rattle.tcp_halves.specs.Numbers.{is_before}
-use Rattle.tcp_state.specs.Arrival.{owing_ack, is_receiving, is_of_fin, beyond_fin, beyond_end, fin_acknowledged, after_new_ack, after_ack, after_window, after_text, is_duplicate, before, resend_heard, congestion_event_of, tells_loss, after_heard, after_segment_at}
+use Rattle.tcp_state.specs.Arrival.{owing_ack, is_receiving, is_of_fin, beyond_fin, beyond_end, fin_acknowledged, after_new_ack, after_ack, after_window, after_text, is_duplicate, before, resend_heard, congestion_event_of, reveals_loss, after_heard, after_segment_at}
 use Rattle.tcp_state.proofs.Clocked.{heard_paced}
 use Rattle.tcp_halves.proofs.Choices.{either, clash}
 use Rattle.tcp_state.proofs.Segments.{by_fin, by_hearing, by_clock}
@@ -92,7 +92,7 @@ mark_left_by v s now distance sound opened other mark =
     let resend = resend_heard b w now in
     by_clock (Left v.sending.una distance) v s now (stays v distance sound mark)
     (λ lives. λ ends_not. let M : Resend → Type 0 = λ p. p.mark ≡ mark_past (distance - past w.sending.una v.sending.una) (outstanding w.sending) in
-    either Resend M (tells_loss (congestion_event_of b w) w.congestion) (resend_lost resend (outstanding w.sending)) resend
+    either Resend M (reveals_loss (congestion_event_of b w) w.congestion) (resend_lost resend (outstanding w.sending)) resend
     (λ lost. clash (is_duplicate v s && third_is_next v.congestion) (sym (ap (λ c. is_duplicate v s && third_is_next c) (window_kept v s)) ∙ told_by_third b w w.congestion lost) other)
     (λ kept. heard_paced b w now (λ p. p.mark ≡ w.resend.mark) refl refl refl ∙ heard_leaves v s distance sound opened mark ends_not))
 

@@ -24,7 +24,7 @@ use Rattle.tcp_state.specs.Timing.{clocked}
 use Rattle.tcp_state.specs.View.{View, first_congestion, opened_actively}
 use Rattle.tcp_state.specs.Congestion.{after_signal}
 use Rattle.tcp_state.specs.Congestion.Signal.{Begins, Nothing}
-use Rattle.tcp_state.specs.Arrival.{owing_ack, after_establishment, after_window, after_text, after_fin, after_acceptable_segment, is_acceptable_to, acknowledges_unsent, answers_probe, before, tells_loss, timed_by, after_heard}
+use Rattle.tcp_state.specs.Arrival.{owing_ack, after_establishment, after_window, after_text, after_fin, after_acceptable_segment, is_acceptable_to, acknowledges_unsent, answers_probe, before, reveals_loss, timed_by, after_heard}
 use Rattle.tcp_state.specs.Due.{first_due, ack_due, new_octets, head_of, octets_of, after_ack_paid, after_resent, after_first_sent, after_syn_again}
 use Rattle.tcp_state.specs.Edges.{Hears, Emits, after_first, after_event}
 use Rattle.tcp_state.specs.Simultaneous.{first_segment, after_coming, Ends, crossed, AnswersSyn, HasOpened}
@@ -256,7 +256,7 @@ ack_comes here there isn other first now fits other_fits =
     comes_to v s now refl (ap (λ a. not a && (is_acceptable_to v s && true)) (acknowledges isn fits))
     ∙ (ap (λ x. timed_by b x now) (ack_heard here there isn other first fits other_fits)
     ∙ (ap (λ m. clocked m (record w {
-      resend = let resend = if m then first_resend else if answers_probe v s then first_resend else first_resend in if tells_loss (if m then Begins else Nothing) w.congestion then resend_lost resend (outstanding w.sending) else resend;
+      resend = let resend = if m then first_resend else if answers_probe v s then first_resend else first_resend in if reveals_loss (if m then Begins else Nothing) w.congestion then resend_lost resend (outstanding w.sending) else resend;
       congestion = after_signal w.congestion (if m then Begins else Nothing) 1460 false;
     }) now) (moves isn fits)
     ∙ at_rest here there isn other first now))

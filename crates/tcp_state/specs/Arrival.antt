@@ -299,14 +299,14 @@ congestion_event_of b w =
     else Nothing
 
 -- the third duplicate ACK in a row: the segment at SND.UNA goes out again (RFC 5681 section 3.2)
-abbrev pub tells_loss : Signal → Window → Bool
-tells_loss (Counts (Duplicate flight)) window = third_is_next window
-tells_loss _ window = false
+abbrev pub reveals_loss : Signal → Window → Bool
+reveals_loss (Counts (Duplicate flight)) window = third_is_next window
+reveals_loss _ window = false
 
 abbrev pub resend_after : Before → View → Moment → Resend
 resend_after b w now =
     let resend = resend_heard b w now in
-    if tells_loss (congestion_event_of b w) w.congestion then resend_lost resend (outstanding w.sending) else resend
+    if reveals_loss (congestion_event_of b w) w.congestion then resend_lost resend (outstanding w.sending) else resend
 
 abbrev pub congestion_after : Before → View → Window
 congestion_after b w = after_signal w.congestion (congestion_event_of b w) w.sending.smss w.resend.syn_resent

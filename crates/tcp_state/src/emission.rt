@@ -89,10 +89,10 @@ impl Connection {
         ensures first { result ≡ ack_due self.now }
         ensures may { IfSome result (MayGoOut self.now) }
     {
-        let is_window_told = !self.state.is_opening()
+        let advertises_window = !self.state.is_opening()
             && self.state != State::Closed
             && self.receiver.has_grown();
-        (self.owes_ack || is_window_told).then_some(Due::Ack)
+        (self.owes_ack || advertises_window).then_some(Due::Ack)
     }
 
     /// What goes out again from the resend mark on, within both windows.

@@ -352,7 +352,7 @@ pub fn second_segments_are_acknowledged()
 
 /// The window is told in steps of a segment at least (RFC 1122 section 4.2.3.3, RFC 9293 section 3.8.6.2.2): its right edge stays, or moves on by 1,460 or more, up to the end of the free room. Such a step
 /// is told with what goes out next.
-pub fn windows_are_told_in_whole_steps()
+pub fn windows_are_advertised_in_whole_steps()
     ensures steps { (v : View) (e : Event) → IsSound v → is_syn_sent v.state ≡ false → v.receiving.edge < 2 ^ 32 → ((after_event v e).receiving.edge ≡ v.receiving.edge)
         ⊎ ((MSS ≤ past (after_event v e).receiving.edge v.receiving.edge) × ((after_event v e).receiving.edge ≡ (v.receiving.rnext + (CAPACITY - length v.receiving.readable)) % 2 ^ 32)) }
     ensures told { (v : View) (now : Moment) → IsSound v → (is_opening v.state || is_closed v.state) ≡ false → past v.receiving.edge v.receiving.rnext + MSS + length v.receiving.readable ≤ CAPACITY

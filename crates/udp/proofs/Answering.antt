@@ -10,7 +10,7 @@ use Rattle.udp.specs.declared.fault.UdpFault.{UdpFault}
 use Rattle.udp.specs.declared.fault.UdpFault.TheVariants.{UpperHeader, UpperSum}
 use Rattle.udp.specs.declared.head.Head.{Head}
 use Rattle.udp.specs.Datagram.{UserDatagram, IsParsed, HasForm, SumIsRight, Spells, datagram_len, spelling, summed}
-use Rattle.udp.specs.Sent.{CanBeSent, sent, sent_with, told_checksum}
+use Rattle.udp.specs.Sent.{CanBeSent, sent, sent_with, checksum_field}
 use Rattle.udp.proofs.Form.{form_read, one_form}
 
 -- the sum of the one form is right or not
@@ -36,7 +36,7 @@ pub one_spelling : (src dst : Addr) (d : UserDatagram) (octets : List ℕ) → S
 one_spelling src dst d octets spells = (form_read d octets spells.form).spelled
 
 -- a sum and its complement, where 0xFFFF goes out for 0
-told_complement : (total : ℕ) → 0 < total → ones_complement (total + told_checksum (65535 - ones_complement total)) ≡ 65535
+told_complement : (total : ℕ) → 0 < total → ones_complement (total + checksum_field (65535 - ones_complement total)) ≡ 65535
 told_complement total some = by_test (nat_eq (65535 - ones_complement total) 0) refl
   where
     by_test : (b : Bool) → nat_eq (65535 - ones_complement total) 0 ≡ b → ones_complement (total + cond b 65535 (65535 - ones_complement total)) ≡ 65535
@@ -60,7 +60,7 @@ summed_is src dst head payload checksum =
     let len : length (spelling (sent_with head payload checksum)) ≡ 8 + length payload = omega arith in
     ap (λ (n : ℕ). pseudo_before src.0 dst.0 n (spelling (sent_with head payload checksum))) len
 
-told_fits : (c : ℕ) → c < 2 ^ 16 → told_checksum c < 2 ^ 16
+told_fits : (c : ℕ) → c < 2 ^ 16 → checksum_field c < 2 ^ 16
 told_fits c fits = by_test (nat_eq c 0) c fits
   where
     by_test : (b : Bool) (c : ℕ) → c < 2 ^ 16 → cond b 65535 c < 2 ^ 16
@@ -75,7 +75,7 @@ sum_told src dst head payload = told_some (checksum_of (summed src dst (spelling
     by_test true c test none = absurd (omega (arith, none))
     by_test false c test none = absurd (grind (arith, nat_tests, test, none))
 
-    told_some : (c : ℕ) → told_checksum c ≢ 0
+    told_some : (c : ℕ) → checksum_field c ≢ 0
     told_some c = by_test (nat_eq c 0) c refl
 
 pub sum_right : (src dst : Addr) (head : Head) (payload : List ℕ) → CanBeSent src dst head payload
@@ -83,10 +83,10 @@ pub sum_right : (src dst : Addr) (head : Head) (payload : List ℕ) → CanBeSen
 sum_right src dst head payload can =
     let len : ℕ = 8 + length payload in
     let before : ℕ = word_sum (pseudo_before src.0 dst.0 len (spelling (sent_with head payload 0))) in
-    let told : ℕ = told_checksum (65535 - ones_complement before) in
+    let told : ℕ = checksum_field (65535 - ones_complement before) in
     let are = words src.0 dst.0 len head payload told can.src_octets can.dst_octets (told_fits (65535 - ones_complement before) (omega arith)) in
-    let is_told : told_checksum (checksum_of (summed src dst (spelling (sent_with head payload 0)))) ≡ told =
-    ap (λ (octets : List ℕ). told_checksum (checksum_of octets)) (summed_is src dst head payload 0) in
+    let is_told : checksum_field (checksum_of (summed src dst (spelling (sent_with head payload 0)))) ≡ told =
+    ap (λ (octets : List ℕ). checksum_field (checksum_of octets)) (summed_is src dst head payload 0) in
     ap (λ (c : ℕ). sum_of (summed src dst (spelling (sent_with head payload c)))) is_told
     ∙ ap sum_of (summed_is src dst head payload told) ∙ ap ones_complement are.0 ∙ told_complement before are.1
 

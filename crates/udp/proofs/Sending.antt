@@ -7,7 +7,7 @@ use Rattle.inet_sum.specs.Sum.{sum_of, pseudo_octets}
 use Rattle.ipv4.specs.declared.addr.Addr.{Addr}
 use Rattle.udp.specs.declared.head.Head.{Head}
 use Rattle.udp.specs.Datagram.{header_octets, spelling, summed}
-use Rattle.udp.specs.Sent.{sent, sent_with, told_checksum}
+use Rattle.udp.specs.Sent.{sent, sent_with, checksum_field}
 
 -- the length of the payload that stands behind a header
 pub payload-length : (out : List ℕ) (n : ℕ) → 8 + n ≤ length out → length (slice_range out 8 (8 + n)) ≡ n
@@ -29,13 +29,13 @@ before head out n checksum =
 pub emitted : (src dst : Addr) (head : Head) (payload : List ℕ) (sum told : ℕ) (out first last : List ℕ)
     → first ≡ header_octets (sent_with head payload 0)
     → sum ≡ sum_of (summed src dst (first ++ payload))
-    → told ≡ told_checksum (65535 - sum)
+    → told ≡ checksum_field (65535 - sum)
     → last ≡ header_octets (sent_with head payload told)
     → last ++ drop 8 out ≡ header_octets (sent src dst head payload) ++ drop 8 out
 emitted src dst head payload sum told out first last is_first is_sum is_told is_last =
     let sum_is : sum ≡ sum_of (summed src dst (spelling (sent_with head payload 0))) = is_sum ∙ ap (λ (xs : List ℕ). sum_of (summed src dst (xs ++ payload))) is_first in
     ap (λ (xs : List ℕ). xs ++ drop 8 out) is_last
-    ∙ ap (λ (m : ℕ). header_octets (sent_with head payload m) ++ drop 8 out) (is_told ∙ ap (λ (m : ℕ). told_checksum (65535 - m)) sum_is)
+    ∙ ap (λ (m : ℕ). header_octets (sent_with head payload m) ++ drop 8 out) (is_told ∙ ap (λ (m : ℕ). checksum_field (65535 - m)) sum_is)
 
 -- a sum of a header and of the payload behind it
 pub summed_in_parts : (src dst : Addr) (header payload : List ℕ) (len result : ℕ) → len ≡ length (header ++ payload)

@@ -15,13 +15,13 @@ sent_with head payload checksum = record {
 }
 
 -- a checksum in the place of none: its other spelling in one's complement, 0xFFFF, where it is 0
-abbrev pub told_checksum : ℕ → ℕ
-told_checksum checksum = if checksum == 0 then 65535 else checksum
+abbrev pub checksum_field : ℕ → ℕ
+checksum_field checksum = if checksum == 0 then 65535 else checksum
 
 -- as it is sent: the checksum is that of the pseudo header and the datagram with a checksum of zero
 abbrev pub sent : Addr → Addr → Head → List ℕ → UserDatagram
 sent src dst head payload =
-    sent_with head payload (told_checksum (checksum_of (summed src dst (spelling (sent_with head payload 0)))))
+    sent_with head payload (checksum_field (checksum_of (summed src dst (spelling (sent_with head payload 0)))))
 
 -- a UDP datagram that can be sent: its fields are of their width, and the addresses have four octets
 pub record CanBeSent (src dst : Addr) (head : Head) (payload : List ℕ) : Type 0 where

@@ -3,7 +3,7 @@
 ghost use Rattle.std.specs.Prelude.{◌≡◌, ℕ, List, ◌+◌, ◌-◌, ◌<◌, ◌≤◌, ◌^◌, ◌++◌, length, drop, slice_range};
 ghost use Rattle.inet_sum.specs.Sum.{sum_of};
 ghost use Rattle.udp.specs.Datagram.{header_octets, spelling};
-ghost use Rattle.udp.specs.Sent.{CanBeSent, sent, sent_with, told_checksum};
+ghost use Rattle.udp.specs.Sent.{CanBeSent, sent, sent_with, checksum_field};
 
 use crate::sum::sum_in_parts;
 use ipv4::Addr;
@@ -90,7 +90,7 @@ impl Head {
 
 /// A checksum as it goes out: 0 would say that there is none.
 fn told(checksum: u16) -> u16
-    ensures { result ≡ told_checksum checksum }
+    ensures { result ≡ checksum_field checksum }
 {
     if checksum == 0 { u16::MAX } else { checksum }
 }

@@ -51,7 +51,7 @@ impl<'a> UdpView<'a> {
         ensures some { IfSome result (λ view. HasForm view octets.now) }
         ensures none { IfNone result ((d : UserDatagram) → HasForm d octets.now → ⊥) }
     {
-        let len = told_len(octets)?;
+        let len = length_field(octets)?;
         Some(UdpView {
             octets: &octets[..len],
         })
@@ -102,7 +102,7 @@ impl<'a> UdpView<'a> {
 }
 
 /// The length that these octets tell, where they have room for it and it for a header.
-fn told_len(octets: &[u8]) -> Option<usize>
+fn length_field(octets: &[u8]) -> Option<usize>
     ensures { result ≡ len_in octets.now }
 {
     if octets.len() < HEADER_LEN {

@@ -99,7 +99,7 @@ fn ends_with(rt: &impl Abort, alloc: Global, fault: CopyFault, call: u64) {
 }
 
 #[test]
-fn devices_that_fail_are_told(rt: HostRuntime) {
+fn devices_that_fail_are_reported(rt: HostRuntime) {
     for (fault, calls) in FAULTS {
         for call in 1..=calls {
             ends_with(&rt, rt.alloc(), fault, call);

@@ -145,7 +145,7 @@ const BROKEN: [(CopyFault, u64, &str); 7] = [
 ];
 
 #[test]
-fn faults_tell_what_was_written(rt: HostRuntime) -> Result<(), Fail> {
+fn faults_report_what_was_written(rt: HostRuntime) -> Result<(), Fail> {
     for (fault, written, text) in BROKEN {
         let said = format!(in rt.alloc(); "{}", Broken { fault, written })?;
         assert!(rt; said.as_str() == text);

@@ -333,7 +333,7 @@ fn text(alloc: Global, many: &Many) -> Result<Vec<u8>, AllocError> {
 }
 
 #[test]
-fn long_texts_are_told_in_turn(rt: HostRuntime) -> Result<(), AllocError> {
+fn long_texts_are_printed_in_turn(rt: HostRuntime) -> Result<(), AllocError> {
     for (index, many) in MANY.iter().enumerate() {
         let text = text(rt.alloc(), many)?;
         let out = Device {

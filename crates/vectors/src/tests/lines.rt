@@ -309,7 +309,7 @@ fn is_told_so(alloc: Global, row: &Row) -> Result<bool, Fail> {
 }
 
 #[test]
-fn frames_are_told(rt: HostRuntime) -> Result<(), Fail> {
+fn frames_are_decoded(rt: HostRuntime) -> Result<(), Fail> {
     for table in &[ARP.as_slice(), &SEGMENTS, &OTHERS, &PARTS, &DROPS] {
         for row in *table {
             assert!(rt; is_told_so(rt.alloc(), row)?);

@@ -7,8 +7,8 @@ pub copy_from_slice-requires : goal.copy_from_slice-requires
 copy_from_slice-requires c =
     omega (arith, ap length c.fixed.ensures.octets, length-take 20 c.args.out.now, least_offset c.args.self.now)
 
-pub returns-then-tells_mss-clause-octets : goal.returns-then-tells_mss-clause-octets
-returns-then-tells_mss-clause-octets c =
-    with_option c.args.self.now c.args.checksum c.copy_from_slice.new.self c.copy_from_slice-then-tells_mss.new.self c.args.out.now (sym c.tells_mss.ensures ∙ c.if-tells_mss.true)
+pub returns-then-has_mss_option-clause-octets : goal.returns-then-has_mss_option-clause-octets
+returns-then-has_mss_option-clause-octets c =
+    with_option c.args.self.now c.args.checksum c.copy_from_slice.new.self c.copy_from_slice-then-has_mss_option.new.self c.args.out.now (sym c.has_mss_option.ensures ∙ c.if-has_mss_option.true)
     (c.copy_from_slice.ensures.after ∙ c.fixed.ensures.octets)
-    (c.copy_from_slice-then-tells_mss.ensures.after ∙ ap (λ (octets : List ℕ). 2 ∷ 4 ∷ get_or octets 0 0 ∷ get_or octets 1 0 ∷ []) c.to_be_bytes.ensures)
+    (c.copy_from_slice-then-has_mss_option.ensures.after ∙ ap (λ (octets : List ℕ). 2 ∷ 4 ∷ get_or octets 0 0 ∷ get_or octets 1 0 ∷ []) c.to_be_bytes.ensures)

@@ -6,7 +6,7 @@ use Rattle.tcp_halves.specs.Stream.{outstanding}
 use Rattle.tcp_state.specs.Resend.{resend_lost}
 use Rattle.tcp_state.specs.Timing.{clocked}
 use Rattle.tcp_state.specs.Congestion.{after_signal}
-use Rattle.tcp_state.specs.Arrival.{begins_wait, is_moved, resend_heard, resend_after, congestion_event_of, tells_loss, congestion_after, timed_by}
+use Rattle.tcp_state.specs.Arrival.{begins_wait, is_moved, resend_heard, resend_after, congestion_event_of, reveals_loss, congestion_after, timed_by}
 use Rattle.tcp_state.proofs.Congestion.{syn_kept}
 use Rattle.tcp_state.proofs.connection.Connection.note_heard.Goals as goal
 use Rattle.tcp_state.proofs.connection.Connection.note_heard.Goals.{then-starts_wait, else-starts_wait}
@@ -14,7 +14,7 @@ use Rattle.tcp_state.proofs.connection.Connection.note_heard.Goals.{then-starts_
 -- what a segment tells, once its progress is noted
 abbrev signalled : Before → View → View
 signalled b w = record w {
-  resend = if tells_loss (congestion_event_of b w) w.congestion then resend_lost w.resend (outstanding w.sending) else w.resend;
+  resend = if reveals_loss (congestion_event_of b w) w.congestion then resend_lost w.resend (outstanding w.sending) else w.resend;
   congestion = congestion_after b w;
 }
 
