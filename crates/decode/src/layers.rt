@@ -4,8 +4,8 @@ ghost use Rattle.std.specs.Prelude.{◌≡◌, ◌++◌, IfOk, OnOk, string_byte
 ghost use Rattle.decode.specs.Layers.{Decodes, Grows, Shows, IsShown, IsPayloadShown, IsDatagramShown, IsUpperShown, carried_by, upper_in, drop_line, ipv4_cause, arp_shown, icmp_shown, udp_shown, tcp_shown};
 
 use crate::carried::{Carried, Upper, carried_by, upper_in};
-use crate::unreadable::Unreadable;
 use crate::lines::{push_arp, push_ether, push_icmp, push_ipv4, push_tcp, push_udp};
+use crate::unreadable::Unreadable;
 use arp::{ArpFault, ArpPacket};
 use ether::{EtherView, FrameFault};
 use icmp::{IcmpFault, IcmpView};

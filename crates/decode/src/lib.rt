@@ -2,15 +2,15 @@
 #![tactic(auto)]
 
 mod carried;
-mod unreadable;
 pub mod laws;
 mod layers;
 mod lines;
 mod pairs;
+mod unreadable;
 mod words;
 
-pub use unreadable::Unreadable;
 pub use layers::decode;
 pub use lines::{push_message, push_packet, push_user};
 pub use pairs::{HexFault, octets_of};
+pub use unreadable::Unreadable;
 pub use words::{fragment_name, push_flags};

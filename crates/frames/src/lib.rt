@@ -12,6 +12,6 @@ mod reading;
 
 pub use drop::DropCause;
 pub use emission::{FrameHead, HEADS, emit_arp};
-pub use meaning::{Control, Meaning, ReceivedSegment, ReceivedDatagram};
+pub use meaning::{Control, Meaning, ReceivedDatagram, ReceivedSegment};
 pub use pairs::pair_in;
 pub use reading::read;

@@ -12,7 +12,7 @@ ghost use Rattle.udp.specs.Reading.{datagram_or_fault};
 ghost use Rattle.frames.specs.Meaning.{heard, frame_heard, payload_heard, packet_heard, datagram_heard, upper_heard, fragment_heard, segment_heard, message_heard, user_heard, is_for, is_fragment, may_send};
 
 use crate::drop::DropCause;
-use crate::meaning::{Control, Meaning, ReceivedSegment, ReceivedDatagram};
+use crate::meaning::{Control, Meaning, ReceivedDatagram, ReceivedSegment};
 use arp::ArpPacket;
 use ether::{ETHERTYPE_ARP, ETHERTYPE_IPV4, EtherView, FRAME_MAX, Mac};
 use icmp::{IcmpFault, IcmpView};

@@ -48,7 +48,12 @@ impl Host {
 
     /// Takes a segment for us, at this moment.
     #[tactic(auto, using(crate::proofs::Answered::answered, crate::proofs::Answered::met_answer, crate::proofs::Answered::owed_addr))]
-    fn take(&mut self, now: Moment, isn: Seq, received: &ReceivedSegment<'_>) -> Result<(), DropCause>
+    fn take(
+        &mut self,
+        now: Moment,
+        isn: Seq,
+        received: &ReceivedSegment<'_>,
+    ) -> Result<(), DropCause>
         ensures { MeetsHeard (Ok (Tcp received.now)) self.old now isn.0 result self.new }
     {
         let (source, segment) = (received.source, &received.segment);

@@ -12,7 +12,7 @@ use frames::{DropCause, ReceivedDatagram};
 use icmp::Reason;
 use interface::Interface;
 use ipv4::{Addr, Ipv4View};
-use reassembly::{Loss, Assembled};
+use reassembly::{Assembled, Loss};
 use sockets::{Reception, Sockets};
 use udp::UdpView;
 

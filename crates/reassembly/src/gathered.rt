@@ -5,10 +5,10 @@ ghost use Rattle.reassembly.specs.Fragments.{begin_of};
 ghost use Rattle.reassembly.specs.Octets.{laid, is_covered, filled};
 ghost use Rattle.reassembly.specs.Reassembly.{quote_after, quoted};
 
+use crate::assembled::Whole;
 use crate::buffer::DataBuffer;
 use crate::fragment;
 use crate::quote::Quote;
-use crate::assembled::Whole;
 use ipv4::Ipv4View;
 use std::alloc::{AllocError, Global};
 

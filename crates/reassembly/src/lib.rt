@@ -1,6 +1,7 @@
 //! Datagrams put together from their fragments (RFC 791 section 3.2), within a time (RFC 1122 section 3.3.2).
 #![tactic(auto)]
 
+mod assembled;
 mod buffer;
 mod expired;
 mod fault;
@@ -12,11 +13,10 @@ mod pending;
 mod place;
 mod pool;
 mod quote;
-mod assembled;
 
+pub use assembled::{Assembled, Loss, Whole};
 pub use expired::Expired;
 pub use fault::PoolFault;
 pub use key::Key;
 pub use pool::{PLACES, Pool};
 pub use quote::Quote;
-pub use assembled::{Assembled, Loss, Whole};

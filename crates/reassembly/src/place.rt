@@ -10,13 +10,13 @@ ghost use Rattle.reassembly.specs.Octets.{whole_of, is_covered, filled};
 ghost use Rattle.reassembly.specs.Places.{is_of, after_time, expired_of};
 ghost use Rattle.reassembly.specs.Reassembly.{Answers, begun, continued, deadline_of, end_after, left, outcome, quote_after};
 
+use crate::assembled::{Assembled, Loss};
 use crate::buffer::DataBuffer;
 use crate::expired::Expired;
 use crate::fragment;
 use crate::gathered::Gathered;
 use crate::key::Key;
 use crate::pending::Pending;
-use crate::assembled::{Loss, Assembled};
 use clock::Moment;
 use ipv4::Ipv4View;
 use std::alloc::{AllocError, Global};

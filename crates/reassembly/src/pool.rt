@@ -6,11 +6,11 @@ ghost use Rattle.std.specs.Io.BufRead.{Rests};
 ghost use Rattle.reassembly.specs.contracts.pool.Pool.{the_row};
 ghost use Rattle.reassembly.specs.Places.{is_of, place_for, after_take, AnswersTake, after_age, expired, next_deadline};
 
+use crate::assembled::{Assembled, Loss};
 use crate::expired::Expired;
 use crate::fault::PoolFault;
 use crate::key::Key;
 use crate::place::Place;
-use crate::assembled::{Loss, Assembled};
 use arrayvec::ArrayVec;
 use clock::{Moment, sooner};
 use ipv4::Ipv4View;

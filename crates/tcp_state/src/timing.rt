@@ -73,7 +73,8 @@ impl Connection {
         ensures { self.new ≡ record self.old { timers = record self.old.timers { overriding = override_timer self.old now } } }
     {
         if self.timers.overriding.is_none() && self.awaits_more() {
-            self.timers.set(TimerKind::Override, now.after(OVERRIDE_WAIT));
+            self.timers
+                .set(TimerKind::Override, now.after(OVERRIDE_WAIT));
         }
     }
 

@@ -3,7 +3,7 @@
 use super::A;
 use clock::Moment;
 use ipv4::Ipv4View;
-use reassembly::{Expired, Loss, Pool, Assembled};
+use reassembly::{Assembled, Expired, Loss, Pool};
 use std::test::Fail;
 
 /// What a fragment comes to.

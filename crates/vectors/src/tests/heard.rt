@@ -1,7 +1,7 @@
 //! What frames are to a host: the octets are those that the RFCs' formats give.
 
 use arp::ArpPacket;
-use ether::{Mac, FRAME_MAX};
+use ether::{FRAME_MAX, Mac};
 use frames::{DropCause, FrameHead, Meaning, emit_arp, read};
 use icmp::Kind;
 use ipv4::{Addr, Ipv4View, Protocol};

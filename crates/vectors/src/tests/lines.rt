@@ -1,6 +1,6 @@
 //! What is printed of frames. The octets and the lines are those that the RFCs' formats give.
 
-use decode::{Unreadable, HexFault, decode, octets_of};
+use decode::{HexFault, Unreadable, decode, octets_of};
 use std::alloc::Global;
 use std::test::Fail;
 

@@ -1,6 +1,6 @@
 //! Frames of Ethernet (RFC 894).
 
-use ether::{EtherView, FrameFault, Head, Mac, FRAME_MAX};
+use ether::{EtherView, FRAME_MAX, FrameFault, Head, Mac};
 
 /// Destination, source, type and payload, or the fault.
 type Read<'a> = Result<(Mac, Mac, u16, &'a [u8]), FrameFault>;

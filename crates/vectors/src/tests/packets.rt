@@ -3,7 +3,7 @@
 use super::{A, B};
 use arp::{ArpCache, ArpFault, ArpPacket, LEN, Operation};
 use clock::Moment;
-use ether::{EtherView, Head, Mac, FRAME_MAX};
+use ether::{EtherView, FRAME_MAX, Head, Mac};
 use ipv4::Addr;
 
 const MAC_A: Mac = Mac([2, 0, 0, 0, 0, 1]);

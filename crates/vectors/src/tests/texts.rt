@@ -2,7 +2,7 @@
 
 use super::A;
 use arp::ArpFault;
-use decode::{Unreadable, HexFault};
+use decode::{HexFault, Unreadable};
 use ether::{FrameFault, Mac};
 use icmp::{IcmpFault, Kind};
 use ipv4::{Addr, Ipv4Fault, Prefix, PrefixFault, Protocol};
