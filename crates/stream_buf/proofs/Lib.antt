@@ -11,5 +11,6 @@ pub mod Joining
 pub mod Gathering
 pub mod Filling
 pub mod Copying
+pub mod Turning
 pub mod Storing
 pub mod Viewing

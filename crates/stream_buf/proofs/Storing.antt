@@ -8,7 +8,8 @@ use Rattle.std.specs.List.{slice_get, range_with_len}
 use Rattle.stream_buf.specs.declared.ranges.Range.{Range}
 use Rattle.stream_buf.specs.Ranges.{range, AreApart, AreWithin, with_range, further}
 use Rattle.stream_buf.specs.Receiving.{front, behind_front, ranges_after, ranges, laid}
-use Rattle.stream_buf.specs.Stored.{is_in, is_kept, kept_at, kept_places, filled_to, overlaid, laid_at}
+use Rattle.stream_buf.specs.Ring.{overlaid}
+use Rattle.stream_buf.specs.Stored.{is_in, is_kept, kept_at, kept_places, filled_to, laid_at}
 use Rattle.stream_buf.proofs.Standing.{laid_own, laid_before, laid_behind, at_more}
 use Rattle.stream_buf.proofs.Inserting.{length-laid}
 use Rattle.stream_buf.proofs.Joining.{none_before, none_past, kept_behind, kept_further, kept_with, in_here, not_in, not_in_past, apart_before, within_further}

@@ -3,11 +3,11 @@ use Rattle.std.proofs.Common.{◌≡◌, ℕ, ◌+◌, ◌-◌, ◌<◌, ◌≤�
 use Rattle.std.proofs.Math.Seq.{take-add}
 use Rattle.std.proofs.lemmas.Bool.{cases_eq, leb-true, le-leb}
 use Rattle.std.proofs.lemmas.List.{append-nil, length-replicate, length-take, length-drop, take-take, take-append-le, drop-append-le, drop-drop, drop-take}
-use Rattle.circular_buffer.specs.Buffer.{Buffer, buffer}
+use Rattle.stream_buf.specs.Ring.{Buffer, buffer, overlaid}
 use Rattle.stream_buf.specs.declared.ranges.Range.{Range}
 use Rattle.stream_buf.specs.Ranges.{range, AreApart, AreWithin, with_range, further}
 use Rattle.stream_buf.specs.Receiving.{ReceiveView, nothing_received, front, behind_front, ranges, laid, is_taken, joined, after_insert, read_count, after_read, after_forgetting, IsReceiving}
-use Rattle.stream_buf.specs.Stored.{kept_places, receive_view, IsStored, filled_to, overlaid, laid_at}
+use Rattle.stream_buf.specs.Stored.{kept_places, receive_view, IsStored, filled_to, laid_at}
 use Rattle.stream_buf.proofs.Inserting.{front_ahead, all_behind, laid_none, ranges_laid_none}
 use Rattle.stream_buf.proofs.Taking.{taken_first, taken_ahead}
 use Rattle.stream_buf.proofs.Joining.{apart_with, within_with, within_further, within_nearer}
@@ -75,7 +75,7 @@ module _ (n distance : ℕ) (new octets : List ℕ) (there : n ≤ length octets
       ∙ ap (λ (xs : List ℕ). take distance (drop n l) ++ new ++ xs) (sym (drop-drop (distance + length new) n l))
       ∙ ap (λ (xs : List ℕ). overlaid distance new xs) filled_behind
 
-module _ (octets : Buffer ℕ) (n : ℕ) (rs : List Range) (stored : IsStored octets n rs) where
+module _ (octets : Buffer) (n : ℕ) (rs : List Range) (stored : IsStored octets n rs) where
   reach : AreWithin (length (drop n octets.items)) rs
   reach = subst (λ (k : ℕ). AreWithin k rs) (sym (length-drop n octets.items)) stored.ahead
 

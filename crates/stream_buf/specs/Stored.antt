@@ -1,8 +1,8 @@
 -- How the octets that came lie in a ring: those in order from the front on, and behind them those ahead of a gap, at their own places,
 -- with filler at the others. The contracts of `RecvBuf` do not rest on this page.
-use Rattle.std.specs.Prelude.{ℕ, ◌+◌, ◌-◌, ◌^◌, ◌≤◌, ◌<◌, ◌&&◌, ◌||◌, nat_lt, nat_le, Bool, false, if◌then◌else◌, List, [], ◌∷◌, ◌++◌, length, map, take, drop, replicate, Option, None}
+use Rattle.std.specs.Prelude.{ℕ, ◌-◌, ◌^◌, ◌≤◌, ◌<◌, ◌&&◌, ◌||◌, nat_lt, nat_le, Bool, false, if◌then◌else◌, List, [], ◌∷◌, ◌++◌, length, map, take, drop, replicate, Option, None}
 use Rattle.std.specs.List.{slice_get, range_with_len}
-use Rattle.circular_buffer.specs.Buffer.{Buffer}
+use Rattle.stream_buf.specs.Ring.{Buffer, overlaid}
 use Rattle.stream_buf.specs.declared.ranges.Range.{Range}
 use Rattle.stream_buf.specs.Ranges.{AreApart, AreWithin}
 use Rattle.stream_buf.specs.declared.receive.TheConstants.{MOST_RANGES}
@@ -26,7 +26,7 @@ unfoldable pub kept_places : List Range → List ℕ → ℕ → List (Option �
 kept_places ranges ahead room = map (kept_at ranges ahead) (range_with_len 0 room)
 
 -- a receive buffer, of whose ring so many octets are readable
-abbrev pub receive_view : Buffer ℕ → ℕ → List Range → ReceiveView
+abbrev pub receive_view : Buffer → ℕ → List Range → ReceiveView
 receive_view octets readable ranges = record {
   readable = take readable octets.items;
   kept = kept_places ranges (drop readable octets.items) (octets.capacity - readable);
@@ -34,7 +34,7 @@ receive_view octets readable ranges = record {
 }
 
 -- what is readable is there, and so is what is kept, in ranges of which there are no more than the most
-pub record IsStored (octets : Buffer ℕ) (readable : ℕ) (ranges : List Range) : Type 0 where
+pub record IsStored (octets : Buffer) (readable : ℕ) (ranges : List Range) : Type 0 where
   pub apart : AreApart 1 ranges
   pub few : length ranges ≤ MOST_RANGES
   pub fits : (length octets.items ≤ octets.capacity) × (octets.capacity < 2 ^ 64)
@@ -45,10 +45,6 @@ pub record IsStored (octets : Buffer ℕ) (readable : ℕ) (ranges : List Range)
 abbrev pub filled_to : ℕ → List ℕ → List ℕ
 filled_to len octets = octets ++ replicate (len - length octets) 0
 
--- these octets stand in the place of as many others, from a place on
-abbrev pub overlaid : ℕ → List ℕ → List ℕ → List ℕ
-overlaid at new octets = take at octets ++ new ++ drop (at + length new) octets
-
--- the same, where there may be fewer others
+-- these octets stand from a place on, over those that are there
 abbrev pub laid_at : ℕ → List ℕ → List ℕ → List ℕ
 laid_at at new octets = overlaid at new (filled_to at octets)

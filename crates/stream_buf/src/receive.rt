@@ -4,8 +4,7 @@ ghost use Rattle.std.specs.Prelude.{◌≡◌, ◌+◌, ◌<◌, ◌≤◌, ◌+
 ghost use Rattle.stream_buf.specs.Receiving.{nothing_received, ranges, is_taken, joined, after_insert, read_count, read_octets, after_read, after_forgetting, IsReceiving};
 
 use crate::ranges::{Range, Ranges};
-use crate::ring::lay;
-use circular_buffer::HeapCircularBuffer;
+use crate::ring::Ring;
 use std::alloc::{AllocError, Global};
 use std::marker::Model;
 
@@ -17,7 +16,7 @@ pub const MOST_RANGES: usize = 32;
 #[derive(Drop)]
 pub struct RecvBuf {
     // Those in order stand in front. Behind them each that is kept has its own place, and filler stands at the others.
-    octets: HeapCircularBuffer<u8>,
+    octets: Ring,
     readable: usize,
     ranges: Ranges,
 }
@@ -38,7 +37,7 @@ impl RecvBuf {
     pub fn with_capacity(alloc: Global, capacity: usize) -> Result<RecvBuf, AllocError>
         ensures { IfOk result (λ buffer. buffer ≡ nothing_received capacity) }
     {
-        let octets = HeapCircularBuffer::with_capacity(alloc, capacity)?;
+        let octets = Ring::with_capacity(alloc, capacity)?;
         Ok(RecvBuf {
             octets,
             readable: 0,
@@ -139,7 +138,7 @@ impl RecvBuf {
         ensures count { result ≡ length (joined self.old 0 octets.now) }
         ensures after { self.new ≡ after_insert self.old 0 octets.now }
     {
-        lay(&mut self.octets, self.readable, octets);
+        self.octets.lay(self.readable, octets);
         let count = self.ranges.join_front(octets.len());
         self.readable += count;
         count
@@ -154,7 +153,7 @@ impl RecvBuf {
         ensures count { length (joined self.old distance octets.now) ≡ 0 }
         ensures after { self.new ≡ after_insert self.old distance octets.now }
     {
-        lay(&mut self.octets, self.readable + distance, octets);
+        self.octets.lay(self.readable + distance, octets);
         self.ranges.add(Range {
             start: distance,
             end: distance + octets.len(),

@@ -4,15 +4,14 @@ ghost use Rattle.std.specs.Prelude.{◌≡◌, ◌+◌, ◌≤◌, ◌==◌, len
 ghost use Rattle.inet_sum.specs.Sum.{sum_of};
 ghost use Rattle.stream_buf.specs.Sending.{nothing_held, send_room, written_count, after_write, after_acked, copied};
 
-use crate::ring;
-use circular_buffer::HeapCircularBuffer;
+use crate::ring::{self, Ring};
 use std::alloc::{AllocError, Global};
 use std::marker::Model;
 
 /// The octets that were written and are not acknowledged, in order. Only the making takes memory.
 #[derive(Drop)]
 pub struct SendBuf {
-    held: HeapCircularBuffer<u8>,
+    held: Ring,
 }
 
 impl Model for SendBuf {
@@ -28,7 +27,7 @@ impl SendBuf {
     pub fn with_capacity(alloc: Global, capacity: usize) -> Result<SendBuf, AllocError>
         ensures { IfOk result (λ buffer. buffer ≡ nothing_held capacity) }
     {
-        let held = HeapCircularBuffer::with_capacity(alloc, capacity)?;
+        let held = Ring::with_capacity(alloc, capacity)?;
         Ok(SendBuf { held })
     }
 
@@ -45,7 +44,7 @@ impl SendBuf {
         requires { count ≤ length self.old.held }
         ensures { self.new ≡ after_acked self.old count }
     {
-        self.held.truncate_front(self.held.len() - count);
+        self.held.drop_front(count);
     }
 
     /// Fills `out` with the octets that are held from the place `offset` on, and answers their one's complement sum (RFC 1071), which

@@ -1,6 +1,6 @@
 use Rattle.std.proofs.Common.{◌≡◌, ℕ, ◌+◌, ◌<◌, ◌≤◌, nat_le, List, length, sym, ◌∙◌, ap, subst, arith}
 use Rattle.std.proofs.lemmas.Bool.{eqb-true, eqb-false}
-use Rattle.circular_buffer.specs.Buffer.{Buffer}
+use Rattle.stream_buf.specs.Ring.{Buffer}
 use Rattle.stream_buf.specs.declared.ranges.Range.{Range}
 use Rattle.stream_buf.specs.Receiving.{ReceiveView, is_taken}
 use Rattle.stream_buf.specs.Stored.{receive_view}
@@ -11,7 +11,7 @@ use Rattle.stream_buf.proofs.receive.RecvBuf.takes.Goals.{then-distance-eq0-via-
 
 pub returns-then-distance-eq0 : goal.returns-then-distance-eq0
 returns-then-distance-eq0 c =
-    let octets : Buffer ℕ = c.self.inside.octets in
+    let octets : Buffer = c.self.inside.octets in
     let n : ℕ = c.self.inside.readable in
     let rs : List Range = c.self.inside.ranges in
     let at : ℕ = c.args.distance in
@@ -31,7 +31,7 @@ overflow_add-new c =
 
 pub returns : goal.returns
 returns c =
-    let octets : Buffer ℕ = c.self.inside.octets in
+    let octets : Buffer = c.self.inside.octets in
     let n : ℕ = c.self.inside.readable in
     let rs : List Range = c.self.inside.ranges in
     let at : ℕ = c.args.distance in
