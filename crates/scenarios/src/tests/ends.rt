@@ -121,7 +121,8 @@ impl End {
 
     /// Its segment that is due goes out: how many octets it has.
     fn emit(&mut self, now: u64) -> Option<usize> {
-        let len = self.connection.emit(Moment(now), &mut self.frame)?;
+        let due = self.connection.due()?;
+        let len = self.connection.emit(due, Moment(now), &mut self.frame);
         self.len = len;
         Some(len)
     }
