@@ -31,7 +31,8 @@ impl Sockets {
     ghost use Rattle.sockets.specs.Ports.{is_unused_port, is_free_datagram_port};
     ghost use Rattle.sockets.specs.Calls.{bind_refusal, after_bind, port_at, port_bound, last_port_bound, sockname_answer, peername_answer, listen_refusal, after_listen, state_answer, is_table_full, IsMade, is_next_at, accept_answer, after_accept, send_answer, after_send, recv_answer, recv_front, after_recv, connect_refusal, after_connect, reach_refusal, port_for, last_port_after, pair_connected, shutdown_refusal, after_shutdown};
 
-    /// Makes a socket, with the room for one connection, or with the two queues of a UDP socket. EMFILE where the table is full or the last id is given, ENOMEM.
+    /// Makes a socket, with the room for one connection, or with the two queues of a UDP socket. EMFILE where the table is full or the last id
+    /// is given, ENOMEM.
     pub fn socket(&mut self, kind: Kind) -> Result<SocketId, Refusal>
         ensures full { (result ≡ Err Refusal.EMFILE) ↔ IsTrue (is_table_full self.old) }
         ensures other { IfErr result (λ e. (e ≡ Refusal.EMFILE) ⊎ (e ≡ Refusal.ENOMEM)) }
@@ -50,11 +51,11 @@ impl Sockets {
         Ok(SocketId(id))
     }
 
-    /// Binds a socket to a local endpoint, at our address or 0.0.0.0, which stands for it. In place of port 0 it is given a dynamic port: the
-    /// first behind the last one given that no entry of its kind has.
+    /// Binds a socket to a local endpoint, at our address or 0.0.0.0, which stands for it. In place of port 0 it is given a dynamic port
+    /// (RFC 6335 section 6): the first behind the last one given that no entry of its kind has. `sockname` tells which.
     ///
     /// EBADF; EINVAL where it is bound already or has had a connection; EADDRNOTAVAIL at another address; EADDRINUSE where an entry of its
-    /// kind has the port, or no dynamic port is free.
+    /// kind has the port, or port 0 is asked for and no dynamic port is free.
     pub fn bind(&mut self, id: SocketId, local: Endpoint) -> Result<(), Refusal>
         ensures refused { result_err result ≡ bind_refusal self.old id local }
         ensures ok { OnOk result (self.new ≡ after_bind self.old id local) }
@@ -132,7 +133,8 @@ impl Sockets {
         Ok(local.port)
     }
 
-    /// Where a socket is: the local end of its connection, or the endpoint to which it is bound; 0.0.0.0 and port 0 where it is not bound. EBADF.
+    /// Where a socket is: the local end of its connection, else the endpoint that it is bound to, with the port that it was given; 0.0.0.0 and
+    /// port 0 where it is not bound. EBADF.
     pub fn sockname(&self, id: SocketId) -> Result<Endpoint, Refusal>
         ensures { result ≡ sockname_answer self.now id }
     {
@@ -140,7 +142,7 @@ impl Sockets {
         Ok(self.entries[place].role.own_end())
     }
 
-    /// The peer of a socket's connection, in any state.
+    /// The peer of a socket's connection, in any state, CLOSED too.
     ///
     /// EBADF; ENOTCONN where the socket has had no connection, or is a UDP socket.
     pub fn peername(&self, id: SocketId) -> Result<Endpoint, Refusal>
@@ -150,7 +152,8 @@ impl Sockets {
         self.entries[place].role.peer().ok_or(Refusal::ENOTCONN)
     }
 
-    /// Lets a bound socket take connections, of which `backlog` may wait to be accepted.
+    /// Lets a bound socket take connections, of which `backlog` may wait, 1 to 8: those in SYN-RECEIVED and those that are not accepted count,
+    /// reset since or not.
     ///
     /// EBADF; EOPNOTSUPP of a UDP socket; EINVAL where the backlog is not 1 to 8, or the socket listens already or has had a connection; EDESTADDRREQ
     /// where it is not bound.
@@ -224,9 +227,9 @@ impl Sockets {
 
     /// Opens a connection to `peer`, whose initial sequence number here is `isn` (RFC 9293 section 3.10.1).
     ///
-    /// EBADF; EOPNOTSUPP of a UDP socket and where the socket listens; the error that its connection reports; EALREADY while it opens a connection; EISCONN where it has had
-    /// one; EADDRNOTAVAIL for port 0, an address that isn't unicast or our own; ENETUNREACH where no route leads to the peer, which `is_routed`
-    /// says; EADDRINUSE where the pair is held or no dynamic port is free.
+    /// EBADF; EOPNOTSUPP of a UDP socket and where the socket listens; the error that its connection reports; EALREADY while it opens a
+    /// connection; EISCONN where it has had one; EADDRNOTAVAIL for port 0, an address that isn't unicast or our own; ENETUNREACH where no route leads
+    /// to the peer's address, which `is_routed` says (RFC 1122 section 3.3.1.1); EADDRINUSE where the pair is held or no dynamic port is free.
     pub fn connect(
         &mut self,
         isn: Seq,
@@ -309,8 +312,9 @@ impl Sockets {
 
     /// Gives octets to a connection (RFC 9293 section 3.10.2), and answers how many it took: the first that find room.
     ///
-    /// EBADF; EDESTADDRREQ of a UDP socket; EOPNOTSUPP where the socket listens; ENOTCONN where it has no connection; the error that its connection reports; EAGAIN
-    /// while the connection is opened; EPIPE once our side is closed; EAGAIN where octets are given and there is no room.
+    /// EBADF; EDESTADDRREQ of a UDP socket; EOPNOTSUPP where the socket listens; ENOTCONN where it has no connection; the error that its
+    /// connection reports; EAGAIN while the connection is opened; EPIPE once our side is closed; EAGAIN where octets are given and there is
+    /// no room.
     pub fn send(&mut self, id: SocketId, octets: &[u8]) -> Result<usize, Refusal>
         ensures answer { result ≡ send_answer self.old id octets.now }
         ensures ok { OnOk result (self.new ≡ after_send self.old id octets.now) }
@@ -322,11 +326,11 @@ impl Sockets {
     }
 
     /// Reads octets of a connection into `buffer` (RFC 9293 section 3.10.3), in order, as many as there are or as fit. The end of the stream
-    /// is told where nothing is readable and the peer's FIN has come behind all its octets, and where the connection is CLOSED and reports no
-    /// error.
+    /// is answered where nothing is readable and the peer's FIN has come behind all its octets, and where the connection is CLOSED and reports
+    /// no error.
     ///
-    /// EBADF; EOPNOTSUPP of a UDP socket and where the socket listens; EINVAL for an empty buffer; ENOTCONN where it has no connection; the error that its
-    /// connection reports; EAGAIN while the connection is opened, or where nothing is readable before the end.
+    /// EBADF; EOPNOTSUPP of a UDP socket and where the socket listens; EINVAL for an empty buffer; ENOTCONN where it has no connection; the
+    /// error that its connection reports; EAGAIN while the connection is opened, or where nothing is readable before the end.
     pub fn recv(&mut self, id: SocketId, buffer: &mut [u8]) -> Result<Received, Refusal>
         ensures answer { result ≡ recv_answer self.old id (length buffer.old) }
         ensures octets { buffer.new ≡ recv_front self.old id buffer.old }
@@ -339,8 +343,8 @@ impl Sockets {
 
     /// Closes our side of a connection (RFC 9293 section 3.10.4): a FIN follows the octets that were given. Closed again, it stays so.
     ///
-    /// EBADF; EOPNOTSUPP of a UDP socket and where the socket listens; the error that its connection reports; ENOTCONN where it has no connection or is opening
-    /// one.
+    /// EBADF; EOPNOTSUPP of a UDP socket and where the socket listens; the error that its connection reports; ENOTCONN where it has no
+    /// connection or is opening one.
     pub fn shutdown_write(&mut self, id: SocketId) -> Result<(), Refusal>
         ensures refused { result_err result ≡ shutdown_refusal self.old id }
         ensures ok { OnOk result (self.new ≡ after_shutdown self.old id) }

@@ -14,7 +14,7 @@ impl Sockets {
 
     /// Closes a socket: its id names none any more. EBADF.
     ///
-    /// A socket without a connection is gone, and each connection that waits at a listener is aborted. A connection is gone where it
+    /// A socket without a connection is gone, a UDP socket with its datagrams, and each connection that waits at a listener is aborted. A connection is gone where it
     /// is CLOSED or in SYN-SENT, and aborted in SYN-RECEIVED or where octets are unread. Else our side is closed, and it goes on
     /// without a socket until it ends.
     pub fn close(&mut self, id: SocketId) -> Result<(), Refusal>
