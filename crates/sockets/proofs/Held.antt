@@ -10,19 +10,17 @@ use Rattle.ipv4.specs.Addresses.{endpoint_cmp, pair_of, same_addr, same_end}
 use Rattle.tcp_segment.specs.declared.head.Head.{Head}
 use Rattle.tcp_segment.specs.Segment.{Segment}
 use Rattle.clock.specs.declared.moment.Moment.{Moment}
-use Rattle.tcp_state.specs.declared.connection.Fate.{Fate}
-use Rattle.tcp_state.specs.declared.connection.Fate.TheVariants.{Stays, Removed, Rejected}
 use Rattle.tcp_state.specs.View.{View, is_closed}
 use Rattle.tcp_state.specs.Arrival.{opened_passively}
 use Rattle.sockets.specs.declared.entry.SocketId.{SocketId}
 use Rattle.sockets.specs.declared.entry.Entry.{Entry}
 use Rattle.sockets.specs.declared.role.Role.{Role}
 use Rattle.sockets.specs.declared.role.Role.TheVariants.{Idle, Listener, Connected, Datagrams}
-use Rattle.sockets.specs.Entries.{is_between, is_of_pair, is_listening_at, is_live_between, joins, fate_of, new_waiting}
+use Rattle.sockets.specs.Entries.{is_between, is_of_pair, is_live_between, joins, new_waiting}
 use Rattle.sockets.specs.SocketsView.{SocketsView, holder_id}
-use Rattle.sockets.specs.Arrival.{Opens, NoRoom, local_end, peer_end, is_opening, has_no_room, arrival_with_reply, after_opening, arrival}
-use Rattle.sockets.specs.Replies.{reset_at_ack, answer_to, answer_at_listener}
+use Rattle.sockets.specs.Arrival.{Opens, local_end, peer_end, arrival_with_reply, after_opening, arrival}
 use Rattle.sockets.specs.Order.{LiesAt, IsOrdered}
+use Rattle.sockets.proofs.Arrivals.{by_arrival}
 use Rattle.sockets.proofs.Ends.{same_addr-same, same_addr-true, same_end-same}
 use Rattle.sockets.proofs.Followed.{by_test}
 
@@ -88,36 +86,9 @@ answers_not h None next e = cc
 answers_not h (Some head) next e = cc
 
 opening_of : (h : SocketsView) (now : Moment) (isn : ℕ) (source : Addr) (s : Segment) (next : SocketsView) → arrival h now isn source s ≡ Opens next → IsOpening h isn source s next
-opening_of h now isn source s next opened = by_entry (find (is_between (local_end h s) (peer_end source s)) h.entries) refl
-  where
-    by_place : find (is_between (local_end h s) (peer_end source s)) h.entries ≡ None → (listener : Entry) → find (is_listening_at s.destination) h.entries ≡ Some listener → is_opening s.flags ≡ true → (b : Bool) → has_no_room h listener ≡ b → IsOpening h isn source s next
-    by_place none listener found opens true full = let no_place : arrival h now isn source s ≡ NoRoom = rw (none, found, opens, full) in cc
-    by_place none listener found opens false full =
-        let opens_it : arrival h now isn source s ≡ Opens (after_opening h isn listener source s) = rw (none, found, opens, full) in
-        record { none = none; listener = listener; is = cc }
-
-    by_flags : find (is_between (local_end h s) (peer_end source s)) h.entries ≡ None → (listener : Entry) → find (is_listening_at s.destination) h.entries ≡ Some listener → (b : Bool) → is_opening s.flags ≡ b → IsOpening h isn source s next
-    by_flags none listener found true opens = by_place none listener found opens (has_no_room h listener) refl
-    by_flags none listener found false opens =
-        let answers : arrival h now isn source s ≡ arrival_with_reply h (answer_at_listener s) = rw (none, found, opens) in
-        absurd (answers_not h (answer_at_listener s) next (sym answers ∙ opened))
-
-    by_listener : find (is_between (local_end h s) (peer_end source s)) h.entries ≡ None → (o : Option Entry) → find (is_listening_at s.destination) h.entries ≡ o → IsOpening h isn source s next
-    by_listener none None found =
-        let answers : arrival h now isn source s ≡ arrival_with_reply h (answer_to s) = rw (none, found) in
-        absurd (answers_not h (answer_to s) next (sym answers ∙ opened))
-    by_listener none (Some listener) found = by_flags none listener found (is_opening s.flags) refl
-
-    by_fate : (e : Entry) → find (is_between (local_end h s) (peer_end source s)) h.entries ≡ Some e → (r : Fate) → fate_of s e.role ≡ r → IsOpening h isn source s next
-    by_fate e found Stays is = let becomes = (rw (found, is) at opened) in cc
-    by_fate e found Removed is = let becomes = (rw (found, is) at opened) in cc
-    by_fate e found Rejected is =
-        let answers : arrival h now isn source s ≡ arrival_with_reply h (Some (reset_at_ack s)) = rw (found, is) in
-        absurd (answers_not h (Some (reset_at_ack s)) next (sym answers ∙ opened))
-
-    by_entry : (o : Option Entry) → find (is_between (local_end h s) (peer_end source s)) h.entries ≡ o → IsOpening h isn source s next
-    by_entry None found = by_listener found (find (is_listening_at s.destination) h.entries) refl
-    by_entry (Some e) found = by_fate e found (fate_of s e.role) refl
+opening_of h now isn source s next =
+    by_arrival h now isn source s (λ a. a ≡ Opens next → IsOpening h isn source s next) (λ reply is opened. absurd (answers_not h reply next opened)) (λ e taker opened. cc) (λ listener called full opened. cc)
+    (λ listener called room opened. record { none = called.none; listener = listener; is = cc })
 
 apart_too : (a b : Addr) → same_addr a b ≡ false → same_addr b a ≡ false
 apart_too a b apart = by_test (same_addr b a)

@@ -5,6 +5,7 @@ pub mod Refused
 pub mod Turns
 pub mod Connected
 pub mod Arrived
+pub mod Arrivals
 pub mod Foreseen
 pub mod Emitting
 pub mod Queues
