@@ -1,5 +1,5 @@
 -- What answers a segment.
-use Rattle.std.proofs.Common.{◌≡◌, ℕ, Bool, true, false, [], length, Option, Some, None, refl, sym, ◌∙◌, subst, arith}
+use Rattle.std.proofs.Common.{◌≡◌, ℕ, true, [], length, Option, Some, None, refl, subst, arith}
 use Rattle.ipv4.specs.declared.addr.Addr.{Addr}
 use Rattle.tcp_segment.specs.declared.head.Head.{Head}
 use Rattle.tcp_segment.specs.Segment.{Segment, FieldsFit}

@@ -1,7 +1,10 @@
 -- Tables of which each entry is followed to what is left of it.
-use Rattle.std.proofs.Common.{◌≡◌, inl, inr, Bool, true, false, List, [], ◌∷◌, ◌++◌, Option, Some, None, refl, subst}
-use Rattle.std.specs.List.{find, retain_mut}
+use Rattle.std.proofs.Common.{◌≡◌, inl, inr, Bool, true, false, List, [], ◌∷◌, ◌++◌, Option, Some, None, refl, sym, subst}
+use Rattle.std.specs.List.{find, retain_mut, AllByRecursion}
+use Rattle.tcp_state.specs.declared.connection.Fate.{Fate}
 use Rattle.sockets.specs.declared.entry.Entry.{Entry}
+use Rattle.sockets.specs.declared.role.Role.{Role}
+use Rattle.sockets.specs.Entries.{is_kept, entries_after_step, with_role}
 use Rattle.sockets.specs.Lists.{change_first, remove_first}
 use Rattle.sockets.specs.Causes.{Follows}
 
@@ -69,3 +72,37 @@ steps_joined First Then Whole gone joins (x ∷ xs) (y ∷ ys) zs (inr f) g = go
 steps_joined First Then Whole gone joins (x ∷ xs) (y ∷ ys) [] (inl f) g = (joins x y None f.0 g.0, steps_joined First Then Whole gone joins xs ys [] f.1 g.1)
 steps_joined First Then Whole gone joins (x ∷ xs) (y ∷ ys) (z ∷ zs) (inl f) (inl g) = inl (joins x y (Some z) f.0 g.0, steps_joined First Then Whole gone joins xs ys zs f.1 g.1)
 steps_joined First Then Whole gone joins (x ∷ xs) (y ∷ ys) (z ∷ zs) (inl f) (inr g) = inr (joins x y None f.0 g.0, steps_joined First Then Whole gone joins xs ys (z ∷ zs) f.1 g.1)
+
+-- what is found twice is the same
+pub some_same : {T : Type 0} (o : Option T) (x y : T) → o ≡ Some x → o ≡ Some y → x ≡ y
+some_same o x y e f = cc
+
+-- the first that passes takes a step
+pub settled_followed : (Step : Entry → Option Entry → Type 0) (Added : List Entry → Type 0) → Added [] → (r : Fate) (test : Entry → Bool) (change : Role → Role) (entries : List Entry) → ((x : Entry) → Step x (Some x))
+    → (is_kept r ≡ true → (x : Entry) → test x ≡ true → find test entries ≡ Some x → Step x (Some (with_role change x)))
+    → (is_kept r ≡ false → (x : Entry) → test x ≡ true → find test entries ≡ Some x → Step x None)
+    → Follows Step Added entries (entries_after_step r test change entries)
+settled_followed Step Added none r test change entries same changed gone =
+    by_test (is_kept r)
+    (λ kept. rw kept (first_changed Step Added none test (with_role change) entries same (changed kept)))
+    (λ removed. rw removed (first_removed Step Added none test entries same (gone removed)))
+
+-- entries of which this holds, followed by one relation, are followed by another that it implies of each
+pub follows_map : (First Whole : Entry → Option Entry → Type 0) (Added More : List Entry → Type 0) (P : Entry → Type 0) → ((ys : List Entry) → Added ys → More ys) → ((x : Entry) (o : Option Entry) → P x → First x o → Whole x o)
+    → (xs ys : List Entry) → AllByRecursion P xs → Follows First Added xs ys → Follows Whole More xs ys
+follows_map First Whole Added More P adds step [] ys all f = adds ys f
+follows_map First Whole Added More P adds step (x ∷ xs) [] all f = (step x None all.0 f.0, follows_map First Whole Added More P adds step xs [] all.1 f.1)
+follows_map First Whole Added More P adds step (x ∷ xs) (y ∷ ys) all (inl f) = inl (step x (Some y) all.0 f.0, follows_map First Whole Added More P adds step xs ys all.1 f.1)
+follows_map First Whole Added More P adds step (x ∷ xs) (y ∷ ys) all (inr f) = inr (step x None all.0 f.0, follows_map First Whole Added More P adds step xs (y ∷ ys) all.1 f.1)
+
+-- what every step keeps holds of all that is left
+pub all_followed : (Step : Entry → Option Entry → Type 0) (P : Entry → Type 0) → ((x y : Entry) → Step x (Some y) → P x → P y) → (xs ys : List Entry) → Follows Step IsNothing xs ys → AllByRecursion P xs → AllByRecursion P ys
+all_followed Step P keeps [] ys f all = subst (λ (ws : List Entry). AllByRecursion P ws) (sym f) tt
+all_followed Step P keeps (x ∷ xs) [] f all = tt
+all_followed Step P keeps (x ∷ xs) (y ∷ ys) (inl f) all = (keeps x y f.0 all.0, all_followed Step P keeps xs ys f.1 all.1)
+all_followed Step P keeps (x ∷ xs) (y ∷ ys) (inr f) all = all_followed Step P keeps xs (y ∷ ys) f.1 all.1
+
+-- what holds of all and of one that joins
+pub all_joined : {X : Type 0} (P : X → Type 0) (xs : List X) (x : X) → AllByRecursion P xs → P x → AllByRecursion P (xs ++ x ∷ [])
+all_joined P [] x all more = (more, tt)
+all_joined P (y ∷ ys) x all more = (all.0, all_joined P ys x all.1 more)

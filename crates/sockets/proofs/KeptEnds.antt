@@ -1,5 +1,5 @@
 -- Whatever happens to a connection, its endpoints stay, and what is CLOSED stays so.
-use Rattle.std.proofs.Common.{◌≡◌, ℕ, ◌&&◌, ◌||◌, ◌==◌, not, if◌then◌else◌, Bool, true, false, List, length, Some, is_some, refl, sym, ◌∙◌, ap}
+use Rattle.std.proofs.Common.{◌≡◌, ℕ, ◌&&◌, ◌||◌, ◌==◌, not, if◌then◌else◌, Bool, true, false, List, length, Option, Some, None, is_some, refl, sym, ◌∙◌, ap}
 use Rattle.tcp_segment.specs.Segment.{Segment}
 use Rattle.clock.specs.declared.moment.Moment.{Moment}
 use Rattle.tcp_state.specs.declared.emission.Due.{Due}
@@ -11,8 +11,9 @@ use Rattle.tcp_halves.specs.Numbers.{is_before}
 use Rattle.tcp_halves.specs.Stream.{is_new_ack, is_in_window}
 use Rattle.tcp_state.specs.View.{View, is_opening, is_syn_sent, is_syn_received, is_closed, is_at_end, after_stop, after_reset}
 use Rattle.tcp_state.specs.Timing.{gives_up, after_tick}
-use Rattle.tcp_state.specs.Calls.{after_send, after_recv, beyond_shutdown, after_shutdown, aborted, aborted_at, after_abort, is_removed_by_close, is_aborted_by_close, after_release, after_close}
-use Rattle.tcp_state.specs.Due.{after_emitted}
+use Rattle.tcp_state.specs.Calls.{after_send, after_recv, beyond_shutdown, shutdown_refusal, after_shutdown, aborted, aborted_at, after_abort, is_removed_by_close, is_aborted_by_close, after_release, after_close}
+use Rattle.tcp_state.specs.Due.{first_due, after_emitted}
+use Rattle.tcp_state.specs.Edges as edge
 use Rattle.tcp_state.specs.Arrival.{after_segment, after_syn_ack, is_right_syn_ack, is_simultaneous_syn, after_simultaneous_syn, is_acceptable_to, after_acceptable_segment, after_acknowledging_segment, after_ack, is_read_on, after_window, after_text, owing_ack, after_establishment, ends_by_syn, is_of_fin, fin_acknowledged, after_new_ack, is_receiving, counts_fin, after_fin, reset_error, after_rst_in_syn_sent, is_acting_reset, ends_by_reset, after_rst, is_lost, after_lost, after_heard, is_rejected, before, timed_by, after_segment_at}
 use Rattle.tcp_state.specs.Unreachable.{is_unreachable, after_unreachable}
 use Rattle.sockets.proofs.Followed.{by_test}
@@ -183,3 +184,19 @@ same-arrived v s now = same-either v (is_closed v.state || is_rejected v s) v _ 
 -- a segment arrives at a connection that is not CLOSED
 pub keeps-segment : (v : View) (s : Segment) (now : Moment) → is_closed v.state ≡ false → KeepsEnds v (after_segment_at v s now)
 keeps-segment v s now lives = let ends = same-arrived v s now in record { local = ends.local; peer = ends.peer; live = λ e. lives }
+
+-- whatever happens to it
+pub keeps-event : (v : View) (e : edge.Event) → KeepsEnds v (edge.after_event v e)
+keeps-event v (edge.Hears s now) = by_test (is_closed v.state) (λ closed. rw closed (keeps-nothing v)) (λ lives. keeps-segment v s now lives)
+keeps-event v (edge.Ticks now) = keeps-tick v now
+keeps-event v (edge.Emits now) = by_due (first_due v)
+  where
+    by_due : (o : Option Due) → KeepsEnds v (edge.after_first v o now)
+    by_due None = keeps-nothing v
+    by_due (Some due) = keeps-emitted v due now
+keeps-event v (edge.Sends octets now) = keeps-send v octets now
+keeps-event v (edge.Receives len) = keeps-recv v len
+keeps-event v (edge.Shuts now) = keeps-either v (is_some (shutdown_refusal v)) v (after_shutdown v now) (keeps-nothing v) (keeps-shutdown v now)
+keeps-event v (edge.Closes now) = keeps-close v now
+keeps-event v (edge.Aborts now) = keeps-abort v now
+keeps-event v (edge.Unreachable number) = keeps-unreachable v number

@@ -16,6 +16,7 @@ pub mod Told
 pub mod Closed
 pub mod Retained
 pub mod Followed
+pub mod Steps
 pub mod Caused
 pub mod Over
 pub mod FirstPorts

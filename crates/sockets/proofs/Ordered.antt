@@ -1,155 +1,62 @@
 -- Why the table stays in order.
-use Rattle.std.proofs.Common.{◌≡◌, ℕ, ◌+◌, ◌≤◌, ◌==◌, ◌&&◌, ◌||◌, not, Bool, true, false, if◌then◌else◌, List, [], ◌∷◌, ◌++◌, count_by, Option, Some, None, Result, Ok, Err, is_some, option_map, option_and_then, refl, sym, ◌∙◌, ap, subst, arith}
-use Rattle.std.specs.List.{find, list_any, AllByRecursion}
+use Rattle.std.proofs.Common.{◌≡◌, ℕ, ◌+◌, ◌≤◌, ◌==◌, ◌&&◌, ◌||◌, not, Bool, true, false, if◌then◌else◌, List, [], ◌∷◌, ◌++◌, count_by, Option, Some, None, Result, Ok, Err, option_map, option_and_then, refl, sym, ◌∙◌, ap, subst, arith}
+use Rattle.std.specs.List.{find, list_any}
 use Rattle.std.proofs.lemmas.Bool.{eqb-true, and_parts, or_parts}
 use Rattle.ipv4.specs.declared.addr.Addr.{Addr}
 use Rattle.ipv4.specs.declared.addr.Endpoint.{Endpoint}
-use Rattle.udp.specs.Datagram.{UserDatagram}
-use Rattle.udp_socket.specs.SocketView.{SocketView as Queues, with_sent, with_received, after_read}
-use Rattle.udp_socket.specs.Emission.{after_part}
-use Rattle.tcp_segment.specs.declared.head.Head.{Head}
+use Rattle.udp_socket.specs.SocketView.{SocketView as Queues, with_sent}
 use Rattle.tcp_segment.specs.Segment.{Segment}
-use Rattle.clock.specs.declared.moment.Moment.{Moment}
-use Rattle.tcp_state.specs.declared.connection.Fate.{Fate}
-use Rattle.tcp_state.specs.declared.connection.Fate.TheVariants.{Stays, Removed, Rejected}
-use Rattle.tcp_state.specs.declared.emission.Due.{Due}
-use Rattle.tcp_state.specs.View.{is_opening, is_closed}
 use Rattle.tcp_state.specs.Arrival.{opened_passively}
-use Rattle.tcp_state.specs.Due.{first_due}
 use Rattle.tcp_state.proofs.Causes.{not_true}
 use Rattle.sockets.specs.declared.refusal.Refusal.{Refusal}
 use Rattle.sockets.specs.declared.refusal.Refusal.TheVariants.{EBADF, EINVAL, EADDRINUSE, EADDRNOTAVAIL, ENETUNREACH}
-use Rattle.sockets.specs.declared.datagrams.Reception.{Reception}
-use Rattle.sockets.specs.declared.datagrams.Reception.TheVariants.{Queued, NoRoom, NoSocket}
 use Rattle.sockets.specs.declared.entry.SocketId.{SocketId}
 use Rattle.sockets.specs.declared.entry.Entry.{Entry}
 use Rattle.ipv4.specs.Addresses.{is_unicast, same_addr, same_end}
 use Rattle.sockets.specs.declared.role.Role.{Role}
 use Rattle.sockets.specs.declared.role.Role.TheVariants.{Idle, Listener, Connected, Datagrams}
-use Rattle.sockets.specs.Entries.{is_socket, waits_at, is_between, is_live_between, is_listening_at, sends, is_kept, is_offered_by, has_port, uses_port, entries_after_step, fate_of, role_after_segment, role_after_unreachable, unreachable_fate_of, role_after_tick, tick_fate_of, role_after_emission, emission_fate_of, role_after_abort, role_after_listener_close, listener_close_fate_of, role_after_close, close_fate_of, role_after_bind, role_after_listen, role_after_connect, role_after_accept, role_after_send, role_after_recv, role_after_shutdown, new_socket, new_datagram_socket, new_waiting, on_datagrams, is_datagrams_at, with_role}
-use Rattle.sockets.specs.SocketsView.{SocketsView, new_sockets, later_moment, role_of}
-use Rattle.sockets.specs.Lost.{role_after_giving_up, give_up_fate_of, after_giving_up}
-use Rattle.sockets.specs.Emission.{after_segment_sent}
-use Rattle.sockets.specs.Unreachable.{after_unreachable}
-use Rattle.sockets.specs.Calls.{open_answer, reach_refusal, port_for, last_port_after, is_pair_held, bound_of, port_at, port_bound, last_port_bound, bind_refusal, after_bind, is_next_at, connect_refusal, after_connect, after_socket_closed}
-use Rattle.sockets.specs.Datagrams.{sending_end, end_sent_from, after_sendto, reception, after_reception}
-use Rattle.sockets.specs.Arrival.{local_end, peer_end, is_opening as opens, has_no_room, arrival_with_reply, offered_with, arrival, arrival_alone, after_opening}
-use Rattle.sockets.specs.Replies.{reset_at_ack, answer_to, answer_at_listener}
+use Rattle.sockets.specs.Entries.{is_socket, is_between, sends, has_port, uses_port, role_after_bind, role_after_connect, new_socket, new_datagram_socket, new_waiting, on_datagrams, is_datagrams_at, with_role}
+use Rattle.sockets.specs.SocketsView.{SocketsView, new_sockets, role_of}
+use Rattle.sockets.specs.Calls.{open_answer, reach_refusal, port_for, last_port_after, is_pair_held, bound_of, port_at, port_bound, last_port_bound, bind_refusal, after_bind, connect_refusal, after_connect}
+use Rattle.sockets.specs.Datagrams.{sending_end, end_sent_from, after_sendto}
+use Rattle.sockets.specs.Arrival.{local_end, peer_end, after_opening}
 use Rattle.sockets.specs.Lists.{change_first}
 use Rattle.sockets.specs.Ports.{IsDynamic, first_port, is_free_port, is_unused_port, is_free_datagram_port}
-use Rattle.sockets.specs.Causes.{Event, Makes, MakesDatagrams, Binds, Listens, Accepts, Connects, Sends, Receives, Shuts, Closes, Ticks, Hears, Emits, GivesUp, Unreachable, SendsTo, ReceivesFrom, HearsDatagram, after_arrival, after_event}
+use Rattle.sockets.specs.Causes.{Event, Binds, Connects, SendsTo, after_event}
 use Rattle.sockets.specs.Order.{has_for_itself, is_alone_at, LiesAt, IsOrdered, IsAllowed}
 use Rattle.sockets.proofs.Ascending.{ascends_joined}
-use Rattle.sockets.proofs.Caused.{settled_followed, some_same}
 use Rattle.sockets.proofs.Bound.{port-allowed, port-given, bind-given}
 use Rattle.sockets.proofs.Connected.{after_connect-given}
-use Rattle.sockets.proofs.Emitting.{segment_sent-found}
-use Rattle.sockets.proofs.Queues.{sendto-refused, sendto-given, sent-from, queued-change, no_room-same, no_socket-same}
-use Rattle.sockets.proofs.Told.{told-found, told-none}
+use Rattle.sockets.proofs.Queues.{sendto-refused, sendto-given, sent-from}
 use Rattle.sockets.proofs.Ends.{same_end-true}
 use Rattle.sockets.proofs.FirstPorts.{given_passes, given_dynamic}
-use Rattle.sockets.proofs.Followed.{IsNothing, by_test, first_changed, each_followed}
-use Rattle.sockets.proofs.KeptEnds.{keeps-nothing, keeps-send, keeps-recv, keeps-shutdown, keeps-tick, keeps-abort, keeps-close, keeps-emitted, keeps-segment, keeps-unreachable}
-use Rattle.sockets.proofs.Ordering.{IsBound, Keeps, KeepsRole, keeps_role, keeps_connection, keeps_queues, nowhere, no_port, ordered_by, ordered_still, count_changed, count_joined, count_unfound, count_none}
+use Rattle.sockets.proofs.Followed.{IsNothing, by_test, some_same, first_changed, follows_map, all_joined}
+use Rattle.sockets.proofs.Steps.{IsStepOf, stays, moves, ends, binds, listens, opens, accepted, requeues, binds_datagrams, closed, given_up, takes_end, IsJoining, made, made_datagrams, called, IsFollowed, IsStepped, followed, joined, stepped}
+use Rattle.sockets.proofs.KeptEnds.{keeps-nothing, keeps-event}
+use Rattle.sockets.proofs.Ordering.{IsBound, Keeps, keeps_role, keeps_connection, keeps_queues, nowhere, no_port, ordered_by, ordered_still, count_changed, count_joined, count_unfound, count_none}
 
 pub fresh_ordered : (addr : Addr) → IsOrdered (new_sockets addr)
 fresh_ordered addr = record { ids = omega arith; ends = λ local peer. omega arith; ports = λ port. omega arith; datagram_ports = λ port. omega arith; own = tt; last_port = record { from_first = omega arith; to_last = omega arith } }
 
--- Changes of a role that take no end and no port.
+-- What an event makes of an entry that takes no end and no port.
 
-listening_keeps : (backlog : ℕ) (r : Role) → KeepsRole r (role_after_listen backlog r)
-listening_keeps backlog (Idle buffers None) = keeps_role (Idle buffers None)
-listening_keeps backlog (Idle buffers (Some local)) = λ here. record { ends = λ l p e live. cc; port = λ port e has. has; datagrams = λ port e has. cc; own = λ lies. tt }
-listening_keeps backlog (Listener l b) = keeps_role (Listener l b)
-listening_keeps backlog (Datagrams ours queues) = keeps_role (Datagrams ours queues)
-listening_keeps backlog (Connected c l) = keeps_role (Connected c l)
+step_keeps : (h : SocketsView) (e : Event) (own : Addr) → takes_end e ≡ false → (x : Entry) (o : Option Entry) → IsStepOf h e x o → Keeps nowhere no_port no_port own x o
+step_keeps h e own free x _ stays = (refl, keeps_role x.role own)
+step_keeps h e own free _ _ (moves ev id c l meets kept) = (refl, keeps_connection c _ l l (keeps-event c ev) own)
+step_keeps h e own free _ _ (ends ev id c l meets removed) = tt
+step_keeps h _ own free _ _ (binds named asked id buffers bound local) = cc
+step_keeps h _ own free _ _ (listens named backlog id buffers local) = (refl, record { ends = λ l p e live. cc; port = λ port e has. has; datagrams = λ port e has. cc; own = λ lies. tt })
+step_keeps h _ own free _ _ (opens isn named peer routed id buffers bound local) = cc
+step_keeps h _ own free _ _ (accepted named id c l) = (refl, keeps_connection c c l None (keeps-nothing c) own)
+step_keeps h e own free _ _ (requeues id bound before after) = (refl, keeps_queues bound before after own)
+step_keeps h e own free _ _ (binds_datagrams id bound local before after takes) = let bad : true ≡ false = sym takes ∙ free in cc
+step_keeps h _ own free _ _ (closed named id role socket alone) = tt
+step_keeps h _ own free _ _ (given_up lost now x gone) = tt
 
-accepted_keeps : (r : Role) → KeepsRole r (role_after_accept r)
-accepted_keeps (Idle buffers bound) = keeps_role (Idle buffers bound)
-accepted_keeps (Listener l b) = keeps_role (Listener l b)
-accepted_keeps (Datagrams ours queues) = keeps_role (Datagrams ours queues)
-accepted_keeps (Connected c l) = keeps_connection c c l None (keeps-nothing c)
-
-sent_keeps : (now : Moment) (octets : List ℕ) (r : Role) → KeepsRole r (role_after_send now octets r)
-sent_keeps now octets (Idle buffers bound) = keeps_role (Idle buffers bound)
-sent_keeps now octets (Listener l b) = keeps_role (Listener l b)
-sent_keeps now octets (Datagrams ours queues) = keeps_role (Datagrams ours queues)
-sent_keeps now octets (Connected c l) = keeps_connection c _ l l (keeps-send c octets now)
-
-received_keeps : (len : ℕ) (r : Role) → KeepsRole r (role_after_recv len r)
-received_keeps len (Idle buffers bound) = keeps_role (Idle buffers bound)
-received_keeps len (Listener l b) = keeps_role (Listener l b)
-received_keeps len (Datagrams ours queues) = keeps_role (Datagrams ours queues)
-received_keeps len (Connected c l) = by_test (len == 0) (λ none. rw none (keeps_role (Connected c l))) (λ some. rw some (keeps_connection c _ l l (keeps-recv c len)))
-
-shut_keeps : (now : Moment) (r : Role) → KeepsRole r (role_after_shutdown now r)
-shut_keeps now (Idle buffers bound) = keeps_role (Idle buffers bound)
-shut_keeps now (Listener l b) = keeps_role (Listener l b)
-shut_keeps now (Datagrams ours queues) = keeps_role (Datagrams ours queues)
-shut_keeps now (Connected c l) = by_test (is_some c.pending_error || is_opening c.state) (λ refused. rw refused (keeps_role (Connected c l))) (λ shuts. rw shuts (keeps_connection c _ l l (keeps-shutdown c now)))
-
-ticked_keeps : (now : Moment) (r : Role) → KeepsRole r (role_after_tick now r)
-ticked_keeps now (Idle buffers bound) = keeps_role (Idle buffers bound)
-ticked_keeps now (Listener l b) = keeps_role (Listener l b)
-ticked_keeps now (Datagrams ours queues) = keeps_role (Datagrams ours queues)
-ticked_keeps now (Connected c l) = keeps_connection c _ l l (keeps-tick c now)
-
-closed_keeps : (now : Moment) (r : Role) → KeepsRole r (role_after_close now r)
-closed_keeps now (Idle buffers bound) = keeps_role (Idle buffers bound)
-closed_keeps now (Listener l b) = keeps_role (Listener l b)
-closed_keeps now (Datagrams ours queues) = keeps_role (Datagrams ours queues)
-closed_keeps now (Connected c l) = keeps_connection c _ l l (keeps-close c now)
-
-aborted_keeps : (now : Moment) (r : Role) → KeepsRole r (role_after_abort now r)
-aborted_keeps now (Idle buffers bound) = keeps_role (Idle buffers bound)
-aborted_keeps now (Listener l b) = keeps_role (Listener l b)
-aborted_keeps now (Datagrams ours queues) = keeps_role (Datagrams ours queues)
-aborted_keeps now (Connected c l) = keeps_connection c _ l l (keeps-abort c now)
-
-forsaken_keeps : (now : Moment) (id : SocketId) (r : Role) → KeepsRole r (role_after_listener_close now id r)
-forsaken_keeps now id r = by_test (waits_at id r) (λ waits. rw waits (aborted_keeps now r)) (λ other. rw other (keeps_role r))
-
-emitted_keeps : (now : Moment) (r : Role) → KeepsRole r (role_after_emission now r)
-emitted_keeps now (Idle buffers bound) = keeps_role (Idle buffers bound)
-emitted_keeps now (Listener l b) = keeps_role (Listener l b)
-emitted_keeps now (Datagrams ours queues) = keeps_queues ours queues (after_part queues)
-emitted_keeps now (Connected c l) = by_due (first_due c) refl
-  where
-    by_due : (o : Option Due) → first_due c ≡ o → KeepsRole (Connected c l) (role_after_emission now (Connected c l))
-    by_due None is = rw is (keeps_role (Connected c l))
-    by_due (Some due) is = rw is (keeps_connection c _ l l (keeps-emitted c due now))
-
-arrived_keeps : (now : Moment) (s : Segment) (local peer : Endpoint) (r : Role) → is_live_between local peer r ≡ true → KeepsRole r (role_after_segment now s r)
-arrived_keeps now s local peer (Idle buffers bound) live = keeps_role (Idle buffers bound)
-arrived_keeps now s local peer (Listener l b) live = keeps_role (Listener l b)
-arrived_keeps now s local peer (Datagrams ours queues) live = keeps_role (Datagrams ours queues)
-arrived_keeps now s local peer (Connected c l) live =
-    keeps_connection c _ l l (keeps-segment c s now (not_true (is_closed c.state) (and_parts (not (is_closed c.state)) (same_end c.local local && same_end c.peer peer) live).0))
-
-told_keeps : (number : ℕ) (r : Role) → KeepsRole r (role_after_unreachable number r)
-told_keeps number (Idle buffers bound) = keeps_role (Idle buffers bound)
-told_keeps number (Listener l b) = keeps_role (Listener l b)
-told_keeps number (Datagrams ours queues) = keeps_role (Datagrams ours queues)
-told_keeps number (Connected c l) = keeps_connection c _ l l (keeps-unreachable c number)
-
--- Steps of the table.
-
--- those offered stand apart from its order
-offered_ordered : (w : SocketsView) (ids : List SocketId) → IsOrdered w → IsOrdered (record w { offered = ids })
-offered_ordered w ids o = record { ids = o.ids; ends = o.ends; ports = o.ports; datagram_ports = o.datagram_ports; own = o.own; last_port = o.last_port }
-
-stays : (h : SocketsView) (x : Entry) → Keeps nowhere no_port no_port h.addr x (Some x)
-stays h x = (refl, keeps_role x.role h.addr)
-
-changed_ordered : (h : SocketsView) (test : Entry → Bool) (change : Role → Role) → ((x : Entry) → test x ≡ true → KeepsRole x.role (change x.role)) → IsOrdered h → IsOrdered (record h { entries = change_first test (with_role change) h.entries })
-changed_ordered h test change keeps o =
-    let w : SocketsView = record h { entries = change_first test (with_role change) h.entries } in
-    ordered_still h w refl refl refl (first_changed (Keeps nowhere no_port no_port h.addr) IsNothing refl test (with_role change) h.entries (stays h) (λ x passes found. (refl, keeps x passes h.addr))) o
-
-settled_ordered : (h : SocketsView) (r : Fate) (test : Entry → Bool) (change : Role → Role) → ((x : Entry) → test x ≡ true → KeepsRole x.role (change x.role)) → IsOrdered h → IsOrdered (record h { entries = entries_after_step r test change h.entries })
-settled_ordered h r test change keeps o =
-    let w : SocketsView = record h { entries = entries_after_step r test change h.entries } in
-    ordered_still h w refl refl refl (settled_followed (Keeps nowhere no_port no_port h.addr) IsNothing refl r test change h.entries (stays h) (λ kept x passes found. (refl, keeps x passes h.addr)) (λ gone x passes found. tt)) o
+followed_ordered : (h : SocketsView) (e : Event) (w : SocketsView) → takes_end e ≡ false → IsFollowed h e w → IsOrdered h → IsOrdered w
+followed_ordered h e w free f o =
+    ordered_still h w f.addr f.last_id (f.last_port free)
+    (follows_map (IsStepOf h e) (Keeps nowhere no_port no_port h.addr) IsNothing IsNothing (λ x. LiesAt h.addr x.role) (λ ys none. none) (λ x o lies step. step_keeps h e h.addr free x o step) h.entries w.entries o.own f.entries) o
 
 -- Joining the table.
 
@@ -162,13 +69,9 @@ joined_ordered h x id free alone unbound lies o = record {
       (λ other. let before : count_by (is_between local peer) h.entries ≤ 1 = o.ends local peer in rw other (omega arith)));
   ports = λ port. let before : count_by (is_alone_at port) h.entries ≤ 1 = o.ports port in rw (count_joined (is_alone_at port) h.entries x, alone port) (omega arith);
   datagram_ports = λ port. let before : count_by (is_datagrams_at port) h.entries ≤ 1 = o.datagram_ports port in rw (count_joined (is_datagrams_at port) h.entries x, unbound port) (omega arith);
-  own = joined h.entries o.own;
+  own = all_joined (λ (e : Entry). LiesAt h.addr e.role) h.entries x o.own lies;
   last_port = o.last_port;
 }
-  where
-    joined : (xs : List Entry) → AllByRecursion (λ (e : Entry). LiesAt h.addr e.role) xs → AllByRecursion (λ (e : Entry). LiesAt h.addr e.role) (xs ++ x ∷ [])
-    joined [] all = (lies, tt)
-    joined (y ∷ ys) all = (all.0, joined ys all.1)
 
 -- Binding.
 
@@ -331,35 +234,7 @@ connect_ordered h isn id peer routed allowed o = by_role (role_of h id) refl
     by_role None is = let refused : connect_refusal h id peer routed ≡ Some EBADF = rw is in cc
     by_role (Some role) is = by_open role is (open_answer role) refl
 
--- Closing.
-
-socket_closed_ordered : (h : SocketsView) (id : SocketId) → IsOrdered h → IsOrdered (after_socket_closed h id)
-socket_closed_ordered h id o = by_role (role_of h id) refl
-  where
-    by_role : (r : Option Role) → role_of h id ≡ r → IsOrdered (after_socket_closed h id)
-    by_role None is = rw is o
-    by_role (Some role) is = rw is (settled_ordered h (close_fate_of role) (is_socket id) (role_after_close h.kept) (λ x passes. closed_keeps h.kept x.role) o)
-
-close_ordered : (h : SocketsView) (id : SocketId) → IsOrdered h → IsOrdered (after_event h (Closes id))
-close_ordered h id o =
-    let w : SocketsView = after_socket_closed h id in
-    ordered_still w (after_event h (Closes id)) refl refl refl
-    (each_followed (Keeps nowhere no_port no_port w.addr) IsNothing refl (λ x. is_kept (listener_close_fate_of id x.role)) (with_role (role_after_listener_close h.kept id)) w.entries (λ x kept. (refl, forsaken_keeps h.kept id x.role w.addr)) (λ x gone. tt))
-    (socket_closed_ordered h id o)
-
--- The clock.
-
-tick_ordered : (h : SocketsView) (now : Moment) → IsOrdered h → IsOrdered (after_event h (Ticks now))
-tick_ordered h now o =
-    ordered_still h (after_event h (Ticks now)) refl refl refl
-    (each_followed (Keeps nowhere no_port no_port h.addr) IsNothing refl (λ x. is_kept (tick_fate_of (later_moment h now) x.role)) (with_role (role_after_tick (later_moment h now))) h.entries (λ x kept. (refl, ticked_keeps (later_moment h now) x.role h.addr)) (λ x gone. tt))
-    o
-
--- A segment.
-
-answer_ordered : (h : SocketsView) (reply : Option Head) → IsOrdered h → IsOrdered (after_arrival h (arrival_with_reply h reply))
-answer_ordered h None o = o
-answer_ordered h (Some head) o = o
+-- What else joins the table.
 
 opening_ordered : (h : SocketsView) (isn : ℕ) (listener : Entry) (source : Addr) (s : Segment) → find (is_between (local_end h s) (peer_end source s)) h.entries ≡ None → same_addr source h.addr ≡ false → IsOrdered h → IsOrdered (after_opening h isn listener source s)
 opening_ordered h isn listener source s none apart o =
@@ -371,62 +246,10 @@ opening_ordered h isn listener source s none apart o =
         subst (λ (x : Endpoint). count_by (is_between x p) h.entries ≡ 0) (same_end-true (local_end h s) l parts.0)
         (subst (λ (x : Endpoint). count_by (is_between (local_end h s) x) h.entries ≡ 0) (same_end-true (peer_end source s) p parts.1) (count_unfound (is_between (local_end h s) (peer_end source s)) h.entries none))
 
-alone_ordered : (h : SocketsView) (isn : ℕ) (source : Addr) (s : Segment) → find (is_between (local_end h s) (peer_end source s)) h.entries ≡ None → same_addr source h.addr ≡ false → IsOrdered h → IsOrdered (after_arrival h (arrival_alone h isn source s))
-alone_ordered h isn source s none apart o = by_listener (find (is_listening_at s.destination) h.entries) refl
-  where
-    by_place : (listener : Entry) → find (is_listening_at s.destination) h.entries ≡ Some listener → opens s.flags ≡ true → (b : Bool) → has_no_room h listener ≡ b → IsOrdered (after_arrival h (arrival_alone h isn source s))
-    by_place listener found opened true full = rw (found, opened, full) o
-    by_place listener found opened false full = rw (found, opened, full) (opening_ordered h isn listener source s none apart o)
-
-    by_flags : (listener : Entry) → find (is_listening_at s.destination) h.entries ≡ Some listener → (b : Bool) → opens s.flags ≡ b → IsOrdered (after_arrival h (arrival_alone h isn source s))
-    by_flags listener found true opened = by_place listener found opened (has_no_room h listener) refl
-    by_flags listener found false opened = rw (found, opened) (answer_ordered h (answer_at_listener s) o)
-
-    by_listener : (l : Option Entry) → find (is_listening_at s.destination) h.entries ≡ l → IsOrdered (after_arrival h (arrival_alone h isn source s))
-    by_listener None found = rw found (answer_ordered h (answer_to s) o)
-    by_listener (Some listener) found = by_flags listener found (opens s.flags) refl
-
-segment_ordered : (h : SocketsView) (now : Moment) (isn : ℕ) (source : Addr) (s : Segment) → same_addr source h.addr ≡ false → IsOrdered h → IsOrdered (after_arrival h (arrival h now isn source s))
-segment_ordered h now isn source s apart o = by_entry (find (is_between (local_end h s) (peer_end source s)) h.entries) refl
-  where
-    settles : (e : Entry) (r : Fate) → IsOrdered (record h {
-      entries = entries_after_step r (is_between (local_end h s) (peer_end source s)) (role_after_segment (later_moment h now) s) h.entries;
-      offered = offered_with (is_offered_by (later_moment h now) s e.role) e.id h.offered;
-    })
-    settles e r =
-        offered_ordered (record h { entries = entries_after_step r (is_between (local_end h s) (peer_end source s)) (role_after_segment (later_moment h now) s) h.entries }) _
-        (settled_ordered h r (is_between (local_end h s) (peer_end source s)) (role_after_segment (later_moment h now) s) (λ x passes. arrived_keeps (later_moment h now) s (local_end h s) (peer_end source s) x.role passes) o)
-
-    by_fate : (e : Entry) → find (is_between (local_end h s) (peer_end source s)) h.entries ≡ Some e → (r : Fate) → fate_of s e.role ≡ r → IsOrdered (after_arrival h (arrival h now isn source s))
-    by_fate e found Stays is = rw (found, is) (settles e Stays)
-    by_fate e found Removed is = rw (found, is) (settles e Removed)
-    by_fate e found Rejected is = rw (found, is) (answer_ordered h (Some (reset_at_ack s)) o)
-
-    by_entry : (x : Option Entry) → find (is_between (local_end h s) (peer_end source s)) h.entries ≡ x → IsOrdered (after_arrival h (arrival h now isn source s))
-    by_entry None found = rw found (alone_ordered h isn source s found apart o)
-    by_entry (Some e) found = by_fate e found (fate_of s e.role) refl
-
--- What goes out.
-
-emission_ordered : (h : SocketsView) (goes : Entry → Bool) (now : Moment) → IsOrdered h → IsOrdered (after_segment_sent h goes now)
-emission_ordered h goes now o = by_entry (find (sends goes) h.entries) refl
-  where
-    by_entry : (x : Option Entry) → find (sends goes) h.entries ≡ x → IsOrdered (after_segment_sent h goes now)
-    by_entry None found = rw found o
-    by_entry (Some e) found =
-        subst IsOrdered (sym (segment_sent-found h goes now e found)) (settled_ordered h (emission_fate_of (role_after_emission (later_moment h now) e.role)) (sends goes) (role_after_emission (later_moment h now)) (λ x passes. emitted_keeps (later_moment h now) x.role) o)
-
-given_up_keeps : (lost : Addr → Bool) (now : Moment) (r : Role) → KeepsRole r (role_after_giving_up lost now r)
-given_up_keeps lost now (Idle buffers bound) = keeps_role (Idle buffers bound)
-given_up_keeps lost now (Listener l b) = keeps_role (Listener l b)
-given_up_keeps lost now (Connected c l) = keeps_role (Connected c l)
-given_up_keeps lost now (Datagrams ours queues) = keeps_queues ours queues _
-
-given_up_ordered : (h : SocketsView) (lost : Addr → Bool) (now : Moment) → IsOrdered h → IsOrdered (after_giving_up h lost now)
-given_up_ordered h lost now o =
-    ordered_still h (after_giving_up h lost now) refl refl refl
-    (each_followed (Keeps nowhere no_port no_port h.addr) IsNothing refl (λ x. is_kept (give_up_fate_of lost (later_moment h now) x.role)) (with_role (role_after_giving_up lost (later_moment h now))) h.entries (λ x kept. (refl, given_up_keeps lost (later_moment h now) x.role h.addr)) (λ x gone. tt))
-    o
+joining_ordered : (h : SocketsView) (e : Event) (x : Entry) → IsJoining h e x → IsAllowed h e → IsOrdered h → IsOrdered (record h { last_id = h.last_id + 1; entries = h.entries ++ x ∷ [] })
+joining_ordered h _ _ (made buffers) allowed o = joined_ordered h (new_socket (record { 0 = h.last_id + 1 }) buffers) refl (λ l p live. cc) (λ port. refl) (λ port. refl) tt o
+joining_ordered h _ _ made_datagrams allowed o = joined_ordered h (new_datagram_socket (record { 0 = h.last_id + 1 })) refl (λ l p live. cc) (λ port. refl) (λ port. refl) tt o
+joining_ordered h _ _ (called now isn source s listener call) allowed o = opening_ordered h isn listener source s call.none allowed o
 
 -- Datagrams.
 
@@ -437,7 +260,7 @@ sending_ordered h id (Some there) queues local change last next is given dynamic
     let same : there ≡ local = cc in
     let P : Endpoint → Type 0 = λ (e : Endpoint). IsOrdered (record h { last_port = last; identification = next; entries = change_first (is_socket id) (with_role (on_datagrams (λ b. Some e) change)) h.entries }) in
     subst P same (ordered_by nowhere no_port no_port h (record h { last_port = last; identification = next; entries = change_first (is_socket id) (with_role (on_datagrams (λ b. Some there) change)) h.entries }) refl refl dynamic
-    (first_changed (Keeps nowhere no_port no_port h.addr) IsNothing refl (is_socket id) (with_role (on_datagrams (λ b. Some there) change)) h.entries (stays h)
+    (first_changed (Keeps nowhere no_port no_port h.addr) IsNothing refl (is_socket id) (with_role (on_datagrams (λ b. Some there) change)) h.entries (itself nowhere no_port no_port h)
     (λ x passes found.
     let alike : Datagrams (Some there) queues ≡ x.role = some_same (role_of h id) (Datagrams (Some there) queues) x.role is (ap (λ (y : Option Entry). option_map (λ (e : Entry). e.role) y) found) in
     (refl, subst (λ (r : Role). IsBound nowhere no_port no_port h.addr r (on_datagrams (λ b. Some there) change r)) alike (keeps_queues (Some there) queues (change queues) h.addr))))
@@ -492,48 +315,14 @@ sendto_ordered h id peer octets routed o = by_end (end_sent_from h id peer octet
         (sending_ordered h id from.bound from.queues local (λ queues. with_sent queues h.kept peer h.identification octets) _ _ from.role from.sends
         (λ (d : IsDynamic h.last_port). subst (λ (b : Option Endpoint). IsDynamic (last_port_after h b local.port)) (sym bound_there) (sent_dynamic h from.bound local from.sends d)) o)
 
-queued_keeps : (change : Queues → Queues) (r : Role) → KeepsRole r (on_datagrams (λ bound. bound) change r)
-queued_keeps change (Idle buffers bound) = keeps_role (Idle buffers bound)
-queued_keeps change (Listener l b) = keeps_role (Listener l b)
-queued_keeps change (Connected c l) = keeps_role (Connected c l)
-queued_keeps change (Datagrams ours queues) = keeps_queues ours queues (change queues)
+-- The table.
 
-datagram_ordered : (h : SocketsView) (source : Addr) (d : UserDatagram) → IsOrdered h → IsOrdered (after_reception h source d)
-datagram_ordered h source d o = by_reception (reception h d) refl
-  where
-    by_reception : (r : Reception) → reception h d ≡ r → IsOrdered (after_reception h source d)
-    by_reception Queued given =
-        subst IsOrdered (sym (queued-change h source d given))
-        (changed_ordered h (is_datagrams_at d.destination) (on_datagrams (λ bound. bound) (λ queues. with_received queues (record { addr = source; port = d.source }) d.payload)) (λ x passes. queued_keeps (λ queues. with_received queues (record { addr = source; port = d.source }) d.payload) x.role) o)
-    by_reception NoRoom given = subst IsOrdered (sym (no_room-same h source d given)) o
-    by_reception NoSocket given = subst IsOrdered (sym (no_socket-same h source d given)) o
-
--- A hard error.
-
-error_ordered : (h : SocketsView) (local peer : Endpoint) (number : ℕ) → IsOrdered h → IsOrdered (after_unreachable h local peer number)
-error_ordered h local peer number o = by_entry (find (is_between local peer) h.entries) refl
-  where
-    by_entry : (x : Option Entry) → find (is_between local peer) h.entries ≡ x → IsOrdered (after_unreachable h local peer number)
-    by_entry None found = subst IsOrdered (sym (told-none h local peer number found)) o
-    by_entry (Some e) found =
-        subst IsOrdered (sym (told-found h local peer number e found)) (settled_ordered h (unreachable_fate_of number e.role) (is_between local peer) (role_after_unreachable number) (λ x passes. told_keeps number x.role) o)
+by_step : (h : SocketsView) (e : Event) (w : SocketsView) → takes_end e ≡ false → IsStepped h e w → IsAllowed h e → IsOrdered h → IsOrdered w
+by_step h e w free (followed f) allowed o = followed_ordered h e w free f o
+by_step h e _ free (joined {x = x} j) allowed o = joining_ordered h e x j allowed o
 
 pub stays_ordered : (h : SocketsView) (e : Event) → IsAllowed h e → IsOrdered h → IsOrdered (after_event h e)
-stays_ordered h (Makes buffers) allowed o = joined_ordered h (new_socket (record { 0 = h.last_id + 1 }) buffers) refl (λ l p live. cc) (λ port. refl) (λ port. refl) tt o
-stays_ordered h MakesDatagrams allowed o = joined_ordered h (new_datagram_socket (record { 0 = h.last_id + 1 })) refl (λ l p live. cc) (λ port. refl) (λ port. refl) tt o
 stays_ordered h (Binds id local) allowed o = bind_ordered h id local allowed o
-stays_ordered h (Listens id backlog) allowed o = changed_ordered h (is_socket id) (role_after_listen backlog) (λ x passes. listening_keeps backlog x.role) o
-stays_ordered h (Accepts id) allowed o = offered_ordered _ _ (changed_ordered h (is_next_at h id) role_after_accept (λ x passes. accepted_keeps x.role) o)
 stays_ordered h (Connects isn id peer routed) allowed o = connect_ordered h isn id peer routed allowed o
-stays_ordered h (Sends id octets) allowed o = changed_ordered h (is_socket id) (role_after_send h.kept octets) (λ x passes. sent_keeps h.kept octets x.role) o
-stays_ordered h (Receives id len) allowed o = changed_ordered h (is_socket id) (role_after_recv len) (λ x passes. received_keeps len x.role) o
-stays_ordered h (Shuts id) allowed o = changed_ordered h (is_socket id) (role_after_shutdown h.kept) (λ x passes. shut_keeps h.kept x.role) o
-stays_ordered h (Closes id) allowed o = close_ordered h id o
-stays_ordered h (Ticks now) allowed o = tick_ordered h now o
-stays_ordered h (Hears now isn source s) allowed o = segment_ordered h now isn source s allowed o
-stays_ordered h (Emits goes now) allowed o = emission_ordered h goes now o
-stays_ordered h (GivesUp lost now) allowed o = given_up_ordered h lost now o
-stays_ordered h (Unreachable local peer number) allowed o = error_ordered h local peer number o
 stays_ordered h (SendsTo id peer octets routed) allowed o = sendto_ordered h id peer octets routed o
-stays_ordered h (ReceivesFrom id len) allowed o = changed_ordered h (is_socket id) (on_datagrams (λ bound. bound) after_read) (λ x passes. queued_keeps after_read x.role) o
-stays_ordered h (HearsDatagram source d) allowed o = datagram_ordered h source d o
+stays_ordered h e allowed o = by_step h e (after_event h e) refl (stepped h e) allowed o

@@ -22,7 +22,7 @@ use Rattle.sockets.specs.Ids.{AreAscending}
 use Rattle.sockets.specs.Order.{has_for_itself, is_alone_at, LiesAt, IsOrdered}
 use Rattle.sockets.proofs.Ascending.{ascends_lower}
 use Rattle.sockets.proofs.KeptEnds.{KeepsEnds}
-use Rattle.sockets.proofs.Followed.{IsNothing, by_test}
+use Rattle.sockets.proofs.Followed.{IsNothing, by_test, all_followed}
 
 -- Where the exceptions fail, a role lies between no further ends and has no further port for itself, over TCP or over UDP.
 pub record IsBound (at_ends : Endpoint → Endpoint → Bool) (at_port at_datagrams : ℕ → Bool) (here : Addr) (before after : Role) : Type 0 where
@@ -71,14 +71,6 @@ module _ (Step : Entry → Option Entry → Type 0) where
       let rest : count_by test (y ∷ ys) ≤ count_by test xs = count_followed test keeps xs (y ∷ ys) f.1 in
       let all : count_by test (x ∷ xs) ≡ cond (test x) 1 0 + count_by test xs = count_cons test x xs in
       omega arith
-
-  -- What holds of all.
-
-  all_followed : (P : Entry → Type 0) → ((x y : Entry) → Step x (Some y) → P x → P y) → (xs ys : List Entry) → Follows Step IsNothing xs ys → AllByRecursion P xs → AllByRecursion P ys
-  all_followed P keeps [] ys f all = subst (λ (ws : List Entry). AllByRecursion P ws) (sym f) tt
-  all_followed P keeps (x ∷ xs) [] f all = tt
-  all_followed P keeps (x ∷ xs) (y ∷ ys) (inl f) all = (keeps x y f.0 all.0, all_followed P keeps xs ys f.1 all.1)
-  all_followed P keeps (x ∷ xs) (y ∷ ys) (inr f) all = all_followed P keeps xs (y ∷ ys) f.1 all.1
 
 -- a change of one entry adds one at most
 pub count_changed : (s test : Entry → Bool) (f : Entry → Entry) (xs : List Entry) → count_by test (change_first s f xs) ≤ count_by test xs + 1
