@@ -22,7 +22,7 @@ use Rattle.sockets.specs.declared.state.SocketState.TheVariants.{Datagram, Strea
 use Rattle.sockets.specs.declared.entry.SocketId.{SocketId}
 use Rattle.sockets.specs.declared.entry.Entry.{Entry}
 use Rattle.sockets.specs.declared.role.Role.{Role}
-use Rattle.sockets.specs.declared.role.Role.TheVariants.{Idle, Listener, Connected, Datagrams}
+use Rattle.sockets.specs.declared.role.Role.TheVariants.{Connected}
 use Rattle.sockets.specs.Entries.{in_connection, is_socket, is_between, sends, has_socket, shown_state, is_kept}
 use Rattle.sockets.specs.SocketsView.{SocketsView, later_moment}
 use Rattle.sockets.specs.Arrival.{local_end, peer_end}
@@ -137,9 +137,7 @@ module _ (h : SocketsView) (id : SocketId) (c : View) (l : Option SocketId) wher
 -- a socket without a connection is gone by its close
 alone_caused : (now : Moment) (role : Role) → in_connection true (λ c. false) role ≡ true → is_close_cause now role ≡ true
 alone_caused now (Connected c l) alone = cc
-alone_caused now (Idle buffers bound) alone = refl
-alone_caused now (Listener l b) alone = refl
-alone_caused now (Datagrams bound queues) alone = refl
+alone_caused now _ alone = refl
 
 -- Each step has its causes.
 

@@ -9,7 +9,7 @@ use Rattle.tcp_state.specs.View.{is_opening}
 use Rattle.sockets.specs.declared.entry.SocketId.{SocketId}
 use Rattle.sockets.specs.declared.entry.Entry.{Entry}
 use Rattle.sockets.specs.declared.role.Role.{Role}
-use Rattle.sockets.specs.declared.role.Role.TheVariants.{Idle, Listener, Connected, Datagrams}
+use Rattle.sockets.specs.declared.role.Role.TheVariants.{Connected}
 use Rattle.sockets.specs.declared.refusal.Refusal.{Refusal}
 use Rattle.sockets.specs.declared.refusal.Refusal.TheVariants.{EALREADY, EISCONN}
 use Rattle.sockets.specs.Entries.{is_socket, role_after_connect}
@@ -26,10 +26,8 @@ had_opens_none state None bound e = either_refused (is_opening state) EALREADY E
 
 -- a role that may open a connection is bound where it says
 bound_same : (role : Role) (bound : Option Endpoint) → open_answer role ≡ Ok bound → bound_of role ≡ bound
-bound_same (Idle buffers b) bound opens = cc
-bound_same (Listener l b) bound opens = cc
-bound_same (Datagrams ours queues) bound opens = cc
 bound_same (Connected c l) bound opens = absurd (had_opens_none c.state c.pending_error bound opens)
+bound_same _ bound opens = cc
 
 pub after_connect-given : (h : SocketsView) (isn : ℕ) (id : SocketId) (peer : Endpoint) (routed : Bool) (role : Role) (bound : Option Endpoint) (port : ℕ) → role_of h id ≡ Some role → open_answer role ≡ Ok bound → reach_refusal h peer routed ≡ None → port_for h bound peer ≡ Some port
     → after_connect h isn id peer routed ≡ with_socket (record h { last_port = last_port_after h bound port }) id (role_after_connect (record { addr = h.addr; port = port }) peer isn)

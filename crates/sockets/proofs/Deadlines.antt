@@ -8,7 +8,7 @@ use Rattle.tcp_state.specs.View.{View, is_at_end, ends_at}
 use Rattle.tcp_state.specs.Timing.{gives_up, after_tick, tick_fate, deadline}
 use Rattle.sockets.specs.declared.entry.Entry.{Entry}
 use Rattle.sockets.specs.declared.role.Role.{Role}
-use Rattle.sockets.specs.declared.role.Role.TheVariants.{Idle, Listener, Connected, Datagrams}
+use Rattle.sockets.specs.declared.role.Role.TheVariants.{Connected}
 use Rattle.sockets.specs.Entries.{deadline_of, role_after_tick, tick_fate_of, is_kept, with_role, entries_after_steps}
 use Rattle.sockets.specs.SocketsView.{SocketsView, later_moment}
 use Rattle.sockets.specs.Ticks.{least_deadline, IsLeastDeadline, HasNoDeadline}
@@ -139,10 +139,8 @@ kept_at : (v : View) (now : Moment) → has_come (deadline v) now ≡ false → 
 kept_at v now e = let w = timers_wait v now e in rw (w.ends, w.gives)
 
 role_waits : (role : Role) (now : Moment) → has_come (deadline_of role) now ≡ false → (is_kept (tick_fate_of now role) ≡ true) × (role_after_tick now role ≡ role)
-role_waits (Idle buffers bound) now e = (refl, refl)
-role_waits (Listener l b) now e = (refl, refl)
-role_waits (Datagrams ours queues) now e = (refl, refl)
 role_waits (Connected c l) now e = (kept_at c now e, ap (λ (v : View). Connected v l) (tick_waits_at c now e))
+role_waits _ now e = (refl, refl)
 
 entries_wait : (first : Option Moment) (xs : List Entry) (now : Moment) → has_come (least_from first xs) now ≡ false → (has_come first now ≡ false) × (entries_after_steps (tick_fate_of now) (role_after_tick now) xs ≡ xs)
 entries_wait first [] now e = (e, refl)

@@ -17,7 +17,7 @@ use Rattle.sockets.specs.declared.entry.SocketId.{SocketId}
 use Rattle.sockets.specs.declared.entry.Entry.{Entry}
 use Rattle.sockets.specs.declared.index.Filed.{Filed}
 use Rattle.sockets.specs.declared.role.Role.{Role}
-use Rattle.sockets.specs.declared.role.Role.TheVariants.{Idle, Listener, Connected, Datagrams}
+use Rattle.sockets.specs.declared.role.Role.TheVariants.{Connected}
 use Rattle.sockets.specs.Causes.{Follows}
 use Rattle.sockets.specs.Entries.{is_between, is_live_between}
 use Rattle.sockets.specs.Ids.{has_id, AreAscending, AreInOrder}
@@ -233,9 +233,7 @@ gone-with k (Some x) l leaves = gone-inserted k x l (leaves x refl)
 -- a connection is filed by its own id
 filed-id : (id : SocketId) (role : Role) (x : Filed) → filed_as id role ≡ Some x → x.id ≡ id
 filed-id id (Connected c listener) x is = let same : filed_at id c.local c.peer ≡ x = cc in ap (λ (z : Filed). z.id) (sym same)
-filed-id id (Listener local backlog) x is = cc
-filed-id id (Idle buffers bound) x is = cc
-filed-id id (Datagrams bound socket) x is = cc
+filed-id id _ x is = cc
 
 -- an entry that stays keeps its id, and is filed as before
 abbrev pub StaysFiled : Entry → Option Entry → Type 0
@@ -340,9 +338,7 @@ filed_between local peer e live = by_role e.role live
     by_role (Connected c listener) passes =
         let parts = and_parts (same_end c.local local) (same_end c.peer peer) (and_parts (not (is_closed c.state)) (same_end c.local local && same_end c.peer peer) passes).1 in
         ap (λ (l : Endpoint). Some (filed_at e.id l c.peer)) (same_end-true c.local local parts.0) ∙ ap (λ (p : Endpoint). Some (filed_at e.id local p)) (same_end-true c.peer peer parts.1)
-    by_role (Listener l b) passes = cc
-    by_role (Idle buffers bound) passes = cc
-    by_role (Datagrams bound socket) passes = cc
+    by_role _ passes = cc
 
 -- no element passes where there is no place
 nowhere_passes : (test : Entry → Bool) (xs : List Entry) → position test xs ≡ None → (i : ℕ) (d : Entry) → i < length xs → test (get_or xs i d) ≡ true → ⊥

@@ -8,7 +8,7 @@ use Rattle.tcp_state.specs.View.{View, IsSound, is_closed}
 use Rattle.sockets.specs.declared.entry.SocketId.{SocketId}
 use Rattle.sockets.specs.declared.entry.Entry.{Entry}
 use Rattle.sockets.specs.declared.role.Role.{Role}
-use Rattle.sockets.specs.declared.role.Role.TheVariants.{Idle, Listener, Connected, Datagrams}
+use Rattle.sockets.specs.declared.role.Role.TheVariants.{Connected, Datagrams}
 use Rattle.sockets.specs.Entries.{has_socket, is_socket, with_role, entries_after_steps}
 use Rattle.sockets.specs.SocketsView.{SocketsView, later_moment, role_of}
 use Rattle.sockets.specs.Lost.{is_given_up, role_after_giving_up, give_up_fate_of, after_giving_up}
@@ -23,21 +23,17 @@ owes_released c sound owes =
     (and_parts (is_closed c.state) c.released (not_false (is_closed c.state && c.released) closed_and_left)).1
 
 no_socket : (lost : Addr → Bool) (now : Moment) (role : Role) → IsSoundRole role → is_given_up lost now role ≡ true → has_socket role ≡ false
-no_socket lost now (Idle buffers bound) sound gone = cc
-no_socket lost now (Listener l b) sound gone = cc
-no_socket lost now (Datagrams ours queues) sound gone = cc
 no_socket lost now (Connected c (Some l)) sound gone = refl
 no_socket lost now (Connected c None) sound gone =
     by_test c.owes_reset
     (λ owes. ap not (owes_released c sound.sound owes))
     (λ other. let none : is_given_up lost now (Connected c None) ≡ false = rw other in cc)
+no_socket lost now _ sound gone = cc
 
 -- a socket stays one
 still_socket : (lost : Addr → Bool) (now : Moment) (role : Role) → has_socket (role_after_giving_up lost now role) ≡ has_socket role
-still_socket lost now (Idle buffers bound) = refl
-still_socket lost now (Listener l b) = refl
-still_socket lost now (Connected c l) = refl
 still_socket lost now (Datagrams ours queues) = refl
+still_socket lost now _ = refl
 
 still_found : (lost : Addr → Bool) (now : Moment) (id : SocketId) (xs : List Entry) → AllByRecursion (λ (e : Entry). IsSoundRole e.role) xs
     → find (is_socket id) (entries_after_steps (give_up_fate_of lost now) (role_after_giving_up lost now) xs) ≡ option_map (with_role (role_after_giving_up lost now)) (find (is_socket id) xs)

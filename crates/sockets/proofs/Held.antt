@@ -15,7 +15,7 @@ use Rattle.tcp_state.specs.Arrival.{opened_passively}
 use Rattle.sockets.specs.declared.entry.SocketId.{SocketId}
 use Rattle.sockets.specs.declared.entry.Entry.{Entry}
 use Rattle.sockets.specs.declared.role.Role.{Role}
-use Rattle.sockets.specs.declared.role.Role.TheVariants.{Idle, Listener, Connected, Datagrams}
+use Rattle.sockets.specs.declared.role.Role.TheVariants.{Connected}
 use Rattle.sockets.specs.Entries.{is_between, is_of_pair, is_live_between, joins, new_waiting}
 use Rattle.sockets.specs.SocketsView.{SocketsView, holder_id}
 use Rattle.sockets.specs.Arrival.{Opens, local_end, peer_end, arrival_with_reply, after_opening, arrival}
@@ -38,9 +38,7 @@ not_reversed here there (Connected c l) apart lies =
     let local : same_addr c.local.addr there.addr ≡ false = ap (λ a. same_addr a there.addr) lies.0 ∙ apart in
     and_right (not (is_closed c.state)) (same_end c.local there && same_end c.peer here)
     (ap (λ b. (b && (c.local.port == there.port)) && same_end c.peer here) local)
-not_reversed here there (Listener l b) apart lies = refl
-not_reversed here there (Datagrams ours queues) apart lies = refl
-not_reversed here there (Idle buffers bound) apart lies = refl
+not_reversed here there _ apart lies = refl
 
 -- so it is of the pair just where it lies between the two ends
 joins_between : (here there : Endpoint) (r : Role) → same_addr here.addr there.addr ≡ false → LiesAt here.addr r → is_live_between here there r ≡ false → joins (pair_of here there) r ≡ false

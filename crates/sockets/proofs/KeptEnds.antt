@@ -5,7 +5,7 @@ use Rattle.clock.specs.declared.moment.Moment.{Moment}
 use Rattle.tcp_state.specs.declared.emission.Due.{Due}
 use Rattle.tcp_state.specs.declared.emission.Due.TheVariants.{Rst, Syn, Text, Probe, Ack}
 use Rattle.tcp_state.specs.declared.state.State.{State}
-use Rattle.tcp_state.specs.declared.state.State.TheVariants.{Closed, Listen, SynSent, SynReceived, Established, FinWait1, FinWait2, CloseWait, Closing, LastAck, TimeWait}
+use Rattle.tcp_state.specs.declared.state.State.TheVariants.{Closed}
 use Rattle.tcp_state.specs.declared.calls.Refusal.TheVariants.{ECONNREFUSED, ETIMEDOUT}
 use Rattle.tcp_halves.specs.Numbers.{is_before}
 use Rattle.tcp_halves.specs.Stream.{is_new_ack, is_in_window}
@@ -56,16 +56,7 @@ keeps-shutdown v now = record { local = refl; peer = refl; live = λ e. still v.
   where
     still : (t : State) → is_closed (beyond_shutdown t) ≡ false → is_closed t ≡ false
     still Closed e = e
-    still Listen e = refl
-    still SynSent e = refl
-    still SynReceived e = refl
-    still Established e = refl
-    still FinWait1 e = refl
-    still FinWait2 e = refl
-    still CloseWait e = refl
-    still Closing e = refl
-    still LastAck e = refl
-    still TimeWait e = refl
+    still _ e = refl
 
 -- a tick
 pub keeps-tick : (v : View) (now : Moment) → KeepsEnds v (after_tick v now)

@@ -8,7 +8,7 @@ use Rattle.ipv4.specs.Addresses.{pair_of}
 use Rattle.sockets.specs.declared.entry.SocketId.{SocketId}
 use Rattle.sockets.specs.declared.entry.Entry.{Entry}
 use Rattle.sockets.specs.declared.role.Role.{Role}
-use Rattle.sockets.specs.declared.role.Role.TheVariants.{Idle, Listener, Connected, Datagrams}
+use Rattle.sockets.specs.declared.role.Role.TheVariants.{Idle, Connected}
 use Rattle.sockets.specs.declared.refusal.Refusal.{Refusal}
 use Rattle.sockets.specs.Entries.{is_socket, has_socket, role_after_connect, with_role}
 use Rattle.sockets.specs.SocketsView.{SocketsView}
@@ -41,9 +41,8 @@ found_passes test (y ∷ ys) x found =
 opens_pair : (role : Role) (bound : Option Endpoint) (local peer : Endpoint) (isn : ℕ) → open_answer role ≡ Ok bound
     → (has_socket (role_after_connect local peer isn role) ≡ true) × (pair_in (role_after_connect local peer isn role) ≡ Some (pair_of local peer))
 opens_pair (Idle buffers b) bound local peer isn e = (refl, refl)
-opens_pair (Listener l b) bound local peer isn e = cc
-opens_pair (Datagrams ours queues) bound local peer isn e = cc
 opens_pair (Connected c l) bound local peer isn e = absurd (had_opens_none c.state c.pending_error bound e)
+opens_pair _ bound local peer isn e = cc
 
 pub connect_opens : (h : SocketsView) (isn : ℕ) (id : SocketId) (peer : Endpoint) (routed : Bool) (pair : Pair) → pair_connected h id peer routed ≡ Some pair → socket_pair (after_connect h isn id peer routed) id ≡ Some pair
 connect_opens h isn id peer routed pair = by_entry (find (is_socket id) h.entries) refl

@@ -14,7 +14,7 @@ use Rattle.sockets.specs.declared.entry.SocketId.{SocketId}
 use Rattle.sockets.specs.declared.entry.Entry.{Entry}
 use Rattle.ipv4.specs.Addresses.{is_unicast, same_addr, same_end}
 use Rattle.sockets.specs.declared.role.Role.{Role}
-use Rattle.sockets.specs.declared.role.Role.TheVariants.{Idle, Listener, Connected, Datagrams}
+use Rattle.sockets.specs.declared.role.Role.TheVariants.{Idle, Listener, Datagrams}
 use Rattle.sockets.specs.Entries.{is_socket, is_between, sends, has_port, uses_port, role_after_bind, role_after_connect, new_socket, new_datagram_socket, new_waiting, on_datagrams, is_datagrams_at, with_role}
 use Rattle.sockets.specs.SocketsView.{SocketsView, new_sockets, role_of}
 use Rattle.sockets.specs.Calls.{open_answer, reach_refusal, port_for, last_port_after, is_pair_held, bound_of, port_at, port_bound, last_port_bound, bind_refusal, after_bind, connect_refusal, after_connect}
@@ -81,36 +81,36 @@ untaken port [] none = refl
 untaken port (x ∷ xs) none = let parts = or_parts (has_port port x) (list_any (has_port port) xs) none in rw (alone x.role parts.0) (untaken port xs parts.1)
   where
     alone : (r : Role) → uses_port port r ≡ false → has_for_itself port r ≡ false
-    alone (Idle buffers None) other = refl
     alone (Idle buffers (Some l)) other = other
     alone (Listener l b) other = other
-    alone (Datagrams ours queues) other = refl
-    alone (Connected c l) other = refl
+    alone _ other = refl
 
 itself : (at_ends : Endpoint → Endpoint → Bool) (at_port at_datagrams : ℕ → Bool) (h : SocketsView) (x : Entry) → Keeps at_ends at_port at_datagrams h.addr x (Some x)
 itself at_ends at_port at_datagrams h x = (refl, record { ends = λ l p e live. live; port = λ port e has. has; datagrams = λ port e has. has; own = λ lies. lies })
 
--- one entry more at a port that none had
-one_more : (id : SocketId) (test : Entry → Bool) (change : Role → Role) (entries : List Entry) → count_by test entries ≡ 0 → count_by test (change_first (is_socket id) (with_role change) entries) ≤ 1
-one_more id test change entries none =
-    let more : count_by test (change_first (is_socket id) (with_role change) entries) ≤ count_by test entries + 1 = count_changed (is_socket id) test (with_role change) entries in
-    omega arith
-
-abbrev bound_at : SocketsView → SocketId → Endpoint → List Entry
-bound_at h id there = change_first (is_socket id) (with_role (role_after_bind there)) h.entries
+-- one entry at a port that none had
+one_at : (test : ℕ → Entry → Bool) (id : SocketId) (change : Role → Role) (entries : List Entry) (given : ℕ) → count_by (test given) entries ≡ 0 → (port : ℕ) → (given == port) ≡ true → count_by (test port) (change_first (is_socket id) (with_role change) entries) ≤ 1
+one_at test id change entries given none port is =
+    let more : count_by (test given) (change_first (is_socket id) (with_role change) entries) ≤ count_by (test given) entries + 1 = count_changed (is_socket id) (test given) (with_role change) entries in
+    subst (λ (n : ℕ). count_by (test n) (change_first (is_socket id) (with_role change) entries) ≤ 1) (eqb-true given port is) (omega arith)
 
 -- where the role of the socket is bound so, and the ports were free
-bound_ordered : (h : SocketsView) (id : SocketId) (there : Endpoint) (last : ℕ) (at_stream at_datagrams : ℕ → Bool) (role : Role) → (IsDynamic h.last_port → IsDynamic last) → role_of h id ≡ Some role → IsBound nowhere at_stream at_datagrams h.addr role (role_after_bind there role)
-    → ((port : ℕ) → at_stream port ≡ true → count_by (is_alone_at port) (bound_at h id there) ≤ 1) → ((port : ℕ) → at_datagrams port ≡ true → count_by (is_datagrams_at port) (bound_at h id there) ≤ 1)
-    → IsOrdered h → IsOrdered (record h { last_port = last; entries = bound_at h id there })
-bound_ordered h id there last at_stream at_datagrams role dynamic is bound streams datagrams o =
-    let w : SocketsView = record h { last_port = last; entries = bound_at h id there } in
+bound_ordered : (h : SocketsView) (id : SocketId) (change : Role → Role) (last identification : ℕ) (at_stream at_datagrams : ℕ → Bool) (role : Role) → (IsDynamic h.last_port → IsDynamic last) → role_of h id ≡ Some role → IsBound nowhere at_stream at_datagrams h.addr role (change role)
+    → ((port : ℕ) → at_stream port ≡ true → count_by (is_alone_at port) (change_first (is_socket id) (with_role change) h.entries) ≤ 1)
+    → ((port : ℕ) → at_datagrams port ≡ true → count_by (is_datagrams_at port) (change_first (is_socket id) (with_role change) h.entries) ≤ 1)
+    → IsOrdered h → IsOrdered (record h { last_port = last; identification = identification; entries = change_first (is_socket id) (with_role change) h.entries })
+bound_ordered h id change last identification at_stream at_datagrams role dynamic is bound streams datagrams o =
+    let w : SocketsView = record h { last_port = last; identification = identification; entries = change_first (is_socket id) (with_role change) h.entries } in
     ordered_by nowhere at_stream at_datagrams h w refl refl dynamic
-    (first_changed (Keeps nowhere at_stream at_datagrams h.addr) IsNothing refl (is_socket id) (with_role (role_after_bind there)) h.entries (itself nowhere at_stream at_datagrams h)
+    (first_changed (Keeps nowhere at_stream at_datagrams h.addr) IsNothing refl (is_socket id) (with_role change) h.entries (itself nowhere at_stream at_datagrams h)
     (λ x passes found.
     let same : role ≡ x.role = some_same (role_of h id) role x.role is (ap (λ (y : Option Entry). option_map (λ (e : Entry). e.role) y) found) in
-    (refl, subst (λ (r : Role). IsBound nowhere at_stream at_datagrams h.addr r (role_after_bind there r)) same bound)))
+    (refl, subst (λ (r : Role). IsBound nowhere at_stream at_datagrams h.addr r (change r)) same bound)))
     (λ l p e. cc) streams datagrams o
+
+-- a UDP socket that is bound at a port
+binds_at : (own : Addr) (local : Endpoint) (before after : Queues) → IsBound nowhere no_port (λ (port : ℕ). local.port == port) own (Datagrams None before) (Datagrams (Some local) after)
+binds_at own local before after = record { ends = λ l p e live. cc; port = λ port e has. cc; datagrams = λ port other has. let bad : true ≡ false = sym has ∙ other in cc; own = λ lies. tt }
 
 bind_ordered : (h : SocketsView) (id : SocketId) (local : Endpoint) → bind_refusal h id local ≡ None → IsOrdered h → IsOrdered (after_event h (Binds id local))
 bind_ordered h id local allowed o = by_port (port-allowed (port_bound h id local) allowed)
@@ -118,36 +118,23 @@ bind_ordered h id local allowed o = by_port (port-allowed (port_bound h id local
     at : ℕ → Endpoint
     at port = record { addr = local.addr; port = port }
 
-    one_stream : (given : ℕ) → is_unused_port h.entries given ≡ true → (port : ℕ) → (given == port) ≡ true → count_by (is_alone_at port) (bound_at h id (at given)) ≤ 1
-    one_stream given free port is =
-        subst (λ (n : ℕ). count_by (is_alone_at n) (bound_at h id (at given)) ≤ 1) (eqb-true given port is)
-        (one_more id (is_alone_at given) (role_after_bind (at given)) h.entries (count_none (is_alone_at given) h.entries (untaken given h.entries (not_true _ free))))
-
-    one_datagrams : (given : ℕ) → is_free_datagram_port h.entries given ≡ true → (port : ℕ) → (given == port) ≡ true → count_by (is_datagrams_at port) (bound_at h id (at given)) ≤ 1
-    one_datagrams given free port is =
-        subst (λ (n : ℕ). count_by (is_datagrams_at n) (bound_at h id (at given)) ≤ 1) (eqb-true given port is)
-        (one_more id (is_datagrams_at given) (role_after_bind (at given)) h.entries (count_none (is_datagrams_at given) h.entries (not_true _ free)))
-
-    by_role : (given : ℕ) → port_bound h id local ≡ Ok given → (r : Option Role) → role_of h id ≡ r → IsOrdered (record h { last_port = last_port_bound h local given; entries = bound_at h id (at given) })
+    by_role : (given : ℕ) → port_bound h id local ≡ Ok given → (r : Option Role) → role_of h id ≡ r
+        → IsOrdered (record h { last_port = last_port_bound h local given; entries = change_first (is_socket id) (with_role (role_after_bind (at given))) h.entries })
     by_role given gives None is = let refused : port_bound h id local ≡ Err EBADF = rw is in let bad : ◌≡◌ {A = Result ℕ Refusal} (Err EBADF) (Ok given) = sym refused ∙ gives in cc
     by_role given gives (Some (Idle buffers None)) is =
         let asked : port_bound h id local ≡ port_at h (is_unused_port h.entries) local = rw is in
         let found = port-given h (is_unused_port h.entries) local given (sym asked ∙ gives) in
-        bound_ordered h id (at given) (last_port_bound h local given) (λ (port : ℕ). given == port) no_port (Idle buffers None) found.dynamic is
+        bound_ordered h id (role_after_bind (at given)) (last_port_bound h local given) h.identification (λ (port : ℕ). given == port) no_port (Idle buffers None) found.dynamic is
         (record { ends = λ l p e live. cc; port = λ port other has. let bad : true ≡ false = sym has ∙ other in cc; datagrams = λ port e has. cc; own = λ lies. tt })
-        (one_stream given found.free)
+        (one_at is_alone_at id (role_after_bind (at given)) h.entries given (count_none (is_alone_at given) h.entries (untaken given h.entries (not_true _ found.free))))
         (λ port e. cc) o
-    by_role given gives (Some (Idle buffers (Some l))) is = let refused : port_bound h id local ≡ Err EINVAL = rw is in let bad : ◌≡◌ {A = Result ℕ Refusal} (Err EINVAL) (Ok given) = sym refused ∙ gives in cc
-    by_role given gives (Some (Listener l b)) is = let refused : port_bound h id local ≡ Err EINVAL = rw is in let bad : ◌≡◌ {A = Result ℕ Refusal} (Err EINVAL) (Ok given) = sym refused ∙ gives in cc
-    by_role given gives (Some (Connected c l)) is = let refused : port_bound h id local ≡ Err EINVAL = rw is in let bad : ◌≡◌ {A = Result ℕ Refusal} (Err EINVAL) (Ok given) = sym refused ∙ gives in cc
     by_role given gives (Some (Datagrams None queues)) is =
         let asked : port_bound h id local ≡ port_at h (is_free_datagram_port h.entries) local = rw is in
         let found = port-given h (is_free_datagram_port h.entries) local given (sym asked ∙ gives) in
-        bound_ordered h id (at given) (last_port_bound h local given) no_port (λ (port : ℕ). given == port) (Datagrams None queues) found.dynamic is
-        (record { ends = λ l p e live. cc; port = λ port e has. cc; datagrams = λ port other has. let bad : true ≡ false = sym has ∙ other in cc; own = λ lies. tt })
+        bound_ordered h id (role_after_bind (at given)) (last_port_bound h local given) h.identification no_port (λ (port : ℕ). given == port) (Datagrams None queues) found.dynamic is (binds_at h.addr (at given) queues queues)
         (λ port e. cc)
-        (one_datagrams given found.free) o
-    by_role given gives (Some (Datagrams (Some l) queues)) is = let refused : port_bound h id local ≡ Err EINVAL = rw is in let bad : ◌≡◌ {A = Result ℕ Refusal} (Err EINVAL) (Ok given) = sym refused ∙ gives in cc
+        (one_at is_datagrams_at id (role_after_bind (at given)) h.entries given (count_none (is_datagrams_at given) h.entries (not_true _ found.free))) o
+    by_role given gives (Some _) is = let refused : port_bound h id local ≡ Err EINVAL = rw is in let bad : ◌≡◌ {A = Result ℕ Refusal} (Err EINVAL) (Ok given) = sym refused ∙ gives in cc
 
     by_port : ((given : ℕ) × (port_bound h id local ≡ Ok given)) → IsOrdered (after_bind h id local)
     by_port x = subst IsOrdered (sym (bind-given h id local x.0 x.1)) (by_role x.0 x.1 (role_of h id) refl)
@@ -179,9 +166,7 @@ counted_dynamic h None peer port dynamic given = given_dynamic (is_free_port h.e
 -- between the two ends alone a connection comes to lie
 connecting_role : (h : SocketsView) (local peer : Endpoint) (isn : ℕ) → local.addr ≡ h.addr → same_addr peer.addr h.addr ≡ false → (r : Role) → IsBound (λ (l p : Endpoint). same_end local l && same_end peer p) no_port no_port h.addr r (role_after_connect local peer isn r)
 connecting_role h local peer isn own other (Idle buffers bound) = record { ends = λ l p apart live. let bad : true ≡ false = sym live ∙ apart in cc; port = λ port e has. cc; datagrams = λ port e has. cc; own = λ lies. (own, other) }
-connecting_role h local peer isn own other (Listener l b) = record { ends = λ l p e live. live; port = λ port e has. has; datagrams = λ port e has. has; own = λ lies. lies }
-connecting_role h local peer isn own other (Datagrams ours queues) = record { ends = λ l p e live. live; port = λ port e has. has; datagrams = λ port e has. has; own = λ lies. lies }
-connecting_role h local peer isn own other (Connected c l) = record { ends = λ l p e live. live; port = λ port e has. has; datagrams = λ port e has. has; own = λ lies. lies }
+connecting_role h local peer isn own other _ = record { ends = λ l p e live. live; port = λ port e has. has; datagrams = λ port e has. has; own = λ lies. lies }
 
 opened_ordered : (h : SocketsView) (id : SocketId) (peer : Endpoint) (isn port last : ℕ) → IsDynamic last → same_addr peer.addr h.addr ≡ false → is_pair_held h port peer ≡ false → IsOrdered h
     → IsOrdered (record h { last_port = last; entries = change_first (is_socket id) (with_role (role_after_connect (record { addr = h.addr; port = port }) peer isn)) h.entries })
@@ -258,32 +243,14 @@ sending_ordered : (h : SocketsView) (id : SocketId) (bound : Option Endpoint) (q
     → IsOrdered (record h { last_port = last; identification = next; entries = change_first (is_socket id) (with_role (on_datagrams (λ b. Some local) change)) h.entries })
 sending_ordered h id (Some there) queues local change last next is given dynamic o =
     let same : there ≡ local = cc in
-    let P : Endpoint → Type 0 = λ (e : Endpoint). IsOrdered (record h { last_port = last; identification = next; entries = change_first (is_socket id) (with_role (on_datagrams (λ b. Some e) change)) h.entries }) in
-    subst P same (ordered_by nowhere no_port no_port h (record h { last_port = last; identification = next; entries = change_first (is_socket id) (with_role (on_datagrams (λ b. Some there) change)) h.entries }) refl refl dynamic
-    (first_changed (Keeps nowhere no_port no_port h.addr) IsNothing refl (is_socket id) (with_role (on_datagrams (λ b. Some there) change)) h.entries (itself nowhere no_port no_port h)
-    (λ x passes found.
-    let alike : Datagrams (Some there) queues ≡ x.role = some_same (role_of h id) (Datagrams (Some there) queues) x.role is (ap (λ (y : Option Entry). option_map (λ (e : Entry). e.role) y) found) in
-    (refl, subst (λ (r : Role). IsBound nowhere no_port no_port h.addr r (on_datagrams (λ b. Some there) change r)) alike (keeps_queues (Some there) queues (change queues) h.addr))))
-    (λ l p e. cc) (λ port e. cc) (λ port e. cc) o)
+    bound_ordered h id (on_datagrams (λ b. Some local) change) last next no_port no_port (Datagrams (Some there) queues) dynamic is
+    (subst (λ (e : Endpoint). IsBound nowhere no_port no_port h.addr (Datagrams (Some there) queues) (Datagrams (Some e) (change queues))) same (keeps_queues (Some there) queues (change queues) h.addr))
+    (λ port e. cc) (λ port e. cc) o
 sending_ordered h id None queues local change last next is given dynamic o =
-    ordered_by nowhere no_port at_port h (record h { last_port = last; identification = next; entries = changed }) refl refl dynamic
-    (first_changed (Keeps nowhere no_port at_port h.addr) IsNothing refl (is_socket id) (with_role (on_datagrams (λ b. Some local) change)) h.entries (itself nowhere no_port at_port h)
-    (λ x passes found.
-    let alike : Datagrams None queues ≡ x.role = some_same (role_of h id) (Datagrams None queues) x.role is (ap (λ (y : Option Entry). option_map (λ (e : Entry). e.role) y) found) in (
-      refl,
-      subst (λ (r : Role). IsBound nowhere no_port at_port h.addr r (on_datagrams (λ b. Some local) change r)) alike
-          (record { ends = λ l p e live. cc; port = λ port e has. cc; datagrams = λ port other has. let bad : true ≡ false = sym has ∙ other in cc; own = λ lies. tt }),
-    )))
-    (λ l p e. cc) (λ port e. cc)
-    (λ port at_it. subst (λ (n : ℕ). count_by (is_datagrams_at n) changed ≤ 1) (eqb-true local.port port at_it)
-    (one_more id (is_datagrams_at local.port) (on_datagrams (λ b. Some local) change) h.entries (count_none (is_datagrams_at local.port) h.entries (free (first_port (is_free_datagram_port h.entries) h.last_port 0 16384) refl given)))) o
+    bound_ordered h id (on_datagrams (λ b. Some local) change) last next no_port (λ (port : ℕ). local.port == port) (Datagrams None queues) dynamic is (binds_at h.addr local queues (change queues))
+    (λ port e. cc)
+    (one_at is_datagrams_at id (on_datagrams (λ b. Some local) change) h.entries local.port (count_none (is_datagrams_at local.port) h.entries (free (first_port (is_free_datagram_port h.entries) h.last_port 0 16384) refl given))) o
   where
-    at_port : ℕ → Bool
-    at_port port = local.port == port
-
-    changed : List Entry
-    changed = change_first (is_socket id) (with_role (on_datagrams (λ b. Some local) change)) h.entries
-
     free : (p : Option ℕ) → first_port (is_free_datagram_port h.entries) h.last_port 0 16384 ≡ p → option_map (λ (port : ℕ). let e : Endpoint = record { addr = h.addr; port = port } in e) p ≡ Some local → list_any (is_datagrams_at local.port) h.entries ≡ false
     free None found sends = cc
     free (Some port) found sends =

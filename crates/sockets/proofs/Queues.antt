@@ -9,7 +9,7 @@ use Rattle.udp_socket.specs.SocketView.{SocketView as Queues}
 use Rattle.sockets.specs.declared.entry.SocketId.{SocketId}
 use Rattle.sockets.specs.declared.entry.Entry.{Entry}
 use Rattle.sockets.specs.declared.role.Role.{Role}
-use Rattle.sockets.specs.declared.role.Role.TheVariants.{Idle, Listener, Connected, Datagrams}
+use Rattle.sockets.specs.declared.role.Role.TheVariants.{Datagrams}
 use Rattle.sockets.specs.declared.refusal.Refusal.{Refusal}
 use Rattle.sockets.specs.declared.refusal.Refusal.TheVariants.{EBADF, EMSGSIZE, EAGAIN, EADDRINUSE, EOPNOTSUPP}
 use Rattle.sockets.specs.declared.datagrams.Reception.TheVariants.{Queued, NoRoom, NoSocket}
@@ -61,10 +61,8 @@ sent-from h id peer octets routed local given = by_role (role_of h id) refl
 
     by_role : (o : Option Role) → role_of h id ≡ o → IsSentFrom h id local
     by_role None is = let refused : end_sent_from h id peer octets routed ≡ Err EBADF = rw is in cc
-    by_role (Some (Idle buffers bound)) is = let refused : end_sent_from h id peer octets routed ≡ Err EOPNOTSUPP = rw is in cc
-    by_role (Some (Listener l b)) is = let refused : end_sent_from h id peer octets routed ≡ Err EOPNOTSUPP = rw is in cc
-    by_role (Some (Connected c l)) is = let refused : end_sent_from h id peer octets routed ≡ Err EOPNOTSUPP = rw is in cc
     by_role (Some (Datagrams bound q)) is = by_len bound q is (nat_lt MOST_OCTETS (length octets)) refl
+    by_role (Some _) is = let refused : end_sent_from h id peer octets routed ≡ Err EOPNOTSUPP = rw is in cc
 
 -- a datagram that came stands in a queue, or nothing changes
 pub queued-change : (h : SocketsView) (source : Addr) (d : UserDatagram) → reception h d ≡ Queued
@@ -113,10 +111,8 @@ pub end_given : (h : SocketsView) (id : SocketId) (peer : Endpoint) (octets : Li
 end_given h id peer octets routed x bound local found opens short reached sends room = rw (found, opens, short, reached, sends, room)
 
 bound_same : (role : Role) (bound : Option Endpoint) → datagrams_bound role ≡ Ok bound → bound_of role ≡ bound
-bound_same (Idle buffers b) bound given = cc
-bound_same (Listener l b) bound given = cc
-bound_same (Connected c l) bound given = cc
 bound_same (Datagrams b queues) bound given = cc
+bound_same _ bound given = cc
 
 pub bound_found : (h : SocketsView) (id : SocketId) (x : Entry) (bound : Option Endpoint) → find (is_socket id) h.entries ≡ Some x → datagrams_bound x.role ≡ Ok bound → option_and_then bound_of (role_of h id) ≡ bound
 bound_found h id x bound found given = ap (λ (o : Option Entry). option_and_then bound_of (option_map (λ (e : Entry). e.role) o)) found ∙ bound_same x.role bound given

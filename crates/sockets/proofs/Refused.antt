@@ -10,7 +10,7 @@ use Rattle.tcp_state.specs.Calls.{send_answer, after_send, after_shutdown}
 use Rattle.tcp_state.proofs.Unchanged.{rejected_leaves_at}
 use Rattle.sockets.specs.declared.entry.Entry.{Entry}
 use Rattle.sockets.specs.declared.role.Role.{Role}
-use Rattle.sockets.specs.declared.role.Role.TheVariants.{Idle, Listener, Connected, Datagrams}
+use Rattle.sockets.specs.declared.role.Role.TheVariants.{Connected}
 use Rattle.sockets.specs.declared.refusal.Refusal.{Refusal}
 use Rattle.sockets.specs.Entries.{role_after_send, role_after_shutdown, role_after_segment, fate_of, with_role}
 use Rattle.sockets.specs.Calls.{role_send_answer, role_shutdown_refusal, of_connection}
@@ -24,11 +24,9 @@ refused_by_connection c octets now e (Ok n) same refused = cc
 refused_by_connection c octets now e (Err x) same refused = after_send_refused c octets now x same
 
 pub sent_refused : (role : Role) (octets : List ℕ) (now : Moment) (e : Refusal) → role_send_answer role octets ≡ Err e → role_after_send now octets role ≡ role
-sent_refused (Idle buffers bound) octets now e refused = refl
-sent_refused (Listener bound backlog) octets now e refused = refl
-sent_refused (Datagrams ours queues) octets now e refused = refl
 sent_refused (Connected c listener) octets now e refused =
     ap (λ (v : View). Connected v listener) (refused_by_connection c octets now e (send_answer c octets) refl refused)
+sent_refused _ octets now e refused = refl
 
 -- closing our side is nothing where it is refused
 shut-refused : (c : View) (now : Moment) (error : Option ConnectionRefusal) (opens : Bool) (e : Refusal) → c.pending_error ≡ error → is_opening c.state ≡ opens → role_shutdown_refusal (Connected c None) ≡ Some e
@@ -38,17 +36,13 @@ shut-refused c now None true e told opening refused = rw (told, opening) refl
 shut-refused c now None false e told opening refused = let none : role_shutdown_refusal (Connected c None) ≡ None = rw (told, opening) refl in cc
 
 pub shutdown-refused : (role : Role) (now : Moment) (e : Refusal) → role_shutdown_refusal role ≡ Some e → role_after_shutdown now role ≡ role
-shutdown-refused (Idle buffers bound) now e refused = refl
-shutdown-refused (Listener bound backlog) now e refused = refl
-shutdown-refused (Datagrams ours queues) now e refused = refl
 shutdown-refused (Connected c listener) now e refused = ap (λ (v : View). Connected v listener) (shut-refused c now c.pending_error (is_opening c.state) e refl refl refused)
+shutdown-refused _ now e refused = refl
 
 -- a segment that the connection refuses leaves the entry as it was
 pub entry_refused_segment : (e : Entry) (s : Segment) (now : Moment) → fate_of s e.role ≡ Rejected → with_role (role_after_segment now s) e ≡ e
 entry_refused_segment e s now refused = ap (λ role. let y : Entry = record e { role = role } in y) (role_refused e.role refused)
   where
     role_refused : (role : Role) → fate_of s role ≡ Rejected → role_after_segment now s role ≡ role
-    role_refused (Idle buffers bound) refused = refl
-    role_refused (Listener bound backlog) refused = refl
-    role_refused (Datagrams ours queues) refused = refl
     role_refused (Connected c listener) refused = ap (λ (v : View). Connected v listener) (rejected_leaves_at c s now refused)
+    role_refused _ refused = refl

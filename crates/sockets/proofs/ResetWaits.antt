@@ -8,7 +8,7 @@ use Rattle.clock.specs.declared.moment.Moment.{Moment}
 use Rattle.clock.specs.Moments.{after, has_come}
 use Rattle.sockets.specs.declared.entry.Entry.{Entry}
 use Rattle.sockets.specs.declared.role.Role.{Role}
-use Rattle.sockets.specs.declared.role.Role.TheVariants.{Idle, Listener, Connected, Datagrams}
+use Rattle.sockets.specs.declared.role.Role.TheVariants.{Datagrams}
 use Rattle.sockets.specs.Entries.{reset_wait, entries_after_steps}
 use Rattle.sockets.specs.SocketsView.{SocketsView, later_moment}
 use Rattle.sockets.specs.Lost.{is_given_up, give_up_fate_of, role_after_giving_up, after_giving_up, waiting_resets, waits_still}
@@ -26,10 +26,8 @@ comes_after since now before_last = by_sum (since.0 + 3000) now.0 before_last
 
 -- what stays waits as before
 still_waits : (lost : Addr → Bool) (now : Moment) (role : Role) → reset_wait (role_after_giving_up lost now role) ≡ reset_wait role
-still_waits lost now (Idle buffers bound) = refl
-still_waits lost now (Listener local backlog) = refl
-still_waits lost now (Connected c listener) = refl
 still_waits lost now (Datagrams bound socket) = refl
+still_waits lost now _ = refl
 
 -- the resets that wait in some entries, and those that wait once others were given up
 abbrev waiting : List Entry → List (Endpoint × Moment)

@@ -118,9 +118,7 @@ gone_removed Rejected gone = cc
 -- nothing takes a connection out
 staying : (role : Role) → is_kept (in_connection Stays (λ (c : View). Stays) role) ≡ true
 staying (Connected c l) = refl
-staying (Idle buffers bound) = refl
-staying (Listener l b) = refl
-staying (Datagrams bound queues) = refl
+staying _ = refl
 
 given_up_gone : (b : Bool) → is_kept (if b then Removed else Stays) ≡ false → b ≡ true
 given_up_gone true gone = refl
@@ -144,9 +142,7 @@ module _ (h : SocketsView) (e : Event) where
       by_role (Connected c l) meets kept =
           let P : View → Type 0 = λ d. IsStepOf h e (entry x.id (Connected c l)) (Some (entry x.id (Connected d l))) in
           elim (either c) [ inl same ↦ subst P (sym same) stays | inr is ↦ subst P (sym is) (moves ev x.id c l meets kept) ]
-      by_role (Idle buffers bound) meets kept = stays
-      by_role (Listener l b) meets kept = stays
-      by_role (Datagrams bound queues) meets kept = stays
+      by_role _ meets kept = stays
 
   -- or takes it out
   ended : (ev : edge.Event) (x : Entry) → IsEventOf h x e ev → in_connection Stays (λ (c : View). edge.fate_by c ev) x.role ≡ Removed → IsStepOf h e x None
@@ -154,21 +150,15 @@ module _ (h : SocketsView) (e : Event) where
     where
       by_role : (r : Role) → IsEventOf h (entry x.id r) e ev → in_connection Stays (λ (c : View). edge.fate_by c ev) r ≡ Removed → IsStepOf h e (entry x.id r) None
       by_role (Connected c l) meets gone = ends ev x.id c l meets gone
-      by_role (Idle buffers bound) meets gone = cc
-      by_role (Listener l b) meets gone = cc
-      by_role (Datagrams bound queues) meets gone = cc
+      by_role _ meets gone = cc
 
   queued : (id : SocketId) (change : Queues → Queues) (role : Role) → IsStepOf h e (entry id role) (Some (entry id (on_datagrams (λ bound. bound) change role)))
   queued id change (Datagrams bound before) = requeues id bound before (change before)
-  queued id change (Idle buffers bound) = stays
-  queued id change (Listener l b) = stays
-  queued id change (Connected c l) = stays
+  queued id change _ = stays
 
   queued_from : takes_end e ≡ true → (id : SocketId) (local : Endpoint) (change : Queues → Queues) (role : Role) → IsStepOf h e (entry id role) (Some (entry id (on_datagrams (λ bound. Some local) change role)))
   queued_from takes id local change (Datagrams bound before) = binds_datagrams id bound local before (change before) takes
-  queued_from takes id local change (Idle buffers bound) = stays
-  queued_from takes id local change (Listener l b) = stays
-  queued_from takes id local change (Connected c l) = stays
+  queued_from takes id local change _ = stays
 
   -- Tables.
 
@@ -207,8 +197,7 @@ module _ (h : SocketsView) (e : Event) where
 bound : (h : SocketsView) (named id : SocketId) (asked local : Endpoint) (role : Role) → IsStepOf h (Binds named asked) (entry id role) (Some (entry id (role_after_bind local role)))
 bound h named id asked local (Idle buffers before) = binds named asked id buffers before local
 bound h named id asked local (Datagrams before queues) = binds_datagrams id before local queues queues refl
-bound h named id asked local (Listener l b) = stays
-bound h named id asked local (Connected c l) = stays
+bound h named id asked local _ = stays
 
 bind_stepped : (h : SocketsView) (id : SocketId) (local : Endpoint) → IsStepped h (Binds id local) (after_bind h id local)
 bind_stepped h id local = by_port (port_bound h id local) refl
@@ -220,22 +209,15 @@ bind_stepped h id local = by_port (port_bound h id local) refl
 
 listening : (h : SocketsView) (named id : SocketId) (backlog : ℕ) (role : Role) → IsStepOf h (Listens named backlog) (entry id role) (Some (entry id (role_after_listen backlog role)))
 listening h named id backlog (Idle buffers (Some local)) = listens named backlog id buffers local
-listening h named id backlog (Idle buffers None) = stays
-listening h named id backlog (Listener l b) = stays
-listening h named id backlog (Connected c l) = stays
-listening h named id backlog (Datagrams before queues) = stays
+listening h named id backlog _ = stays
 
 accepting : (h : SocketsView) (named id : SocketId) (role : Role) → IsStepOf h (Accepts named) (entry id role) (Some (entry id (role_after_accept role)))
 accepting h named id (Connected c l) = accepted named id c l
-accepting h named id (Idle buffers before) = stays
-accepting h named id (Listener l b) = stays
-accepting h named id (Datagrams before queues) = stays
+accepting h named id _ = stays
 
 opening : (h : SocketsView) (isn : ℕ) (named id : SocketId) (local peer : Endpoint) (routed : Bool) (role : Role) → IsStepOf h (Connects isn named peer routed) (entry id role) (Some (entry id (role_after_connect local peer isn role)))
 opening h isn named id local peer routed (Idle buffers before) = opens isn named peer routed id buffers before local
-opening h isn named id local peer routed (Listener l b) = stays
-opening h isn named id local peer routed (Connected c l) = stays
-opening h isn named id local peer routed (Datagrams before queues) = stays
+opening h isn named id local peer routed _ = stays
 
 connect_stepped : (h : SocketsView) (isn : ℕ) (id : SocketId) (peer : Endpoint) (routed : Bool) → IsStepped h (Connects isn id peer routed) (after_connect h isn id peer routed)
 connect_stepped h isn id peer routed = by_port (port_connected h id peer routed) refl
@@ -245,8 +227,12 @@ connect_stepped h isn id peer routed = by_port (port_connected h id peer routed)
     by_port (Ok port) given = rw given (ported h (Connects isn id peer routed) refl _ h.identification _ (λ none. refl) refl
         (changes h (Connects isn id peer routed) (is_socket id) (role_after_connect (record { addr = h.addr; port = port }) peer isn) (λ x passes. opening h isn id x.id (record { addr = h.addr; port = port }) peer routed x.role)))
 
--- a shutdown that is refused leaves the connection
-shut_either : (c : View) (now : Moment) → let d : View = if is_some c.pending_error || is_opening c.state then c else after_shutdown c now in (d ≡ c) ⊎ (d ≡ edge.after_event c (edge.Shuts now))
+-- a read into an empty buffer leaves the connection
+pub read_either : (c : View) (len : ℕ) → let d : View = if len == 0 then c else after_recv c len in (d ≡ c) ⊎ (d ≡ edge.after_event c (edge.Receives len))
+read_either c len = by_test (len == 0) (λ none. inl (rw none refl)) (λ some. inr (rw some refl))
+
+-- and so does a shutdown that is refused
+pub shut_either : (c : View) (now : Moment) → let d : View = if is_some c.pending_error || is_opening c.state then c else after_shutdown c now in (d ≡ c) ⊎ (d ≡ edge.after_event c (edge.Shuts now))
 shut_either c now =
     by_test (is_some c.pending_error || is_opening c.state) (λ refused. inl (rw refused refl))
     (λ shuts. let taken : is_some (shutdown_refusal c) ≡ false = asked c.pending_error (is_opening c.state) shuts in inr (rw (shuts, taken) refl))
@@ -269,9 +255,7 @@ closing h id x named kept = by_role x.role named kept
     by_role : (r : Role) → is_socket id (entry x.id r) ≡ true → is_kept (close_fate_of r) ≡ true → IsClosing h id (entry x.id r) (Some (entry x.id (role_after_close h.kept r)))
     by_role (Connected c None) named kept = inr (moves (edge.Closes h.kept) x.id c None (closes_it id named) kept, refl)
     by_role (Connected c (Some l)) named kept = let bad : false ≡ true = and_right (x.id.0 == id.0) false named in cc
-    by_role (Idle buffers before) named kept = cc
-    by_role (Listener l b) named kept = cc
-    by_role (Datagrams before queues) named kept = cc
+    by_role _ named kept = cc
 
 taken_out : (h : SocketsView) (id : SocketId) (x : Entry) → is_socket id x ≡ true → is_kept (close_fate_of x.role) ≡ false → IsStepOf h (Closes id) x None
 taken_out h id x named gone = by_role x.role named gone
@@ -377,14 +361,11 @@ emission_stepped h goes now = by_entry (find (sends goes) h.entries) refl
     going : (id : SocketId) (role : Role) → IsEventOf h (entry id role) (Emits goes now) (edge.Emits later) → is_kept (emission_fate_of (role_after_emission later role)) ≡ true → IsStepOf h (Emits goes now) (entry id role) (Some (entry id (role_after_emission later role)))
     going id (Connected c l) meets kept = moves (edge.Emits later) id c l meets kept
     going id (Datagrams before queues) meets kept = requeues id before queues (after_part queues)
-    going id (Idle buffers before) meets kept = stays
-    going id (Listener l b) meets kept = stays
+    going id _ meets kept = stays
 
     gone_out : (id : SocketId) (role : Role) → IsEventOf h (entry id role) (Emits goes now) (edge.Emits later) → is_kept (emission_fate_of (role_after_emission later role)) ≡ false → IsStepOf h (Emits goes now) (entry id role) None
     gone_out id (Connected c l) meets gone = ends (edge.Emits later) id c l meets (gone_removed _ gone)
-    gone_out id (Datagrams before queues) meets gone = cc
-    gone_out id (Idle buffers before) meets gone = cc
-    gone_out id (Listener l b) meets gone = cc
+    gone_out id _ meets gone = cc
 
     by_entry : (o : Option Entry) → find (sends goes) h.entries ≡ o → IsStepped h (Emits goes now) (after_segment_sent h goes now)
     by_entry None found = rw found (unchanged h (Emits goes now) refl)
@@ -398,9 +379,7 @@ emission_stepped h goes now = by_entry (find (sends goes) h.entries) refl
 
 giving_up : (h : SocketsView) (lost : Addr → Bool) (now later : Moment) (id : SocketId) (role : Role) → IsStepOf h (GivesUp lost now) (entry id role) (Some (entry id (role_after_giving_up lost later role)))
 giving_up h lost now later id (Datagrams before queues) = requeues id before queues _
-giving_up h lost now later id (Idle buffers before) = stays
-giving_up h lost now later id (Listener l b) = stays
-giving_up h lost now later id (Connected c l) = stays
+giving_up h lost now later id _ = stays
 
 -- An error comes, or a datagram.
 
@@ -449,8 +428,7 @@ stepped h (Listens id backlog) = plain h (Listens id backlog) _ _ refl (changes 
 stepped h (Accepts id) = plain h (Accepts id) _ _ refl (changes h (Accepts id) (is_next_at h id) role_after_accept (λ x passes. accepting h id x.id x.role))
 stepped h (Connects isn id peer routed) = connect_stepped h isn id peer routed
 stepped h (Sends id octets) = calls h (Sends id octets) id _ (edge.Sends octets h.kept) refl (λ c. inr refl) (λ x named. sends_it id octets named) staying
-stepped h (Receives id len) =
-    calls h (Receives id len) id (λ c. if len == 0 then c else after_recv c len) (edge.Receives len) refl (λ c. by_test (len == 0) (λ none. inl (rw none refl)) (λ some. inr (rw some refl))) (λ x named. reads_it id len named) staying
+stepped h (Receives id len) = calls h (Receives id len) id _ (edge.Receives len) refl (λ c. read_either c len) (λ x named. reads_it id len named) staying
 stepped h (Shuts id) = calls h (Shuts id) id _ (edge.Shuts h.kept) refl (λ c. shut_either c h.kept) (λ x named. shuts_it id named) staying
 stepped h (Closes id) = close_stepped h id
 stepped h (Ticks now) = tick_stepped h now

@@ -9,13 +9,12 @@ use Rattle.sockets.specs.declared.datagrams.Reception.TheVariants.{Queued, NoRoo
 use Rattle.sockets.specs.declared.entry.SocketId.{SocketId}
 use Rattle.sockets.specs.declared.entry.Entry.{Entry}
 use Rattle.sockets.specs.declared.role.Role.{Role}
-use Rattle.sockets.specs.declared.role.Role.TheVariants.{Idle, Listener, Connected, Datagrams}
+use Rattle.sockets.specs.declared.role.Role.TheVariants.{Datagrams}
 use Rattle.sockets.specs.Entries.{is_socket, on_datagrams, is_datagrams_at, with_role, new_datagram_socket}
 use Rattle.sockets.specs.SocketsView.{SocketsView}
 use Rattle.sockets.specs.Lists.{change_first}
 use Rattle.sockets.specs.Datagrams.{end_sent_from, after_sendto, reception, after_reception}
 use Rattle.sockets.specs.Causes.{Event, MakesDatagrams, SendsTo, ReceivesFrom, HearsDatagram, after_event}
-use Rattle.sockets.specs.Causes as cause
 use Rattle.sockets.specs.Traffic.{is_stream, streams, is_of_datagrams}
 use Rattle.sockets.proofs.Queues.{sendto-refused, sendto-given, queued-change, no_room-same, no_socket-same}
 use Rattle.sockets.proofs.Followed.{by_test}
@@ -26,10 +25,8 @@ of_stream e = is_stream e.role
 -- what is done to a UDP socket alone is seen nowhere among the others
 unseen : (id : SocketId) (bind : Option Endpoint → Option Endpoint) (change : Queues → Queues) (r : Role) (xs : List Entry)
     → filter of_stream (record { id = id; role = on_datagrams bind change r } ∷ xs) ≡ filter of_stream (record { id = id; role = r } ∷ xs)
-unseen id bind change (Idle buffers bound) xs = refl
-unseen id bind change (Listener l b) xs = refl
-unseen id bind change (Connected c l) xs = refl
 unseen id bind change (Datagrams ours queues) xs = refl
+unseen id bind change _ xs = refl
 
 streams_stay : (test : Entry → Bool) (bind : Option Endpoint → Option Endpoint) (change : Queues → Queues) (xs : List Entry) → filter of_stream (change_first test (with_role (on_datagrams bind change)) xs) ≡ filter of_stream xs
 streams_stay test bind change [] = refl
@@ -56,17 +53,4 @@ no_stream_moves h (HearsDatagram source d) of = by_reception (reception h d) ref
     by_reception Queued given = ap streams (queued-change h source d given) ∙ streams_stay (is_datagrams_at d.destination) (λ bound. bound) (λ queues. with_received queues (record { addr = source; port = d.source }) d.payload) h.entries
     by_reception NoRoom given = ap streams (no_room-same h source d given)
     by_reception NoSocket given = ap streams (no_socket-same h source d given)
-no_stream_moves h (cause.Makes buffers) of = cc
-no_stream_moves h (cause.Binds id local) of = cc
-no_stream_moves h (cause.Listens id backlog) of = cc
-no_stream_moves h (cause.Accepts id) of = cc
-no_stream_moves h (cause.Connects isn id peer routed) of = cc
-no_stream_moves h (cause.Sends id octets) of = cc
-no_stream_moves h (cause.Receives id len) of = cc
-no_stream_moves h (cause.Shuts id) of = cc
-no_stream_moves h (cause.Closes id) of = cc
-no_stream_moves h (cause.Ticks now) of = cc
-no_stream_moves h (cause.Hears now isn source s) of = cc
-no_stream_moves h (cause.Emits goes now) of = cc
-no_stream_moves h (cause.GivesUp lost now) of = cc
-no_stream_moves h (cause.Unreachable local peer number) of = cc
+no_stream_moves h _ of = cc
