@@ -12,7 +12,7 @@ use Rattle.sockets.specs.declared.entry.Entry.{Entry}
 use Rattle.sockets.specs.declared.taken.Taken.{Taken}
 use Rattle.sockets.specs.declared.taken.Taken.TheVariants.{Done, Answer}
 use Rattle.sockets.specs.Arrival.{Arrival, Becomes, Answers, local_end, peer_end, is_opening, arrival_with_reply, offered_with, arrival_at_connection, arrival_alone, arrival, Meets}
-use Rattle.sockets.specs.Replies.{reset_at_ack, answer_to, answer_at_listener}
+use Rattle.sockets.specs.Replies.{reset_at_ack, answer_at_listener}
 use Rattle.sockets.specs.Entries.{is_between, is_listening_at, role_after_segment, fate_of, is_offered_by, is_kept, entries_after_step, with_role}
 use Rattle.sockets.specs.SocketsView.{SocketsView, later_moment}
 use Rattle.sockets.specs.Lists.{change_first, remove_first}
@@ -67,10 +67,6 @@ taken h now isn source s e Rejected found is other = absurd (other refl)
 pub listener-answers : (h : SocketsView) (isn : ℕ) (source : Addr) (s : Segment) (listener : Entry) → find (is_listening_at s.destination) h.entries ≡ Some listener → is_opening s.flags ≡ false
     → arrival_alone h isn source s ≡ arrival_with_reply h (answer_at_listener s)
 listener-answers h isn source s listener found opens = rw (found, opens)
-
--- a segment where there is neither a connection nor a listener
-pub stray-answered : (h : SocketsView) (isn : ℕ) (source : Addr) (s : Segment) → find (is_listening_at s.destination) h.entries ≡ None → arrival_alone h isn source s ≡ arrival_with_reply h (answer_to s)
-stray-answered h isn source s found = rw found
 
 -- the answer and the table meet what the segment leads to
 pub meets_same : (a b : Arrival) (h new : SocketsView) (answer : Taken) → a ≡ b → Meets b h answer new → Meets a h answer new

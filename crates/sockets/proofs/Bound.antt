@@ -18,9 +18,6 @@ use Rattle.sockets.proofs.Followed.{by_test}
 pub bind-given : (h : SocketsView) (id : SocketId) (local : Endpoint) (port : ℕ) → port_bound h id local ≡ Ok port → after_bind h id local ≡ with_socket (record h { last_port = last_port_bound h local port }) id (role_after_bind (record { addr = local.addr; port = port }))
 bind-given h id local port given = rw given
 
-pub bind-refused : (h : SocketsView) (id : SocketId) (local : Endpoint) (refusal : Refusal) → port_bound h id local ≡ Err refusal → after_bind h id local ≡ h
-bind-refused h id local refusal given = rw given
-
 -- a port that is given is free, and keeps the last one given dynamic
 pub record IsGiven (h : SocketsView) (is_free : ℕ → Bool) (local : Endpoint) (port : ℕ) : Type 0 where
   pub free : is_free port ≡ true

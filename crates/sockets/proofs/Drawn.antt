@@ -1,21 +1,17 @@
 -- Why the identifications of datagrams are drawn in turn.
-use Rattle.std.proofs.Common.{◌≡◌, ℕ, ◌+◌, ◌%◌, ◌^◌, ◌<◌, ◌==◌, Bool, true, false, List, [], ◌∷◌, option_map, is_ok, Option, Some, None, Result, Ok, Err, refl, sym, ◌∙◌, ap, arith}
-use Rattle.std.proofs.lemmas.Bool.{and_parts, and_from}
-use Rattle.std.specs.List.{find}
+use Rattle.std.proofs.Common.{◌≡◌, ℕ, ◌+◌, ◌%◌, ◌^◌, ◌<◌, Bool, true, false, List, [], ◌∷◌, option_and_then, is_ok, Option, Some, Result, Ok, Err, refl, sym, ◌∙◌, ap, arith}
 use Rattle.ipv4.specs.declared.addr.Endpoint.{Endpoint}
 use Rattle.udp_socket.specs.SocketView.{SocketView as Queues, with_sent}
 use Rattle.sockets.specs.declared.refusal.Refusal.{Refusal}
 use Rattle.sockets.specs.declared.entry.SocketId.{SocketId}
-use Rattle.sockets.specs.declared.entry.Entry.{Entry}
-use Rattle.sockets.specs.declared.role.Role.{Role}
 use Rattle.sockets.specs.declared.role.Role.TheVariants.{Datagrams}
-use Rattle.sockets.specs.Entries.{is_socket, has_socket, role_after_sendto, with_role}
+use Rattle.sockets.specs.Entries.{role_after_sendto}
 use Rattle.sockets.specs.SocketsView.{SocketsView, role_of}
-use Rattle.sockets.specs.Datagrams.{sending_end, end_sent_from, sendto_answer, after_sendto}
+use Rattle.sockets.specs.Datagrams.{sending_end, end_sent_from, sendto_answer, next_identification, after_sendto}
+use Rattle.sockets.specs.Calls.{bound_of, last_port_after}
 use Rattle.sockets.specs.Causes.{Event, SendsTo, after_event}
-use Rattle.sockets.specs.Lists.{change_first}
 use Rattle.sockets.specs.Traffic.{datagrams_taken, after_events, datagrams_taken_in}
-use Rattle.sockets.proofs.Opened.{found_changed, found_passes}
+use Rattle.sockets.proofs.Opened.{socket_changed}
 use Rattle.sockets.proofs.Queues.{sendto-given, sent-from}
 use Rattle.sockets.proofs.Steps.{IsStepped, followed, joined, stepped}
 
@@ -56,24 +52,6 @@ pub sent_behind : (h : SocketsView) (id : SocketId) (peer : Endpoint) (octets : 
     → is_ok (sendto_answer h id peer octets routed) ≡ true → role_of (after_sendto h id peer octets routed) id ≡ Some (Datagrams (sending_end h bound) (with_sent queues h.kept peer h.identification octets))
 sent_behind h id peer octets routed bound queues is taken = by_end (end_sent_from h id peer octets routed) refl
   where
-    after : Endpoint → Role
-    after local = role_after_sendto local h.kept peer h.identification octets (Datagrams bound queues)
-
-    changed : (local : Endpoint) (o : Option Entry) → find (is_socket id) h.entries ≡ o → option_map (λ (e : Entry). e.role) o ≡ Some (Datagrams bound queues)
-        → find (is_socket id) (change_first (is_socket id) (with_role (role_after_sendto local h.kept peer h.identification octets)) h.entries) ≡ option_map (with_role (role_after_sendto local h.kept peer h.identification octets)) o
-    changed local None found role = cc
-    changed local (Some x) found role =
-        let same : x.role ≡ Datagrams bound queues = cc in
-        let named = and_parts (x.id.0 == id.0) (has_socket x.role) (found_passes (is_socket id) h.entries x found) in
-        let still : is_socket id (with_role (role_after_sendto local h.kept peer h.identification octets) x) ≡ true =
-        and_from (x.id.0 == id.0) (has_socket (role_after_sendto local h.kept peer h.identification octets x.role)) named.0 (ap (λ (r : Role). has_socket (role_after_sendto local h.kept peer h.identification octets r)) same)
-        in
-        found_changed (is_socket id) (with_role (role_after_sendto local h.kept peer h.identification octets)) h.entries x found still
-
-    role_changed : (local : Endpoint) (o : Option Entry) → option_map (λ (e : Entry). e.role) o ≡ Some (Datagrams bound queues) → option_map (λ (e : Entry). e.role) (option_map (with_role (role_after_sendto local h.kept peer h.identification octets)) o) ≡ Some (after local)
-    role_changed local None role = cc
-    role_changed local (Some x) role = let same : x.role ≡ Datagrams bound queues = cc in ap (λ (r : Role). Some (role_after_sendto local h.kept peer h.identification octets r)) same
-
     by_end : (r : Result Endpoint Refusal) → end_sent_from h id peer octets routed ≡ r → role_of (after_sendto h id peer octets routed) id ≡ Some (Datagrams (sending_end h bound) (with_sent queues h.kept peer h.identification octets))
     by_end (Err refusal) given = let refused : is_ok (sendto_answer h id peer octets routed) ≡ false = rw given in let bad : true ≡ false = sym taken ∙ refused in cc
     by_end (Ok local) given =
@@ -82,6 +60,5 @@ sent_behind h id peer octets routed bound queues is taken = by_end (end_sent_fro
         let same_bound : from.bound ≡ bound = cc in
         let sends : sending_end h bound ≡ Some local = ap (λ (b : Option Endpoint). sending_end h b) (sym same_bound) ∙ from.sends in
         ap (λ (w : SocketsView). role_of w id) (sendto-given h id peer octets routed local given)
-        ∙ ap (λ (o : Option Entry). option_map (λ (e : Entry). e.role) o) (changed local (find (is_socket id) h.entries) refl is)
-        ∙ role_changed local (find (is_socket id) h.entries) is
+        ∙ socket_changed (record h { last_port = last_port_after h (option_and_then bound_of (role_of h id)) local.port; identification = next_identification h.identification }) id (role_after_sendto local h.kept peer h.identification octets) (Datagrams bound queues) is refl
         ∙ ap (λ (b : Option Endpoint). Some (Datagrams b (with_sent queues h.kept peer h.identification octets))) (sym sends)

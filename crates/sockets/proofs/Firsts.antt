@@ -62,10 +62,6 @@ position-lt-length p xs i e = (IsFirst-position p xs i e).within
 pub find-position : {X : Type 0} (p : X → Bool) (xs : List X) (i : ℕ) (x : X) → position p xs ≡ Some i → x ≡ get_or xs i x → find p xs ≡ Some x
 find-position p xs i x e same = (IsFirst-position p xs i e).found x same
 
--- and it passes
-pub passes-position : {X : Type 0} (p : X → Bool) (xs : List X) (i : ℕ) (x : X) → position p xs ≡ Some i → x ≡ get_or xs i x → p x ≡ true
-passes-position p xs i x e same = ap p same ∙ (position-Some p xs i x e).1
-
 -- the place of an element that passes where none before it does
 pub position-from_fails : {X : Type 0} (p : X → Bool) (xs : List X) (i : ℕ) (x : X) → i < length xs → AllWithin (λ y. p y ≡ false) xs 0 i → x ≡ get_or xs i x → p x ≡ true → position p xs ≡ Some i
 position-from_fails p xs i x within fails at passes =

@@ -18,11 +18,7 @@ abbrev pub IsNothing : List Entry → Type 0
 IsNothing ys = ys ≡ []
 
 module _ (Step : Entry → Option Entry → Type 0) (Added : List Entry → Type 0) where
-  -- an entry stays ..
-  pub stays_on : (x y : Entry) (xs ys : List Entry) → Step x (Some y) → Follows Step Added xs ys → Follows Step Added (x ∷ xs) (y ∷ ys)
-  stays_on x y xs ys step rest = inl (step, rest)
-
-  -- .. or goes
+  -- an entry goes
   pub goes : (x : Entry) (xs ys : List Entry) → Step x None → Follows Step Added xs ys → Follows Step Added (x ∷ xs) ys
   goes x xs [] step rest = (step, rest)
   goes x xs (y ∷ ys) step rest = inr (step, rest)

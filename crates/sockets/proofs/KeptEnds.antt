@@ -1,5 +1,5 @@
 -- Whatever happens to a connection, its endpoints stay, and what is CLOSED stays so.
-use Rattle.std.proofs.Common.{◌≡◌, ℕ, ◌&&◌, ◌||◌, ◌==◌, not, if◌then◌else◌, Bool, true, false, List, length, Option, Some, None, is_some, refl, sym, ◌∙◌, ap}
+use Rattle.std.proofs.Common.{◌≡◌, ℕ, ◌&&◌, ◌||◌, ◌==◌, not, if◌then◌else◌, Bool, true, false, length, Option, Some, None, is_some, refl, sym, ◌∙◌, ap}
 use Rattle.tcp_segment.specs.Segment.{Segment}
 use Rattle.clock.specs.declared.moment.Moment.{Moment}
 use Rattle.tcp_state.specs.declared.emission.Due.{Due}
@@ -11,11 +11,11 @@ use Rattle.tcp_halves.specs.Numbers.{is_before}
 use Rattle.tcp_halves.specs.Stream.{is_new_ack, is_in_window}
 use Rattle.tcp_state.specs.View.{View, is_opening, is_syn_sent, is_syn_received, is_closed, is_at_end, after_stop, after_reset}
 use Rattle.tcp_state.specs.Timing.{gives_up, after_tick}
-use Rattle.tcp_state.specs.Calls.{after_send, after_recv, beyond_shutdown, shutdown_refusal, after_shutdown, aborted, aborted_at, after_abort, is_removed_by_close, is_aborted_by_close, after_release, after_close}
+use Rattle.tcp_state.specs.Calls.{beyond_shutdown, shutdown_refusal, after_shutdown, aborted, aborted_at, is_removed_by_close, is_aborted_by_close, after_release}
 use Rattle.tcp_state.specs.Due.{first_due, after_emitted}
 use Rattle.tcp_state.specs.Edges as edge
 use Rattle.tcp_state.specs.Arrival.{after_segment, after_syn_ack, is_right_syn_ack, is_simultaneous_syn, after_simultaneous_syn, is_acceptable_to, after_acceptable_segment, after_acknowledging_segment, after_ack, is_read_on, after_window, after_text, owing_ack, after_establishment, ends_by_syn, is_of_fin, fin_acknowledged, after_new_ack, is_receiving, counts_fin, after_fin, reset_error, after_rst_in_syn_sent, is_acting_reset, ends_by_reset, after_rst, is_lost, after_lost, after_heard, is_rejected, before, timed_by, after_segment_at}
-use Rattle.tcp_state.specs.Unreachable.{is_unreachable, after_unreachable}
+use Rattle.tcp_state.specs.Unreachable.{is_unreachable}
 use Rattle.sockets.proofs.Followed.{by_test}
 use Rattle.sockets.proofs.Alike.{IsAlike, alike-same, alike-timed, alike-tick, alike-send, alike-syn, alike-text, alike-probe, alike-ack}
 
@@ -42,16 +42,8 @@ keeps-either : (v : View) (test : Bool) (w x : View) → KeepsEnds v w → Keeps
 keeps-either v true w x a b = a
 keeps-either v false w x a b = b
 
--- octets are taken from the caller
-pub keeps-send : (v : View) (octets : List ℕ) (now : Moment) → KeepsEnds v (after_send v octets now)
-keeps-send v octets now = keeps-alike v (after_send v octets now) (alike-send v octets now)
-
--- octets are read by the caller
-pub keeps-recv : (v : View) (len : ℕ) → KeepsEnds v (after_recv v len)
-keeps-recv v len = keeps-either v (is_some v.pending_error || is_opening v.state || (length v.receiving.readable == 0)) v _ (keeps-nothing v) (record { local = refl; peer = refl; live = λ e. e })
-
 -- our side is closed
-pub keeps-shutdown : (v : View) (now : Moment) → KeepsEnds v (after_shutdown v now)
+keeps-shutdown : (v : View) (now : Moment) → KeepsEnds v (after_shutdown v now)
 keeps-shutdown v now = record { local = refl; peer = refl; live = λ e. still v.state e }
   where
     still : (t : State) → is_closed (beyond_shutdown t) ≡ false → is_closed t ≡ false
@@ -59,7 +51,7 @@ keeps-shutdown v now = record { local = refl; peer = refl; live = λ e. still v.
     still _ e = refl
 
 -- a tick
-pub keeps-tick : (v : View) (now : Moment) → KeepsEnds v (after_tick v now)
+keeps-tick : (v : View) (now : Moment) → KeepsEnds v (after_tick v now)
 keeps-tick v now =
     by_test (is_at_end v now)
     (λ ends. rw ends (keeps-closed v (after_stop v) refl refl refl))
@@ -67,23 +59,8 @@ keeps-tick v now =
     (λ ends. rw (waits, ends) (keeps-closed v (after_reset v (Some ETIMEDOUT)) refl refl refl))
     (λ lives. keeps-alike v (after_tick v now) (alike-tick v now waits lives)))
 
--- it is aborted, as far as it is not CLOSED
-pub keeps-abort : (v : View) (now : Moment) → KeepsEnds v (after_abort v now)
-keeps-abort v now = keeps-either v (is_closed v.state) v (aborted_at v now) (keeps-nothing v) (keeps-closed v (aborted_at v now) refl refl refl)
-
--- an error tells of its SYN
-pub keeps-unreachable : (v : View) (number : ℕ) → KeepsEnds v (after_unreachable v number)
-keeps-unreachable v number = keeps-either v (is_unreachable v number) (after_reset v (Some ECONNREFUSED)) v (keeps-closed v (after_reset v (Some ECONNREFUSED)) refl refl refl) (keeps-nothing v)
-
--- its caller closes it
-pub keeps-close : (v : View) (now : Moment) → KeepsEnds v (after_close v now)
-keeps-close v now =
-    keeps-either v (is_removed_by_close v) v _ (keeps-nothing v)
-    (keeps-either v (is_aborted_by_close v) (aborted_at v now) (after_release v now) (keeps-closed v (aborted_at v now) refl refl refl)
-    (let shuts = keeps-shutdown v now in record { local = refl; peer = refl; live = shuts.live }))
-
 -- a segment goes out
-pub keeps-emitted : (v : View) (due : Due) (now : Moment) → KeepsEnds v (after_emitted v due now)
+keeps-emitted : (v : View) (due : Due) (now : Moment) → KeepsEnds v (after_emitted v due now)
 keeps-emitted v Rst now = record { local = refl; peer = refl; live = λ e. e }
 keeps-emitted v Syn now = keeps-alike v _ (alike-syn v now)
 keeps-emitted v (Text stretch) now = keeps-alike v _ (alike-text v stretch now)
@@ -92,9 +69,9 @@ keeps-emitted v Ack now = keeps-alike v _ (alike-ack v now)
 
 -- A segment comes.
 
-pub record SameEnds (v w : View) : Type 0 where
-  pub local : w.local ≡ v.local
-  pub peer : w.peer ≡ v.peer
+record SameEnds (v w : View) : Type 0 where
+  local : w.local ≡ v.local
+  peer : w.peer ≡ v.peer
 
 same : (v : View) → SameEnds v v
 same v = record { local = refl; peer = refl }
@@ -169,25 +146,25 @@ same-heard v s =
 same-timed : (v : View) (s : Segment) (now : Moment) → SameEnds v (timed_by (before v s) (after_heard v s) now)
 same-timed v s now = let a = same-heard v s in let b = alike-timed v s (after_heard v s) now in record { local = b.local ∙ a.local; peer = b.peer ∙ a.peer }
 
-pub same-arrived : (v : View) (s : Segment) (now : Moment) → SameEnds v (after_segment_at v s now)
+same-arrived : (v : View) (s : Segment) (now : Moment) → SameEnds v (after_segment_at v s now)
 same-arrived v s now = same-either v (is_closed v.state || is_rejected v s) v _ (same v) (same-timed v s now)
-
--- a segment arrives at a connection that is not CLOSED
-pub keeps-segment : (v : View) (s : Segment) (now : Moment) → is_closed v.state ≡ false → KeepsEnds v (after_segment_at v s now)
-keeps-segment v s now lives = let ends = same-arrived v s now in record { local = ends.local; peer = ends.peer; live = λ e. lives }
 
 -- whatever happens to it
 pub keeps-event : (v : View) (e : edge.Event) → KeepsEnds v (edge.after_event v e)
-keeps-event v (edge.Hears s now) = by_test (is_closed v.state) (λ closed. rw closed (keeps-nothing v)) (λ lives. keeps-segment v s now lives)
+keeps-event v (edge.Hears s now) = by_test (is_closed v.state) (λ closed. rw closed (keeps-nothing v)) (λ lives. let ends = same-arrived v s now in record { local = ends.local; peer = ends.peer; live = λ e. lives })
 keeps-event v (edge.Ticks now) = keeps-tick v now
 keeps-event v (edge.Emits now) = by_due (first_due v)
   where
     by_due : (o : Option Due) → KeepsEnds v (edge.after_first v o now)
     by_due None = keeps-nothing v
     by_due (Some due) = keeps-emitted v due now
-keeps-event v (edge.Sends octets now) = keeps-send v octets now
-keeps-event v (edge.Receives len) = keeps-recv v len
+keeps-event v (edge.Sends octets now) = keeps-alike v _ (alike-send v octets now)
+keeps-event v (edge.Receives len) =
+    keeps-either v (is_some v.pending_error || is_opening v.state || (length v.receiving.readable == 0)) v _ (keeps-nothing v) (record { local = refl; peer = refl; live = λ e. e })
 keeps-event v (edge.Shuts now) = keeps-either v (is_some (shutdown_refusal v)) v (after_shutdown v now) (keeps-nothing v) (keeps-shutdown v now)
-keeps-event v (edge.Closes now) = keeps-close v now
-keeps-event v (edge.Aborts now) = keeps-abort v now
-keeps-event v (edge.Unreachable number) = keeps-unreachable v number
+keeps-event v (edge.Closes now) =
+    keeps-either v (is_removed_by_close v) v _ (keeps-nothing v)
+    (keeps-either v (is_aborted_by_close v) (aborted_at v now) (after_release v now) (keeps-closed v (aborted_at v now) refl refl refl)
+    (let shuts = keeps-shutdown v now in record { local = refl; peer = refl; live = shuts.live }))
+keeps-event v (edge.Aborts now) = keeps-either v (is_closed v.state) v (aborted_at v now) (keeps-nothing v) (keeps-closed v (aborted_at v now) refl refl refl)
+keeps-event v (edge.Unreachable number) = keeps-either v (is_unreachable v number) (after_reset v (Some ECONNREFUSED)) v (keeps-closed v (after_reset v (Some ECONNREFUSED)) refl refl refl) (keeps-nothing v)

@@ -11,11 +11,11 @@ use Rattle.sockets.specs.declared.role.Role.{Role}
 use Rattle.sockets.specs.declared.role.Role.TheVariants.{Idle, Connected}
 use Rattle.sockets.specs.declared.refusal.Refusal.{Refusal}
 use Rattle.sockets.specs.Entries.{is_socket, has_socket, role_after_connect, with_role}
-use Rattle.sockets.specs.SocketsView.{SocketsView}
+use Rattle.sockets.specs.SocketsView.{SocketsView, role_of, with_socket}
 use Rattle.sockets.specs.Lists.{change_first}
 use Rattle.sockets.specs.Pairs.{pair_in, socket_pair}
-use Rattle.sockets.specs.Calls.{open_answer, reach_refusal, port_for, after_connect, pair_connected}
-use Rattle.sockets.proofs.Connected.{had_opens_none, after_connect-accepted}
+use Rattle.sockets.specs.Calls.{open_answer, last_port_after, port_connected, after_connect, pair_connected}
+use Rattle.sockets.proofs.Connected.{had_opens_none, after_connect-given, connecting}
 use Rattle.sockets.proofs.Followed.{by_test}
 
 -- the first that passes is found changed, where it passes still
@@ -44,30 +44,28 @@ opens_pair (Idle buffers b) bound local peer isn e = (refl, refl)
 opens_pair (Connected c l) bound local peer isn e = absurd (had_opens_none c.state c.pending_error bound e)
 opens_pair _ bound local peer isn e = cc
 
-pub connect_opens : (h : SocketsView) (isn : ℕ) (id : SocketId) (peer : Endpoint) (routed : Bool) (pair : Pair) → pair_connected h id peer routed ≡ Some pair → socket_pair (after_connect h isn id peer routed) id ≡ Some pair
-connect_opens h isn id peer routed pair = by_entry (find (is_socket id) h.entries) refl
+-- a socket that stays one has the role that it was given
+pub socket_changed : (h : SocketsView) (id : SocketId) (change : Role → Role) (role : Role) → role_of h id ≡ Some role → has_socket (change role) ≡ true → role_of (with_socket h id change) id ≡ Some (change role)
+socket_changed h id change role is socket = by_entry (find (is_socket id) h.entries) refl is
   where
-    by_port : (x : Entry) (bound : Option Endpoint) → find (is_socket id) h.entries ≡ Some x → open_answer x.role ≡ Ok bound → reach_refusal h peer routed ≡ None → (o : Option ℕ) → port_for h bound peer ≡ o → pair_connected h id peer routed ≡ Some pair → socket_pair (after_connect h isn id peer routed) id ≡ Some pair
-    by_port x bound found opens reached None given foreseen = let none : pair_connected h id peer routed ≡ None = rw (found, opens, reached, given) in cc
-    by_port x bound found opens reached (Some port) given foreseen =
-        let local : Endpoint = record { addr = h.addr; port = port } in
-        let parts = opens_pair x.role bound local peer isn opens in
+    by_entry : (o : Option Entry) → find (is_socket id) h.entries ≡ o → option_map (λ (e : Entry). e.role) o ≡ Some role → role_of (with_socket h id change) id ≡ Some (change role)
+    by_entry None found there = cc
+    by_entry (Some x) found there =
+        let same : x.role ≡ role = cc in
         let named = and_parts (x.id.0 == id.0) (has_socket x.role) (found_passes (is_socket id) h.entries x found) in
-        let still : is_socket id (with_role (role_after_connect local peer isn) x) ≡ true = and_from (x.id.0 == id.0) (has_socket (role_after_connect local peer isn x.role)) named.0 parts.0 in
-        let after : find (is_socket id) (change_first (is_socket id) (with_role (role_after_connect local peer isn)) h.entries) ≡ Some (with_role (role_after_connect local peer isn) x) = found_changed (is_socket id) (with_role (role_after_connect local peer isn)) h.entries x found still in
-        let told : pair_connected h id peer routed ≡ Some (pair_of local peer) = rw (found, opens, reached, given) in
-        ap (λ (w : SocketsView). socket_pair w id) (after_connect-accepted h isn id peer routed x bound port found opens reached given)
-        ∙ ap (λ (o : Option Entry). option_and_then pair_in (option_map (λ (e : Entry). e.role) o)) after
+        let still : is_socket id (with_role change x) ≡ true = and_from (x.id.0 == id.0) (has_socket (change x.role)) named.0 (ap (λ (r : Role). has_socket (change r)) same ∙ socket) in
+        ap (λ (o : Option Entry). option_map (λ (e : Entry). e.role) o) (found_changed (is_socket id) (with_role change) h.entries x found still) ∙ ap (λ (r : Role). Some (change r)) same
+
+pub connect_opens : (h : SocketsView) (isn : ℕ) (id : SocketId) (peer : Endpoint) (routed : Bool) (pair : Pair) → pair_connected h id peer routed ≡ Some pair → socket_pair (after_connect h isn id peer routed) id ≡ Some pair
+connect_opens h isn id peer routed pair foreseen = by_port (port_connected h id peer routed) refl
+  where
+    by_port : (r : Result ℕ Refusal) → port_connected h id peer routed ≡ r → socket_pair (after_connect h isn id peer routed) id ≡ Some pair
+    by_port (Err refusal) given = let none : pair_connected h id peer routed ≡ None = rw given in cc
+    by_port (Ok port) given =
+        let local : Endpoint = record { addr = h.addr; port = port } in
+        let c = connecting h id peer routed port given in
+        let parts = opens_pair c.role c.bound local peer isn c.opens in
+        let told : pair_connected h id peer routed ≡ Some (pair_of local peer) = rw given in
+        ap (λ (w : SocketsView). socket_pair w id) (after_connect-given h isn id peer routed c.role c.bound port c.is c.opens c.reached c.given)
+        ∙ ap (λ (o : Option Role). option_and_then pair_in o) (socket_changed (record h { last_port = last_port_after h c.bound port }) id (role_after_connect local peer isn) c.role c.is parts.0)
         ∙ parts.1 ∙ sym told ∙ foreseen
-
-    by_reach : (x : Entry) (bound : Option Endpoint) → find (is_socket id) h.entries ≡ Some x → open_answer x.role ≡ Ok bound → (o : Option Refusal) → reach_refusal h peer routed ≡ o → pair_connected h id peer routed ≡ Some pair → socket_pair (after_connect h isn id peer routed) id ≡ Some pair
-    by_reach x bound found opens (Some refusal) reached foreseen = let none : pair_connected h id peer routed ≡ None = rw (found, opens, reached) in cc
-    by_reach x bound found opens None reached foreseen = by_port x bound found opens reached (port_for h bound peer) refl foreseen
-
-    by_open : (x : Entry) → find (is_socket id) h.entries ≡ Some x → (r : Result (Option Endpoint) Refusal) → open_answer x.role ≡ r → pair_connected h id peer routed ≡ Some pair → socket_pair (after_connect h isn id peer routed) id ≡ Some pair
-    by_open x found (Err refusal) opens foreseen = let none : pair_connected h id peer routed ≡ None = rw (found, opens) in cc
-    by_open x found (Ok bound) opens foreseen = by_reach x bound found opens (reach_refusal h peer routed) refl foreseen
-
-    by_entry : (o : Option Entry) → find (is_socket id) h.entries ≡ o → pair_connected h id peer routed ≡ Some pair → socket_pair (after_connect h isn id peer routed) id ≡ Some pair
-    by_entry None found foreseen = let none : pair_connected h id peer routed ≡ None = rw found in cc
-    by_entry (Some x) found foreseen = by_open x found (open_answer x.role) refl foreseen

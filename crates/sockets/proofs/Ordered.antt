@@ -9,7 +9,7 @@ use Rattle.tcp_segment.specs.Segment.{Segment}
 use Rattle.tcp_state.specs.Arrival.{opened_passively}
 use Rattle.tcp_state.proofs.Causes.{not_true}
 use Rattle.sockets.specs.declared.refusal.Refusal.{Refusal}
-use Rattle.sockets.specs.declared.refusal.Refusal.TheVariants.{EBADF, EINVAL, EADDRINUSE, EADDRNOTAVAIL, ENETUNREACH}
+use Rattle.sockets.specs.declared.refusal.Refusal.TheVariants.{EBADF, EINVAL, EADDRNOTAVAIL, ENETUNREACH}
 use Rattle.sockets.specs.declared.entry.SocketId.{SocketId}
 use Rattle.sockets.specs.declared.entry.Entry.{Entry}
 use Rattle.ipv4.specs.Addresses.{is_unicast, same_addr, same_end}
@@ -17,7 +17,7 @@ use Rattle.sockets.specs.declared.role.Role.{Role}
 use Rattle.sockets.specs.declared.role.Role.TheVariants.{Idle, Listener, Datagrams}
 use Rattle.sockets.specs.Entries.{is_socket, is_between, sends, has_port, uses_port, role_after_bind, role_after_connect, new_socket, new_datagram_socket, new_waiting, on_datagrams, is_datagrams_at, with_role}
 use Rattle.sockets.specs.SocketsView.{SocketsView, new_sockets, role_of}
-use Rattle.sockets.specs.Calls.{open_answer, reach_refusal, port_for, last_port_after, is_pair_held, bound_of, port_at, port_bound, last_port_bound, bind_refusal, after_bind, connect_refusal, after_connect}
+use Rattle.sockets.specs.Calls.{reach_refusal, port_for, last_port_after, is_pair_held, bound_of, port_at, port_bound, last_port_bound, bind_refusal, after_bind, port_connected, connect_refusal, after_connect}
 use Rattle.sockets.specs.Datagrams.{sending_end, end_sent_from, after_sendto}
 use Rattle.sockets.specs.Arrival.{local_end, peer_end, after_opening}
 use Rattle.sockets.specs.Lists.{change_first}
@@ -26,7 +26,7 @@ use Rattle.sockets.specs.Causes.{Event, Binds, Connects, SendsTo, after_event}
 use Rattle.sockets.specs.Order.{has_for_itself, is_alone_at, LiesAt, IsOrdered, IsAllowed}
 use Rattle.sockets.proofs.Ascending.{ascends_joined}
 use Rattle.sockets.proofs.Bound.{port-allowed, port-given, bind-given}
-use Rattle.sockets.proofs.Connected.{after_connect-given}
+use Rattle.sockets.proofs.Connected.{after_connect-given, connecting}
 use Rattle.sockets.proofs.Queues.{sendto-refused, sendto-given, sent-from}
 use Rattle.sockets.proofs.Ends.{same_end-true}
 use Rattle.sockets.proofs.FirstPorts.{given_passes, given_dynamic}
@@ -199,25 +199,11 @@ opened_ordered h id peer isn port last dynamic reached free o =
         (subst (λ (x : Endpoint). count_by (is_between local x) changed ≤ 1) (same_end-true peer p parts.1) one)
 
 connect_ordered : (h : SocketsView) (isn : ℕ) (id : SocketId) (peer : Endpoint) (routed : Bool) → connect_refusal h id peer routed ≡ None → IsOrdered h → IsOrdered (after_connect h isn id peer routed)
-connect_ordered h isn id peer routed allowed o = by_role (role_of h id) refl
-  where
-    by_port : (role : Role) (bound : Option Endpoint) → role_of h id ≡ Some role → open_answer role ≡ Ok bound → reach_refusal h peer routed ≡ None → (o : Option ℕ) → port_for h bound peer ≡ o → IsOrdered (after_connect h isn id peer routed)
-    by_port role bound is opens_by reached None given = let refused : connect_refusal h id peer routed ≡ Some EADDRINUSE = rw (is, opens_by, reached, given) in cc
-    by_port role bound is opens_by reached (Some port) given =
-        subst IsOrdered (sym (after_connect-given h isn id peer routed role bound port is opens_by reached given))
-        (opened_ordered h id peer isn port (last_port_after h bound port) (counted_dynamic h bound peer port o.last_port given) (peer_apart h peer routed reached) (port_free h bound peer port given) o)
-
-    by_reach : (role : Role) (bound : Option Endpoint) → role_of h id ≡ Some role → open_answer role ≡ Ok bound → (r : Option Refusal) → reach_refusal h peer routed ≡ r → IsOrdered (after_connect h isn id peer routed)
-    by_reach role bound is opens_by None reached = by_port role bound is opens_by reached (port_for h bound peer) refl
-    by_reach role bound is opens_by (Some refusal) reached = let refused : connect_refusal h id peer routed ≡ Some refusal = rw (is, opens_by, reached) in cc
-
-    by_open : (role : Role) → role_of h id ≡ Some role → (r : Result (Option Endpoint) Refusal) → open_answer role ≡ r → IsOrdered (after_connect h isn id peer routed)
-    by_open role is (Err refusal) opens_by = let refused : connect_refusal h id peer routed ≡ Some refusal = rw (is, opens_by) in cc
-    by_open role is (Ok bound) opens_by = by_reach role bound is opens_by (reach_refusal h peer routed) refl
-
-    by_role : (r : Option Role) → role_of h id ≡ r → IsOrdered (after_connect h isn id peer routed)
-    by_role None is = let refused : connect_refusal h id peer routed ≡ Some EBADF = rw is in cc
-    by_role (Some role) is = by_open role is (open_answer role) refl
+connect_ordered h isn id peer routed allowed o =
+    let p = port-allowed (port_connected h id peer routed) allowed in
+    let c = connecting h id peer routed p.0 p.1 in
+    subst IsOrdered (sym (after_connect-given h isn id peer routed c.role c.bound p.0 c.is c.opens c.reached c.given))
+    (opened_ordered h id peer isn p.0 (last_port_after h c.bound p.0) (counted_dynamic h c.bound peer p.0 o.last_port c.given) (peer_apart h peer routed c.reached) (port_free h c.bound peer p.0 c.given) o)
 
 -- What else joins the table.
 

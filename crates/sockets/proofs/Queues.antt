@@ -18,8 +18,7 @@ use Rattle.sockets.specs.SocketsView.{SocketsView, role_of, with_socket}
 use Rattle.sockets.specs.Calls.{reach_refusal, bound_of, last_port_after}
 use Rattle.sockets.specs.Datagrams.{datagrams_bound, sending_end, end_sent_from, next_identification, after_sendto, reception, after_reception}
 use Rattle.sockets.specs.Lists.{change_first}
-use Rattle.sockets.proofs.Firsts.{find-position}
-use Rattle.sockets.proofs.Written.{entry_written, entry_kept}
+use Rattle.sockets.proofs.Written.{entry_written, found_lent, entry_kept}
 
 -- a datagram is refused ..
 pub sendto-refused : (h : SocketsView) (id : SocketId) (peer : Endpoint) (octets : List ℕ) (routed : Bool) (refusal : Refusal) → end_sent_from h id peer octets routed ≡ Err refusal → after_sendto h id peer octets routed ≡ h
@@ -88,7 +87,7 @@ received v h source d from octets zs i x y b same place lent at is_from is_paylo
     there = record { addr = source; port = d.source }
 
     found : find test h.entries ≡ Some x
-    found = find-position test h.entries i x place (at ∙ ap (λ (es : List Entry). get_or es i x) (lent ∙ ap (λ (w : SocketsView). w.entries) same))
+    found = found_lent v h test zs i x same place lent at
 
     room_there : (answer : Bool) → answer ≡ (let e : Entry = get_or zs i x in has_room_to_receive (length octets) e.role) → has_room_to_receive (length d.payload) x.role ≡ answer
     room_there answer has = sym (has ∙ ap (λ (e : Entry). has_room_to_receive (length octets) e.role) (sym at) ∙ ap (λ (xs : List ℕ). has_room_to_receive (length xs) x.role) is_payload)

@@ -1,5 +1,5 @@
 -- The write at the socket's place is the change of the first entry that the id names, or it is taken out.
-use Rattle.std.proofs.Common.{◌≡◌, ◌∙◌, List, get_or, Some, refl, ap, sym}
+use Rattle.std.proofs.Common.{◌≡◌, ◌∙◌, Some, refl, ap, sym}
 use Rattle.std.specs.List.{find}
 use Rattle.tcp_state.specs.declared.connection.Fate.{Fate}
 use Rattle.clock.specs.declared.moment.Moment.{Moment}
@@ -8,8 +8,8 @@ use Rattle.sockets.specs.Entries.{is_socket, role_after_close, close_fate_of, en
 use Rattle.sockets.specs.SocketsView.{SocketsView}
 use Rattle.sockets.proofs.Arrived.{entry_settled}
 use Rattle.sockets.proofs.Closed.{closed-found, close-allowed}
-use Rattle.sockets.proofs.Written.{role_changed}
-use Rattle.sockets.proofs.Firsts.{find-position, found_by_place}
+use Rattle.sockets.proofs.Written.{found_lent, role_changed}
+use Rattle.sockets.proofs.Firsts.{found_by_place}
 use Rattle.sockets.proofs.Ascending.{ascends_written, ascends_settled}
 use Rattle.sockets.proofs.Filed.{index_written}
 use Rattle.sockets.proofs.KeptFiled.{filed_role, filed-close}
@@ -18,13 +18,9 @@ use Rattle.sockets.proofs.sockets.Sockets.close_socket.Goals as goal
 pub returns-clause-ok : goal.returns-clause-ok
 returns-clause-ok c =
     let h : SocketsView = c.args.self.now in
-    let entries = ap (λ (w : SocketsView). w.entries) c.self.view_is in
     let kept = ap (λ (w : SocketsView). w.kept) c.self.view_is in
     let x : Entry = c.index-deref_mut-place.result in
-    let at : x ≡ get_or h.entries c.in_ok-place.place x =
-    c.index-deref_mut-place.is ∙ ap (λ (es : List Entry). get_or es c.in_ok-place.place x) (c.deref_mut.ensures.value ∙ entries)
-    in
-    let found : find (is_socket c.args.id) h.entries ≡ Some x = find-position (is_socket c.args.id) h.entries c.in_ok-place.place x c.in_ok-place.ensures.place at in
+    let found : find (is_socket c.args.id) h.entries ≡ Some x = found_lent _ h (is_socket c.args.id) _ _ x c.self.view_is c.in_ok-place.ensures.place c.deref_mut.ensures.value c.index-deref_mut-place.is in
     let fates : c.close-fate.result ≡ close_fate_of x.role = c.close-fate.ensures.fate ∙ ap (λ (e : Entry). close_fate_of e.role) (sym c.index-deref_mut-place.is) in
     entry_settled _ _ (is_socket c.args.id) (role_after_close c.self.inside.kept) _ _ _ _ _ c.close-fate.result c.self.view_is c.in_ok-place.ensures.place c.deref_mut.ensures.value c.index-deref_mut-place.is (role_changed (role_after_close c.self.inside.kept) _ _ c.close-fate.ensures.after) c.settle.ensures.entries
     ∙ ap (λ (r : Fate). let w : SocketsView = record h { entries = entries_after_step r (is_socket c.args.id) (role_after_close c.self.inside.kept) h.entries } in w) fates

@@ -1,5 +1,5 @@
 -- The write at the socket's place is the change of the first entry that the id names, from the port that is given.
-use Rattle.std.proofs.Common.{◌≡◌, ◌∙◌, ◌<◌, ℕ, List, length, get_or, Some, None, Ok, refl, ap, sym, subst, arith}
+use Rattle.std.proofs.Common.{◌≡◌, ◌∙◌, ◌<◌, ℕ, List, length, Some, None, Ok, refl, ap, sym, subst, arith}
 use Rattle.std.specs.List.{find, position}
 use Rattle.ipv4.specs.declared.addr.Addr.{Addr}
 use Rattle.ipv4.specs.declared.addr.Endpoint.{Endpoint}
@@ -11,8 +11,7 @@ use Rattle.sockets.specs.Index.{AreSorted, index_of}
 use Rattle.sockets.proofs.Filed.{sorted_index}
 use Rattle.sockets.proofs.KeptFiled.{room_connected, index_after_connect}
 use Rattle.sockets.proofs.Connected.{after_connect-accepted, some_from_ok}
-use Rattle.sockets.proofs.Firsts.{find-position}
-use Rattle.sockets.proofs.Written.{role_changed, role_written}
+use Rattle.sockets.proofs.Written.{found_lent, role_changed, role_written}
 use Rattle.sockets.proofs.Ascending.{ascends_written}
 use Rattle.sockets.proofs.sockets.Sockets.connect.Goals as goal
 
@@ -20,13 +19,9 @@ pub returns-clause-ok : goal.returns-clause-ok
 returns-clause-ok c =
     let h : SocketsView = c.args.self.now in
     let place = c.in_ok-place.ensures.place in
-    let entries = ap (λ (w : SocketsView). w.entries) c.self.view_is in
     let addr = ap (λ (w : SocketsView). w.addr) c.self.view_is in
     let x : Entry = c.index-deref-place.result in
-    let at : x ≡ get_or h.entries c.in_ok-place.place x =
-    c.index-deref-place.is ∙ ap (λ (es : List Entry). get_or es c.in_ok-place.place x) (c.deref.ensures.0 ∙ entries)
-    in
-    let found : find (is_socket c.args.id) h.entries ≡ Some x = find-position (is_socket c.args.id) h.entries c.in_ok-place.place x place at in
+    let found : find (is_socket c.args.id) h.entries ≡ Some x = found_lent _ h (is_socket c.args.id) _ _ x c.self.view_is place c.deref.ensures.0 c.index-deref-place.is in
     let opens : open_answer x.role ≡ Ok c.in_ok-bound.bound = ap (λ (e : Entry). open_answer e.role) c.index-deref-place.is ∙ sym c.in_ok-bound.ensures in
     let given : port_for h c.in_ok-bound.bound c.args.peer ≡ Some c.in_ok-port.port = some_from_ok _ _ _ c.in_ok-port.ensures.value in
     let reached : reach_refusal h c.args.peer c.args.is_routed ≡ None = sym c.in_ok-may_reach.ensures in

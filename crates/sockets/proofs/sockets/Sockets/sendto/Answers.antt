@@ -10,11 +10,10 @@ use Rattle.sockets.specs.Entries.{is_socket, has_room_to_send, role_after_sendto
 use Rattle.sockets.specs.SocketsView.{SocketsView, with_socket}
 use Rattle.sockets.specs.Calls.{reach_refusal, last_port_after}
 use Rattle.sockets.specs.Datagrams.{datagrams_bound, sending_end, end_sent_from, next_identification}
-use Rattle.sockets.proofs.Caused.{some_same}
+use Rattle.sockets.proofs.Followed.{some_same}
 use Rattle.sockets.proofs.Connected.{some_from_ok}
-use Rattle.sockets.proofs.Firsts.{find-position}
 use Rattle.sockets.proofs.Queues.{end_given, bound_found, sendto-given}
-use Rattle.sockets.proofs.Written.{role_written}
+use Rattle.sockets.proofs.Written.{found_lent, role_written}
 use Rattle.sockets.proofs.Ascending.{ascends_written}
 use Rattle.sockets.proofs.Filed.{index_written}
 use Rattle.sockets.proofs.KeptFiled.{filed_or_not, filed-sendto}
@@ -27,17 +26,10 @@ returns-clause-ok c =
     let local : Endpoint = c.in_ok-local.local in
     let bound : Option Endpoint = c.in_ok-bound.bound in
     let place = c.in_ok-place.ensures.place in
-    let entries = ap (λ (w : SocketsView). w.entries) c.self.view_is in
     let first : Entry = c.index-deref-place.result in
-    let first_at : first ≡ get_or h.entries c.in_ok-place.place first =
-    c.index-deref-place.is ∙ ap (λ (es : List Entry). get_or es c.in_ok-place.place first) (c.deref.ensures.0 ∙ entries)
-    in
     let x : Entry = c.index-deref_mut-place.result in
-    let at : x ≡ get_or h.entries c.in_ok-place.place x =
-    c.index-deref_mut-place.is ∙ ap (λ (es : List Entry). get_or es c.in_ok-place.place x) (c.deref_mut.ensures.value ∙ entries)
-    in
-    let found : find (is_socket c.args.id) h.entries ≡ Some x = find-position (is_socket c.args.id) h.entries c.in_ok-place.place x place at in
-    let first_found : find (is_socket c.args.id) h.entries ≡ Some first = find-position (is_socket c.args.id) h.entries c.in_ok-place.place first place first_at in
+    let found : find (is_socket c.args.id) h.entries ≡ Some x = found_lent _ h (is_socket c.args.id) _ _ x c.self.view_is place c.deref_mut.ensures.value c.index-deref_mut-place.is in
+    let first_found : find (is_socket c.args.id) h.entries ≡ Some first = found_lent _ h (is_socket c.args.id) _ _ first c.self.view_is place c.deref.ensures.0 c.index-deref-place.is in
     let same : first ≡ x = some_same _ first x first_found found in
     let bound_is : datagrams_bound x.role ≡ Ok bound = ap (λ (e : Entry). datagrams_bound e.role) (sym same ∙ c.index-deref-place.is) ∙ sym c.in_ok-bound.ensures in
     let short : nat_lt MOST_OCTETS (length octets) ≡ false = grind (arith, nat_tests, c.if-octets-gt-MOST_OCTETS.false) in

@@ -13,8 +13,7 @@ use Rattle.sockets.specs.Entries.{is_between, fate_of, is_offered_by, entries_af
 use Rattle.sockets.specs.SocketsView.{SocketsView, later_moment}
 use Rattle.sockets.proofs.Arrived.{entry_settled, meets_becomes, meets_answered, refusal-answered, taken}
 use Rattle.sockets.proofs.Refused.{entry_refused_segment}
-use Rattle.sockets.proofs.Written.{entry_kept}
-use Rattle.sockets.proofs.Firsts.{find-position}
+use Rattle.sockets.proofs.Written.{found_lent, entry_kept}
 use Rattle.sockets.proofs.Ascending.{ascends_written, ascends_settled}
 use Rattle.sockets.proofs.Filed.{index_written}
 use Rattle.sockets.proofs.KeptFiled.{filed_after, filed-segment}
@@ -25,12 +24,8 @@ returns-in-Rejected c isn =
     let h : SocketsView = c.args.self.now in
     let s : Segment = c.args.segment.now in
     let test : Entry → Bool = is_between (local_end h s) (peer_end c.args.source s) in
-    let entries = ap (λ (w : SocketsView). w.entries) c.self.view_is in
     let x : Entry = c.index-deref_mut-place.result in
-    let at : x ≡ get_or h.entries c.args.place x =
-    c.index-deref_mut-place.is ∙ ap (λ (es : List Entry). get_or es c.args.place x) (c.deref_mut.ensures.value ∙ entries)
-    in
-    let found : find test h.entries ≡ Some x = find-position test h.entries c.args.place x c.requires at in
+    let found : find test h.entries ≡ Some x = found_lent _ h test _ _ x c.self.view_is c.requires c.deref_mut.ensures.value c.index-deref_mut-place.is in
     let fates : fate_of s x.role ≡ Rejected = ap (λ (e : Entry). fate_of s e.role) c.index-deref_mut-place.is ∙ sym c.segment-fate.ensures.fate ∙ c.in-Rejected.is in
     let same : c.segment-fate.new.self ≡ get_or c.deref_mut.result.now c.args.place x =
     c.segment-fate.ensures.after ∙ entry_refused_segment _ s c.later_moment-now.result (sym c.segment-fate.ensures.fate ∙ c.in-Rejected.is)
@@ -42,12 +37,8 @@ returns-in_default c isn =
     let h : SocketsView = c.args.self.now in
     let s : Segment = c.args.segment.now in
     let test : Entry → Bool = is_between (local_end h s) (peer_end c.args.source s) in
-    let entries = ap (λ (w : SocketsView). w.entries) c.self.view_is in
     let x : Entry = c.index-deref_mut-place.result in
-    let at : x ≡ get_or h.entries c.args.place x =
-    c.index-deref_mut-place.is ∙ ap (λ (es : List Entry). get_or es c.args.place x) (c.deref_mut.ensures.value ∙ entries)
-    in
-    let found : find test h.entries ≡ Some x = find-position test h.entries c.args.place x c.requires at in
+    let found : find test h.entries ≡ Some x = found_lent _ h test _ _ x c.self.view_is c.requires c.deref_mut.ensures.value c.index-deref_mut-place.is in
     let fate : Fate = c.segment-fate.result.0 in
     let fates : fate_of s x.role ≡ fate = ap (λ (e : Entry). fate_of s e.role) c.index-deref_mut-place.is ∙ sym c.segment-fate.ensures.fate in
     let now : Moment = c.later_moment-now.result in

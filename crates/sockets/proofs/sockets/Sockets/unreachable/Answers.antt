@@ -1,13 +1,12 @@
 -- The write at the place is the change of the connection that is told, or it is taken out.
-use Rattle.std.proofs.Common.{◌≡◌, ◌∙◌, ℕ, List, get_or, Bool, Some, refl, ap, sym}
+use Rattle.std.proofs.Common.{◌≡◌, ◌∙◌, ℕ, List, Bool, Some, refl, ap, sym}
 use Rattle.std.specs.List.{find, position}
 use Rattle.tcp_state.specs.declared.connection.Fate.{Fate}
 use Rattle.sockets.specs.declared.entry.Entry.{Entry}
 use Rattle.sockets.specs.Entries.{is_between, role_after_unreachable, unreachable_fate_of, entries_after_step}
 use Rattle.sockets.specs.SocketsView.{SocketsView}
 use Rattle.sockets.proofs.Arrived.{entry_settled}
-use Rattle.sockets.proofs.Written.{role_changed}
-use Rattle.sockets.proofs.Firsts.{find-position}
+use Rattle.sockets.proofs.Written.{found_lent, role_changed}
 use Rattle.sockets.proofs.Told.{told-found}
 use Rattle.sockets.proofs.Ascending.{ascends_written, ascends_settled, lent_in_order}
 use Rattle.sockets.proofs.Filed.{index_written}
@@ -24,10 +23,7 @@ returns-in-Some c =
     ap (λ (es : List Entry). position test es) (sym entries ∙ sym c.deref.ensures.0) ∙ sym c.connection_between.ensures ∙ c.in-Some.is
     in
     let x : Entry = c.index-deref_mut-place.result in
-    let at : x ≡ get_or h.entries c.in-Some.place x =
-    c.index-deref_mut-place.is ∙ ap (λ (es : List Entry). get_or es c.in-Some.place x) (c.deref_mut.ensures.value ∙ entries)
-    in
-    let found : find test h.entries ≡ Some x = find-position test h.entries c.in-Some.place x place at in
+    let found : find test h.entries ≡ Some x = found_lent _ h test _ _ x c.self.view_is place c.deref_mut.ensures.value c.index-deref_mut-place.is in
     entry_settled _ _ test (role_after_unreachable number) _ _ _ _ _ c.unreachable-fate.result c.self.view_is place c.deref_mut.ensures.value c.index-deref_mut-place.is (role_changed (role_after_unreachable number) _ _ c.unreachable-fate.ensures.after) c.settle.ensures.entries
     ∙ ap (λ (r : Fate). let w : SocketsView = record h { entries = entries_after_step r test (role_after_unreachable number) h.entries } in w) (c.unreachable-fate.ensures.fate ∙ ap (λ (e : Entry). unreachable_fate_of number e.role) (sym c.index-deref_mut-place.is))
     ∙ sym (told-found h c.args.local c.args.peer number x found)
