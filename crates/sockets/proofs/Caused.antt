@@ -32,7 +32,7 @@ use Rattle.sockets.proofs.Ends.{eqb-same, same_end-same}
 use Rattle.sockets.proofs.Opened.{found_passes}
 pub use Rattle.sockets.proofs.Followed.{some_same, settled_followed}
 use Rattle.sockets.proofs.Followed.{IsNothing, by_test, joined_by, follows_map}
-use Rattle.sockets.proofs.Steps.{IsEventOf, sends_it, reads_it, shuts_it, closes_it, aborts_it, ticks_it, comes_to_it, goes_out, tells_it, entry, IsStepOf, stays, moves, ends, binds, listens, opens, accepted, requeues, binds_datagrams, closed, given_up, IsJoining, made, made_datagrams, called, IsStepped, followed, joined, stepped}
+use Rattle.sockets.proofs.Steps.{IsEventOf, closes_it, aborts_it, ticks_it, comes_to_it, goes_out, tells_it, entry, IsStepOf, stays, moves, ends, binds, listens, opens, accepted, requeues, binds_datagrams, closed, given_up, IsJoining, made, made_datagrams, called, IsStepped, followed, joined, stepped}
 
 -- One connection.
 
@@ -96,15 +96,13 @@ next_out h goes x found = rw found (eqb-same x.id.0)
 
 module _ (h : SocketsView) (id : SocketId) (c : View) (l : Option SocketId) where
   cause_for : (e : Event) (ev : edge.Event) → IsEventOf h (entry id (Connected c l)) e ev → edge.is_cause c ev ≡ true → is_cause_for h e (entry id (Connected c l)) ≡ true
-  cause_for _ _ (sends_it named octets socket) cause = cc
-  cause_for _ _ (reads_it named len socket) cause = cc
-  cause_for _ _ (shuts_it named socket) cause = cc
   cause_for _ _ (closes_it named socket) cause = or_left _ _ (both _ _ socket cause)
   cause_for _ _ (aborts_it named waits) cause = or_right (is_socket named (entry id (Connected c l)) && is_close_cause h.kept (Connected c l)) _ waits
   cause_for _ _ (ticks_it now) cause = cause
   cause_for _ _ (comes_to_it now isn source s between) cause = both _ _ between cause
   cause_for _ _ (goes_out goes now found) cause = both _ _ (next_out h goes (entry id (Connected c l)) found) cause
   cause_for _ _ (tells_it local peer number between) cause = both _ _ between cause
+  cause_for _ _ _ cause = cc
 
   removal_for : (e : Event) (ev : edge.Event) → IsSoundConnection c → IsEventOf h (entry id (Connected c l)) e ev → edge.fate_by c ev ≡ Removed → is_cause_for h e (entry id (Connected c l)) ≡ true
   removal_for e ev sound meets removed = cause_for e ev meets (caused e ev meets removed)
@@ -113,26 +111,19 @@ module _ (h : SocketsView) (id : SocketId) (c : View) (l : Option SocketId) wher
       live local peer between = not_over c (not_true _ (and_left _ _ between))
 
       caused : (e : Event) (ev : edge.Event) → IsEventOf h (entry id (Connected c l)) e ev → edge.fate_by c ev ≡ Removed → edge.is_cause c ev ≡ true
-      caused _ _ (sends_it named octets socket) removed = cc
-      caused _ _ (reads_it named len socket) removed = cc
-      caused _ _ (shuts_it named socket) removed = cc
       caused _ _ (closes_it named socket) removed = removed_caused c (edge.Closes h.kept) (held_not_over c l (and_right _ _ socket)) removed
       caused _ _ (aborts_it named waits) removed = refl
       caused _ _ (ticks_it now) removed = tick_caused c (later_moment h now) removed
       caused _ _ (comes_to_it now isn source s between) removed = removed_caused c (edge.Hears s (later_moment h now)) (live (local_end h s) (peer_end source s) between) removed
       caused _ _ (goes_out goes now found) removed = removed_caused c (edge.Emits (later_moment h now)) (due_not_over c sound.sound (and_left _ _ (found_passes (sends goes) h.entries (entry id (Connected c l)) found))) removed
       caused _ _ (tells_it local peer number between) removed = removed_caused c (edge.Unreachable number) (live local peer between) removed
+      caused _ _ _ removed = cc
 
   report_for : (e : Event) (ev : edge.Event) (error : Error) → IsEventOf h (entry id (Connected c l)) e ev → edge.may_raise c ev error ≡ true → reports_to h e error (entry id (Connected c l)) ≡ true
-  report_for _ _ error (sends_it named octets socket) raises = cc
-  report_for _ _ error (reads_it named len socket) raises = cc
-  report_for _ _ error (shuts_it named socket) raises = cc
-  report_for _ _ error (closes_it named socket) raises = cc
-  report_for _ _ error (aborts_it named waits) raises = cc
   report_for _ _ error (ticks_it now) raises = raises
   report_for _ _ error (comes_to_it now isn source s between) raises = both _ _ between raises
-  report_for _ _ error (goes_out goes now found) raises = cc
   report_for _ _ error (tells_it local peer number between) raises = both _ _ between raises
+  report_for _ _ error _ raises = cc
 
 -- a socket without a connection is gone by its close
 alone_caused : (now : Moment) (role : Role) → in_connection true (λ c. false) role ≡ true → is_close_cause now role ≡ true

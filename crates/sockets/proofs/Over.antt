@@ -21,7 +21,7 @@ use Rattle.sockets.specs.Causes.{Event, after_event}
 use Rattle.sockets.proofs.Alike.{IsAlike, alike-tick, alike-timed, alike-send}
 use Rattle.sockets.proofs.Ticked.{tick-alone}
 use Rattle.sockets.proofs.Followed.{by_test, all_followed, all_joined}
-use Rattle.sockets.proofs.Steps.{IsStepOf, stays, moves, binds, listens, opens, accepted, requeues, binds_datagrams, IsJoining, made, made_datagrams, called, IsStepped, followed, joined, stepped}
+use Rattle.sockets.proofs.Steps.{IsStepOf, stays, moves, accepted, IsJoining, made, IsStepped, followed, joined, stepped}
 
 -- One connection.
 
@@ -93,17 +93,12 @@ event_left c (edge.Unreachable number) kept left = unless_over (after_unreachabl
 step_left : (h : SocketsView) (e : Event) (x y : Entry) → IsStepOf h e x (Some y) → is_over_in x.role ≡ false → is_over_in y.role ≡ false
 step_left h e x _ stays left = left
 step_left h e _ _ (moves ev id c l meets kept) left = event_left c ev kept left
-step_left h _ _ _ (binds named asked id buffers bound local) left = refl
-step_left h _ _ _ (listens named backlog id buffers local) left = refl
-step_left h _ _ _ (opens isn named peer routed id buffers bound local) left = refl
 step_left h _ _ _ (accepted named id c l) left = left
-step_left h e _ _ (requeues id bound before after) left = refl
-step_left h e _ _ (binds_datagrams id bound local before after takes) left = refl
+step_left h _ _ _ _ left = refl
 
 joining_left : (h : SocketsView) (e : Event) (x : Entry) → IsJoining h e x → is_over_in x.role ≡ false
 joining_left h _ _ (made buffers) = refl
-joining_left h _ _ made_datagrams = refl
-joining_left h _ _ (called now isn source s listener call) = refl
+joining_left h _ _ _ = refl
 
 pub none_over : (h : SocketsView) (e : Event) → NoneIsOver h → NoneIsOver (after_event h e)
 none_over h e all = by_step (after_event h e) (stepped h e)
