@@ -1,12 +1,12 @@
 -- Why ids ascend along the table whatever its calls write, and what a search by id finds.
-use Rattle.std.proofs.Common.{◌≡◌, ℕ, zero, suc, ◌+◌, ◌<◌, ◌≤◌, ◌==◌, ◌&&◌, Bool, true, false, cond, if◌then◌else◌, List, [], ◌∷◌, ◌++◌, length, get_or, set, Option, Some, None, Result, Ok, Err, refl, sym, ◌∙◌, ap, subst, arith}
+use Rattle.std.proofs.Common.{◌≡◌, inl, inr, ℕ, zero, suc, ◌+◌, ◌<◌, ◌≤◌, ◌==◌, ◌&&◌, Bool, true, false, if◌then◌else◌, List, [], ◌∷◌, ◌++◌, length, get_or, set, Option, Some, None, Result, Ok, Err, refl, sym, ◌∙◌, ap, subst, arith}
 use Rattle.std.specs.Bool.{then_some}
 use Rattle.std.specs.List.{find, list_any, position, refill, remove, retain_mut, AllWithin}
 use Rattle.std.specs.List.Retain.{RetainsInTurn}
 use Rattle.std.specs.List.Sorted.{IsSearchInRange, IsBinarySearchResult, IsNonDecreasingBy}
 use Rattle.std.specs.Option.{is_some}
 use Rattle.std.specs.Ordering.{nat_cmp, ordering_index}
-use Rattle.std.specs.Result.{result_ok, OnOk, OnErr}
+use Rattle.std.specs.Result.{result_ok}
 use Rattle.std.proofs.lemmas.Bool.{eqb-true, eqb-false, eq-eqb, ne_eqb}
 use Rattle.std.proofs.lemmas.Bool.Decides.{nat_tests}
 use Rattle.std.proofs.lemmas.Cmp.{ranked}
@@ -17,10 +17,11 @@ use Rattle.tcp_state.specs.declared.connection.Fate.{Fate}
 use Rattle.sockets.specs.declared.entry.SocketId.{SocketId}
 use Rattle.sockets.specs.declared.entry.Entry.{Entry}
 use Rattle.sockets.specs.declared.role.Role.{Role}
-use Rattle.sockets.specs.Entries.{is_kept, with_role}
+use Rattle.sockets.specs.Entries.{is_kept}
 use Rattle.sockets.specs.Ids.{has_id, AreAscending, AreInOrder}
 use Rattle.sockets.proofs.Firsts.{refill_set, position-from_fails, position-none_passes, find-position_none}
-use Rattle.sockets.proofs.Followed.{by_test}
+use Rattle.sockets.specs.Causes.{Follows}
+use Rattle.sockets.proofs.Followed.{IsNothing, by_test, each_followed, place_removed, followed_in_turn}
 
 -- What keeps the order.
 
@@ -52,48 +53,34 @@ ascends_written last xs zs i y d ascends lent same =
     let P : List Entry → Type 0 = λ ws. AreAscending 0 last ws in
     subst P (sym (refill_set xs zs i y lent)) (ascends_set 0 last xs i y d ascends (same ∙ ap (λ ws. (get_or ws i d).id) lent))
 
--- an entry is taken out
-ascends_removed : (a last : ℕ) (xs : List Entry) (i : ℕ) → AreAscending a last xs → AreAscending a last (remove xs i)
-ascends_removed a last [] zero ascends = ascends
-ascends_removed a last [] (suc i) ascends = ascends
-ascends_removed a last (x ∷ xs) zero ascends = ascends_rest a last x xs ascends
-ascends_removed a last (x ∷ xs) (suc i) ascends = (ascends.0, ascends_removed x.id.0 last xs i ascends.1)
+-- an entry that stays keeps its id
+abbrev KeepsId : Entry → Option Entry → Type 0
+KeepsId x None = Unit {0}
+KeepsId x (Some y) = y.id ≡ x.id
+
+pub ascends_followed : (Step : Entry → Option Entry → Type 0) → ((x y : Entry) → Step x (Some y) → y.id ≡ x.id) → (a last : ℕ) (xs ys : List Entry) → Follows Step IsNothing xs ys → AreAscending a last xs → AreAscending a last ys
+ascends_followed Step ids a last [] ys f ascends = subst (λ (ws : List Entry). AreAscending a last ws) (sym f) ascends
+ascends_followed Step ids a last (x ∷ xs) [] f ascends = ascends_followed Step ids a last xs [] f.1 (ascends_rest a last x xs ascends)
+ascends_followed Step ids a last (x ∷ xs) (y ∷ ys) (inl f) ascends = ascends_behind a last x y ys (ids x y f.0) ascends.0 (ascends_followed Step ids x.id.0 last xs ys f.1 ascends.1)
+ascends_followed Step ids a last (x ∷ xs) (y ∷ ys) (inr f) ascends = ascends_followed Step ids a last xs (y ∷ ys) f.1 (ascends_rest a last x xs ascends)
 
 pub ascends_settled : (last : ℕ) (fate : Fate) (xs ys : List Entry) (i : ℕ) → AreAscending 0 last xs → ys ≡ (if is_kept fate then xs else remove xs i) → AreAscending 0 last ys
 ascends_settled last fate xs ys i ascends is = let P : List Entry → Type 0 = λ ws. AreAscending 0 last ws in subst P (sym is) (by_kept (is_kept fate))
   where
     by_kept : (b : Bool) → AreAscending 0 last (if b then xs else remove xs i)
     by_kept true = ascends
-    by_kept false = ascends_removed 0 last xs i ascends
-
--- an entry is kept or not
-ascends_or_not : (b : Bool) (a last : ℕ) (y : Entry) (ys : List Entry) → AreAscending a last (y ∷ ys) → AreAscending a last ys → AreAscending a last (cond b (y ∷ ys) ys)
-ascends_or_not true a last y ys kept left = kept
-ascends_or_not false a last y ys kept left = left
+    by_kept false = ascends_followed KeepsId (λ x y same. same) 0 last xs (remove xs i) (place_removed KeepsId IsNothing refl (λ x. refl) (λ x. tt) xs i) ascends
 
 -- each entry takes a step and keeps its id, or is taken out
-ascends_retained : (test : Entry → Bool) (change : Entry → Entry) → ((x : Entry) → (change x).id ≡ x.id) → (a last : ℕ) (xs : List Entry) → AreAscending a last xs → AreAscending a last (retain_mut test change xs)
-ascends_retained test change keeps a last [] ascends = ascends
-ascends_retained test change keeps a last (x ∷ xs) ascends =
-    ascends_or_not (test x) a last (change x) (retain_mut test change xs)
-    (ascends_behind a last x (change x) (retain_mut test change xs) (keeps x) ascends.0 (ascends_retained test change keeps x.id.0 last xs ascends.1))
-    (ascends_retained test change keeps a last xs (ascends_rest a last x xs ascends))
-
 pub ascends_stepped : (last : ℕ) (test : Entry → Bool) (change : Entry → Entry) (xs ys : List Entry) → ((x : Entry) → (change x).id ≡ x.id) → AreAscending 0 last xs → ys ≡ retain_mut test change xs → AreAscending 0 last ys
-ascends_stepped last test change xs ys keeps ascends is = let P : List Entry → Type 0 = λ ws. AreAscending 0 last ws in subst P (sym is) (ascends_retained test change keeps 0 last xs ascends)
+ascends_stepped last test change xs ys keeps ascends is =
+    let P : List Entry → Type 0 = λ ws. AreAscending 0 last ws in
+    subst P (sym is) (ascends_followed KeepsId (λ x y same. same) 0 last xs (retain_mut test change xs) (each_followed KeepsId IsNothing refl test change xs (λ x kept. keeps x) (λ x gone. tt)) ascends)
 
 -- the same where each call answers and changes as it will, and changes no capture
 pub ascends_in_turn : {F : Type 0} (R : F → Entry → Bool → F → Entry → Type 0) (f : F) → ((x : Entry) (b : Bool) (f' : F) (y : Entry) → R f x b f' y → (f' ≡ f) × (y.id ≡ x.id))
     → (a last : ℕ) (xs ys : List Entry) → RetainsInTurn R f xs ys → AreAscending a last xs → AreAscending a last ys
-ascends_in_turn R f says a last [] ys h ascends = let P : List Entry → Type 0 = λ ws. AreAscending a last ws in subst P (sym h) ascends
-ascends_in_turn R f says a last (x ∷ xs) ys h ascends =
-    let P : List Entry → Type 0 = λ ws. AreAscending a last ws in
-    let said = says x h.0 h.1 h.2 h.3 in
-    let later = subst (λ g. RetainsInTurn R g xs h.4) said.0 h.5 in
-    subst P (sym h.6)
-    (ascends_or_not h.0 a last h.2 h.4
-    (ascends_behind a last x h.2 h.4 said.1 ascends.0 (ascends_in_turn R f says x.id.0 last xs h.4 later ascends.1))
-    (ascends_in_turn R f says a last xs h.4 later (ascends_rest a last x xs ascends)))
+ascends_in_turn R f says a last xs ys h ascends = ascends_followed KeepsId (λ x y same. same) a last xs ys (followed_in_turn KeepsId IsNothing R f refl says (λ x. tt) xs ys h) ascends
 
 -- an entry of the next id joins
 pub ascends_pushed : (last n : ℕ) (xs ys : List Entry) (x : Entry) → n ≡ last + 1 → x.id.0 ≡ n → ys ≡ xs ++ x ∷ [] → AreAscending 0 last xs → AreAscending 0 n ys

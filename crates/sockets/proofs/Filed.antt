@@ -22,10 +22,10 @@ use Rattle.sockets.specs.Causes.{Follows}
 use Rattle.sockets.specs.Entries.{is_between, is_live_between}
 use Rattle.sockets.specs.Ids.{has_id, AreAscending, AreInOrder}
 use Rattle.sockets.specs.Index.{key_of, filed_at, filed_as, filed, is_before, AreSorted, inserted, with_filed, index_of, is_live_as}
-use Rattle.sockets.proofs.Ascending.{ascends_lower, is_some-position, lent_in_order}
+use Rattle.sockets.proofs.Ascending.{ascends_followed, is_some-position, lent_in_order}
 use Rattle.sockets.proofs.Ends.{same_end-true}
 use Rattle.sockets.proofs.Firsts.{refill_set, position-from_fails, position-none_passes}
-use Rattle.sockets.proofs.Followed.{by_test, IsNothing, goes, as_it_was}
+use Rattle.sockets.proofs.Followed.{by_test, IsNothing, place_removed, followed_in_turn}
 
 -- The order.
 
@@ -247,17 +247,6 @@ none_below a last (y ∷ ys) id low ascends =
     let first : a < y.id.0 = ascends.0 in
     rw (ne_eqb y.id.0 id.0 (λ same. omega arith)) (none_below y.id.0 last ys id (omega arith) ascends.1)
 
--- the ids of what is left ascend
-ascends_left : (a last : ℕ) (xs ys : List Entry) → Follows StaysFiled IsNothing xs ys → AreAscending a last xs → AreAscending a last ys
-ascends_left a last [] ys f ascends = subst (λ (ws : List Entry). AreAscending a last ws) (sym f) ascends
-ascends_left a last (x ∷ xs) [] f ascends =
-    ascends_left a last xs [] f.1 (ascends_lower x.id.0 a last xs (let first : a < x.id.0 = ascends.0 in omega arith) ascends.1)
-ascends_left a last (x ∷ xs) (y ∷ ys) (inl f) ascends =
-    let P : SocketId → Type 0 = λ i. (a < i.0) × AreAscending i.0 last ys in
-    subst P (sym f.0.0) (ascends.0, ascends_left x.id.0 last xs ys f.1 ascends.1)
-ascends_left a last (x ∷ xs) (y ∷ ys) (inr f) ascends =
-    ascends_left a last xs (y ∷ ys) f.1 (ascends_lower x.id.0 a last xs (let first : a < x.id.0 = ascends.0 in omega arith) ascends.1)
-
 -- where a test of what is filed passes exactly those whose id is left, it leaves what is filed of the entries that are left
 index_kept : (k : Filed → Bool) (a last : ℕ) (xs ys : List Entry) → ((x : Filed) → a < x.id.0 → k x ≡ list_any (has_id x.id) ys) → Follows StaysFiled IsNothing xs ys → AreAscending a last xs → filter k (index_of xs) ≡ index_of ys
 index_kept k a last [] ys says f ascends = ap index_of (sym f)
@@ -280,7 +269,7 @@ index_kept k a last (x ∷ xs) (y ∷ ys) says (inl f) ascends =
     ∙ ap (λ (o : Option Filed). with_filed o (index_of ys)) (sym f.0.1)
 index_kept k a last (x ∷ xs) (y ∷ ys) says (inr f) ascends =
     let above : a < x.id.0 = ascends.0 in
-    let left : AreAscending x.id.0 last (y ∷ ys) = ascends_left x.id.0 last xs (y ∷ ys) f.1 ascends.1 in
+    let left : AreAscending x.id.0 last (y ∷ ys) = ascends_followed StaysFiled (λ v w stays. stays.0) x.id.0 last xs (y ∷ ys) f.1 ascends.1 in
     gone-with k (filed x) (index_of xs)
     (λ z is. let id : z.id ≡ x.id = filed-id x.id x.role z is in
     says z (subst (λ (i : SocketId). a < i.0) (sym id) above)
@@ -309,24 +298,12 @@ index_unless_left (x ∷ xs) (y ∷ ys) (inr f) all = let less : length (y ∷ y
 
 -- an entry is taken out
 pub left_by_removal : (xs : List Entry) (i : ℕ) → Follows StaysFiled IsNothing xs (remove xs i)
-left_by_removal [] zero = refl
-left_by_removal [] (suc i) = refl
-left_by_removal (x ∷ xs) zero = goes StaysFiled IsNothing x xs xs tt (as_it_was StaysFiled IsNothing refl (λ e. (refl, refl)) xs)
-left_by_removal (x ∷ xs) (suc i) = inl ((refl, refl), left_by_removal xs i)
+left_by_removal xs i = place_removed StaysFiled IsNothing refl (λ x. (refl, refl)) (λ x. tt) xs i
 
 -- each entry keeps its id and its ends, or is taken out, where no call changes a capture
 pub left_in_turn : {F : Type 0} (R : F → Entry → Bool → F → Entry → Type 0) (f : F) → ((x : Entry) (b : Bool) (f' : F) (y : Entry) → R f x b f' y → (f' ≡ f) × (y.id ≡ x.id) × (filed y ≡ filed x))
     → (xs ys : List Entry) → RetainsInTurn R f xs ys → Follows StaysFiled IsNothing xs ys
-left_in_turn R f says [] ys h = h
-left_in_turn R f says (x ∷ xs) ys h =
-    let said = says x h.0 h.1 h.2 h.3 in
-    let later = subst (λ g. RetainsInTurn R g xs h.4) said.0 h.5 in
-    let rest = left_in_turn R f says xs h.4 later in
-    subst (λ (ws : List Entry). Follows StaysFiled IsNothing (x ∷ xs) ws) (sym h.6) (by_answer h.0 h.2 h.4 (said.1, said.2) rest)
-  where
-    by_answer : (b : Bool) (y : Entry) (zs : List Entry) → (y.id ≡ x.id) × (filed y ≡ filed x) → Follows StaysFiled IsNothing xs zs → Follows StaysFiled IsNothing (x ∷ xs) (cond b (y ∷ zs) zs)
-    by_answer true y zs same rest = inl (same, rest)
-    by_answer false y zs same rest = goes StaysFiled IsNothing x xs zs tt rest
+left_in_turn R f says xs ys h = followed_in_turn StaysFiled IsNothing R f refl (λ x b f' y called. let said = says x b f' y called in (said.0, (said.1, said.2))) (λ x. tt) xs ys h
 
 -- What a search by the ends finds.
 
@@ -450,7 +427,7 @@ module _ (xs : List Entry) (local peer : Endpoint) (l : List Filed) (sorted : Ar
 -- What a function of the table leaves filed.
 
 pub order_settled : (xs ys zs : List Entry) → (last : ℕ) × AreAscending 0 last xs → Follows StaysFiled IsNothing xs ys → zs ≡ ys → AreInOrder zs
-order_settled xs ys zs order f lent = lent_in_order order.0 ys zs lent (ascends_left 0 order.0 xs ys f order.1)
+order_settled xs ys zs order f lent = lent_in_order order.0 ys zs lent (ascends_followed StaysFiled (λ x y stays. stays.0) 0 order.0 xs ys f order.1)
 
 pub index_settled : (index new : List Filed) (xs ys zs : List Entry) (held : ℕ) → (last : ℕ) × AreAscending 0 last xs → index ≡ index_of xs → Follows StaysFiled IsNothing xs ys → zs ≡ ys → held ≡ length xs
     → new ≡ (if nat_lt (length zs) held then filter (λ (x : Filed). list_any (has_id x.id) zs) index else index) → new ≡ index_of ys

@@ -1,6 +1,7 @@
 -- Tables of which each entry is followed to what is left of it.
-use Rattle.std.proofs.Common.{◌≡◌, inl, inr, Bool, true, false, List, [], ◌∷◌, ◌++◌, Option, Some, None, refl, sym, subst}
-use Rattle.std.specs.List.{find, retain_mut, AllByRecursion}
+use Rattle.std.proofs.Common.{◌≡◌, inl, inr, ℕ, zero, suc, Bool, true, false, cond, List, [], ◌∷◌, ◌++◌, Option, Some, None, refl, sym, subst}
+use Rattle.std.specs.List.{find, remove, retain_mut, AllByRecursion}
+use Rattle.std.specs.List.Retain.{RetainsInTurn}
 use Rattle.tcp_state.specs.declared.connection.Fate.{Fate}
 use Rattle.sockets.specs.declared.entry.Entry.{Entry}
 use Rattle.sockets.specs.declared.role.Role.{Role}
@@ -58,6 +59,26 @@ module _ (Step : Entry → Option Entry → Type 0) (Added : List Entry → Type
       by_test (test x)
       (λ passes. rw passes (inl (changed x passes, each_followed none test change xs changed gone)))
       (λ fails. rw fails (goes x xs (retain_mut test change xs) (gone x fails) (each_followed none test change xs changed gone)))
+
+  -- the one at a place goes
+  pub place_removed : Added [] → ((x : Entry) → Step x (Some x)) → ((x : Entry) → Step x None) → (xs : List Entry) (i : ℕ) → Follows Step Added xs (remove xs i)
+  place_removed none same gone [] zero = none
+  place_removed none same gone [] (suc i) = none
+  place_removed none same gone (x ∷ xs) zero = goes x xs xs (gone x) (as_it_was none same xs)
+  place_removed none same gone (x ∷ xs) (suc i) = inl (same x, place_removed none same gone xs i)
+
+  -- each changes or goes as a call answers of it, which changes no capture
+  pub followed_in_turn : {F : Type 0} (R : F → Entry → Bool → F → Entry → Type 0) (f : F) → Added [] → ((x : Entry) (b : Bool) (f' : F) (y : Entry) → R f x b f' y → (f' ≡ f) × Step x (Some y)) → ((x : Entry) → Step x None)
+      → (xs ys : List Entry) → RetainsInTurn R f xs ys → Follows Step Added xs ys
+  followed_in_turn R f none says gone [] ys h = subst Added (sym h) none
+  followed_in_turn R f none says gone (x ∷ xs) ys h =
+      let said = says x h.0 h.1 h.2 h.3 in
+      let rest = followed_in_turn R f none says gone xs h.4 (subst (λ g. RetainsInTurn R g xs h.4) said.0 h.5) in
+      subst (λ (ws : List Entry). Follows Step Added (x ∷ xs) ws) (sym h.6) (by_answer h.0 h.2 h.4 said.1 rest)
+    where
+      by_answer : (b : Bool) (y : Entry) (zs : List Entry) → Step x (Some y) → Follows Step Added xs zs → Follows Step Added (x ∷ xs) (cond b (y ∷ zs) zs)
+      by_answer true y zs step rest = inl (step, rest)
+      by_answer false y zs step rest = goes x xs zs (gone x) rest
 
 -- one step after another
 pub steps_joined : (First Then Whole : Entry → Option Entry → Type 0) → ((x : Entry) → First x None → Whole x None) → ((x y : Entry) (o : Option Entry) → First x (Some y) → Then y o → Whole x o)

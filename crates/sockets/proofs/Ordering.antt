@@ -1,5 +1,5 @@
 -- How the order of a table is kept, entry by entry.
-use Rattle.std.proofs.Common.{◌≡◌, inl, inr, ℕ, ◌+◌, ◌<◌, ◌≤◌, ◌&&◌, not, Bool, true, false, cond, List, [], ◌∷◌, ◌++◌, count_by, Option, Some, None, refl, sym, ◌∙◌, ap, subst, arith}
+use Rattle.std.proofs.Common.{◌≡◌, inl, inr, ℕ, ◌+◌, ◌≤◌, ◌&&◌, not, Bool, true, false, cond, List, [], ◌∷◌, ◌++◌, count_by, Option, Some, None, refl, sym, ◌∙◌, ap, subst, arith}
 use Rattle.std.specs.List.{find, list_any, AllByRecursion}
 use Rattle.std.proofs.lemmas.List.Sums.{sum_by-cons, sum_by_push}
 use Rattle.std.proofs.lemmas.Bool.{and_parts, and_from, or_parts}
@@ -20,7 +20,7 @@ use Rattle.sockets.specs.Causes.{Follows}
 use Rattle.sockets.specs.Ports.{IsDynamic}
 use Rattle.sockets.specs.Ids.{AreAscending}
 use Rattle.sockets.specs.Order.{has_for_itself, is_alone_at, LiesAt, IsOrdered}
-use Rattle.sockets.proofs.Ascending.{ascends_lower}
+use Rattle.sockets.proofs.Ascending.{ascends_followed}
 use Rattle.sockets.proofs.KeptEnds.{KeepsEnds}
 use Rattle.sockets.proofs.Followed.{IsNothing, by_test, all_followed}
 
@@ -36,7 +36,7 @@ abbrev pub Keeps : (Endpoint → Endpoint → Bool) → (ℕ → Bool) → (ℕ 
 Keeps at_ends at_port at_datagrams own x None = Unit {0}
 Keeps at_ends at_port at_datagrams own x (Some y) = (y.id ≡ x.id) × IsBound at_ends at_port at_datagrams own x.role y.role
 
--- Ids.
+-- Counts.
 
 count_cons : (test : Entry → Bool) (x : Entry) (xs : List Entry) → count_by test (x ∷ xs) ≡ cond (test x) 1 0 + count_by test xs
 count_cons test x xs = sum_by-cons (λ (e : Entry). cond (test e) 1 0) x xs
@@ -47,19 +47,6 @@ one_le true true keeps = omega arith
 one_le true false keeps = let bad = keeps refl in cc
 
 module _ (Step : Entry → Option Entry → Type 0) where
-  ascends_followed : ((x y : Entry) → Step x (Some y) → y.id ≡ x.id) → (a last : ℕ) (xs ys : List Entry) → Follows Step IsNothing xs ys → AreAscending a last xs → AreAscending a last ys
-  ascends_followed ids a last [] ys f ascends = subst (λ (ws : List Entry). AreAscending a last ws) (sym f) ascends
-  ascends_followed ids a last (x ∷ xs) [] f ascends =
-      ascends_followed ids a last xs [] f.1 (ascends_lower x.id.0 a last xs (let first : a < x.id.0 = ascends.0 in omega arith) ascends.1)
-  ascends_followed ids a last (x ∷ xs) (y ∷ ys) (inl f) ascends =
-      let same : x.id ≡ y.id = sym (ids x y f.0) in
-      let P : SocketId → Type 0 = λ i. (a < i.0) × AreAscending i.0 last ys in
-      subst P same (ascends.0, ascends_followed ids x.id.0 last xs ys f.1 ascends.1)
-  ascends_followed ids a last (x ∷ xs) (y ∷ ys) (inr f) ascends =
-      ascends_followed ids a last xs (y ∷ ys) f.1 (ascends_lower x.id.0 a last xs (let first : a < x.id.0 = ascends.0 in omega arith) ascends.1)
-
-  -- Counts.
-
   count_followed : (test : Entry → Bool) → ((x y : Entry) → Step x (Some y) → test y ≡ true → test x ≡ true) → (xs ys : List Entry) → Follows Step IsNothing xs ys → count_by test ys ≤ count_by test xs
   count_followed test keeps [] ys f = subst (λ (ws : List Entry). count_by test ws ≤ 0) (sym f) (omega arith)
   count_followed test keeps (x ∷ xs) [] f = omega arith
