@@ -1,11 +1,11 @@
 -- The least deadline of the entries, and that a tick before it changes none of them.
 use Rattle.std.proofs.Common.{◌≡◌, ◌⊎◌, inl, inr, ℕ, suc, ◌<◌, ◌≤◌, true, false, if◌then◌else◌, nat_le, List, [], ◌∷◌, Option, Some, None, length, refl, sym, ◌∙◌, ap, subst, arith}
 use Rattle.std.specs.List.{fold, Contains, AllByRecursion}
-use Rattle.std.proofs.lemmas.Bool.{leb-true, leb-false, lt-leb}
+use Rattle.std.proofs.lemmas.Bool.{or_parts, leb-true, leb-false}
 use Rattle.clock.specs.declared.moment.Moment.{Moment}
 use Rattle.clock.specs.Moments.{has_come, sooner}
-use Rattle.tcp_state.specs.View.{View, is_at_end, ends_at}
-use Rattle.tcp_state.specs.Timing.{gives_up, after_tick, tick_fate, deadline}
+use Rattle.tcp_state.specs.View.{View, ends_at}
+use Rattle.tcp_state.specs.Timing.{gives_up, tick_fate, deadline}
 use Rattle.sockets.specs.declared.entry.Entry.{Entry}
 use Rattle.sockets.specs.declared.role.Role.{Role}
 use Rattle.sockets.specs.declared.role.Role.TheVariants.{Connected}
@@ -13,6 +13,8 @@ use Rattle.sockets.specs.Entries.{deadline_of, role_after_tick, tick_fate_of, is
 use Rattle.sockets.specs.SocketsView.{SocketsView, later_moment}
 use Rattle.sockets.specs.Ticks.{least_deadline, IsLeastDeadline, HasNoDeadline}
 use Rattle.sockets.specs.Ticks as table
+use Rattle.clock.proofs.Comings.{sooner-has_come}
+use Rattle.tcp_state.proofs.Deadlines.{waits}
 use Rattle.sockets.proofs.Followed.{by_test}
 
 -- The sooner of two moments.
@@ -107,39 +109,19 @@ none_found h is = (none_from None h.entries is).1
 
 -- A moment before the deadline.
 
-unreached : (a b now : ℕ) → a ≤ b → nat_le a now ≡ false → nat_le b now ≡ false
-unreached a b now less e = let past : now < a = leb-false a now e in lt-leb b now (omega arith)
-
 both_unreached : (a b : Option Moment) (now : Moment) → has_come (sooner a b) now ≡ false → (has_come a now ≡ false) × (has_come b now ≡ false)
-both_unreached None b now e = (refl, e)
-both_unreached (Some a) None now e = (e, refl)
-both_unreached (Some a) (Some b) now e = by_test (nat_le a.0 b.0)
-    (λ less. let at : nat_le a.0 now.0 ≡ false = ap (λ t. has_come (if t then Some a else Some b) now) (sym less) ∙ e in
-    let higher : a.0 ≤ b.0 = leb-true a.0 b.0 less in (at, unreached a.0 b.0 now.0 higher at))
-    (λ more. let at : nat_le b.0 now.0 ≡ false = ap (λ t. has_come (if t then Some a else Some b) now) (sym more) ∙ e in
-    let lower : b.0 < a.0 = leb-false a.0 b.0 more in (unreached b.0 a.0 now.0 (omega arith) at, at))
-
--- a connection of which no timer acts
-record TimersWait (v : View) (now : Moment) : Type 0 where
-  ends : is_at_end v now ≡ false
-  gives : gives_up v now ≡ false
-  timers : has_come (sooner (sooner v.timers.retransmission v.timers.probe) (sooner v.timers.delayed_ack v.timers.overriding)) now ≡ false
-
-timers_wait : (v : View) (now : Moment) → has_come (deadline v) now ≡ false → TimersWait v now
-timers_wait v now e =
-    let both = both_unreached (sooner (sooner v.timers.retransmission v.timers.probe) (sooner v.timers.delayed_ack v.timers.overriding)) (ends_at v) now e in
-    let kinds = both_unreached (sooner v.timers.retransmission v.timers.probe) (sooner v.timers.delayed_ack v.timers.overriding) now both.0 in
-    let first = both_unreached v.timers.retransmission v.timers.probe now kinds.0 in
-    record { ends = both.1; gives = rw (first.0, first.1); timers = both.0 }
-
-pub tick_waits_at : (v : View) (now : Moment) → has_come (deadline v) now ≡ false → after_tick v now ≡ v
-tick_waits_at v now e = let w = timers_wait v now e in rw (w.ends, w.gives, w.timers)
+both_unreached a b now e = or_parts (has_come a now) (has_come b now) (sym (sooner-has_come a b now) ∙ e)
 
 kept_at : (v : View) (now : Moment) → has_come (deadline v) now ≡ false → is_kept (tick_fate v now) ≡ true
-kept_at v now e = let w = timers_wait v now e in rw (w.ends, w.gives)
+kept_at v now e =
+    let parts = both_unreached (sooner (sooner v.timers.retransmission v.timers.probe) (sooner v.timers.delayed_ack v.timers.overriding)) (ends_at v) now e in
+    let first = both_unreached (sooner v.timers.retransmission v.timers.probe) (sooner v.timers.delayed_ack v.timers.overriding) now parts.0 in
+    let own = both_unreached v.timers.retransmission v.timers.probe now first.0 in
+    let gives : gives_up v now ≡ false = rw (own.0, own.1) in
+    rw (parts.1, gives)
 
 role_waits : (role : Role) (now : Moment) → has_come (deadline_of role) now ≡ false → (is_kept (tick_fate_of now role) ≡ true) × (role_after_tick now role ≡ role)
-role_waits (Connected c l) now e = (kept_at c now e, ap (λ (v : View). Connected v l) (tick_waits_at c now e))
+role_waits (Connected c l) now e = (kept_at c now e, ap (λ (v : View). Connected v l) (waits c now e))
 role_waits _ now e = (refl, refl)
 
 entries_wait : (first : Option Moment) (xs : List Entry) (now : Moment) → has_come (least_from first xs) now ≡ false → (has_come first now ≡ false) × (entries_after_steps (tick_fate_of now) (role_after_tick now) xs ≡ xs)
