@@ -1,5 +1,6 @@
 -- What a bind makes of the table, and the port that it gives.
-use Rattle.std.proofs.Common.{◌≡◌, ℕ, ◌==◌, ◌&&◌, not, if◌then◌else◌, Bool, true, Some, None, Result, Ok, Err, sym, ◌∙◌, ap, subst, refl}
+use Rattle.std.proofs.Common.{◌≡◌, ℕ, ◌==◌, ◌&&◌, not, if◌then◌else◌, Bool, true, Some, None, Result, Ok, Err, sym, ◌∙◌, subst, refl, arith}
+use Rattle.std.proofs.lemmas.Grind.{common_steps}
 use Rattle.std.specs.Option.{ok_or}
 use Rattle.std.specs.Result.{result_err}
 use Rattle.ipv4.specs.declared.addr.Endpoint.{Endpoint}
@@ -30,10 +31,7 @@ port-given h is_free local port given =
     (λ ours. let asked : ok_or (free_port h is_free local.port) EADDRINUSE ≡ port_at h is_free local = rw ours in by_port (some_from_ok (free_port h is_free local.port) EADDRINUSE port (sym (asked ∙ given))))
   where
     asked_free : (if is_free local.port then Some local.port else None) ≡ Some port → is_free port ≡ true
-    asked_free some =
-        by_test (is_free local.port)
-        (λ passes. let first : Some local.port ≡ Some port = ap (λ (b : Bool). if b then Some local.port else None) (sym passes) ∙ some in let same : local.port ≡ port = cc in ap is_free (sym same) ∙ passes)
-        (λ fails. let nothing : None ≡ Some port = ap (λ (b : Bool). if b then Some local.port else None) (sym fails) ∙ some in cc)
+    asked_free some = grind (arith, common_steps)
 
     by_port : free_port h is_free local.port ≡ Some port → IsGiven h is_free local port
     by_port some =

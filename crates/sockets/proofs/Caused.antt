@@ -1,11 +1,12 @@
 -- Why an entry of the table ends only by a cause.
-use Rattle.std.proofs.Common.{◌≡◌, inl, inr, ◌&&◌, ◌||◌, not, Bool, true, false, if◌then◌else◌, [], ◌∷◌, Option, Some, None, is_some, refl, sym, ◌∙◌, ap, subst}
+use Rattle.std.proofs.Common.{◌≡◌, inl, inr, ◌&&◌, ◌||◌, not, Bool, true, false, if◌then◌else◌, [], ◌∷◌, Option, Some, None, is_some, refl, sym, ◌∙◌, ap, subst, arith}
+use Rattle.std.proofs.lemmas.Grind.{common_steps}
 use Rattle.std.specs.List.{find}
 use Rattle.std.proofs.lemmas.Bool.{and_from}
 use Rattle.ipv4.specs.declared.addr.Endpoint.{Endpoint}
 use Rattle.clock.specs.declared.moment.Moment.{Moment}
 use Rattle.tcp_state.specs.declared.connection.Fate.{Fate}
-use Rattle.tcp_state.specs.declared.connection.Fate.TheVariants.{Stays, Removed, Rejected}
+use Rattle.tcp_state.specs.declared.connection.Fate.TheVariants.{Stays, Removed}
 use Rattle.tcp_state.specs.declared.emission.Due.{Due}
 use Rattle.tcp_state.specs.declared.emission.Due.TheVariants.{Rst}
 use Rattle.tcp_state.specs.View.{View, IsSound, is_closed, is_over, is_at_end}
@@ -48,9 +49,7 @@ removed_caused : (c : View) (e : edge.Event) → is_over c ≡ false → edge.fa
 removed_caused c e over removed = ends_caused c e over (or_left _ _ (ap edge.is_removed removed))
 
 not_removed : (r : Fate) → is_kept r ≡ true → edge.is_removed r ≡ false
-not_removed Removed kept = cc
-not_removed Stays kept = refl
-not_removed Rejected kept = refl
+not_removed r kept = grind arith
 
 kept_edge : (c : View) (e : edge.Event) → is_kept (edge.fate_by c e) ≡ true → edge.IsEdge c.state (let d = edge.after_event c e in d.state)
 kept_edge c e kept =
@@ -61,19 +60,13 @@ never : (b : Bool) → (not b && b) ≡ false
 never true = refl
 never false = refl
 
-pub not_false : (b : Bool) → not b ≡ false → b ≡ true
-not_false true gone = refl
-not_false false gone = cc
-
 false_from : (b : Bool) → (b ≡ true → false ≡ true) → b ≡ false
 false_from true f = sym (f refl)
 false_from false f = refl
 
 -- a connection whose caller has not closed it is not over
 held_not_over : (c : View) (l : Option SocketId) → has_socket (Connected c l) ≡ true → is_over c ≡ false
-held_not_over c (Some l) held = cc
-held_not_over c None held =
-    false_from (is_over c) (λ over. let released : c.released ≡ true = and_right _ _ (and_left _ _ over) in let bad : not c.released ≡ false = ap not released in sym bad ∙ held)
+held_not_over c l held = grind (arith, common_steps)
 
 due_not_over : (c : View) → IsSound c → is_some (first_due c) ≡ true → is_over c ≡ false
 due_not_over c sound due =

@@ -1,28 +1,23 @@
 -- What an accepted connect makes of the table.
-use Rattle.std.proofs.Common.{◌≡◌, ℕ, Bool, true, false, if◌then◌else◌, Option, Some, None, option_map, option_and_then, Result, Ok, Err, refl, ◌∙◌, ap, subst}
+use Rattle.std.proofs.Common.{◌≡◌, ℕ, Bool, Option, Some, None, option_map, option_and_then, Result, Ok, Err, refl, ◌∙◌, ap, subst, arith}
+use Rattle.std.proofs.lemmas.Grind.{common_steps}
 use Rattle.std.specs.Option.{ok_or}
 use Rattle.std.specs.List.{find}
 use Rattle.ipv4.specs.declared.addr.Endpoint.{Endpoint}
 use Rattle.tcp_state.specs.declared.state.State.{State}
 use Rattle.tcp_state.specs.declared.calls.Refusal.{Refusal as Error}
-use Rattle.tcp_state.specs.View.{is_opening}
 use Rattle.sockets.specs.declared.entry.SocketId.{SocketId}
 use Rattle.sockets.specs.declared.entry.Entry.{Entry}
 use Rattle.sockets.specs.declared.role.Role.{Role}
 use Rattle.sockets.specs.declared.role.Role.TheVariants.{Connected}
 use Rattle.sockets.specs.declared.refusal.Refusal.{Refusal}
-use Rattle.sockets.specs.declared.refusal.Refusal.TheVariants.{EBADF, EADDRINUSE, EALREADY, EISCONN}
+use Rattle.sockets.specs.declared.refusal.Refusal.TheVariants.{EBADF, EADDRINUSE}
 use Rattle.sockets.specs.Entries.{is_socket, role_after_connect}
 use Rattle.sockets.specs.SocketsView.{SocketsView, role_of, with_socket}
 use Rattle.sockets.specs.Calls.{had_connection, open_answer, reach_refusal, port_for, bound_of, last_port_after, port_connected, after_connect}
 
-either_refused : (b : Bool) (x y : Refusal) (bound : Option Endpoint) → ◌≡◌ {A = Result (Option Endpoint) Refusal} (if b then Err x else Err y) (Ok bound) → ⊥
-either_refused true x y bound e = cc
-either_refused false x y bound e = cc
-
 pub had_opens_none : (state : State) (told : Option Error) (bound : Option Endpoint) → had_connection state told ≡ Ok bound → ⊥
-had_opens_none state (Some error) bound e = cc
-had_opens_none state None bound e = either_refused (is_opening state) EALREADY EISCONN bound e
+had_opens_none state told bound e = grind (arith, common_steps)
 
 -- a role that may open a connection is bound where it says
 bound_same : (role : Role) (bound : Option Endpoint) → open_answer role ≡ Ok bound → bound_of role ≡ bound

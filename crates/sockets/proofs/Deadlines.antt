@@ -1,7 +1,8 @@
 -- The least deadline of the entries, and that a tick before it changes none of them.
-use Rattle.std.proofs.Common.{◌≡◌, ◌⊎◌, inl, inr, ℕ, suc, ◌<◌, ◌≤◌, true, false, if◌then◌else◌, nat_le, List, [], ◌∷◌, Option, Some, None, length, refl, sym, ◌∙◌, ap, subst, arith}
+use Rattle.std.proofs.Common.{◌≡◌, ◌⊎◌, inl, inr, ℕ, suc, ◌<◌, ◌≤◌, true, false, List, [], ◌∷◌, Option, Some, None, length, refl, sym, ◌∙◌, ap, subst, arith}
+use Rattle.std.proofs.lemmas.Bool.Decides.{nat_tests}
 use Rattle.std.specs.List.{fold, Contains, AllByRecursion}
-use Rattle.std.proofs.lemmas.Bool.{or_parts, leb-true, leb-false}
+use Rattle.std.proofs.lemmas.Bool.{or_parts}
 use Rattle.clock.specs.declared.moment.Moment.{Moment}
 use Rattle.clock.specs.Moments.{has_come, sooner}
 use Rattle.tcp_state.specs.View.{View, ends_at}
@@ -15,7 +16,6 @@ use Rattle.sockets.specs.Ticks.{least_deadline, IsLeastDeadline, HasNoDeadline}
 use Rattle.sockets.specs.Ticks as table
 use Rattle.clock.proofs.Comings.{sooner-has_come}
 use Rattle.tcp_state.proofs.Deadlines.{waits}
-use Rattle.sockets.proofs.Followed.{by_test}
 
 -- The sooner of two moments.
 
@@ -31,24 +31,10 @@ under : (a m d : Moment) → m.0 ≤ a.0 → ◌≡◌ {A = Option Moment} (Some
 under a m d less e = let same : a ≡ d = cc in subst (λ (x : Moment). m.0 ≤ x.0) same less
 
 sooner_some : (a b : Option Moment) (m : Moment) → sooner a b ≡ Some m → IsSooner a b m
-sooner_some None b m e = record { one = inr e; left = λ d f. cc; right = λ d f. let same : ◌≡◌ {A = Option Moment} (Some m) (Some d) = sym e ∙ f in own m d same }
-sooner_some (Some a) None m e = record { one = inl e; left = λ d f. let same : ◌≡◌ {A = Option Moment} (Some m) (Some d) = sym e ∙ f in own m d same; right = λ d f. cc }
-sooner_some (Some a) (Some b) m e = by_test (nat_le a.0 b.0)
-    (λ less. let same : a ≡ m = (let f : ◌≡◌ {A = Option Moment} (Some a) (Some m) = ap (λ t. if t then Some a else Some b) (sym less) ∙ e in cc) in
-    let higher : a.0 ≤ b.0 = leb-true a.0 b.0 less in
-    let P : Moment → Type 0 = λ x. IsSooner (Some a) (Some b) x in
-    subst P same (record { one = inl refl; left = λ d f. own a d f; right = λ d f. under b a d higher f }))
-    (λ more. let same : b ≡ m = (let f : ◌≡◌ {A = Option Moment} (Some b) (Some m) = ap (λ t. if t then Some a else Some b) (sym more) ∙ e in cc) in
-    let lower : b.0 < a.0 = leb-false a.0 b.0 more in
-    let P : Moment → Type 0 = λ x. IsSooner (Some a) (Some b) x in
-    subst P same (record { one = inr refl; left = λ d f. under a b d (omega arith) f; right = λ d f. own b d f }))
+sooner_some a b m e = grind (arith, nat_tests)
 
 sooner_none : (a b : Option Moment) → sooner a b ≡ None → (a ≡ None) × (b ≡ None)
-sooner_none None b e = (refl, e)
-sooner_none (Some a) None e = cc
-sooner_none (Some a) (Some b) e = by_test (nat_le a.0 b.0)
-    (λ less. let same : ◌≡◌ {A = Option Moment} (Some a) None = ap (λ t. if t then Some a else Some b) (sym less) ∙ e in cc)
-    (λ more. let same : ◌≡◌ {A = Option Moment} (Some b) None = ap (λ t. if t then Some a else Some b) (sym more) ∙ e in cc)
+sooner_none a b e = grind (arith, nat_tests)
 
 -- The least of a list's deadlines, from one on.
 

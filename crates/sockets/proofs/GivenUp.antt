@@ -1,10 +1,11 @@
 -- No socket is given up, only datagrams of it.
-use Rattle.std.proofs.Common.{◌≡◌, ◌==◌, ◌&&◌, not, Bool, true, false, List, [], ◌∷◌, Option, Some, None, option_map, refl, sym, ◌∙◌, ap}
+use Rattle.std.proofs.Common.{◌≡◌, ◌==◌, not, Bool, true, false, List, [], ◌∷◌, Option, Some, None, option_map, refl, ◌∙◌, ap, arith}
+use Rattle.std.proofs.lemmas.Grind.{common_steps}
 use Rattle.std.specs.List.{find, AllByRecursion}
-use Rattle.std.proofs.lemmas.Bool.{and_parts, and_right}
+use Rattle.std.proofs.lemmas.Bool.{and_right}
 use Rattle.ipv4.specs.declared.addr.Addr.{Addr}
 use Rattle.clock.specs.declared.moment.Moment.{Moment}
-use Rattle.tcp_state.specs.View.{View, IsSound, is_closed}
+use Rattle.tcp_state.specs.View.{View, IsSound}
 use Rattle.sockets.specs.declared.entry.SocketId.{SocketId}
 use Rattle.sockets.specs.declared.entry.Entry.{Entry}
 use Rattle.sockets.specs.declared.role.Role.{Role}
@@ -13,14 +14,11 @@ use Rattle.sockets.specs.Entries.{has_socket, is_socket, with_role, entries_afte
 use Rattle.sockets.specs.SocketsView.{SocketsView, later_moment, role_of}
 use Rattle.sockets.specs.Lost.{is_given_up, role_after_giving_up, give_up_fate_of, after_giving_up}
 use Rattle.sockets.specs.Sound.{IsSoundRole, IsSoundTable}
-use Rattle.sockets.proofs.Caused.{not_false}
 use Rattle.sockets.proofs.Followed.{by_test}
 
 -- only what its caller closed owes a reset
 owes_released : (c : View) → IsSound c → c.owes_reset ≡ true → c.released ≡ true
-owes_released c sound owes =
-    let closed_and_left : not (is_closed c.state && c.released) ≡ false = ap (λ (b : Bool). b && not (is_closed c.state && c.released)) (sym owes) ∙ sound.reset in
-    (and_parts (is_closed c.state) c.released (not_false (is_closed c.state && c.released) closed_and_left)).1
+owes_released c sound owes = grind (arith, common_steps, sound.reset)
 
 no_socket : (lost : Addr → Bool) (now : Moment) (role : Role) → IsSoundRole role → is_given_up lost now role ≡ true → has_socket role ≡ false
 no_socket lost now (Connected c (Some l)) sound gone = refl

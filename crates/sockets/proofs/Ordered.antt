@@ -1,5 +1,6 @@
 -- Why the table stays in order.
-use Rattle.std.proofs.Common.{◌≡◌, ℕ, ◌+◌, ◌≤◌, ◌==◌, ◌&&◌, ◌||◌, not, Bool, true, false, if◌then◌else◌, List, [], ◌∷◌, ◌++◌, count_by, Option, Some, None, Result, Ok, Err, option_map, option_and_then, refl, sym, ◌∙◌, ap, subst, arith}
+use Rattle.std.proofs.Common.{◌≡◌, ℕ, ◌+◌, ◌≤◌, ◌==◌, ◌&&◌, Bool, true, false, List, [], ◌∷◌, ◌++◌, count_by, Option, Some, None, Result, Ok, Err, option_map, option_and_then, refl, sym, ◌∙◌, ap, subst, arith}
+use Rattle.std.proofs.lemmas.Grind.{common_steps}
 use Rattle.std.specs.List.{find, list_any}
 use Rattle.std.proofs.lemmas.Bool.{eqb-true, and_parts, or_parts}
 use Rattle.ipv4.specs.declared.addr.Addr.{Addr}
@@ -9,10 +10,10 @@ use Rattle.tcp_segment.specs.Segment.{Segment}
 use Rattle.tcp_state.specs.Arrival.{opened_passively}
 use Rattle.tcp_state.proofs.Causes.{not_true}
 use Rattle.sockets.specs.declared.refusal.Refusal.{Refusal}
-use Rattle.sockets.specs.declared.refusal.Refusal.TheVariants.{EBADF, EINVAL, EADDRNOTAVAIL, ENETUNREACH}
+use Rattle.sockets.specs.declared.refusal.Refusal.TheVariants.{EBADF, EINVAL}
 use Rattle.sockets.specs.declared.entry.SocketId.{SocketId}
 use Rattle.sockets.specs.declared.entry.Entry.{Entry}
-use Rattle.ipv4.specs.Addresses.{is_unicast, same_addr, same_end}
+use Rattle.ipv4.specs.Addresses.{same_addr, same_end}
 use Rattle.sockets.specs.declared.role.Role.{Role}
 use Rattle.sockets.specs.declared.role.Role.TheVariants.{Idle, Listener, Datagrams}
 use Rattle.sockets.specs.Entries.{is_socket, is_between, sends, has_port, uses_port, role_after_bind, role_after_connect, new_socket, new_datagram_socket, new_waiting, on_datagrams, is_datagrams_at, with_role}
@@ -141,15 +142,9 @@ bind_ordered h id local allowed o = by_port (port-allowed (port_bound h id local
 
 -- Connecting.
 
-reach_test : (a b c d : Bool) (x y : Refusal) → (if a || b || c then Some x else if d then None else Some y) ≡ None → c ≡ false
-reach_test true b c d x y e = cc
-reach_test false true c d x y e = cc
-reach_test false false true d x y e = cc
-reach_test false false false d x y e = refl
-
 -- the peer is at another address
 peer_apart : (h : SocketsView) (peer : Endpoint) (routed : Bool) → reach_refusal h peer routed ≡ None → same_addr peer.addr h.addr ≡ false
-peer_apart h peer routed reached = reach_test (peer.port == 0) (not (is_unicast peer.addr)) (same_addr peer.addr h.addr) routed EADDRNOTAVAIL ENETUNREACH reached
+peer_apart h peer routed reached = grind (arith, common_steps)
 
 -- a port that is given holds no connection to the peer
 port_free : (h : SocketsView) (bound : Option Endpoint) (peer : Endpoint) (port : ℕ) → port_for h bound peer ≡ Some port → is_pair_held h port peer ≡ false

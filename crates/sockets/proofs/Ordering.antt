@@ -42,9 +42,7 @@ count_cons : (test : Entry → Bool) (x : Entry) (xs : List Entry) → count_by 
 count_cons test x xs = sum_by-cons (λ (e : Entry). cond (test e) 1 0) x xs
 
 one_le : (b c : Bool) → (b ≡ true → c ≡ true) → cond b 1 0 ≤ cond c 1 0
-one_le false c keeps = omega arith
-one_le true true keeps = omega arith
-one_le true false keeps = let bad = keeps refl in cc
+one_le b c keeps = grind arith
 
 module _ (Step : Entry → Option Entry → Type 0) where
   count_followed : (test : Entry → Bool) → ((x y : Entry) → Step x (Some y) → test y ≡ true → test x ≡ true) → (xs ys : List Entry) → Follows Step IsNothing xs ys → count_by test ys ≤ count_by test xs

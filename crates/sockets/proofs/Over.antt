@@ -29,8 +29,7 @@ shut_closed state = grind (arith, common_steps)
 
 -- what a kept fate of a segment tells of its tests
 kept_tests : (ended lost over refuses ends : Bool) → ended ≡ false → is_kept (if ended || lost then Stays else if over then Removed else if refuses then Rejected else if ends then Removed else Stays) ≡ true → lost ≡ false → over ≡ false
-kept_tests ended lost true refuses ends live kept plain = grind (arith, common_steps)
-kept_tests ended lost false refuses ends live kept plain = refl
+kept_tests ended lost over refuses ends live kept plain = grind (arith, common_steps)
 
 heard_left : (c : View) (s : Segment) → is_closed c.state ≡ false → is_kept (fate c s) ≡ true → is_over (after_heard c s) ≡ false
 heard_left c s live kept =

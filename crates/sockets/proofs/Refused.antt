@@ -1,5 +1,5 @@
 -- A call that is refused leaves the entry as it was.
-use Rattle.std.proofs.Common.{◌≡◌, ℕ, ◌||◌, Bool, true, false, if◌then◌else◌, List, Option, Some, None, is_some, Result, Ok, Err, arith, refl, ap}
+use Rattle.std.proofs.Common.{◌≡◌, ℕ, ◌||◌, if◌then◌else◌, List, Some, None, is_some, Result, Ok, Err, arith, refl, ap}
 use Rattle.std.proofs.lemmas.Grind.{common_steps}
 use Rattle.tcp_state.specs.declared.calls.Refusal.{Refusal as ConnectionRefusal}
 use Rattle.tcp_segment.specs.Segment.{Segment}
@@ -29,14 +29,11 @@ sent_refused (Connected c listener) octets now e refused =
 sent_refused _ octets now e refused = refl
 
 -- closing our side is nothing where it is refused
-shut-refused : (c : View) (now : Moment) (error : Option ConnectionRefusal) (opens : Bool) (e : Refusal) → c.pending_error ≡ error → is_opening c.state ≡ opens → role_shutdown_refusal (Connected c None) ≡ Some e
-    → (if is_some c.pending_error || is_opening c.state then c else after_shutdown c now) ≡ c
-shut-refused c now (Some error) opens e told opening refused = rw told refl
-shut-refused c now None true e told opening refused = rw (told, opening) refl
-shut-refused c now None false e told opening refused = let none : role_shutdown_refusal (Connected c None) ≡ None = rw (told, opening) refl in cc
+shut-refused : (c : View) (now : Moment) (e : Refusal) → role_shutdown_refusal (Connected c None) ≡ Some e → (if is_some c.pending_error || is_opening c.state then c else after_shutdown c now) ≡ c
+shut-refused c now e refused = grind (arith, common_steps)
 
 pub shutdown-refused : (role : Role) (now : Moment) (e : Refusal) → role_shutdown_refusal role ≡ Some e → role_after_shutdown now role ≡ role
-shutdown-refused (Connected c listener) now e refused = ap (λ (v : View). Connected v listener) (shut-refused c now c.pending_error (is_opening c.state) e refl refl refused)
+shutdown-refused (Connected c listener) now e refused = ap (λ (v : View). Connected v listener) (shut-refused c now e refused)
 shutdown-refused _ now e refused = refl
 
 -- a segment that the connection refuses leaves the entry as it was

@@ -1,7 +1,7 @@
 -- Why a reset is given up exactly where it has waited for 3,000 milliseconds for an address that is lost.
-use Rattle.std.proofs.Common.{◌≡◌, ℕ, ◌+◌, ◌-◌, ◌^◌, ◌<◌, ◌&&◌, nat_le, min, Bool, true, false, List, [], ◌∷◌, Option, Some, None, inl, inr, arith, refl, sym, ◌∙◌, ap}
+use Rattle.std.proofs.Common.{◌≡◌, ◌+◌, ◌-◌, ◌^◌, ◌<◌, ◌&&◌, nat_le, Bool, true, false, List, [], ◌∷◌, Option, Some, None, arith, refl, ◌∙◌, ap}
+use Rattle.std.proofs.lemmas.Bool.Decides.{nat_tests}
 use Rattle.std.specs.List.{filter, filter_map}
-use Rattle.std.proofs.lemmas.Bool.Decides.{leb_tells}
 use Rattle.ipv4.specs.declared.addr.Addr.{Addr}
 use Rattle.ipv4.specs.declared.addr.Endpoint.{Endpoint}
 use Rattle.clock.specs.declared.moment.Moment.{Moment}
@@ -16,13 +16,7 @@ use Rattle.sockets.proofs.Followed.{by_test}
 
 -- the wait's end comes so many milliseconds after its beginning, before the last moment
 comes_after : (since now : Moment) → now.0 < 2 ^ 64 - 1 → has_come (Some (after since 3000)) now ≡ nat_le (since.0 + 3000) now.0
-comes_after since now before_last = by_sum (since.0 + 3000) now.0 before_last
-  where
-    by_sum : (sum moment : ℕ) → moment < 2 ^ 64 - 1 → nat_le (min sum (2 ^ 64 - 1)) moment ≡ nat_le sum moment
-    by_sum sum moment few = elim (leb_tells (min sum (2 ^ 64 - 1)) moment) [
-      | inl capped ↦ elim (leb_tells sum moment) [ inl come ↦ capped.0 ∙ sym come.0 | inr early ↦ absurd (omega (arith, capped.1, early.1, few)) ]
-      | inr capped ↦ elim (leb_tells sum moment) [ inl come ↦ absurd (omega (arith, capped.1, come.1, few)) | inr early ↦ capped.0 ∙ sym early.0 ]
-    ]
+comes_after since now before_last = grind (arith, nat_tests)
 
 -- what stays waits as before
 still_waits : (lost : Addr → Bool) (now : Moment) (role : Role) → reset_wait (role_after_giving_up lost now role) ≡ reset_wait role

@@ -1,8 +1,8 @@
 -- What an event makes of each entry of the table, and of the rest of it.
-use Rattle.std.proofs.Common.{◌≡◌, ◌⊎◌, inl, inr, ℕ, suc, ◌+◌, ◌≤◌, ◌==◌, ◌||◌, not, nat_lt, Bool, true, false, if◌then◌else◌, List, [], ◌∷◌, ◌++◌, Option, Some, None, Result, Ok, Err, is_some, option_map, refl, sym, ◌∙◌, ap, subst, arith}
+use Rattle.std.proofs.Common.{◌≡◌, ◌⊎◌, inl, inr, ℕ, ◌+◌, ◌≤◌, ◌==◌, ◌||◌, not, Bool, true, false, if◌then◌else◌, List, [], ◌∷◌, ◌++◌, Option, Some, None, Result, Ok, Err, is_some, option_map, refl, sym, ◌∙◌, ap, subst, arith}
+use Rattle.std.proofs.lemmas.Bool.Decides.{nat_tests}
+use Rattle.std.proofs.lemmas.Grind.{common_steps}
 use Rattle.std.specs.List.{find, filter}
-use Rattle.std.specs.Option.{option_or}
-use Rattle.std.proofs.lemmas.Bool.{ltb-true, leb-false}
 use Rattle.ipv4.specs.declared.addr.Addr.{Addr}
 use Rattle.ipv4.specs.declared.addr.Endpoint.{Endpoint}
 use Rattle.udp.specs.Datagram.{UserDatagram}
@@ -13,9 +13,7 @@ use Rattle.tcp_segment.specs.declared.head.Head.{Head}
 use Rattle.tcp_segment.specs.Segment.{Segment}
 use Rattle.clock.specs.declared.moment.Moment.{Moment}
 use Rattle.tcp_state.specs.declared.connection.Fate.{Fate}
-use Rattle.tcp_state.specs.declared.connection.Fate.TheVariants.{Stays, Removed, Rejected}
-use Rattle.tcp_state.specs.declared.calls.Refusal.{Refusal as Error}
-use Rattle.tcp_state.specs.declared.calls.Refusal.TheVariants.{ENOTCONN}
+use Rattle.tcp_state.specs.declared.connection.Fate.TheVariants.{Stays, Removed}
 use Rattle.tcp_state.specs.View.{View, is_opening, opened_actively}
 use Rattle.tcp_state.specs.Calls.{after_recv, after_shutdown, shutdown_refusal}
 use Rattle.tcp_state.specs.Arrival.{opened_passively}
@@ -111,9 +109,7 @@ pub data IsStepped (h : SocketsView) (e : Event) : SocketsView → Type 0 where
 -- Fates.
 
 pub gone_removed : (r : Fate) → is_kept r ≡ false → r ≡ Removed
-gone_removed Removed gone = refl
-gone_removed Stays gone = cc
-gone_removed Rejected gone = cc
+gone_removed r gone = grind arith
 
 -- nothing takes a connection out
 staying : (role : Role) → is_kept (in_connection Stays (λ (c : View). Stays) role) ≡ true
@@ -126,10 +122,7 @@ given_up_gone false gone = cc
 
 -- the later of a moment and the kept one is no earlier than either
 pub later_kept : (h : SocketsView) (now : Moment) → (let later = later_moment h now in (h.kept.0 ≤ later.0) × (now.0 ≤ later.0))
-later_kept h now =
-    by_test (nat_lt h.kept.0 now.0)
-    (λ later. rw later (omega (arith, ltb-true h.kept.0 now.0 later), omega arith))
-    (λ earlier. rw earlier (omega arith, omega (arith, leb-false (suc h.kept.0) now.0 earlier)))
+later_kept h now = grind (arith, nat_tests)
 
 module _ (h : SocketsView) (e : Event) where
   -- Entries.
@@ -235,12 +228,7 @@ read_either c len = by_test (len == 0) (λ none. inl (rw none refl)) (λ some. i
 pub shut_either : (c : View) (now : Moment) → let d : View = if is_some c.pending_error || is_opening c.state then c else after_shutdown c now in (d ≡ c) ⊎ (d ≡ edge.after_event c (edge.Shuts now))
 shut_either c now =
     by_test (is_some c.pending_error || is_opening c.state) (λ refused. inl (rw refused refl))
-    (λ shuts. let taken : is_some (shutdown_refusal c) ≡ false = asked c.pending_error (is_opening c.state) shuts in inr (rw (shuts, taken) refl))
-  where
-    asked : (o : Option Error) (b : Bool) → (is_some o || b) ≡ false → is_some (option_or o (if b then Some ENOTCONN else None)) ≡ false
-    asked (Some error) b none = cc
-    asked None true none = cc
-    asked None false none = refl
+    (λ shuts. let taken : is_some (shutdown_refusal c) ≡ false = grind (arith, common_steps) in inr (rw (shuts, taken) refl))
 
 -- Closing.
 

@@ -4,11 +4,9 @@ use Rattle.std.proofs.lemmas.Grind.{common_steps}
 use Rattle.sockets.specs.Calls.{IsNewSocket}
 use Rattle.sockets.specs.declared.entry.Entry.{Entry}
 use Rattle.sockets.specs.SocketsView.{SocketsView}
-use Rattle.sockets.proofs.Made.{made}
+use Rattle.sockets.proofs.Made.{made, new_id, new_filed}
 use Rattle.sockets.proofs.Ascending.{ascends_pushed}
-use Rattle.sockets.proofs.Made.{new_id}
 use Rattle.sockets.proofs.Filed.{index_pushed_none}
-use Rattle.sockets.proofs.Made.{new_filed}
 use Rattle.sockets.proofs.sockets.Sockets.socket.Goals as goal
 
 pub returns-clause-ok : goal.returns-clause-ok
