@@ -45,10 +45,10 @@ step_keeps : (h : SocketsView) (e : Event) (own : Addr) → takes_end e ≡ fals
 step_keeps h e own free x _ stays = (refl, keeps_role x.role own)
 step_keeps h e own free _ _ (moves ev id c l meets kept) = (refl, keeps_connection c _ l l (keeps-event c ev) own)
 step_keeps h e own free _ _ (ends ev id c l meets removed) = tt
-step_keeps h _ own free _ _ (binds named asked id buffers bound local) = cc
-step_keeps h _ own free _ _ (listens named backlog id buffers local) = (refl, record { ends = λ l p e live. cc; port = λ port e has. has; datagrams = λ port e has. cc; own = λ lies. tt })
-step_keeps h _ own free _ _ (opens isn named peer routed id buffers bound local) = cc
-step_keeps h _ own free _ _ (accepted named id c l) = (refl, keeps_connection c c l None (keeps-nothing c) own)
+step_keeps h _ own free _ _ (binds named asked id buffers bound local socket) = cc
+step_keeps h _ own free _ _ (listens named backlog id buffers local socket) = (refl, record { ends = λ l p e live. cc; port = λ port e has. has; datagrams = λ port e has. cc; own = λ lies. tt })
+step_keeps h _ own free _ _ (opens isn named peer routed id buffers bound local socket) = cc
+step_keeps h _ own free _ _ (accepted named id c l next) = (refl, keeps_connection c c l None (keeps-nothing c) own)
 step_keeps h e own free _ _ (requeues id bound before after) = (refl, keeps_queues bound before after own)
 step_keeps h e own free _ _ (binds_datagrams id bound local before after takes) = let bad : true ≡ false = sym takes ∙ free in cc
 step_keeps h _ own free _ _ (closed named id role socket alone) = tt

@@ -64,7 +64,7 @@ event_left c e kept left =
 step_left : (h : SocketsView) (e : Event) (x y : Entry) → IsStepOf h e x (Some y) → is_over_in x.role ≡ false → is_over_in y.role ≡ false
 step_left h e x _ stays left = left
 step_left h e _ _ (moves ev id c l meets kept) left = event_left c ev kept left
-step_left h _ _ _ (accepted named id c l) left = left
+step_left h _ _ _ (accepted named id c l next) left = left
 step_left h _ _ _ _ left = refl
 
 joining_left : (h : SocketsView) (e : Event) (x : Entry) → IsJoining h e x → is_over_in x.role ≡ false

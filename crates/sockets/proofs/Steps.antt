@@ -74,11 +74,13 @@ pub data IsStepOf (h : SocketsView) : Event → Entry → Option Entry → Type 
   moves : {e : Event} (ev : edge.Event) (id : SocketId) (c : View) (l : Option SocketId) → IsEventOf h (entry id (Connected c l)) e ev → is_kept (edge.fate_by c ev) ≡ true
       → IsStepOf h e (entry id (Connected c l)) (Some (entry id (Connected (edge.after_event c ev) l)))
   ends : {e : Event} (ev : edge.Event) (id : SocketId) (c : View) (l : Option SocketId) → IsEventOf h (entry id (Connected c l)) e ev → edge.fate_by c ev ≡ Removed → IsStepOf h e (entry id (Connected c l)) None
-  binds : (named : SocketId) (asked : Endpoint) (id : SocketId) (buffers : Buffers) (bound : Option Endpoint) (local : Endpoint) → IsStepOf h (Binds named asked) (entry id (Idle buffers bound)) (Some (entry id (Idle buffers (Some local))))
-  listens : (named : SocketId) (backlog : ℕ) (id : SocketId) (buffers : Buffers) (local : Endpoint) → IsStepOf h (Listens named backlog) (entry id (Idle buffers (Some local))) (Some (entry id (Listener local backlog)))
-  opens : (isn : ℕ) (named : SocketId) (peer : Endpoint) (routed : Bool) (id : SocketId) (buffers : Buffers) (bound : Option Endpoint) (local : Endpoint)
+  binds : (named : SocketId) (asked : Endpoint) (id : SocketId) (buffers : Buffers) (bound : Option Endpoint) (local : Endpoint) → is_socket named (entry id (Idle buffers bound)) ≡ true
+      → IsStepOf h (Binds named asked) (entry id (Idle buffers bound)) (Some (entry id (Idle buffers (Some local))))
+  listens : (named : SocketId) (backlog : ℕ) (id : SocketId) (buffers : Buffers) (local : Endpoint) → is_socket named (entry id (Idle buffers (Some local))) ≡ true
+      → IsStepOf h (Listens named backlog) (entry id (Idle buffers (Some local))) (Some (entry id (Listener local backlog)))
+  opens : (isn : ℕ) (named : SocketId) (peer : Endpoint) (routed : Bool) (id : SocketId) (buffers : Buffers) (bound : Option Endpoint) (local : Endpoint) → is_socket named (entry id (Idle buffers bound)) ≡ true
       → IsStepOf h (Connects isn named peer routed) (entry id (Idle buffers bound)) (Some (entry id (Connected (opened_actively local peer isn) None)))
-  accepted : (named id : SocketId) (c : View) (l : Option SocketId) → IsStepOf h (Accepts named) (entry id (Connected c l)) (Some (entry id (Connected c None)))
+  accepted : (named id : SocketId) (c : View) (l : Option SocketId) → is_next_at h named (entry id (Connected c l)) ≡ true → IsStepOf h (Accepts named) (entry id (Connected c l)) (Some (entry id (Connected c None)))
   requeues : {e : Event} (id : SocketId) (bound : Option Endpoint) (before after : Queues) → IsStepOf h e (entry id (Datagrams bound before)) (Some (entry id (Datagrams bound after)))
   binds_datagrams : {e : Event} (id : SocketId) (bound : Option Endpoint) (local : Endpoint) (before after : Queues) → takes_end e ≡ true → IsStepOf h e (entry id (Datagrams bound before)) (Some (entry id (Datagrams (Some local) after)))
   closed : (named id : SocketId) (role : Role) → is_socket named (entry id role) ≡ true → in_connection true (λ c. false) role ≡ true → IsStepOf h (Closes named) (entry id role) None
@@ -187,10 +189,10 @@ module _ (h : SocketsView) (e : Event) where
 
 -- Calls.
 
-bound : (h : SocketsView) (named id : SocketId) (asked local : Endpoint) (role : Role) → IsStepOf h (Binds named asked) (entry id role) (Some (entry id (role_after_bind local role)))
-bound h named id asked local (Idle buffers before) = binds named asked id buffers before local
-bound h named id asked local (Datagrams before queues) = binds_datagrams id before local queues queues refl
-bound h named id asked local _ = stays
+bound : (h : SocketsView) (named id : SocketId) (asked local : Endpoint) (role : Role) → is_socket named (entry id role) ≡ true → IsStepOf h (Binds named asked) (entry id role) (Some (entry id (role_after_bind local role)))
+bound h named id asked local (Idle buffers before) socket = binds named asked id buffers before local socket
+bound h named id asked local (Datagrams before queues) socket = binds_datagrams id before local queues queues refl
+bound h named id asked local _ socket = stays
 
 bind_stepped : (h : SocketsView) (id : SocketId) (local : Endpoint) → IsStepped h (Binds id local) (after_bind h id local)
 bind_stepped h id local = by_port (port_bound h id local) refl
@@ -198,19 +200,19 @@ bind_stepped h id local = by_port (port_bound h id local) refl
     by_port : (r : Result ℕ Refusal) → port_bound h id local ≡ r → IsStepped h (Binds id local) (after_bind h id local)
     by_port (Err refusal) given = rw given (unchanged h (Binds id local) refl)
     by_port (Ok port) given = rw given (ported h (Binds id local) refl _ h.identification _ (λ none. refl) refl
-        (changes h (Binds id local) (is_socket id) (role_after_bind (record { addr = local.addr; port = port })) (λ x passes. bound h id x.id local (record { addr = local.addr; port = port }) x.role)))
+        (changes h (Binds id local) (is_socket id) (role_after_bind (record { addr = local.addr; port = port })) (λ x passes. bound h id x.id local (record { addr = local.addr; port = port }) x.role passes)))
 
-listening : (h : SocketsView) (named id : SocketId) (backlog : ℕ) (role : Role) → IsStepOf h (Listens named backlog) (entry id role) (Some (entry id (role_after_listen backlog role)))
-listening h named id backlog (Idle buffers (Some local)) = listens named backlog id buffers local
-listening h named id backlog _ = stays
+listening : (h : SocketsView) (named id : SocketId) (backlog : ℕ) (role : Role) → is_socket named (entry id role) ≡ true → IsStepOf h (Listens named backlog) (entry id role) (Some (entry id (role_after_listen backlog role)))
+listening h named id backlog (Idle buffers (Some local)) socket = listens named backlog id buffers local socket
+listening h named id backlog _ socket = stays
 
-accepting : (h : SocketsView) (named id : SocketId) (role : Role) → IsStepOf h (Accepts named) (entry id role) (Some (entry id (role_after_accept role)))
-accepting h named id (Connected c l) = accepted named id c l
-accepting h named id _ = stays
+accepting : (h : SocketsView) (named id : SocketId) (role : Role) → is_next_at h named (entry id role) ≡ true → IsStepOf h (Accepts named) (entry id role) (Some (entry id (role_after_accept role)))
+accepting h named id (Connected c l) next = accepted named id c l next
+accepting h named id _ next = stays
 
-opening : (h : SocketsView) (isn : ℕ) (named id : SocketId) (local peer : Endpoint) (routed : Bool) (role : Role) → IsStepOf h (Connects isn named peer routed) (entry id role) (Some (entry id (role_after_connect local peer isn role)))
-opening h isn named id local peer routed (Idle buffers before) = opens isn named peer routed id buffers before local
-opening h isn named id local peer routed _ = stays
+opening : (h : SocketsView) (isn : ℕ) (named id : SocketId) (local peer : Endpoint) (routed : Bool) (role : Role) → is_socket named (entry id role) ≡ true → IsStepOf h (Connects isn named peer routed) (entry id role) (Some (entry id (role_after_connect local peer isn role)))
+opening h isn named id local peer routed (Idle buffers before) socket = opens isn named peer routed id buffers before local socket
+opening h isn named id local peer routed _ socket = stays
 
 connect_stepped : (h : SocketsView) (isn : ℕ) (id : SocketId) (peer : Endpoint) (routed : Bool) → IsStepped h (Connects isn id peer routed) (after_connect h isn id peer routed)
 connect_stepped h isn id peer routed = by_port (port_connected h id peer routed) refl
@@ -218,7 +220,7 @@ connect_stepped h isn id peer routed = by_port (port_connected h id peer routed)
     by_port : (r : Result ℕ Refusal) → port_connected h id peer routed ≡ r → IsStepped h (Connects isn id peer routed) (after_connect h isn id peer routed)
     by_port (Err refusal) given = rw given (unchanged h (Connects isn id peer routed) refl)
     by_port (Ok port) given = rw given (ported h (Connects isn id peer routed) refl _ h.identification _ (λ none. refl) refl
-        (changes h (Connects isn id peer routed) (is_socket id) (role_after_connect (record { addr = h.addr; port = port }) peer isn) (λ x passes. opening h isn id x.id (record { addr = h.addr; port = port }) peer routed x.role)))
+        (changes h (Connects isn id peer routed) (is_socket id) (role_after_connect (record { addr = h.addr; port = port }) peer isn) (λ x passes. opening h isn id x.id (record { addr = h.addr; port = port }) peer routed x.role passes)))
 
 -- a read into an empty buffer leaves the connection
 pub read_either : (c : View) (len : ℕ) → let d : View = if len == 0 then c else after_recv c len in (d ≡ c) ⊎ (d ≡ edge.after_event c (edge.Receives len))
@@ -412,8 +414,8 @@ pub stepped : (h : SocketsView) (e : Event) → IsStepped h e (after_event h e)
 stepped h (Makes buffers) = joined (made buffers)
 stepped h MakesDatagrams = joined made_datagrams
 stepped h (Binds id local) = bind_stepped h id local
-stepped h (Listens id backlog) = plain h (Listens id backlog) _ _ refl (changes h (Listens id backlog) (is_socket id) (role_after_listen backlog) (λ x passes. listening h id x.id backlog x.role))
-stepped h (Accepts id) = plain h (Accepts id) _ _ refl (changes h (Accepts id) (is_next_at h id) role_after_accept (λ x passes. accepting h id x.id x.role))
+stepped h (Listens id backlog) = plain h (Listens id backlog) _ _ refl (changes h (Listens id backlog) (is_socket id) (role_after_listen backlog) (λ x passes. listening h id x.id backlog x.role passes))
+stepped h (Accepts id) = plain h (Accepts id) _ _ refl (changes h (Accepts id) (is_next_at h id) role_after_accept (λ x passes. accepting h id x.id x.role passes))
 stepped h (Connects isn id peer routed) = connect_stepped h isn id peer routed
 stepped h (Sends id octets) = calls h (Sends id octets) id _ (edge.Sends octets h.kept) refl (λ c. inr refl) (λ x named. sends_it id octets named) staying
 stepped h (Receives id len) = calls h (Receives id len) id _ (edge.Receives len) refl (λ c. read_either c len) (λ x named. reads_it id len named) staying
