@@ -48,6 +48,7 @@ closes_caused c e closes =
 removed_caused : (c : View) (e : edge.Event) → is_over c ≡ false → edge.fate_by c e ≡ Removed → edge.is_cause c e ≡ true
 removed_caused c e over removed = ends_caused c e over (or_left _ _ (ap edge.is_removed removed))
 
+-- what keeps its place goes along an edge of the table of states
 not_removed : (r : Fate) → is_kept r ≡ true → edge.is_removed r ≡ false
 not_removed r kept = grind arith
 
@@ -68,6 +69,7 @@ false_from false f = refl
 held_not_over : (c : View) (l : Option SocketId) → has_socket (Connected c l) ≡ true → is_over c ≡ false
 held_not_over c l held = grind (arith, common_steps)
 
+-- .. nor one that has a segment due
 due_not_over : (c : View) → IsSound c → is_some (first_due c) ≡ true → is_over c ≡ false
 due_not_over c sound due =
     false_from (is_over c) (λ over.
@@ -76,6 +78,7 @@ due_not_over c sound due =
     let nothing : first_due c ≡ None = owes ∙ ap (λ (b : Bool). if b then Some Rst else None) none in
     let bad : is_some (first_due c) ≡ false = ap (λ (o : Option Due). is_some o) nothing in sym bad ∙ due)
 
+-- a tick takes out only what is at the end of its wait, or is given up
 tick_caused : (c : View) (now : Moment) → tick_fate c now ≡ Removed → (is_at_end c now || gives_up c now) ≡ true
 tick_caused c now removed =
     by_test (is_at_end c now) (λ over. or_left _ _ over)

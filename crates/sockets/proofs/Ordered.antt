@@ -121,7 +121,7 @@ bind_ordered h id local allowed o = by_port (port-allowed (port_bound h id local
 
     by_role : (given : ℕ) → port_bound h id local ≡ Ok given → (r : Option Role) → role_of h id ≡ r
         → IsOrdered (record h { last_port = last_port_bound h local given; entries = change_first (is_socket id) (with_role (role_after_bind (at given))) h.entries })
-    by_role given gives None is = let refused : port_bound h id local ≡ Err EBADF = rw is in let bad : ◌≡◌ {A = Result ℕ Refusal} (Err EBADF) (Ok given) = sym refused ∙ gives in cc
+    by_role given gives None is = let refused : port_bound h id local ≡ Err EBADF = rw is in cc
     by_role given gives (Some (Idle buffers None)) is =
         let asked : port_bound h id local ≡ port_at h (is_unused_port h.entries) local = rw is in
         let found = port-given h (is_unused_port h.entries) local given (sym asked ∙ gives) in
@@ -135,7 +135,7 @@ bind_ordered h id local allowed o = by_port (port-allowed (port_bound h id local
         bound_ordered h id (role_after_bind (at given)) (last_port_bound h local given) h.identification no_port (λ (port : ℕ). given == port) (Datagrams None queues) found.dynamic is (binds_at h.addr (at given) queues queues)
         (λ port e. cc)
         (one_at is_datagrams_at id (role_after_bind (at given)) h.entries given (count_none (is_datagrams_at given) h.entries (not_true _ found.free))) o
-    by_role given gives (Some _) is = let refused : port_bound h id local ≡ Err EINVAL = rw is in let bad : ◌≡◌ {A = Result ℕ Refusal} (Err EINVAL) (Ok given) = sym refused ∙ gives in cc
+    by_role given gives (Some _) is = let refused : port_bound h id local ≡ Err EINVAL = rw is in cc
 
     by_port : ((given : ℕ) × (port_bound h id local ≡ Ok given)) → IsOrdered (after_bind h id local)
     by_port x = subst IsOrdered (sym (bind-given h id local x.0 x.1)) (by_role x.0 x.1 (role_of h id) refl)

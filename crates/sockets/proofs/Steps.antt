@@ -56,6 +56,7 @@ pub data IsEventOf (h : SocketsView) (x : Entry) : Event → edge.Event → Type
   goes_out : (goes : Entry → Bool) (now : Moment) → find (sends goes) h.entries ≡ Some x → IsEventOf h x (Emits goes now) (edge.Emits (later_moment h now))
   tells_it : (local peer : Endpoint) (number : ℕ) → is_between local peer x ≡ true → IsEventOf h x (Unreachable local peer number) (edge.Unreachable number)
 
+-- an entry by its two parts
 abbrev pub entry : SocketId → Role → Entry
 entry id role = record { id = id; role = role }
 
@@ -110,6 +111,7 @@ pub data IsStepped (h : SocketsView) (e : Event) : SocketsView → Type 0 where
 
 -- Fates.
 
+-- what keeps no place is taken out
 pub gone_removed : (r : Fate) → is_kept r ≡ false → r ≡ Removed
 gone_removed r gone = grind arith
 
@@ -118,6 +120,7 @@ staying : (role : Role) → is_kept (in_connection Stays (λ (c : View). Stays) 
 staying (Connected c l) = refl
 staying _ = refl
 
+-- a reset is given up where its test passes
 given_up_gone : (b : Bool) → is_kept (if b then Removed else Stays) ≡ false → b ≡ true
 given_up_gone true gone = refl
 given_up_gone false gone = cc
@@ -147,19 +150,23 @@ module _ (h : SocketsView) (e : Event) where
       by_role (Connected c l) meets gone = ends ev x.id c l meets gone
       by_role _ meets gone = cc
 
+  -- the queues of a UDP socket change, and of any other nothing does
   queued : (id : SocketId) (change : Queues → Queues) (role : Role) → IsStepOf h e (entry id role) (Some (entry id (on_datagrams (λ bound. bound) change role)))
   queued id change (Datagrams bound before) = requeues id bound before (change before)
   queued id change _ = stays
 
+  -- .. or it is bound where it sends from
   queued_from : takes_end e ≡ true → (id : SocketId) (local : Endpoint) (change : Queues → Queues) (role : Role) → IsStepOf h e (entry id role) (Some (entry id (on_datagrams (λ bound. Some local) change role)))
   queued_from takes id local change (Datagrams bound before) = binds_datagrams id bound local before (change before) takes
   queued_from takes id local change _ = stays
 
   -- Tables.
 
+  -- nothing changes but entries and those offered
   plain : (entries : List Entry) (offered : List SocketId) → IsAdded h e [] → Follows (IsStepOf h e) IsNothing h.entries entries → IsStepped h e (record h { entries = entries; offered = offered })
   plain entries offered added f = followed (record { addr = refl; last_id = refl; kept = omega arith; last_port = λ free. refl; identification = λ none. refl; added = added; entries = f })
 
+  -- nothing happens
   unchanged : IsAdded h e [] → IsStepped h e h
   unchanged added = plain h.entries h.offered added (as_it_was (IsStepOf h e) IsNothing refl (λ x. stays) h.entries)
 
@@ -187,7 +194,7 @@ module _ (h : SocketsView) (e : Event) where
       → ((role : Role) → is_kept (in_connection Stays (λ (c : View). edge.fate_by c ev) role) ≡ true) → IsStepped h e (with_socket h id (on_connection change))
   calls id change ev added either meets kept = plain _ h.offered added (changes (is_socket id) (on_connection change) (λ x passes. moved change ev either x (meets x passes) (kept x.role)))
 
--- Calls.
+-- Calls: what each makes of the socket that it is for.
 
 bound : (h : SocketsView) (named id : SocketId) (asked local : Endpoint) (role : Role) → is_socket named (entry id role) ≡ true → IsStepOf h (Binds named asked) (entry id role) (Some (entry id (role_after_bind local role)))
 bound h named id asked local (Idle buffers before) socket = binds named asked id buffers before local socket
@@ -239,6 +246,7 @@ abbrev IsClosing : SocketsView → SocketId → Entry → Option Entry → Type 
 IsClosing h id x None = IsStepOf h (Closes id) x None
 IsClosing h id x (Some y) = (y ≡ x) ⊎ (IsStepOf h (Closes id) x (Some y) × (waits_at id y.role ≡ false))
 
+-- .. and its connection goes on
 closing : (h : SocketsView) (id : SocketId) (x : Entry) → is_socket id x ≡ true → is_kept (close_fate_of x.role) ≡ true → IsClosing h id x (Some (with_role (role_after_close h.kept) x))
 closing h id x named kept = by_role x.role named kept
   where
@@ -247,6 +255,7 @@ closing h id x named kept = by_role x.role named kept
     by_role (Connected c (Some l)) named kept = let bad : false ≡ true = and_right (x.id.0 == id.0) false named in cc
     by_role _ named kept = cc
 
+-- .. or nothing is left of it
 taken_out : (h : SocketsView) (id : SocketId) (x : Entry) → is_socket id x ≡ true → is_kept (close_fate_of x.role) ≡ false → IsStepOf h (Closes id) x None
 taken_out h id x named gone = by_role x.role named gone
   where
@@ -256,6 +265,7 @@ taken_out h id x named gone = by_role x.role named gone
     by_role (Listener l b) named gone = closed id x.id (Listener l b) named refl
     by_role (Datagrams before queues) named gone = closed id x.id (Datagrams before queues) named refl
 
+-- the table once the socket is closed
 record IsClosed (h : SocketsView) (id : SocketId) : Type 0 where
   left : List Entry
   is : after_socket_closed h id ≡ record h { entries = left }
@@ -410,6 +420,7 @@ datagram_stepped h source d = by_reception (reception h d) refl
     by_reception NoRoom given = subst (IsStepped h e) (sym (no_room-same h source d given)) (unchanged h e refl)
     by_reception NoSocket given = subst (IsStepped h e) (sym (no_socket-same h source d given)) (unchanged h e refl)
 
+-- every event
 pub stepped : (h : SocketsView) (e : Event) → IsStepped h e (after_event h e)
 stepped h (Makes buffers) = joined (made buffers)
 stepped h MakesDatagrams = joined made_datagrams
