@@ -1,42 +1,40 @@
 -- What holds of those that wait and of those that are offered, in every table that is reached.
-use Rattle.std.proofs.Common.{◌≡◌, inl, inr, ℕ, ◌+◌, ◌<◌, ◌≤◌, ◌==◌, ◌&&◌, not, Bool, true, false, List, [], ◌∷◌, ◌++◌, length, count_by, Option, Some, None, refl, sym, ◌∙◌, ap, subst, arith}
-use Rattle.std.specs.List.{find, filter, list_any, AllByRecursion}
-use Rattle.std.proofs.lemmas.Bool.{eqb-true, ltb-true, ltb-false, and_parts, and_from, or_parts}
+use Rattle.std.proofs.Common.{◌≡◌, ℕ, ◌+◌, ◌<◌, ◌≤◌, ◌&&◌, not, Bool, true, false, List, [], ◌∷◌, ◌++◌, length, count_by, Option, Some, None, refl, sym, ◌∙◌, ap, subst, arith}
+use Rattle.std.specs.List.{find, list_any, AllByRecursion}
+use Rattle.std.proofs.lemmas.Bool.{eqb-false, ne_eqb, and_parts, and_from, and_right, or_parts}
+use Rattle.std.proofs.lemmas.Bool.Decides.{nat_tests}
 use Rattle.std.proofs.lemmas.List.{length-append}
 use Rattle.std.proofs.lemmas.List.Sums.{count_by-le-length}
-use Rattle.std.proofs.Math.Dec.{ltb}
-use Rattle.tcp_state.proofs.Causes.{of_false}
 use Rattle.sockets.specs.declared.table.TheConstants.{ENTRIES}
 use Rattle.sockets.specs.declared.entry.SocketId.{SocketId}
 use Rattle.sockets.specs.declared.entry.Entry.{Entry}
 use Rattle.sockets.specs.declared.role.Role.{Role}
-use Rattle.sockets.specs.declared.role.Role.TheVariants.{Idle, Listener, Connected, Datagrams}
+use Rattle.sockets.specs.declared.role.Role.TheVariants.{Connected}
 use Rattle.ipv4.specs.declared.addr.Addr.{Addr}
-use Rattle.sockets.specs.Entries.{is_pending, is_in_syn_received, is_left, waits_at, is_waiting_at, is_waiting_as, is_waiting_id, backlog_of, role_after_accept, with_role}
+use Rattle.sockets.specs.Entries.{waits_at, is_waiting_at, is_waiting_as, is_waiting_id, backlog_of, role_after_accept, with_role}
 use Rattle.sockets.specs.SocketsView.{SocketsView, new_sockets}
 use Rattle.sockets.specs.Calls.{next_offered}
 use Rattle.sockets.specs.Arrival.{offered_with}
-use Rattle.sockets.specs.Lists.{change_first, remove_first}
+use Rattle.sockets.specs.Lists.{remove_first}
 use Rattle.sockets.specs.Causes.{Event, Follows, after_event}
 use Rattle.sockets.specs.Traffic.{after_events}
-use Rattle.sockets.specs.Order.{IsOrdered, IsAllowed}
-use Rattle.sockets.specs.Ids.{AreAscending}
+use Rattle.sockets.specs.Order.{IsAllowed}
+use Rattle.sockets.specs.Ids.{has_id, AreAscending}
 use Rattle.sockets.specs.Offered.{AreAllowed, IsReached, is_ready, is_ready_as, is_id, KeepsBacklogs, OffersReady}
 use Rattle.sockets.proofs.Ends.{eqb-same}
-use Rattle.sockets.proofs.Followed.{IsNothing, by_test, steps_joined}
-use Rattle.sockets.proofs.Ordered.{fresh_ordered, stays_ordered}
-use Rattle.sockets.proofs.OfferCounts.{one, one-true, one-false, one-most, count-cons, count-joined, count-found, passes-found, count-unfound, count-any, count-changed, count-removed, filtered-kept, filtered-gone, count-apart, fewer, more, all-kept, no-longer, all-found, all-joined, all-with, all-mapped}
+use Rattle.sockets.proofs.Followed.{IsNothing, by_test, some_same, follows_map, all_followed, all_joined}
+use Rattle.sockets.proofs.Ascending.{ascends_joined, ascends_followed}
+use Rattle.sockets.proofs.Opened.{found_passes}
+use Rattle.sockets.proofs.OfferCounts.{one, one-true, one-false, count-cons, count-joined, count-found, count-any, count-no, count-changed, count-removed, count-filtered, count-apart, count-either, any-found, fewer, as-many-left, no-longer, all-found, all-with, all-mapped, IsPart, part-whole, part-removed, part-filtered, same-id, count-first}
 use Rattle.sockets.proofs.OfferRoles.{IsPlain, is_waking}
-use Rattle.sockets.proofs.OfferSteps.{IsCalm, IsCarried, IsForsaken, IsJoined, IsStill, IsPassed, IsTaken, IsLeft, Outcome, Still, Joined, Passed, Taken, Left, outcome}
+use Rattle.sockets.proofs.OfferSteps.{IsTurned, all, elsewhere, IsCarried, IsJoined, IsStill, IsPassed, IsTaken, IsLeft, Outcome, Still, Joined, Passed, Taken, Left, outcome}
 
 abbrev pub IsPlainEntry : Entry → Type 0
 IsPlainEntry e = IsPlain e.role
 
-abbrev pub has_id : SocketId → Entry → Bool
-has_id id e = e.id.0 == id.0
-
+-- Every entry that waits is as it was opened, at no id that was not given, and within its listener's backlog; and those offered are those that are ready.
 pub record Holds (h : SocketsView) : Type 0 where
-  pub ordered : IsOrdered h
+  pub ids : AreAscending 0 h.last_id h.entries
   pub plain : AllByRecursion IsPlainEntry h.entries
   pub few : length h.entries ≤ ENTRIES
   pub unborn : (id : SocketId) → h.last_id < id.0 → count_by (is_waiting_at id) h.entries ≡ 0
@@ -45,250 +43,172 @@ pub record Holds (h : SocketsView) : Type 0 where
 
 -- Ids.
 
-pub same-id : (a b : SocketId) → (a.0 == b.0) ≡ true → a ≡ b
-same-id a b e = let n : a.0 ≡ b.0 = eqb-true a.0 b.0 e in ap (λ (k : ℕ). let i : SocketId = record { 0 = k } in i) n
-
-other-id : (a b : ℕ) → a < b → (b == a) ≡ false
-other-id a b less = by_test (b == a) (λ e. let n : b ≡ a = eqb-true b a e in absurd (omega arith)) (λ e. e)
-
+-- an id stands at no entry behind it ..
 ids-above : (a last : ℕ) (xs : List Entry) (i : SocketId) → AreAscending a last xs → i.0 ≤ a → count_by (has_id i) xs ≡ 0
 ids-above a last [] i ascends less = refl
-ids-above a last (x ∷ xs) i ascends less =
-    let above : a < x.id.0 = ascends.0 in
-    let all : count_by (has_id i) (x ∷ xs) ≡ one (has_id i x) + count_by (has_id i) xs = count-cons (has_id i) x xs in
-    let first : one (has_id i x) ≡ 0 = one-false (has_id i x) (other-id i.0 x.id.0 (omega arith)) in
-    let rest : count_by (has_id i) xs ≡ 0 = ids-above x.id.0 last xs i ascends.1 (omega arith) in
-    omega arith
+ids-above a last (x ∷ xs) i ascends less = grind (arith, nat_tests, ascends.0, count-cons (has_id i) x xs, one-false (has_id i x), ids-above x.id.0 last xs i ascends.1)
 
-pub ids-once : (a last : ℕ) (xs : List Entry) (i : SocketId) → AreAscending a last xs → count_by (has_id i) xs ≤ 1
+-- .. and so at one entry at most
+ids-once : (a last : ℕ) (xs : List Entry) (i : SocketId) → AreAscending a last xs → count_by (has_id i) xs ≤ 1
 ids-once a last [] i ascends = omega arith
-ids-once a last (x ∷ xs) i ascends =
-    let all : count_by (has_id i) (x ∷ xs) ≡ one (has_id i x) + count_by (has_id i) xs = count-cons (has_id i) x xs in
-    by_test (has_id i x)
-    (λ here.
-    let same : x.id.0 ≡ i.0 = eqb-true x.id.0 i.0 here in
-    let first : one (has_id i x) ≤ 1 = one-most (has_id i x) in
-    let rest : count_by (has_id i) xs ≡ 0 = ids-above x.id.0 last xs i ascends.1 (omega arith) in
-    omega arith)
-    (λ there.
-    let first : one (has_id i x) ≡ 0 = one-false (has_id i x) there in
-    let rest : count_by (has_id i) xs ≤ 1 = ids-once x.id.0 last xs i ascends.1 in
-    omega arith)
+ids-once a last (x ∷ xs) i ascends = grind (arith, nat_tests, count-cons (has_id i) x xs, one-true (has_id i x), one-false (has_id i x), ids-above x.id.0 last xs i ascends.1, ids-once x.id.0 last xs i ascends.1)
 
+-- the last id given is the highest
 most-id : (a last : ℕ) (xs : List Entry) → AreAscending a last xs → a ≤ last
 most-id a last [] ascends = ascends
-most-id a last (x ∷ xs) ascends = let first : a < x.id.0 = ascends.0 in let rest : x.id.0 ≤ last = most-id x.id.0 last xs ascends.1 in omega arith
+most-id a last (x ∷ xs) ascends = let first : a < x.id.0 = ascends.0 in omega (arith, most-id x.id.0 last xs ascends.1)
 
-pub given-ids : (a last : ℕ) (xs : List Entry) → AreAscending a last xs → AllByRecursion (λ (e : Entry). e.id.0 ≤ last) xs
-given-ids a last [] ascends = tt
-given-ids a last (x ∷ xs) ascends = (most-id x.id.0 last xs ascends.1, given-ids x.id.0 last xs ascends.1)
+-- each entry has an id that was given, and is the one that its id finds
+abbrev pub IsOwn : ℕ → ℕ → List Entry → Entry → Type 0
+IsOwn a last xs e = (a < e.id.0) × (e.id.0 ≤ last) × (find (has_id e.id) xs ≡ Some e)
 
-later-ids : (a b last : ℕ) (xs : List Entry) → b ≤ a → AreAscending a last xs → AllByRecursion (λ (e : Entry). b < e.id.0) xs
-later-ids a b last [] less ascends = tt
-later-ids a b last (x ∷ xs) less ascends = let first : a < x.id.0 = ascends.0 in (omega arith, later-ids x.id.0 b last xs (omega arith) ascends.1)
+all-own : (a last : ℕ) (xs : List Entry) → AreAscending a last xs → AllByRecursion (IsOwn a last xs) xs
+all-own a last [] ascends = tt
+all-own a last (x ∷ xs) ascends =
+    let first : a < x.id.0 = ascends.0 in (
+      (first, most-id x.id.0 last xs ascends.1, rw (eqb-same x.id.0)),
+      all-mapped (IsOwn x.id.0 last xs) (IsOwn a last (x ∷ xs)) (λ e own. let later : x.id.0 < e.id.0 = own.0 in (omega arith, own.1, rw (ne_eqb x.id.0 e.id.0 (λ is. omega arith)) own.2)) xs (all-own x.id.0 last xs ascends.1),
+    )
 
--- of an entry that is found, what holds of it holds of each entry of its id
-of-its-id : (Q : Entry → Type 0) (test : Entry → Bool) (a last : ℕ) (xs : List Entry) (l : Entry) → AreAscending a last xs → find test xs ≡ Some l → Q l → AllByRecursion (λ (e : Entry). e.id.0 ≡ l.id.0 → Q e) xs
-of-its-id Q test a last [] l ascends found holds = tt
-of-its-id Q test a last (x ∷ xs) l ascends found holds =
-    by_test (test x)
-    (λ here.
-    let at : find test (x ∷ xs) ≡ Some x = rw here in
-    let same : l ≡ x = cc in
-    let P : Entry → Type 0 = λ k. AllByRecursion (λ (e : Entry). e.id.0 ≡ k.id.0 → Q e) (x ∷ xs) in
-    subst P (sym same) (λ e. subst Q same holds, others same))
-    (λ there.
-    let rest : find test xs ≡ find test (x ∷ xs) = rw there in
-    let found_later : find test xs ≡ Some l = rest ∙ found in
-    let later : x.id.0 < l.id.0 = all-found (λ (e : Entry). x.id.0 < e.id.0) test xs l (later-ids x.id.0 x.id.0 last xs (omega arith) ascends.1) found_later in
-    (λ e. absurd (omega arith), of-its-id Q test x.id.0 last xs l ascends.1 found_later holds))
-  where
-    others : l ≡ x → AllByRecursion (λ (e : Entry). e.id.0 ≡ x.id.0 → Q e) xs
-    others same =
-        all-mapped (λ (e : Entry). x.id.0 < e.id.0) (λ (e : Entry). e.id.0 ≡ x.id.0 → Q e) (λ e less is. absurd (let later : x.id.0 < e.id.0 = less in omega arith)) xs
-        (later-ids x.id.0 x.id.0 last xs (omega arith) ascends.1)
+-- so has what is found, and is
+pub own-found : (h : SocketsView) → Holds h → (test : Entry → Bool) (e : Entry) → find test h.entries ≡ Some e → IsOwn 0 h.last_id h.entries e
+own-found h holds test e found = all-found (IsOwn 0 h.last_id h.entries) test h.entries e (all-own 0 h.last_id h.entries holds.ids) found
+
+-- two tests of the entries of an id that never pass together
+pub once : (h : SocketsView) → Holds h → (i : SocketId) (p q : Entry → Bool) → ((x : Entry) → one (p x) + one (q x) ≤ one (has_id i x)) → count_by p h.entries + count_by q h.entries ≤ 1
+once h holds i p q apart = omega (arith, count-apart p q (has_id i) h.entries apart, ids-once 0 h.last_id h.entries i holds.ids)
 
 -- Tests.
 
-and-false : (a b : Bool) → b ≡ false → (a && b) ≡ false
-and-false true b e = e
-and-false false b e = refl
-
-apart : (a b : Bool) → one (a && b) + one (a && not b) ≤ one a
-unfolding one
-apart true true = omega arith
-apart true false = omega arith
-apart false b = omega arith
-
-ready-same : (i : SocketId) (x y : Entry) → y.id ≡ x.id → is_ready y.role ≡ is_ready x.role → is_ready_as i y ≡ is_ready_as i x
-ready-same i x y id ready = ap (λ (k : SocketId). (k.0 == i.0) && is_ready y.role) id ∙ ap (λ (b : Bool). (x.id.0 == i.0) && b) ready
-
-ready-is : (i : SocketId) (e : Entry) → is_ready e.role ≡ true → one (is_ready_as i e) ≡ one (is_id i e.id)
-ready-is i e ready = ap (λ (b : Bool). one ((e.id.0 == i.0) && b)) ready ∙ ap one (and_true (e.id.0 == i.0))
-  where
-    and_true : (b : Bool) → (b && true) ≡ b
-    and_true true = refl
-    and_true false = refl
-
-pub both-apart : (a b c : Bool) → one b + one c ≤ 1 → one (a && b) + one (a && c) ≤ one a
-both-apart true b c most = let first : one true ≡ 1 = one-true true refl in omega arith
-both-apart false b c most = let first : one false ≡ 0 = one-false false refl in omega arith
-
-waking-unready : (pending left received : Bool) → (pending && received) ≡ true → (pending && not left && not received) ≡ false
-waking-unready true true true e = refl
-waking-unready true false true e = refl
-waking-unready true left false e = cc
-waking-unready false left received e = cc
-
-pub not-both : (pending left received : Bool) → one (pending && not left && not received) + one (pending && received) ≤ 1
-unfolding one
-not-both true true true = omega arith
-not-both true true false = omega arith
-not-both true false true = omega arith
-not-both true false false = omega arith
-not-both false left received = omega arith
-
+-- what is accepted is not ready
 accepted-unready : (r : Role) → is_ready (role_after_accept r) ≡ false
 accepted-unready (Connected c l) = refl
-accepted-unready (Idle buffers bound) = refl
-accepted-unready (Listener l b) = refl
-accepted-unready (Datagrams bound queues) = refl
+accepted-unready r = refl
+
+-- the entry of this id is in SYN-RECEIVED
+abbrev pub is_waking_as : SocketId → Entry → Bool
+is_waking_as id e = has_id id e && is_waking e.role
+
+-- an id has one entry that is ready, or one in SYN-RECEIVED, or neither
+pub ready-or-waking : (h : SocketsView) → Holds h → (i : SocketId) → count_by (is_ready_as i) h.entries + count_by (is_waking_as i) h.entries ≤ 1
+unfolding one
+ready-or-waking h holds i = once h holds i (is_ready_as i) (is_waking_as i) (λ x. grind (arith, nat_tests))
 
 -- How many are offered.
 
-pub any-found : {X : Type 0} (s : X → Bool) (xs : List X) → 1 ≤ count_by s xs → (e : X) × (find s xs ≡ Some e)
-any-found {X} s xs some = by_find (find s xs) refl
-  where
-    by_find : (o : Option X) → find s xs ≡ o → (e : X) × (find s xs ≡ Some e)
-    by_find None is = let none : count_by s xs ≡ 0 = count-unfound s xs is in absurd (omega arith)
-    by_find (Some e) is = (e, is)
-
 -- where no entry is ready by any id, none is
 none-ready : (xs : List Entry) → ((i : SocketId) → count_by (is_ready_as i) xs ≡ 0) → count_by (λ (e : Entry). is_ready e.role) xs ≡ 0
-none-ready [] none = refl
-none-ready (x ∷ xs) none =
-    let all : count_by (λ (e : Entry). is_ready e.role) (x ∷ xs) ≡ one (is_ready x.role) + count_by (λ (e : Entry). is_ready e.role) xs = count-cons (λ (e : Entry). is_ready e.role) x xs in
-    let own : count_by (is_ready_as x.id) (x ∷ xs) ≡ one (is_ready_as x.id x) + count_by (is_ready_as x.id) xs = count-cons (is_ready_as x.id) x xs in
-    let zero : count_by (is_ready_as x.id) (x ∷ xs) ≡ 0 = none x.id in
-    let same : one (is_ready_as x.id x) ≡ one (is_ready x.role) = ap (λ (b : Bool). one (b && is_ready x.role)) (eqb-same x.id.0) in
-    let rest : count_by (λ (e : Entry). is_ready e.role) xs ≡ 0 = none-ready xs (λ i. later i (none i) (count-cons (is_ready_as i) x xs)) in
-    omega arith
-  where
-    later : (i : SocketId) → count_by (is_ready_as i) (x ∷ xs) ≡ 0 → count_by (is_ready_as i) (x ∷ xs) ≡ one (is_ready_as i x) + count_by (is_ready_as i) xs → count_by (is_ready_as i) xs ≡ 0
-    later i zero all = omega arith
+none-ready xs none =
+    let ready : Entry → Bool = λ e. is_ready e.role in
+    by_test (list_any ready xs)
+    (λ any.
+    let there = any-found ready xs (count-any ready xs any) in
+    let e : Entry = there.0 in
+    absurd (omega (arith, none e.id, count-found ready (is_ready_as e.id) xs e there.1 (and_from _ _ (eqb-same e.id.0) (found_passes ready xs e there.1)))))
+    (λ no. count-no ready xs no)
 
+-- as many ids stand in a list as entries are ready, where each stands there as often as it is ready
 pub as-many : (ids : List SocketId) (xs : List Entry) → ((i : SocketId) → count_by (is_id i) ids ≡ count_by (is_ready_as i) xs) → length ids ≡ count_by (λ (e : Entry). is_ready e.role) xs
+unfolding one
 as-many [] xs each = sym (none-ready xs (λ i. sym (each i)))
 as-many (x ∷ ids) xs each =
-    let own : count_by (is_id x) (x ∷ ids) ≡ one (is_id x x) + count_by (is_id x) ids = count-cons (is_id x) x ids in
-    let it : one (is_id x x) ≡ 1 = one-true (is_id x x) (eqb-same x.0) in
-    let count : count_by (is_id x) (x ∷ ids) ≡ count_by (is_ready_as x) xs = each x in
-    let there = any-found (is_ready_as x) xs (omega arith) in
+    let ready : Entry → Bool = λ e. is_ready e.role in
+    let there = any-found (is_ready_as x) xs (omega (arith, each x, count-first x ids)) in
     let e : Entry = there.0 in
-    let found : find (is_ready_as x) xs ≡ Some e = there.1 in
-    let passes = and_parts _ _ (passes-found (is_ready_as x) xs e found) in
-    let rest : length ids ≡ count_by (λ (y : Entry). is_ready y.role) (remove_first (is_ready_as x) xs) = as-many ids (remove_first (is_ready_as x) xs) (λ i. less i e found passes.0 passes.1 (each i)) in
-    let all : count_by (λ (y : Entry). is_ready y.role) xs ≡ count_by (λ (y : Entry). is_ready y.role) (remove_first (is_ready_as x) xs) + one (is_ready e.role) = count-removed (λ (y : Entry). is_ready y.role) (is_ready_as x) xs e found in
-    let last : one (is_ready e.role) ≡ 1 = one-true (is_ready e.role) passes.1 in
-    omega arith
-  where
-    less : (i : SocketId) (e : Entry) → find (is_ready_as x) xs ≡ Some e → (e.id.0 == x.0) ≡ true → is_ready e.role ≡ true → count_by (is_id i) (x ∷ ids) ≡ count_by (is_ready_as i) xs → count_by (is_id i) ids ≡ count_by (is_ready_as i) (remove_first (is_ready_as x) xs)
-    less i e found id ready count =
-        let head : count_by (is_id i) (x ∷ ids) ≡ one (is_id i x) + count_by (is_id i) ids = count-cons (is_id i) x ids in
-        let gone : count_by (is_ready_as i) xs ≡ count_by (is_ready_as i) (remove_first (is_ready_as x) xs) + one (is_ready_as i e) = count-removed (is_ready_as i) (is_ready_as x) xs e found in
-        let same : one (is_ready_as i e) ≡ one (is_id i x) = ready-is i e ready ∙ ap (λ (k : SocketId). one (is_id i k)) (same-id e.id x id) in
-        omega arith
-
-beside : (p q : Entry → Bool) (xs : List Entry) → ((x : Entry) → one (p x) + one (q x) ≤ 1) → count_by p xs + count_by q xs ≤ length xs
-beside p q [] each = omega arith
-beside p q (x ∷ xs) each =
-    let first : one (p x) + one (q x) ≤ 1 = each x in
-    let rest : count_by p xs + count_by q xs ≤ length xs = beside p q xs each in
-    let at_p : count_by p (x ∷ xs) ≡ one (p x) + count_by p xs = count-cons p x xs in
-    let at_q : count_by q (x ∷ xs) ≡ one (q x) + count_by q xs = count-cons q x xs in
-    omega arith
+    let passes = and_parts (has_id x e) (is_ready e.role) (found_passes (is_ready_as x) xs e there.1) in
+    let rest : List Entry = remove_first (is_ready_as x) xs in
+    omega (
+      arith,
+      as-many ids rest (λ i. grind (arith, nat_tests, each i, count-cons (is_id i) x ids, count-removed (is_ready_as i) (is_ready_as x) xs e there.1, passes.1, same-id e.id x passes.0)),
+      count-removed ready (is_ready_as x) xs e there.1,
+      one-true (is_ready e.role) passes.1,
+    )
 
 -- Those that stay.
 
-carried-over : (h w : SocketsView) → Holds h → IsOrdered w → w.last_id ≡ h.last_id → Follows IsCarried IsNothing h.entries w.entries → ((id : SocketId) → count_by (is_id id) w.offered ≡ count_by (is_ready_as id) w.entries) → Holds w
-carried-over h w holds ordered last f each = record {
-  ordered = ordered;
-  plain = all-kept IsCarried IsPlainEntry IsPlainEntry IsPlainEntry (λ x y p s q. let c = s.1 p in c.plain) h.entries w.entries holds.plain f holds.plain;
-  few = let before : length h.entries ≤ ENTRIES = holds.few in let less : length w.entries ≤ length h.entries = no-longer IsCarried IsPlainEntry h.entries w.entries f in omega arith;
-  unborn = λ id above.
-      let before : count_by (is_waiting_at id) h.entries ≡ 0 = holds.unborn id (subst (λ (n : ℕ). n < id.0) last above) in
-      let less : count_by (is_waiting_at id) w.entries ≤ count_by (is_waiting_at id) h.entries = waiting id in omega arith;
-  backlogs = all-kept IsCarried IsPlainEntry (λ (e : Entry). count_by (is_waiting_at e.id) h.entries ≤ backlog_of e.role) (λ (e : Entry). count_by (is_waiting_at e.id) w.entries ≤ backlog_of e.role)
-      (λ x y p s room.
-      let c = s.1 p in
-      let more_backlog : backlog_of x.role ≤ backlog_of y.role = c.backlog in
-      let before : count_by (is_waiting_at x.id) h.entries ≤ backlog_of x.role = room in
-      let less : count_by (is_waiting_at x.id) w.entries ≤ count_by (is_waiting_at x.id) h.entries = waiting x.id in
-      subst (λ (i : SocketId). count_by (is_waiting_at i) w.entries ≤ backlog_of y.role) (sym s.0) (omega arith))
-      h.entries w.entries holds.plain f holds.backlogs;
+-- what becomes of entries that are plain
+pub with-plain : (Step : Entry → Option Entry → Type 0) (xs ys : List Entry) → AllByRecursion IsPlainEntry xs → Follows Step IsNothing xs ys → Follows (λ x o. IsPlainEntry x × Step x o) IsNothing xs ys
+with-plain Step xs ys plain f = follows_map Step (λ x o. IsPlainEntry x × Step x o) IsNothing IsNothing IsPlainEntry (λ zs none. none) (λ x o p s. (p, s)) xs ys plain f
+
+-- a table in which all wait where they waited, and those offered are those that are ready
+carried-over : (h w : SocketsView) → Holds h → w.last_id ≡ h.last_id → Follows IsCarried IsNothing h.entries w.entries → ((id : SocketId) → count_by (is_id id) w.offered ≡ count_by (is_ready_as id) w.entries) → Holds w
+carried-over h w holds last f each = record {
+  ids = rw last (ascends_followed IsCarried (λ x y s. s.0) 0 h.last_id h.entries w.entries f holds.ids);
+  plain = all_followed Step IsPlainEntry (λ x y s p. (s.1.1 s.0).plain) h.entries w.entries steps holds.plain;
+  few = omega (arith, holds.few, no-longer IsCarried h.entries w.entries f);
+  unborn = λ id above. omega (arith, holds.unborn id (rw last at above), waiting id);
+  backlogs = all_followed Step Fits (λ x y s room. subst (λ (i : SocketId). count_by (is_waiting_at i) w.entries ≤ backlog_of y.role) (sym s.1.0) (omega (arith, room, (s.1.1 s.0).backlog))) h.entries w.entries steps
+      (all-mapped (λ (e : Entry). count_by (is_waiting_at e.id) h.entries ≤ backlog_of e.role) Fits (λ e room. omega (arith, room, waiting e.id)) h.entries holds.backlogs);
   each = each;
 }
   where
+    Step : Entry → Option Entry → Type 0
+    Step x o = IsPlainEntry x × IsCarried x o
+
+    Fits : Entry → Type 0
+    Fits e = count_by (is_waiting_at e.id) w.entries ≤ backlog_of e.role
+
+    steps : Follows Step IsNothing h.entries w.entries
+    steps = with-plain IsCarried h.entries w.entries holds.plain f
+
     waiting : (id : SocketId) → count_by (is_waiting_at id) w.entries ≤ count_by (is_waiting_at id) h.entries
-    waiting id = fewer IsCarried IsPlainEntry (is_waiting_at id) (is_waiting_at id) (λ x y p s waits. let c = s.1 p in c.waits id waits) h.entries w.entries holds.plain f
+    waiting id = fewer Step (is_waiting_at id) (λ x y s waits. (s.1.1 s.0).waits id waits) h.entries w.entries steps
 
-pub weaken : (xs ys : List Entry) → Follows IsCalm IsNothing xs ys → Follows IsCarried IsNothing xs ys
-weaken [] ys f = f
-weaken (x ∷ xs) [] f = (tt, weaken xs [] f.1)
-weaken (x ∷ xs) (y ∷ ys) (inl f) = inl ((f.0.0, λ p. let s = f.0.1 p in s.carries), weaken xs ys f.1)
-weaken (x ∷ xs) (y ∷ ys) (inr f) = inr (tt, weaken xs (y ∷ ys) f.1)
+-- what is ready as before, or no longer, waits where it waited ..
+pub carried-from : (stays : Role → Bool) (h : SocketsView) (ys : List Entry) → Holds h → Follows (IsTurned stays) IsNothing h.entries ys → Follows IsCarried IsNothing h.entries ys
+carried-from stays h ys holds f = follows_map (IsTurned stays) IsCarried IsNothing IsNothing IsPlainEntry (λ zs none. none) carried h.entries ys holds.plain f
+  where
+    carried : (x : Entry) (o : Option Entry) → IsPlainEntry x → IsTurned stays x o → IsCarried x o
+    carried x None p s = tt
+    carried x (Some y) p s = (s.0, λ q. (s.1 q).carries)
 
-calm-count : (xs ys : List Entry) → AllByRecursion IsPlainEntry xs → Follows IsCalm IsNothing xs ys → (i : SocketId) → count_by (is_ready_as i) ys ≡ count_by (is_ready_as i) xs
-calm-count xs ys plain f i =
-    let up : count_by (is_ready_as i) ys ≤ count_by (is_ready_as i) xs =
-    fewer IsCalm IsPlainEntry (is_ready_as i) (is_ready_as i) (λ x y p s ready. let st = s.1 p in sym (ready-same i x y s.0 st.ready) ∙ ready) xs ys plain f in
-    let down : count_by (is_ready_as i) xs ≤ count_by (is_ready_as i) ys =
-    more IsCalm IsPlainEntry (is_ready_as i) (is_ready_as i) (λ x y p s ready. let st = s.1 p in ready-same i x y s.0 st.ready ∙ ready) (λ x p s. and-false (x.id.0 == i.0) (is_ready x.role) (s p)) xs ys plain f in
-    omega arith
+-- .. and ready are then those that stay so
+ready-left : (stays : Role → Bool) (h : SocketsView) (ys : List Entry) → Holds h → Follows (IsTurned stays) IsNothing h.entries ys → (i : SocketId)
+    → count_by (is_ready_as i) ys ≡ count_by (λ (x : Entry). has_id i x && (stays x.role && is_ready x.role)) h.entries
+ready-left stays h ys holds f i =
+    as-many-left (λ x o. IsPlainEntry x × IsTurned stays x o) (λ x. has_id i x && (stays x.role && is_ready x.role)) (is_ready_as i) (λ x y s. rw (s.1.0, (s.1.1 s.0).ready)) (λ x s. and_right (has_id i x) _ (s.1 s.0))
+    h.entries ys (with-plain (IsTurned stays) h.entries ys holds.plain f)
 
-still-holds : (h w : SocketsView) → Holds h → IsOrdered w → IsStill h w → Holds w
-still-holds h w holds ordered s =
-    carried-over h w holds ordered s.last (weaken h.entries w.entries s.follows)
-    (λ i. ap (λ (ids : List SocketId). count_by (is_id i) ids) s.offered ∙ holds.each i ∙ sym (calm-count h.entries w.entries holds.plain s.follows i))
+still-holds : (h w : SocketsView) → Holds h → IsStill h w → Holds w
+still-holds h w holds s = carried-over h w holds s.last (carried-from all h w.entries holds s.follows) (λ i. rw s.offered (holds.each i ∙ sym (ready-left all h w.entries holds s.follows i)))
 
 -- One passes SYN-RECEIVED.
 
-pub room-left : (h : SocketsView) (test : Entry → Bool) (e : Entry) → Holds h → find test h.entries ≡ Some e → is_waking e.role ≡ true → length h.offered < length h.entries
+-- while one is in SYN-RECEIVED there are fewer offered than entries
+room-left : (h : SocketsView) (test : Entry → Bool) (e : Entry) → Holds h → find test h.entries ≡ Some e → is_waking e.role ≡ true → length h.offered < length h.entries
+unfolding one
 room-left h test e holds found waking =
-    let number : length h.offered ≡ count_by (λ (x : Entry). is_ready x.role) h.entries = as-many h.offered h.entries holds.each in
-    let some : 1 ≤ count_by (λ (x : Entry). is_waking x.role) h.entries = count-found test (λ (x : Entry). is_waking x.role) h.entries e found waking in
-    let both : count_by (λ (x : Entry). is_ready x.role) h.entries + count_by (λ (x : Entry). is_waking x.role) h.entries ≤ length h.entries =
-    beside (λ (x : Entry). is_ready x.role) (λ (x : Entry). is_waking x.role) h.entries (λ x. not-both (is_pending x.role) (is_left x.role) (is_in_syn_received x.role)) in
-    omega arith
+    let ready : Entry → Bool = λ x. is_ready x.role in
+    let wakes : Entry → Bool = λ x. is_waking x.role in
+    let any : Entry → Bool = λ x. true in
+    omega (
+      arith,
+      as-many h.offered h.entries holds.each,
+      count-found test wakes h.entries e found waking,
+      count-apart ready wakes any h.entries (λ x. grind (arith, nat_tests)),
+      count_by-le-length any h.entries,
+    )
 
+-- so there is a place for it
 pub passed-offered : (h w : SocketsView) → Holds h → (p : IsPassed h w) → w.offered ≡ h.offered ++ p.e.id ∷ []
-passed-offered h w holds p =
-    let less : length h.offered < length h.entries = room-left h p.test p.e holds p.found p.waking in
-    let few : length h.entries ≤ ENTRIES = holds.few in
-    p.offered ∙ joins p.e.id (other-id (length h.offered) ENTRIES (omega arith))
+passed-offered h w holds p = p.offered ∙ joins p.e.id h.offered (omega (arith, room-left h p.test p.e holds p.found p.waking, holds.few))
   where
-    joins : (id : SocketId) → (ENTRIES == length h.offered) ≡ false → offered_with true id h.offered ≡ h.offered ++ id ∷ []
-    joins id short =
-        let open_place : (length h.offered == ENTRIES) ≡ false = by_test (length h.offered == ENTRIES)
-        (λ full. let n : length h.offered ≡ ENTRIES = eqb-true (length h.offered) ENTRIES full in
-        let bad : (ENTRIES == length h.offered) ≡ true = ap (λ (k : ℕ). ENTRIES == k) n ∙ eqb-same ENTRIES in cc)
-        (λ e. e) in
-        rw open_place
+    joins : (id : SocketId) (ids : List SocketId) → length ids < ENTRIES → offered_with true id ids ≡ ids ++ id ∷ []
+    joins id ids short = rw (ne_eqb (length ids) ENTRIES (λ full. omega arith))
 
-passed-holds : (h w : SocketsView) → Holds h → IsOrdered w → IsPassed h w → Holds w
-passed-holds h w holds ordered p = carried-over h w holds ordered p.last p.follows each
-  where
-    each : (i : SocketId) → count_by (is_id i) w.offered ≡ count_by (is_ready_as i) w.entries
-    each i =
-        let list : count_by (is_id i) w.offered ≡ count_by (is_id i) (h.offered ++ p.e.id ∷ []) = ap (λ (ids : List SocketId). count_by (is_id i) ids) (passed-offered h w holds p) in
-        let joined : count_by (is_id i) (h.offered ++ p.e.id ∷ []) ≡ count_by (is_id i) h.offered + one (is_id i p.e.id) = count-joined (is_id i) h.offered p.e.id in
-        let before : count_by (is_id i) h.offered ≡ count_by (is_ready_as i) h.entries = holds.each i in
-        let next : List Entry = change_first p.test (with_role p.change) h.entries in
-        let table : count_by (is_ready_as i) w.entries ≡ count_by (is_ready_as i) next = ap (λ (es : List Entry). count_by (is_ready_as i) es) p.entries in
-        let changed : count_by (is_ready_as i) next + one (is_ready_as i p.e) ≡ count_by (is_ready_as i) h.entries + one (is_ready_as i (with_role p.change p.e)) = count-changed (is_ready_as i) p.test (with_role p.change) h.entries p.e p.found in
-        let unready : one (is_ready_as i p.e) ≡ 0 = one-false _ (and-false (p.e.id.0 == i.0) (is_ready p.e.role) (waking-unready (is_pending p.e.role) (is_left p.e.role) (is_in_syn_received p.e.role) p.waking)) in
-        let ready : one (is_ready_as i (with_role p.change p.e)) ≡ one (is_id i p.e.id) = ready-is i (with_role p.change p.e) (p.ready (all-found IsPlainEntry p.test h.entries p.e holds.plain p.found)) in
-        omega arith
+passed-each : (h w : SocketsView) → Holds h → IsPassed h w → (i : SocketId) → count_by (is_id i) w.offered ≡ count_by (is_ready_as i) w.entries
+unfolding one
+passed-each h w holds p i =
+    rw (passed-offered h w holds p, p.entries)
+    (grind (
+      arith,
+      nat_tests,
+      holds.each i,
+      count-joined (is_id i) h.offered p.e.id,
+      count-changed (is_ready_as i) p.test (with_role p.change) h.entries p.e p.found,
+      p.waking,
+      p.ready (all-found IsPlainEntry p.test h.entries p.e holds.plain p.found),
+    ))
 
 -- One is accepted.
 
@@ -296,259 +216,144 @@ passed-holds h w holds ordered p = carried-over h w holds ordered p.last p.follo
 pub record IsNext (h : SocketsView) (listener id : SocketId) : Type 0 where
   pub e : Entry
   pub found : find (is_waiting_as listener id) h.entries ≡ Some e
-  pub same : e.id ≡ id
+  pub named : has_id id e ≡ true
+  pub waits : waits_at listener e.role ≡ true
   pub ready : is_ready e.role ≡ true
 
 pub next-ready : (h : SocketsView) → Holds h → (listener id : SocketId) → next_offered h listener ≡ Some id → IsNext h listener id
-next-ready h holds listener id next = record { e = there.0; found = there.1; same = id-is; ready = ready-it }
-  where
-    waits : SocketId → Bool
-    waits = is_waiting_id h.entries listener
+unfolding one
+next-ready h holds listener id next =
+    let waits : SocketId → Bool = is_waiting_id h.entries listener in
+    let there = any-found (is_waiting_as listener id) h.entries (count-any (is_waiting_as listener id) h.entries (found_passes waits h.offered id next)) in
+    let e : Entry = there.0 in
+    let parts = and_parts (has_id id e) (waits_at listener e.role) (found_passes (is_waiting_as listener id) h.entries e there.1) in
+    let other : Entry → Bool = λ y. has_id id y && not (is_ready y.role) in
+    record {
+      e = e;
+      found = there.1;
+      named = parts.0;
+      waits = parts.1;
+      ready = grind (
+        arith,
+        nat_tests,
+        parts.0,
+        count-found waits (is_id id) h.offered id next (eqb-same id.0),
+        holds.each id,
+        count-found (is_waiting_as listener id) other h.entries e there.1,
+        once h holds id (is_ready_as id) other (λ y. grind (arith, nat_tests)),
+      );
+    }
 
-    there : (e : Entry) × (find (is_waiting_as listener id) h.entries ≡ Some e)
-    there = any-found (is_waiting_as listener id) h.entries (count-any (is_waiting_as listener id) h.entries (passes-found waits h.offered id next))
-
-    id-is : (let e : Entry = there.0 in e.id) ≡ id
-    id-is = same-id _ id (and_parts _ _ (passes-found (is_waiting_as listener id) h.entries there.0 there.1)).0
-
-    ready-it : is_ready (let e : Entry = there.0 in e.role) ≡ true
-    ready-it =
-        let e : Entry = there.0 in
-        by_test (is_ready e.role) (λ r. r)
-        (λ unready.
-        let stands : 1 ≤ count_by (is_id id) h.offered = count-found waits (is_id id) h.offered id next (eqb-same id.0) in
-        let same : count_by (is_id id) h.offered ≡ count_by (is_ready_as id) h.entries = holds.each id in
-        let id_passes : has_id id e ≡ true = ap (λ (k : SocketId). k.0 == id.0) id-is ∙ eqb-same id.0 in
-        let it : 1 ≤ count_by (λ (y : Entry). has_id id y && not (is_ready y.role)) h.entries =
-        count-found (is_waiting_as listener id) (λ (y : Entry). has_id id y && not (is_ready y.role)) h.entries e there.1 (and_from _ _ id_passes (of_false _ unready)) in
-        let both : count_by (is_ready_as id) h.entries + count_by (λ (y : Entry). has_id id y && not (is_ready y.role)) h.entries ≤ count_by (has_id id) h.entries =
-        count-apart (is_ready_as id) (λ (y : Entry). has_id id y && not (is_ready y.role)) (has_id id) h.entries (λ y. apart (has_id id y) (is_ready y.role)) in
-        let once : count_by (has_id id) h.entries ≤ 1 = ids-once 0 h.last_id h.entries id holds.ordered.ids in
-        absurd (omega arith))
-
-taken-holds : (h w : SocketsView) → Holds h → IsOrdered w → IsTaken h w → Holds w
-taken-holds h w holds ordered t = carried-over h w holds ordered t.last t.follows each
-  where
-    waits : SocketId → Bool
-    waits = is_waiting_id h.entries t.listener
-
-    n : IsNext h t.listener t.id
-    n = next-ready h holds t.listener t.id t.next
-
-    each : (i : SocketId) → count_by (is_id i) w.offered ≡ count_by (is_ready_as i) w.entries
-    each i =
-        let e : Entry = n.e in
-        let list : count_by (is_id i) w.offered ≡ count_by (is_id i) (remove_first waits h.offered) = ap (λ (ids : List SocketId). count_by (is_id i) ids) t.offered in
-        let removed : count_by (is_id i) h.offered ≡ count_by (is_id i) (remove_first waits h.offered) + one (is_id i t.id) = count-removed (is_id i) waits h.offered t.id t.next in
-        let before : count_by (is_id i) h.offered ≡ count_by (is_ready_as i) h.entries = holds.each i in
-        let next : List Entry = change_first (is_waiting_as t.listener t.id) (with_role role_after_accept) h.entries in
-        let table : count_by (is_ready_as i) w.entries ≡ count_by (is_ready_as i) next = ap (λ (es : List Entry). count_by (is_ready_as i) es) t.entries in
-        let changed : count_by (is_ready_as i) next + one (is_ready_as i e) ≡ count_by (is_ready_as i) h.entries + one (is_ready_as i (with_role role_after_accept e)) = count-changed (is_ready_as i) (is_waiting_as t.listener t.id) (with_role role_after_accept) h.entries e n.found in
-        let ready : one (is_ready_as i e) ≡ one (is_id i t.id) = ready-is i e n.ready ∙ ap (λ (k : SocketId). one (is_id i k)) n.same in
-        let unready : one (is_ready_as i (with_role role_after_accept e)) ≡ 0 = one-false _ (and-false (e.id.0 == i.0) (is_ready (role_after_accept e.role)) (accepted-unready e.role)) in
-        omega arith
+taken-each : (h w : SocketsView) → Holds h → IsTaken h w → (i : SocketId) → count_by (is_id i) w.offered ≡ count_by (is_ready_as i) w.entries
+unfolding one
+taken-each h w holds t i =
+    let n = next-ready h holds t.listener t.id t.next in
+    rw (t.offered, t.entries)
+    (grind (
+      arith,
+      nat_tests,
+      holds.each i,
+      count-removed (is_id i) (is_waiting_id h.entries t.listener) h.offered t.id t.next,
+      count-changed (is_ready_as i) (is_waiting_as t.listener t.id) (with_role role_after_accept) h.entries n.e n.found,
+      n.ready,
+      same-id n.e.id t.id n.named,
+      accepted-unready n.e.role,
+    ))
 
 -- A listener goes.
 
-unwaiting : (s : Entry → Bool) (xs : List Entry) → list_any s xs ≡ false → AllByRecursion (λ (x : Entry). s x ≡ false) xs
-unwaiting s [] none = tt
-unwaiting s (x ∷ xs) none = let parts = or_parts (s x) (list_any s xs) none in (parts.0, unwaiting s xs parts.1)
-
-pub left-follows : (h w : SocketsView) (g : IsLeft h w) → Follows IsCarried IsNothing h.entries w.entries
-left-follows h w g = steps_joined IsCalm (IsForsaken g.listener) IsCarried (λ x gone. tt) joins h.entries g.between w.entries g.first g.then_follows
+left-each : (h w : SocketsView) (g : IsLeft h w) → Holds g.between → (i : SocketId) → count_by (is_id i) w.offered ≡ count_by (is_ready_as i) w.entries
+unfolding one
+left-each h w g m i =
+    rw g.offered (grind (
+      arith,
+      nat_tests,
+      left,
+      count-filtered (λ x. not (is_waiting_id g.between.entries g.listener x)) i g.between.offered,
+      m.each i,
+      count-any waiting g.between.entries,
+      count-no waiting g.between.entries,
+      once g.between m i waiting ready (λ x. grind (arith, nat_tests)),
+      count-either waiting ready (is_ready_as i) g.between.entries (λ x. grind (arith, nat_tests)),
+      count-apart ready (λ x. false) (is_ready_as i) g.between.entries (λ x. grind (arith, nat_tests)),
+    ))
   where
-    joins : (x y : Entry) (o : Option Entry) → IsCalm x (Some y) → IsForsaken g.listener y o → IsCarried x o
-    joins x y None first second = tt
-    joins x y (Some z) first second = (
-      second.0 ∙ first.0,
-      λ p.
-          let a = first.1 p in
-          let b = second.1 a.carries.plain in
-          let more_first : backlog_of x.role ≤ backlog_of y.role = a.carries.backlog in
-          let more_second : backlog_of y.role ≤ backlog_of z.role = b.carries.backlog in
-          record {
-            waits = λ id waits. a.carries.waits id (b.carries.waits id waits);
-            backlog = omega arith;
-            waking = λ waking. a.carries.waking (b.carries.waking waking);
-            plain = b.carries.plain;
-          },
-    )
+    waiting : Entry → Bool
+    waiting = is_waiting_as g.listener i
 
-left-holds : (h w : SocketsView) → Holds h → IsOrdered w → IsLeft h w → Holds w
-left-holds h w holds ordered g = carried-over h w holds ordered g.last (left-follows h w g) each
-  where
-    plain-between : AllByRecursion IsPlainEntry g.between
-    plain-between = all-kept IsCalm IsPlainEntry IsPlainEntry IsPlainEntry (λ x y p s q. let st = s.1 p in st.carries.plain) h.entries g.between holds.plain g.first holds.plain
+    -- ready, and not at this listener
+    ready : Entry → Bool
+    ready x = has_id i x && (not (waits_at g.listener x.role) && is_ready x.role)
 
-    each : (i : SocketId) → count_by (is_id i) w.offered ≡ count_by (is_ready_as i) w.entries
-    each i =
-        ap (λ (ids : List SocketId). count_by (is_id i) ids) g.offered
-        ∙ by_test (is_waiting_id g.between g.listener i) gone stays
-      where
-        through : SocketId → Bool
-        through x = not (is_waiting_id g.between g.listener x)
-
-        same : (x : SocketId) → is_id i x ≡ true → is_waiting_id g.between g.listener x ≡ is_waiting_id g.between g.listener i
-        same x is = ap (λ (k : SocketId). is_waiting_id g.between g.listener k) (same-id x i is)
-
-        gone : is_waiting_id g.between g.listener i ≡ true → count_by (is_id i) (filter through h.offered) ≡ count_by (is_ready_as i) w.entries
-        gone waits =
-            let none : count_by (is_id i) (filter through h.offered) ≡ 0 = filtered-gone (is_id i) through h.offered (λ x is. ap not (same x is ∙ waits)) in
-            let less : count_by (is_ready_as i) w.entries ≤ count_by (λ (x : Entry). has_id i x && not (waits_at g.listener x.role)) g.between =
-            fewer (IsForsaken g.listener) IsPlainEntry (λ (x : Entry). has_id i x && not (waits_at g.listener x.role)) (is_ready_as i)
-            (λ x y p s ready.
-            let parts = and_parts (has_id i y) (is_ready y.role) ready in
-            let withdrawn = s.1 p in
-            and_from _ _ (ap (λ (k : SocketId). k.0 == i.0) (sym s.0) ∙ parts.0)
-            (by_test (waits_at g.listener x.role) (λ at. let unready : is_ready y.role ≡ false = withdrawn.gone at in let bad : true ≡ false = sym parts.1 ∙ unready in cc) (λ elsewhere. of_false _ elsewhere)))
-            g.between w.entries plain-between g.then_follows in
-            let both : count_by (is_waiting_as g.listener i) g.between + count_by (λ (x : Entry). has_id i x && not (waits_at g.listener x.role)) g.between ≤ count_by (has_id i) g.between =
-            count-apart (is_waiting_as g.listener i) (λ (x : Entry). has_id i x && not (waits_at g.listener x.role)) (has_id i) g.between (λ x. apart (has_id i x) (waits_at g.listener x.role)) in
-            let some : 1 ≤ count_by (is_waiting_as g.listener i) g.between = count-any (is_waiting_as g.listener i) g.between waits in
-            let kept : count_by (has_id i) g.between ≤ count_by (has_id i) h.entries =
-            fewer IsCalm IsPlainEntry (has_id i) (has_id i) (λ x y p s is. ap (λ (k : SocketId). k.0 == i.0) (sym s.0) ∙ is) h.entries g.between holds.plain g.first in
-            let once : count_by (has_id i) h.entries ≤ 1 = ids-once 0 h.last_id h.entries i holds.ordered.ids in
-            omega arith
-
-        stays : is_waiting_id g.between g.listener i ≡ false → count_by (is_id i) (filter through h.offered) ≡ count_by (is_ready_as i) w.entries
-        stays elsewhere =
-            let offered : count_by (is_id i) (filter through h.offered) ≡ count_by (is_id i) h.offered = filtered-kept (is_id i) through h.offered (λ x is. ap not (same x is ∙ elsewhere)) in
-            let before : count_by (is_id i) h.offered ≡ count_by (is_ready_as i) h.entries = holds.each i in
-            let first : count_by (is_ready_as i) g.between ≡ count_by (is_ready_as i) h.entries = calm-count h.entries g.between holds.plain g.first i in
-            let P : Entry → Type 0 = λ x. IsPlain x.role × (is_waiting_as g.listener i x ≡ false) in
-            let all : AllByRecursion P g.between = all-with IsPlainEntry (λ (x : Entry). is_waiting_as g.listener i x ≡ false) P (λ x p n. (p, n)) g.between plain-between (unwaiting (is_waiting_as g.listener i) g.between elsewhere) in
-            let up : count_by (is_ready_as i) w.entries ≤ count_by (is_ready_as i) g.between =
-            fewer (IsForsaken g.listener) P (is_ready_as i) (is_ready_as i)
-            (λ x y p s ready.
-            let parts = and_parts (has_id i y) (is_ready y.role) ready in
-            let its : has_id i x ≡ true = ap (λ (k : SocketId). k.0 == i.0) (sym s.0) ∙ parts.0 in
-            let withdrawn = s.1 p.0 in
-            and_from _ _ its (sym (withdrawn.stays (nowhere x its p.1)) ∙ parts.1))
-            g.between w.entries all g.then_follows in
-            let down : count_by (is_ready_as i) g.between ≤ count_by (is_ready_as i) w.entries =
-            more (IsForsaken g.listener) P (is_ready_as i) (is_ready_as i)
-            (λ x y p s ready.
-            let parts = and_parts (has_id i x) (is_ready x.role) ready in
-            let withdrawn = s.1 p.0 in
-            and_from _ _ (ap (λ (k : SocketId). k.0 == i.0) s.0 ∙ parts.0) (withdrawn.stays (nowhere x parts.0 p.1) ∙ parts.1))
-            (λ x p waits. by_test (has_id i x) (λ its. let at : waits_at g.listener x.role ≡ false = nowhere x its p.1 in let bad : true ≡ false = sym waits ∙ at in cc) (λ other. rw other))
-            g.between w.entries all g.then_follows in
-            omega arith
-          where
-            nowhere : (x : Entry) → has_id i x ≡ true → is_waiting_as g.listener i x ≡ false → waits_at g.listener x.role ≡ false
-            nowhere x its not_there = ap (λ (b : Bool). b && waits_at g.listener x.role) (sym its) ∙ not_there
+    left : count_by (is_ready_as i) w.entries ≡ count_by ready g.between.entries
+    left = ready-left (elsewhere g.listener) g.between w.entries m g.then_follows i
 
 -- One joins.
 
-joined-holds : (h w : SocketsView) → Holds h → IsOrdered w → IsJoined h w → Holds w
-joined-holds h w holds ordered j = record {
-  ordered = ordered;
-  plain = subst (λ (es : List Entry). AllByRecursion IsPlainEntry es) (sym j.entries) (all-joined IsPlainEntry h.entries j.new holds.plain j.plain);
-  few = few;
-  unborn = unborn;
-  backlogs = subst (λ (es : List Entry). AllByRecursion (λ (e : Entry). count_by (is_waiting_at e.id) es ≤ backlog_of e.role) es) (sym j.entries) backlogs;
-  each = each;
+joined-holds : (h w : SocketsView) → Holds h → IsJoined h w → Holds w
+joined-holds h w holds j = record {
+  ids = rw (j.last, j.entries) (ascends_joined 0 h.last_id h.entries j.new j.id holds.ids);
+  plain = rw j.entries (all_joined IsPlainEntry h.entries j.new holds.plain j.plain);
+  few = rw j.entries (simp length-append (omega (arith, holds.few, eqb-false (length h.entries) ENTRIES (or_parts _ _ j.place).0)));
+  unborn = λ id above. rw j.entries (let higher : h.last_id < id.0 = omega (arith, j.last) in omega (arith, joined id, holds.unborn id higher, nobody id higher));
+  backlogs = rw j.entries (all_joined Fits h.entries j.new old new);
+  each = λ i. rw (j.offered, j.entries) (omega (arith, holds.each i, count-joined (is_ready_as i) h.entries j.new, one-false (is_ready_as i j.new) (and_right (has_id i j.new) (is_ready j.new.role) j.ready)));
 }
   where
-    few : length w.entries ≤ ENTRIES
-    few =
-        let before : length h.entries ≤ ENTRIES = holds.few in
-        let parts = or_parts _ _ j.place in
-        let long : length w.entries ≡ length (h.entries ++ j.new ∷ []) = ap (λ (es : List Entry). length es) j.entries in
-        let joined : length (h.entries ++ j.new ∷ []) ≡ length h.entries + 1 = simp length-append in
-        by_full (length h.entries) (length w.entries) before (long ∙ joined) parts.0
-      where
-        by_full : (n m : ℕ) → n ≤ ENTRIES → m ≡ n + 1 → (n == ENTRIES) ≡ false → m ≤ ENTRIES
-        by_full n m less is open_place =
-            by_test (ltb n ENTRIES)
-            (λ below. let l : n < ENTRIES = ltb-true n ENTRIES below in omega arith)
-            (λ not_below. let l : ENTRIES ≤ n = ltb-false n ENTRIES not_below in
-            let full : n ≡ ENTRIES = omega arith in
-            let bad : (n == ENTRIES) ≡ true = ap (λ (k : ℕ). k == ENTRIES) full ∙ eqb-same ENTRIES in cc)
+    Fits : Entry → Type 0
+    Fits e = count_by (is_waiting_at e.id) (h.entries ++ j.new ∷ []) ≤ backlog_of e.role
 
-    joined-count : (id : SocketId) → count_by (is_waiting_at id) (h.entries ++ j.new ∷ []) ≡ count_by (is_waiting_at id) h.entries + one (waits_at id j.new.role)
-    joined-count id = count-joined (is_waiting_at id) h.entries j.new
+    joined : (id : SocketId) → count_by (is_waiting_at id) (h.entries ++ j.new ∷ []) ≡ count_by (is_waiting_at id) h.entries + one (waits_at id j.new.role)
+    joined id = count-joined (is_waiting_at id) h.entries j.new
 
     -- it waits at an id that was given
-    given : (id : SocketId) → waits_at id j.new.role ≡ true → id.0 ≤ h.last_id
-    given id waits =
-        let r = j.room id waits in
-        subst (λ (k : SocketId). k.0 ≤ h.last_id) r.3 (all-found (λ (e : Entry). e.id.0 ≤ h.last_id) r.1 h.entries r.0 (given-ids 0 h.last_id h.entries holds.ordered.ids) r.2)
+    nobody : (id : SocketId) → h.last_id < id.0 → one (waits_at id j.new.role) ≡ 0
+    nobody id above =
+        one-false _ (by_test (waits_at id j.new.role)
+        (λ waits. let r = j.room id waits in absurd (omega (arith, (own-found h holds r.test r.listener r.found).1, ap (λ (k : SocketId). k.0) r.same))) (λ elsewhere. elsewhere))
 
-    nobody-new : (id : SocketId) → h.last_id < id.0 → one (waits_at id j.new.role) ≡ 0
-    nobody-new id above = by_test (waits_at id j.new.role) (λ waits. let low : id.0 ≤ h.last_id = given id waits in absurd (omega arith)) (λ elsewhere. one-false _ elsewhere)
+    new : Fits j.new
+    new = let higher : h.last_id < j.new.id.0 = omega (arith, j.id) in omega (arith, joined j.new.id, holds.unborn j.new.id higher, nobody j.new.id higher)
 
-    unborn : (id : SocketId) → w.last_id < id.0 → count_by (is_waiting_at id) w.entries ≡ 0
-    unborn id above =
-        let last : w.last_id ≡ h.last_id + 1 = j.last in
-        let higher : h.last_id < id.0 = omega arith in
-        let before : count_by (is_waiting_at id) h.entries ≡ 0 = holds.unborn id higher in
-        let table : count_by (is_waiting_at id) w.entries ≡ count_by (is_waiting_at id) (h.entries ++ j.new ∷ []) = ap (λ (es : List Entry). count_by (is_waiting_at id) es) j.entries in
-        let whole : count_by (is_waiting_at id) (h.entries ++ j.new ∷ []) ≡ count_by (is_waiting_at id) h.entries + one (waits_at id j.new.role) = joined-count id in
-        let none : one (waits_at id j.new.role) ≡ 0 = nobody-new id higher in
-        omega arith
-
-    backlogs : AllByRecursion (λ (e : Entry). count_by (is_waiting_at e.id) (h.entries ++ j.new ∷ []) ≤ backlog_of e.role) (h.entries ++ j.new ∷ [])
-    backlogs = all-joined (λ (e : Entry). count_by (is_waiting_at e.id) (h.entries ++ j.new ∷ []) ≤ backlog_of e.role) h.entries j.new old new
+    -- at the listener there was room, elsewhere nobody comes to wait
+    old : AllByRecursion Fits h.entries
+    old = all-with (λ (e : Entry). count_by (is_waiting_at e.id) h.entries ≤ backlog_of e.role) (IsOwn 0 h.last_id h.entries) Fits fits h.entries holds.backlogs (all-own 0 h.last_id h.entries holds.ids)
       where
-        new : count_by (is_waiting_at j.new.id) (h.entries ++ j.new ∷ []) ≤ backlog_of j.new.role
-        new =
-            let id : j.new.id.0 ≡ h.last_id + 1 = j.id in
-            let higher : h.last_id < j.new.id.0 = omega arith in
-            let before : count_by (is_waiting_at j.new.id) h.entries ≡ 0 = holds.unborn j.new.id higher in
-            let whole : count_by (is_waiting_at j.new.id) (h.entries ++ j.new ∷ []) ≡ count_by (is_waiting_at j.new.id) h.entries + one (waits_at j.new.id j.new.role) = joined-count j.new.id in
-            let none : one (waits_at j.new.id j.new.role) ≡ 0 = nobody-new j.new.id higher in
-            omega arith
-
-        -- at the listener there was room, elsewhere nobody comes to wait
-        with-room : AllByRecursion (λ (e : Entry). waits_at e.id j.new.role ≡ true → count_by (is_waiting_at e.id) h.entries < backlog_of e.role) h.entries
-        with-room =
-            by_waits h.entries
-            (λ id waits.
-            let r = j.room id waits in
-            subst (λ (k : SocketId). AllByRecursion (λ (e : Entry). e.id.0 ≡ k.0 → count_by (is_waiting_at id) h.entries < backlog_of e.role) h.entries) r.3
-            (of-its-id (λ (e : Entry). count_by (is_waiting_at id) h.entries < backlog_of e.role) r.1 0 h.last_id h.entries r.0 holds.ordered.ids r.2 r.4))
-          where
-            by_waits : (xs : List Entry) → ((id : SocketId) → waits_at id j.new.role ≡ true → AllByRecursion (λ (e : Entry). e.id.0 ≡ id.0 → count_by (is_waiting_at id) h.entries < backlog_of e.role) xs)
-                → AllByRecursion (λ (e : Entry). waits_at e.id j.new.role ≡ true → count_by (is_waiting_at e.id) h.entries < backlog_of e.role) xs
-            by_waits [] rooms = tt
-            by_waits (x ∷ xs) rooms = (λ waits. let r = rooms x.id waits in r.0 refl, by_waits xs (λ id waits. let r = rooms id waits in r.1))
-
-        old : AllByRecursion (λ (e : Entry). count_by (is_waiting_at e.id) (h.entries ++ j.new ∷ []) ≤ backlog_of e.role) h.entries
-        old =
-            all-with (λ (e : Entry). count_by (is_waiting_at e.id) h.entries ≤ backlog_of e.role) (λ (e : Entry). waits_at e.id j.new.role ≡ true → count_by (is_waiting_at e.id) h.entries < backlog_of e.role)
-            (λ (e : Entry). count_by (is_waiting_at e.id) (h.entries ++ j.new ∷ []) ≤ backlog_of e.role)
-            (λ e fits room.
-            let before : count_by (is_waiting_at e.id) h.entries ≤ backlog_of e.role = fits in
-            let whole : count_by (is_waiting_at e.id) (h.entries ++ j.new ∷ []) ≡ count_by (is_waiting_at e.id) h.entries + one (waits_at e.id j.new.role) = joined-count e.id in
+        fits : (e : Entry) → count_by (is_waiting_at e.id) h.entries ≤ backlog_of e.role → IsOwn 0 h.last_id h.entries e → Fits e
+        fits e before own =
             by_test (waits_at e.id j.new.role)
-            (λ waits. let more_room : count_by (is_waiting_at e.id) h.entries < backlog_of e.role = room waits in let most : one (waits_at e.id j.new.role) ≤ 1 = one-most (waits_at e.id j.new.role) in omega arith)
-            (λ elsewhere. let none : one (waits_at e.id j.new.role) ≡ 0 = one-false (waits_at e.id j.new.role) elsewhere in omega arith))
-            h.entries holds.backlogs with-room
-
-    each : (i : SocketId) → count_by (is_id i) w.offered ≡ count_by (is_ready_as i) w.entries
-    each i =
-        let list : count_by (is_id i) w.offered ≡ count_by (is_id i) h.offered = ap (λ (ids : List SocketId). count_by (is_id i) ids) j.offered in
-        let before : count_by (is_id i) h.offered ≡ count_by (is_ready_as i) h.entries = holds.each i in
-        let table : count_by (is_ready_as i) w.entries ≡ count_by (is_ready_as i) (h.entries ++ j.new ∷ []) = ap (λ (es : List Entry). count_by (is_ready_as i) es) j.entries in
-        let joined : count_by (is_ready_as i) (h.entries ++ j.new ∷ []) ≡ count_by (is_ready_as i) h.entries + one (is_ready_as i j.new) = count-joined (is_ready_as i) h.entries j.new in
-        let none : one (is_ready_as i j.new) ≡ 0 = one-false _ (and-false (j.new.id.0 == i.0) (is_ready j.new.role) j.ready) in
-        omega arith
+            (λ waits.
+            let r = j.room e.id waits in
+            let there : find (has_id e.id) h.entries ≡ Some r.listener = subst (λ (k : SocketId). find (has_id k) h.entries ≡ Some r.listener) r.same (own-found h holds r.test r.listener r.found).2 in
+            omega (arith, joined e.id, r.room, ap (λ (x : Entry). backlog_of x.role) (some_same _ r.listener e there own.2), one-true _ waits))
+            (λ elsewhere. omega (arith, before, joined e.id, one-false _ elsewhere))
 
 -- Every table.
 
+-- it holds of a new table ..
 pub fresh-holds : (addr : Addr) → Holds (new_sockets addr)
-fresh-holds addr = record { ordered = fresh_ordered addr; plain = tt; few = omega arith; unborn = λ id above. refl; backlogs = tt; each = λ id. refl }
+fresh-holds addr = record { ids = omega arith; plain = tt; few = omega arith; unborn = λ id above. refl; backlogs = tt; each = λ id. refl }
 
-by-outcome : (h w : SocketsView) → Holds h → IsOrdered w → Outcome h w → Holds w
-by-outcome h w holds ordered (Still s) = still-holds h w holds ordered s
-by-outcome h w holds ordered (Joined j) = joined-holds h w holds ordered j
-by-outcome h w holds ordered (Passed p) = passed-holds h w holds ordered p
-by-outcome h w holds ordered (Taken t) = taken-holds h w holds ordered t
-by-outcome h w holds ordered (Left g) = left-holds h w holds ordered g
+-- an event is a step of the table or two, in which those that stay wait nowhere else, or an entry joins
+pub by-steps : (P : SocketsView → Type 0) → ((h w : SocketsView) → Holds h → w.last_id ≡ h.last_id → Follows IsCarried IsNothing h.entries w.entries → P h → P w) → ((h w : SocketsView) → IsJoined h w → P h → P w)
+    → (h w : SocketsView) → Holds h → Outcome h w → P h → P w
+by-steps P carried joined h w holds (Still s) p = carried h w holds s.last (carried-from all h w.entries holds s.follows) p
+by-steps P carried joined h w holds (Joined j) p = joined h w j p
+by-steps P carried joined h w holds (Passed s) p = carried h w holds s.last s.follows p
+by-steps P carried joined h w holds (Taken s) p = carried h w holds s.last s.follows p
+by-steps P carried joined h w holds (Left g) p =
+    let m = still-holds h g.between holds g.first in carried g.between w m g.last (carried-from (elsewhere g.listener) g.between w.entries m g.then_follows) (carried h g.between holds g.first.last (carried-from all h g.between.entries holds g.first.follows) p)
+
+-- .. and after every event
+by-outcome : (h w : SocketsView) → Holds h → Outcome h w → Holds w
+by-outcome h w holds (Joined j) = joined-holds h w holds j
+by-outcome h w holds (Still s) = still-holds h w holds s
+by-outcome h w holds (Passed p) = carried-over h w holds p.last p.follows (passed-each h w holds p)
+by-outcome h w holds (Taken t) = carried-over h w holds t.last t.follows (taken-each h w holds t)
+by-outcome h w holds (Left g) = let m = still-holds h g.between holds g.first in carried-over g.between w m g.last (carried-from (elsewhere g.listener) g.between w.entries m g.then_follows) (left-each h w g m)
 
 pub event-holds : (h : SocketsView) (e : Event) → IsAllowed h e → Holds h → Holds (after_event h e)
-event-holds h e allowed holds = by-outcome h (after_event h e) holds (stays_ordered h e allowed holds.ordered) (outcome h e allowed)
+event-holds h e allowed holds = by-outcome h (after_event h e) holds (outcome h e allowed)
 
 pub all-hold : (h : SocketsView) (events : List Event) → AreAllowed h events → Holds h → Holds (after_events h events)
 all-hold h [] allowed holds = holds
@@ -557,19 +362,29 @@ all-hold h (e ∷ rest) allowed holds = all-hold (after_event h e) rest allowed.
 pub reached-holds : (h : SocketsView) → IsReached h → Holds h
 reached-holds h r = subst Holds r.is (all-hold (new_sockets r.addr) r.events r.allowed (fresh-holds r.addr))
 
+-- What becomes of those offered.
+
+-- some are left out, or one that was in SYN-RECEIVED joins at the end
+pub data Turns (h w : SocketsView) : Type 0 where
+  Fewer : IsPart w.offered h.offered → Turns h w
+  Last : (id : SocketId) → 1 ≤ count_by (is_waking_as id) h.entries → w.offered ≡ h.offered ++ id ∷ [] → Turns h w
+
+-- what an event makes of the list
+pub turns : (h w : SocketsView) → Holds h → Outcome h w → Turns h w
+turns h w holds (Still s) = Fewer (rw s.offered (part-whole h.offered))
+turns h w holds (Joined j) = Fewer (rw j.offered (part-whole h.offered))
+turns h w holds (Taken t) = Fewer (rw t.offered (part-removed (is_waiting_id h.entries t.listener) h.offered))
+turns h w holds (Left g) = Fewer (rw (g.offered, g.first.offered) (part-filtered (λ x. not (is_waiting_id g.between.entries g.listener x)) h.offered))
+turns h w holds (Passed p) = Last p.e.id (count-found p.test (is_waking_as p.e.id) h.entries p.e p.found (and_from _ _ (eqb-same p.e.id.0) p.waking)) (passed-offered h w holds p)
+
 -- The laws.
 
 pub backlogs-kept : (h : SocketsView) → IsReached h → KeepsBacklogs h
-backlogs-kept h r = let holds = reached-holds h r in holds.backlogs
+backlogs-kept h r = (reached-holds h r).backlogs
 
 -- none stands twice among those offered
 pub once-offered : (h : SocketsView) → Holds h → (i : SocketId) → count_by (is_id i) h.offered ≤ 1
-once-offered h holds i =
-    let same : count_by (is_id i) h.offered ≡ count_by (is_ready_as i) h.entries = holds.each i in
-    let less : count_by (is_ready_as i) h.entries + count_by (λ (y : Entry). has_id i y && not (is_ready y.role)) h.entries ≤ count_by (has_id i) h.entries =
-    count-apart (is_ready_as i) (λ (y : Entry). has_id i y && not (is_ready y.role)) (has_id i) h.entries (λ y. apart (has_id i y) (is_ready y.role)) in
-    let ids : count_by (has_id i) h.entries ≤ 1 = ids-once 0 h.last_id h.entries i holds.ordered.ids in
-    omega arith
+once-offered h holds i = omega (arith, holds.each i, ready-or-waking h holds i)
 
 pub ready-offered : (h : SocketsView) → IsReached h → OffersReady h
 ready-offered h r =
@@ -579,6 +394,6 @@ ready-offered h r =
       each = holds.each;
       once = once-offered h holds;
       number = number;
-      within = let most : count_by (λ (e : Entry). is_ready e.role) h.entries ≤ length h.entries = count_by-le-length (λ (e : Entry). is_ready e.role) h.entries in omega arith;
+      within = omega (arith, count_by-le-length (λ (e : Entry). is_ready e.role) h.entries);
       few = holds.few;
     }
