@@ -1,7 +1,6 @@
 -- What goes out for the first entry for which a frame can.
-use Rattle.std.proofs.Common.{◌≡◌, ℕ, ◌+◌, ◌-◌, ◌*◌, ◌≤◌, ◌<◌, ◌&&◌, min, Bool, true, false, cond, List, [], ◌∷◌, ◌++◌, length, drop, slice_range, get_or, Option, Some, None, is_some, option_map, IfSome, refl, sym, ◌∙◌, ap, subst, length-take}
+use Rattle.std.proofs.Common.{◌≡◌, ℕ, ◌+◌, ◌-◌, ◌*◌, ◌≤◌, ◌<◌, ◌&&◌, min, Bool, true, false, cond, List, [], ◌∷◌, ◌++◌, length, drop, slice_range, slice_get, get_or, Option, Some, None, is_some, option_map, IfSome, refl, sym, ◌∙◌, ap, subst, length-take}
 use Rattle.std.specs.List.{find, position, AllWithin}
-use Rattle.std.proofs.lemmas.List.Quantifiers.{position-Some}
 use Rattle.std.proofs.lemmas.Option.{slice_get-get_or}
 use Rattle.std.proofs.lemmas.List.{length-drop}
 use Rattle.ether.specs.declared.mac.Mac.{Mac}
@@ -22,9 +21,11 @@ use Rattle.sockets.specs.declared.role.Role.{Role}
 use Rattle.sockets.specs.declared.role.Role.TheVariants.{Idle, Listener, Connected, Datagrams}
 use Rattle.sockets.specs.declared.emission.Emitted.{Emitted}
 use Rattle.sockets.specs.declared.emission.Emitted.TheVariants as emitted
-use Rattle.sockets.specs.Entries.{due_peer, due_emitted, has_due, is_due, sends, due_octets, due_front, len_of, source_of, IsDueAt}
+use Rattle.sockets.specs.declared.emission.Outgoing.{Outgoing}
+use Rattle.sockets.specs.Entries.{due_of, due_peer, due_emitted, has_due, is_due, sends, due_octets, due_front, len_of, source_of}
 use Rattle.sockets.specs.Emission.{emitted, emitted_octets, emitted_front}
 use Rattle.sockets.specs.SocketsView.{SocketsView}
+use Rattle.sockets.proofs.Emitting.{peer_of_due, due_outgoing}
 use Rattle.sockets.proofs.Firsts.{find-position, find-position_none, position-from_fails, position-none_passes}
 use Rattle.udp.specs.declared.cutting.Part.{Part}
 use Rattle.udp.specs.Datagram.{spelling}
@@ -32,7 +33,7 @@ use Rattle.udp.specs.Fragments.{fragment, part_of}
 use Rattle.udp.proofs.Answering.{sent_len}
 use Rattle.udp.proofs.Covering.{part_is}
 use Rattle.udp_socket.specs.Emission.{datagram_of, fragment_of, head_of as datagram_head, octets_of as part_octets}
-use Rattle.udp_socket.specs.SocketView.{Outgoing}
+use Rattle.udp_socket.specs.SocketView.{Outgoing as OutDatagram}
 use borrow.Rule.Slice.PartMut.{mid_of, put_mid}
 use Rattle.host.specs.HostView.{HostView}
 use Rattle.host.specs.declared.emission.Plan.{Plan}
@@ -56,17 +57,6 @@ pub sends_by : (h : HostView) (now : Moment) (e : Entry) (peer : Endpoint) → d
 sends_by h now e peer is =
     ap (λ b. b && goes_out (way_to h now (due_peer e.role))) (due-peer e.role peer is) ∙ ap (λ p. goes_out (way_to h now p)) is
 
--- the first entry that sends has something due
-pub due_at : (goes : Entry → Bool) (entries : List Entry) (place : ℕ) → position (sends goes) entries ≡ Some place → IsDueAt entries place
-due_at goes [] place e = cc
-due_at goes (x ∷ xs) place e =
-    let at = position-Some (sends goes) (x ∷ xs) place x e in
-    (get_or (x ∷ xs) place x, slice_get-get_or (x ∷ xs) place x at.0, first_of (is_due (get_or (x ∷ xs) place x)) (goes (get_or (x ∷ xs) place x)) at.1)
-  where
-    first_of : (a b : Bool) → (a && b) ≡ true → a ≡ true
-    first_of true b is = refl
-    first_of false b is = cc
-
 -- what goes out for it, by its peer
 table_from : (h : HostView) (now : Moment) (e : Entry) (peer : Option Endpoint) → find (sends (goes_out_from h now)) h.sockets.entries ≡ Some e → due_peer e.role ≡ peer
     → table_emission h now ≡ emission_to h now peer
@@ -85,7 +75,7 @@ none_from h now none = ap (emission_from h now) (find-position_none (sends (goes
 -- The octets of what goes out, as many as are said, are at the front.
 
 -- a part has the octets that its fragment tells
-part_len : (source : Endpoint) (o : Outgoing) (number : ℕ) → length (part_octets source o number) ≡ (let f = fragment_of o number in f.len)
+part_len : (source : Endpoint) (o : OutDatagram) (number : ℕ) → length (part_octets source o number) ≡ (let f = fragment_of o number in f.len)
 part_len source o number =
     let payload : List ℕ = spelling (datagram_of source o) in
     let len : length payload ≡ 8 + length o.octets = sent_len source.addr o.peer.addr (datagram_head source o) o.octets in
@@ -122,7 +112,7 @@ role_octets_len own (Connected c listener) what e = by_due (first_due c) refl e
         ap length octets ∙ sent_octets_len c.local.addr c.peer.addr (head_of c due) (octets_of c due) ∙ ap len_of same
 role_octets_len own (Datagrams bound socket) what e = by_outbox socket.outbox refl
   where
-    by_outbox : (out : List Outgoing) → socket.outbox ≡ out → length (due_octets own (Datagrams bound socket)) ≡ len_of what
+    by_outbox : (out : List OutDatagram) → socket.outbox ≡ out → length (due_octets own (Datagrams bound socket)) ≡ len_of what
     by_outbox [] at =
         let none : due_emitted (Datagrams bound socket) ≡ None = rw at refl in
         let no = sym none ∙ e in cc
@@ -155,65 +145,57 @@ framed_out h goes mac to out written after what m len told front fits past is =
 
 -- What is planned for an entry.
 
--- nothing where it doesn't send
-pub plan-none : (h : HostView) (now : Moment) (place : ℕ) (e : Entry) → plan_to h now place (due_peer e.role) ≡ None → sends (goes_out_from h now) e ≡ false
-plan-none h now place e none = by_peer (due_peer e.role) refl none
+-- to whom it goes
+peer_due : (e : Entry) (o : Option (Endpoint × Outgoing)) → due_of e.role ≡ o → due_peer e.role ≡ option_map (λ due. due.0) o
+peer_due e o is = peer_of_due e.role ∙ ap (λ (d : Option (Endpoint × Outgoing)). option_map (λ due. due.0) d) is
+
+-- it sends where something is
+plan_sends : (h : HostView) (now : Moment) (place : ℕ) (e : Entry) → sends (goes_out_from h now) e ≡ is_some (plan_to h now place (due_of e.role))
+plan_sends h now place e = by_due (due_of e.role) refl
   where
     no_more : (b : Bool) → (b && false) ≡ false
     no_more true = refl
     no_more false = refl
 
-    by_way : (peer : Endpoint) → due_peer e.role ≡ Some peer → (w : Way) → way h.interface now peer.addr ≡ w → plan_by place peer.addr w ≡ None → sends (goes_out_from h now) e ≡ false
-    by_way peer is (To mac) goes none = cc
-    by_way peer is (Ask hop) goes none = cc
-    by_way peer is Waits goes none = sends_by h now e peer is ∙ ap goes_out goes
+    by_way : (what : Outgoing) (to : Addr) (w : Way) → goes_out w ≡ is_some (plan_by place what to w)
+    by_way what to (To mac) = refl
+    by_way what to (Ask hop) = refl
+    by_way what to Waits = refl
 
-    by_peer : (o : Option Endpoint) → due_peer e.role ≡ o → plan_to h now place o ≡ None → sends (goes_out_from h now) e ≡ false
-    by_peer None is none = ap (λ p. is_due e && goes_out (way_to h now p)) is ∙ no_more (is_due e)
-    by_peer (Some peer) is none = by_way peer is (way h.interface now peer.addr) refl none
-
--- it sends where something is
-plan-sends : (h : HostView) (now : Moment) (place : ℕ) (e : Entry) (p : Plan) → plan_to h now place (due_peer e.role) ≡ Some p → sends (goes_out_from h now) e ≡ true
-plan-sends h now place e p some = by_peer (due_peer e.role) refl some
-  where
-    by_way : (peer : Endpoint) → due_peer e.role ≡ Some peer → (w : Way) → way h.interface now peer.addr ≡ w → plan_by place peer.addr w ≡ Some p → sends (goes_out_from h now) e ≡ true
-    by_way peer is (To mac) goes some = sends_by h now e peer is ∙ ap goes_out goes
-    by_way peer is (Ask hop) goes some = sends_by h now e peer is ∙ ap goes_out goes
-    by_way peer is Waits goes some = cc
-
-    by_peer : (o : Option Endpoint) → due_peer e.role ≡ o → plan_to h now place o ≡ Some p → sends (goes_out_from h now) e ≡ true
-    by_peer None is some = cc
-    by_peer (Some peer) is some = by_way peer is (way h.interface now peer.addr) refl some
+    by_due : (o : Option (Endpoint × Outgoing)) → due_of e.role ≡ o → sends (goes_out_from h now) e ≡ is_some (plan_to h now place o)
+    by_due None is = ap (λ p. is_due e && goes_out (way_to h now p)) (peer_due e None is) ∙ no_more (is_due e)
+    by_due (Some due) is = sends_by h now e due.0 (peer_due e (Some due) is) ∙ by_way due.1 due.0.addr (way h.interface now due.0.addr)
 
 -- what goes out then is what is planned, of the first entry that sends
-planned_to : (h : HostView) (now : Moment) (place : ℕ) (peer : Option Endpoint) (p : Plan) → plan_to h now place peer ≡ Some p → position (sends (goes_out_from h now)) h.sockets.entries ≡ Some place → (emission_to h now peer ≡ planned p) × IsFirst h now p
-planned_to h now place None p some first = cc
-planned_to h now place (Some peer) p some first = by_way (way h.interface now peer.addr) refl some
+planned_to : (h : HostView) (now : Moment) (place : ℕ) (x : Entry) (due : Option (Endpoint × Outgoing)) (p : Plan) → plan_to h now place due ≡ Some p → position (sends (goes_out_from h now)) h.sockets.entries ≡ Some place
+    → slice_get h.sockets.entries place ≡ Some x → due_of x.role ≡ due → (emission_to h now (option_map (λ d. d.0) due) ≡ planned p) × IsFirst h now p
+planned_to h now place x None p some first there is = cc
+planned_to h now place x (Some due) p some first there is = by_way (way h.interface now due.0.addr) refl some
   where
-    by_way : (w : Way) → way h.interface now peer.addr ≡ w → plan_by place peer.addr w ≡ Some p → (emission_by peer.addr w ≡ planned p) × IsFirst h now p
-    by_way (To mac) goes is =
-        let same : plan.Send place mac peer.addr ≡ p = cc in
-        (ap planned same, subst (IsFirst h now) same first)
-    by_way (Ask hop) goes is =
+    by_way : (w : Way) → way h.interface now due.0.addr ≡ w → plan_by place due.1 due.0.addr w ≡ Some p → (emission_by due.0.addr w ≡ planned p) × IsFirst h now p
+    by_way (To mac) goes told =
+        let same : plan.Send place due.1 mac due.0.addr ≡ p = cc in
+        (ap planned same, subst (IsFirst h now) same (first, (x, there, due_outgoing x.role due is)))
+    by_way (Ask hop) goes told =
         let same : plan.Ask hop ≡ p = cc in
-        (ap planned same, subst (IsFirst h now) same (asks h.interface now peer.addr hop goes))
-    by_way Waits goes is = cc
+        (ap planned same, subst (IsFirst h now) same (asks h.interface now due.0.addr hop goes))
+    by_way Waits goes told = cc
 
 -- the entry in this place is the first that sends
 pub plan_at : (h : HostView) (now : Moment) (place : ℕ) (x : Entry) (entries : List Entry) (o : Option Plan) → entries ≡ h.sockets.entries → place < length entries → AllWithin (λ (e : Entry). sends (goes_out_from h now) e ≡ false) entries 0 place → x ≡ get_or entries place x
-    → o ≡ plan_to h now place (due_peer x.role) → is_some o ≡ true → (table_emission h now ≡ planned_or_nothing o) × IfSome o (IsFirst h now)
+    → o ≡ plan_to h now place (due_of x.role) → is_some o ≡ true → (table_emission h now ≡ planned_or_nothing o) × IfSome o (IsFirst h now)
 plan_at h now place x entries None same within fails at is some = cc
 plan_at h now place x entries (Some p) same within fails at is some =
-    let goes : sends (goes_out_from h now) x ≡ true = plan-sends h now place x p (sym is) in
-    let there : position (sends (goes_out_from h now)) entries ≡ Some place = position-from_fails (sends (goes_out_from h now)) entries place x within fails at goes in
-    let first : position (sends (goes_out_from h now)) h.sockets.entries ≡ Some place = ap (λ (l : List Entry). position (sends (goes_out_from h now)) l) (sym same) ∙ there in
-    let planned_is = planned_to h now place (due_peer x.role) p (sym is) first in
-    (entry_from h now place x entries (due_peer x.role) first same at refl ∙ planned_is.0, planned_is.1)
+    let goes : sends (goes_out_from h now) x ≡ true = plan_sends h now place x ∙ ap (λ (o : Option Plan). is_some o) (sym is) in
+    let passes : position (sends (goes_out_from h now)) entries ≡ Some place = position-from_fails (sends (goes_out_from h now)) entries place x within fails at goes in
+    let first : position (sends (goes_out_from h now)) h.sockets.entries ≡ Some place = ap (λ (l : List Entry). position (sends (goes_out_from h now)) l) (sym same) ∙ passes in
+    let there : slice_get h.sockets.entries place ≡ Some x = ap (λ (l : List Entry). slice_get l place) (sym same) ∙ slice_get-get_or entries place x within ∙ ap Some (sym at) in
+    let planned_is = planned_to h now place x (due_of x.role) p (sym is) first there refl in
+    (entry_from h now place x entries (option_map (λ d. d.0) (due_of x.role)) first same at (peer_of_due x.role) ∙ planned_is.0, planned_is.1)
 
 -- the entry in this place doesn't send
-pub plan_missed : (h : HostView) (now : Moment) (place : ℕ) (x : Entry) (o : Option Plan) → o ≡ plan_to h now place (due_peer x.role) → is_some o ≡ false → sends (goes_out_from h now) x ≡ false
-plan_missed h now place x None is missed = plan-none h now place x (sym is)
-plan_missed h now place x (Some p) is missed = cc
+pub plan_missed : (h : HostView) (now : Moment) (place : ℕ) (x : Entry) (o : Option Plan) → o ≡ plan_to h now place (due_of x.role) → is_some o ≡ false → sends (goes_out_from h now) x ≡ false
+plan_missed h now place x o is missed = plan_sends h now place x ∙ ap (λ (p : Option Plan). is_some p) (sym is) ∙ missed
 
 -- no entry sends
 pub plan_past : (h : HostView) (now : Moment) (entries : List Entry) → entries ≡ h.sockets.entries → AllWithin (λ (e : Entry). sends (goes_out_from h now) e ≡ false) entries 0 (length entries) → table_emission h now ≡ Nothing

@@ -7,7 +7,8 @@ use Rattle.arp.specs.Cache.{may_ask}
 use Rattle.interface.specs.declared.way.Way.{Way}
 use Rattle.interface.specs.declared.way.Way.TheVariants.{To, Ask, Waits}
 use Rattle.interface.specs.Ways.{way}
-use Rattle.sockets.specs.Entries.{sends}
+use Rattle.sockets.specs.Entries.{sends, IsDueAt}
+use Rattle.sockets.specs.declared.emission.Outgoing.{Outgoing}
 use Rattle.host.specs.HostView.{HostView}
 use Rattle.host.specs.Emission.{Emission, Sends, Asks, Nothing, goes_out_from}
 use Rattle.host.specs.declared.emission.Plan.{Plan}
@@ -15,24 +16,25 @@ use Rattle.host.specs.declared.emission.Plan.TheVariants as plan
 
 -- what goes out by it
 abbrev pub planned : Plan → Emission
-planned (plan.Send place mac to) = Sends mac to
+planned (plan.Send place outgoing mac to) = Sends mac to
 planned (plan.Ask hop) = Asks hop
 
 abbrev pub planned_or_nothing : Option Plan → Emission
 planned_or_nothing None = Nothing
 planned_or_nothing (Some p) = planned p
 
--- what can go out for the entry in this place, which has something due to this address or peer
-abbrev pub plan_by : ℕ → Addr → Way → Option Plan
-plan_by place to (To mac) = Some (plan.Send place mac to)
-plan_by place to (Ask hop) = Some (plan.Ask hop)
-plan_by place to Waits = None
+-- what can go out for the entry in this place, which has this to send to this address
+abbrev pub plan_by : ℕ → Outgoing → Addr → Way → Option Plan
+plan_by place outgoing to (To mac) = Some (plan.Send place outgoing mac to)
+plan_by place outgoing to (Ask hop) = Some (plan.Ask hop)
+plan_by place outgoing to Waits = None
 
-abbrev pub plan_to : HostView → Moment → ℕ → Option Endpoint → Option Plan
+-- or which has this due, where something is
+abbrev pub plan_to : HostView → Moment → ℕ → Option (Endpoint × Outgoing) → Option Plan
 plan_to h moment place None = None
-plan_to h moment place (Some peer) = plan_by place peer.addr (way h.interface moment peer.addr)
+plan_to h moment place (Some due) = plan_by place due.1 due.0.addr (way h.interface moment due.0.addr)
 
--- an entry in whose place something goes out is the first for which a frame can, and a request may go out that does
+-- an entry in whose place something goes out is the first for which a frame can, and has just that to send; and a request may go out that does
 abbrev pub IsFirst : HostView → Moment → Plan → Type 0
-IsFirst h moment (plan.Send place mac to) = position (sends (goes_out_from h moment)) h.sockets.entries ≡ Some place
+IsFirst h moment (plan.Send place outgoing mac to) = (position (sends (goes_out_from h moment)) h.sockets.entries ≡ Some place) × IsDueAt h.sockets.entries place outgoing
 IsFirst h moment (plan.Ask hop) = may_ask moment hop h.interface.cache.asked ≡ true

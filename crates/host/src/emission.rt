@@ -1,7 +1,7 @@
 //! The frames that go out.
 
 ghost use Rattle.std.specs.Prelude.{◌≡◌, ◌≤◌, ◌++◌, drop, position, IfSome, Some};
-ghost use Rattle.sockets.specs.Entries.{due_peer, sends};
+ghost use Rattle.sockets.specs.Entries.{due_of, sends, IsDueAt};
 ghost use Rattle.host.specs.Emission.{Sends};
 
 use crate::host::Host;
@@ -10,15 +10,22 @@ use ether::{FRAME_MAX, Mac};
 use frames::HEADS;
 use interface::Way;
 use ipv4::Addr;
-use sockets::{Emitted, Entry};
+use sockets::{Emitted, Entry, Outgoing};
 
 /// What goes out for the first entry for which a frame can.
 #[derive(Clone, Copy)]
 pub(crate) enum Plan {
-    /// What the entry in this place has due, to this MAC and for this address.
-    Send { place: usize, mac: Mac, to: Addr },
+    /// This, of the entry in this place, to this MAC and for this address.
+    Send {
+        place: usize,
+        outgoing: Outgoing,
+        mac: Mac,
+        to: Addr,
+    },
     /// The request for this hop.
-    Ask { hop: Addr },
+    Ask {
+        hop: Addr,
+    },
 }
 
 impl Host {
@@ -65,28 +72,38 @@ impl Host {
         ensures frame { out.new ≡ octets_of self.old now (planned plan) ++ drop result out.old }
     {
         match plan {
-            Plan::Send { place, mac, to } => self.emit_entry(place, mac, to, now, out),
+            Plan::Send {
+                place,
+                outgoing,
+                mac,
+                to,
+            } => self.emit_entry(place, outgoing, mac, to, now, out),
             Plan::Ask { hop } => self.interface.emit_request(now, hop, out),
         }
     }
 
-    /// Writes the frame of what the entry in this place has due, the first for which a frame can go out now, for an address and to the
+    /// Writes the frame of what the entry in this place has to send, the first for which a frame can go out now, for an address and to the
     /// interface with this MAC, and answers its length, 60 to 1,514 octets.
     fn emit_entry(
         &mut self,
         place: usize,
+        outgoing: Outgoing,
         mac: Mac,
         to: Addr,
         now: Moment,
         out: &mut [u8; FRAME_MAX],
     ) -> usize
         requires first { position (sends (goes_out_from self.old now)) self.old.sockets.entries ≡ Some place }
+        requires due { IsDueAt self.old.sockets.entries place outgoing }
         ensures len { Some result ≡ len_of self.old now (Sends mac to) }
         ensures bounds { (60 ≤ result) × (result ≤ FRAME_MAX) }
         ensures after { self.new ≡ left_by self.old now (Sends mac to) }
         ensures frame { out.new ≡ octets_of self.old now (Sends mac to) ++ drop result out.old }
     {
-        match self.sockets.emit_at(place, now, &mut out[HEADS..]) {
+        match self
+            .sockets
+            .emit_at(place, outgoing, now, &mut out[HEADS..])
+        {
             Emitted::Segment(len) => self.interface.emit_segment(mac, to, len, out),
             Emitted::Datagram(part) => self.interface.emit_part(mac, to, part, out),
         }
@@ -109,12 +126,13 @@ impl Host {
 
     /// What can go out for the entry in this place.
     fn plan_for(&self, now: Moment, place: usize, entry: &Entry) -> Option<Plan>
-        ensures { result ≡ plan_to self.now now place (due_peer entry.now.role) }
+        ensures { result ≡ plan_to self.now now place (due_of entry.now.role) }
     {
-        let peer = entry.due_peer()?;
+        let (peer, outgoing) = entry.due()?;
         match self.interface.way(now, peer.addr) {
             Way::To(mac) => Some(Plan::Send {
                 place,
+                outgoing,
                 mac,
                 to: peer.addr,
             }),

@@ -1,6 +1,6 @@
 -- The entries of the table: sockets, and connections that no socket names, not yet or no longer.
 use Rattle.std.specs.List.{retain_mut, list_any}
-use Rattle.std.specs.Prelude.{◌≡◌, ℕ, Bool, true, false, ◌&&◌, ◌||◌, not, ◌==◌, [], if◌then◌else◌, List, ◌++◌, drop, Option, Some, None, option_map, is_some, slice_get}
+use Rattle.std.specs.Prelude.{◌≡◌, ◌<◌, length, ℕ, Bool, true, false, ◌&&◌, ◌||◌, not, ◌==◌, [], if◌then◌else◌, List, ◌++◌, drop, Option, Some, None, option_map, is_some, slice_get}
 use Rattle.ipv4.specs.declared.addr.Addr.{Addr}
 use Rattle.ipv4.specs.declared.addr.Endpoint.{Endpoint}
 use Rattle.ipv4.specs.declared.addr.Pair.{Pair}
@@ -30,6 +30,8 @@ use Rattle.sockets.specs.declared.state.SocketState.{SocketState}
 use Rattle.sockets.specs.declared.state.SocketState.TheVariants.{Datagram, Stream}
 use Rattle.sockets.specs.declared.emission.Emitted.{Emitted}
 use Rattle.sockets.specs.declared.emission.Emitted.TheVariants as emitted
+use Rattle.sockets.specs.declared.emission.Outgoing.{Outgoing}
+use Rattle.sockets.specs.declared.emission.Outgoing.TheVariants as outgoing
 use Rattle.sockets.specs.Lists.{change_first, remove_first}
 
 -- what a connection makes of itself, and any other role stays
@@ -135,6 +137,22 @@ due_peer (Datagrams bound socket) = datagrams_out.due_peer socket.outbox
 due_peer (Listener local backlog) = None
 due_peer (Idle buffers bound) = None
 
+-- to whom, and what it is: a segment, or the next part of the first datagram
+abbrev pub due_of : Role → Option (Endpoint × Outgoing)
+due_of (Connected c listener) = option_map (λ due. (c.peer, outgoing.Segment due)) (first_due c)
+due_of (Datagrams bound socket) = option_map (λ peer. (peer, outgoing.Datagram)) (datagrams_out.due_peer socket.outbox)
+due_of (Listener local backlog) = None
+due_of (Idle buffers bound) = None
+
+-- it has just this to send
+abbrev pub HasOutgoing : Role → Outgoing → Type 0
+HasOutgoing (Connected c listener) (outgoing.Segment due) = first_due c ≡ Some due
+HasOutgoing (Connected c listener) outgoing.Datagram = ⊥
+HasOutgoing (Datagrams bound socket) (outgoing.Segment due) = ⊥
+HasOutgoing (Datagrams bound socket) outgoing.Datagram = 0 < length socket.outbox
+HasOutgoing (Listener local backlog) what = ⊥
+HasOutgoing (Idle buffers bound) what = ⊥
+
 -- to whom the reset of an abort is owed, and since when it waits to go out
 abbrev pub reset_wait : Role → Option (Endpoint × Moment)
 reset_wait role = in_connection None (λ c. option_map (λ since. (c.peer, since)) (reset_since c)) role
@@ -195,9 +213,9 @@ is_due e = has_due e.role
 abbrev pub sends : (Entry → Bool) → Entry → Bool
 sends goes e = is_due e && goes e
 
--- the entry in this place has a segment or a datagram due
-abbrev pub IsDueAt : List Entry → ℕ → Type 0
-IsDueAt entries place = (e : Entry) × (slice_get entries place ≡ Some e) × (is_due e ≡ true)
+-- the entry in this place has just this to send
+abbrev pub IsDueAt : List Entry → ℕ → Outgoing → Type 0
+IsDueAt entries place what = (e : Entry) × (slice_get entries place ≡ Some e) × HasOutgoing e.role what
 
 -- New entries.
 

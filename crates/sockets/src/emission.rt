@@ -8,8 +8,17 @@ ghost use Rattle.sockets.specs.Entries.{sends, IsDueAt};
 use crate::sockets::Sockets;
 use crate::table;
 use clock::Moment;
-use tcp_state::MOST_SEGMENT;
+use tcp_state::{Due, MOST_SEGMENT};
 use udp::{MOST_IN_FRAGMENT, Part};
+
+/// What an entry has to send.
+#[derive(Clone, Copy, PartialEq, Eq, Debug)]
+pub enum Outgoing {
+    /// This segment.
+    Segment(Due),
+    /// The next part of the first datagram.
+    Datagram,
+}
 
 /// What was written of an entry.
 #[derive(Clone, Copy, PartialEq, Eq, Debug)]
@@ -24,10 +33,16 @@ pub enum Emitted {
 impl Sockets {
     ghost use Rattle.sockets.specs.Emission.{emitted, emitted_front, after_segment_sent};
 
-    /// Writes what the entry in this place has due, a segment or a part of a datagram, from `out[0]` on, and answers what was written. The
+    /// Writes what the entry in this place has to send, a segment or a part of a datagram, from `out[0]` on, and answers what was written. The
     /// entry is taken out where it is over then. Whatever the test by which it is the first that may send, this is the emission by that test.
-    pub fn emit_at(&mut self, place: usize, now: Moment, out: &mut [u8]) -> Emitted
-        requires due { IsDueAt self.old.entries place }
+    pub fn emit_at(
+        &mut self,
+        place: usize,
+        outgoing: Outgoing,
+        now: Moment,
+        out: &mut [u8],
+    ) -> Emitted
+        requires due { IsDueAt self.old.entries place outgoing }
         requires segment { MOST_SEGMENT ≤ length out.old }
         requires part { MOST_IN_FRAGMENT ≤ length out.old }
         ensures what { (goes : Entry → Bool) → position (sends goes) self.old.entries ≡ Some place → Some result ≡ emitted self.old goes }
@@ -38,7 +53,7 @@ impl Sockets {
         let now = self.later_moment(now);
         let own = self.addr;
         let entry = &mut self.entries[place];
-        let emitted = entry.role.emit(own, now, out);
+        let emitted = entry.role.emit(outgoing, own, now, out);
         let fate = entry.role.emission_fate_of();
         table::settle(&mut self.entries, &mut self.ends, place, fate);
         emitted

@@ -2,10 +2,11 @@
 
 ghost use Rattle.std.specs.Prelude.{◌≡◌, Bool};
 ghost use Rattle.ipv4.specs.declared.addr.Addr.{Addr};
-ghost use Rattle.sockets.specs.Entries.{is_kept, due_peer, deadline_of, with_role};
+ghost use Rattle.sockets.specs.Entries.{is_kept, due_of, due_peer, deadline_of, with_role};
 ghost use Rattle.sockets.specs.Lost.{give_up_at, give_up_fate_of, role_after_giving_up};
 ghost use Rattle.sockets.specs.Index.{filed};
 
+use crate::emission::Outgoing;
 use crate::role::{Role, is_kept};
 use clock::Moment;
 use ipv4::{Addr, Endpoint};
@@ -95,6 +96,13 @@ impl Entry {
         ensures { result ≡ self.now.id }
     {
         self.id
+    }
+
+    /// What it has to send, and to whom; None where nothing is due.
+    pub fn due(&self) -> Option<(Endpoint, Outgoing)>
+        ensures { result ≡ due_of self.now.role }
+    {
+        self.role.due()
     }
 
     /// To whom a segment is due or the first datagram goes; None where nothing is due.

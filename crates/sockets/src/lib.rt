@@ -23,7 +23,7 @@ mod unreachable;
 
 pub use calls::MOST_BACKLOG;
 pub use datagrams::Reception;
-pub use emission::Emitted;
+pub use emission::{Emitted, Outgoing};
 pub use entry::{Entry, Kind, SocketId};
 pub use refusal::Refusal;
 pub use sockets::Sockets;

@@ -1,13 +1,13 @@
 //! What an entry of the table is: a TCP socket without a connection, a listener, a connection, or a UDP socket.
 
-ghost use Rattle.std.specs.Prelude.{◌≡◌, ◌≤◌, Bool, true, if◌then◌else◌, length, Some, OnOk, OnErr};
+ghost use Rattle.std.specs.Prelude.{◌≡◌, ◌≤◌, Bool, if◌then◌else◌, length, Some, OnOk, OnErr};
 ghost use Rattle.std.specs.Result.{result_err};
 ghost use Rattle.ipv4.specs.declared.addr.Addr.{Addr};
 ghost use Rattle.sockets.specs.Calls.{own_end};
 ghost use Rattle.sockets.specs.Emission.{IsWithin};
-ghost use Rattle.sockets.specs.Entries.{is_pending, is_left, has_socket, is_live_between, joins, uses_port, uses_datagram_port, waits_at, is_in_syn_received, peer_of, shown_state, deadline_of, has_due, due_peer, reset_wait, backlog_of, listens_at, is_kept, source_of};
+ghost use Rattle.sockets.specs.Entries.{is_pending, is_left, has_socket, is_live_between, joins, uses_port, uses_datagram_port, waits_at, is_in_syn_received, peer_of, shown_state, deadline_of, due_of, due_peer, HasOutgoing, reset_wait, backlog_of, listens_at, is_kept, source_of};
 
-use crate::emission::Emitted;
+use crate::emission::{Emitted, Outgoing};
 use crate::entry::SocketId;
 use crate::refusal::Refusal;
 use crate::state::SocketState;
@@ -262,17 +262,30 @@ impl Role {
         }
     }
 
+    /// What it has to send, and to whom.
+    pub(crate) fn due(&self) -> Option<(Endpoint, Outgoing)>
+        ensures { result ≡ due_of self.now }
+    {
+        match self {
+            Role::Connected { connection, .. } => {
+                let due = connection.due()?;
+                Some((connection.peer(), Outgoing::Segment(due)))
+            }
+            Role::Datagrams { socket, .. } => {
+                let peer = socket.due_peer()?;
+                Some((peer, Outgoing::Datagram))
+            }
+            _ => None,
+        }
+    }
+
     /// To whom a segment is due, or the first datagram goes.
+    #[tactic(auto, using(crate::proofs::Emitting::peer_of_due))]
     pub(crate) fn due_peer(&self) -> Option<Endpoint>
         ensures { result ≡ due_peer self.now }
     {
-        match self {
-            Role::Connected { connection, .. } if connection.due().is_some() => {
-                Some(connection.peer())
-            }
-            Role::Datagrams { socket, .. } => socket.due_peer(),
-            _ => None,
-        }
+        let (peer, _) = self.due()?;
+        Some(peer)
     }
 
     /// To whom the reset of an abort is owed, and since when it waits to go out.
@@ -562,9 +575,15 @@ impl Role {
         }
     }
 
-    /// Writes the segment or the part of a datagram that is due, from our address, from `out[0]` on, and answers what was written.
-    pub(crate) fn emit(&mut self, own: Addr, now: Moment, out: &mut [u8]) -> Emitted
-        requires due { has_due self.old ≡ true }
+    /// Writes what it has to send, from our address, from `out[0]` on, and answers what was written.
+    pub(crate) fn emit(
+        &mut self,
+        outgoing: Outgoing,
+        own: Addr,
+        now: Moment,
+        out: &mut [u8],
+    ) -> Emitted
+        requires due { HasOutgoing self.old outgoing }
         requires segment { MOST_SEGMENT ≤ length out.old }
         requires part { MOST_IN_FRAGMENT ≤ length out.old }
         ensures what { Some result ≡ due_emitted self.old }
@@ -572,12 +591,11 @@ impl Role {
         ensures after { self.new ≡ role_after_emission now self.old }
         ensures frame { out.new ≡ due_front own self.old out.old }
     {
-        match self {
-            Role::Connected { connection, .. } => match connection.due() {
-                Some(due) => Emitted::Segment(connection.emit(due, now, out)),
-                None => unreachable!(),
-            },
-            Role::Datagrams { bound, socket } => {
+        match (self, outgoing) {
+            (Role::Connected { connection, .. }, Outgoing::Segment(due)) => {
+                Emitted::Segment(connection.emit(due, now, out))
+            }
+            (Role::Datagrams { bound, socket }, Outgoing::Datagram) => {
                 Emitted::Datagram(socket.emit(source_of(own, *bound), out))
             }
             _ => unreachable!(),

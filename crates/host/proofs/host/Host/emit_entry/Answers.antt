@@ -8,13 +8,13 @@ use Rattle.sockets.specs.Entries.{sends, IsDueAt}
 use Rattle.std.specs.List.{position}
 use Rattle.host.specs.HostView.{HostView}
 use Rattle.host.specs.Emission.{Sends, goes_out_from, octets_of}
-use Rattle.host.proofs.Emitting.{due_at, framed_out}
+use Rattle.host.proofs.Emitting.{framed_out}
 use Rattle.host.proofs.host.Host.emit_entry.Goals.{in-Segment, in-Datagram}
 use Rattle.host.proofs.host.Host.emit_entry.Goals as goal
 
 pub emit_at-requires-clause-due : goal.emit_at-requires-clause-due
 emit_at-requires-clause-due c =
-    subst (λ (g : HostView). IsDueAt g.sockets.entries c.args.place) (sym c.self.view_is) (due_at (goes_out_from c.args.self.now c.args.now) c.args.self.now.sockets.entries c.args.place c.requires.first)
+    subst (λ (g : HostView). IsDueAt g.sockets.entries c.args.place c.args.outgoing) (sym c.self.view_is) c.requires.due
 
 pub returns-clause-frame : goal.returns-clause-frame
 returns-clause-frame c =
