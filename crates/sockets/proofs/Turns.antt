@@ -1,6 +1,6 @@
 -- Dynamic ports in turn.
 use Rattle.std.proofs.Common.{◌≡◌, ℕ, zero, suc, ◌+◌, ◌-◌, ◌<◌, Bool, true, false, Some, ◌∙◌, arith}
-use Rattle.sockets.specs.Ports.{port_after, first_port, first_port-step, first_port-zero}
+use Rattle.sockets.specs.Ports.{port_after, first_port, first_port-step}
 
 -- the port at hand passes
 pub first_port-here : (test : ℕ → Bool) (last steps n : ℕ) → 0 < n → test (port_after last steps) ≡ true → first_port test last steps n ≡ Some (port_after last steps)
@@ -13,5 +13,3 @@ first_port-next test last steps zero more fails = absurd (omega arith)
 first_port-next test last steps (suc n) more fails =
     let less : suc n - 1 ≡ n = omega arith in
     first_port-step test last steps n ∙ rw (fails, less)
-
-pub ruleset turns = (first_port-here, first_port-next, first_port-zero)

@@ -1,6 +1,6 @@
 //! Dynamic ports (RFC 6335 section 6): 49152 to 65535, given in turn.
 
-ghost use Rattle.std.specs.Prelude.{◌≡◌, ◌+◌, ◌-◌, ◌<◌, ◌≤◌, IfSome};
+ghost use Rattle.std.specs.Prelude.{ℕ, Bool, ◌≡◌, ◌+◌, ◌-◌, ◌<◌, ◌≤◌, IfSome};
 ghost use Rattle.sockets.specs.Ports.{port_after, first_port, is_free_port, is_unused_port, is_free_datagram_port};
 
 use crate::entry::Entry;
@@ -26,52 +26,47 @@ fn port_after(last: u16, steps: u16) -> u16
     FIRST + (last - FIRST + 1 + steps) % COUNT
 }
 
+/// The first dynamic port after `last` that passes.
+fn first_that<F: Fn(u16) -> bool>(last: u16, passes: F) -> Option<u16>
+    requires from_first { FIRST ≤ last }
+    requires callable { F.IsAlwaysCallable passes }
+    ensures within { IfSome result (λ port. FIRST ≤ port) }
+    ensures first { (test : ℕ → Bool) → ((port : ℕ) (answer : Bool) → F.post passes port answer → answer ≡ test port) → result ≡ first_port test last 0 COUNT }
+{
+    for steps in 0..COUNT {
+        let port = port_after(last, steps);
+        if passes(port) {
+            return Some(port);
+        }
+    }
+    None
+}
+
 /// The first dynamic port after `last` to which no TCP socket is bound and from which no entry holds a connection to `peer`.
-#[tactic(auto, using(crate::proofs::Turns::turns))]
 pub(crate) fn first_free(entries: &[Entry], addr: Addr, last: u16, peer: Endpoint) -> Option<u16>
     requires { FIRST ≤ last }
     ensures within { IfSome result (λ port. FIRST ≤ port) }
     ensures first { result ≡ first_port (is_free_port entries.now addr peer) last 0 COUNT }
 {
-    for steps in 0..COUNT {
-        let port = port_after(last, steps);
-        if is_free(entries, addr, port, peer) {
-            return Some(port);
-        }
-    }
-    None
+    first_that(last, |port| is_free(entries, addr, port, peer))
 }
 
 /// The first dynamic port after `last` that no entry over TCP has.
-#[tactic(auto, using(crate::proofs::Turns::turns))]
 pub(crate) fn first_unused(entries: &[Entry], last: u16) -> Option<u16>
     requires { FIRST ≤ last }
     ensures within { IfSome result (λ port. FIRST ≤ port) }
     ensures first { result ≡ first_port (is_unused_port entries.now) last 0 COUNT }
 {
-    for steps in 0..COUNT {
-        let port = port_after(last, steps);
-        if is_unused(entries, port) {
-            return Some(port);
-        }
-    }
-    None
+    first_that(last, |port| !table::is_port_taken(entries, port))
 }
 
 /// The first dynamic port after `last` to which no UDP socket is bound.
-#[tactic(auto, using(crate::proofs::Turns::turns))]
 pub(crate) fn first_free_for_datagrams(entries: &[Entry], last: u16) -> Option<u16>
     requires { FIRST ≤ last }
     ensures within { IfSome result (λ port. FIRST ≤ port) }
     ensures first { result ≡ first_port (is_free_datagram_port entries.now) last 0 COUNT }
 {
-    for steps in 0..COUNT {
-        let port = port_after(last, steps);
-        if is_free_for_datagrams(entries, port) {
-            return Some(port);
-        }
-    }
-    None
+    first_that(last, |port| !table::is_datagram_port_taken(entries, port))
 }
 
 /// Whether no TCP socket is bound to our port `port`, and no entry holds a connection from it to `peer`.
@@ -80,18 +75,4 @@ fn is_free(entries: &[Entry], addr: Addr, port: u16, peer: Endpoint) -> bool
 {
     !table::is_port_bound(entries, port)
         && !table::is_pair_held(entries, Endpoint { addr, port }, peer)
-}
-
-/// Whether no entry over TCP has the port `port`.
-fn is_unused(entries: &[Entry], port: u16) -> bool
-    ensures { result ≡ is_unused_port entries.now port }
-{
-    !table::is_port_taken(entries, port)
-}
-
-/// Whether no UDP socket is bound to the port `port`.
-fn is_free_for_datagrams(entries: &[Entry], port: u16) -> bool
-    ensures { result ≡ is_free_datagram_port entries.now port }
-{
-    !table::is_datagram_port_taken(entries, port)
 }

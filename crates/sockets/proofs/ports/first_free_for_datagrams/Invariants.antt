@@ -1,8 +1,0 @@
--- The first free port is the first free one of those that are left.
-use Rattle.std.proofs.Common.{◌≡◌, ◌-◌}
-use Rattle.sockets.specs.Ports.{first_port, is_free_datagram_port}
-use Rattle.sockets.proofs.ports.first_free_for_datagrams.Given as goal
-
-abbrev pub invariant-loop-steps : goal.invariant-loop-steps
-invariant-loop-steps l =
-    first_port (is_free_datagram_port l.entries) l.last 0 16384 ≡ first_port (is_free_datagram_port l.entries) l.last l.steps (16384 - l.steps)
