@@ -1,12 +1,13 @@
--- One more than 65,536: two with one identification, and fragments of both that make what neither is.
-use Rattle.std.proofs.Common.{◌≡◌, ℕ, ◌<◌, ◌%◌, Bool, true, false, cond, nat_eq, List, [], ◌∷◌, ◌++◌, length, map, get_or, replicate, slice_index, Option, Some, None, refl, sym, ◌∙◌, ap, subst, arith}
+-- One more than 65,536: two with one identification, and fragments of both that make, and are read as, what neither is.
+use Rattle.std.proofs.Common.{◌≡◌, ℕ, ◌<◌, ◌%◌, Bool, true, false, cond, nat_eq, List, [], ◌∷◌, ◌++◌, length, map, get_or, replicate, slice_index, Option, Some, None, Ok, refl, sym, ◌∙◌, ap, subst, arith}
 use Rattle.std.specs.List.{range_with_len}
 use Rattle.std.proofs.lemmas.List.FromFn.{length-map-range_with_len, get_or-map-range_with_len}
 use Rattle.std.proofs.lemmas.Option.{slice_get_within, get_or_from_slice_get}
 use Rattle.clock.specs.declared.moment.Moment.{Moment}
 use Rattle.ipv4.specs.declared.addr.Endpoint.{Endpoint}
 use Rattle.ipv4.specs.Datagram.{Datagram}
-use Rattle.udp.specs.Datagram.{spelling}
+use Rattle.udp.specs.Datagram.{UserDatagram, spelling}
+use Rattle.udp.specs.Reading.{datagram_or_fault}
 use Rattle.reassembly.specs.Events.Event.{Takes}
 use Rattle.reassembly.specs.Fragments.{end_of, key_of, quote_of}
 use Rattle.reassembly.specs.Octets.{reaching, put, laid, whole_of}
@@ -14,8 +15,8 @@ use Rattle.reassembly.specs.Parts.{IsPartOf}
 use Rattle.reassembly.specs.Places.{after_take, outcome_at, place_for}
 use Rattle.reassembly.specs.Reassembly.{Reassembly, outcome}
 use Rattle.reassembly.specs.Reassembly.Outcome.{Completes}
-use Rattle.datagram_law.specs.Accepted.{Accepted, AreInTurn, IsInWidths, datagram_of}
-use Rattle.datagram_law.specs.Carried.{IsOfOne, IsWholeOfOne}
+use Rattle.datagram_law.specs.Accepted.{Accepted, AreInTurn, CameFrom, IsInWidths, datagram_of}
+use Rattle.datagram_law.specs.Carried.{IsOfOne}
 use Rattle.datagram_law.specs.Pools.{IsPoolOf}
 use Rattle.datagram_law.proofs.Gathering.{new, one_event}
 
@@ -25,12 +26,18 @@ source = record { addr = record { 0 = 10 ∷ 0 ∷ 0 ∷ 1 ∷ [] }; port = 1 }
 abbrev peer : Endpoint
 peer = record { addr = record { 0 = 10 ∷ 0 ∷ 0 ∷ 2 ∷ [] }; port = 2 }
 
--- each has the octet 0, but the last the octet 1
-abbrev with_octet : ℕ → Bool → Accepted
-with_octet n is_last = record { source = source; peer = peer; identification = n % 65536; octets = cond is_last 1 0 ∷ [] }
+-- Each has twelve octets, in two pieces of eight and four. In the last both pieces are others, and each has the sum of what it stands for.
+abbrev front : Bool → List ℕ
+front is_last = 0 ∷ cond is_last 0 1 ∷ 0 ∷ cond is_last 1 0 ∷ 0 ∷ 0 ∷ 0 ∷ 0 ∷ []
+
+abbrev end : Bool → List ℕ
+end is_last = 0 ∷ cond is_last 0 1 ∷ 0 ∷ cond is_last 1 0 ∷ []
+
+abbrev with_octets : ℕ → Bool → Accepted
+with_octets n is_last = record { source = source; peer = peer; identification = n % 65536; octets = front is_last ++ end is_last }
 
 abbrev entry : ℕ → Accepted
-entry n = with_octet n (nat_eq n 65536)
+entry n = with_octets n (nat_eq n 65536)
 
 so_many : ℕ → List Accepted
 so_many n = map entry (range_with_len 0 n)
@@ -54,7 +61,7 @@ in_turn n = record {
     fits : (k : ℕ) → IsInWidths (entry k)
     fits k = record { source_addr = refl; source_port = omega arith; peer_addr = refl; peer_port = omega arith; len = omega arith }
 
--- the first eight octets of the first one, and the last octet of the last one
+-- the header and the first piece of the first one, and the second piece of the last one
 abbrev carrying : Bool → ℕ → List ℕ → Datagram
 carrying more offset payload = record {
   service = 0;
@@ -73,28 +80,31 @@ carrying more offset payload = record {
 }
 
 abbrev header : List ℕ
-header = 0 ∷ 1 ∷ 0 ∷ 2 ∷ 0 ∷ 9 ∷ 235 ∷ 214 ∷ []
+header = 0 ∷ 1 ∷ 0 ∷ 2 ∷ 0 ∷ 20 ∷ 235 ∷ 190 ∷ []
 
 abbrev first : Datagram
-first = carrying true 0 header
+first = carrying true 0 (header ++ front false)
 
 abbrev second : Datagram
-second = carrying false 1 (1 ∷ [])
+second = carrying false 2 (end true)
+
+abbrev mix : List ℕ
+mix = header ++ front false ++ end true
 
 first_part : IsPartOf (spelling (datagram_of (entry 0))) first
 first_part =
-    let end : end_of first ≡ 8 = refl in
-    let all : length (spelling (datagram_of (entry 0))) ≡ 9 = refl in
-    record { within = omega (arith, end, all); octets = refl; ends = λ e. absurd (never e) }
+    let reach : end_of first ≡ 16 = refl in
+    let all : length (spelling (datagram_of (entry 0))) ≡ 20 = refl in
+    record { within = omega (arith, reach, all); octets = refl; ends = λ e. absurd (never e) }
   where
     never : false ≡ true → ⊥
     never e = cc
 
 second_part : IsPartOf (spelling (datagram_of (entry 65536))) second
 second_part =
-    let end : end_of second ≡ 9 = refl in
-    let all : length (spelling (datagram_of (entry 65536))) ≡ 9 = refl in
-    record { within = omega (arith, end, all); octets = refl; ends = λ e. refl }
+    let reach : end_of second ≡ 20 = refl in
+    let all : length (spelling (datagram_of (entry 65536))) ≡ 20 = refl in
+    record { within = omega (arith, reach, all); octets = refl; ends = λ e. refl }
 
 of_first : (n : ℕ) → n ≡ 65537 → IsOfOne (so_many n) first
 of_first n is =
@@ -119,29 +129,36 @@ found : place_for (key_of second) places ≡ Some 0
 unfolding outcome laid put reaching whole_of
 found = refl
 
-completes : outcome_at now second places 0 ≡ Completes (header ++ 1 ∷ []) (quote_of first)
+completes : outcome_at now second places 0 ≡ Completes mix (quote_of first)
 unfolding outcome laid put reaching whole_of
 completes = refl
 
-of_neither : (n : ℕ) → IsWholeOfOne (so_many n) second (header ++ 1 ∷ []) → ⊥
-of_neither n (k, a, within, there, (of, is)) =
-    by_test (nat_eq k 65536) (is ∙ ap (λ (x : Accepted). spelling (datagram_of x)) (sym there ∙ entry_at n k a within))
+-- it has the checksum of what it is, so it is read ..
+abbrev read : UserDatagram
+read = record { source = 1; destination = 2; checksum = 0xebbe; payload = front false ++ end true }
+
+is_read : datagram_or_fault second.source second.destination mix ≡ Ok read
+is_read = refl
+
+-- .. and nobody sent it
+of_neither : (n : ℕ) → CameFrom (so_many n) source peer read.payload → ⊥
+of_neither n (k, a, within, there, (sent_from, sent_to, octets)) =
+    by_test (nat_eq k 65536) (ap (λ (x : Accepted). x.octets) (sym (entry_at n k a within) ∙ there) ∙ octets)
   where
-    other_sum : ◌≡◌ {A = ℕ} 235 234 → ⊥
-    other_sum e = omega (arith, e)
+    other : ◌≡◌ {A = ℕ} 0 1 → ⊥
+    other e = omega (arith, e)
 
-    other_octet : ◌≡◌ {A = ℕ} 1 0 → ⊥
-    other_octet e = omega (arith, e)
-
-    by_test : (b : Bool) → header ++ 1 ∷ [] ≡ spelling (datagram_of (with_octet k b)) → ⊥
-    by_test true e = other_sum (ap (λ (xs : List ℕ). slice_index xs 6) e)
-    by_test false e = other_octet (ap (λ (xs : List ℕ). slice_index xs 8) e)
+    by_test : (b : Bool) → front b ++ end b ≡ read.payload → ⊥
+    by_test true e = other (ap (λ (xs : List ℕ). slice_index xs 1) e)
+    by_test false e = other (ap (λ (xs : List ℕ). slice_index xs 11) e)
 
 abbrev pub Mixed : ℕ → Type 0
 Mixed n =
-    (accepted : List Accepted) × (places : List (Option Reassembly)) × (now : Moment) × (d : Datagram) × (place : ℕ) × (payload : List ℕ) × (quote : List ℕ)
+    (accepted : List Accepted) × (places : List (Option Reassembly)) × (now : Moment) × (d : Datagram) × (place : ℕ) × (payload : List ℕ) × (quote : List ℕ) × (u : UserDatagram)
     × AreInTurn accepted × (length accepted ≡ n) × IsPoolOf accepted places × IsOfOne accepted d
-    × (place_for (key_of d) places ≡ Some place) × (outcome_at now d places place ≡ Completes payload quote) × (IsWholeOfOne accepted d payload → ⊥)
+    × (place_for (key_of d) places ≡ Some place) × (outcome_at now d places place ≡ Completes payload quote)
+    × (datagram_or_fault d.source d.destination payload ≡ Ok u)
+    × (CameFrom accepted (record { addr = d.source; port = u.source }) (record { addr = d.destination; port = u.destination }) u.payload → ⊥)
 
 mixed_of : (n : ℕ) → n ≡ 65537 → Mixed n
 mixed_of n is = (
@@ -150,14 +167,16 @@ mixed_of n is = (
   now,
   second,
   0,
-  header ++ 1 ∷ [],
+  mix,
   quote_of first,
+  read,
   in_turn n,
   count n,
   pool n is,
   of_second n is,
   found,
   completes,
+  is_read,
   of_neither n,
 )
 

@@ -84,13 +84,14 @@ pub fn wholes_are_of_one()
         → place_for (key_of d) places ≡ Some place → outcome_at now d places place ≢ GivesUp }
 {}
 
-/// Of one more this is not so: the last of 65,537 has the identification of the first, and fragments of both may be put together to what
-/// neither is.
+/// Of one more this is not so, so the bound is the least: the last of 65,537 has the identification of the first, and fragments of both may be
+/// put together to what has the right checksum, is read as a UDP datagram, and was accepted from nobody.
 pub fn more_may_be_mixed()
-    ensures { (accepted : List Accepted) × (places : List (Option Reassembly)) × (now : Moment) × (d : Datagram) × (place : ℕ) × (payload : List ℕ) × (quote : List ℕ)
+    ensures { (accepted : List Accepted) × (places : List (Option Reassembly)) × (now : Moment) × (d : Datagram) × (place : ℕ) × (payload : List ℕ) × (quote : List ℕ) × (u : UserDatagram)
         × AreInTurn accepted × (length accepted ≡ 65537) × IsPoolOf accepted places × IsOfOne accepted d
         × (place_for (key_of d) places ≡ Some place) × (outcome_at now d places place ≡ Completes payload quote)
-        × (IsWholeOfOne accepted d payload → ⊥) }
+        × (datagram_or_fault d.source d.destination payload ≡ Ok u)
+        × (CameFrom accepted (record { addr = d.source; port = u.source }) (record { addr = d.destination; port = u.destination }) u.payload → ⊥) }
 {}
 
 /// A datagram of one that was accepted carries UDP, and has the whole of it where it is no fragment (RFC 791 section 3.2).
