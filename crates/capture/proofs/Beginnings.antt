@@ -18,7 +18,7 @@ use Rattle.capture.proofs.Numbers.{behind, length-number, number_back}
 use Rattle.capture.proofs.Steps.{passed, stopped}
 
 -- a magic number tells order and fractions
-magic_read : (o : Order) (f : Fraction) (rest : List ℕ)
+pub magic_read : (o : Order) (f : Fraction) (rest : List ℕ)
     → format_of (number_in Little 4 (number_octets o 4 (magic_of f) ++ rest)) ≡ Some (record { order = o; fraction = f })
 magic_read Little Microseconds rest = refl
 magic_read Little Nanoseconds rest = refl
@@ -96,12 +96,12 @@ short_of : (m n : ℕ) → m ≡ n → ◌≡◌ {A = Result Header HeaderFault}
 short_of m n same = ap (λ k. Err (Short (24 - k))) same
 
 -- octets that end before the magic number does, and behind it
-cut_in_magic : (octets : List ℕ) (n : ℕ) → length octets ≡ n → n < 4 → header_in octets ≡ Err (Short (24 - n))
+pub cut_in_magic : (octets : List ℕ) (n : ℕ) → length octets ≡ n → n < 4 → header_in octets ≡ Err (Short (24 - n))
 cut_in_magic octets n is few =
     let t0 : nat_lt (length octets) 4 ≡ true = grind (arith, nat_tests, is, few) in
     stopped _ _ _ t0 ∙ short_of (length octets) n is
 
-cut_behind_magic : (octets : List ℕ) (n : ℕ) (format : Format) → length octets ≡ n → 4 ≤ n → n < 24 → format_of (number_in Little 4 octets) ≡ Some format
+pub cut_behind_magic : (octets : List ℕ) (n : ℕ) (format : Format) → length octets ≡ n → 4 ≤ n → n < 24 → format_of (number_in Little 4 octets) ≡ Some format
     → header_in octets ≡ Err (Short (24 - n))
 cut_behind_magic octets n format is least fewer told =
     let t0 : nat_lt (length octets) 4 ≡ false = grind (arith, nat_tests, is, least) in

@@ -6,3 +6,4 @@ pub mod Spelled
 pub mod Ours
 pub mod Opening
 pub mod Lengths
+pub mod Faults

@@ -62,7 +62,7 @@ is_magic m k o u f same test found =
     ap (number_octets Little 4) number ∙ (same ∙ ap (λ (g : Format). number_octets g.order 4 (magic_of g.fraction)) format)
 
 -- a format that is told is that of the magic number
-magic_spelled : (m : ℕ) (f : Format) → format_of m ≡ Some f → number_octets Little 4 m ≡ number_octets f.order 4 (magic_of f.fraction)
+pub magic_spelled : (m : ℕ) (f : Format) → format_of m ≡ Some f → number_octets Little 4 m ≡ number_octets f.order 4 (magic_of f.fraction)
 magic_spelled m f e =
     ⊎_elim (λ a. is_magic m 0xa1b2c3d4 Little Microseconds f refl a.0 a.1)
     (λ a. ⊎_elim (λ b. is_magic m 0xd4c3b2a1 Big Microseconds f refl b.0 b.1)

@@ -3,6 +3,7 @@ use Rattle.std.specs.Prelude.{ℕ, ◌*◌, ◌/◌, ◌%◌, ◌<◌, ◌≤◌
 use Rattle.std.specs.List.{flat_map}
 use Rattle.byteorder.specs.Endian.{big_bytes, big_number, little_bytes, little_number}
 use Rattle.clock.specs.declared.moment.Moment.{Moment}
+use Rattle.capture.specs.declared.format.Format.{Format}
 use Rattle.capture.specs.declared.format.Fraction.{Fraction}
 use Rattle.capture.specs.declared.format.Fraction.TheVariants.{Microseconds, Nanoseconds}
 use Rattle.capture.specs.declared.format.Order.{Order}
@@ -23,6 +24,14 @@ number_in Big n octets = big_number n octets
 abbrev pub magic_of : Fraction → ℕ
 magic_of Microseconds = 0xa1b2c3d4
 magic_of Nanoseconds = 0xa1b23c4d
+
+-- the four octets that a capture of this format begins with
+abbrev pub magic_octets : Format → List ℕ
+magic_octets f = number_octets f.order 4 (magic_of f.fraction)
+
+-- a version, the number before the point and the one behind it
+abbrev pub version_octets : Format → ℕ → ℕ → List ℕ
+version_octets f major minor = number_octets f.order 2 major ++ number_octets f.order 2 minor
 
 -- The 24 octets of a header: magic number, version 2.4, a correction for the time zone and the accuracy of the moments,
 -- of which nothing is read, the snapshot length, and link type 1, Ethernet.

@@ -1,14 +1,15 @@
 //! Laws of the definitions that the contracts of this crate cite: each is the contract of a function that does nothing.
 
-ghost use Rattle.std.specs.Prelude.{◌≡◌, ℕ, ◌+◌, ◌-◌, ◌<◌, ◌^◌, List, [], ◌∷◌, ◌++◌, take, map, All, Option, Some, None, Result, Ok, Err};
+ghost use Rattle.std.specs.Prelude.{◌≡◌, ◌≢◌, ℕ, ◌+◌, ◌-◌, ◌<◌, ◌≤◌, ◌^◌, List, [], ◌∷◌, ◌++◌, length, take, map, All, Option, Some, None, Result, Ok, Err};
 ghost use Rattle.std.specs.List.{flat_map};
-ghost use Rattle.capture.specs.declared.fault.HeaderFault.TheVariants.{Short};
+ghost use Rattle.capture.specs.declared.fault.HeaderFault.TheVariants.{LinkType, NotACapture, Short, Version};
 ghost use Rattle.capture.specs.declared.fault.RecordFault.{RecordFault};
+ghost use Rattle.capture.specs.declared.format.Format.{Format};
 ghost use Rattle.capture.specs.declared.format.Order.TheVariants.{Little};
 ghost use Rattle.capture.specs.declared.header.Header.{Header};
 ghost use Rattle.capture.specs.declared.header.TheConstants.{HEADER_LEN};
 ghost use Rattle.capture.specs.declared.record.TheConstants.{MOST_OCTETS, RECORD_HEAD_LEN};
-ghost use Rattle.capture.specs.Capture.{Entry, Frame, IsEntry, IsToldWhole, capture_of, entry_head, entry_octets, entry_of, header_octets, our_header, our_header_octets};
+ghost use Rattle.capture.specs.Capture.{Entry, Frame, IsEntry, IsToldWhole, capture_of, entry_head, entry_octets, entry_of, header_octets, magic_octets, number_in, number_octets, our_header, our_header_octets, version_octets};
 ghost use Rattle.capture.specs.Cutting.{lack_in, whole_count};
 ghost use Rattle.capture.specs.Reading.{AreRead, Record, Unread, answer_in, moment_of, opened, read_as, record_of, rest_in};
 
@@ -48,6 +49,19 @@ pub fn header_is_read()
         → opened (header_octets header zone accuracy ++ behind) ≡ Ok (record { header = header; octets = behind }) }
     ensures cut { (header : Header) (zone accuracy : ℕ) (behind : List ℕ) (n : ℕ) → header.snaplen < 2 ^ 32 → n < 24
         → opened (take n (header_octets header zone accuracy ++ behind)) ≡ Err (Short (24 - n)) }
+{}
+
+/// Octets that begin with no header are refused by the first of its faults, from left to right: they end within the magic number, it is none
+/// of the four, they end within the header, the version isn't 2.4, the link type isn't Ethernet's.
+pub fn the_first_fault_is_told()
+    ensures cut_in_magic { (octets : List ℕ) → length octets < 4 → opened octets ≡ Err (Short (24 - length octets)) }
+    ensures no_magic { (octets : List ℕ) → All (λ octet. octet < 256) octets → 4 ≤ length octets → ((f : Format) → take 4 octets ≢ magic_octets f)
+        → opened octets ≡ Err (NotACapture (number_in Little 4 octets)) }
+    ensures cut { (f : Format) (rest : List ℕ) → length rest < 20 → opened (magic_octets f ++ rest) ≡ Err (Short (20 - length rest)) }
+    ensures version { (f : Format) (major minor : ℕ) (rest : List ℕ) → major < 2 ^ 16 → minor < 2 ^ 16 → 16 ≤ length rest → ((major ≡ 2) × (minor ≡ 4) → ⊥)
+        → opened (magic_octets f ++ version_octets f major minor ++ rest) ≡ Err (Version major minor) }
+    ensures link_type { (f : Format) (passed_over rest : List ℕ) (link : ℕ) → length passed_over ≡ 12 → link < 2 ^ 32 → link ≢ 1
+        → opened (magic_octets f ++ version_octets f 2 4 ++ passed_over ++ number_octets f.order 4 link ++ rest) ≡ Err (LinkType link) }
 {}
 
 /// All octets are read in one way: records, and then the end of the capture, or a fault.
