@@ -16,12 +16,14 @@ ghost use Rattle.wire_sim.specs.Hosts.{address_of, IsSetUp};
 
 use crate::fault::CopyFault;
 use clock::{Moment, sooner};
-use devices::{Link, MOST_FRAME};
+use devices::Link;
+use ether::FRAME_MAX;
 use frames::pair_in;
 use host::{Host, Kind, Refusal, SocketId};
 use ipv4::Endpoint;
 use std::alloc::Global;
-use tcp_segment::Seq;
+use tcp_halves::CAPACITY;
+use tcp_segment::{MSS, Seq};
 use tcp_state::Received;
 use wire_sim::{Side, address, config};
 
@@ -36,12 +38,6 @@ const ISN_OF_B: Seq = Seq(2_000);
 
 /// The most frames that go one way in a turn.
 const MOST_FRAMES: usize = 64;
-
-/// The octets that a connection holds for its peer at most.
-const MOST_HELD: usize = 65_535;
-
-/// The octets that a segment carries at most.
-const MOST_CARRIED: usize = 1_460;
 
 /// What a receive brought.
 #[derive(Clone, Copy, Debug, PartialEq, Eq)]
@@ -89,13 +85,13 @@ impl Ends {
             listener,
             receiver: None,
             opened: false,
-            allowance: MOST_HELD,
+            allowance: CAPACITY,
         })
     }
 
     /// The frame that is due at a side's host. Once it is in the link, a may be given more.
-    fn emit(&mut self, from: Side, frame: &mut [u8; MOST_FRAME]) -> Option<usize>
-        ensures bound { IfSome result (λ len. len ≤ 1514) }
+    fn emit(&mut self, from: Side, frame: &mut [u8; FRAME_MAX]) -> Option<usize>
+        ensures bound { IfSome result (λ len. len ≤ FRAME_MAX) }
         ensures emits { IfSome result (λ len. Emits from (take len frame.new) self.old self.new) }
         ensures none { IfNone result (self.new ≡ self.old) }
         ensures clock { self.new.clock ≡ self.old.clock }
@@ -107,9 +103,9 @@ impl Ends {
     }
 
     /// The next frame of a side's host, if one is due.
-    fn next_frame(&mut self, from: Side, frame: &mut [u8; MOST_FRAME]) -> Option<usize>
+    fn next_frame(&mut self, from: Side, frame: &mut [u8; FRAME_MAX]) -> Option<usize>
         ensures answer { result ≡ emission_len (host_of self.old from) self.old.clock }
-        ensures bound { IfSome result (λ len. len ≤ 1514) }
+        ensures bound { IfSome result (λ len. len ≤ FRAME_MAX) }
         ensures after { self.new ≡ with_host self.old from (after_emission (host_of self.old from) self.old.clock) }
         ensures frame { frame.new ≡ emission_front (host_of self.old from) self.old.clock frame.old }
         ensures allowance { self.new.allowance ≡ self.old.allowance }
@@ -174,7 +170,7 @@ impl Ends {
         ensures leads { L.leads_to link.old link.new }
         ensures carries { OnOk result (Carries (L.told link.old) (L.told link.new) self.old self.new) }
     {
-        let mut frame = [0; MOST_FRAME];
+        let mut frame = [0; FRAME_MAX];
         let Some(len) = self.emit(from, &mut frame) else {
             return Ok(false);
         };
@@ -192,7 +188,7 @@ impl Ends {
         ensures leads { L.leads_to link.old link.new }
         ensures carries { OnOk result (Carries (L.told link.old) (L.told link.new) self.old self.new) }
     {
-        let mut frame = [0; MOST_FRAME];
+        let mut frame = [0; FRAME_MAX];
         match link.recv(to, &mut frame) {
             Ok(Some(len)) => {
                 self.hear(to, &frame[..len]);
@@ -309,7 +305,7 @@ impl Ends {
 
     /// b reads octets of the connection into the front of `buffer`.
     pub(crate) fn receive(&mut self, buffer: &mut [u8]) -> Result<Arrival, CopyFault>
-        requires { length buffer.old ≤ 65535 }
+        requires { length buffer.old ≤ CAPACITY }
         ensures reads { IfOk result (λ arrival. Reads arrival buffer.new self.old self.new) }
         ensures fault { IfErr result IsOfHosts }
     {
@@ -371,9 +367,9 @@ fn read(host: &mut Host, id: SocketId, buffer: &mut [u8]) -> Result<Received, Re
 
 /// What a is allowed once a frame more went out.
 fn more_allowed(allowance: usize) -> usize
-    ensures { result ≡ min (allowance + 1460) 65535 }
+    ensures { result ≡ min (allowance + MSS) CAPACITY }
 {
-    allowance.saturating_add(MOST_CARRIED).min(MOST_HELD)
+    allowance.saturating_add(usize::from(MSS)).min(CAPACITY)
 }
 
 /// A clock after a tick at a moment.

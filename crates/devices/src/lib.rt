@@ -6,6 +6,6 @@ mod plan;
 mod streams;
 
 pub use link::memory::{MemoryLink, Passage, Treatment};
-pub use link::{Link, LinkFault, MOST_FRAME};
+pub use link::{Link, LinkFault};
 pub use streams::memory::{MemorySink, MemorySource};
 pub use streams::{Reading, Sink, Source, Writing, write_all};

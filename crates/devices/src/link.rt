@@ -9,11 +9,9 @@ ghost use Rattle.clock.specs.declared.moment.Moment.{Moment};
 pub mod memory;
 
 use clock::Moment;
+use ether::FRAME_MAX;
 use sides::Side;
 use thiserror::Error;
-
-/// The most octets of a frame (RFC 894).
-pub const MOST_FRAME: usize = 1_514;
 
 /// A call of a link failed.
 #[derive(Clone, Copy, Debug, PartialEq, Eq, Error)]
@@ -51,8 +49,8 @@ pub trait Link {
 
     /// Puts a frame for the host of a side at the front of `frame` and answers its length, or None where there is none now. An error is a
     /// failure, and gives nothing.
-    fn recv(&mut self, to: Side, frame: &mut [u8; 1514]) -> Result<Option<usize>, LinkFault>
-        ensures bound { IfOk result (λ given. IfSome given (λ len. len ≤ 1514)) }
+    fn recv(&mut self, to: Side, frame: &mut [u8; FRAME_MAX]) -> Result<Option<usize>, LinkFault>
+        ensures bound { IfOk result (λ given. IfSome given (λ len. len ≤ FRAME_MAX)) }
         ensures failures { failures self.new ≡ counted (is_err result) (failures self.old) }
         ensures told { Gives (told self.old) (told self.new) result to frame.new }
         ensures clock { clock self.new ≡ clock self.old }

@@ -12,6 +12,7 @@ ghost use Rattle.recorder.specs.Going.{goes_nowhere, goes_further};
 use crate::write::{write_head, write_record};
 use clock::Moment;
 use devices::{Link, LinkFault, Sink};
+use ether::FRAME_MAX;
 use sides::Side;
 use thiserror::Error;
 
@@ -132,8 +133,8 @@ impl<L: Link, C: Sink> Link for RecordedLink<L, C> {
         Ok(())
     }
 
-    fn recv(&mut self, to: Side, frame: &mut [u8; 1514]) -> Result<Option<usize>, LinkFault>
-        ensures bound { IfOk result (λ given. IfSome given (λ len. len ≤ 1514)) }
+    fn recv(&mut self, to: Side, frame: &mut [u8; FRAME_MAX]) -> Result<Option<usize>, LinkFault>
+        ensures bound { IfOk result (λ given. IfSome given (λ len. len ≤ FRAME_MAX)) }
         ensures failures { L.failures self.new.link ≡ counted (is_err result) (L.failures self.old.link) }
         ensures told { Gives (L.told self.old.link) (L.told self.new.link) result to frame.new }
         ensures clock { (self.new.clock ≡ self.old.clock) × (L.clock self.new.link ≡ L.clock self.old.link) }

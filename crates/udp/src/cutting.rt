@@ -4,10 +4,11 @@ ghost use Rattle.std.specs.Prelude.{◌≡◌};
 ghost use Rattle.std.specs.Iterator.{YieldsFirst, item_count};
 ghost use Rattle.udp.specs.Fragments.{fragments_of};
 
+use ipv4::PAYLOAD_IN_FRAME;
 use std::marker::Model;
 
 /// The octets of a fragment at most: those that a frame has behind a header of IPv4, which are units of eight.
-pub const MOST_IN_FRAGMENT: u16 = 1_480;
+pub const MOST_IN_FRAGMENT: u16 = PAYLOAD_IN_FRAME as u16;
 
 /// The units of eight octets in as many.
 const UNITS_IN_FRAGMENT: u16 = MOST_IN_FRAGMENT / 8;

@@ -11,6 +11,7 @@ use crate::losses::{Fate, Losses};
 use crate::socket::DatagramSocket;
 use clock::Moment;
 use devices::{Link, LinkFault};
+use ether::FRAME_MAX;
 use sides::Side;
 
 /// A link between two hosts over two sockets, each the other's peer. The frames that it takes are counted from 1 over both sides, and lost or
@@ -99,8 +100,8 @@ impl<S: DatagramSocket> Link for SocketLink<S> {
         outcome
     }
 
-    fn recv(&mut self, to: Side, frame: &mut [u8; 1514]) -> Result<Option<usize>, LinkFault>
-        ensures bound { IfOk result (λ given. IfSome given (λ len. len ≤ 1514)) }
+    fn recv(&mut self, to: Side, frame: &mut [u8; FRAME_MAX]) -> Result<Option<usize>, LinkFault>
+        ensures bound { IfOk result (λ given. IfSome given (λ len. len ≤ FRAME_MAX)) }
         ensures failures { self.new.failures ≡ counted (is_err result) self.old.failures }
         ensures told { Gives {E = LinkFault} None None result to frame.new }
         ensures number { (self.new.taken ≡ self.old.taken) × (self.new.losses ≡ self.old.losses) }
@@ -127,9 +128,9 @@ impl<S: DatagramSocket> Link for SocketLink<S> {
 /// Receives a frame by a socket.
 fn received<S: DatagramSocket>(
     socket: &mut S,
-    frame: &mut [u8; 1514],
+    frame: &mut [u8; FRAME_MAX],
 ) -> Result<Option<usize>, LinkFault>
-    ensures bound { IfOk result (λ given. IfSome given (λ len. len ≤ 1514)) }
+    ensures bound { IfOk result (λ given. IfSome given (λ len. len ≤ FRAME_MAX)) }
     ensures failures { S.failures socket.new ≡ counted (is_err result) (S.failures socket.old) }
     ensures sent { S.sent socket.new ≡ S.sent socket.old }
     ensures received { Receives (S.received socket.old) (S.received socket.new) result frame.new }

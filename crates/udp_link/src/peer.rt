@@ -3,6 +3,7 @@
 ghost use Rattle.std.specs.Prelude.{◌≡◌, IfOk};
 
 use crate::socket::DatagramSocket;
+use ether::FRAME_MAX;
 use std::io::{ErrorKind, Result};
 use std::net::{Ipv4Addr, Net, SocketAddr, UdpSocket};
 
@@ -68,7 +69,7 @@ impl DatagramSocket for PeerSocket {
         }
     }
 
-    fn recv(&mut self, buffer: &mut [u8; 1514]) -> Result<Option<usize>> {
+    fn recv(&mut self, buffer: &mut [u8; FRAME_MAX]) -> Result<Option<usize>> {
         for _ in 0..MOST_STRANGERS {
             match self.socket.recv_from(buffer) {
                 Ok((len, source)) if source == self.peer => return Ok(Some(len)),

@@ -4,6 +4,7 @@ ghost use Rattle.std.specs.Prelude.{◌≡◌, ℕ, ◌≤◌, List, Option, Non
 ghost use Rattle.devices.specs.Streams.{counted};
 ghost use Rattle.udp_link.specs.Datagrams.{Sends, Receives};
 
+use ether::FRAME_MAX;
 use std::io::Result;
 
 /// Sends datagrams to one other socket and receives those of that one. No call waits. A datagram may be lost on its way.
@@ -25,8 +26,8 @@ pub trait DatagramSocket {
 
     /// Puts a datagram at the front of `buffer` and answers its length, or None where there is none now. An error is a failure, and
     /// receives nothing.
-    fn recv(&mut self, buffer: &mut [u8; 1514]) -> Result<Option<usize>>
-        ensures bound { IfOk result (λ given. IfSome given (λ len. len ≤ 1514)) }
+    fn recv(&mut self, buffer: &mut [u8; FRAME_MAX]) -> Result<Option<usize>>
+        ensures bound { IfOk result (λ given. IfSome given (λ len. len ≤ FRAME_MAX)) }
         ensures failures { failures self.new ≡ counted (is_err result) (failures self.old) }
         ensures sent { sent self.new ≡ sent self.old }
         ensures received { Receives (received self.old) (received self.new) result buffer.new };

@@ -3,9 +3,10 @@
 ghost use Rattle.std.specs.Prelude.{◌≡◌, ◌≤◌, ◌<◌, ◌++◌, [], ◌∷◌, Some, take, length, min, vec_len, vec_capacity, IfOk, IfSome, OnOk, OnErr, is_err};
 ghost use Rattle.devices.specs.Streams.{counted};
 
-use super::{Link, LinkFault, MOST_FRAME};
+use super::{Link, LinkFault};
 use crate::plan::Plan;
 use clock::Moment;
+use ether::FRAME_MAX;
 use sides::Side;
 use std::alloc::{AllocError, Global};
 
@@ -112,8 +113,8 @@ impl<'a> MemoryLink<'a> {
 
     /// Gives the first frame that is due to a side, or nothing where there is no memory.
     #[tactic(auto, using(crate::proofs::TellLemmas::told_more, crate::proofs::TellLemmas::told_same))]
-    fn give(&mut self, to: Side, frame: &mut [u8; 1514]) -> Result<Option<usize>, AllocError>
-        ensures bound { IfOk result (λ given. IfSome given (λ len. len ≤ 1514)) }
+    fn give(&mut self, to: Side, frame: &mut [u8; FRAME_MAX]) -> Result<Option<usize>, AllocError>
+        ensures bound { IfOk result (λ given. IfSome given (λ len. len ≤ FRAME_MAX)) }
         ensures failures { self.new.failures ≡ self.old.failures }
         ensures told { Gives (Some (told_of self.old.passages.items)) (Some (told_of self.new.passages.items)) result to frame.new }
     {
@@ -170,9 +171,9 @@ fn copied(alloc: Global, octets: &[u8]) -> Result<Vec<u8>, AllocError>
 
 /// The octets of a frame: the first of these, as many as a frame has at most.
 fn front(alloc: Global, octets: &[u8]) -> Result<Vec<u8>, AllocError>
-    ensures { IfOk result (λ copy. (copy.items ≡ take (min (length octets.now) 1514) octets.now) × (vec_len copy ≤ 1514)) }
+    ensures { IfOk result (λ copy. (copy.items ≡ take (min (length octets.now) FRAME_MAX) octets.now) × (vec_len copy ≤ FRAME_MAX)) }
 {
-    let len = octets.len().min(MOST_FRAME);
+    let len = octets.len().min(FRAME_MAX);
     copied(alloc, &octets[..len])
 }
 
@@ -197,7 +198,7 @@ impl Link for MemoryLink<'_> {
         Ok(())
     }
 
-    fn recv(&mut self, to: Side, frame: &mut [u8; 1514]) -> Result<Option<usize>, LinkFault> {
+    fn recv(&mut self, to: Side, frame: &mut [u8; FRAME_MAX]) -> Result<Option<usize>, LinkFault> {
         if self.plan.fails_next() {
             self.failures = self.failures.saturating_add(1);
             return Err(LinkFault);
