@@ -1,5 +1,5 @@
 -- The first fault of octets that begin with no header.
-use Rattle.std.proofs.Common.{◌≡◌, ◌≢◌, ℕ, ◌+◌, ◌-◌, ◌<◌, ◌≤◌, ◌^◌, ◌==◌, ◌&&◌, Bool, true, false, nat_lt, List, ◌++◌, length, take, drop, All, Option, Some, None, Result, Ok, Err, arith, refl, sym, ◌∙◌, ap, append_assoc, length-append}
+use Rattle.std.proofs.Common.{◌≡◌, ◌≢◌, ℕ, ◌+◌, ◌-◌, ◌<◌, ◌≤◌, ◌^◌, ◌==◌, ◌&&◌, Bool, true, false, nat_lt, List, ◌++◌, length, take, drop, All, Option, Some, None, Err, arith, refl, ◌∙◌, ap, append_assoc, length-append}
 use Rattle.std.proofs.lemmas.Bool.Decides.{nat_tests}
 use Rattle.std.proofs.lemmas.Bool.{eqb-true}
 use Rattle.std.proofs.lemmas.List.{drop_at, take_at}
@@ -8,7 +8,6 @@ use Rattle.capture.specs.declared.fault.HeaderFault.TheVariants.{LinkType, NotAC
 use Rattle.capture.specs.declared.format.Format.{Format}
 use Rattle.capture.specs.declared.format.Order.{Order}
 use Rattle.capture.specs.declared.format.Order.TheVariants.{Little}
-use Rattle.capture.specs.declared.header.Header.{Header}
 use Rattle.capture.specs.Capture.{magic_of, magic_octets, number_in, number_octets, version_octets}
 use Rattle.capture.specs.Reading.{behind_header, format_of, header_in, header_of, header_with, number_at, opened}
 use Rattle.capture.proofs.Beginnings.{cut_behind_magic, cut_in_magic, magic_read}

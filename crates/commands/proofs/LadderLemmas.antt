@@ -1,8 +1,8 @@
 -- What a run of a script with a ladder records, step by step.
-use Rattle.std.proofs.Common.{◌≡◌, ℕ, ◌+◌, ◌<◌, ◌≤◌, ◌⊎◌, inl, inr, List, [], ◌∷◌, ◌++◌, length, map, take, drop, get_or, option_to_list, Option, Some, None, Result, Ok, Err, append_assoc, append-nil, refl, ap, sym, subst, ◌∙◌, arith}
+use Rattle.std.proofs.Common.{◌≡◌, ℕ, ◌+◌, ◌<◌, ◌⊎◌, inl, inr, List, [], ◌∷◌, ◌++◌, length, map, take, drop, get_or, option_to_list, Option, Some, None, Result, Ok, Err, append_assoc, append-nil, refl, ap, sym, subst, ◌∙◌}
 use Rattle.std.specs.List.{flat_map}
-use Rattle.std.proofs.Math.ListN.{set, length-set}
-use Rattle.std.proofs.lemmas.List.{map-append, take_more, take_more_set, drop_more, take-append-drop, length-take-le}
+use Rattle.std.proofs.Math.ListN.{set}
+use Rattle.std.proofs.lemmas.List.{map-append, take_more, take_more_set, drop_more, take-append-drop}
 use Rattle.std.proofs.lemmas.Grind.{flat_map-append}
 use Rattle.tcp_segment.specs.declared.seq.Seq.{Seq}
 use Rattle.sides.specs.declared.side.Side.{Side}
@@ -20,7 +20,7 @@ use Rattle.ladder.specs.declared.passage.Passage.TheVariants.{Sent}
 use Rattle.ladder.specs.declared.happened.Happened.{Happened}
 use Rattle.ladder.specs.declared.happened.Happened.TheVariants.{Passed}
 use Rattle.ladder.specs.Passages.{passage_of}
-use Rattle.std.proofs.Common.{codes, IfOk, OnOk, IfErr, IfSome, true, false, string_bytes, slice_get}
+use Rattle.std.proofs.Common.{codes, IfOk, OnOk, IfErr, IfSome, slice_get}
 use Rattle.std.specs.Io.KnownBytes.{Appends}
 use Rattle.std.proofs.lemmas.Result.{IfOk-weaker}
 use Rattle.sides.specs.declared.side.Side.TheVariants.{A, B}
@@ -41,7 +41,7 @@ use Rattle.commands.specs.declared.fault.TextFault.TheVariants.{Line, TooLong, N
 use Rattle.commands.specs.declared.sim.Ends.{Ends}
 use Rattle.commands.specs.Play.{Carries, Delivers, Does, IsFirst, pass_text, text_of_outcome}
 use Rattle.commands.specs.Recording.{TakesCapture}
-use Rattle.commands.specs.Laddered.{CarriesEach, HasBrought, none, one_more, HasRun, starts, goes_on, HasDone, nothing, limits, does, recorded, IsCut, IsLeftAt, TakesBothOf, TakesLadder, TakesLadderOf, TakesRunOf, Tells, carried_by, ladder_in}
+use Rattle.commands.specs.Laddered.{CarriesEach, HasBrought, none, one_more, HasRun, starts, goes_on, HasDone, nothing, limits, does, recorded, IsCut, IsLeftAt, TakesBothOf, TakesLadder, TakesLadderOf, Tells, carried_by, ladder_in}
 use Rattle.commands.proofs.RunLemmas.{limit_said_once}
 
 -- one frame more is brought, and what it came to is noted behind what the others came to

@@ -3,13 +3,13 @@ use Rattle.std.proofs.Common.{◌≡◌, ℕ, ◌+◌, ◌<◌, ◌≤◌, List,
 use Rattle.std.proofs.Math.Seq.{take-suc}
 use Rattle.std.specs.List.{flat_map}
 use Rattle.std.specs.List.{slice_get}
-use Rattle.std.specs.Result.{IfErr, IsErrAnd, OnOk}
+use Rattle.std.specs.Result.{IfErr, IsErrAnd}
 use Rattle.clock.specs.declared.moment.Moment.{Moment}
 use Rattle.std.specs.Io.KnownBytes.{Appends, Keeps}
 use Rattle.std.proofs.lemmas.List.{map-append, take-append-drop, take_all, drop_more}
 use Rattle.std.proofs.lemmas.Grind.{flat_map-append}
 use Rattle.capture.specs.declared.format.Order.TheVariants.{Little}
-use Rattle.capture.specs.Capture.{Frame as Captured, Entry, capture_of, entry_octets, entry_of, our_header_octets}
+use Rattle.capture.specs.Capture.{Frame as Captured, capture_of, entry_octets, entry_of, our_header_octets}
 use Rattle.sides.specs.declared.side.Side.{Side}
 use Rattle.wire_sim.specs.declared.event.Event.{Event}
 use Rattle.wire_sim.specs.declared.event.Event.TheVariants as event

@@ -14,7 +14,7 @@ use Rattle.script.specs.Script.{limit_of, limits_of, commands_of}
 use Rattle.commands.specs.Sim.{write_fails_in, is_before_run, run_in_all}
 use Rattle.devices.specs.Streams.{TakesFront}
 use Rattle.commands.specs.Moved.{TakesAllBut}
-use Rattle.commands.specs.Play.{HasPrinted, starts, IsPlayed, IsCutShort, IsLeft, IsFirst, limit_by, limit_line, IsPrinted, IsPrintedTo, IsTold, TakesRun, TakesPrinted, TakesPrintedBy, TakesBoth}
+use Rattle.commands.specs.Play.{HasPrinted, starts, IsPlayed, IsCutShort, IsLeft, IsFirst, limit_by, limit_line, IsPrintedTo, IsTold, TakesRun, TakesPrinted, TakesPrintedBy, TakesBoth}
 use Rattle.commands.specs.Recording.{TakesCapture}
 use Rattle.commands.specs.declared.sim.Ends.{Ends}
 use Rattle.commands.proofs.PlayLemmas.{stayed}

@@ -1,11 +1,11 @@
 -- The octets between a source and a connection, step by step.
-use Rattle.std.proofs.Common.{◌≡◌, ℕ, ◌+◌, ◌-◌, ◌<◌, ◌≤◌, ◌==◌, Bool, true, false, List, [], ◌∷◌, ◌++◌, length, take, drop, Option, Some, None, arith, refl, sym, ◌∙◌, ap, subst, append_assoc, append-nil}
+use Rattle.std.proofs.Common.{◌≡◌, ℕ, ◌+◌, ◌-◌, ◌≤◌, ◌==◌, Bool, true, false, List, [], ◌++◌, length, take, drop, Option, Some, None, arith, sym, ◌∙◌, ap, subst, append_assoc, append-nil}
 use Rattle.std.proofs.lemmas.List.{take-append-drop, drop-take, drop-drop}
 use Rattle.std.specs.List.{slice_range}
 use Rattle.std.specs.Io.KnownBytes.{IsAtEnd, Keeps, Appends}
 use Rattle.stream_law.specs.Begins.{Begins}
 use Rattle.devices.specs.Passages.{Passage}
-use Rattle.copy_law.specs.Course.{IsCourse, IsLawful}
+use Rattle.copy_law.specs.Course.{IsCourse}
 use Rattle.copy_law.proofs.Lawful.{course_lawful}
 use Rattle.copier.specs.declared.ends.Ends.{Ends}
 use Rattle.copier.specs.declared.feed.Feed.{Feed}

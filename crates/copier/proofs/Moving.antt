@@ -1,5 +1,5 @@
 -- What each call of a host is in a course.
-use Rattle.std.proofs.Common.{◌≡◌, ℕ, ◌+◌, ◌-◌, ◌<◌, ◌≤◌, ◌^◌, ◌||◌, ◌⊎◌, inl, inr, min, Bool, true, false, List, [], ◌∷◌, ◌++◌, length, take, drop, Option, Some, None, Result, Ok, Err, arith, refl, sym, ◌∙◌, ap, subst, append-nil}
+use Rattle.std.proofs.Common.{◌≡◌, ℕ, ◌+◌, ◌-◌, ◌<◌, ◌≤◌, ◌^◌, ◌||◌, ◌⊎◌, min, Bool, true, false, List, [], ◌∷◌, ◌++◌, length, take, drop, Some, None, Result, Ok, arith, refl, sym, ◌∙◌, ap, subst, append-nil}
 use Rattle.std.proofs.lemmas.List.{length-append}
 use Rattle.clock.specs.declared.moment.Moment.{Moment}
 use Rattle.ipv4.specs.declared.addr.Endpoint.{Endpoint}
@@ -19,8 +19,8 @@ use Rattle.wire_sim.specs.Steps.{readable_on}
 use Rattle.wire_sim.proofs.emission.NothingGoesOut.{nothing-left}
 use Rattle.wire_sim.proofs.emission.EmittedOctets.{take_written, emission_front-due}
 use Rattle.devices.specs.Passages.{Passage, taken, given}
-use Rattle.copy_law.specs.CopyView.{CopyView, host_at, with_host_at}
-use Rattle.copy_law.specs.Course.{IsCourse, goes_on, OpensOnce, holds_pair_of, clock_after}
+use Rattle.copy_law.specs.CopyView.{host_at, with_host_at}
+use Rattle.copy_law.specs.Course.{IsCourse, goes_on, holds_pair_of, clock_after}
 use Rattle.copy_law.specs.Course as course
 use Rattle.copier.specs.declared.ends.Ends.{Ends}
 use Rattle.copier.specs.Moves.{copy_of, host_of, with_host, GoesOn, Emits, Hears, Writes, Closes}

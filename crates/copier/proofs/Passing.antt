@@ -1,11 +1,10 @@
 -- What passes through a link while a course goes on.
-use Rattle.std.proofs.Common.{◌≡◌, ℕ, Bool, true, false, List, [], ◌∷◌, ◌++◌, Option, Some, None, Result, Ok, Err, refl, sym, ◌∙◌, ap, subst, append_assoc, append-nil}
+use Rattle.std.proofs.Common.{◌≡◌, ℕ, Bool, false, List, [], ◌∷◌, ◌++◌, Option, Some, None, Result, Ok, Err, refl, sym, ◌∙◌, ap, subst, append_assoc, append-nil}
 use Rattle.std.specs.Option.{IfNone}
 use Rattle.std.specs.Result.{OnErr}
 use Rattle.std.specs.Prelude.{is_some}
 use Rattle.sides.specs.declared.side.Side.{Side}
 use Rattle.devices.specs.Passages.{Passage, taken, given, Grows, MayGive, IsFairLink}
-use Rattle.copy_law.specs.CopyView.{CopyView}
 use Rattle.copy_law.specs.Course.{IsCourse}
 use Rattle.copier.specs.declared.ends.Ends.{Ends}
 use Rattle.copier.specs.Moves.{copy_of, Emits, Hears, KeepsTold, Carries}

@@ -1,12 +1,12 @@
 -- A turn of a copy, and all turns.
-use Rattle.std.proofs.Common.{◌≡◌, ℕ, ◌+◌, ◌-◌, ◌<◌, ◌≤◌, ◌^◌, min, Bool, true, false, List, [], ◌∷◌, ◌++◌, length, take, Option, Some, None, Result, Ok, Err, IfOk, arith, refl, sym, ◌∙◌, ap, subst, append_assoc, append-nil}
+use Rattle.std.proofs.Common.{◌≡◌, ℕ, ◌+◌, ◌-◌, ◌^◌, min, Bool, true, false, List, [], ◌++◌, length, Option, Some, None, Result, Ok, Err, IfOk, arith, refl, sym, ◌∙◌, ap, subst, append_assoc, append-nil}
 use Rattle.std.proofs.lemmas.List.{length-append}
-use Rattle.std.specs.Io.KnownBytes.{IsAtEnd, Keeps, Appends}
+use Rattle.std.specs.Io.KnownBytes.{Keeps, Appends}
 use Rattle.std.specs.Result.{IsErr}
 use Rattle.stream_law.specs.Begins.{Begins}
 use Rattle.devices.specs.Streams.{TakesFront}
 use Rattle.devices.specs.Passages.{Passage, IsFairLink}
-use Rattle.copy_law.specs.Course.{IsCourse, IsLawful}
+use Rattle.copy_law.specs.Course.{IsCourse}
 use Rattle.copy_law.proofs.Lawful.{course_lawful}
 use Rattle.copier.specs.declared.ends.Ends.{Ends}
 use Rattle.copier.specs.declared.feed.Feed.{Feed}
@@ -15,8 +15,8 @@ use Rattle.copier.specs.declared.turns.Copier.{Copier}
 use Rattle.copier.specs.declared.turns.Drained.{Drained}
 use Rattle.copier.specs.declared.turns.Drained.TheVariants.{Still, Moved, End}
 use Rattle.copier.specs.Moves.{copy_of, GoesOn, KeepsTold}
-use Rattle.copier.specs.Feeding.{pending, IsFed, IsBegun, KeepsFed, LeavesBegun}
-use Rattle.copier.specs.Copying.{count_of, is_end, IsDrained, DrainsTo, BeginsSent, LeavesDrained, IsLeft, CameOver, IsUnderWay, TurnsTo, Turns}
+use Rattle.copier.specs.Feeding.{pending, IsFed, KeepsFed, LeavesBegun}
+use Rattle.copier.specs.Copying.{count_of, is_end, IsDrained, DrainsTo, LeavesDrained, IsLeft, CameOver, IsUnderWay, TurnsTo, Turns}
 use Rattle.copier.proofs.Passing.{some_same}
 use Rattle.copier.proofs.Feeding.{kept-some, appended-some, begun}
 

@@ -1,20 +1,17 @@
 -- A call of one of the two hosts, and a tick of both.
-use Rattle.std.proofs.Common.{◌≡◌, ℕ, ◌+◌, ◌-◌, ◌*◌, ◌<◌, ◌≤◌, ◌^◌, ◌==◌, min, Bool, true, false, cond, List, [], ◌∷◌, ◌++◌, length, take, Option, Some, None, Result, Ok, Err, arith, refl, sym, ◌∙◌, ap, subst, append-nil}
-use Rattle.std.specs.List.{slice_get}
+use Rattle.std.proofs.Common.{◌≡◌, ℕ, ◌+◌, ◌-◌, ◌≤◌, ◌^◌, Bool, true, List, [], ◌∷◌, ◌++◌, length, take, Option, Some, None, Result, Ok, arith, refl, sym, ◌∙◌, ap, subst, append-nil}
 use Rattle.std.specs.Global.{Vec}
 use Rattle.clock.specs.declared.moment.Moment.{Moment}
 use Rattle.ipv4.specs.declared.addr.Endpoint.{Endpoint}
-use Rattle.ipv4.specs.declared.addr.Pair.{Pair}
 use Rattle.tcp_state.specs.declared.calls.Received.{Received}
 use Rattle.tcp_state.specs.declared.calls.Received.TheVariants as received
 use Rattle.sockets.specs.declared.entry.SocketId.{SocketId}
 use Rattle.sockets.specs.declared.refusal.Refusal.{Refusal}
 use Rattle.sockets.specs.SocketsView.{SocketsView}
 use Rattle.sockets.specs.Calls.{unless_refused, accept_answer, after_accept, send_answer, after_send, recv_answer, after_recv, shutdown_refusal, after_shutdown}
-use Rattle.host.specs.HostView.{HostView, with_sockets}
+use Rattle.host.specs.HostView.{with_sockets}
 use Rattle.host.specs.Sound.{IsSoundHost}
 use Rattle.host.specs.Ticks.{after_tick}
-use Rattle.sides.specs.declared.side.Side.{Side}
 use Rattle.sides.specs.declared.side.Side.TheVariants.{A, B}
 use Rattle.wire_sim.specs.declared.event.Call.{Call}
 use Rattle.wire_sim.specs.declared.event.Call.TheVariants as call
@@ -24,11 +21,10 @@ use Rattle.wire_sim.specs.declared.event.Answer.TheVariants as reply
 use Rattle.wire_sim.specs.declared.event.Opening.{Opening}
 use Rattle.wire_sim.specs.declared.event.Happening.{Happening}
 use Rattle.wire_sim.specs.declared.world.bag.Frame.{Frame}
-use Rattle.wire_sim.specs.declared.world.bag.Note.{Note}
 use Rattle.wire_sim.specs.Runs.{IsReached}
 use Rattle.wire_sim.specs.Steps.{Answers, MeetsReceived, readable_on, recv_len}
 use Rattle.wire_sim.specs.Tallies.{written_by, counts_after}
-use Rattle.wire_sim.specs.Trace.{sent_on, read_on, closed_on, ended_on}
+use Rattle.wire_sim.specs.Trace.{sent_on}
 use Rattle.wire_sim.specs.WorldView.{NetworkView, WorldView}
 use Rattle.wire_sim.proofs.pairing.WorldAsPairings.{told}
 use Rattle.wire_sim.proofs.tables.TableById.{Account}
@@ -39,7 +35,7 @@ use Rattle.copy_law.specs.CopyView.{CopyView}
 use Rattle.copy_law.specs.Course.{clock_after}
 use Rattle.copy_law.proofs.Vectors.{held}
 use Rattle.copy_law.proofs.Counts.{written_by-counted, length-counted}
-use Rattle.copy_law.proofs.Standing.{Stands, AreCarried, IsRecentNote, IsTold, IsGot, IsSilent, world_of, network_of, reached-more, told-still, sent-quiet, closed-quiet, got-quiet, read-quiet, ended-quiet}
+use Rattle.copy_law.proofs.Standing.{Stands, AreCarried, IsTold, IsGot, IsSilent, world_of, network_of, reached-more, told-still, sent-quiet, closed-quiet, got-quiet}
 
 -- What a call of a tells.
 

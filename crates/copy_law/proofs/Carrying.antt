@@ -1,5 +1,5 @@
 -- A frame goes into the link, or comes out of it.
-use Rattle.std.proofs.Common.{◌≡◌, ℕ, suc, ◌+◌, ◌-◌, ◌*◌, ◌<◌, ◌≤◌, ◌^◌, ◌==◌, ◌&&◌, ◌||◌, ◌⊎◌, inl, inr, min, Bool, true, false, List, [], ◌∷◌, ◌++◌, length, map, Option, Some, None, is_some, option_map, IfSome, Result, Ok, Err, arith, refl, sym, ◌∙◌, ap, subst}
+use Rattle.std.proofs.Common.{◌≡◌, ℕ, suc, ◌+◌, ◌-◌, ◌<◌, ◌≤◌, ◌^◌, ◌==◌, ◌&&◌, ◌||◌, inl, inr, min, Bool, true, false, List, [], ◌∷◌, ◌++◌, length, map, Option, Some, None, is_some, option_map, IfSome, Result, Ok, Err, arith, refl, sym, ◌∙◌, ap, subst}
 use Rattle.std.specs.List.{find, slice_get}
 use Rattle.std.specs.Global.{Vec}
 use Rattle.std.proofs.lemmas.List.{length-append}
@@ -16,7 +16,6 @@ use Rattle.host.specs.Arrival.{IsDelivered, foreseen}
 use Rattle.host.specs.Emission.{emission_len, emission_octets, after_emission}
 use Rattle.sides.specs.declared.side.Side.{Side}
 use Rattle.sides.specs.declared.side.Side.TheVariants.{A, B}
-use Rattle.wire_sim.specs.declared.event.Event.{Event}
 use Rattle.wire_sim.specs.declared.event.Event.TheVariants as event
 use Rattle.wire_sim.specs.declared.event.Answer.{Answer}
 use Rattle.wire_sim.specs.declared.event.Answer.TheVariants as reply
@@ -24,14 +23,14 @@ use Rattle.wire_sim.specs.declared.event.Opening.{Opening}
 use Rattle.wire_sim.specs.declared.event.Happening.{Happening}
 use Rattle.wire_sim.specs.declared.world.bag.Frame.{Frame}
 use Rattle.wire_sim.specs.declared.world.bag.Note.{Note}
-use Rattle.wire_sim.specs.Fairness.{IsFairFrame, IsRecent, IsUnopened}
+use Rattle.wire_sim.specs.Fairness.{IsRecent, IsUnopened}
 use Rattle.wire_sim.specs.Openings.{epoch_of, held_anew, opened_by_frame}
-use Rattle.wire_sim.specs.Runs.{IsReached, written_len, unfair}
+use Rattle.wire_sim.specs.Runs.{written_len, unfair}
 use Rattle.sides.specs.Sides.{same_side, other_side}
 use Rattle.wire_sim.specs.Steps.{note_of, with_opening, after_delivery, MeetsFrame, DeliversFrame}
 use Rattle.wire_sim.specs.Tallies.{same_pair, is_opening_of, written_by}
 use Rattle.wire_sim.specs.Trace.{sent_on, of_opening}
-use Rattle.wire_sim.specs.WorldView.{NetworkView, WorldView, table_of, host_of}
+use Rattle.wire_sim.specs.WorldView.{NetworkView}
 use Rattle.wire_sim.proofs.fairness.FairIsUnrefused.{unrefused}
 use Rattle.wire_sim.proofs.fairness.NotesAreTraced.{notes-traced}
 use Rattle.wire_sim.proofs.lists.FoundAfterChange.{find-added_none}
@@ -39,11 +38,11 @@ use Rattle.wire_sim.proofs.runs.RunsAreLawful.{run_tallied}
 use Rattle.wire_sim.proofs.told.TraceAndOneMore.{quiet-emit, quiet-deliver}
 use Rattle.devices.specs.Passages.{Passage, taken, given, frames_taken, MayGive}
 use Rattle.copy_law.specs.CopyView.{CopyView, host_at, with_host_at}
-use Rattle.copy_law.specs.Course.{Goes, OpensOnce, after_hearing, holds_some, holds_pair_of, opened_after}
+use Rattle.copy_law.specs.Course.{Goes, OpensOnce, after_hearing, holds_some, holds_pair_of}
 use Rattle.copy_law.specs.Course as course
 use Rattle.copy_law.proofs.Vectors.{held}
 use Rattle.copy_law.proofs.Counts.{written_by-opened, epoch_of-opened, slice_get-mapped, slice_get-more, map-more}
-use Rattle.copy_law.proofs.Standing.{Stands, AreCarried, IsRecentNote, IsTold, frame_of, network_of, world_of, reached-more, told-still}
+use Rattle.copy_law.proofs.Standing.{Stands, AreCarried, IsRecentNote, frame_of, network_of, world_of, reached-more, told-still}
 use Rattle.copy_law.proofs.Calling.{stands-written, stands-closed, stands-accepted, stands-read, stands-ended, stands-ticked}
 
 -- The passages.

@@ -1,7 +1,6 @@
 -- What is counted beside openings, and which epoch they tell, after one more.
-use Rattle.std.proofs.Common.{◌≡◌, ℕ, suc, zero, ◌+◌, ◌<◌, ◌≤◌, ◌==◌, ◌&&◌, ◌⊎◌, inl, inr, Bool, true, false, cond, List, [], ◌∷◌, ◌++◌, length, Option, Some, None, fold, map, arith, refl, sym, ◌∙◌, ap, subst}
-use Rattle.std.specs.List.{find, slice_get}
-use Rattle.std.proofs.lemmas.Bool.{and_parts}
+use Rattle.std.proofs.Common.{◌≡◌, ℕ, suc, zero, ◌+◌, ◌≤◌, ◌⊎◌, inl, inr, Bool, true, false, cond, List, [], ◌∷◌, ◌++◌, length, Some, fold, map, arith, refl, ◌∙◌, ap}
+use Rattle.std.specs.List.{slice_get}
 use Rattle.ipv4.specs.declared.addr.Pair.{Pair}
 use Rattle.sockets.specs.declared.entry.SocketId.{SocketId}
 use Rattle.sides.specs.declared.side.Side.{Side}

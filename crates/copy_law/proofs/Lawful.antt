@@ -1,5 +1,5 @@
 -- The law of a copy.
-use Rattle.std.proofs.Common.{◌≡◌, ℕ, ◌^◌, ◌==◌, Bool, true, false, List, [], ◌∷◌, ◌++◌, Option, Some, None, refl, sym, ◌∙◌, ap, subst}
+use Rattle.std.proofs.Common.{◌≡◌, ℕ, ◌^◌, ◌==◌, Bool, true, false, List, [], ◌∷◌, Option, Some, None, refl, sym, ◌∙◌, ap, subst}
 use Rattle.std.specs.List.{find}
 use Rattle.sockets.specs.declared.entry.SocketId.{SocketId}
 use Rattle.stream_law.specs.Begins.{Begins}
@@ -8,13 +8,13 @@ use Rattle.wire_sim.specs.declared.event.Opening.{Opening}
 use Rattle.wire_sim.specs.declared.event.Happening.{Happening}
 use Rattle.wire_sim.specs.Coverage.{IsCovered}
 use Rattle.wire_sim.specs.Tallies.{is_opening_of, is_opening_at}
-use Rattle.wire_sim.specs.Trace.{sent_on, read_on, closed_on, ended_on, of_opening, written, read, closed, ended, KeepsStream, StreamLaw}
+use Rattle.wire_sim.specs.Trace.{sent_on, read_on, closed_on, ended_on, of_opening, written, read, closed, ended}
 use Rattle.wire_sim.specs.WorldView.{WorldView}
 use Rattle.wire_sim.proofs.openings.OctetsAreCovered.{octets-covered}
 use Rattle.wire_sim.proofs.runs.RunsAreLawful.{run_lawful}
 use Rattle.wire_sim.proofs.tables.TableById.{same_id}
 use Rattle.copy_law.specs.CopyView.{CopyView}
-use Rattle.copy_law.specs.Course.{IsLawful, IsCourse, Starts, Goes, EveryCourseIsLawful}
+use Rattle.copy_law.specs.Course.{IsLawful, IsCourse, EveryCourseIsLawful}
 use Rattle.copy_law.specs.Course as course
 use Rattle.copy_law.proofs.Standing.{Stands, IsTold, IsGot, world_of}
 use Rattle.copy_law.proofs.Starting.{stands-first}

@@ -1,6 +1,6 @@
 -- What holds of a copy after every event: there is a world of the two hosts to which a run led, whose network has the frames that the link
 -- took, and whose trace tells what was written and read.
-use Rattle.std.proofs.Common.{◌≡◌, ℕ, ◌+◌, ◌*◌, ◌≤◌, ◌^◌, ◌==◌, Bool, true, false, List, [], ◌∷◌, ◌++◌, length, map, Option, Some, None, refl, sym, ◌∙◌, ap, subst}
+use Rattle.std.proofs.Common.{◌≡◌, ℕ, ◌+◌, ◌*◌, ◌≤◌, ◌^◌, ◌==◌, Bool, false, List, [], ◌∷◌, ◌++◌, length, map, Option, Some, None, refl, ◌∙◌, ap}
 use Rattle.std.specs.List.{find, slice_get}
 use Rattle.ipv4.specs.declared.addr.Pair.{Pair}
 use Rattle.sockets.specs.declared.entry.SocketId.{SocketId}
@@ -16,7 +16,7 @@ use Rattle.wire_sim.specs.declared.event.Happening.{Happening}
 use Rattle.wire_sim.specs.declared.world.bag.Frame.{Frame}
 use Rattle.wire_sim.specs.declared.world.bag.Note.{Note}
 use Rattle.wire_sim.specs.Openings.{epoch_of}
-use Rattle.wire_sim.specs.Runs.{IsReached, IsStep, IsNumbered, unfair}
+use Rattle.wire_sim.specs.Runs.{IsReached, IsNumbered, unfair}
 use Rattle.wire_sim.specs.Runs as runs
 use Rattle.wire_sim.specs.Steps.{Steps}
 use Rattle.wire_sim.specs.Tallies.{is_opening_of, written_by}

@@ -1,10 +1,7 @@
 -- A copy before anything was moved.
-use Rattle.std.proofs.Common.{◌≡◌, ℕ, ◌+◌, ◌<◌, ◌≤◌, ◌^◌, ◌==◌, Bool, true, false, List, [], ◌∷◌, ◌++◌, length, Option, Some, None, IfSome, arith, refl, sym, ◌∙◌, ap, subst}
-use Rattle.std.specs.List.{find, slice_get}
-use Rattle.clock.specs.declared.moment.Moment.{Moment}
-use Rattle.ipv4.specs.declared.addr.Endpoint.{Endpoint}
+use Rattle.std.proofs.Common.{◌≡◌, ℕ, ◌+◌, ◌^◌, false, List, [], ◌∷◌, ◌++◌, length, Option, Some, None, IfSome, arith, refl, sym, ◌∙◌, ap, subst}
+use Rattle.std.specs.List.{find}
 use Rattle.ipv4.specs.declared.addr.Pair.{Pair}
-use Rattle.tcp_segment.specs.declared.seq.Seq.{Seq}
 use Rattle.interface.specs.Ways.{is_routed}
 use Rattle.sockets.specs.declared.entry.Kind.TheVariants.{Tcp}
 use Rattle.sockets.specs.declared.entry.SocketId.{SocketId}
@@ -15,7 +12,6 @@ use Rattle.sockets.specs.Calls.{unless_refused, bind_refusal, after_bind, listen
 use Rattle.host.specs.ConfigView.{ConfigView}
 use Rattle.host.specs.HostView.{HostView, new_host, with_sockets}
 use Rattle.host.specs.Sound.{IsSoundHost}
-use Rattle.sides.specs.declared.side.Side.{Side}
 use Rattle.sides.specs.declared.side.Side.TheVariants.{A, B}
 use Rattle.wire_sim.specs.declared.event.Call.{Call}
 use Rattle.wire_sim.specs.declared.event.Call.TheVariants as call
@@ -24,20 +20,18 @@ use Rattle.wire_sim.specs.declared.event.Answer.{Answer}
 use Rattle.wire_sim.specs.declared.event.Answer.TheVariants as reply
 use Rattle.wire_sim.specs.declared.event.Opening.{Opening}
 use Rattle.wire_sim.specs.declared.event.Happening.{Happening}
-use Rattle.wire_sim.specs.declared.world.bag.Frame.{Frame}
-use Rattle.wire_sim.specs.declared.world.bag.Note.{Note}
 use Rattle.wire_sim.specs.Fairness.{IsUnopened, pair_to_connect}
-use Rattle.wire_sim.specs.Openings.{epoch_connected, opened_as, opened_by_connect}
+use Rattle.wire_sim.specs.Openings.{epoch_connected, opened_as}
 use Rattle.wire_sim.specs.Runs.{IsReached}
 use Rattle.wire_sim.specs.Runs as runs
 use Rattle.wire_sim.specs.Steps.{Answers, HostMeetsCall, with_opening, after_call}
 use Rattle.wire_sim.specs.Tallies.{is_opening_of}
-use Rattle.wire_sim.specs.WorldView.{NetworkView, WorldView, are_alike}
+use Rattle.wire_sim.specs.WorldView.{WorldView, are_alike}
 use Rattle.wire_sim.proofs.fairness.FairIsUnrefused.{unrefused}
 use Rattle.wire_sim.proofs.told.TraceAndOneMore.{answered, quiet-everywhere, quiet-socket, quiet-bind, quiet-listen, quiet-connect}
 use Rattle.copy_law.specs.CopyView.{CopyView}
 use Rattle.copy_law.specs.Course.{MakesSocket, Listens, Connects, Starts}
-use Rattle.copy_law.proofs.Standing.{Stands, AreCarried, IsTold, IsSilent, world_of, network_of, reached-more, told-still}
+use Rattle.copy_law.proofs.Standing.{Stands, AreCarried, IsTold, world_of, network_of, reached-more, told-still}
 
 -- a host became one with another table
 others : (old new : HostView) (sockets : SocketsView) → new ≡ with_sockets old sockets → new ≡ with_sockets old new.sockets

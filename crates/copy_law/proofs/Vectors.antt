@@ -1,5 +1,5 @@
 -- Octets as a program holds them, which some definitions of a world want.
-use Rattle.std.proofs.Common.{◌≡◌, ℕ, ◌<◌, ◌≤◌, ◌^◌, List, length, arith, refl}
+use Rattle.std.proofs.Common.{ℕ, ◌<◌, ◌≤◌, ◌^◌, List, length, arith, refl}
 use Rattle.std.specs.Global.{Vec}
 use denote.RawPtr.{null_ptr}
 

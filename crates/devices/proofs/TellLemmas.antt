@@ -1,6 +1,5 @@
 -- What a link in memory tells after one passage more.
 use Rattle.std.proofs.Common.{◌≡◌, List, [], ◌∷◌, ◌++◌, refl, sym, ap, append-nil}
-use Rattle.devices.specs.Passages.{Passage}
 use Rattle.devices.specs.declared.link.memory.Passage.{Passage as Kept}
 use Rattle.devices.specs.Told.{passage_of, told_of}
 

@@ -1,5 +1,5 @@
 -- A frame that is sent twice.
-use Rattle.std.proofs.Common.{◌≡◌, ◌<◌, ℕ, List, [], ◌∷◌, ◌++◌, length, Option, Some, None, Result, Ok, Err, refl, ap, ◌∙◌, append_assoc, append-nil, arith}
+use Rattle.std.proofs.Common.{◌<◌, ℕ, List, [], ◌∷◌, ◌++◌, length, Option, Some, None, Result, Ok, Err, refl, ap, ◌∙◌, append_assoc, arith}
 use Rattle.udp_link.specs.declared.losses.Fate.TheVariants.{Twice}
 use Rattle.udp_link.specs.Datagrams.{Grows, Sends, HandsOver}
 

@@ -1,6 +1,5 @@
-use Rattle.std.proofs.Common.{◌≡◌, ◌≤◌, Ok, length, take, arith, sym, ◌∙◌, ap}
+use Rattle.std.proofs.Common.{Ok, length, take, arith, sym, ◌∙◌, ap}
 use Rattle.std.proofs.lemmas.List.{length-take}
-use Rattle.tcp_state.specs.declared.calls.Received.TheVariants as received
 use Rattle.host.specs.HostView.{HostView}
 use Rattle.copier.specs.declared.ends.Ends.{Ends}
 use Rattle.copier.proofs.Moving.{reads-octets, reads-end}
