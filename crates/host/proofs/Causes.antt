@@ -38,6 +38,7 @@ use Rattle.reassembly.specs.Reassembly.{Outcome}
 use Rattle.reassembly.specs.Reassembly.Outcome.{Waits, Completes, GivesUp}
 use Rattle.sockets.specs.declared.datagrams.Reception.{Reception}
 use Rattle.sockets.specs.declared.datagrams.Reception.TheVariants as socket
+use Rattle.sockets.specs.Causes.{after_event}
 use Rattle.sockets.specs.Datagrams.{after_reception, reception}
 use Rattle.sockets.specs.SocketsView.{SocketsView, later_moment}
 use Rattle.sockets.specs.Unreachable.{after_unreachable}
@@ -336,9 +337,10 @@ stands-heard c events h moment isn answer new stands (Err cause) was met = to-ne
 
 -- any event
 stands-on : (c : ConfigView) (before : List Event) (event : Event) (old new : HostView) → HostStands c before old → Makes event old new → HostStands c (before ++ event ∷ []) new
-stands-on c before (Calls table) old new stands makes =
-    let all = before ++ Calls table ∷ [] in
-    to-new c all (with_sockets old table) new makes (with-table c all old table (host-more c before (Calls table) old stands))
+stands-on c before (Calls call) old new stands makes =
+    let all = before ++ Calls call ∷ [] in
+    let left : SocketsView = after_event old.sockets call in
+    to-new c all (with_sockets old left) new makes.1 (with-table c all old left (host-more c before (Calls call) old stands))
 stands-on c before (Ticks now) old new stands makes =
     let all = before ++ Ticks now ∷ [] in
     let moment : Moment = later_moment old.sockets now in
@@ -373,4 +375,4 @@ stands-on c before (Emits now) old new stands makes =
 -- any list of events
 pub run-stands : (c : ConfigView) (events : List Event) (h : HostView) → Runs c events h → HostStands c events h
 run-stands c _ _ Begins = record { interface = record { mac = refl; addr = refl; replies = tt }; pool = none-gathered (WasPart c []) 4 }
-run-stands c _ _ (GoesOn before event old new ran makes) = stands-on c before event old new (run-stands c before old ran) makes
+run-stands c _ _ (GoesOn before event old new ran sound small makes) = stands-on c before event old new (run-stands c before old ran) makes

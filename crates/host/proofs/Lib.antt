@@ -12,3 +12,4 @@ pub mod Messages
 pub mod Reporting
 pub mod Gathering
 pub mod Unusable
+pub mod Tables

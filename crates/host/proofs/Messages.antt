@@ -32,6 +32,7 @@ use Rattle.host.specs.HostView.{HostView}
 use Rattle.host.specs.Runs.{Event, Runs, WasHeard}
 use Rattle.host.specs.Sound.{IsSoundHost}
 use Rattle.host.proofs.Carriage.{SendsPart, SendsSegment, at-all, is-sending}
+use Rattle.host.proofs.Tables.{run-ordered}
 use Rattle.host.proofs.Causes.{IsCaused, run-stands}
 use Rattle.host.proofs.Hearing.{CanGo, echo-can, echo-frame, error-can, error-frame, heard-message, message-nothing, message-part, message-reply, message-request, message-reset, message-segment, way-mac}
 
@@ -156,16 +157,16 @@ caused-at c events h k w ran at =
     let stands = host.interface in
     at-all (λ (x : Waiting). IsCaused c events x.reply) h.interface.replies k w stands.replies at
 
-pub request-there : (c : ConfigView) (events : List Event) (h : HostView) (now : Moment) (mac : Mac) (ours : Addr) (reply : Control) → Runs c events h → IsSoundHost h → IsOrdered h.sockets
+pub request-there : (c : ConfigView) (events : List Event) (h : HostView) (now : Moment) (mac : Mac) (ours : Addr) (reply : Control) → Runs c events h → IsSoundHost h
     → heard mac ours (emission_octets h now) ≡ Ok (Icmp reply) → reply.message.kind ≡ 0 → Requested c events ours reply.message
-request-there c events h now mac ours reply ran sound ordered e kind =
+request-there c events h now mac ours reply ran sound e kind =
     let moment = later_moment h.sockets now in
-    let was = was-reply h moment sound ordered (emission h moment) refl mac ours reply e in
+    let was = was-reply h moment sound (run-ordered c events h ran) (emission h moment) refl mac ours reply e in
     requested c events was.waiting.reply ours reply.message (caused-at c events h was.place was.waiting ran was.at) was.is kind
 
-pub cause-there : (c : ConfigView) (events : List Event) (h : HostView) (now : Moment) (mac : Mac) (ours : Addr) (error : Control) → Runs c events h → IsSoundHost h → IsOrdered h.sockets
+pub cause-there : (c : ConfigView) (events : List Event) (h : HostView) (now : Moment) (mac : Mac) (ours : Addr) (error : Control) → Runs c events h → IsSoundHost h
     → heard mac ours (emission_octets h now) ≡ Ok (Icmp error) → error.message.kind ≢ 0 → Reported c events ours error.message
-cause-there c events h now mac ours error ran sound ordered e kind =
+cause-there c events h now mac ours error ran sound e kind =
     let moment = later_moment h.sockets now in
-    let was = was-reply h moment sound ordered (emission h moment) refl mac ours error e in
+    let was = was-reply h moment sound (run-ordered c events h ran) (emission h moment) refl mac ours error e in
     reported c events was.waiting.reply ours error.message (caused-at c events h was.place was.waiting ran was.at) was.is kind

@@ -1,35 +1,46 @@
 -- What may happen to a host, one event after another, and what was delivered to it by then.
-use Rattle.std.specs.Prelude.{◌≡◌, ℕ, List, [], ◌∷◌, ◌++◌, Contains, Result, Ok}
+use Rattle.std.specs.Prelude.{◌≡◌, ℕ, ◌<◌, ◌^◌, List, [], ◌∷◌, ◌++◌, Contains, Result, Ok}
 use Rattle.clock.specs.declared.moment.Moment.{Moment}
 use Rattle.frames.specs.declared.drop.DropCause.{DropCause}
 use Rattle.frames.specs.declared.meaning.Meaning.{Meaning}
 use Rattle.frames.specs.Meaning.{heard}
-use Rattle.sockets.specs.SocketsView.{SocketsView}
+use Rattle.sockets.specs.Causes as table
+use Rattle.sockets.specs.Order.{IsAllowed}
+use Rattle.sockets.specs.Timing as timing
 use Rattle.host.specs.Arrival.{IsDelivered}
 use Rattle.host.specs.ConfigView.{ConfigView}
 use Rattle.host.specs.Emission.{after_emission}
 use Rattle.host.specs.HostView.{HostView, new_host, with_sockets}
+use Rattle.host.specs.Sound.{IsSoundHost}
 use Rattle.host.specs.Ticks.{after_tick}
 
--- a call of a socket, which makes this of the table, whatever it is; a tick; a frame that is delivered, and whose segment may open a
--- connection with this initial number; or the going out of what is due
+-- a call of a socket, which is this event of the table; a tick; a frame that is delivered, and whose segment may open a connection with this
+-- initial number; or the going out of what is due
 pub data Event : Type 0 where
-  Calls : SocketsView → Event
+  Calls : table.Event → Event
   Ticks : Moment → Event
   Delivers : Moment → ℕ → List ℕ → Event
   Emits : Moment → Event
 
--- what an event makes of a host
+-- what an event makes of a host: a call is one that isn't refused
 abbrev pub Makes : Event → HostView → HostView → Type 0
-Makes (Calls table) old new = new ≡ with_sockets old table
+Makes (Calls call) old new = IsAllowed old.sockets call × (new ≡ with_sockets old (table.after_event old.sockets call))
 Makes (Ticks now) old new = new ≡ after_tick old now
 Makes (Delivers now isn octets) old new = (answer : Result (Unit {0}) DropCause) × IsDelivered old now isn octets answer new
 Makes (Emits now) old new = new ≡ after_emission old now
 
--- these events, the first one first, lead from a host of this set-up on which nothing happened to this host
+-- the initial sequence number of a connection that an event may open has 32 bits
+abbrev pub IsNumbered : Event → Type 0
+IsNumbered (Calls call) = timing.IsNumbered call
+IsNumbered (Delivers now isn octets) = isn < 2 ^ 32
+IsNumbered (Ticks now) = Unit {0}
+IsNumbered (Emits now) = Unit {0}
+
+-- These events, the first one first, lead from a host of this set-up on which nothing happened to this host. Each finds the host sound, as every
+-- host is by `Host::sound`.
 pub data Runs (c : ConfigView) : List Event → HostView → Type 0 where
   Begins : Runs c [] (new_host c)
-  GoesOn : (before : List Event) (event : Event) (old new : HostView) → Runs c before old → Makes event old new → Runs c (before ++ event ∷ []) new
+  GoesOn : (before : List Event) (event : Event) (old new : HostView) → Runs c before old → IsSoundHost old → IsNumbered event → Makes event old new → Runs c (before ++ event ∷ []) new
 
 -- one of these events was the delivery of octets that are this to a host of this set-up
 pub record WasHeard (c : ConfigView) (events : List Event) (meaning : Meaning) : Type 0 where

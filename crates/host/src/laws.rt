@@ -32,7 +32,10 @@ ghost use Rattle.interface.specs.Timing.{least_deadline as reply_deadline};
 ghost use Rattle.reassembly.specs.Places.{next_deadline as pool_deadline};
 ghost use Rattle.sockets.specs.declared.entry.Entry.{Entry};
 ghost use Rattle.sockets.specs.Entries.{due_peer, is_datagrams_at, sends};
+ghost use Rattle.sockets.specs.Offered.{IsReached};
 ghost use Rattle.sockets.specs.Order.{IsOrdered};
+ghost use Rattle.sockets.specs.Sound.{NoneIsOver};
+ghost use Rattle.sockets.specs.Timing.{EachKeepsTime};
 ghost use Rattle.sockets.specs.SocketsView.{later_moment};
 ghost use Rattle.sockets.specs.Ticks.{least_deadline as timer_deadline};
 ghost use Rattle.host.specs.ConfigView.{ConfigView, IsOfOne};
@@ -43,7 +46,7 @@ ghost use Rattle.host.specs.Causes.{IsAbout};
 ghost use Rattle.host.specs.Emission.{Replies, Sends, Nothing, emission, emission_to, emission_len, after_emission, emission_octets, goes_out_from};
 ghost use Rattle.host.specs.Messages.{errors_of};
 ghost use Rattle.host.specs.Places.{ReplyOf, EntryOf, places, can_go_out};
-ghost use Rattle.host.specs.Runs.{Event, Runs, WasHeard};
+ghost use Rattle.host.specs.Runs.{Event, IsNumbered, Makes, Runs, WasHeard};
 ghost use Rattle.host.specs.Sound.{IsSoundHost};
 ghost use Rattle.host.specs.Ticks.{after_tick, least_deadline, hop_deadline};
 
@@ -119,12 +122,23 @@ pub fn answered_datagrams_may_be()
         → IsDelivered h now isn octets answer new → errors_of new ≡ errors_of h }
 {}
 
+/// Over every list of events of a host its table is one that events of the table lead to, none of them refused. So it is in order, nothing of it is over, and each law of
+/// tables that are reached is one of it. And each of its connections keeps its time and its congestion window.
+pub fn tables_are_reached()
+    ensures event { (event : Event) (old new : HostView) → IsSoundHost old → IsNumbered event → Makes event old new → IsReached old.sockets → IsReached new.sockets }
+    ensures timed { (event : Event) (old new : HostView) → IsSoundHost old → IsNumbered event → Makes event old new → EachKeepsTime old.sockets → EachKeepsTime new.sockets }
+    ensures reached { (c : ConfigView) (events : List Event) (h : HostView) → Runs c events h → IsReached h.sockets }
+    ensures ordered { (c : ConfigView) (events : List Event) (h : HostView) → Runs c events h → IsOrdered h.sockets }
+    ensures over { (c : ConfigView) (events : List Event) (h : HostView) → Runs c events h → NoneIsOver h.sockets }
+    ensures keeps_time { (c : ConfigView) (events : List Event) (h : HostView) → Runs c events h → EachKeepsTime h.sockets }
+{}
+
 /// An echo reply has its request, over every list of events of a host (RFC 792). Whoever hears one in what the host gives out is at an address
 /// from which an echo request was delivered to the host, with the very identifier, number and data of the reply. And a request that is taken, to
 /// whose source a route leads, has its reply behind all others that wait.
 pub fn echo_replies_have_requests()
     ensures request { (c : ConfigView) (events : List Event) (h : HostView) (now : Moment) (mac : Mac) (ours : Addr) (reply : Control)
-        → Runs c events h → IsSoundHost h → IsOrdered h.sockets → heard mac ours (emission_octets h now) ≡ Ok (Icmp reply) → reply.message.kind ≡ 0
+        → Runs c events h → IsSoundHost h → heard mac ours (emission_octets h now) ≡ Ok (Icmp reply) → reply.message.kind ≡ 0
         → (request : Message) × WasHeard c events (Icmp (record { source = ours; message = request })) × IsEchoRequest request × RepliesTo reply.message request }
     ensures reply { (h : HostView) (now : Moment) (isn : ℕ) (octets : List ℕ) (c : Control) (new : HostView) → heard_by h octets ≡ Ok (Icmp c)
         → IsEchoRequest c.message → IsTrue (is_routed h.interface c.source) → IsDelivered h now isn octets (Ok tt) new
@@ -138,7 +152,7 @@ pub fn echo_replies_have_requests()
 /// the time for its other fragments ran out.
 pub fn errors_have_causes()
     ensures { (c : ConfigView) (events : List Event) (h : HostView) (now : Moment) (mac : Mac) (ours : Addr) (error : Control)
-        → Runs c events h → IsSoundHost h → IsOrdered h.sockets → heard mac ours (emission_octets h now) ≡ Ok (Icmp error) → error.message.kind ≢ 0
+        → Runs c events h → IsSoundHost h → heard mac ours (emission_octets h now) ≡ Ok (Icmp error) → error.message.kind ≢ 0
         → (reason : Reason) × (d : Datagram) × (meaning : Meaning) × IsAbout reason d meaning × WasHeard c events meaning × (d.source ≡ ours)
         × (error.message ≡ error_for reason (header_octets d) d.payload) }
 {}

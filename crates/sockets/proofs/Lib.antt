@@ -47,3 +47,5 @@ pub mod KeptFiled
 pub mod ResetWaits
 pub mod Places
 pub mod ErrorsFirst
+pub mod Led
+pub mod Timed

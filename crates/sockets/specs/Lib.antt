@@ -19,3 +19,4 @@ pub mod Order
 pub mod Traffic
 pub mod Names
 pub mod Offered
+pub mod Timing

@@ -25,7 +25,12 @@ ghost use Rattle.sockets.specs.Datagrams.{sendto_answer, after_sendto, sending_e
 ghost use Rattle.sockets.specs.Calls.{refusal_of, connect_refusal, after_connect, send_answer, recv_answer, shutdown_refusal, pair_connected};
 ghost use Rattle.sockets.specs.Pairs.{socket_pair};
 ghost use Rattle.sockets.specs.Sound.{IsSoundTable, NoneIsOver};
+ghost use Rattle.sockets.specs.Timing.{EachKeepsTime, IsNumbered};
 ghost use Rattle.sockets.specs.Ports.{first_port, IsDynamic, IsFirstBehind};
+ghost use Rattle.sockets.specs.declared.calls.TheConstants.{MOST_BACKLOG};
+ghost use Rattle.sockets.specs.declared.table.TheConstants.{ENTRIES};
+ghost use Rattle.clock.specs.declared.moment.TheConstants.{HOP_WAIT};
+ghost use Rattle.sockets.specs.Offered.{IsReached};
 ghost use Rattle.sockets.specs.Order.{IsOrdered, IsAllowed};
 ghost use Rattle.sockets.specs.Causes.{Event, after_event, IsAdded, IsStep, Follows};
 ghost use Rattle.sockets.specs.Traffic.{streams, is_of_datagrams, after_events, datagrams_taken_in};
@@ -60,9 +65,20 @@ pub fn ends_have_causes()
     ensures { (h : SocketsView) (e : Event) → IsSoundTable h → Follows (IsStep h e) (IsAdded h e) h.entries (let after = after_event h e in after.entries) }
 {}
 
-/// What is over is taken out at once: no event leaves a connection in the table that its caller closed, that is CLOSED and owes no reset.
+/// What is over is taken out at once: no event leaves a connection in the table that its caller closed, that is CLOSED and owes no reset. A new
+/// table has none, so none that is reached has one.
 pub fn nothing_over_stays()
-    ensures { (h : SocketsView) (e : Event) → NoneIsOver h → NoneIsOver (after_event h e) }
+    ensures fresh { (addr : Addr) → NoneIsOver (new_sockets addr) }
+    ensures kept { (h : SocketsView) (e : Event) → NoneIsOver h → NoneIsOver (after_event h e) }
+    ensures reached { (h : SocketsView) → IsReached h → NoneIsOver h }
+{}
+
+/// Every connection of the table keeps its time and its congestion window, from its opening on: a timer runs exactly where something waits for it, and the window is one that
+/// events lead to, and counts in the peer's segments. So it is for one in a new table, and each event of the table leaves it so.
+pub fn connections_keep_time()
+    ensures fresh { (addr : Addr) → EachKeepsTime (new_sockets addr) }
+    ensures kept { (h : SocketsView) (e : Event) → IsSoundTable h → IsNumbered e → EachKeepsTime h → EachKeepsTime (after_event h e) }
+    ensures given_up { (h : SocketsView) (lost : Addr → Bool) (now : Moment) → EachKeepsTime h → EachKeepsTime (after_giving_up h lost now) }
 {}
 
 /// No socket is given up with the resets that can't go out: each id names what it named, a UDP socket without the datagrams that it gives up.
@@ -89,14 +105,16 @@ pub fn ticks_wait()
     ensures { (h : SocketsView) (now : Moment) → has_come (least_deadline h) (later_moment h now) ≡ false → after_tick h now ≡ record h { kept = later_moment h now } }
 {}
 
-/// The table stays in order, from the first on, whatever happens but a call that is refused and a segment from our own address: ids ascend, no two connections but CLOSED
+/// The table stays in order, from the first on, whatever happens but a call that is refused and a segment from our own address, and so each that is reached is: ids ascend, no two connections but CLOSED
 /// ones have the same two ends (RFC 9293 section 3.4.1), no two TCP sockets without a connection have the same port, and no
 /// two UDP sockets.
-/// The id given last never goes back, so none is given twice.
+/// The id given last never goes back, so none is given twice. The address stays.
 pub fn tables_stay_ordered()
     ensures fresh { (addr : Addr) → IsOrdered (new_sockets addr) }
     ensures kept { (h : SocketsView) (e : Event) → IsAllowed h e → IsOrdered h → IsOrdered (after_event h e) }
+    ensures reached { (h : SocketsView) → IsReached h → IsOrdered h }
     ensures numbered { (h : SocketsView) (e : Event) → let after = after_event h e in h.last_id ≤ after.last_id }
+    ensures address { (h : SocketsView) (e : Event) → let after = after_event h e in after.addr ≡ h.addr }
 {}
 
 /// No datagram moves a connection: where a UDP socket is made, where a datagram is given to be sent, is read or comes, every TCP socket and
@@ -141,4 +159,11 @@ pub fn errors_are_reported_first()
 pub fn moments_never_go_back()
     ensures kept { (h : SocketsView) (e : Event) → let after = after_event h e in h.kept.0 ≤ after.kept.0 }
     ensures told { (h : SocketsView) (now : Moment) → let after = after_tick h now in now.0 ≤ after.kept.0 }
+{}
+
+/// What the constants are that the definitions cite: the table has 64 places, a backlog is 8 at most, and what can't go out since nobody answers at its hop waits for 3,000 ms.
+pub fn constants()
+    ensures entries { ENTRIES ≡ 64 }
+    ensures backlog { MOST_BACKLOG ≡ 8 }
+    ensures wait { HOP_WAIT ≡ 3000 }
 {}
