@@ -17,7 +17,7 @@ use Rattle.frames.specs.Meaning.{may_send}
 use Rattle.frames.proofs.Hearers.{from_others}
 use Rattle.tcp_state.proofs.Causes.{not_true}
 use Rattle.interface.specs.Ways.{is_routed}
-use Rattle.reassembly.specs.Reassembly.{Outcome, Reassembly}
+use Rattle.reassembly.specs.Reassembly.{Outcome}
 use Rattle.reassembly.specs.Reassembly.Outcome.{Waits, Completes, GivesUp}
 use Rattle.reassembly.specs.Places.{after_take}
 use Rattle.sockets.specs.declared.datagrams.Reception.{Reception}
@@ -25,7 +25,7 @@ use Rattle.sockets.specs.declared.datagrams.Reception.TheVariants as socket
 use Rattle.sockets.specs.Arrival.{Arrival, Becomes, Opens, NoRoom as NoRoomInTable, Answers, arrival}
 use Rattle.sockets.specs.Causes.{after_arrival, after_event}
 use Rattle.sockets.specs.Causes as table
-use Rattle.sockets.specs.Datagrams.{after_reception, reception}
+use Rattle.sockets.specs.Datagrams.{reception}
 use Rattle.sockets.specs.Offered.{IsReached}
 use Rattle.sockets.specs.Lost.{after_giving_up}
 use Rattle.sockets.specs.Order.{IsOrdered, IsAllowed}
@@ -38,7 +38,7 @@ use Rattle.sockets.proofs.Timed.{each_timed, left_timed, fresh_timed}
 use Rattle.host.specs.Arrival.{arrival_by_route, segment_arrival, MeetsSegment, MeetsMessage, MeetsFragment, MeetsHeard, after_user_datagram, after_payload, after_outcome, fragment_outcome, heard_by}
 use Rattle.host.specs.ConfigView.{ConfigView}
 use Rattle.host.specs.Emission.{Emission, Replies, Sends, Asks, Nothing, left_by, emission, goes_out_from}
-use Rattle.host.specs.HostView.{HostView, new_host, with_pool, with_sockets}
+use Rattle.host.specs.HostView.{HostView, with_pool, with_sockets}
 use Rattle.host.specs.Messages.{Told, Asks as AsksForEcho, Refuses, Nothing as TellsNothing, told_by}
 use Rattle.host.specs.Runs.{Event, Calls, Ticks, Delivers, Emits, IsNumbered, Makes, Runs, Begins, GoesOn}
 use Rattle.host.specs.Sound.{IsSoundHost}

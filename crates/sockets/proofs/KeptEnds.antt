@@ -1,17 +1,16 @@
 -- Whatever happens to a connection, its endpoints stay, and what is CLOSED stays so.
-use Rattle.std.proofs.Common.{◌≡◌, ℕ, ◌||◌, ◌==◌, not, false, List, length, Option, Some, refl, ◌∙◌, ap, sym}
-use Rattle.clock.specs.declared.moment.Moment.{Moment}
-use Rattle.tcp_state.specs.declared.emission.Due.{Due}
+use Rattle.std.proofs.Common.{◌≡◌, ◌||◌, ◌==◌, not, false, length, Option, refl, ◌∙◌, ap, sym}
 use Rattle.tcp_segment.specs.Segment.{Segment}
+use Rattle.clock.specs.declared.moment.Moment.{Moment}
 use Rattle.tcp_state.specs.declared.state.State.{State}
 use Rattle.tcp_state.specs.declared.state.State.TheVariants.{Closed}
 use Rattle.tcp_state.specs.View.{View, is_closed}
-use Rattle.tcp_state.specs.Timing.{clocked, after_timers, after_tick}
-use Rattle.tcp_state.specs.Calls.{after_send, after_recv, beyond_shutdown, after_shutdown, after_abort, after_close}
-use Rattle.tcp_state.specs.Due.{first_due, after_emitted}
-use Rattle.tcp_state.specs.Unreachable.{after_unreachable}
+use Rattle.tcp_state.specs.Timing.{clocked, after_timers}
+use Rattle.tcp_state.specs.Calls.{beyond_shutdown, after_shutdown}
+use Rattle.tcp_state.specs.declared.emission.Due.{Due}
+use Rattle.tcp_state.specs.Due.{first_due}
 use Rattle.tcp_state.specs.Edges as edge
-use Rattle.tcp_state.specs.Arrival.{after_ack, is_receiving, after_window, after_text, after_heard, after_segment_at}
+use Rattle.tcp_state.specs.Arrival.{after_ack, is_receiving, after_window, after_text, after_heard}
 use Rattle.tcp_halves.proofs.Choices.{either}
 use Rattle.tcp_state.proofs.Clocked.{timers_keep, emission_keeps}
 use Rattle.tcp_state.proofs.Events.{by_event}
@@ -26,10 +25,6 @@ pub record KeepsEnds (v w : View) : Type 0 where
 -- nothing happened
 pub keeps-nothing : (v : View) → KeepsEnds v v
 keeps-nothing v = record { local = refl; peer = refl; live = λ lives. lives }
-
--- it stays in its state
-keeps-state : (v w : View) → w.local ≡ v.local → w.peer ≡ v.peer → w.state ≡ v.state → KeepsEnds v w
-keeps-state v w local peer state = record { local = local; peer = peer; live = λ lives. ap is_closed (sym state) ∙ lives }
 
 abbrev HasEnds : View → View → Type 0
 HasEnds v w = (w.local ≡ v.local) × (w.peer ≡ v.peer)
@@ -49,19 +44,20 @@ heard-ends v s =
     texted : HasEnds v (after_text told s)
     texted = either View (HasEnds v) ((length s.octets == 0) || not (is_receiving told.state)) told _ (λ none. acked) (λ some. acked)
 
--- our side is closed
-pub keeps-shutdown : (v : View) (now : Moment) → KeepsEnds v (after_shutdown v now)
-keeps-shutdown v now = record { local = refl; peer = refl; live = λ lives. still v.state lives }
-  where
-    still : (t : State) → is_closed (beyond_shutdown t) ≡ false → is_closed t ≡ false
-    still Closed lives = lives
-    still _ lives = refl
+-- what is CLOSED stays so once our side is closed
+still_closed : (t : State) → is_closed (beyond_shutdown t) ≡ false → is_closed t ≡ false
+still_closed Closed lives = lives
+still_closed _ lives = refl
 
--- what is due goes out, if anything is
-keeps-first : (v : View) (due : Option Due) (now : Moment) → KeepsEnds v (edge.after_first v due now)
-keeps-first v due now =
-    let out = emission_keeps v due now in
-    keeps-state v (edge.after_first v due now) (ap (λ (w : View). w.local) out) (ap (λ (w : View). w.peer) out) (ap (λ (w : View). w.state) out)
+alike_kept : (v w : View) → w.local ≡ v.local → w.peer ≡ v.peer → w.state ≡ v.state → KeepsEnds v w
+alike_kept v w local peer state = record { local = local; peer = peer; live = λ lives. ap is_closed (sym state) ∙ lives }
+
+-- its side is closed, or a segment goes out
+pub keeps-shutdown : (v : View) (now : Moment) → KeepsEnds v (after_shutdown v now)
+keeps-shutdown v now = record { local = refl; peer = refl; live = λ lives. still_closed v.state lives }
+
+pub keeps-first : (v : View) (o : Option Due) (now : Moment) → KeepsEnds v (edge.after_first v o now)
+keeps-first v o now = let out = emission_keeps v o now in alike_kept v (edge.after_first v o now) (ap (λ (w : View). w.local) out) (ap (λ (w : View). w.peer) out) (ap (λ (w : View). w.state) out)
 
 -- whatever happens to it
 pub keeps-event : (v : View) (e : edge.Event) → KeepsEnds v (edge.after_event v e)
@@ -72,7 +68,7 @@ keeps-event v e =
       heard = λ s now alive. let ends = heard-ends v s in record { local = ends.0; peer = ends.1; live = λ lives. alive };
       over = λ now ends. record { local = refl; peer = refl; live = λ lives. cc };
       given_up = λ now waits gives. record { local = refl; peer = refl; live = λ lives. cc };
-      acts = λ now. let timed = timers_keep v now in keeps-state v (clocked false (after_timers v now) now) (ap (λ (w : View). w.local) timed) (ap (λ (w : View). w.peer) timed) (ap (λ (w : View). w.state) timed);
+      acts = λ now. alike_kept v (clocked false (after_timers v now) now) (ap (λ (w : View). w.local) (timers_keep v now)) (ap (λ (w : View). w.peer) (timers_keep v now)) (ap (λ (w : View). w.state) (timers_keep v now));
       emits = λ now. keeps-first v (first_due v) now;
       sends = λ octets taken now alive. record { local = refl; peer = refl; live = λ lives. lives };
       reads = λ len. record { local = refl; peer = refl; live = λ lives. lives };
@@ -81,29 +77,3 @@ keeps-event v e =
       aborts = λ e now moment cause alive. record { local = refl; peer = refl; live = λ lives. alive };
       refused = λ number hit. record { local = refl; peer = refl; live = λ lives. cc };
     }) e
-
--- Each event by itself.
-
-pub keeps-send : (v : View) (octets : List ℕ) (now : Moment) → KeepsEnds v (after_send v octets now)
-keeps-send v octets now = keeps-event v (edge.Sends octets now)
-
-pub keeps-recv : (v : View) (len : ℕ) → KeepsEnds v (after_recv v len)
-keeps-recv v len = keeps-event v (edge.Receives len)
-
-pub keeps-tick : (v : View) (now : Moment) → KeepsEnds v (after_tick v now)
-keeps-tick v now = keeps-event v (edge.Ticks now)
-
-pub keeps-abort : (v : View) (now : Moment) → KeepsEnds v (after_abort v now)
-keeps-abort v now = keeps-event v (edge.Aborts now)
-
-pub keeps-unreachable : (v : View) (number : ℕ) → KeepsEnds v (after_unreachable v number)
-keeps-unreachable v number = keeps-event v (edge.Unreachable number)
-
-pub keeps-close : (v : View) (now : Moment) → KeepsEnds v (after_close v now)
-keeps-close v now = keeps-event v (edge.Closes now)
-
-pub keeps-emitted : (v : View) (due : Due) (now : Moment) → KeepsEnds v (after_emitted v due now)
-keeps-emitted v due now = keeps-first v (Some due) now
-
-pub keeps-segment : (v : View) (s : Segment) (now : Moment) → is_closed v.state ≡ false → KeepsEnds v (after_segment_at v s now)
-keeps-segment v s now lives = keeps-event v (edge.Hears s now)

@@ -1,5 +1,5 @@
 -- Why every connection of the table keeps its timers and its congestion window.
-use Rattle.std.proofs.Common.{◌≡◌, inl, inr, ℕ, Bool, List, [], ◌∷◌, ◌++◌, Option, Some, None, sym, subst}
+use Rattle.std.proofs.Common.{inl, inr, Bool, List, [], ◌∷◌, Option, Some, sym, subst}
 use Rattle.std.specs.List.{AllByRecursion}
 use Rattle.ipv4.specs.declared.addr.Addr.{Addr}
 use Rattle.clock.specs.declared.moment.Moment.{Moment}
@@ -11,7 +11,6 @@ use Rattle.sockets.specs.Lost.{after_giving_up}
 use Rattle.sockets.specs.Sound.{IsSoundRole, IsSoundTable}
 use Rattle.sockets.specs.SocketsView.{SocketsView, new_sockets}
 use Rattle.sockets.specs.Timing.{KeepsTimeIn, EachKeepsTime, IsNumbered}
-use Rattle.sockets.proofs.Arrivals.{IsCalled}
 use Rattle.sockets.proofs.Followed.{IsNothing, all_followed, all_joined}
 use Rattle.sockets.proofs.Steps.{IsStepOf, stays, moves, binds, listens, opens, accepted, requeues, binds_datagrams, IsJoining, made, made_datagrams, called, IsStepped, followed, joined, stepped}
 
@@ -25,10 +24,10 @@ all_left Step Q P keeps (x ∷ xs) (y ∷ ys) (inr f) sound all = all_left Step 
 step_timed : (h : SocketsView) (e : Event) → IsNumbered e → (x y : Entry) → IsStepOf h e x (Some y) → IsSoundRole x.role → KeepsTimeIn x.role → KeepsTimeIn y.role
 step_timed h e small x _ stays sound keeps = keeps
 step_timed h e small _ _ (moves ev id c l meets kept) sound keeps = (stays_timed c ev sound.sound keeps.0, stays_kept c ev sound.sound keeps.1)
-step_timed h _ small _ _ (binds named asked id buffers bound local) sound keeps = tt
-step_timed h _ small _ _ (listens named backlog id buffers local) sound keeps = tt
-step_timed h _ small _ _ (opens isn named peer routed id buffers bound local) sound keeps = (opened_timed local peer isn small, opened_kept local peer isn)
-step_timed h _ small _ _ (accepted named id c l) sound keeps = keeps
+step_timed h _ small _ _ (binds named asked id buffers bound local names) sound keeps = tt
+step_timed h _ small _ _ (listens named backlog id buffers local names) sound keeps = tt
+step_timed h _ small _ _ (opens isn named peer routed id buffers bound local names) sound keeps = (opened_timed local peer isn small, opened_kept local peer isn)
+step_timed h _ small _ _ (accepted named id c l next) sound keeps = keeps
 step_timed h e small _ _ (requeues id bound before after) sound keeps = tt
 step_timed h e small _ _ (binds_datagrams id bound local before after takes) sound keeps = tt
 

@@ -12,3 +12,4 @@ pub mod runs
 pub mod datagrams
 pub mod RunGiven
 pub mod HostsAreSetUp
+pub mod HostsRun

@@ -13,3 +13,4 @@ pub mod Coverage
 pub mod Holding
 pub mod Notes
 pub mod Names
+pub mod HostRuns

@@ -2,6 +2,7 @@
 
 ghost use Rattle.wire_sim.specs.Runs.{EveryRunIsLawful, EveryRunIsTallied, EveryRunIsReached, EveryMomentIsLawful, FairIsUnrefused};
 ghost use Rattle.wire_sim.specs.Coverage.{EveryConnectionIsListed, EveryOpeningIsUnique, EveryOctetIsCovered};
+ghost use Rattle.wire_sim.specs.HostRuns.{EveryHostRuns, EveryTableIsKept, EveryMessageHasItsCause};
 ghost use Rattle.wire_sim.specs.Holding.{EveryOpeningIsBegun, EveryHoldingIsNoted};
 ghost use Rattle.wire_sim.specs.Notes.{EveryNoteIsTraced, EveryDelayIsTraced};
 ghost use Rattle.wire_sim.specs.Datagrams.{EveryRunKeepsDatagrams, EveryDatagramIsTraced};
@@ -26,6 +27,24 @@ pub fn every_run_is_reached()
 /// The law of the stream holds at every moment of such a list: after each of its events, whether it was taken or refused.
 pub fn every_moment_is_lawful()
     ensures { EveryMomentIsLawful }
+{}
+
+/// Each host of a world is one that a list of its own events leads to, from a new one: calls that are not refused, ticks, deliveries and emissions. So all that
+/// is so over every such list, as that an echo reply has its request, is so of it.
+pub fn every_host_runs()
+    ensures { EveryHostRuns }
+{}
+
+/// The table of each host of a world is in order, nothing of it is over, who is offered is ready, and each of its connections keeps its timers and its
+/// congestion window: so at every moment of every run, and no law of tables or of connections has a premise that a world doesn't give.
+pub fn every_table_is_kept()
+    ensures { EveryTableIsKept }
+{}
+
+/// A frame that goes out of a host of a world, and that somebody hears as an ICMP message (RFC 792), has its cause in what was delivered to that host before: an echo reply
+/// the request from there with its identifier, number and data; any other message the datagram, or the fragment zero, that it is the error about.
+pub fn every_message_has_its_cause()
+    ensures { EveryMessageHasItsCause }
 {}
 
 /// Every connection in a host's table has an opening of its side, its id and its pair (RFC 9293 section 3.3.1: a pair of endpoints names

@@ -122,10 +122,10 @@ pub record PutsFrame (happens : Event) (answer : Answer) (old new : NetworkView)
   pub told : answer ≡ reply.Frame index len
   pub emits : EmitsFrame side index len old new
 
-abbrev HasFrames : Event → Answer → NetworkView → NetworkView → Type 0
+abbrev pub HasFrames : Event → Answer → NetworkView → NetworkView → Type 0
 HasFrames happens answer old new = (new.frames ≡ old.frames) ⊎ PutsFrame happens answer old new
 
-frames-step : (happens : Event) (place : ℕ) (answer : Answer) (old new : NetworkView) → Steps happens place answer old new → HasFrames happens answer old new
+pub frames-step : (happens : Event) (place : ℕ) (answer : Answer) (old new : NetworkView) → Steps happens place answer old new → HasFrames happens answer old new
 frames-step (event.Call side c) place answer old new step = inl (ap (λ (m : NetworkView). m.frames) step.1 ∙ frames-called side c answer place old (host_of new side))
 frames-step (event.Tick side moment) place answer old new step = inl (ap (λ (m : NetworkView). m.frames) step.1 ∙ frames-with old side (station_after_tick (station_of old side) moment))
 frames-step (event.Emit side) place answer old new step = by_answer answer step

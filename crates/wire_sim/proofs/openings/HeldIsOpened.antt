@@ -9,6 +9,7 @@ use Rattle.std.specs.Ordering.{is_le}
 use Rattle.ipv4.specs.Addresses.{endpoint_cmp, pair_of, same_end}
 use Rattle.ipv4.proofs.Pairs.{pair_of-swapped}
 use Rattle.tcp_segment.specs.Segment.{Segment}
+use Rattle.tcp_state.specs.Edges as edge
 use Rattle.tcp_state.specs.declared.connection.Fate.{Fate}
 use Rattle.tcp_state.specs.declared.emission.Due.{Due}
 use Rattle.clock.specs.declared.moment.Moment.{Moment}
@@ -34,7 +35,7 @@ use Rattle.sockets.specs.SocketsView.{SocketsView}
 use Rattle.sockets.specs.Unreachable as table_errors
 use Rattle.wire_sim.proofs.lists.FoundAfterChange.{none-removed}
 use Rattle.wire_sim.proofs.tables.PairOfPorts.{same_end-true}
-use Rattle.sockets.proofs.KeptEnds.{KeepsEnds, keeps-nothing, keeps-send, keeps-recv, keeps-shutdown, keeps-tick, keeps-abort, keeps-close, keeps-emitted, keeps-segment, keeps-unreachable}
+use Rattle.sockets.proofs.KeptEnds.{KeepsEnds, keeps-nothing, keeps-shutdown, keeps-event, keeps-first}
 
 -- Lists.
 
@@ -99,13 +100,13 @@ pub unheld_ticked : (now : Moment) → KeepsUnheld (role_after_tick now)
 unheld_ticked now pair (Idle b bound) out = refl
 unheld_ticked now pair (Datagrams bound s) out = refl
 unheld_ticked now pair (Listener x y) out = refl
-unheld_ticked now pair (Connected c l) out = unjoined pair c (after_tick c now) l l (keeps-tick c now) out
+unheld_ticked now pair (Connected c l) out = unjoined pair c (after_tick c now) l l (keeps-event c (edge.Ticks now)) out
 
 pub unheld_sent : (now : Moment) (octets : List ℕ) → KeepsUnheld (role_after_send now octets)
 unheld_sent now octets pair (Idle b bound) out = refl
 unheld_sent now octets pair (Datagrams bound s) out = refl
 unheld_sent now octets pair (Listener x y) out = refl
-unheld_sent now octets pair (Connected c l) out = unjoined pair c (after_send c octets now) l l (keeps-send c octets now) out
+unheld_sent now octets pair (Connected c l) out = unjoined pair c (after_send c octets now) l l (keeps-event c (edge.Sends octets now)) out
 
 pub unheld_received : (len : ℕ) → KeepsUnheld (role_after_recv len)
 unheld_received len pair (Idle b bound) out = refl
@@ -115,7 +116,7 @@ unheld_received len pair (Connected c l) out = unjoined pair c (if len == 0 then
   where
     either : (b : Bool) → KeepsEnds c (if b then c else after_recv c len)
     either true = keeps-nothing c
-    either false = keeps-recv c len
+    either false = keeps-event c (edge.Receives len)
 
 pub unheld_write_shut : (now : Moment) → KeepsUnheld (role_after_shutdown now)
 unheld_write_shut now pair (Idle b bound) out = refl
@@ -131,20 +132,20 @@ pub unheld_closed : (now : Moment) → KeepsUnheld (role_after_close now)
 unheld_closed now pair (Idle b bound) out = refl
 unheld_closed now pair (Datagrams bound s) out = refl
 unheld_closed now pair (Listener x y) out = refl
-unheld_closed now pair (Connected c l) out = unjoined pair c (after_close c now) l l (keeps-close c now) out
+unheld_closed now pair (Connected c l) out = unjoined pair c (after_close c now) l l (keeps-event c (edge.Closes now)) out
 
 unheld_aborted : (now : Moment) → KeepsUnheld (role_after_abort now)
 unheld_aborted now pair (Idle b bound) out = refl
 unheld_aborted now pair (Datagrams bound s) out = refl
 unheld_aborted now pair (Listener x y) out = refl
-unheld_aborted now pair (Connected c l) out = unjoined pair c (after_abort c now) l l (keeps-abort c now) out
+unheld_aborted now pair (Connected c l) out = unjoined pair c (after_abort c now) l l (keeps-event c (edge.Aborts now)) out
 
 -- an error is told to it
 unheld_refused : (number : ℕ) → KeepsUnheld (role_after_unreachable number)
 unheld_refused number pair (Idle b bound) out = refl
 unheld_refused number pair (Datagrams bound s) out = refl
 unheld_refused number pair (Listener x y) out = refl
-unheld_refused number pair (Connected c l) out = unjoined pair c (after_unreachable c number) l l (keeps-unreachable c number) out
+unheld_refused number pair (Connected c l) out = unjoined pair c (after_unreachable c number) l l (keeps-event c (edge.Unreachable number)) out
 
 pub unheld_forsaken : (now : Moment) (id : SocketId) → KeepsUnheld (role_after_listener_close now id)
 unheld_forsaken now id pair r out = either (waits_at id r)
@@ -161,7 +162,7 @@ unheld_emitted_at now pair (Connected c l) out = by_due (first_due c) refl
   where
     by_due : (o : Option Due) → first_due c ≡ o → joins pair (role_after_emission now (Connected c l)) ≡ false
     by_due None is = let same : role_after_emission now (Connected c l) ≡ Connected c l = rw is in ap (joins pair) same ∙ out
-    by_due (Some due) is = let same : role_after_emission now (Connected c l) ≡ Connected (after_emitted c due now) l = rw is in ap (joins pair) same ∙ unjoined pair c (after_emitted c due now) l l (keeps-emitted c due now) out
+    by_due (Some due) is = let same : role_after_emission now (Connected c l) ≡ Connected (after_emitted c due now) l = rw is in ap (joins pair) same ∙ unjoined pair c (after_emitted c due now) l l (keeps-first c (Some due) now) out
 
 -- what a UDP socket makes of itself
 pub unheld_datagrams : (bind : Option Endpoint → Option Endpoint) (change : SocketView → SocketView) → KeepsUnheld (on_datagrams bind change)
@@ -204,20 +205,15 @@ joined c l x y = by_order (is_le (endpoint_cmp x y)) refl
     by_order true is = by_ends x y refl (here x y) (here y x) refl refl
     by_order false is = by_ends y x (pair_of-swapped y x) (here y x) (here x y) refl refl
 
--- a segment that is heard by a connection that is not CLOSED
-unheld-arrived : (now : Moment) (s : Segment) (pair : Pair) (local peer : Endpoint) (e : Entry) → is_between local peer e ≡ true → is_of_pair pair e ≡ false → is_of_pair pair (with_role (role_after_segment now s) e) ≡ false
-unheld-arrived now s pair local peer e between out = of_role e.role between out
+-- a segment that is heard
+unheld-arrived : (now : Moment) (s : Segment) (pair : Pair) (e : Entry) → is_of_pair pair e ≡ false → is_of_pair pair (with_role (role_after_segment now s) e) ≡ false
+unheld-arrived now s pair e out = of_role e.role out
   where
-    live : (b : Bool) → not b ≡ true → b ≡ false
-    live true e = cc
-    live false e = refl
-
-    of_role : (r : Role) → is_live_between local peer r ≡ true → joins pair r ≡ false → joins pair (role_after_segment now s r) ≡ false
-    of_role (Idle b bound) between out = refl
-    of_role (Datagrams bound s) between out = refl
-    of_role (Listener x y) between out = refl
-    of_role (Connected c l) between out =
-        unjoined pair c (after_segment_at c s now) l l (keeps-segment c s now (live (is_closed c.state) (and_parts (not (is_closed c.state)) (same_end c.local local && same_end c.peer peer) between).0)) out
+    of_role : (r : Role) → joins pair r ≡ false → joins pair (role_after_segment now s r) ≡ false
+    of_role (Idle b bound) out = refl
+    of_role (Datagrams bound s) out = refl
+    of_role (Listener x y) out = refl
+    of_role (Connected c l) out = unjoined pair c (after_segment_at c s now) l l (keeps-event c (edge.Hears s now)) out
 
 -- Tables.
 
@@ -243,7 +239,7 @@ pub unheld-heard : (fate : Fate) (local peer : Endpoint) (now : Moment) (s : Seg
 unheld-heard fate local peer now s pair xs none = by_fate (is_kept fate)
   where
     by_fate : (b : Bool) → find (is_of_pair pair) (if b then change_first (is_between local peer) (with_role (role_after_segment now s)) xs else remove_first (is_between local peer) xs) ≡ None
-    by_fate true = none-changed (is_between local peer) (is_of_pair pair) (with_role (role_after_segment now s)) xs (λ e is out. unheld-arrived now s pair local peer e is out) none
+    by_fate true = none-changed (is_between local peer) (is_of_pair pair) (with_role (role_after_segment now s)) xs (λ e is out. unheld-arrived now s pair e out) none
     by_fate false = none-removed (is_between local peer) (is_of_pair pair) xs none
 
 -- the one that an error is told to

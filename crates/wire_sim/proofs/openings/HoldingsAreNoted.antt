@@ -394,13 +394,13 @@ delivered-other s t place None n h opposite = other-host n s t h opposite
 delivered-other s t place (Some note) n h opposite = opened-host (with_host n s h) (opened_by_frame n.openings s place note.pair (table_of n s) h.sockets) t ∙ other-host n s t h opposite
 
 -- the side that an event names
-abbrev side_of : Event → Side
+abbrev pub side_of : Event → Side
 side_of (event.Call s c) = s
 side_of (event.Tick s moment) = s
 side_of (event.Emit s) = s
 side_of (event.Deliver s index isn) = s
 
-other-stays : (happens : Event) (place : ℕ) (answer : Answer) (n m : NetworkView) (t : Side) → t ≡ other_side (side_of happens) → Steps happens place answer n m → host_of m t ≡ host_of n t
+pub other-stays : (happens : Event) (place : ℕ) (answer : Answer) (n m : NetworkView) (t : Side) → t ≡ other_side (side_of happens) → Steps happens place answer n m → host_of m t ≡ host_of n t
 other-stays (event.Call s c) place answer n m t opposite step = ap (λ v. host_of v t) step.1 ∙ called-other s t c answer place n (host_of m s) opposite
 other-stays (event.Tick s moment) place answer n m t opposite step = ap (λ v. host_of v t) step.1 ∙ other-with n s t (station_after_tick (station_of n s) moment) opposite
 other-stays (event.Emit s) place answer n m t opposite step = by_answer answer step

@@ -7,6 +7,7 @@ use Rattle.ipv4.specs.declared.addr.Endpoint.{Endpoint}
 use Rattle.ipv4.specs.declared.addr.Pair.{Pair}
 use Rattle.ipv4.specs.Addresses.{pair_of, same_addr, same_end}
 use Rattle.tcp_segment.specs.Segment.{Segment}
+use Rattle.tcp_state.specs.Edges as edge
 use Rattle.tcp_state.specs.declared.connection.Fate.{Fate}
 use Rattle.tcp_state.specs.declared.connection.Fate.TheVariants.{Stays, Removed, Rejected}
 use Rattle.clock.specs.declared.moment.Moment.{Moment}
@@ -35,7 +36,7 @@ use Rattle.wire_sim.proofs.tables.EntryChanges.{Its, Another, Whose, whose, end-
 use Rattle.wire_sim.proofs.tables.SegmentArrived.{Arrived, Ignored, Heard, Began}
 use Rattle.wire_sim.proofs.pairing.EndMoves.{pairing, Goes, moved}
 use Rattle.wire_sim.proofs.lists.FoundAfterChange.{All-find, find-passes, find-added}
-use Rattle.sockets.proofs.KeptEnds.{keeps-segment}
+use Rattle.sockets.proofs.KeptEnds.{keeps-event}
 use Rattle.wire_sim.proofs.tables.EntryIsMade.{Makes, free-later, end-unmade}
 use Rattle.wire_sim.proofs.openings.OpeningIsFound.{opening-found, opening-only, opening-at_parts}
 use Rattle.wire_sim.proofs.tables.PairOfPorts.{same_end-true, joins-own, unheld-between, unheld-closed}
@@ -202,7 +203,7 @@ projects-heard limit hs ts a b own own' other bag openings trace now place local
     projects-turned limit hs ts a b own next other bag openings trace trace h (record {
       addr = refl;
       table = table-becomes hs a own.last_id own.entries ys openings (told hs trace) (told hs trace) id (settle (fate c s) (role_after_segment now s) (Connected c l)) z
-          (λ role is. (subst (λ q. IsNoted hs a openings id q) (kept-role (fate c s) (role_after_segment now s (Connected c l)) role is) (opened-kept hs a openings id c (after_segment_at c s now) (keeps-segment c s now parts.0) noted), h.own_table.bound id (Connected c l) before))
+          (λ role is. (subst (λ q. IsNoted hs a openings id q) (kept-role (fate c s) (role_after_segment now s (Connected c l)) role is) (opened-kept hs a openings id c (after_segment_at c s now) (keeps-event c (edge.Hears s now)) noted), h.own_table.bound id (Connected c l) before))
           (λ i apart. refl) (λ none may. h.own_table.silent id none (inr (Connected c l, before))) h.own_table;
       other_told = λ i. refl;
       meets = meets-moved_at limit hs ts a b own other bag openings trace ys id o (Present c) (presence_in (settle (fate c s) (role_after_segment now s) (Connected c l))) h noted.at (ap presence_in before) (ap presence_in z.here) z.others

@@ -4,6 +4,7 @@ use Rattle.std.specs.List.{find}
 use Rattle.std.specs.Global.{Vec}
 use Rattle.ipv4.specs.declared.addr.Addr.{Addr}
 use Rattle.ipv4.specs.declared.addr.Endpoint.{Endpoint}
+use Rattle.tcp_state.specs.Edges as edge
 use Rattle.tcp_state.specs.declared.calls.Received.{Received}
 use Rattle.tcp_state.specs.declared.calls.Received.TheVariants as received
 use Rattle.tcp_state.specs.View.{View, is_opening}
@@ -36,7 +37,7 @@ use Rattle.wire_sim.proofs.tables.CallsOnTable.{sends-on, reads-on, octets_told,
 use Rattle.wire_sim.proofs.tables.EntryChanges.{SameBut, SameTold, table-becomes, table-told, end-told, meets-moved, opened-kept}
 use Rattle.wire_sim.proofs.pairing.EndMoves.{pairing, EndGoes, moved, end-stays}
 use Rattle.wire_sim.proofs.lists.FoundAfterChange.{All-find, change-none}
-use Rattle.sockets.proofs.KeptEnds.{KeepsEnds, keeps-nothing, keeps-send, keeps-recv, keeps-shutdown}
+use Rattle.sockets.proofs.KeptEnds.{KeepsEnds, keeps-nothing, keeps-shutdown, keeps-event}
 use Rattle.wire_sim.proofs.pairing.WorldAsPairings.{told, Bag, Projects, projects-turned}
 use Rattle.wire_sim.proofs.tables.UnseenRoles.{IsQuiet as IsQuietChange, quiet_bound_to, quiet_accepted}
 use Rattle.wire_sim.proofs.tables.TableById.{Account, untold, role_at, found-role, Becomes, becomes-changed, presence_in, end_with, end_at, IsOpened, IsNoted, MayOpen, IsTable}
@@ -341,7 +342,7 @@ call-sends limit hs ts a b own other bag openings trace id octets count sound op
     let more : Account = record one { gave = one.gave ++ take (connection_calls.send_count k.c octets.items) octets.items } in
     let same : told hs (trace ++ answered hs (call.Send id octets) (reply.Sent count) ∷ []) id ≡ more =
     t.0 ∙ ap (λ i. let x : Account = record one { gave = one.gave ++ take i octets.items } in x) k.takes in
-    (projects-socket limit hs ts a b own other bag openings trace (call.Send id octets) (reply.Sent count) id k.c (connection_calls.after_send k.c octets.items own.kept) k.l k.l (role_after_send own.kept octets.items) opposite k.found refl (keeps-send k.c octets.items own.kept) t.1
+    (projects-socket limit hs ts a b own other bag openings trace (call.Send id octets) (reply.Sent count) id k.c (connection_calls.after_send k.c octets.items own.kept) k.l k.l (role_after_send own.kept octets.items) opposite k.found refl (keeps-event k.c (edge.Sends octets.items own.kept)) t.1
     (subst (λ x. EndGoes limit (end_with (Present k.c) one) (end_with (Present (connection_calls.after_send k.c octets.items own.kept)) x)) (sym same)
     (λ there out arrived. moved limit (pairing (end_with (Present k.c) one) there out arrived) (pairing (end_with (Present (connection_calls.after_send k.c octets.items own.kept)) more) there out arrived) (takes (pairing (end_with (Present k.c) one) there out arrived) k.c octets.items own.kept refl solid.sound k.untold k.opened k.unclosed))) h)
 
@@ -355,7 +356,7 @@ call-receives limit hs ts a b own other bag openings trace id len octets m c l s
     let more : Account = record one { got = one.got ++ take (connection_calls.recv_count c m) c.receiving.readable } in
     let same : told hs (trace ++ answered hs (call.Recv id len) (reply.Octets octets) ∷ []) id ≡ more =
     t.0 ∙ ap (λ i. let x : Account = record one { got = one.got ++ i } in x) are_first in
-    (projects-socket limit hs ts a b own other bag openings trace (call.Recv id len) (reply.Octets octets) id c (connection_calls.after_recv c m) l l (received_role m) opposite found (received-connected c l m some) (keeps-recv c m) t.1
+    (projects-socket limit hs ts a b own other bag openings trace (call.Recv id len) (reply.Octets octets) id c (connection_calls.after_recv c m) l l (received_role m) opposite found (received-connected c l m some) (keeps-event c (edge.Receives m)) t.1
     (subst (λ x. EndGoes limit (end_with (Present c) one) (end_with (Present (connection_calls.after_recv c m)) x)) (sym same)
     (λ there out arrived. moved limit (pairing (end_with (Present c) one) there out arrived) (pairing (end_with (Present (connection_calls.after_recv c m)) more) there out arrived) (gives (pairing (end_with (Present c) one) there out arrived) c m refl solid.sound untold_yet (socket-kept own.entries id c l found) opened))) h)
 

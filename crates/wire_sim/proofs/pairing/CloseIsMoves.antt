@@ -3,6 +3,7 @@ use Rattle.std.proofs.Common.{◌≡◌, ℕ, ◌≤◌, ◌==◌, ◌||◌, inl
 use Rattle.std.specs.List.{find}
 use Rattle.ipv4.specs.declared.addr.Addr.{Addr}
 use Rattle.ipv4.specs.declared.addr.Pair.{Pair}
+use Rattle.tcp_state.specs.Edges as edge
 use Rattle.tcp_state.specs.declared.connection.Fate.TheVariants.{Stays, Removed}
 use Rattle.clock.specs.declared.moment.Moment.{Moment}
 use Rattle.tcp_state.specs.declared.state.State.{State}
@@ -32,7 +33,7 @@ use Rattle.wire_sim.proofs.tables.CallsOnTable.{found_socket}
 use Rattle.wire_sim.proofs.tables.EntryChanges.{SameBut, SameTold, by_test, table-becomes, end-another, opened-kept}
 use Rattle.wire_sim.proofs.pairing.EndMoves.{pairing, EndGoes, moved}
 use Rattle.wire_sim.proofs.lists.FoundAfterChange.{find-passes, find-missed}
-use Rattle.sockets.proofs.KeptEnds.{keeps-close, keeps-abort}
+use Rattle.sockets.proofs.KeptEnds.{keeps-event}
 use Rattle.wire_sim.proofs.tables.EntryIsMade.{its_id}
 use Rattle.wire_sim.proofs.openings.OpeningIsFound.{opening-of_parts}
 use Rattle.wire_sim.proofs.pairing.WorldAsPairings.{told, Bag, Projects, projects-turned}
@@ -164,7 +165,7 @@ own-closed limit hs ts a b own other bag openings trace id (Connected c l) sound
     let one = told hs trace id in
     projects-moved limit hs ts a b own (record own { entries = entries_after_step (connection_calls.close_fate c) (is_socket id) (role_after_close own.kept) own.entries }) other bag openings trace trace' id (settle (connection_calls.close_fate c) (role_after_close own.kept) (Connected c l)) refl refl
     (becomes-settled (connection_calls.close_fate c) (is_socket id) (role_after_close own.kept) own.entries x h.own_table.sole found)
-    (λ role is. (subst (λ q. IsNoted hs a openings id q) (kept (is_kept (connection_calls.close_fate c)) role is) (opened-kept hs a openings id c (connection_calls.after_close c own.kept) (keeps-close c own.kept) k), h.own_table.bound id (Connected c l) before))
+    (λ role is. (subst (λ q. IsNoted hs a openings id q) (kept (is_kept (connection_calls.close_fate c)) role is) (opened-kept hs a openings id c (connection_calls.after_close c own.kept) (keeps-event c (edge.Closes own.kept)) k), h.own_table.bound id (Connected c l) before))
     t.1 (λ none may. let bad : None ≡ Some k.opening = sym none ∙ k.at in cc) (told-other hs ts trace (call.Close id) reply.Done opposite)
     (subst (λ r. EndGoes limit (end_with (presence_in r) one) (end_with (presence_in (settle (connection_calls.close_fate c) (role_after_close own.kept) (Connected c l))) (told hs trace' id))) (sym before)
     (subst (λ y. EndGoes limit (end_with (Present c) one) (end_with (presence_in (settle (connection_calls.close_fate c) (role_after_close own.kept) (Connected c l))) y)) (sym t.0) (closing limit c l own.kept one solid.sound))) h
@@ -201,7 +202,7 @@ call-forsakes limit hs ts a b own other bag openings trace id sound opposite acc
     (subst (λ w. Projects limit hs ts a b w other bag openings (trace ++ e ∷ [])) (sym k.closes) first))
   where
     aborts : (i : SocketId) (r : Role) → IsNoted hs a openings i r → IsNoted hs a openings i (role_after_abort own.kept r)
-    aborts i (Connected c l) m = opened-kept hs a openings i c (connection_calls.after_abort c own.kept) (keeps-abort c own.kept) m
+    aborts i (Connected c l) m = opened-kept hs a openings i c (connection_calls.after_abort c own.kept) (keeps-event c (edge.Aborts own.kept)) m
     aborts i (Listener local backlog) m = m
     aborts i (Idle buffers bound) m = m
     aborts i (Datagrams bound socket) m = m

@@ -25,7 +25,7 @@ use Rattle.sockets.specs.Entries.{role_after_emission, emission_fate_of, entries
 use Rattle.sockets.specs.SocketsView.{SocketsView}
 use Rattle.sockets.specs.Lists.{change_first, remove_first}
 use Rattle.sockets.specs.Sound.{IsSoundConnection, IsSoundRole, IsSoundTable}
-use Rattle.sockets.proofs.KeptEnds.{keeps-emitted}
+use Rattle.sockets.proofs.KeptEnds.{keeps-first}
 use Rattle.stream_law.specs.Channel.{IsAmong, here, there}
 use Rattle.stream_law.specs.Pairing.{End, Emission, Present, Departed, emits, leaves, Meets, here_moves}
 use Rattle.stream_law.proofs.PairingEmission.{unclosed_goes}
@@ -142,7 +142,7 @@ projects-sent limit hs ts a b own other bag openings trace now goes e c l due m 
       other_addr = h.other_addr;
       ledger = h.ledger;
       own_table = table-becomes hs a own.last_id own.entries ys openings (told hs trace) (told hs trace) e.id (Some (Connected w l)) becomes
-          (λ role is. let same : Connected w l ≡ role = cc in (subst (λ r. IsNoted hs a openings e.id r) same (opened-kept hs a openings e.id c w (keeps-emitted c due now) k), h.own_table.bound e.id (Connected c l) before))
+          (λ role is. let same : Connected w l ≡ role = cc in (subst (λ r. IsNoted hs a openings e.id r) same (opened-kept hs a openings e.id c w (keeps-first c (Some due) now) k), h.own_table.bound e.id (Connected c l) before))
           (λ i apart. refl) (λ none may. h.own_table.silent e.id none (inr (Connected c l, before))) h.own_table;
       other_table = h.other_table;
       meets = λ p i. by_test (is_at pair epoch p i)

@@ -3,6 +3,7 @@ use Rattle.std.proofs.Common.{◌≡◌, ℕ, inr, Bool, true, false, cond, if�
 use Rattle.std.specs.List.{find}
 use Rattle.ipv4.specs.declared.addr.Addr.{Addr}
 use Rattle.ipv4.specs.declared.addr.Endpoint.{Endpoint}
+use Rattle.tcp_state.specs.Edges as edge
 use Rattle.tcp_state.specs.declared.connection.Fate.TheVariants.{Stays, Removed}
 use Rattle.tcp_state.specs.View.{View, is_over}
 use Rattle.tcp_state.specs.Unreachable.{is_unreachable, after_unreachable, unreachable_fate}
@@ -13,7 +14,7 @@ use Rattle.sockets.specs.declared.role.Role.TheVariants.{Idle, Listener, Connect
 use Rattle.sockets.specs.Entries.{is_between, is_live_between, is_kept, role_after_unreachable, entries_after_step}
 use Rattle.sockets.specs.SocketsView.{SocketsView}
 use Rattle.sockets.specs.Unreachable as table_errors
-use Rattle.sockets.proofs.KeptEnds.{keeps-unreachable}
+use Rattle.sockets.proofs.KeptEnds.{keeps-event}
 use Rattle.stream_law.specs.Pairing.{Pairing, Present, Departed, Meets, stops, leaves}
 use Rattle.stream_law.proofs.PairingEndings.{stops-unreachable}
 use Rattle.sides.specs.declared.side.Side.{Side}
@@ -68,7 +69,7 @@ projects-told limit hs ts a b own other bag openings trace local peer number h =
         subst (λ w. Projects limit hs ts a b w other bag openings trace) (sym becomes)
         (projects-moved limit hs ts a b own next other bag openings trace trace id (settle fate (role_after_unreachable number) (Connected c l)) refl refl
         (becomes-settled fate test (role_after_unreachable number) own.entries x h.own_table.sole found)
-        (λ role is. (subst (λ q. IsNoted hs a openings id q) (kept (is_kept fate) (Connected (after_unreachable c number) l) role is) (opened-kept hs a openings id c (after_unreachable c number) (keeps-unreachable c number) k), h.own_table.bound id (Connected c l) before))
+        (λ role is. (subst (λ q. IsNoted hs a openings id q) (kept (is_kept fate) (Connected (after_unreachable c number) l) role is) (opened-kept hs a openings id c (after_unreachable c number) (keeps-event c (edge.Unreachable number)) k), h.own_table.bound id (Connected c l) before))
         (λ i apart. refl) (λ none may. h.own_table.silent id none (inr (Connected c l, before))) (λ i. refl)
         (subst (λ r. EndGoes limit (end_with (presence_in r) account) (end_with (presence_in (settle fate (role_after_unreachable number) (Connected c l))) account)) (sym before) (errs limit number c l account)) h)
 

@@ -3,6 +3,7 @@ use Rattle.std.proofs.Common.{◌≡◌, ℕ, ◌&&◌, ◌||◌, inl, inr, Bool
 use Rattle.std.specs.List.{find}
 use Rattle.ipv4.specs.declared.addr.Addr.{Addr}
 use Rattle.ipv4.specs.declared.addr.Pair.{Pair}
+use Rattle.tcp_state.specs.Edges as edge
 use Rattle.tcp_state.specs.declared.connection.Fate.{Fate}
 use Rattle.tcp_state.specs.declared.connection.Fate.TheVariants.{Stays, Removed}
 use Rattle.clock.specs.declared.moment.Moment.{Moment}
@@ -27,7 +28,7 @@ use Rattle.wire_sim.specs.Tallies.{is_opening_of}
 use Rattle.wire_sim.proofs.tables.EntryChanges.{opened-kept}
 use Rattle.wire_sim.proofs.tables.UnseenRoles.{IsQuiet, quiet_given_up}
 use Rattle.wire_sim.proofs.pairing.EndMoves.{pairing, EndGoes, moved, end-stays}
-use Rattle.sockets.proofs.KeptEnds.{keeps-tick}
+use Rattle.sockets.proofs.KeptEnds.{keeps-event}
 use Rattle.wire_sim.proofs.pairing.WorldAsPairings.{told, Bag, Projects, projects-turned}
 use Rattle.wire_sim.proofs.tables.TableById.{Account, role_at, settle, settle_each, role_at-settled, sole-settled, presence_in, end_with, end_of, end_at, IsNoted, MayOpen, IsTable}
 
@@ -127,7 +128,7 @@ projects-ticked limit hs ts a b own other bag openings trace moment h =
     projects-settled limit hs ts a b own (table_ticks.after_tick own moment) other bag openings trace (tick_fate_of now) (role_after_tick now) refl refl refl (noted now) (role_goes limit now) h
   where
     noted : (now : Moment) (id : SocketId) (r : Role) → IsNoted hs a openings id r → IsNoted hs a openings id (role_after_tick now r)
-    noted now id (Connected c l) k = opened-kept hs a openings id c (after_tick c now) (keeps-tick c now) k
+    noted now id (Connected c l) k = opened-kept hs a openings id c (after_tick c now) (keeps-event c (edge.Ticks now)) k
     noted now id (Listener b n) k = k
     noted now id (Idle b n) k = k
     noted now id (Datagrams b n) k = k

@@ -1,5 +1,5 @@
 -- The write at the socket's place is the change of the first entry that the id names; a refused call writes what was there.
-use Rattle.std.proofs.Common.{◌∙◌, Some, Ok, Err, refl, sym, ap}
+use Rattle.std.proofs.Common.{◌∙◌, refl, sym, ap}
 use Rattle.std.specs.Result.{result_err}
 use Rattle.clock.specs.declared.moment.Moment.{Moment}
 use Rattle.sockets.specs.Entries.{is_socket, role_after_shutdown}

@@ -1,0 +1,302 @@
+-- Why each host of a world is one that events of its own lead to.
+use Rattle.std.proofs.Common.{◌≡◌, ◌⊎◌, inl, inr, ◌≢◌, ℕ, zero, suc, ◌==◌, ◌<◌, ◌^◌, ◌++◌, ◌∷◌, [], List, Contains, length, slice_get, Bool, true, false, Option, Some, None, Result, Ok, Err, is_ok, arith, refl, sym, ◌∙◌, ap, subst}
+use Rattle.std.proofs.lemmas.Bool.{eqb-true}
+use Rattle.std.proofs.lemmas.List.Elements.{Contains-append_left, Contains-append_right, Contains-append_cases}
+use Rattle.ipv4.specs.declared.addr.Addr.{Addr}
+use Rattle.ipv4.specs.declared.addr.Endpoint.{Endpoint}
+use Rattle.clock.specs.declared.moment.Moment.{Moment}
+use Rattle.tcp_segment.specs.declared.seq.Seq.{Seq}
+use Rattle.tcp_state.specs.declared.calls.Received.{Received}
+use Rattle.tcp_state.specs.declared.calls.Received.TheVariants as received
+use Rattle.ether.specs.declared.mac.Mac.{Mac}
+use Rattle.frames.specs.declared.meaning.Meaning.{Meaning}
+use Rattle.frames.specs.declared.meaning.Meaning.TheVariants.{Icmp}
+use Rattle.frames.specs.Meaning.{heard}
+use Rattle.interface.specs.Ways.{is_routed}
+use Rattle.sockets.specs.declared.entry.Kind.{Kind}
+use Rattle.sockets.specs.declared.entry.Kind.TheVariants.{Tcp, Udp}
+use Rattle.sockets.specs.declared.entry.SocketId.{SocketId}
+use Rattle.sockets.specs.declared.refusal.Refusal.{Refusal}
+use Rattle.sockets.specs.declared.refusal.Refusal.TheVariants.{EMFILE, ENOMEM}
+use Rattle.sockets.specs.Calls.{unless_refused, bind_refusal, listen_refusal, accept_answer, connect_refusal, send_answer, recv_answer, shutdown_refusal, close_refusal, state_answer, sockname_answer, peername_answer}
+use Rattle.sockets.specs.Causes as table
+use Rattle.sockets.specs.Datagrams.{sendto_answer, recvfrom_answer}
+use Rattle.sockets.specs.Order.{IsAllowed}
+use Rattle.sockets.specs.SocketsView.{SocketsView}
+use Rattle.sockets.specs.Timing as timing
+use Rattle.sockets.proofs.Followed.{some_same}
+use Rattle.host.specs.Emission.{after_emission, emission_octets}
+use Rattle.host.specs.HostView.{HostView}
+use Rattle.host.specs.Runs.{Event as HostEvent, Calls, Ticks, Delivers, Emits, IsNumbered, Makes, Runs, Begins, GoesOn}
+use Rattle.host.specs.Sound.{IsSoundHost}
+use Rattle.host.specs.Runs as host_runs
+use Rattle.host.proofs.Causes.{run-stands}
+use Rattle.host.proofs.Messages.{request-there, cause-there}
+use Rattle.host.proofs.Tables.{run-reached, run-ordered, run-over, run-timed}
+use Rattle.sides.specs.declared.side.Side.{Side}
+use Rattle.sides.specs.declared.side.Side.TheVariants.{A, B}
+use Rattle.sides.specs.Sides.{other_side}
+use Rattle.wire_sim.specs.declared.event.Answer.{Answer}
+use Rattle.wire_sim.specs.declared.event.Answer.TheVariants as reply
+use Rattle.wire_sim.specs.declared.event.Call.{Call}
+use Rattle.wire_sim.specs.declared.event.Call.TheVariants as call
+use Rattle.wire_sim.specs.declared.event.Event.{Event}
+use Rattle.wire_sim.specs.declared.event.Event.TheVariants as event
+use Rattle.wire_sim.specs.declared.world.bag.Frame.{Frame}
+use Rattle.wire_sim.specs.declared.world.station.Station.{Station}
+use Rattle.wire_sim.specs.declared.event.Happening.{Happening}
+use Rattle.wire_sim.specs.HostRuns.{WasDelivered, AreTraced, HasRun, EveryHostRuns, EveryTableIsKept, WasHeard, HasCause, EveryMessageHasItsCause}
+use Rattle.wire_sim.specs.Runs as world
+use Rattle.wire_sim.specs.Runs.{begins, goes_on, IsStep, IsNumberedCall}
+use Rattle.wire_sim.specs.Steps.{Answers, MeetsSocket, recv_len, MeetsReceived, MeetsReceivedFrom, MeetsCall, HostMeetsCall, with_host, station_after_tick, MeetsFrame, DeliversFrame, EmitsFrame, MeetsEmission, Steps}
+use Rattle.wire_sim.specs.WorldView.{NetworkView, WorldView, station_of, host_of, clock_of}
+use Rattle.wire_sim.proofs.fairness.NotesAreTraced.{frames-step, got-still, got-last}
+use Rattle.wire_sim.proofs.openings.HoldingsAreNoted.{other-stays, side_of}
+use Rattle.wire_sim.proofs.runs.RunsAreLawful.{own-again, own-with}
+
+-- What a call makes of a table: it stays, or takes one event that is allowed.
+
+abbrev IsCalled : SocketsView → SocketsView → Type 0
+IsCalled h new = (new ≡ h) ⊎ ((e : table.Event) × IsAllowed h e × timing.IsNumbered e × (new ≡ table.after_event h e))
+
+-- a call that changes nothing
+asked : {T : Type 0} (r : Result T Refusal) (told : T → Answer) (h : SocketsView) (answer : Answer) (new : SocketsView) → Answers r told h h answer new → IsCalled h new
+asked (Ok value) told h answer new meets = inl meets.1
+asked (Err refusal) told h answer new meets = inl meets.1
+
+-- a call that is allowed where it is answered
+answered : {T : Type 0} (r : Result T Refusal) (told : T → Answer) (h : SocketsView) (e : table.Event) (answer : Answer) (new : SocketsView) → timing.IsNumbered e → (is_ok r ≡ true → IsAllowed h e) → Answers r told (table.after_event h e) h answer new → IsCalled h new
+answered (Ok value) told h e answer new small allowed meets = inr (e, allowed refl, small, meets.1)
+answered (Err refusal) told h e answer new small allowed meets = inl meets.1
+
+-- .. or where it isn't refused
+unrefused : (r : Option Refusal) → is_ok (unless_refused r (tt {0})) ≡ true → r ≡ None
+unrefused None is = refl
+unrefused (Some refusal) is = cc
+
+made : (kind : Kind) (h : SocketsView) (answer : Answer) (new : SocketsView) → MeetsSocket kind h answer new → IsCalled h new
+made Tcp h (reply.Socket id) new meets = inr (table.Makes meets.2.0, meets.0, tt, meets.2.1)
+made Udp h (reply.Socket id) new meets = inr (table.MakesDatagrams, meets.0, tt, meets.2)
+made kind h (reply.Refused EMFILE) new meets = inl meets.1
+made kind h (reply.Refused ENOMEM) new meets = inl meets.1
+made kind h _ new meets = absurd meets
+
+read : (h : SocketsView) (id : SocketId) (len : ℕ) (r : Result Received Refusal) → recv_answer h id len ≡ r → (answer : Answer) (new : SocketsView) → MeetsReceived h id len r answer new → IsCalled h new
+read h id len (Ok (received.Octets count)) is (reply.Octets octets) new meets = inr (table.Receives id len, ap is_ok is, tt, meets.1)
+read h id len (Ok received.EndOfStream) is reply.EndOfStream new meets = inr (table.Receives id len, ap is_ok is, tt, meets)
+read h id len (Err refusal) is (reply.Refused told) new meets = inl meets.1
+read h id len _ is _ new meets = absurd meets
+
+read_from : (h : SocketsView) (id : SocketId) (len : ℕ) (r : Result (ℕ × Endpoint) Refusal) → recvfrom_answer h id len ≡ r → (answer : Answer) (new : SocketsView) → MeetsReceivedFrom h id r answer new → IsCalled h new
+read_from h id len (Ok (count, from)) is (reply.Datagram octets told) new meets = inr (table.ReceivesFrom id len, ap is_ok is, tt, meets.2)
+read_from h id len (Err refusal) is (reply.Refused told) new meets = inl meets.1
+read_from h id len _ is _ new meets = absurd meets
+
+called : (routed : Addr → Bool) (c : Call) (h : SocketsView) (answer : Answer) (new : SocketsView) → IsNumberedCall c → MeetsCall routed c h answer new → IsCalled h new
+called routed (call.Socket kind) h answer new small meets = made kind h answer new meets
+called routed (call.Bind id local) h answer new small meets = answered _ _ h (table.Binds id local) answer new tt (unrefused (bind_refusal h id local)) meets
+called routed (call.Listen id backlog) h answer new small meets = answered _ _ h (table.Listens id backlog) answer new tt (unrefused (listen_refusal h id backlog)) meets
+called routed (call.Accept id) h answer new small meets = answered (accept_answer h id) _ h (table.Accepts id) answer new tt (λ taken. taken) meets
+called routed (call.Connect isn id peer) h answer new small meets = answered _ _ h (table.Connects isn.0 id peer (routed peer.addr)) answer new small (unrefused (connect_refusal h id peer (routed peer.addr))) meets
+called routed (call.Send id octets) h answer new small meets = answered (send_answer h id octets.items) _ h (table.Sends id octets.items) answer new tt (λ taken. taken) meets
+called routed (call.Recv id len) h answer new small meets = read h id (recv_len len) (recv_answer h id (recv_len len)) refl answer new meets
+called routed (call.SendTo id peer octets) h answer new small meets = answered (sendto_answer h id peer octets.items (routed peer.addr)) _ h (table.SendsTo id peer octets.items (routed peer.addr)) answer new tt (λ taken. taken) meets
+called routed (call.RecvFrom id len) h answer new small meets = read_from h id (recv_len len) (recvfrom_answer h id (recv_len len)) refl answer new meets
+called routed (call.Shutdown id) h answer new small meets = answered _ _ h (table.Shuts id) answer new tt (unrefused (shutdown_refusal h id)) meets
+called routed (call.Close id) h answer new small meets = answered _ _ h (table.Closes id) answer new tt (unrefused (close_refusal h id)) meets
+called routed (call.State id) h answer new small meets = asked (state_answer h id) _ h answer new meets
+called routed (call.SockName id) h answer new small meets = asked (sockname_answer h id) _ h answer new meets
+called routed (call.PeerName id) h answer new small meets = asked (peername_answer h id) _ h answer new meets
+
+-- What an event of a world makes of a host: it stays, or takes one event of its own, and what that delivers is a frame that the event delivered.
+
+-- the event delivers this to a side
+record Brings (n : NetworkView) (side : Side) (happens : Event) (octets : List ℕ) : Type 0 where
+  pub index : ℕ
+  pub isn : Seq
+  pub is : happens ≡ event.Deliver side index isn
+  pub frame : Frame
+  pub there : slice_get n.frames index ≡ Some frame
+  pub carries : frame.octets.items ≡ octets
+
+abbrev AreBrought : NetworkView → Side → Event → HostEvent → Type 0
+AreBrought n side happens e = (now : Moment) (isn : ℕ) (octets : List ℕ) → e ≡ Delivers now isn octets → Brings n side happens octets
+
+abbrev IsMoved : NetworkView → Side → Event → HostView → HostView → Type 0
+IsMoved n side happens h new = (new ≡ h) ⊎ ((e : HostEvent) × IsNumbered e × Makes e h new × AreBrought n side happens e)
+
+call-moves : (n : NetworkView) (s : Side) (c : Call) (h : HostView) (answer : Answer) (new : HostView) → IsNumberedCall c → HostMeetsCall c h answer new → IsMoved n s (event.Call s c) h new
+call-moves n s c h answer new small meets = by_table (called (is_routed h.interface) c h.sockets answer new.sockets small meets.table)
+  where
+    with_table : (t : SocketsView) → new.sockets ≡ t → new ≡ record h { sockets = t }
+    with_table t is = meets.others ∙ ap (λ (x : SocketsView). let k : HostView = record h { sockets = x } in k) is
+
+    by_table : IsCalled h.sockets new.sockets → IsMoved n s (event.Call s c) h new
+    by_table (inl same) = inl (with_table h.sockets same)
+    by_table (inr (e, allowed, numbered, is)) = inr (Calls e, numbered, (allowed, with_table (table.after_event h.sockets e) is), λ now isn octets none. cc)
+
+frame-moves : (n : NetworkView) (s : Side) (index : ℕ) (number : Seq) (f : Frame) (h : HostView) (now : Moment) (answer : Answer) (new : HostView) → number.0 < 2 ^ 32 → slice_get n.frames index ≡ Some f
+    → MeetsFrame h now number.0 f.octets.items answer new → IsMoved n s (event.Deliver s index number) h new
+frame-moves n s index number f h now answer new small there meets = by_answer answer meets
+  where
+    brings : AreBrought n s (event.Deliver s index number) (Delivers now number.0 f.octets.items)
+    brings then isn octets is = record { index = index; isn = number; is = refl; frame = f; there = there; carries = (let same : f.octets.items ≡ octets = cc in same) }
+
+    by_answer : (answer : Answer) → MeetsFrame h now number.0 f.octets.items answer new → IsMoved n s (event.Deliver s index number) h new
+    by_answer reply.Taken meets = inr (Delivers now number.0 f.octets.items, small, (Ok tt, meets), brings)
+    by_answer (reply.Dropped cause) meets = inr (Delivers now number.0 f.octets.items, small, (Err cause, meets), brings)
+    by_answer _ meets = absurd meets
+
+own-moves : (happens : Event) (place : ℕ) (answer : Answer) (n m : NetworkView) → world.IsNumbered happens → Steps happens place answer n m → IsMoved n (side_of happens) happens (host_of n (side_of happens)) (host_of m (side_of happens))
+own-moves (event.Call s c) place answer n m small step = call-moves n s c (host_of n s) answer (host_of m s) small step.0
+own-moves (event.Tick s moment) place answer n m small step =
+    inr (Ticks moment, tt, ap (λ (k : NetworkView). host_of k s) step.1 ∙ own-with n s (station_after_tick (station_of n s) moment), λ now isn octets none. cc)
+own-moves (event.Emit s) place answer n m small step = by_answer answer step
+  where
+    by_answer : (answer : Answer) → MeetsEmission s answer n m → IsMoved n s (event.Emit s) (host_of n s) (host_of m s)
+    by_answer (reply.Frame index len) step =
+        let next : HostView = after_emission (host_of n s) (clock_of n s) in
+        let x : Station = let t = station_of n s in record t { host = next } in
+        let k : NetworkView = record (with_host n s next) { frames = n.frames ++ step.frame ∷ [] } in
+        inr (Emits (clock_of n s), tt, ap (λ (v : NetworkView). host_of v s) step.after ∙ (own-again (with_host n s next) k s refl refl ∙ own-with n s x), λ now isn octets none. cc)
+    by_answer reply.NoFrame step = inl (ap (λ (v : NetworkView). host_of v s) step.after)
+    by_answer _ step = absurd step
+own-moves (event.Deliver s index isn) place answer n m small step = by_frame (slice_get n.frames index) refl step
+  where
+    by_frame : (o : Option Frame) → slice_get n.frames index ≡ o → DeliversFrame s isn.0 place answer n m o → IsMoved n s (event.Deliver s index isn) (host_of n s) (host_of m s)
+    by_frame None there step = absurd step
+    by_frame (Some f) there step = frame-moves n s index isn f (host_of n s) (clock_of n s) answer (host_of m s) small there step.0
+
+-- the side that an event names, and the other one
+both-sides : (s t : Side) → (s ≡ t) ⊎ (s ≡ other_side t)
+both-sides A A = inl refl
+both-sides A B = inr refl
+both-sides B A = inr refl
+both-sides B B = inl refl
+
+moved : (old new : WorldView) (happens : Event) (answer : Answer) → IsStep happens answer old new → (side : Side) → IsMoved old.network side happens (host_of old.network side) (host_of new.network side)
+moved old new happens answer step side = by_side (both-sides side (side_of happens))
+  where
+    by_side : (side ≡ side_of happens) ⊎ (side ≡ other_side (side_of happens)) → IsMoved old.network side happens (host_of old.network side) (host_of new.network side)
+    by_side (inl own) = subst (λ (s : Side). IsMoved old.network s happens (host_of old.network s) (host_of new.network s)) (sym own) (own-moves happens (length old.trace) answer old.network new.network step.numbered step.network)
+    by_side (inr other) = inl (other-stays happens (length old.trace) answer old.network new.network side other step.network)
+
+-- What was delivered once stays so.
+
+frames-stay : (happens : Event) (place : ℕ) (answer : Answer) (n m : NetworkView) → Steps happens place answer n m → (index : ℕ) (f : Frame) → slice_get n.frames index ≡ Some f → slice_get m.frames index ≡ Some f
+frames-stay happens place answer n m step index f there = elim (frames-step happens place answer n m step) [
+  | inl same ↦ subst (λ (fs : List Frame). slice_get fs index ≡ Some f) (sym same) there
+  | inr puts ↦ subst (λ (k : NetworkView). slice_get k.frames index ≡ Some f) (sym puts.emits.after) (got-still n.frames puts.emits.frame index f there)
+]
+
+delivered-on : (w v : WorldView) (happens : Event) (answer : Answer) → IsStep happens answer w v → (side : Side) (octets : List ℕ) → WasDelivered w side octets → WasDelivered v side octets
+delivered-on w v happens answer step side octets d = record {
+  index = d.index;
+  isn = d.isn;
+  answer = d.answer;
+  happened = subst (λ (hs : List Happening). Contains hs (record { event = event.Deliver side d.index d.isn; answer = d.answer })) (sym step.trace)
+      (Contains-append_left w.trace (record { event = happens; answer = answer } ∷ []) (record { event = event.Deliver side d.index d.isn; answer = d.answer }) d.happened);
+  frame = d.frame;
+  there = frames-stay happens (length w.trace) answer w.network v.network step.network d.index d.frame d.there;
+  carries = d.carries;
+}
+
+delivered-now : (w v : WorldView) (happens : Event) (answer : Answer) → IsStep happens answer w v → (side : Side) (octets : List ℕ) → Brings w.network side happens octets → WasDelivered v side octets
+delivered-now w v happens answer step side octets b = record {
+  index = b.index;
+  isn = b.isn;
+  answer = answer;
+  happened = subst (λ (e : Event). Contains v.trace (record { event = e; answer = answer })) b.is (subst (λ (hs : List Happening). Contains hs (record { event = happens; answer = answer })) (sym step.trace)
+      (Contains-append_right w.trace (record { event = happens; answer = answer } ∷ []) (record { event = happens; answer = answer }) (0, omega arith, refl)));
+  frame = b.frame;
+  there = frames-stay happens (length w.trace) answer w.network v.network step.network b.index b.frame b.there;
+  carries = b.carries;
+}
+
+-- a host that goes on
+run-on : (w v : WorldView) (happens : Event) (answer : Answer) → IsStep happens answer w v → (side : Side) → IsSoundHost (host_of w.network side) → IsMoved w.network side happens (host_of w.network side) (host_of v.network side) → HasRun w side → HasRun v side
+run-on w v happens answer step side sound (inl same) r = record {
+  config = r.config;
+  events = r.events;
+  runs = subst (Runs r.config r.events) (sym same) r.runs;
+  traced = λ now isn octets within. delivered-on w v happens answer step side octets (r.traced now isn octets within);
+}
+run-on w v happens answer step side sound (inr (e, numbered, makes, brings)) r = record {
+  config = r.config;
+  events = r.events ++ e ∷ [];
+  runs = GoesOn r.events e (host_of w.network side) (host_of v.network side) r.runs sound numbered makes;
+  traced = λ now isn octets within. elim (Contains-append_cases r.events (e ∷ []) (Delivers now isn octets) within) [
+    | inl before ↦ delivered-on w v happens answer step side octets (r.traced now isn octets before)
+    | inr now_so ↦ delivered-now w v happens answer step side octets (brings now isn octets (only e (Delivers now isn octets) now_so))
+  ];
+}
+  where
+    only : (x y : HostEvent) → Contains (x ∷ []) y → x ≡ y
+    only x y (zero, within, is) = is
+    only x y (suc k, within, is) = absurd (omega (arith, within))
+
+sound-at : {happens : Event} {answer : Answer} (old new : WorldView) → IsStep happens answer old new → (side : Side) → IsSoundHost (host_of old.network side)
+sound-at old new step A = step.sound_a
+sound-at old new step B = step.sound_b
+
+nothing-traced : (w : WorldView) (side : Side) → AreTraced w side []
+nothing-traced w side now isn octets (k, within, is) = absurd (omega (arith, within))
+
+-- Any world.
+
+pub hosts-run : EveryHostRuns
+hosts-run limit w (begins a b apart small) A = record { config = a; events = []; runs = Begins; traced = nothing-traced w A }
+hosts-run limit w (begins a b apart small) B = record { config = b; events = []; runs = Begins; traced = nothing-traced w B }
+hosts-run limit _ (goes_on w v happens answer reached step) side = run-on w v happens answer step side (sound-at w v step side) (moved w v happens answer step side) (hosts-run limit w reached side)
+
+pub tables-kept : EveryTableIsKept
+tables-kept limit w reached side =
+    let r = hosts-run limit w reached side in
+    record {
+      reached = run-reached r.config r.events (host_of w.network side) r.runs;
+      ordered = run-ordered r.config r.events (host_of w.network side) r.runs;
+      over = run-over r.config r.events (host_of w.network side) r.runs;
+      time = run-timed r.config r.events (host_of w.network side) r.runs;
+    }
+
+-- The causes of what goes out.
+
+heard-of : (w : WorldView) (side : Side) (r : HasRun w side) (meaning : Meaning) → host_runs.WasHeard r.config r.events meaning → WasHeard w side meaning
+heard-of w side r meaning was =
+    let stands = run-stands r.config r.events (host_of w.network side) r.runs in
+    let own = stands.interface in
+    record {
+      octets = was.octets;
+      delivered = r.traced was.now was.isn was.octets was.delivered;
+      meant = ap (λ (mac : Mac). heard mac (let h = host_of w.network side in h.interface.addr) was.octets) own.mac ∙ ap (λ (addr : Addr). heard r.config.mac addr was.octets) own.addr ∙ was.meant;
+    }
+
+pub causes-heard : EveryMessageHasItsCause
+causes-heard limit w v side index len f mac ours c reached step there is = by_kind (c.message.kind == 0) refl
+  where
+    r : HasRun w side
+    r = hosts-run limit w reached side
+
+    emits : EmitsFrame side index len w.network v.network
+    emits = step.network
+
+    went : f.octets.items ≡ emission_octets (host_of w.network side) (clock_of w.network side)
+    went =
+        let placed : slice_get v.network.frames index ≡ Some emits.frame =
+        ap (λ (k : NetworkView). slice_get k.frames index) emits.after ∙ ap (λ (i : ℕ). slice_get (w.network.frames ++ emits.frame ∷ []) i) emits.place ∙ got-last w.network.frames emits.frame
+        in
+        let same : f ≡ emits.frame = some_same (slice_get v.network.frames index) f emits.frame there placed in
+        ap (λ (g : Frame). g.octets.items) same ∙ emits.octets
+
+    heard_so : heard mac ours (emission_octets (host_of w.network side) (clock_of w.network side)) ≡ Ok (Icmp c)
+    heard_so = ap (heard mac ours) (sym went) ∙ is
+
+    by_kind : (b : Bool) → (c.message.kind == 0) ≡ b → HasCause w side ours c.message
+    by_kind true zero_kind =
+        let kind : c.message.kind ≡ 0 = eqb-true c.message.kind 0 zero_kind in
+        let found = request-there r.config r.events (host_of w.network side) (clock_of w.network side) mac ours c r.runs (sound-at w v step side) heard_so kind in
+        inl (kind, found.0, heard-of w side r (Icmp (record { source = ours; message = found.0 })) found.1, found.2, found.3)
+    by_kind false other_kind =
+        let kind : c.message.kind ≢ 0 = λ same. let bad : true ≡ false = sym (ap (λ (n : ℕ). n == 0) same) ∙ other_kind in cc in
+        let found = cause-there r.config r.events (host_of w.network side) (clock_of w.network side) mac ours c r.runs (sound-at w v step side) heard_so kind in
+        inr (kind, found.0, found.1, found.2, found.3, heard-of w side r found.2 found.4, found.5, found.6)

@@ -1,0 +1,85 @@
+-- Each of the two hosts of a world is one that events of its own lead to, and keeps what such a host keeps.
+use Rattle.std.specs.Prelude.{◌≡◌, ◌≢◌, ◌⊎◌, ℕ, List, Contains, slice_get, Some, Ok}
+use Rattle.ether.specs.declared.mac.Mac.{Mac}
+use Rattle.ipv4.specs.declared.addr.Addr.{Addr}
+use Rattle.ipv4.specs.Datagram.{Datagram, header_octets}
+use Rattle.clock.specs.declared.moment.Moment.{Moment}
+use Rattle.tcp_segment.specs.declared.seq.Seq.{Seq}
+use Rattle.icmp.specs.declared.error.Reason.{Reason}
+use Rattle.icmp.specs.Message.{Message, IsEchoRequest}
+use Rattle.icmp.specs.Sent.{RepliesTo, error_for}
+use Rattle.frames.specs.declared.meaning.Control.{Control}
+use Rattle.frames.specs.declared.meaning.Meaning.{Meaning}
+use Rattle.frames.specs.declared.meaning.Meaning.TheVariants.{Icmp}
+use Rattle.frames.specs.Meaning.{heard}
+use Rattle.sides.specs.declared.side.Side.{Side}
+use Rattle.sockets.specs.Offered as tables
+use Rattle.sockets.specs.Order.{IsOrdered}
+use Rattle.sockets.specs.Sound.{NoneIsOver}
+use Rattle.sockets.specs.SocketsView.{SocketsView}
+use Rattle.sockets.specs.Timing.{EachKeepsTime}
+use Rattle.host.specs.Arrival.{heard_by}
+use Rattle.host.specs.Causes.{IsAbout}
+use Rattle.host.specs.ConfigView.{ConfigView}
+use Rattle.host.specs.Runs.{Event as HostEvent, Delivers, Runs}
+use Rattle.wire_sim.specs.declared.event.Answer.{Answer}
+use Rattle.wire_sim.specs.declared.event.Answer.TheVariants as reply
+use Rattle.wire_sim.specs.declared.event.Event.TheVariants as event
+use Rattle.wire_sim.specs.declared.world.bag.Frame.{Frame}
+use Rattle.wire_sim.specs.Runs.{IsReached, IsStep}
+use Rattle.wire_sim.specs.WorldView.{WorldView, host_of, table_of}
+
+-- a frame of these octets was emitted, and delivered to this side, by what stands in the trace
+pub record WasDelivered (w : WorldView) (side : Side) (octets : List ℕ) : Type 0 where
+  pub index : ℕ
+  pub isn : Seq
+  pub answer : Answer
+  pub happened : Contains w.trace (record { event = event.Deliver side index isn; answer = answer })
+  pub frame : Frame
+  pub there : slice_get w.network.frames index ≡ Some frame
+  pub carries : frame.octets.items ≡ octets
+
+-- what events deliver to a side's host was delivered in the world
+abbrev pub AreTraced : WorldView → Side → List HostEvent → Type 0
+AreTraced w side events = (now : Moment) (isn : ℕ) (octets : List ℕ) → Contains events (Delivers now isn octets) → WasDelivered w side octets
+
+-- a list of events leads to a side's host, from one of a set-up on which nothing happened, and what it delivers was delivered in the world
+pub record HasRun (w : WorldView) (side : Side) : Type 0 where
+  pub config : ConfigView
+  pub events : List HostEvent
+  pub runs : Runs config events (host_of w.network side)
+  pub traced : AreTraced w side events
+
+abbrev pub EveryHostRuns : Type 0
+EveryHostRuns = (limit : ℕ) (w : WorldView) → IsReached limit w → (side : Side) → HasRun w side
+
+-- A table is one that events of its own lead to, none of them refused; it is in order, nothing of it is over, and each of its connections keeps its
+-- timers and its congestion window.
+pub record IsKept (h : SocketsView) : Type 0 where
+  pub reached : tables.IsReached h
+  pub ordered : IsOrdered h
+  pub over : NoneIsOver h
+  pub time : EachKeepsTime h
+
+abbrev pub EveryTableIsKept : Type 0
+EveryTableIsKept = (limit : ℕ) (w : WorldView) → IsReached limit w → (side : Side) → IsKept (table_of w.network side)
+
+-- What a side's host hears is this of a frame that was delivered to it.
+pub record WasHeard (w : WorldView) (side : Side) (meaning : Meaning) : Type 0 where
+  pub octets : List ℕ
+  pub delivered : WasDelivered w side octets
+  pub meant : heard_by (host_of w.network side) octets ≡ Ok meaning
+
+-- An ICMP message that is for this address is an echo reply, and its request was delivered to the side's host from there; or an error, and the datagram
+-- that it is about was.
+abbrev pub HasCause : WorldView → Side → Addr → Message → Type 0
+HasCause w side to m =
+    ((m.kind ≡ 0) × (request : Message) × WasHeard w side (Icmp (record { source = to; message = request })) × IsEchoRequest request × RepliesTo m request)
+    ⊎ ((m.kind ≢ 0) × (reason : Reason) × (d : Datagram) × (meaning : Meaning) × IsAbout reason d meaning × WasHeard w side meaning × (d.source ≡ to)
+    × (m ≡ error_for reason (header_octets d) d.payload))
+
+-- A frame goes out, and somebody at this address hears it as an ICMP message: that has its cause in what was delivered before.
+abbrev pub EveryMessageHasItsCause : Type 0
+EveryMessageHasItsCause = (limit : ℕ) (w v : WorldView) (side : Side) (index len : ℕ) (f : Frame) (mac : Mac) (ours : Addr) (c : Control)
+    → IsReached limit w → IsStep (event.Emit side) (reply.Frame index len) w v → slice_get v.network.frames index ≡ Some f → heard mac ours f.octets.items ≡ Ok (Icmp c)
+    → HasCause w side ours c.message
