@@ -9,21 +9,23 @@ use Rattle.wire_sim.specs.declared.event.Event.TheVariants as event
 use Rattle.wire_sim.specs.declared.event.Answer.{Answer}
 use Rattle.wire_sim.specs.declared.event.Unfair.{Unfair}
 use Rattle.wire_sim.specs.declared.event.Unfair.TheVariants.{NoMemory}
-use Rattle.wire_sim.specs.Runs.{unfair, IsStep, SameCall, SameEvent, IsOutcome, RunsTo}
+use Rattle.wire_sim.specs.RoomyRuns.{IsRoomyOutcome, RoomyRunsTo}
+use Rattle.wire_sim.specs.Runs.{unfair, IsStep, SameCall, SameEvent, IsOutcome}
+use Rattle.wire_sim.specs.WorldRoom.{RoomyWorld}
 use Rattle.wire_sim.specs.WorldView.{WorldView, SameAnswer}
 
 -- one more at the end
-pub runs-added : (es : List Event) (os : List (Result Answer Unfair)) (w m v : WorldView) (e given : Event) (o : Result Answer Unfair) → RunsTo es os w m → SameEvent given e → IsOutcome given o m v → RunsTo (es ++ e ∷ []) (os ++ o ∷ []) w v
-runs-added [] [] w m v e given o run same outcome = (given, v, same, subst (λ x. IsOutcome given o x v) run outcome, refl)
-runs-added [] (p ∷ os) w m v e given o run same outcome = absurd run
-runs-added (d ∷ es) [] w m v e given o run same outcome = absurd run
-runs-added (d ∷ es) (p ∷ os) w m v e given o run same outcome = (run.0, run.1, run.2, run.3, runs-added es os run.1 m v e given o run.4 same outcome)
+pub runs-added : (es : List Event) (os : List (Result Answer Unfair)) (w m v : RoomyWorld) (e : Event) (o : Result Answer Unfair) → RoomyRunsTo es os w m → IsRoomyOutcome e o m v → RoomyRunsTo (es ++ e ∷ []) (os ++ o ∷ []) w v
+runs-added [] [] w m v e o run outcome = (v, subst (λ x. IsRoomyOutcome e o x v) run outcome, refl)
+runs-added [] (p ∷ os) w m v e o run outcome = absurd run
+runs-added (d ∷ es) [] w m v e o run outcome = absurd run
+runs-added (d ∷ es) (p ∷ os) w m v e o run outcome = (run.0, run.1, runs-added es os run.0 m v e o run.2 outcome)
 
 -- the lists as they stand in the loop
-pub runs-next : (es : List Event) (i : ℕ) (e given : Event) (n : ℕ) (os : List (Result Answer Unfair)) (o : Result Answer Unfair) (w m v : WorldView) → i < length es → e ≡ get_or es i e → n ≤ length os → RunsTo (take i es) (drop n os) w m → SameEvent given e → IsOutcome given o m v
-    → RunsTo (take (i + 1) es) (drop n (os ++ o ∷ [])) w v
-runs-next es i e given n os o w m v within at fits run same outcome =
-    subst (λ l. RunsTo l (drop n (os ++ o ∷ [])) w v) (sym (taken es i within at)) (subst (λ l. RunsTo (take i es ++ e ∷ []) l w v) (sym (dropped n os fits)) (runs-added (take i es) (drop n os) w m v e given o run same outcome))
+pub runs-next : (es : List Event) (i : ℕ) (e : Event) (n : ℕ) (os : List (Result Answer Unfair)) (o : Result Answer Unfair) (w m v : RoomyWorld) → i < length es → e ≡ get_or es i e → n ≤ length os → RoomyRunsTo (take i es) (drop n os) w m → IsRoomyOutcome e o m v
+    → RoomyRunsTo (take (i + 1) es) (drop n (os ++ o ∷ [])) w v
+runs-next es i e n os o w m v within at fits run outcome =
+    subst (λ l. RoomyRunsTo l (drop n (os ++ o ∷ [])) w v) (sym (taken es i within at)) (subst (λ l. RoomyRunsTo (take i es ++ e ∷ []) l w v) (sym (dropped n os fits)) (runs-added (take i es) (drop n os) w m v e o run outcome))
   where
     taken : (xs : List Event) (k : ℕ) → k < length xs → e ≡ get_or xs k e → take (k + 1) xs ≡ take k xs ++ e ∷ []
     taken [] k short here = absurd (omega (arith, short))
@@ -48,16 +50,16 @@ step-outcome e (Err refusal) old new refused kept taken = (kept, by_rule (unfair
     by_rule (Some broken) is m = let same : refusal ≡ broken = cc in inl (is ∙ ap Some (sym same))
 
 -- nothing was given yet
-pub runs-none : (os : List (Result Answer Unfair)) (w : WorldView) → RunsTo [] (drop (length os) os) w w
-runs-none os w = subst (λ l. RunsTo [] l w w) (sym (dropped os)) refl
+pub runs-none : (os : List (Result Answer Unfair)) (w : RoomyWorld) → RoomyRunsTo [] (drop (length os) os) w w
+runs-none os w = subst (λ l. RoomyRunsTo [] l w w) (sym (dropped os)) refl
   where
     dropped : (xs : List (Result Answer Unfair)) → drop (length xs) xs ≡ []
     dropped [] = refl
     dropped (x ∷ xs) = dropped xs
 
 -- every event was given
-pub runs-all : (es : List Event) (i : ℕ) (os : List (Result Answer Unfair)) (w v : WorldView) → i ≡ length es → RunsTo (take i es) os w v → RunsTo es os w v
-runs-all es i os w v is run = subst (λ l. RunsTo l os w v) (ap (λ k. take k es) is ∙ whole es) run
+pub runs-all : (es : List Event) (i : ℕ) (os : List (Result Answer Unfair)) (w v : RoomyWorld) → i ≡ length es → RoomyRunsTo (take i es) os w v → RoomyRunsTo es os w v
+runs-all es i os w v is run = subst (λ l. RoomyRunsTo l os w v) (ap (λ k. take k es) is ∙ whole es) run
   where
     whole : (xs : List Event) → take (length xs) xs ≡ xs
     whole [] = refl

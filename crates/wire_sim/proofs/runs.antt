@@ -2,3 +2,5 @@ pub mod RunsAreLawful
 pub mod FieldsAreReached
 pub mod RunsAreReached
 pub mod CopyIsSame
+pub mod RoomLasts
+pub mod RoomyRunsLast

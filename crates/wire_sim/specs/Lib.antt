@@ -8,6 +8,7 @@ pub mod Steps
 pub mod WorldRoom
 pub mod Trace
 pub mod Runs
+pub mod RoomyRuns
 pub mod Datagrams
 pub mod Coverage
 pub mod Holding

@@ -5,6 +5,7 @@ ghost use Rattle.wire_sim.specs.Coverage.{EveryConnectionIsListed, EveryOpeningI
 ghost use Rattle.wire_sim.specs.HostRuns.{EveryHostRuns, EveryTableIsKept, EveryMessageHasItsCause};
 ghost use Rattle.wire_sim.specs.Holding.{EveryOpeningIsBegun, EveryHoldingIsNoted};
 ghost use Rattle.wire_sim.specs.Notes.{EveryNoteIsTraced, EveryDelayIsTraced};
+ghost use Rattle.wire_sim.specs.RoomyRuns.{EveryRoomyRunIsARun, EveryStepLeavesRoom, EveryRunLeavesRoom, EveryBareRunHasRoom};
 ghost use Rattle.wire_sim.specs.Datagrams.{EveryRunKeepsDatagrams, EveryDatagramIsTraced};
 
 /// In every run of a world of two hosts, over every list of socket calls, ticks, emissions and fair deliveries in any order, for
@@ -106,4 +107,25 @@ pub fn every_run_keeps_datagrams()
 /// that was accepted, from whom and which octets each that was read.
 pub fn every_datagram_is_traced()
     ensures { EveryDatagramIsTraced }
+{}
+
+/// What is seen of a run of a world with its room is a run of a world, so that each law over runs holds of it.
+pub fn every_roomy_run_is_a_run()
+    ensures { EveryRoomyRunIsARun }
+{}
+
+/// What room lasts for: a world with room for so many elements in each list, and one more, has room for so many after a step.
+pub fn every_step_leaves_room()
+    ensures { EveryStepLeavesRoom }
+{}
+
+/// A world with room for as many elements as there are events, and so many more, has room for so many after the run.
+pub fn every_run_leaves_room()
+    ensures { EveryRunLeavesRoom }
+{}
+
+/// Where a world has room for a list of events that neither read octets, put frames into the network nor own octets, none of them is refused for
+/// want of memory, in whatever order and however many they are.
+pub fn every_bare_run_has_room()
+    ensures { EveryBareRunHasRoom }
 {}

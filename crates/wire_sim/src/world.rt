@@ -50,9 +50,10 @@ impl Model for World {
 
 impl World {
     ghost use Rattle.wire_sim.specs.Datagrams.{DatagramLaw};
-    ghost use Rattle.wire_sim.specs.Runs.{unfair, IsStep, IsReached, RunsTo};
+    ghost use Rattle.wire_sim.specs.RoomyRuns.{RoomyRunsTo};
+    ghost use Rattle.wire_sim.specs.Runs.{unfair, IsStep, IsReached, SameEvent, IsOutcome};
     ghost use Rattle.wire_sim.specs.Trace.{StreamLaw};
-    ghost use Rattle.wire_sim.specs.WorldRoom.{HasRoom, IsPlain, KeepsRoom};
+    ghost use Rattle.wire_sim.specs.WorldRoom.{HasRoomFor, HasRoom, IsPlain, KeepsRoom, event_octets};
     ghost use Rattle.wire_sim.specs.WorldView.{SameAnswer, fresh_world};
 
     /// Two hosts on one link that have heard nothing of each other, no frames, and nothing happened. SameAddress where both have one address or one MAC;
@@ -87,6 +88,22 @@ impl World {
         })
     }
 
+    /// Makes room for so many events more in each of the world's lists: as many plain ones then can't be refused for want of memory. NoMemory
+    /// where there is none, and then nothing that is seen has changed.
+    pub fn reserve(&mut self, events: usize) -> Result<(), WorldFault>
+        ensures room { OnOk result (HasRoomFor events self.new) }
+        ensures full { HasRoomFor events self.old → IsOk result }
+        ensures fault { IfErr result (λ fault. fault ≡ WorldFault.NoMemory) }
+        ensures seen { self.new.seen ≡ self.old.seen }
+        ensures kept { KeepsRoom self.old.room self.new.room }
+    {
+        let _ = &self.alloc;
+        if self.network.reserve(events).is_err() || self.trace.reserve(events).is_err() {
+            return Err(WorldFault::NoMemory);
+        }
+        Ok(())
+    }
+
     /// Gives one event to the host that it names, and answers what the host answers.
     ///
     /// NoSuchFrame, OtherEpoch, Stale, SecondOpening, NoMemory, tested in this order; the world is then as it was. NoMemory comes only where
@@ -116,7 +133,7 @@ impl World {
     }
 
     /// Gives each event in turn to `step`, and appends its result. NoMemory, with nothing done, where `results` has no room for them all and cannot
-    /// grow.
+    /// grow. Of one event NoMemory is told only where `step` tells it, or the event owns octets, of which a copy is made.
     pub fn run(
         &mut self,
         events: &[Event],
@@ -124,7 +141,7 @@ impl World {
     ) -> Result<(), WorldFault>
         ensures kept { take (length results.old.items) results.new.items ≡ results.old.items }
         ensures one_each { OnOk result (length results.new.items ≡ length results.old.items + length events.now) }
-        ensures steps { OnOk result (RunsTo events.now (drop (length results.old.items) results.new.items) self.old.seen self.new.seen) }
+        ensures steps { OnOk result (RoomyRunsTo events.now (drop (length results.old.items) results.new.items) self.old self.new) }
         ensures err { OnErr result ((self.new ≡ self.old) × (results.new.items ≡ results.old.items)) }
         ensures fault { IfErr result (λ fault. fault ≡ WorldFault.NoMemory) }
         ensures full { OnErr result (vec_capacity results.old < vec_len results.old + length events.now) }
@@ -137,14 +154,26 @@ impl World {
             return Err(WorldFault::NoMemory);
         }
         for event in events {
-            let outcome = match event.clone() {
-                Ok(event) => self.step(event),
-                // Only what is sent owns octets that take memory, and no rule refuses a send.
-                Err(_) => Err(Unfair::NoMemory),
-            };
+            let outcome = self.give(event);
             tell(results, outcome);
         }
         Ok(())
+    }
+
+    /// Gives a copy of an event to `step`. NoMemory also where there is no memory for the copy, and only octets want memory.
+    fn give(&mut self, event: &Event) -> Result<Answer, Unfair>
+        ensures outcome { (given : Event) × SameEvent given event.now × IsOutcome given result self.old.seen self.new.seen }
+        ensures memory { unfair self.old.seen event.now ≡ None → HasRoom self.old → IsPlain event.now → event_octets event.now ≡ None → IsOk result }
+        ensures room { KeepsRoom self.old.room self.new.room }
+        ensures reached { IsReached self.new.seen.network.limit self.new.seen }
+        ensures lawful { StreamLaw self.new.seen.trace self.new.seen.network.openings }
+    {
+        let _ = &self.alloc;
+        match event.clone() {
+            Ok(event) => self.step(event),
+            // Only what is sent owns octets that take memory, and no rule refuses a send.
+            Err(_) => Err(Unfair::NoMemory),
+        }
     }
 
     /// When a host came to hold a pair, in order.
@@ -187,13 +216,13 @@ fn reserve(
     ensures happening { OnOk result (vec_len trace.new < vec_capacity trace.new) }
     ensures read { IfOk result (λ room. vec_len room.octets ≡ event_recv_len event.now) }
     ensures room { IfOk result (λ room. is_emission event.now ≡ true → 1514 ≤ vec_capacity room.octets) }
-    ensures memory { vec_len network.old.bag < vec_capacity network.old.bag → vec_len network.old.ledger.openings < vec_capacity network.old.ledger.openings
-        → vec_len network.old.ledger.written < vec_capacity network.old.ledger.written → vec_len trace.old < vec_capacity trace.old
+    ensures memory { vec_len network.old.bag + 1 ≤ vec_capacity network.old.bag → vec_len network.old.ledger.openings + 1 ≤ vec_capacity network.old.ledger.openings
+        → vec_len network.old.ledger.written + 1 ≤ vec_capacity network.old.ledger.written → vec_len trace.old + 1 ≤ vec_capacity trace.old
         → event_recv_len event.now ≡ 0 → is_emission event.now ≡ false → IsOk result }
     ensures network_room { KeepsNetworkRoom (network_room network.old) (network_room network.new) }
     ensures trace_room { vec_capacity trace.old ≤ vec_capacity trace.new }
 {
-    network.reserve()?;
+    network.reserve(1)?;
     trace.reserve(1)?;
     Room::for_event(alloc, event)
 }

@@ -123,7 +123,7 @@ fn first_and_last(rt: &impl Abort, outcomes: &[Result<Answer, Unfair>]) {
     }
 }
 
-/// A run in one world is what its steps are in another.
+/// A run in one world, in which room is made first, is what its steps are in another.
 fn compare(
     rt: &impl Abort,
     alloc: Global,
@@ -133,6 +133,7 @@ fn compare(
     let mut events = Vec::new(alloc);
     add_events(alloc, &mut events)?;
     let mut outcomes = Vec::new(alloc);
+    together.reserve(events.len())?;
     together.run(events.as_slice(), &mut outcomes)?;
     first_and_last(rt, outcomes.as_slice());
     steps(rt, alloc, single, outcomes.as_slice())?;

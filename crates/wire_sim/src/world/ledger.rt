@@ -53,31 +53,31 @@ impl Ledger {
         }
     }
 
-    /// Makes room for one more opening. It fails only where that room was missing.
-    pub(super) fn reserve(&mut self) -> Result<(), AllocError>
-        ensures openings_room { OnOk result (vec_len self.new.openings < vec_capacity self.new.openings) }
-        ensures written_room { OnOk result (vec_len self.new.written < vec_capacity self.new.written) }
+    /// Makes room for `more` openings. It fails only where that room was missing.
+    pub(super) fn reserve(&mut self, more: usize) -> Result<(), AllocError>
+        ensures openings_room { OnOk result (vec_len self.new.openings + more ≤ vec_capacity self.new.openings) }
+        ensures written_room { OnOk result (vec_len self.new.written + more ≤ vec_capacity self.new.written) }
         ensures openings { self.new.openings.items ≡ self.old.openings.items }
         ensures written { self.new.written.items ≡ self.old.written.items }
-        ensures room { vec_len self.old.openings < vec_capacity self.old.openings → vec_len self.old.written < vec_capacity self.old.written → IsOk result }
+        ensures room { vec_len self.old.openings + more ≤ vec_capacity self.old.openings → vec_len self.old.written + more ≤ vec_capacity self.old.written → IsOk result }
         ensures openings_kept { vec_capacity self.old.openings ≤ vec_capacity self.new.openings }
         ensures written_kept { vec_capacity self.old.written ≤ vec_capacity self.new.written }
     {
-        if self.openings.len() == self.openings.capacity() {
-            self.grow()?;
+        if self.openings.capacity() - self.openings.len() < more {
+            self.grow(more)?;
         }
-        self.written.reserve(1)
+        self.written.reserve(more)
     }
 
-    /// Makes room for about twice as many openings, and before that for what they are filed under.
-    fn grow(&mut self) -> Result<(), AllocError>
-        ensures room { OnOk result (vec_len self.new.openings < vec_capacity self.new.openings) }
+    /// Makes room for `more` openings, or for as many as there was room for where that is more, and before that for what they are filed under.
+    fn grow(&mut self, more: usize) -> Result<(), AllocError>
+        ensures room { OnOk result (vec_len self.new.openings + more ≤ vec_capacity self.new.openings) }
         ensures kept { vec_capacity self.old.openings ≤ vec_capacity self.new.openings }
         ensures openings { self.new.openings.items ≡ self.old.openings.items }
         ensures written { self.new.written ≡ self.old.written }
     {
         let len = self.openings.len();
-        let more = len.max(FIRST_OPENINGS);
+        let more = more.max(self.openings.capacity()).max(FIRST_OPENINGS);
         let room = len.checked_add(more).ok_or(AllocError)?;
         self.pairs.reserve(room)?;
         self.connections.reserve(room)?;

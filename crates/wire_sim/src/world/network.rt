@@ -98,18 +98,18 @@ impl Network {
         self.b.sound();
     }
 
-    /// Makes room for one more frame and one more opening. It fails only where that room was missing.
-    pub(super) fn reserve(&mut self) -> Result<(), AllocError>
+    /// Makes room for `more` frames and `more` openings. It fails only where that room was missing.
+    pub(super) fn reserve(&mut self, more: usize) -> Result<(), AllocError>
         ensures kept { network_view self.new ≡ network_view self.old }
-        ensures bag { OnOk result (vec_len self.new.bag < vec_capacity self.new.bag) }
-        ensures openings { OnOk result (vec_len self.new.ledger.openings < vec_capacity self.new.ledger.openings) }
-        ensures written { OnOk result (vec_len self.new.ledger.written < vec_capacity self.new.ledger.written) }
-        ensures room { vec_len self.old.bag < vec_capacity self.old.bag → vec_len self.old.ledger.openings < vec_capacity self.old.ledger.openings
-            → vec_len self.old.ledger.written < vec_capacity self.old.ledger.written → IsOk result }
+        ensures bag { OnOk result (vec_len self.new.bag + more ≤ vec_capacity self.new.bag) }
+        ensures openings { OnOk result (vec_len self.new.ledger.openings + more ≤ vec_capacity self.new.ledger.openings) }
+        ensures written { OnOk result (vec_len self.new.ledger.written + more ≤ vec_capacity self.new.ledger.written) }
+        ensures room { vec_len self.old.bag + more ≤ vec_capacity self.old.bag → vec_len self.old.ledger.openings + more ≤ vec_capacity self.old.ledger.openings
+            → vec_len self.old.ledger.written + more ≤ vec_capacity self.old.ledger.written → IsOk result }
         ensures room_kept { KeepsNetworkRoom (network_room self.old) (network_room self.new) }
     {
-        self.bag.reserve(1)?;
-        self.ledger.reserve()
+        self.bag.reserve(more)?;
+        self.ledger.reserve(more)
     }
 
     /// Gives an event, at this place in the trace, to its host. `octets` is what it reads into, or room for what it emits.

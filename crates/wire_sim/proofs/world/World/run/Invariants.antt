@@ -1,6 +1,7 @@
 -- There is room for the results that are still to come; those before stay, each event has one, and they are those of the steps so far.
 use Rattle.std.proofs.Common.{◌≡◌, ◌+◌, ◌≤◌, length, take, drop, vec_len, vec_capacity}
-use Rattle.wire_sim.specs.Runs.{IsReached, RunsTo}
+use Rattle.wire_sim.specs.RoomyRuns.{RoomyRunsTo}
+use Rattle.wire_sim.specs.Runs.{IsReached}
 use Rattle.wire_sim.specs.Trace.{StreamLaw}
 use Rattle.wire_sim.proofs.world.World.run.Given as goal
 
@@ -11,4 +12,4 @@ invariant-loop-event l =
     × (take (length l.initial.results.items) l.results.items ≡ l.initial.results.items)
     × IsReached l.self.seen.network.limit l.self.seen
     × StreamLaw l.self.seen.trace l.self.seen.network.openings
-    × RunsTo (take l.event-index l.events) (drop (length l.initial.results.items) l.results.items) l.initial.self.seen l.self.seen
+    × RoomyRunsTo (take l.event-index l.events) (drop (length l.initial.results.items) l.results.items) l.initial.self l.self
