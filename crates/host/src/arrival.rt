@@ -2,6 +2,7 @@
 
 ghost use Rattle.std.specs.Prelude.{◌≡◌, ◌≤◌, ◌&&◌, not, length, is_some, Ok};
 ghost use Rattle.frames.specs.declared.meaning.Meaning.TheVariants.{Tcp};
+ghost use Rattle.interface.specs.declared.room.TheConstants.{ECHO_ROOM};
 ghost use Rattle.interface.specs.Ways.{is_routed};
 ghost use Rattle.sockets.specs.Arrival.{pair_opened};
 ghost use Rattle.host.specs.Arrival.{queue_answer};
@@ -70,7 +71,7 @@ impl Host {
     /// Takes an ICMP message for us, at this moment: an echo request is answered (RFC 1122 section 3.2.2.6), and a hard error that quotes a
     /// segment of ours is told to the connection of its two ends (section 4.2.3.9). All others change nothing.
     fn hear(&mut self, now: Moment, control: &Control<'_>) -> Result<(), DropCause>
-        requires { length control.now.message.payload ≤ 1472 }
+        requires { length control.now.message.payload ≤ ECHO_ROOM }
         ensures { MeetsMessage (told_by control.now.message) self.old now control.now result self.new }
     {
         let message = &control.message;

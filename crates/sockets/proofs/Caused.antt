@@ -31,7 +31,6 @@ use Rattle.sockets.specs.Sound.{IsSoundConnection, IsSoundRole, IsSoundTable}
 use Rattle.sockets.specs.Causes.{Event, after_event, is_close_cause, is_cause_for, is_closed_state, IsEdge, reports_to, is_next_out, IsAdded, IsStep, Follows}
 use Rattle.sockets.proofs.Ends.{eqb-same, same_end-same}
 use Rattle.sockets.proofs.Opened.{found_passes}
-pub use Rattle.sockets.proofs.Followed.{some_same, settled_followed}
 use Rattle.sockets.proofs.Followed.{IsNothing, by_test, joined_by, follows_map}
 use Rattle.sockets.proofs.Steps.{IsEventOf, closes_it, aborts_it, ticks_it, comes_to_it, goes_out, tells_it, entry, IsStepOf, stays, moves, ends, binds, listens, opens, accepted, requeues, binds_datagrams, closed, given_up, IsJoining, made, made_datagrams, called, IsStepped, followed, joined, stepped}
 

@@ -3,6 +3,7 @@ use Rattle.std.specs.Prelude.{◌≤◌, ℕ, Bool, List, [], Option, Some, None
 use Rattle.ipv4.specs.Datagram.{HasPlace}
 use Rattle.clock.specs.declared.moment.Moment.{Moment}
 use Rattle.tcp_state.specs.declared.emission.TheConstants.{MOST_SEGMENT}
+use Rattle.udp.specs.declared.cutting.TheConstants.{MOST_IN_FRAGMENT}
 use Rattle.sockets.specs.declared.entry.Entry.{Entry}
 use Rattle.sockets.specs.declared.emission.Emitted.{Emitted}
 use Rattle.sockets.specs.declared.emission.Emitted.TheVariants.{Segment, Datagram}
@@ -16,7 +17,7 @@ emitted h goes = option_and_then (λ e. due_emitted e.role) (find (sends goes) h
 -- a segment is no longer than one can be, and a part of a datagram has its place in a payload of IPv4 (RFC 791 section 3.2)
 abbrev pub IsWithin : Emitted → Type 0
 IsWithin (Segment len) = len ≤ MOST_SEGMENT
-IsWithin (Datagram part) = (part.fragment.len ≤ 1480) × HasPlace part.fragment.more_fragments part.fragment.offset part.fragment.len
+IsWithin (Datagram part) = (part.fragment.len ≤ MOST_IN_FRAGMENT) × HasPlace part.fragment.more_fragments part.fragment.offset part.fragment.len
 
 -- its octets
 abbrev pub emitted_octets : SocketsView → (Entry → Bool) → List ℕ

@@ -4,6 +4,8 @@ use Rattle.std.specs.List.{list_any}
 use Rattle.ipv4.specs.declared.addr.Addr.{Addr}
 use Rattle.ipv4.specs.declared.addr.Endpoint.{Endpoint}
 use Rattle.sockets.specs.declared.entry.Entry.{Entry}
+use Rattle.sockets.specs.declared.entry.Kind.{Kind}
+use Rattle.sockets.specs.declared.entry.Kind.TheVariants.{Tcp, Udp}
 use Rattle.sockets.specs.Entries.{has_port, is_bound_at, is_between, is_datagrams_at}
 
 -- the dynamic port that comes so many steps behind the one next to the last given, 49152 behind 65535
@@ -40,6 +42,11 @@ is_unused_port entries port = not (list_any (has_port port) entries)
 -- free for a UDP socket: none is bound to the port
 abbrev pub is_free_datagram_port : List Entry → ℕ → Bool
 is_free_datagram_port entries port = not (list_any (is_datagrams_at port) entries)
+
+-- free for a socket of this kind
+abbrev pub is_bindable : Kind → List Entry → ℕ → Bool
+is_bindable Tcp entries = is_unused_port entries
+is_bindable Udp entries = is_free_datagram_port entries
 
 -- one port more
 pub first_port-step : (test : ℕ → Bool) (last steps n : ℕ) → first_port test last steps (suc n) ≡ cond (test (port_after last steps)) (Some (port_after last steps)) (first_port test last (steps + 1) n)

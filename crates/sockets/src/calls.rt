@@ -28,7 +28,7 @@ pub const MOST_BACKLOG: usize = 8;
 impl Sockets {
     ghost use Rattle.sockets.specs.SocketsView.{SocketsView, later_moment};
     ghost use Rattle.sockets.specs.Entries.{is_socket, is_waiting_id};
-    ghost use Rattle.sockets.specs.Ports.{is_unused_port, is_free_datagram_port};
+    ghost use Rattle.sockets.specs.Ports.{is_bindable};
     ghost use Rattle.sockets.specs.Calls.{bind_refusal, after_bind, port_at, port_bound, last_port_bound, sockname_answer, peername_answer, listen_refusal, after_listen, state_answer, is_table_full, IsMade, is_next_at, accept_answer, after_accept, send_answer, after_send, recv_answer, recv_front, after_recv, connect_refusal, after_connect, reach_refusal, port_for, last_port_after, pair_connected, shutdown_refusal, after_shutdown};
 
     /// Makes a socket, with the room for one connection, or with the two queues of a UDP socket. EMFILE where the table is full or the last id
@@ -90,44 +90,27 @@ impl Sockets {
     {
         let place = self.socket_place(id)?;
         let port = match &self.entries[place].role {
-            Role::Idle { bound: None, .. } => self.stream_port_at(local)?,
-            Role::Datagrams { bound: None, .. } => self.datagram_port_at(local)?,
+            Role::Idle { bound: None, .. } => self.port_at(Kind::Tcp, local)?,
+            Role::Datagrams { bound: None, .. } => self.port_at(Kind::Udp, local)?,
             _ => return Err(Refusal::EINVAL),
         };
         Ok((place, port))
     }
 
-    /// The port to which a TCP socket may be bound at this endpoint.
-    fn stream_port_at(&self, local: Endpoint) -> Result<u16, Refusal>
+    /// The port to which a socket of this kind may be bound at this endpoint.
+    fn port_at(&self, kind: Kind, local: Endpoint) -> Result<u16, Refusal>
         ensures dynamic { local.port ≡ 0 → IfOk result (λ port. 49152 ≤ port) }
-        ensures value { result ≡ port_at self.now (is_unused_port self.now.entries) local }
+        ensures value { result ≡ port_at self.now (is_bindable kind self.now.entries) local }
     {
         if local.addr != self.addr && local.addr != ANY {
             return Err(Refusal::EADDRNOTAVAIL);
         }
         if local.port == 0 {
-            return ports::first_unused(&self.entries, self.last_port).ok_or(Refusal::EADDRINUSE);
-        }
-        if table::is_port_taken(&self.entries, local.port) {
-            return Err(Refusal::EADDRINUSE);
-        }
-        Ok(local.port)
-    }
-
-    /// The port to which a UDP socket may be bound at this endpoint.
-    fn datagram_port_at(&self, local: Endpoint) -> Result<u16, Refusal>
-        ensures dynamic { local.port ≡ 0 → IfOk result (λ port. 49152 ≤ port) }
-        ensures value { result ≡ port_at self.now (is_free_datagram_port self.now.entries) local }
-    {
-        if local.addr != self.addr && local.addr != ANY {
-            return Err(Refusal::EADDRNOTAVAIL);
-        }
-        if local.port == 0 {
-            return ports::first_free_for_datagrams(&self.entries, self.last_port).ok_or(
+            return ports::first_bindable(&self.entries, kind, self.last_port).ok_or(
                 Refusal::EADDRINUSE,
             );
         }
-        if table::is_datagram_port_taken(&self.entries, local.port) {
+        if !ports::is_bindable(&self.entries, kind, local.port) {
             return Err(Refusal::EADDRINUSE);
         }
         Ok(local.port)

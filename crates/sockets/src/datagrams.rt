@@ -4,7 +4,7 @@ ghost use Rattle.std.specs.Prelude.{◌≡◌, ◌≤◌, length, IfOk, OnOk, On
 ghost use Rattle.std.specs.Option.{ok_or};
 ghost use Rattle.sockets.specs.Datagrams.{datagrams_bound};
 
-use crate::entry::SocketId;
+use crate::entry::{Kind, SocketId};
 use crate::refusal::Refusal;
 use crate::role::Role;
 use crate::sockets::Sockets;
@@ -74,7 +74,7 @@ impl Sockets {
         if let Some(local) = bound {
             return Ok(local);
         }
-        let port = ports::first_free_for_datagrams(&self.entries, self.last_port).ok_or(
+        let port = ports::first_bindable(&self.entries, Kind::Udp, self.last_port).ok_or(
             Refusal::EADDRINUSE,
         )?;
         let addr = self.addr;

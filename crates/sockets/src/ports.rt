@@ -1,9 +1,9 @@
 //! Dynamic ports (RFC 6335 section 6): 49152 to 65535, given in turn.
 
 ghost use Rattle.std.specs.Prelude.{ℕ, Bool, ◌≡◌, ◌+◌, ◌-◌, ◌<◌, ◌≤◌, IfSome};
-ghost use Rattle.sockets.specs.Ports.{port_after, first_port, is_free_port, is_unused_port, is_free_datagram_port};
+ghost use Rattle.sockets.specs.Ports.{port_after, first_port, is_free_port, is_bindable};
 
-use crate::entry::Entry;
+use crate::entry::{Entry, Kind};
 use crate::table;
 use ipv4::{Addr, Endpoint};
 
@@ -51,22 +51,23 @@ pub(crate) fn first_free(entries: &[Entry], addr: Addr, last: u16, peer: Endpoin
     first_that(last, |port| is_free(entries, addr, port, peer))
 }
 
-/// The first dynamic port after `last` that no entry over TCP has.
-pub(crate) fn first_unused(entries: &[Entry], last: u16) -> Option<u16>
+/// The first dynamic port after `last` to which a socket of this kind may be bound.
+pub(crate) fn first_bindable(entries: &[Entry], kind: Kind, last: u16) -> Option<u16>
     requires { FIRST ≤ last }
     ensures within { IfSome result (λ port. FIRST ≤ port) }
-    ensures first { result ≡ first_port (is_unused_port entries.now) last 0 COUNT }
+    ensures first { result ≡ first_port (is_bindable kind entries.now) last 0 COUNT }
 {
-    first_that(last, |port| !table::is_port_taken(entries, port))
+    first_that(last, |port| is_bindable(entries, kind, port))
 }
 
-/// The first dynamic port after `last` to which no UDP socket is bound.
-pub(crate) fn first_free_for_datagrams(entries: &[Entry], last: u16) -> Option<u16>
-    requires { FIRST ≤ last }
-    ensures within { IfSome result (λ port. FIRST ≤ port) }
-    ensures first { result ≡ first_port (is_free_datagram_port entries.now) last 0 COUNT }
+/// Whether a socket of this kind may be bound to a port: no entry over TCP has it, or no UDP socket is bound to it.
+pub(crate) fn is_bindable(entries: &[Entry], kind: Kind, port: u16) -> bool
+    ensures { result ≡ is_bindable kind entries.now port }
 {
-    first_that(last, |port| !table::is_datagram_port_taken(entries, port))
+    match kind {
+        Kind::Tcp => !table::is_port_taken(entries, port),
+        Kind::Udp => !table::is_datagram_port_taken(entries, port),
+    }
 }
 
 /// Whether no TCP socket is bound to our port `port`, and no entry holds a connection from it to `peer`.

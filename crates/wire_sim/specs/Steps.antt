@@ -5,6 +5,7 @@ use Rattle.ipv4.specs.declared.addr.Addr.{Addr}
 use Rattle.ipv4.specs.declared.addr.Endpoint.{Endpoint}
 use Rattle.ipv4.specs.declared.addr.Pair.{Pair}
 use Rattle.clock.specs.declared.moment.Moment.{Moment}
+use Rattle.tcp_halves.specs.declared.buffers.TheConstants.{CAPACITY}
 use Rattle.tcp_state.specs.declared.calls.Received.{Received}
 use Rattle.tcp_state.specs.declared.calls.Received.TheVariants as received
 use Rattle.udp.specs.Waiting.{Waiting}
@@ -62,9 +63,9 @@ MeetsSocket kind h (reply.Refused EMFILE) new = (is_table_full h ≡ true) × (n
 MeetsSocket kind h (reply.Refused ENOMEM) new = (is_table_full h ≡ false) × (new ≡ h)
 MeetsSocket kind h _ new = ⊥
 
--- how many octets one receive asks for at most
+-- how many octets one receive asks for at most: what a connection holds
 abbrev pub recv_len : ℕ → ℕ
-recv_len len = min len 65535
+recv_len len = min len CAPACITY
 
 -- the first octets that are readable on a socket
 abbrev pub readable_on : SocketsView → SocketId → ℕ → List ℕ

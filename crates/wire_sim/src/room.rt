@@ -3,13 +3,9 @@
 ghost use Rattle.std.specs.Prelude.{◌≡◌, ◌≤◌, true, false, length, vec_len, vec_capacity, IsOk, IfOk};
 
 use crate::event::{Call, Event};
+use ether::FRAME_MAX;
 use std::alloc::{AllocError, Global};
-
-/// The octets that one `recv` or `recvfrom` answers at most.
-pub(crate) const MOST_READ: usize = 65_535;
-
-/// The octets of a frame at most (RFC 894).
-pub(crate) const MOST_FRAME: usize = 1_514;
+use tcp_halves::CAPACITY;
 
 /// The memory that an event may need beside the world's own lists.
 #[derive(Drop)]
@@ -28,19 +24,19 @@ impl Room {
     /// What `event` needs. An event that neither reads octets nor emits a frame needs nothing, and so is refused nothing.
     pub(crate) fn for_event(alloc: Global, event: &Event) -> Result<Room, AllocError>
         ensures read { IfOk result (λ room. vec_len room.octets ≡ event_recv_len event.now) }
-        ensures room { IfOk result (λ room. is_emission event.now ≡ true → 1514 ≤ vec_capacity room.octets) }
+        ensures room { IfOk result (λ room. is_emission event.now ≡ true → FRAME_MAX ≤ vec_capacity room.octets) }
         ensures plain { event_recv_len event.now ≡ 0 → is_emission event.now ≡ false → IsOk result }
     {
         match event {
             Event::Call(_, Call::Recv { len, .. } | Call::RecvFrom { len, .. }) => {
-                let len = (*len).min(MOST_READ);
+                let len = (*len).min(CAPACITY);
                 let mut octets = Vec::with_capacity(alloc, len)?;
                 octets.resize(len, 0)?;
                 let copy = Vec::with_capacity(alloc, len)?;
                 Ok(Room { octets, copy })
             }
             Event::Emit(_) => Ok(Room {
-                octets: Vec::with_capacity(alloc, MOST_FRAME)?,
+                octets: Vec::with_capacity(alloc, FRAME_MAX)?,
                 copy: Vec::new(alloc),
             }),
             _ => Ok(Room {

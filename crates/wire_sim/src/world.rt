@@ -1,6 +1,7 @@
 //! A world: two hosts and all that happened to them.
 
 ghost use Rattle.std.specs.Prelude.{◌≡◌, ◌⊎◌, ◌<◌, ◌≤◌, ◌+◌, true, false, [], ◌∷◌, ◌++◌, length, take, drop, ◌^◌, ◌↔◌, vec_len, vec_capacity, slice_get, option_map, None, IsOk, OnOk, OnErr, IfOk, IfErr, MatchOption};
+ghost use Rattle.ether.specs.declared.head.TheConstants.{FRAME_MAX};
 ghost use Rattle.wire_sim.specs.declared.event.Answer.{Answer};
 ghost use Rattle.wire_sim.specs.Steps.{event_recv_len, is_emission};
 ghost use Rattle.wire_sim.specs.WorldView.{network_view};
@@ -33,6 +34,7 @@ impl Model for World {
     ghost use Rattle.std.specs.Prelude.{ℕ, ◌*◌, ◌≤◌, length, slice_index_or, vec_capacity};
     ghost use Rattle.wire_sim.specs.WorldView.{network_view};
     ghost use Rattle.wire_sim.specs.WorldRoom.{RoomyWorld, network_room};
+    ghost use Rattle.tcp_halves.specs.declared.buffers.TheConstants.{CAPACITY};
     ghost use Rattle.wire_sim.specs.Runs.{IsReached};
 
     ghost Value = { RoomyWorld };
@@ -42,9 +44,9 @@ impl Model for World {
       room = record { network = network_room w.network; trace = vec_capacity w.trace };
     } };
 
-    // One event adds at most 65,535 octets to a count, which is what a connection's buffer holds. What stands in the fields is what
+    // One event adds at most CAPACITY octets to a count, which is what a connection's buffer holds. What stands in the fields is what
     // a run of the definitions leads to.
-    ghost invariant = { λ w. ((i : ℕ) → slice_index_or w.network.ledger.written.items i 0 ≤ 65535 * length w.trace.items)
+    ghost invariant = { λ w. ((i : ℕ) → slice_index_or w.network.ledger.written.items i 0 ≤ CAPACITY * length w.trace.items)
         × IsReached w.network.limit (record { network = network_view w.network; trace = w.trace.items }) };
 }
 
@@ -215,7 +217,7 @@ fn reserve(
     ensures counts { OnOk result (vec_len network.new.ledger.written < vec_capacity network.new.ledger.written) }
     ensures happening { OnOk result (vec_len trace.new < vec_capacity trace.new) }
     ensures read { IfOk result (λ room. vec_len room.octets ≡ event_recv_len event.now) }
-    ensures room { IfOk result (λ room. is_emission event.now ≡ true → 1514 ≤ vec_capacity room.octets) }
+    ensures room { IfOk result (λ room. is_emission event.now ≡ true → FRAME_MAX ≤ vec_capacity room.octets) }
     ensures memory { vec_len network.old.bag + 1 ≤ vec_capacity network.old.bag → vec_len network.old.ledger.openings + 1 ≤ vec_capacity network.old.ledger.openings
         → vec_len network.old.ledger.written + 1 ≤ vec_capacity network.old.ledger.written → vec_len trace.old + 1 ≤ vec_capacity trace.old
         → event_recv_len event.now ≡ 0 → is_emission event.now ≡ false → IsOk result }

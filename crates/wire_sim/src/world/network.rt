@@ -9,8 +9,9 @@ use super::bag::{Frame, Note};
 use super::ledger::Ledger;
 use super::station::Station;
 use crate::event::{Answer, Call, Event, Opening, Unfair};
-use crate::room::{MOST_FRAME, filled};
+use crate::room::filled;
 use clock::Moment;
+use ether::FRAME_MAX;
 use frames::pair_in;
 use host::{Config, Refusal, SocketId};
 use ipv4::{Endpoint, Pair};
@@ -120,7 +121,7 @@ impl Network {
         requires written { vec_len self.old.ledger.written < vec_capacity self.old.ledger.written }
         requires counts { (i : ℕ) → slice_index_or self.old.ledger.written.items i 0 < 2 ^ 127 }
         requires read { vec_len octets ≡ event_recv_len event.now }
-        requires room { is_emission event.now ≡ true → 1514 ≤ vec_capacity octets }
+        requires room { is_emission event.now ≡ true → FRAME_MAX ≤ vec_capacity octets }
         ensures octets { octets_len result ≤ vec_len octets }
         ensures numbered { IsNumbered event.now }
         ensures step { Steps event.now place result (network_view self.old) (network_view self.new) }
@@ -193,12 +194,12 @@ impl Network {
     fn emit(&mut self, side: Side, octets: Vec<u8>) -> Answer
         requires bag { vec_len self.old.bag < vec_capacity self.old.bag }
         requires empty { vec_len octets ≡ 0 }
-        requires room { 1514 ≤ vec_capacity octets }
+        requires room { FRAME_MAX ≤ vec_capacity octets }
         ensures octets { octets_len result ≡ 0 }
         ensures step { Steps (Event.Emit side) 0 result (network_view self.old) (network_view self.new) }
         ensures room { network_room self.new ≡ network_room self.old }
     {
-        let mut out = [0; MOST_FRAME];
+        let mut out = [0; FRAME_MAX];
         let emitted = match side {
             Side::A => self.a.next_frame(&mut out),
             Side::B => self.b.next_frame(&mut out),
@@ -271,10 +272,10 @@ impl Network {
 }
 
 /// The first `len` octets of a buffer, in `room`, which holds nothing yet and is then given back but for what they take.
-fn front(room: Vec<u8>, out: &[u8; MOST_FRAME], len: usize) -> Vec<u8>
+fn front(room: Vec<u8>, out: &[u8; FRAME_MAX], len: usize) -> Vec<u8>
     requires empty { vec_len room ≡ 0 }
     requires fits { len ≤ vec_capacity room }
-    requires within { len ≤ 1514 }
+    requires within { len ≤ FRAME_MAX }
     ensures { result.items ≡ take len out.now }
 {
     let mut octets = filled(room, &out[..len]);

@@ -10,6 +10,7 @@ ghost use Rattle.wire_sim.specs.Steps.{MeetsReceived, MeetsReceivedFrom};
 
 use crate::event::{Answer, Call};
 use clock::Moment;
+use ether::FRAME_MAX;
 use host::{Config, Host, Refusal, SocketId};
 use ipv4::{Endpoint, Pair};
 use std::alloc::Global;
@@ -98,9 +99,9 @@ impl Station {
     }
 
     /// Writes the frame that is due into `out`, and answers its length.
-    pub(super) fn next_frame(&mut self, out: &mut [u8; 1514]) -> Option<usize>
+    pub(super) fn next_frame(&mut self, out: &mut [u8; FRAME_MAX]) -> Option<usize>
         ensures answer { result ≡ emission_len self.old.host self.old.clock }
-        ensures bound { IfSome result (λ len. len ≤ 1514) }
+        ensures bound { IfSome result (λ len. len ≤ FRAME_MAX) }
         ensures front { out.new ≡ emission_front self.old.host self.old.clock out.old }
         ensures after { OnSome result (self.new ≡ record self.old { host = after_emission self.old.host self.old.clock }) }
         ensures none { IfNone result (self.new ≡ self.old) }
