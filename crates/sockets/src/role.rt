@@ -280,12 +280,16 @@ impl Role {
     }
 
     /// To whom a segment is due, or the first datagram goes.
-    #[tactic(auto, using(crate::proofs::Emitting::peer_of_due))]
     pub(crate) fn due_peer(&self) -> Option<Endpoint>
         ensures { result ≡ due_peer self.now }
     {
-        let (peer, _) = self.due()?;
-        Some(peer)
+        match self {
+            Role::Connected { connection, .. } if connection.due().is_some() => {
+                Some(connection.peer())
+            }
+            Role::Datagrams { socket, .. } => socket.due_peer(),
+            _ => None,
+        }
     }
 
     /// To whom the reset of an abort is owed, and since when it waits to go out.
