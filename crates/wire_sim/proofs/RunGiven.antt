@@ -10,22 +10,29 @@ use Rattle.wire_sim.specs.declared.event.Answer.{Answer}
 use Rattle.wire_sim.specs.declared.event.Unfair.{Unfair}
 use Rattle.wire_sim.specs.declared.event.Unfair.TheVariants.{NoMemory}
 use Rattle.wire_sim.specs.RoomyRuns.{IsRoomyOutcome, RoomyRunsTo}
-use Rattle.wire_sim.specs.Runs.{unfair, IsStep, SameCall, SameEvent, IsOutcome}
+use Rattle.wire_sim.specs.Runs.{unfair, IsStep, SameCall, SameEvent, IsOutcome, RunsTo}
 use Rattle.wire_sim.specs.WorldRoom.{RoomyWorld}
 use Rattle.wire_sim.specs.WorldView.{WorldView, SameAnswer}
 
 -- one more at the end
-pub runs-added : (es : List Event) (os : List (Result Answer Unfair)) (w m v : RoomyWorld) (e : Event) (o : Result Answer Unfair) → RoomyRunsTo es os w m → IsRoomyOutcome e o m v → RoomyRunsTo (es ++ e ∷ []) (os ++ o ∷ []) w v
-runs-added [] [] w m v e o run outcome = (v, subst (λ x. IsRoomyOutcome e o x v) run outcome, refl)
-runs-added [] (p ∷ os) w m v e o run outcome = absurd run
-runs-added (d ∷ es) [] w m v e o run outcome = absurd run
-runs-added (d ∷ es) (p ∷ os) w m v e o run outcome = (run.0, run.1, runs-added es os run.0 m v e o run.2 outcome)
+pub runs-added : (es : List Event) (os : List (Result Answer Unfair)) (w m v : WorldView) (e given : Event) (o : Result Answer Unfair) → RunsTo es os w m → SameEvent given e → IsOutcome given o m v → RunsTo (es ++ e ∷ []) (os ++ o ∷ []) w v
+runs-added [] [] w m v e given o run same outcome = (given, v, same, subst (λ x. IsOutcome given o x v) run outcome, refl)
+runs-added [] (p ∷ os) w m v e given o run same outcome = absurd run
+runs-added (d ∷ es) [] w m v e given o run same outcome = absurd run
+runs-added (d ∷ es) (p ∷ os) w m v e given o run same outcome = (run.0, run.1, run.2, run.3, runs-added es os run.1 m v e given o run.4 same outcome)
+
+-- and where the room is told too
+roomy-added : (es : List Event) (os : List (Result Answer Unfair)) (w m v : RoomyWorld) (e : Event) (o : Result Answer Unfair) → RoomyRunsTo es os w m → IsRoomyOutcome e o m v → RoomyRunsTo (es ++ e ∷ []) (os ++ o ∷ []) w v
+roomy-added [] [] w m v e o run outcome = (v, subst (λ x. IsRoomyOutcome e o x v) run outcome, refl)
+roomy-added [] (p ∷ os) w m v e o run outcome = absurd run
+roomy-added (d ∷ es) [] w m v e o run outcome = absurd run
+roomy-added (d ∷ es) (p ∷ os) w m v e o run outcome = (run.0, run.1, roomy-added es os run.0 m v e o run.2 outcome)
 
 -- the lists as they stand in the loop
 pub runs-next : (es : List Event) (i : ℕ) (e : Event) (n : ℕ) (os : List (Result Answer Unfair)) (o : Result Answer Unfair) (w m v : RoomyWorld) → i < length es → e ≡ get_or es i e → n ≤ length os → RoomyRunsTo (take i es) (drop n os) w m → IsRoomyOutcome e o m v
     → RoomyRunsTo (take (i + 1) es) (drop n (os ++ o ∷ [])) w v
 runs-next es i e n os o w m v within at fits run outcome =
-    subst (λ l. RoomyRunsTo l (drop n (os ++ o ∷ [])) w v) (sym (taken es i within at)) (subst (λ l. RoomyRunsTo (take i es ++ e ∷ []) l w v) (sym (dropped n os fits)) (runs-added (take i es) (drop n os) w m v e o run outcome))
+    subst (λ l. RoomyRunsTo l (drop n (os ++ o ∷ [])) w v) (sym (taken es i within at)) (subst (λ l. RoomyRunsTo (take i es ++ e ∷ []) l w v) (sym (dropped n os fits)) (roomy-added (take i es) (drop n os) w m v e o run outcome))
   where
     taken : (xs : List Event) (k : ℕ) → k < length xs → e ≡ get_or xs k e → take (k + 1) xs ≡ take k xs ++ e ∷ []
     taken [] k short here = absurd (omega (arith, short))
