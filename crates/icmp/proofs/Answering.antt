@@ -2,7 +2,6 @@
 use Rattle.std.proofs.Common.{◌≡◌, ◌↔◌, ℕ, ◌+◌, ◌^◌, ◌<◌, ◌≤◌, ◌==◌, nat_lt, List, ◌++◌, length, take, All, Bool, true, false, cond, Some, Result, Ok, Err, refl, sym, ◌∙◌, ap, subst, inl, inr, ⊎_elim, arith}
 use Rattle.std.proofs.lemmas.Bool.{cases_lt, eqb-true, eq-eqb}
 use Rattle.std.proofs.lemmas.Bool.Decides.{nat_tests}
-use Rattle.std.proofs.lemmas.List.{get_or_past}
 use Rattle.inet_sum.specs.Sum.{sum_of, word_sum, ones_complement, checksum_of}
 use Rattle.inet_sum.proofs.Complements.{with_complement}
 use Rattle.ipv4.specs.Datagram.{Datagram, IsDatagram, header_octets}
@@ -18,7 +17,8 @@ use Rattle.icmp.specs.Message.{Message, IsMessage, HasForm, SumIsRight, Spells, 
 use Rattle.icmp.specs.Quotes.{Quotes, quote_of}
 use Rattle.icmp.specs.Reading.{message_of, message_or_fault, quote_in}
 use Rattle.icmp.specs.Sent.{with_fields, sent, echo_reply, reply_to, error_for}
-use Rattle.icmp.proofs.Form.{AreOctets, are_read, form_least, form_read, one_form}
+use Rattle.ipv4.proofs.Octets.{each_octet}
+use Rattle.icmp.proofs.Form.{are_read, form_least, form_read, one_form}
 use Rattle.icmp.proofs.Quoting.{cause_quoted, quote_is_read}
 
 -- the sum of the one form is right or not
@@ -37,17 +37,13 @@ one_answer octets (Err UpperSum) (Ok n) p q = absurd (other_sum n p.0 octets q.f
 one_answer octets (Err UpperSum) (Err UpperHeader) p q = absurd (q p.0 p.1)
 one_answer octets (Err UpperSum) (Err UpperSum) p q = refl
 
--- octets, one by one
-are_octets : (xs : List ℕ) → All (λ octet. octet < 256) xs → AreOctets xs
-are_octets xs each i = ⊎_elim (λ inside. each i 0 inside) (λ past. omega (arith, get_or_past xs i 0 past)) (cases_lt i (length xs))
-
 -- octets are refused as short exactly where there are fewer than eight
 pub short : (octets : List ℕ) → All (λ octet. octet < 256) octets → (IsParsed octets (Err UpperHeader) ↔ (length octets < 8))
 short octets each = (forth, λ few m form. absurd (omega (arith, form_least m octets form, few)))
   where
     forth : ((m : Message) → HasForm m octets → ⊥) → length octets < 8
     forth none =
-        ⊎_elim (λ few. few) (λ enough. absurd (none (message_of octets) (are_read octets (are_octets octets each) enough).form)) (cases_lt (length octets) 8)
+        ⊎_elim (λ few. few) (λ enough. absurd (none (message_of octets) (are_read octets (each_octet octets each) enough).form)) (cases_lt (length octets) 8)
 
 -- the plain reading finds what is parsed
 tested : (octets : List ℕ) → 8 ≤ length octets → message_or_fault octets ≡ cond (sum_of octets == 65535) (Ok (message_of octets)) (Err UpperSum)
@@ -88,7 +84,7 @@ read_parsed octets each = ⊎_elim few enough (cases_lt (length octets) 8)
     enough : 8 ≤ length octets → IsParsed octets (message_or_fault octets)
     enough least =
         subst (IsParsed octets) (sym (tested octets least))
-        (by_sum (are_read octets (are_octets octets each) least).form (sum_of octets == 65535) refl)
+        (by_sum (are_read octets (each_octet octets each) least).form (sum_of octets == 65535) refl)
 
 pub parsed_is_read : (octets : List ℕ) (answer : Result Message IcmpFault) → All (λ octet. octet < 256) octets → (IsParsed octets answer ↔ (message_or_fault octets ≡ answer))
 parsed_is_read octets answer each = (
@@ -155,12 +151,12 @@ error_spelled reason header payload =
 
 -- the quote that octets begin with is the one that is read
 pub quotes_are_read : (quote : Quote) (octets : List ℕ) → All (λ octet. octet < 256) octets → (Quotes quote octets ↔ (quote_in octets ≡ Some quote))
-quotes_are_read quote octets each = quote_is_read quote octets (are_octets octets each)
+quotes_are_read quote octets each = quote_is_read quote octets (each_octet octets each)
 
 -- what an error about a datagram carries begins with the quote of that datagram
 pub cause : (reason : Reason) (d : Datagram) → IsDatagram d → All (λ octet. octet < 256) d.payload → 8 ≤ length d.payload
     → Quotes (quote_of d) (error_for reason (header_octets d) d.payload).payload
-cause reason d fields each least = cause_quoted d fields (are_octets d.payload each) least
+cause reason d fields each least = cause_quoted d fields (each_octet d.payload each) least
 
 -- a datagram that carries an error of this stack may not be answered by another
 pub unanswered : (reason : Reason) (header payload : List ℕ) (d : Datagram) (link_broadcast : Bool) → d.protocol ≡ 1

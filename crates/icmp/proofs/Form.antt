@@ -1,42 +1,28 @@
 -- The message that is read is the one whose form the octets have.
-use Rattle.std.proofs.Common.{◌≡◌, ℕ, ◌<◌, ◌≤◌, List, ◌∷◌, length, drop, slice_index, arith, ap, sym, ◌∙◌}
-use Rattle.std.specs.Int.{byte_at}
-use Rattle.byteorder.specs.Endian.{big_number}
+use Rattle.std.proofs.Common.{◌≡◌, ℕ, ◌≤◌, List, ◌∷◌, ◌++◌, length, drop, arith, ap, sym, ◌∙◌}
+use Rattle.byteorder.specs.Endian.{big_bytes, big_number}
+use Rattle.ipv4.proofs.Octets.{AreOctets, two_spelled}
 use Rattle.icmp.specs.Message.{Message, IsMessage, HasForm, spelling}
 use Rattle.icmp.specs.Reading.{message_of, AreRead}
-
--- each item is an octet
-abbrev pub AreOctets : List ℕ → Type 0
-AreOctets xs = (i : ℕ) → slice_index xs i < 256
 
 -- eight octets at least are those of a message
 pub are_read : (xs : List ℕ) → AreOctets xs → 8 ≤ length xs → AreRead xs
 are_read (x0 ∷ x1 ∷ x2 ∷ x3 ∷ x4 ∷ x5 ∷ x6 ∷ x7 ∷ rest) b least =
-    let b0 = b 0 in
-    let b1 = b 1 in
-    let b2 = b 2 in
-    let b3 = b 3 in
-    let b4 = b 4 in
-    let b5 = b 5 in
-    let b6 = b 6 in
-    let b7 = b 7 in
+    let checksum = two_spelled x2 x3 (x4 ∷ x5 ∷ x6 ∷ x7 ∷ rest) (b 2) (b 3) in
+    let identifier = two_spelled x4 x5 (x6 ∷ x7 ∷ rest) (b 4) (b 5) in
+    let number = two_spelled x6 x7 rest (b 6) (b 7) in
     let octets : List ℕ = x0 ∷ x1 ∷ x2 ∷ x3 ∷ x4 ∷ x5 ∷ x6 ∷ x7 ∷ rest in
-    let e2 : x2 ≡ byte_at 1 (big_number 2 (drop 2 octets)) = omega arith in
-    let e3 : x3 ≡ byte_at 0 (big_number 2 (drop 2 octets)) = omega arith in
-    let e4 : x4 ≡ byte_at 1 (big_number 2 (drop 4 octets)) = omega arith in
-    let e5 : x5 ≡ byte_at 0 (big_number 2 (drop 4 octets)) = omega arith in
-    let e6 : x6 ≡ byte_at 1 (big_number 2 (drop 6 octets)) = omega arith in
-    let e7 : x7 ≡ byte_at 0 (big_number 2 (drop 6 octets)) = omega arith in
-    let spelled : octets ≡ spelling (message_of octets) = cc in
+    let spelled : octets ≡ spelling (message_of octets) =
+    ap (λ ys. x0 ∷ x1 ∷ ys) (checksum.0 ∙ ap (λ ys. big_bytes 2 (big_number 2 (drop 2 octets)) ++ ys) (identifier.0 ∙ ap (λ ys. big_bytes 2 (big_number 2 (drop 4 octets)) ++ ys) number.0)) in
     record {
       least = omega arith;
       form = record {
         fields = record {
-          kind = omega arith;
-          code = omega arith;
-          checksum = omega arith;
-          identifier = omega arith;
-          number = omega arith;
+          kind = b 0;
+          code = b 1;
+          checksum = checksum.1;
+          identifier = identifier.1;
+          number = number.1;
         };
         spelled = spelled;
       };

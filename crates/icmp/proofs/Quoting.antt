@@ -1,8 +1,7 @@
 -- What an error quotes is read as it was written.
-use Rattle.std.proofs.Common.{◌≡◌, ◌↔◌, ℕ, zero, suc, ◌+◌, ◌-◌, ◌*◌, ◌/◌, ◌%◌, ◌^◌, ◌<◌, ◌≤◌, ◌||◌, Bool, true, false, nat_eq, nat_lt, List, [], ◌∷◌, ◌++◌, length, slice_index, drop, take, Option, Some, None, cond, refl, sym, ◌∙◌, ap, subst, append_assoc, length-append, arith}
+use Rattle.std.proofs.Common.{◌≡◌, ◌↔◌, ℕ, ◌+◌, ◌-◌, ◌*◌, ◌/◌, ◌%◌, ◌^◌, ◌<◌, ◌≤◌, ◌||◌, Bool, true, false, nat_eq, nat_lt, List, [], ◌∷◌, ◌++◌, length, slice_index, drop, take, Option, Some, None, cond, refl, sym, ◌∙◌, ap, subst, append_assoc, length-append, arith}
 use Rattle.std.proofs.lemmas.Bool.Decides.{nat_tests}
 use Rattle.std.proofs.lemmas.List.{append-nil, length-take, length-drop, take-append-drop, drop-drop, drop_at}
-use Rattle.std.specs.Int.{byte_at}
 use Rattle.std.specs.Option.{option_map}
 use Rattle.byteorder.specs.Endian.{big_bytes, big_number}
 use Rattle.ipv4.specs.declared.addr.Addr.{Addr}
@@ -11,7 +10,7 @@ use Rattle.ipv4.specs.Reading.{header_length_field}
 use Rattle.icmp.specs.declared.quote.Quote.{Quote}
 use Rattle.icmp.specs.Quotes.{Quotes, quoted, quote_of}
 use Rattle.icmp.specs.Reading.{header_in, quote_at, quote_in}
-use Rattle.icmp.proofs.Form.{AreOctets}
+use Rattle.ipv4.proofs.Octets.{AreOctets, drop_octets, two_spelled, four_spelled}
 
 -- a quote by its parts
 abbrev pub made : ℕ → List ℕ → ℕ → List ℕ → ℕ → ℕ → Quote
@@ -62,31 +61,14 @@ eight : (ys : List ℕ) → AreOctets ys → 8 ≤ length ys
     → (ys ≡ (big_bytes 2 (big_number 2 ys) ++ big_bytes 2 (big_number 2 (drop 2 ys)) ++ big_bytes 4 (big_number 4 (drop 4 ys))) ++ drop 8 ys)
     × (big_number 2 ys < 2 ^ 16) × (big_number 2 (drop 2 ys) < 2 ^ 16) × (big_number 4 (drop 4 ys) < 2 ^ 32)
 eight (y0 ∷ y1 ∷ y2 ∷ y3 ∷ y4 ∷ y5 ∷ y6 ∷ y7 ∷ rest) b least =
-    let b0 = b 0 in
-    let b1 = b 1 in
-    let b2 = b 2 in
-    let b3 = b 3 in
-    let b4 = b 4 in
-    let b5 = b 5 in
-    let b6 = b 6 in
-    let b7 = b 7 in
+    let source = two_spelled y0 y1 (y2 ∷ y3 ∷ y4 ∷ y5 ∷ y6 ∷ y7 ∷ rest) (b 0) (b 1) in
+    let destination = two_spelled y2 y3 (y4 ∷ y5 ∷ y6 ∷ y7 ∷ rest) (b 2) (b 3) in
+    let number = four_spelled y4 y5 y6 y7 rest (b 4) (b 5) (b 6) (b 7) in
     let ys : List ℕ = y0 ∷ y1 ∷ y2 ∷ y3 ∷ y4 ∷ y5 ∷ y6 ∷ y7 ∷ rest in
-    let e0 : y0 ≡ byte_at 1 (big_number 2 ys) = omega arith in
-    let e1 : y1 ≡ byte_at 0 (big_number 2 ys) = omega arith in
-    let e2 : y2 ≡ byte_at 1 (big_number 2 (drop 2 ys)) = omega arith in
-    let e3 : y3 ≡ byte_at 0 (big_number 2 (drop 2 ys)) = omega arith in
-    let e4 : y4 ≡ byte_at 3 (big_number 4 (drop 4 ys)) = omega arith in
-    let e5 : y5 ≡ byte_at 2 (big_number 4 (drop 4 ys)) = omega arith in
-    let e6 : y6 ≡ byte_at 1 (big_number 4 (drop 4 ys)) = omega arith in
-    let e7 : y7 ≡ byte_at 0 (big_number 4 (drop 4 ys)) = omega arith in
-    let whole : ys ≡ (big_bytes 2 (big_number 2 ys) ++ big_bytes 2 (big_number 2 (drop 2 ys)) ++ big_bytes 4 (big_number 4 (drop 4 ys))) ++ rest = cc in
-    (whole, omega arith, omega arith, omega arith)
+    let whole : ys ≡ (big_bytes 2 (big_number 2 ys) ++ big_bytes 2 (big_number 2 (drop 2 ys)) ++ big_bytes 4 (big_number 4 (drop 4 ys))) ++ rest =
+    source.0 ∙ ap (λ zs. big_bytes 2 (big_number 2 ys) ++ zs) (destination.0 ∙ ap (λ zs. big_bytes 2 (big_number 2 (drop 2 ys)) ++ zs) number.0) in
+    (whole, source.1, destination.1, number.1)
 eight ys b least = absurd (omega (arith, least))
-
-drop_octets : (n : ℕ) (xs : List ℕ) → AreOctets xs → AreOctets (drop n xs)
-drop_octets zero xs b i = b i
-drop_octets (suc n) [] b i = omega arith
-drop_octets (suc n) (x ∷ xs) b i = drop_octets n xs (λ j. b (suc j)) i
 
 -- the parts behind a header, one behind the other
 regroup : (options source destination number rest : List ℕ)

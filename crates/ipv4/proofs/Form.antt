@@ -2,13 +2,9 @@
 use Rattle.std.proofs.Common.{◌≡◌, ℕ, zero, suc, ◌+◌, ◌-◌, ◌*◌, ◌^◌, ◌/◌, ◌%◌, ◌<◌, ◌≤◌, ◌||◌, Bool, true, false, nat_eq, nat_lt, List, [], ◌∷◌, ◌++◌, length, slice_index, drop, take, Option, Some, None, cond, refl, sym, ◌∙◌, ap, subst, length-append, append_assoc, arith}
 use Rattle.std.proofs.lemmas.Bool.Decides.{nat_tests}
 use Rattle.std.proofs.lemmas.List.{length-take, length-drop, take-append-drop, drop_at, take_at}
-use Rattle.std.specs.Int.{byte_at}
 use Rattle.ipv4.specs.Datagram.{Datagram, flag, fragment_field, header_len, total_len, header_octets, spelling, HasPlace, IsDatagram, HasForm}
 use Rattle.ipv4.specs.Reading.{word_at, datagram_of, AreParts, header_length_field, lengths_in}
-
--- each item is an octet
-abbrev pub AreOctets : List ℕ → Type 0
-AreOctets xs = (i : ℕ) → slice_index xs i < 256
+use Rattle.ipv4.proofs.Octets.{AreOctets, take_octets, drop_octets, two_spelled}
 
 -- the worth of a flag that is tested
 flag_worth : (n p : ℕ) → n < 2 → flag (nat_eq n 1) p ≡ n * p
@@ -32,52 +28,41 @@ cells : (x0 x1 x2 x3 x4 x5 x6 x7 x8 x9 x10 x11 x12 x13 x14 x15 x16 x17 x18 x19 :
     → HasPlace (nat_eq ((x6 * 256 + (x7 * 1 + 0)) / 2 ^ 13 % 2) 1) ((x6 * 256 + (x7 * 1 + 0)) % 2 ^ 13) (length payload)
     → AreParts (x0 ∷ x1 ∷ x2 ∷ x3 ∷ x4 ∷ x5 ∷ x6 ∷ x7 ∷ x8 ∷ x9 ∷ x10 ∷ x11 ∷ x12 ∷ x13 ∷ x14 ∷ x15 ∷ x16 ∷ x17 ∷ x18 ∷ x19 ∷ options) payload
 cells x0 x1 x2 x3 x4 x5 x6 x7 x8 x9 x10 x11 x12 x13 x14 x15 x16 x17 x18 x19 options payload b version words total place =
-    let b0 = b 0 in
-    let b1 = b 1 in
-    let b2 = b 2 in
-    let b3 = b 3 in
-    let b4 = b 4 in
-    let b5 = b 5 in
-    let b6 = b 6 in
-    let b7 = b 7 in
-    let b8 = b 8 in
-    let b9 = b 9 in
-    let b10 = b 10 in
-    let b11 = b 11 in
     let header : List ℕ = x0 ∷ x1 ∷ x2 ∷ x3 ∷ x4 ∷ x5 ∷ x6 ∷ x7 ∷ x8 ∷ x9 ∷ x10 ∷ x11 ∷ x12 ∷ x13 ∷ x14 ∷ x15 ∷ x16 ∷ x17 ∷ x18 ∷ x19 ∷ options in
     let word : ℕ = word_at header 6 in
     let reserved = flag_worth (word / 2 ^ 15 % 2) 32768 (omega arith) in
     let dont_fragment = flag_worth (word / 2 ^ 14 % 2) 16384 (omega arith) in
     let more_fragments = flag_worth (word / 2 ^ 13 % 2) 8192 (omega arith) in
-    let field : fragment_field (datagram_of header payload) ≡ word = omega (arith, reserved, dont_fragment, more_fragments) in
+    let len = two_spelled x2 x3 (drop 4 header) (b 2) (b 3) in
+    let identification = two_spelled x4 x5 (drop 6 header) (b 4) (b 5) in
+    let fragment = two_spelled x6 x7 (drop 8 header) (b 6) (b 7) in
+    let checksum = two_spelled x10 x11 (drop 12 header) (b 10) (b 11) in
+    let field : fragment_field (datagram_of header payload) ≡ word = omega (arith, reserved, dont_fragment, more_fragments, fragment.1) in
+    let is_len : word_at header 2 ≡ 20 + length options + length payload = omega (arith, total) in
     let e0 : x0 ≡ 16 * 4 + (20 + length options) / 4 = omega arith in
-    let e2 : x2 ≡ byte_at 1 (20 + length options + length payload) = omega arith in
-    let e3 : x3 ≡ byte_at 0 (20 + length options + length payload) = omega arith in
-    let e4 : x4 ≡ byte_at 1 (word_at header 4) = omega arith in
-    let e5 : x5 ≡ byte_at 0 (word_at header 4) = omega arith in
-    let e6 : x6 ≡ byte_at 1 (fragment_field (datagram_of header payload)) = omega (arith, field) in
-    let e7 : x7 ≡ byte_at 0 (fragment_field (datagram_of header payload)) = omega (arith, field) in
-    let e10 : x10 ≡ byte_at 1 (word_at header 10) = omega arith in
-    let e11 : x11 ≡ byte_at 0 (word_at header 10) = omega arith in
+    let e2 = len.0 in
+    let e4 = identification.0 in
+    let e6 = fragment.0 in
+    let e10 = checksum.0 in
     let spelled : header ≡ header_octets (datagram_of header payload) = cc in
     record {
       fields = record {
-        service = omega arith;
-        identification = omega arith;
+        service = b 1;
+        identification = identification.1;
         offset = omega arith;
-        ttl = omega arith;
-        protocol = omega arith;
-        checksum = omega arith;
+        ttl = b 8;
+        protocol = b 9;
+        checksum = checksum.1;
         source = refl;
         destination = refl;
         words = omega arith;
         header = omega arith;
-        total = omega arith;
+        total = omega (arith, is_len, len.1);
         place = place;
       };
       spelled = spelled;
       least = omega arith;
-      total = omega arith;
+      total = omega (arith, is_len, len.1);
     }
 
 -- a header and a payload of the right lengths are those of a datagram
@@ -93,17 +78,6 @@ pub same_start : (header rest : List ℕ) → 20 ≤ length header
     → (slice_index (header ++ rest) 0 ≡ slice_index header 0) × (word_at (header ++ rest) 2 ≡ word_at header 2) × (word_at (header ++ rest) 6 ≡ word_at header 6)
 same_start (x0 ∷ x1 ∷ x2 ∷ x3 ∷ x4 ∷ x5 ∷ x6 ∷ x7 ∷ more) rest least = (refl, refl, refl)
 same_start header rest least = absurd (omega (arith, least))
-
-take_octets : (n : ℕ) (xs : List ℕ) → AreOctets xs → AreOctets (take n xs)
-take_octets zero xs b i = omega arith
-take_octets (suc n) [] b i = omega arith
-take_octets (suc n) (x ∷ xs) b zero = b 0
-take_octets (suc n) (x ∷ xs) b (suc i) = take_octets n xs (λ j. b (suc j)) i
-
-drop_octets : (n : ℕ) (xs : List ℕ) → AreOctets xs → AreOctets (drop n xs)
-drop_octets zero xs b i = b i
-drop_octets (suc n) [] b i = omega arith
-drop_octets (suc n) (x ∷ xs) b i = drop_octets n xs (λ j. b (suc j)) i
 
 -- tests that guard a value
 guarded : {A : Type 0} (b : Bool) (x : Option A) (y : A) → cond b None x ≡ Some y → (b ≡ false) × (x ≡ Some y)

@@ -9,7 +9,7 @@ use Rattle.tcp_segment.specs.Options.{HeaderOption}
 use Rattle.tcp_segment.specs.Reading.{checked, options_behind, with_options, in_header, header_in, segment_in, segment_or_fault, segment_with}
 use Rattle.tcp_segment.specs.Segment.{Segment, HasForm, IsParsed, SumIsRight, summed_octets}
 use Rattle.tcp_segment.proofs.Form.{form_read, has_form, one_form}
-use Rattle.tcp_segment.proofs.OptionLists.{AreOctets}
+use Rattle.ipv4.proofs.Octets.{AreOctets}
 
 -- octets have one answer
 pub one_answer : (src dst : Addr) (octets : List ℕ) (first second : Result Segment SegmentFault)

@@ -1,5 +1,5 @@
 -- The segment that is read is the one whose form the octets have.
-use Rattle.std.proofs.Common.{◌≡◌, ℕ, zero, suc, ◌+◌, ◌-◌, ◌*◌, ◌^◌, ◌/◌, ◌%◌, ◌<◌, ◌≤◌, ◌||◌, Bool, true, false, nat_eq, nat_lt, List, [], ◌∷◌, ◌++◌, length, slice_index, drop, take, Option, Some, None, cond, refl, sym, ◌∙◌, ap, subst, length-append, arith}
+use Rattle.std.proofs.Common.{◌≡◌, ℕ, zero, suc, ◌+◌, ◌-◌, ◌*◌, ◌^◌, ◌/◌, ◌%◌, ◌<◌, ◌≤◌, ◌||◌, Bool, true, false, nat_eq, nat_lt, List, ◌∷◌, ◌++◌, length, slice_index, drop, take, Option, Some, None, cond, refl, sym, ◌∙◌, ap, subst, length-append, arith}
 use Rattle.std.proofs.lemmas.Bool.Decides.{nat_tests}
 use Rattle.std.proofs.lemmas.List.{length-take, take-append-drop, drop_at, take_at, drop-drop}
 use Rattle.std.specs.Int.{byte_at}
@@ -8,7 +8,8 @@ use Rattle.tcp_segment.specs.declared.flags.Flags.{Flags}
 use Rattle.tcp_segment.specs.Options.{HeaderOption, joined, AreOptions}
 use Rattle.tcp_segment.specs.Segment.{Segment, bit, control_bits, spelling, FieldsFit, HasForm}
 use Rattle.tcp_segment.specs.Reading.{options_behind, flags_in, segment_with, offset_in, checksum_in, header_len, header_in}
-use Rattle.tcp_segment.proofs.OptionLists.{AreOctets, Walked, are_walked, are_read}
+use Rattle.ipv4.proofs.Octets.{AreOctets, take_octets, drop_octets, two_spelled, four_spelled}
+use Rattle.tcp_segment.proofs.OptionLists.{Walked, are_walked, are_read}
 
 -- the worth of a bit that is tested
 bit_worth : (n p : ℕ) → n < 2 → bit (nat_eq n 1) p ≡ n * p
@@ -35,26 +36,6 @@ cells : (x0 x1 x2 x3 x4 x5 x6 x7 x8 x9 x10 x11 x12 x13 x14 x15 x16 x17 x18 x19 :
     (segment_with (x0 ∷ x1 ∷ x2 ∷ x3 ∷ x4 ∷ x5 ∷ x6 ∷ x7 ∷ x8 ∷ x9 ∷ x10 ∷ x11 ∷ x12 ∷ x13 ∷ x14 ∷ x15 ∷ x16 ∷ x17 ∷ x18 ∷ x19 ∷ rest) (20 + more) os)
     (x0 ∷ x1 ∷ x2 ∷ x3 ∷ x4 ∷ x5 ∷ x6 ∷ x7 ∷ x8 ∷ x9 ∷ x10 ∷ x11 ∷ x12 ∷ x13 ∷ x14 ∷ x15 ∷ x16 ∷ x17 ∷ x18 ∷ x19 ∷ rest)
 cells x0 x1 x2 x3 x4 x5 x6 x7 x8 x9 x10 x11 x12 x13 x14 x15 x16 x17 x18 x19 rest more os b header room len w =
-    let b0 : x0 < 256 = b 0 in
-    let b1 : x1 < 256 = b 1 in
-    let b2 : x2 < 256 = b 2 in
-    let b3 : x3 < 256 = b 3 in
-    let b4 : x4 < 256 = b 4 in
-    let b5 : x5 < 256 = b 5 in
-    let b6 : x6 < 256 = b 6 in
-    let b7 : x7 < 256 = b 7 in
-    let b8 : x8 < 256 = b 8 in
-    let b9 : x9 < 256 = b 9 in
-    let b10 : x10 < 256 = b 10 in
-    let b11 : x11 < 256 = b 11 in
-    let b12 : x12 < 256 = b 12 in
-    let b13 : x13 < 256 = b 13 in
-    let b14 : x14 < 256 = b 14 in
-    let b15 : x15 < 256 = b 15 in
-    let b16 : x16 < 256 = b 16 in
-    let b17 : x17 < 256 = b 17 in
-    let b18 : x18 < 256 = b 18 in
-    let b19 : x19 < 256 = b 19 in
     let octets : List ℕ = x0 ∷ x1 ∷ x2 ∷ x3 ∷ x4 ∷ x5 ∷ x6 ∷ x7 ∷ x8 ∷ x9 ∷ x10 ∷ x11 ∷ x12 ∷ x13 ∷ x14 ∷ x15 ∷ x16 ∷ x17 ∷ x18 ∷ x19 ∷ rest in
     let source : ℕ = big_number 2 octets in
     let destination : ℕ = big_number 2 (drop 2 octets) in
@@ -67,26 +48,24 @@ cells x0 x1 x2 x3 x4 x5 x6 x7 x8 x9 x10 x11 x12 x13 x14 x15 x16 x17 x18 x19 rest
     let bits = control_bits-flags_in x13 in
     let area : length (take more rest) ≡ more = omega (arith, length-take more rest) in
     let behind : drop (20 + more) octets ≡ drop more rest = sym (drop-drop more 20 octets) in
-    let e0 : x0 ≡ byte_at 1 source = omega arith in
-    let e1 : x1 ≡ byte_at 0 source = omega arith in
-    let e2 : x2 ≡ byte_at 1 destination = omega arith in
-    let e3 : x3 ≡ byte_at 0 destination = omega arith in
-    let e4 : x4 ≡ byte_at 3 number = omega arith in
-    let e5 : x5 ≡ byte_at 2 number = omega arith in
-    let e6 : x6 ≡ byte_at 1 number = omega arith in
-    let e7 : x7 ≡ byte_at 0 number = omega arith in
-    let e8 : x8 ≡ byte_at 3 acknowledgement = omega arith in
-    let e9 : x9 ≡ byte_at 2 acknowledgement = omega arith in
-    let e10 : x10 ≡ byte_at 1 acknowledgement = omega arith in
-    let e11 : x11 ≡ byte_at 0 acknowledgement = omega arith in
+    let is_source = two_spelled x0 x1 (drop 2 octets) (b 0) (b 1) in
+    let is_destination = two_spelled x2 x3 (drop 4 octets) (b 2) (b 3) in
+    let is_number = four_spelled x4 x5 x6 x7 (drop 8 octets) (b 4) (b 5) (b 6) (b 7) in
+    let is_acknowledgement = four_spelled x8 x9 x10 x11 (drop 12 octets) (b 8) (b 9) (b 10) (b 11) in
+    let is_window = two_spelled x14 x15 (drop 16 octets) (b 14) (b 15) in
+    let is_checksum = two_spelled x16 x17 (drop 18 octets) (b 16) (b 17) in
+    let is_urgent = two_spelled x18 x19 rest (b 18) (b 19) in
+    let b12 : x12 < 256 = b 12 in
+    let b13 : x13 < 256 = b 13 in
+    let e0 = is_source.0 in
+    let e2 = is_destination.0 in
+    let e4 = is_number.0 in
+    let e8 = is_acknowledgement.0 in
     let e12 : x12 ≡ byte_at 1 word = omega (arith, bits) in
     let e13 : x13 ≡ byte_at 0 word = omega (arith, bits) in
-    let e14 : x14 ≡ byte_at 1 window = omega arith in
-    let e15 : x15 ≡ byte_at 0 window = omega arith in
-    let e16 : x16 ≡ byte_at 1 checksum = omega arith in
-    let e17 : x17 ≡ byte_at 0 checksum = omega arith in
-    let e18 : x18 ≡ byte_at 1 urgent = omega arith in
-    let e19 : x19 ≡ byte_at 0 urgent = omega arith in
+    let e14 = is_window.0 in
+    let e16 = is_checksum.0 in
+    let e18 = is_urgent.0 in
     let parts : rest ≡ (joined os ++ w.padding) ++ drop (20 + more) octets =
     sym (take-append-drop more rest) ∙ ap (λ (ys : List ℕ). ys ++ drop more rest) w.spelled ∙ ap (λ (ys : List ℕ). (joined os ++ w.padding) ++ ys) (sym behind) in
     let spelled : octets ≡ spelling (segment_with octets (20 + more) os) (x12 / 16) (x12 % 16 * 4 + x13 / 64) checksum w.padding = cc in
@@ -96,17 +75,17 @@ cells x0 x1 x2 x3 x4 x5 x6 x7 x8 x9 x10 x11 x12 x13 x14 x15 x16 x17 x18 x19 rest
       checksum = checksum;
       padding = w.padding;
       fields = record {
-        source = omega arith;
-        destination = omega arith;
-        number = omega arith;
-        acknowledgement = omega arith;
-        window = omega arith;
-        urgent = omega arith;
+        source = is_source.1;
+        destination = is_destination.1;
+        number = is_number.1;
+        acknowledgement = is_acknowledgement.1;
+        window = is_window.1;
+        urgent = is_urgent.1;
       };
       options = w.ends;
       offset_fits = omega arith;
       reserved_fits = omega arith;
-      checksum_fits = omega arith;
+      checksum_fits = is_checksum.1;
       header = omega (arith, area, ap length w.spelled);
       len = omega arith;
       spelled = spelled;
@@ -125,20 +104,6 @@ header_facts xs header e =
     let whole = guarded (nat_lt (header_len xs) 20 || nat_lt (length xs) (header_len xs)) (Some (header_len xs)) header long.1 in
     let is : header_len xs ≡ header = cc in
     (grind (arith, nat_tests, long.0), grind (arith, nat_tests, long.0), grind (arith, nat_tests, whole.0, is), grind (arith, nat_tests, whole.0, is), sym is)
-
-no_octets : AreOctets []
-no_octets i = omega arith
-
-take_octets : (n : ℕ) (xs : List ℕ) → AreOctets xs → AreOctets (take n xs)
-take_octets zero xs b i = no_octets i
-take_octets (suc n) [] b i = no_octets i
-take_octets (suc n) (x ∷ xs) b zero = b 0
-take_octets (suc n) (x ∷ xs) b (suc i) = take_octets n xs (λ j. b (suc j)) i
-
-drop_octets : (n : ℕ) (xs : List ℕ) → AreOctets xs → AreOctets (drop n xs)
-drop_octets zero xs b i = b i
-drop_octets (suc n) [] b i = no_octets i
-drop_octets (suc n) (x ∷ xs) b i = drop_octets n xs (λ j. b (suc j)) i
 
 -- what is read has the form of the octets
 pub has_form : (xs : List ℕ) (header : ℕ) (os : List HeaderOption) → AreOctets xs → header_in xs ≡ Some header

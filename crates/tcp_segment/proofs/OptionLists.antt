@@ -1,5 +1,5 @@
 -- The options that are read are those that are spelled.
-use Rattle.std.proofs.Common.{◌≡◌, ◌≢◌, ℕ, zero, suc, ◌+◌, ◌-◌, ◌^◌, ◌<◌, ◌≤◌, ◌||◌, Bool, true, false, nat_eq, nat_lt, List, [], ◌∷◌, ◌++◌, length, get_or, drop, take, Option, Some, None, cond, refl, sym, ◌∙◌, ap, subst, eqb-true, append_assoc, arith}
+use Rattle.std.proofs.Common.{◌≡◌, ◌≢◌, ℕ, zero, suc, ◌+◌, ◌-◌, ◌^◌, ◌<◌, ◌≤◌, ◌||◌, Bool, true, false, nat_eq, nat_lt, List, [], ◌∷◌, ◌++◌, length, drop, take, Option, Some, None, cond, refl, sym, ◌∙◌, ap, subst, eqb-true, append_assoc, arith}
 use Rattle.std.proofs.lemmas.Bool.Decides.{nat_tests}
 use Rattle.std.proofs.lemmas.List.{length-take, take-append-drop, take_at}
 use Rattle.std.specs.Int.{byte_at}
@@ -7,11 +7,8 @@ use Rattle.std.specs.Option.{option_map, unwrap_or, is_some, ok_or}
 use Rattle.byteorder.specs.Endian.{big_number}
 use Rattle.tcp_segment.specs.Options.{HeaderOption, EndOfOptions, NoOperation, MaximumSegmentSize, Other, joined, AreOptions, last_mss}
 use Rattle.tcp_segment.specs.Reading.{with_first, options_behind}
+use Rattle.ipv4.proofs.Octets.{AreOctets}
 use Rattle.tcp_segment.proofs.Walk.{told_behind}
-
--- each number is an octet
-abbrev pub AreOctets : List ℕ → Type 0
-AreOctets xs = (i : ℕ) → get_or xs i 0 < 256
 
 -- octets that spell these options
 pub record Walked (xs : List ℕ) (os : List HeaderOption) : Type 0 where

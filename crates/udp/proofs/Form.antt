@@ -1,42 +1,31 @@
 -- The UDP datagram that is read is the one whose form the octets have.
-use Rattle.std.proofs.Common.{◌≡◌, ℕ, zero, suc, ◌+◌, ◌*◌, ◌<◌, ◌≤◌, ◌||◌, Bool, true, false, nat_lt, List, [], ◌∷◌, ◌++◌, length, slice_index, drop, take, Option, Some, None, cond, refl, sym, ◌∙◌, ap, subst, length-append, arith}
+use Rattle.std.proofs.Common.{◌≡◌, ℕ, ◌+◌, ◌*◌, ◌≤◌, ◌||◌, Bool, true, false, nat_lt, List, ◌∷◌, ◌++◌, length, drop, take, Option, Some, None, cond, refl, sym, ◌∙◌, ap, subst, length-append, arith}
 use Rattle.std.proofs.lemmas.Bool.Decides.{nat_tests}
 use Rattle.std.proofs.lemmas.List.{length-take, take-append-drop, take_at}
-use Rattle.std.specs.Int.{byte_at}
+use Rattle.byteorder.specs.Endian.{big_bytes}
+use Rattle.ipv4.proofs.Octets.{AreOctets, take_octets, two_spelled}
 use Rattle.udp.specs.Datagram.{UserDatagram, datagram_len, spelling, IsDatagram, HasForm}
 use Rattle.udp.specs.Reading.{word_at, datagram_of, IsWhole, len_in}
-
--- each item is an octet
-abbrev pub AreOctets : List ℕ → Type 0
-AreOctets xs = (i : ℕ) → slice_index xs i < 256
 
 -- eight octets and a payload are spelled by what is read of them
 cells : (x0 x1 x2 x3 x4 x5 x6 x7 : ℕ) (payload : List ℕ) → AreOctets (x0 ∷ x1 ∷ x2 ∷ x3 ∷ x4 ∷ x5 ∷ x6 ∷ x7 ∷ payload)
     → x4 * 256 + x5 ≡ 8 + length payload → IsWhole (x0 ∷ x1 ∷ x2 ∷ x3 ∷ x4 ∷ x5 ∷ x6 ∷ x7 ∷ payload)
 cells x0 x1 x2 x3 x4 x5 x6 x7 payload b told =
-    let b0 = b 0 in
-    let b1 = b 1 in
-    let b2 = b 2 in
-    let b3 = b 3 in
-    let b4 = b 4 in
-    let b5 = b 5 in
-    let b6 = b 6 in
-    let b7 = b 7 in
+    let source = two_spelled x0 x1 (x2 ∷ x3 ∷ x4 ∷ x5 ∷ x6 ∷ x7 ∷ payload) (b 0) (b 1) in
+    let destination = two_spelled x2 x3 (x4 ∷ x5 ∷ x6 ∷ x7 ∷ payload) (b 2) (b 3) in
+    let len = two_spelled x4 x5 (x6 ∷ x7 ∷ payload) (b 4) (b 5) in
+    let checksum = two_spelled x6 x7 payload (b 6) (b 7) in
     let octets : List ℕ = x0 ∷ x1 ∷ x2 ∷ x3 ∷ x4 ∷ x5 ∷ x6 ∷ x7 ∷ payload in
-    let e0 : x0 ≡ byte_at 1 (word_at octets 0) = omega arith in
-    let e1 : x1 ≡ byte_at 0 (word_at octets 0) = omega arith in
-    let e2 : x2 ≡ byte_at 1 (word_at octets 2) = omega arith in
-    let e3 : x3 ≡ byte_at 0 (word_at octets 2) = omega arith in
-    let e4 : x4 ≡ byte_at 1 (8 + length payload) = omega arith in
-    let e5 : x5 ≡ byte_at 0 (8 + length payload) = omega arith in
-    let e6 : x6 ≡ byte_at 1 (word_at octets 6) = omega arith in
-    let e7 : x7 ≡ byte_at 0 (word_at octets 6) = omega arith in
-    let spelled : octets ≡ spelling (datagram_of octets) = cc in
+    let is_len : word_at octets 4 ≡ 8 + length payload = omega (arith, told) in
+    let behind : x4 ∷ x5 ∷ x6 ∷ x7 ∷ payload ≡ big_bytes 2 (8 + length payload) ++ big_bytes 2 (word_at octets 6) ++ payload =
+    len.0 ∙ ap (λ (n : ℕ). big_bytes 2 n ++ x6 ∷ x7 ∷ payload) is_len ∙ ap (λ ys. big_bytes 2 (8 + length payload) ++ ys) checksum.0 in
+    let spelled : octets ≡ spelling (datagram_of octets) =
+    source.0 ∙ ap (λ ys. big_bytes 2 (word_at octets 0) ++ ys) (destination.0 ∙ ap (λ ys. big_bytes 2 (word_at octets 2) ++ ys) behind) in
     record {
-      fields = record { source = omega arith; destination = omega arith; len = omega arith; checksum = omega arith };
+      fields = record { source = source.1; destination = destination.1; len = omega (arith, is_len, len.1); checksum = checksum.1 };
       spelled = spelled;
       least = omega arith;
-      most = omega arith;
+      most = omega (arith, is_len, len.1);
     }
 
 -- octets of the length that they tell are those of a UDP datagram
@@ -49,12 +38,6 @@ is_whole xs b least told = absurd (omega (arith, least))
 same_start : (front rest : List ℕ) → 8 ≤ length front → word_at (front ++ rest) 4 ≡ word_at front 4
 same_start (x0 ∷ x1 ∷ x2 ∷ x3 ∷ x4 ∷ x5 ∷ more) rest least = refl
 same_start front rest least = absurd (omega (arith, least))
-
-take_octets : (n : ℕ) (xs : List ℕ) → AreOctets xs → AreOctets (take n xs)
-take_octets zero xs b i = omega arith
-take_octets (suc n) [] b i = omega arith
-take_octets (suc n) (x ∷ xs) b zero = b 0
-take_octets (suc n) (x ∷ xs) b (suc i) = take_octets n xs (λ j. b (suc j)) i
 
 -- tests that guard a value
 guarded : {A : Type 0} (b : Bool) (x : Option A) (y : A) → cond b None x ≡ Some y → (b ≡ false) × (x ≡ Some y)

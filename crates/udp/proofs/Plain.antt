@@ -7,7 +7,8 @@ use Rattle.udp.specs.declared.fault.UdpFault.{UdpFault}
 use Rattle.udp.specs.declared.fault.UdpFault.TheVariants.{UpperHeader, UpperSum}
 use Rattle.udp.specs.Datagram.{UserDatagram, HasForm, IsParsed, SumIsRight, spelling, summed}
 use Rattle.udp.specs.Reading.{word_at, datagram_of, len_in, summed_datagram, read_at, datagram_or_fault}
-use Rattle.udp.proofs.Form.{AreOctets, are_read, has_form, form_read}
+use Rattle.ipv4.proofs.Octets.{AreOctets}
+use Rattle.udp.proofs.Form.{are_read, has_form, form_read}
 
 -- what is made of octets of this form
 abbrev pub made_of : Addr → Addr → UserDatagram → Result UserDatagram UdpFault
