@@ -7,6 +7,7 @@ ghost use Rattle.interface.specs.declared.room.TheConstants.{ECHO_ROOM};
 use crate::hop::{hop_mac, next_hop, way_over};
 use crate::queue::Queue;
 use crate::reply::{QueueFault, Reply, ResetHead, Waiting};
+use crate::room::Quoted;
 use crate::way::Way;
 use arp::{ArpCache, ArpPacket};
 use clock::Moment;
@@ -141,7 +142,15 @@ impl Interface {
         ensures answer { result ≡ answer_result self.old to }
     {
         if self.is_routed(to) {
-            self.replies.push_echo(now, to, identifier, number, octets)?;
+            self.replies.push_made(
+                now,
+                |room| Reply::Echo {
+                    to,
+                    identifier,
+                    number,
+                    data: room.filled(octets),
+                },
+            )?;
         }
         Ok(())
     }
@@ -162,7 +171,14 @@ impl Interface {
         ensures answer { result ≡ answer_result self.old to }
     {
         if self.is_routed(to) {
-            self.replies.push_error(now, to, reason, header, payload)?;
+            self.replies.push_made(
+                now,
+                |room| Reply::Error {
+                    to,
+                    reason,
+                    quoted: Quoted::new(room, header, payload),
+                },
+            )?;
         }
         Ok(())
     }
@@ -181,7 +197,14 @@ impl Interface {
         ensures answer { result ≡ answer_result self.old to }
     {
         if self.is_routed(to) {
-            self.replies.push_quote(now, to, reason, quote)?;
+            self.replies.push_made(
+                now,
+                |room| Reply::Error {
+                    to,
+                    reason,
+                    quoted: Quoted::of(room, quote),
+                },
+            )?;
         }
         Ok(())
     }

@@ -1,17 +1,13 @@
 //! The queue of the control replies that wait.
 
-ghost use Rattle.std.specs.Prelude.{◌≡◌, ◌<◌, ◌≤◌, ◌++◌, [], length, take, remove, false, IfOk, OnOk};
-ghost use Rattle.ipv4.specs.declared.limits.TheConstants.{ERROR_QUOTE};
-ghost use Rattle.interface.specs.declared.reply.Reply.TheVariants.{Echo, Error};
-ghost use Rattle.interface.specs.declared.room.TheConstants.{ECHO_ROOM};
+ghost use Rattle.std.specs.Prelude.{◌≡◌, ◌<◌, ℕ, List, [], length, remove, true, false, IfOk, OnOk};
+ghost use Rattle.interface.specs.declared.reply.Reply.{Reply};
 ghost use Rattle.interface.specs.Queue.{joined, join_answer, has_room};
 
 use crate::reply::{QueueFault, Reply, Waiting};
-use crate::room::{Quoted, Room};
+use crate::room::Room;
 use arrayvec::ArrayVec;
 use clock::Moment;
-use icmp::Reason;
-use ipv4::Addr;
 use std::alloc::{AllocError, Global};
 use std::marker::Model;
 
@@ -78,77 +74,24 @@ impl Queue {
         Ok(())
     }
 
-    /// Takes an echo reply to an address, with this identifier, number and data. NoRoom where 16 replies wait already, and then nothing
-    /// has changed. It takes no memory.
+    /// Takes a reply that is made in a room of its own. NoRoom where 16 replies wait already, and then nothing has changed. It takes no
+    /// memory.
     #[tactic(auto, using(crate::proofs::Rooms::some_spare))]
-    pub(crate) fn push_echo(
+    pub(crate) fn push_made<F: FnOnce(Room) -> Reply>(
         &mut self,
         now: Moment,
-        to: Addr,
-        identifier: u16,
-        number: u16,
-        octets: &[u8],
+        make: F,
     ) -> Result<(), QueueFault>
-        requires { length octets.now ≤ ECHO_ROOM }
-        ensures after { self.new ≡ joined now (Echo to identifier number octets.now) self.old }
+        requires callable { F.IsAlwaysCallable make }
+        requires roomy { (room : List ℕ) (made : Reply) → F.post make room made → has_room made ≡ true }
+        ensures after { (reply : Reply) → ((room : List ℕ) (made : Reply) → F.post make room made → made ≡ reply) → self.new ≡ joined now reply self.old }
         ensures answer { result ≡ join_answer self.old }
     {
         self.check_place()?;
-        let data = self.spare.take_last().filled(octets);
+        let made = make(self.spare.take_last());
         self.replies.push(Waiting {
             since: now,
-            reply: Reply::Echo {
-                to,
-                identifier,
-                number,
-                data,
-            },
-        });
-        Ok(())
-    }
-
-    /// Takes an error to an address, about a datagram with this header and this payload, of which it quotes the header and the first 8
-    /// octets of the payload. NoRoom where 16 replies wait already, and then nothing has changed. It takes no memory.
-    #[tactic(auto, using(crate::proofs::Rooms::some_spare))]
-    pub(crate) fn push_error(
-        &mut self,
-        now: Moment,
-        to: Addr,
-        reason: Reason,
-        header: &[u8],
-        payload: &[u8],
-    ) -> Result<(), QueueFault>
-        requires { length header.now ≤ 60 }
-        ensures after { self.new ≡ joined now (Error to reason (header.now ++ take 8 payload.now)) self.old }
-        ensures answer { result ≡ join_answer self.old }
-    {
-        self.check_place()?;
-        let quoted = Quoted::new(self.spare.take_last(), header, payload);
-        self.replies.push(Waiting {
-            since: now,
-            reply: Reply::Error { to, reason, quoted },
-        });
-        Ok(())
-    }
-
-    /// Takes an error to an address, of a quote that was made before, of which it takes the first 68 octets. NoRoom where 16 replies wait
-    /// already, and then nothing has changed. It takes no memory.
-    #[tactic(auto, using(crate::proofs::Rooms::some_spare))]
-    pub(crate) fn push_quote(
-        &mut self,
-        now: Moment,
-        to: Addr,
-        reason: Reason,
-        quote: &[u8],
-    ) -> Result<(), QueueFault>
-        ensures after { self.new ≡ joined now (Error to reason (take ERROR_QUOTE quote.now)) self.old }
-        ensures answer { result ≡ join_answer self.old }
-    {
-        self.check_place()?;
-        let quoted = Quoted::of(self.spare.take_last(), quote);
-        self.replies.push(Waiting {
-            since: now,
-            reply: Reply::Error { to, reason, quoted },
+            reply: made,
         });
         Ok(())
     }
