@@ -43,3 +43,4 @@ pub mod SecondSegments
 pub mod Told
 pub mod Clocks
 pub mod Expiries
+pub mod Saying

@@ -17,3 +17,4 @@ pub mod Positions
 pub mod Inside
 pub mod Simultaneous
 pub mod Opening
+pub mod Said

@@ -10,6 +10,7 @@ mod ending;
 pub mod laws;
 mod resend;
 mod state;
+pub mod telling;
 mod timing;
 
 pub use calls::{Received, Refusal};
