@@ -44,3 +44,4 @@ pub mod Told
 pub mod Clocks
 pub mod Expiries
 pub mod Saying
+pub mod ResetErrors

@@ -1,5 +1,5 @@
--- What a segment says of the connection that sends it (RFC 9293 sections 3.1, 3.4, 3.8.6 and 3.10.7.4).
-use Rattle.std.specs.Prelude.{◌≡◌, ℕ, ◌+◌, ◌<◌, ◌^◌, ◌⊎◌, ◌↔◌, true, false, [], ◌∷◌, length, slice_get}
+-- What a connection says: to the peer in each segment that goes out, and to its caller where a reset ends it (RFC 9293 sections 3.1, 3.4, 3.8.6, 3.10.7.3 and 3.10.7.4).
+use Rattle.std.specs.Prelude.{◌≡◌, ◌≢◌, ℕ, List, Some, Err, ◌+◌, ◌<◌, ◌^◌, ◌⊎◌, ◌↔◌, true, false, [], ◌∷◌, length, slice_get}
 use Rattle.tcp_segment.specs.declared.flags.Flags.{Flags}
 use Rattle.tcp_segment.specs.Options.{MaximumSegmentSize}
 use Rattle.tcp_segment.specs.Segment.{Segment}
@@ -8,8 +8,12 @@ use Rattle.tcp_segment.specs.Wire.{wire, past}
 use Rattle.tcp_state.specs.declared.emission.Due.{Due}
 use Rattle.tcp_state.specs.declared.emission.Due.TheVariants.{Rst, Syn, Text, Probe}
 use Rattle.tcp_state.specs.declared.emission.Stretch.{Stretch}
-use Rattle.tcp_state.specs.declared.state.State.TheVariants.{SynSent}
+use Rattle.tcp_state.specs.declared.calls.Refusal.{Refusal}
+use Rattle.tcp_state.specs.declared.state.State.{State}
+use Rattle.tcp_state.specs.declared.state.State.TheVariants.{Closed, SynSent, Established, FinWait1, FinWait2, CloseWait, Closing, LastAck, TimeWait}
 use Rattle.tcp_state.specs.View.{View}
+use Rattle.tcp_state.specs.Calls.{send_answer, recv_answer, shutdown_refusal}
+use Rattle.tcp_state.specs.Arrival.{is_acceptable_to}
 use Rattle.tcp_state.specs.Due.{head_of, octets_of}
 
 -- the segment that goes out for what is due, as the other end reads it
@@ -20,7 +24,7 @@ segment_of v due = sent_segment (head_of v due) (octets_of v due)
 abbrev pub BringsFin : View → Due → Type 0
 BringsFin v due = ((stretch : Stretch) × (due ≡ Text stretch) × (stretch.fin ≡ true)) ⊎ ((due ≡ Probe) × (v.sending.held ≡ []))
 
--- it goes out before the peer's SYN came: the reset of an abort, which acknowledges nothing, or our SYN alone
+-- a reset acknowledges nothing, nor does our SYN before the peer's came
 abbrev pub AcknowledgesNothing : View → Due → Type 0
 AcknowledgesNothing v due = (due ≡ Rst) ⊎ ((due ≡ Syn) × (v.state ≡ SynSent))
 
@@ -34,7 +38,7 @@ pub record HasFlags (v : View) (due : Due) (f : Flags) : Type 0 where
 
 -- What a segment says is so. Each of its octets is the one that is held for its number, and its FIN has the number behind all that is held. It acknowledges RCV.NXT, and tells the window
 -- from there up to the right edge that the connection keeps; the SYN that acknowledges nothing tells all of the receive buffer. A reset has the number SND.NXT and a SYN that of our SYN, and
--- neither has octets; a SYN alone has an option, the size of the segments that this stack takes (section 3.7.1).
+-- neither has octets. The one option is that of a SYN, the size of the segments that this stack takes (section 3.7.1).
 pub record IsSo (v : View) (edge : ℕ) (s : Segment) : Type 0 where
   pub source : s.source ≡ v.local.port
   pub destination : s.destination ≡ v.peer.port
@@ -50,3 +54,33 @@ pub record IsSo (v : View) (edge : ℕ) (s : Segment) : Type 0 where
   pub rst : s.flags.rst ≡ true → (s.number ≡ v.sending.nxt) × (s.window ≡ 0) × (s.octets ≡ [])
   pub small : s.window < 2 ^ 16
   pub urgent : s.urgent ≡ 0
+
+-- What a caller is told.
+
+-- a reset stands at RCV.NXT, and is acceptable (section 3.10.7.4, second)
+pub record IsResetAtNext (v : View) (s : Segment) : Type 0 where
+  pub rst : s.flags.rst ≡ true
+  pub acceptable : is_acceptable_to v s ≡ true
+  pub next : s.number ≡ v.receiving.rnext
+
+-- a reset acknowledges our SYN, which has gone out (section 3.10.7.3, second)
+pub record IsResetOfSyn (v : View) (s : Segment) : Type 0 where
+  pub rst : s.flags.rst ≡ true
+  pub ack : s.flags.ack ≡ true
+  pub sent : v.sending.nxt ≢ v.sending.una
+  pub all : s.acknowledgement ≡ v.sending.nxt
+
+-- the connection is CLOSED, and every call is told this error
+pub record IsClosedBy (error : Refusal) (w : View) : Type 0 where
+  pub closed : w.state ≡ Closed
+  pub send : (octets : List ℕ) → send_answer w octets ≡ Err error
+  pub recv : (len : ℕ) → recv_answer w len ≡ Err error
+  pub shutdown : shutdown_refusal w ≡ Some error
+
+-- one side may still send: octets of the one or the other may be lost by its end
+abbrev pub MayLose : State → Type 0
+MayLose state = (state ≡ Established) ⊎ ((state ≡ FinWait1) ⊎ ((state ≡ FinWait2) ⊎ (state ≡ CloseWait)))
+
+-- both sides are closed
+abbrev pub AreBothShut : State → Type 0
+AreBothShut state = (state ≡ Closing) ⊎ ((state ≡ LastAck) ⊎ (state ≡ TimeWait))

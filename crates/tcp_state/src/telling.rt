@@ -1,15 +1,18 @@
 //! Laws of what a connection says: to its peer by segments, and to its caller by errors.
 
-ghost use Rattle.std.specs.Prelude.{◌≡◌, ℕ, ◌+◌, ◌<◌, ◌≤◌, ◌^◌, ◌⊎◌, ◌||◌, nat_le, true, false, length, []};
-ghost use Rattle.tcp_segment.specs.Segment.{Spells};
+ghost use Rattle.std.specs.Prelude.{◌≡◌, ◌≢◌, ℕ, None, ◌+◌, ◌<◌, ◌≤◌, ◌^◌, ◌⊎◌, ◌||◌, nat_le, true, false, length, []};
+ghost use Rattle.tcp_segment.specs.Segment.{Segment, Spells};
 ghost use Rattle.tcp_segment.specs.Wire.{wire, past};
 ghost use Rattle.clock.specs.declared.moment.Moment.{Moment};
+ghost use Rattle.tcp_state.specs.declared.calls.Refusal.{Refusal};
+ghost use Rattle.tcp_state.specs.declared.state.State.{State};
 ghost use Rattle.tcp_state.specs.declared.emission.Due.{Due};
 ghost use Rattle.tcp_state.specs.declared.emission.Stretch.{Stretch};
 ghost use Rattle.tcp_halves.specs.Stream.{outstanding};
 ghost use Rattle.tcp_state.specs.View.{View, IsSound, is_opening};
 ghost use Rattle.tcp_state.specs.Due.{MayGoOut, segment_octets, after_emitted};
-ghost use Rattle.tcp_state.specs.Said.{segment_of, HasFlags, IsSo};
+ghost use Rattle.tcp_state.specs.Edges.{Event, after_event, state_after};
+ghost use Rattle.tcp_state.specs.Said.{segment_of, HasFlags, IsSo, IsResetAtNext, IsResetOfSyn, IsClosedBy, MayLose, AreBothShut};
 
 /// What each segment that goes out says is so of the connection that sends it (RFC 9293 sections 3.1, 3.4, 3.8.6 and 3.10.7.4): its octets are those that are held for their numbers; it acknowledges
 /// RCV.NXT, and the window that it tells ends at the right edge that the connection keeps from then on. Each control bit stands exactly where it is due. A stretch has its place, its octets and its FIN, a
@@ -26,4 +29,18 @@ pub fn segments_say_what_is_so()
         × ((is_opening v.state || nat_le (outstanding v.sending) v.sending.window) ≡ false → s.number ≡ wire v.sending.una v.sending.window)) }
     ensures spelled { (v : View) (due : Due) → IsSound v → MayGoOut v due → length v.local.addr.0 ≡ 4 → length v.peer.addr.0 ≡ 4 → v.local.port < 2 ^ 16 → v.peer.port < 2 ^ 16
         → Spells v.local.addr v.peer.addr (segment_of v due) (segment_octets v due) }
+{}
+
+/// A reset that acts tells the caller why its connection ended, by the state in which it came (RFC 9293 sections 3.10.7.3, second, and 3.10.7.4, second): refused while the connection opened, reset where octets
+/// might still have come or gone, and no error where both sides were closed. What a listener opened, and is not established, goes back to LISTEN. No other segment tells an error.
+pub fn resets_are_told()
+    ensures refused { (v : View) (s : Segment) (now : Moment) → IsSound v → v.state ≡ State.SynSent → IsResetOfSyn v s → IsClosedBy Refusal.ECONNREFUSED (after_event v (Event.Hears s now)) }
+    ensures opening { (v : View) (s : Segment) (now : Moment) → v.state ≡ State.SynReceived → v.passive ≡ false → IsResetAtNext v s
+        → IsClosedBy Refusal.ECONNREFUSED (after_event v (Event.Hears s now)) }
+    ensures listener { (v : View) (s : Segment) (now : Moment) → v.state ≡ State.SynReceived → v.passive ≡ true → IsResetAtNext v s → state_after v (Event.Hears s now) ≡ State.Listen }
+    ensures lost { (v : View) (s : Segment) (now : Moment) → MayLose v.state → IsResetAtNext v s → IsClosedBy Refusal.ECONNRESET (after_event v (Event.Hears s now)) }
+    ensures shut { (v : View) (s : Segment) (now : Moment) → AreBothShut v.state → IsResetAtNext v s
+        → ((after_event v (Event.Hears s now)).state ≡ State.Closed) × ((after_event v (Event.Hears s now)).pending_error ≡ None) }
+    ensures others { (v : View) (s : Segment) (now : Moment) → IsSound v → s.acknowledgement < 2 ^ 32 → (after_event v (Event.Hears s now)).pending_error ≢ v.pending_error
+        → ((v.state ≡ State.SynSent) × IsResetOfSyn v s) ⊎ (((v.state ≡ State.SynReceived) ⊎ MayLose v.state) × IsResetAtNext v s) }
 {}
