@@ -45,3 +45,4 @@ pub mod Clocks
 pub mod Expiries
 pub mod Saying
 pub mod ResetErrors
+pub mod Waits

@@ -168,7 +168,8 @@ errs FinWait2 e = inr (inr (inr (inr (inl refl))))
 errs CloseWait e = inr (inr (inr (inr (inr refl))))
 errs _ e = inl refl
 
-none_pending : (pending : Option Refusal) (closed : Bool) → closed ≡ false → (is_some pending && not closed) ≡ false → pending ≡ None
+-- no error is pending before the end
+pub none_pending : (pending : Option Refusal) (closed : Bool) → closed ≡ false → (is_some pending && not closed) ≡ false → pending ≡ None
 none_pending None closed lives e = refl
 none_pending (Some error) true lives e = cc
 none_pending (Some error) false lives e = cc

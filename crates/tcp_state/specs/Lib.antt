@@ -18,3 +18,4 @@ pub mod Inside
 pub mod Simultaneous
 pub mod Opening
 pub mod Said
+pub mod Counted

@@ -5,6 +5,7 @@
 mod arrival;
 mod calls;
 mod connection;
+pub mod counting;
 mod emission;
 mod ending;
 pub mod laws;

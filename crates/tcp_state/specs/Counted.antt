@@ -1,0 +1,19 @@
+-- From when a connection counts its waits, and what it takes an event for (RFC 9293 sections 3.6.1 and 3.10.7.4, RFC 5681 section 2, RFC 6298).
+use Rattle.std.specs.Prelude.{◌≡◌, ◌⊎◌, true, false}
+use Rattle.tcp_segment.specs.Segment.{Segment, span_of}
+use Rattle.tcp_segment.specs.Wire.{wire}
+use Rattle.tcp_state.specs.declared.state.State.{State}
+use Rattle.tcp_state.specs.declared.state.State.TheVariants.{FinWait2, TimeWait}
+use Rattle.tcp_state.specs.View.{View}
+use Rattle.tcp_state.specs.Arrival.{is_acceptable_to}
+
+-- the states in which a connection waits for its end
+abbrev pub WaitsForEnd : State → Type 0
+WaitsForEnd state = (state ≡ TimeWait) ⊎ (state ≡ FinWait2)
+
+-- A segment brings the peer's FIN again: it is not acceptable, and the number of its FIN, its last, is that before RCV.NXT (section 3.10.7.4, eighth).
+pub record BringsFinAgain (v : View) (s : Segment) : Type 0 where
+  pub no_rst : s.flags.rst ≡ false
+  pub old : is_acceptable_to v s ≡ false
+  pub fin : s.flags.fin ≡ true
+  pub last : wire s.number (span_of s) ≡ v.receiving.rnext
