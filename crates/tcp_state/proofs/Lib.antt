@@ -46,3 +46,4 @@ pub mod Expiries
 pub mod Saying
 pub mod ResetErrors
 pub mod Waits
+pub mod PeerSizes

@@ -3,7 +3,7 @@ use Rattle.std.specs.Prelude.{◌≡◌, ◌⊎◌, true, false}
 use Rattle.tcp_segment.specs.Segment.{Segment, span_of}
 use Rattle.tcp_segment.specs.Wire.{wire}
 use Rattle.tcp_state.specs.declared.state.State.{State}
-use Rattle.tcp_state.specs.declared.state.State.TheVariants.{FinWait2, TimeWait}
+use Rattle.tcp_state.specs.declared.state.State.TheVariants.{SynSent, FinWait2, TimeWait}
 use Rattle.tcp_state.specs.View.{View}
 use Rattle.tcp_state.specs.Arrival.{is_acceptable_to}
 
@@ -17,3 +17,9 @@ pub record BringsFinAgain (v : View) (s : Segment) : Type 0 where
   pub old : is_acceptable_to v s ≡ false
   pub fin : s.flags.fin ≡ true
   pub last : wire s.number (span_of s) ≡ v.receiving.rnext
+
+-- in SYN-SENT the peer's SYN comes
+pub record BringsSyn (v : View) (s : Segment) : Type 0 where
+  pub waits : v.state ≡ SynSent
+  pub no_rst : s.flags.rst ≡ false
+  pub syn : s.flags.syn ≡ true
