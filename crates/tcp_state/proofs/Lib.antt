@@ -47,3 +47,4 @@ pub mod Saying
 pub mod ResetErrors
 pub mod Waits
 pub mod PeerSizes
+pub mod Signals

@@ -4,17 +4,19 @@ ghost use Rattle.std.specs.Prelude.{◌≡◌, ◌≢◌, ◌≤◌, ◌⊎◌, 
 ghost use Rattle.ipv4.specs.declared.addr.Endpoint.{Endpoint};
 ghost use Rattle.tcp_segment.specs.Options.{last_mss};
 ghost use Rattle.tcp_segment.specs.Segment.{Segment, smss_of};
+ghost use Rattle.tcp_segment.specs.Wire.{past};
 ghost use Rattle.clock.specs.declared.moment.Moment.{Moment};
-ghost use Rattle.clock.specs.Moments.{after};
+ghost use Rattle.clock.specs.Moments.{after, has_come};
+ghost use Rattle.congestion.specs.Window.{initial_window, after_new_ack, after_duplicate, after_expiry};
 ghost use Rattle.tcp_state.specs.declared.connection.Fate.{Fate};
 ghost use Rattle.tcp_state.specs.declared.emission.Due.{Due};
 ghost use Rattle.tcp_state.specs.declared.state.State.{State};
-ghost use Rattle.tcp_state.specs.View.{View, IsSound};
+ghost use Rattle.tcp_state.specs.View.{View, IsSound, is_opening, is_closed};
 ghost use Rattle.tcp_state.specs.Timing.{KeepsTime};
-ghost use Rattle.tcp_state.specs.Arrival.{opened_passively};
+ghost use Rattle.tcp_state.specs.Arrival.{opened_passively, is_duplicate};
 ghost use Rattle.tcp_state.specs.Due.{first_due, octets_of};
 ghost use Rattle.tcp_state.specs.Edges.{Event, after_event, fate_by, moment_of};
-ghost use Rattle.tcp_state.specs.Counted.{WaitsForEnd, BringsFinAgain, BringsSyn};
+ghost use Rattle.tcp_state.specs.Counted.{WaitsForEnd, BringsFinAgain, BringsSyn, IsDuplicate};
 
 /// The wait of a connection for its end is counted from the event that leads to TIME-WAIT or to FIN-WAIT-2 (RFC 9293 sections 3.4.2, 3.6.1 and 3.10.7.4). In TIME-WAIT a segment that brings the peer's FIN again,
 /// and nothing else, begins it anew; in FIN-WAIT-2 nothing but the `close` of its caller does, so that it counts from the later of the two. A tick ends it exactly where it has lasted 240,000 ms in TIME-WAIT,
@@ -47,4 +49,20 @@ pub fn sizes_are_the_peers()
     ensures told { (s : Segment) (size : ℕ) → s.flags.syn ≡ true → last_mss None s.options ≡ Some size → smss_of s ≡ min (max size 64) 1460 }
     ensures untold { (s : Segment) → last_mss None s.options ≡ None → smss_of s ≡ 536 }
     ensures kept { (v : View) (due : Due) → IsSound v → first_due v ≡ Some due → length (octets_of v due) ≤ v.sending.smss }
+{}
+
+/// What an event is to the congestion window (RFC 5681 sections 2, 3.1 and 3.2). Where our SYN is acknowledged, the window begins; later an acknowledgement that moves SND.UNA counts for as many octets as
+/// it acknowledges, so without our FIN; a duplicate one, where it moves nothing; and an expiry of the retransmission timer. No other event moves the window, nor one that ends the connection.
+pub fn the_congestion_window_counts_octets()
+    ensures begins { (v : View) (s : Segment) (now : Moment) → is_opening v.state ≡ true → (after_event v (Event.Hears s now)).sending.una ≢ v.sending.una → is_closed (after_event v (Event.Hears s now)).state ≡ false
+        → (after_event v (Event.Hears s now)).congestion ≡ initial_window (after_event v (Event.Hears s now)).sending.smss (after_event v (Event.Hears s now)).resend.syn_resent }
+    ensures acknowledged { (v : View) (s : Segment) (now : Moment) → is_opening v.state ≡ false → (after_event v (Event.Hears s now)).sending.una ≢ v.sending.una → is_closed (after_event v (Event.Hears s now)).state ≡ false
+        → (after_event v (Event.Hears s now)).congestion ≡ after_new_ack v.congestion (min (past (after_event v (Event.Hears s now)).sending.una v.sending.una) (length v.sending.held)) }
+    ensures duplicate { (v : View) (s : Segment) (now : Moment) → IsSound v → IsDuplicate v s → (after_event v (Event.Hears s now)).congestion ≡ after_duplicate v.congestion (past v.sending.nxt v.sending.una) }
+    ensures expired { (v : View) (now : Moment) → has_come v.timers.retransmission now ≡ true → is_closed (after_event v (Event.Ticks now)).state ≡ false
+        → (after_event v (Event.Ticks now)).congestion ≡ after_expiry v.congestion (past v.sending.nxt v.sending.una) }
+    ensures others { (v : View) (e : Event) → ((after_event v e).congestion ≡ v.congestion)
+        ⊎ (((s : Segment) × (now : Moment) × (e ≡ Event.Hears s now) × (is_closed (after_event v e).state ≡ false) × (((after_event v e).sending.una ≢ v.sending.una) ⊎ IsDuplicate v s))
+        ⊎ ((now : Moment) × (e ≡ Event.Ticks now) × (has_come v.timers.retransmission now ≡ true))) }
+    ensures same { (v : View) (s : Segment) → IsSound v → (is_duplicate v s ≡ true) ↔ IsDuplicate v s }
 {}

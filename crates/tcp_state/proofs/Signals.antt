@@ -1,0 +1,331 @@
+-- What an event is to the congestion window, in the words of what it acknowledges.
+use Rattle.std.proofs.Common.{◌≡◌, ◌≢◌, ℕ, ◌+◌, ◌-◌, ◌%◌, ◌^◌, ◌<◌, ◌≤◌, ◌==◌, ◌&&◌, ◌||◌, ◌⊎◌, ◌↔◌, not, nat_lt, nat_le, min, max, if◌then◌else◌, Bool, true, false, List, [], ◌∷◌, length, drop, Some, inl, inr, arith, refl, sym, ◌∙◌, ap, ap₂, subst}
+use Rattle.std.proofs.lemmas.Bool.{eqb-true, eq-eqb, lt-ltb, ltb-true}
+use Rattle.std.proofs.lemmas.Bool.Decides.{eqb_tells, leb_tells}
+use Rattle.std.proofs.lemmas.List.{length-drop}
+use Rattle.tcp_segment.specs.Segment.{Segment}
+use Rattle.tcp_segment.specs.Wire.{past}
+use Rattle.clock.specs.declared.moment.Moment.{Moment}
+use Rattle.clock.specs.Moments.{has_come}
+use Rattle.congestion.specs.Window.{initial_window, after_new_ack, after_duplicate, after_expiry}
+use Rattle.congestion.specs.Events.Event.{NewAck, Expiry, Duplicate}
+use Rattle.tcp_state.specs.declared.state.State.{State}
+use Rattle.tcp_state.specs.declared.state.State.TheVariants.{SynSent, SynReceived}
+use Rattle.tcp_halves.specs.Halves.{Sending}
+use Rattle.tcp_halves.specs.Numbers.{is_before}
+use Rattle.tcp_halves.specs.Stream.{outstanding, is_new_ack, stands_next, after_octets, after_end}
+use Rattle.tcp_halves.specs.Windows.{updates_window}
+use Rattle.tcp_halves.proofs.Choices.{either, by, clash, and_left, and_right, and_false, both, not_true, of_false, or_right}
+use Rattle.tcp_state.specs.View.{View, IsSound, is_opening, is_syn_sent, is_syn_received, is_closed, is_write_finished, takes_flag_number, is_at_end, after_stop, after_reset}
+use Rattle.tcp_state.specs.Congestion.{Signal, after_signal}
+use Rattle.tcp_state.specs.Congestion.Signal.{Begins, Counts, Nothing}
+use Rattle.retransmit.specs.Deadlines.{next_of}
+use Rattle.tcp_state.specs.declared.calls.Refusal.TheVariants.{ETIMEDOUT}
+use Rattle.tcp_state.specs.Timing.{gives_up, after_timers, clocked}
+use Rattle.tcp_state.specs.Arrival.{owing_ack, may_delay, beyond_end, is_acceptable_to, is_read, is_read_on, is_of_fin, fin_acknowledged, after_new_ack as after_acknowledging, after_establishment, after_ack, after_window, is_receiving, after_text, after_fin, after_segment, brings_more, is_lost, after_lost, after_heard, is_rejected, before, is_duplicate, is_moved, congestion_event_of, timed_by}
+use Rattle.tcp_state.specs.Edges.{Event, Hears, Ticks, Emits, Sends, Receives, Shuts, Closes, Aborts, Unreachable, after_event, congestion_event_by}
+use Rattle.tcp_state.specs.Counted.{IsDuplicate}
+use Rattle.tcp_state.proofs.Segments.{IsRead, by_ack, by_hearing, reads, read_tells, reading_sends, not_rejected}
+use Rattle.tcp_state.proofs.Unchanged.{closed_plain}
+use Rattle.tcp_state.proofs.Congestion.{moves_by_events}
+
+-- A duplicate ACK.
+
+opened_tells : (t : State) → is_opening t ≡ false → (is_syn_sent t ≡ false) × (is_syn_received t ≡ false)
+opened_tells SynSent e = cc
+opened_tells SynReceived e = cc
+opened_tells _ e = (refl, refl)
+
+-- past the opening few numbers are outstanding
+few_out : (opening finished flag : Bool) (held out : ℕ) → held ≤ (if opening || finished then 0 else 65535) → out ≤ held + (if flag then 1 else 0) → out ≤ 65536
+few_out true finished true held out few most = omega (arith, few, most)
+few_out true finished false held out few most = omega (arith, few, most)
+few_out false true true held out few most = omega (arith, few, most)
+few_out false true false held out few most = omega (arith, few, most)
+few_out false false true held out few most = omega (arith, few, most)
+few_out false false false held out few most = omega (arith, few, most)
+
+small_flight : (v : View) → IsSound v → outstanding v.sending ≤ 65536
+small_flight v sound = few_out (is_opening v.state) (is_write_finished v.state) (takes_flag_number v.state) (length v.sending.held) (outstanding v.sending) sound.held sound.flight
+
+no_octets : (l : List ℕ) → length l ≡ 0 → l ≡ []
+no_octets [] e = refl
+no_octets (x ∷ l) e = absurd (omega (arith, e))
+
+-- an acknowledgement of SND.UNA is neither new nor of what was not sent
+old_ack : (v : View) (ack : ℕ) → IsSound v → ack ≡ v.sending.una → (is_new_ack v.sending ack ≡ false) × (is_before v.sending.nxt ack ≡ false)
+old_ack v ack sound same =
+    let flight = small_flight v sound in
+    let none : past ack v.sending.una ≡ 0 = omega (arith, same, sound.una) in
+    let near : past v.sending.nxt ack ≤ 65536 = subst (λ n. past v.sending.nxt n ≤ 65536) (sym same) flight in
+    (ap (λ n. nat_lt 0 n && nat_le n (outstanding v.sending)) none, elim (leb_tells (2 ^ 31) (past v.sending.nxt ack)) [ inl far ↦ absurd (omega (arith, near, far.1)) | inr close ↦ close.0 ])
+
+reads_on : (v : View) (ack : ℕ) → is_syn_received v.state ≡ false → is_before v.sending.nxt ack ≡ false → is_read_on v ack ≡ true
+reads_on v ack opened within =
+    let new = is_new_ack v.sending ack in
+    ap (λ b. if b then new else (new || not (is_before v.sending.nxt ack))) opened ∙ or_right new (not (is_before v.sending.nxt ack)) (of_false (is_before v.sending.nxt ack) within)
+
+duplicate_reads : (v : View) (s : Segment) → IsSound v → IsDuplicate v s → IsRead v s
+duplicate_reads v s sound d = record {
+  no_rst = d.no_rst;
+  accepted = d.acceptable;
+  no_syn = d.no_syn;
+  ack = d.ack;
+  on = reads_on v s.acknowledgement (opened_tells v.state d.opened).1 (old_ack v s.acknowledgement sound d.at_una).1;
+}
+
+is_read_by : (v : View) (s : Segment) → IsRead v s → is_read v s ≡ true
+is_read_by v s r =
+    let one = both (not s.flags.rst) (is_acceptable_to v s) (of_false s.flags.rst r.no_rst) r.accepted in
+    let two = both (not s.flags.rst && is_acceptable_to v s) (not s.flags.syn) one (of_false s.flags.syn r.no_syn) in
+    let three = both (not s.flags.rst && is_acceptable_to v s && not s.flags.syn) s.flags.ack two r.ack in
+    both (not s.flags.rst && is_acceptable_to v s && not s.flags.syn && s.flags.ack) (is_read_on v s.acknowledgement) three r.on
+
+duplicate_tells : (v : View) (s : Segment) → is_duplicate v s ≡ true → IsDuplicate v s
+duplicate_tells v s e =
+    let opened = not (is_opening v.state) in
+    let read = opened && is_read v s in
+    let flies = read && nat_lt 0 (outstanding v.sending) in
+    let bare = flies && (length s.octets == 0) in
+    let goes_on = bare && not s.flags.fin in
+    let at_una = goes_on && (s.acknowledgement == v.sending.una) in
+    let six = and_left at_una (s.window == v.sending.window) e in
+    let five = and_left goes_on (s.acknowledgement == v.sending.una) six in
+    let four = and_left bare (not s.flags.fin) five in
+    let three = and_left flies (length s.octets == 0) four in
+    let two = and_left read (nat_lt 0 (outstanding v.sending)) three in
+    let r = read_tells v s (and_right opened (is_read v s) two) in
+    record {
+      opened = not_true (is_opening v.state) (and_left opened (is_read v s) two);
+      outstanding = ltb-true 0 (outstanding v.sending) (and_right read (nat_lt 0 (outstanding v.sending)) three);
+      acceptable = r.accepted;
+      ack = r.ack;
+      at_una = eqb-true s.acknowledgement v.sending.una (and_right goes_on (s.acknowledgement == v.sending.una) six);
+      window = eqb-true s.window v.sending.window (and_right at_una (s.window == v.sending.window) e);
+      octets = no_octets s.octets (eqb-true (length s.octets) 0 (and_right flies (length s.octets == 0) four));
+      no_syn = r.no_syn;
+      no_fin = not_true s.flags.fin (and_right bare (not s.flags.fin) five);
+      no_rst = r.no_rst;
+    }
+
+is_repeated : (v : View) (s : Segment) → IsSound v → IsDuplicate v s → is_duplicate v s ≡ true
+is_repeated v s sound d =
+    let opened = not (is_opening v.state) in
+    let read = opened && is_read v s in
+    let flies = read && nat_lt 0 (outstanding v.sending) in
+    let bare = flies && (length s.octets == 0) in
+    let goes_on = bare && not s.flags.fin in
+    let at_una = goes_on && (s.acknowledgement == v.sending.una) in
+    let two = both opened (is_read v s) (of_false (is_opening v.state) d.opened) (is_read_by v s (duplicate_reads v s sound d)) in
+    let three = both read (nat_lt 0 (outstanding v.sending)) two (lt-ltb 0 (outstanding v.sending) d.outstanding) in
+    let four = both flies (length s.octets == 0) three (eq-eqb (length s.octets) 0 (ap length d.octets)) in
+    let five = both bare (not s.flags.fin) four (of_false s.flags.fin d.no_fin) in
+    let six = both goes_on (s.acknowledgement == v.sending.una) five (eq-eqb s.acknowledgement v.sending.una d.at_una) in
+    both at_una (s.window == v.sending.window) six (eq-eqb s.window v.sending.window d.window)
+
+pub duplicates_are : (v : View) (s : Segment) → IsSound v → (is_duplicate v s ≡ true) ↔ IsDuplicate v s
+duplicates_are v s sound = (duplicate_tells v s, is_repeated v s sound)
+
+-- something is outstanding only before the end
+flies_open : (v : View) → IsSound v → 0 < past v.sending.nxt v.sending.una → is_closed v.state ≡ false
+flies_open v sound some = by (is_closed v.state ≡ false) (is_closed v.state)
+    (λ closed.
+    let plain = closed_plain v.state closed in
+    let held : length v.sending.held ≤ 0 = subst (λ b. length v.sending.held ≤ (if b then 0 else 65535)) (ap (λ b. b || is_write_finished v.state) plain.0 ∙ plain.2) sound.held in
+    let flight : outstanding v.sending ≤ length v.sending.held + 0 = subst (λ b. outstanding v.sending ≤ length v.sending.held + (if b then 1 else 0)) plain.3 sound.flight in
+    absurd (omega (arith, some, held, flight)))
+    (λ lives. lives)
+
+-- such a segment changes at most the window that the peer tells
+only_window : (v : View) (s : Segment) → IsSound v → IsDuplicate v s → after_heard v s ≡ after_window v s
+only_window v s sound d =
+    let opened = opened_tells v.state d.opened in
+    let old = old_ack v s.acknowledgement sound d.at_una in
+    let none : (length s.octets == 0) ≡ true = eq-eqb (length s.octets) 0 (ap length d.octets) in
+    let unread : brings_more v s ≡ false = ap (λ b. not b && is_before v.receiving.rnext ((s.number + length s.octets) % 2 ^ 32)) none in
+    let kept : is_lost v s ≡ false = ap (λ b. v.released && is_receiving v.state && is_read v s && b) unread ∙ and_false (v.released && is_receiving v.state && is_read v s) in
+    let acked : after_ack v s.acknowledgement ≡ v =
+    ap (λ b. if b then (if is_new_ack v.sending s.acknowledgement then after_establishment v else v) else unestablished) opened.1
+    ∙ ap (λ b. if b then (if is_of_fin v s.acknowledgement then fin_acknowledged (after_acknowledging v s.acknowledgement) else after_acknowledging v s.acknowledgement) else if is_before v.sending.nxt s.acknowledgement then owing_ack v else v) old.0
+    ∙ ap (λ b. if b then owing_ack v else v) old.1 in
+    let told = after_window v s in
+    let text : after_text told s ≡ told = ap (λ b. if b || not (is_receiving told.state) then told else texted told) none in
+    let fin : (w : View) → after_fin w s ≡ w = λ w. ap (λ b. if b && is_receiving w.state && next w then ended w else if b && is_receiving w.state then owing_ack w else w) d.no_fin in
+    ap (λ b. if b then after_lost v s else after_segment v s) kept
+    ∙ reads v s (flies_open v sound d.outstanding) opened.0 (duplicate_reads v s sound d)
+    ∙ ap (λ (w : View). after_fin (after_text (after_window w s) s) s) acked
+    ∙ ap (λ (w : View). after_fin w s) text
+    ∙ fin told
+  where
+    unestablished : View
+    unestablished = if is_new_ack v.sending s.acknowledgement then (if is_of_fin v s.acknowledgement then fin_acknowledged (after_acknowledging v s.acknowledgement) else after_acknowledging v s.acknowledgement)
+        else if is_before v.sending.nxt s.acknowledgement then owing_ack v else v
+
+    next : View → Bool
+    next w = stands_next w.receiving ((s.number + length s.octets) % 2 ^ 32)
+
+    texted : View → View
+    texted w = record w { receiving = after_octets w.receiving s.number s.octets; owes_ack = w.owes_ack || w.delays_ack || not (may_delay w s); delays_ack = true }
+
+    ended : View → View
+    ended w = record w { state = beyond_end w.state; receiving = after_end w.receiving; owes_ack = true }
+
+window_stays : (v : View) (s : Segment) → ((after_window v s).sending.una ≡ v.sending.una) × ((after_window v s).sending.nxt ≡ v.sending.nxt) × ((after_window v s).sending.held ≡ v.sending.held)
+window_stays v s =
+    let x = v.sending in
+    either Sending (λ t. (t.una ≡ x.una) × (t.nxt ≡ x.nxt) × (t.held ≡ x.held)) (updates_window x s.number s.acknowledgement)
+    (record x { window = s.window; max_window = max x.max_window s.window; wl1 = s.number; wl2 = s.acknowledgement }) x (λ updates. (refl, refl, refl)) (λ stays. (refl, refl, refl))
+
+-- What a segment is that comes to the connection.
+
+heard_is : (v : View) (s : Segment) (now : Moment) → (is_closed v.state || is_rejected v s) ≡ false → after_event v (Hears s now) ≡ timed_by (before v s) (after_heard v s) now
+heard_is v s now hears = ap (λ b. if b then v else timed_by (before v s) (after_heard v s) now) hears
+
+event_is : (v : View) (s : Segment) (now : Moment) → (is_closed v.state || is_rejected v s) ≡ false → congestion_event_by v (Hears s now) ≡ congestion_event_of (before v s) (after_heard v s)
+event_is v s now hears = ap (λ b. if b then Nothing else congestion_event_of (before v s) (after_heard v s)) hears
+
+window_by : (v : View) (e : Event) (signal : Signal) → congestion_event_by v e ≡ signal → (after_event v e).congestion ≡ after_signal v.congestion signal (after_event v e).sending.smss (after_event v e).resend.syn_resent
+window_by v e signal is = moves_by_events v e ∙ ap (λ g. after_signal v.congestion g (after_event v e).sending.smss (after_event v e).resend.syn_resent) is
+
+moved_hears : (v : View) (s : Segment) (now : Moment) → (after_event v (Hears s now)).sending.una ≢ v.sending.una → (is_closed v.state || is_rejected v s) ≡ false
+moved_hears v s now moved = by ((is_closed v.state || is_rejected v s) ≡ false) (is_closed v.state || is_rejected v s)
+    (λ out. absurd (moved (ap (λ b. let w = if b then v else timed_by (before v s) (after_heard v s) now in w.sending.una) out))) (λ hears. hears)
+
+is_moved_by : (v : View) (s : Segment) → (after_heard v s).sending.una ≢ v.sending.una → is_moved (before v s) (after_heard v s) ≡ true
+is_moved_by v s moved = elim (eqb_tells v.sending.una (after_heard v s).sending.una) [ inl same ↦ absurd (moved (sym same.1)) | inr other ↦ ap not other.0 ]
+
+moved_event : (v : View) (s : Segment) (now : Moment) → (after_event v (Hears s now)).sending.una ≢ v.sending.una → is_closed (after_event v (Hears s now)).state ≡ false
+    → congestion_event_by v (Hears s now) ≡ (if is_opening v.state then Begins else Counts (NewAck (length v.sending.held - length (after_heard v s).sending.held)))
+moved_event v s now moved alive =
+    let x = after_heard v s in
+    let hears = moved_hears v s now moved in
+    let at = heard_is v s now hears in
+    let event : Signal = if is_opening v.state then Begins else Counts (NewAck (length v.sending.held - length x.sending.held)) in
+    event_is v s now hears
+    ∙ ap (λ b. if b then Nothing else if is_moved (before v s) x then event else if is_duplicate v s then Counts (Duplicate (outstanding x.sending)) else Nothing) (sym (ap (λ (w : View). is_closed w.state) at) ∙ alive)
+    ∙ ap (λ b. if b then event else if is_duplicate v s then Counts (Duplicate (outstanding x.sending)) else Nothing) (is_moved_by v s (λ same. moved (ap (λ (w : View). w.sending.una) at ∙ same)))
+
+pub begins_at_opening : (v : View) (s : Segment) (now : Moment) → is_opening v.state ≡ true → (after_event v (Hears s now)).sending.una ≢ v.sending.una → is_closed (after_event v (Hears s now)).state ≡ false
+    → (after_event v (Hears s now)).congestion ≡ initial_window (after_event v (Hears s now)).sending.smss (after_event v (Hears s now)).resend.syn_resent
+begins_at_opening v s now opening moved alive =
+    window_by v (Hears s now) Begins (moved_event v s now moved alive ∙ ap (λ b. if b then Begins else Counts (NewAck (length v.sending.held - length (after_heard v s).sending.held))) opening)
+
+-- so many octets are held no longer as it acknowledges
+
+abbrev Frees : View → Sending → Type 0
+Frees v x = x.una ≢ v.sending.una → length v.sending.held - length x.held ≡ min (past x.una v.sending.una) (length v.sending.held)
+
+frees : (v : View) (s : Segment) → is_opening v.state ≡ false → is_closed (after_heard v s).state ≡ false → Frees v (after_heard v s).sending
+frees v s opened =
+    let P : View → Type 0 = λ w. Frees v w.sending in
+    let Q : View → Type 0 = λ w. is_closed w.state ≡ false → Frees v w.sending in
+    let past_opening = opened_tells v.state opened in
+    let kept : Frees v v.sending = λ moved. absurd (moved refl) in
+    let gone : (n : ℕ) → length v.sending.held - length (drop n v.sending.held) ≡ min n (length v.sending.held) = λ n. omega (arith, length-drop n v.sending.held) in
+    let acked : P (after_ack v s.acknowledgement) = by_ack P v s.acknowledgement (record {
+      old = kept;
+      beyond = kept;
+      opens = λ received new. clash (is_syn_received v.state) received past_opening.1;
+      octets = λ new moved. gone (past s.acknowledgement v.sending.una);
+      fin = λ new fin moved. gone (past s.acknowledgement v.sending.una);
+    }) in
+    let told = after_ack v s.acknowledgement in
+    let window : P (after_window told s) = either Sending (Frees v) (updates_window told.sending s.number s.acknowledgement) _ told.sending (λ updates. acked) (λ stays. acked) in
+    by_hearing Q v s (λ alive. cc) (record {
+      dropped = λ alive. kept;
+      drawn = λ alive. kept;
+      reset = λ r alive. cc;
+      crossed = λ waits. clash (is_syn_sent v.state) waits past_opening.0;
+      opened = λ waits right. clash (is_syn_sent v.state) waits past_opening.0;
+      acknowledged = λ taken alive. acked;
+      read = λ on alive. subst (Frees v) (sym (reading_sends v s)) window;
+    })
+
+pub counts_octets : (v : View) (s : Segment) (now : Moment) → is_opening v.state ≡ false → (after_event v (Hears s now)).sending.una ≢ v.sending.una → is_closed (after_event v (Hears s now)).state ≡ false
+    → (after_event v (Hears s now)).congestion ≡ after_new_ack v.congestion (min (past (after_event v (Hears s now)).sending.una v.sending.una) (length v.sending.held))
+counts_octets v s now opened moved alive =
+    let x = after_heard v s in
+    let at = heard_is v s now (moved_hears v s now moved) in
+    let una : (after_event v (Hears s now)).sending.una ≡ x.sending.una = ap (λ (w : View). w.sending.una) at in
+    let count = frees v s opened (sym (ap (λ (w : View). is_closed w.state) at) ∙ alive) (λ same. moved (una ∙ same)) in
+    window_by v (Hears s now) (Counts (NewAck (length v.sending.held - length x.sending.held)))
+    (moved_event v s now moved alive ∙ ap (λ b. if b then Begins else Counts (NewAck (length v.sending.held - length x.sending.held))) opened)
+    ∙ ap (after_new_ack v.congestion) (count ∙ ap (λ n. min (past n v.sending.una) (length v.sending.held)) (sym una))
+
+pub counts_duplicate : (v : View) (s : Segment) (now : Moment) → IsSound v → IsDuplicate v s → (after_event v (Hears s now)).congestion ≡ after_duplicate v.congestion (past v.sending.nxt v.sending.una)
+counts_duplicate v s now sound d =
+    let lives = flies_open v sound d.outstanding in
+    let opened = opened_tells v.state d.opened in
+    let hears : (is_closed v.state || is_rejected v s) ≡ false = ap (λ b. b || is_rejected v s) lives ∙ not_rejected v s opened.0 opened.1 in
+    let told = after_window v s in
+    let stays = window_stays v s in
+    let same : (v.sending.una == told.sending.una) ≡ true = eq-eqb v.sending.una told.sending.una (sym stays.0) in
+    window_by v (Hears s now) (Counts (Duplicate (past v.sending.nxt v.sending.una)))
+    (event_is v s now hears
+    ∙ ap (congestion_event_of (before v s)) (only_window v s sound d)
+    ∙ ap (λ b. if b then Nothing else if is_moved (before v s) told then (if is_opening v.state then Begins else Counts (NewAck (length v.sending.held - length told.sending.held))) else repeated told) lives
+    ∙ ap (λ b. if not b then (if is_opening v.state then Begins else Counts (NewAck (length v.sending.held - length told.sending.held))) else repeated told) same
+    ∙ ap (λ b. if b then Counts (Duplicate (outstanding told.sending)) else Nothing) (is_repeated v s sound d)
+    ∙ ap₂ (λ n u. Counts (Duplicate (past n u))) stays.1 stays.0)
+  where
+    repeated : View → Signal
+    repeated w = if is_duplicate v s then Counts (Duplicate (outstanding w.sending)) else Nothing
+
+-- An expiry.
+
+pub counts_expiry : (v : View) (now : Moment) → has_come v.timers.retransmission now ≡ true → is_closed (after_event v (Ticks now)).state ≡ false
+    → (after_event v (Ticks now)).congestion ≡ after_expiry v.congestion (past v.sending.nxt v.sending.una)
+counts_expiry v now comes alive =
+    let event : Signal = if has_come v.timers.retransmission now then Counts (Expiry (outstanding v.sending)) else Nothing in
+    window_by v (Ticks now) (Counts (Expiry (outstanding v.sending)))
+    (ap₂ (λ a b. if a || b then Nothing else event) (goes_on_at_end (is_at_end v now) alive) (goes_on_given (is_at_end v now) (gives_up v now) alive) ∙ ap (λ b. if b then Counts (Expiry (outstanding v.sending)) else Nothing) comes)
+  where
+    acts : View
+    acts = if has_come (next_of v.timers) now then clocked false (after_timers v now) now else v
+
+    goes_on_at_end : (over : Bool) → is_closed (let w = if over then after_stop v else if gives_up v now then after_reset v (Some ETIMEDOUT) else acts in w.state) ≡ false → over ≡ false
+    goes_on_at_end true alive = cc
+    goes_on_at_end false alive = refl
+
+    goes_on_given : (over gives : Bool) → is_closed (let w = if over then after_stop v else if gives then after_reset v (Some ETIMEDOUT) else acts in w.state) ≡ false → gives ≡ false
+    goes_on_given true gives alive = cc
+    goes_on_given false true alive = cc
+    goes_on_given false false alive = refl
+
+-- Nothing else.
+
+abbrev Tells : View → Event → View → Type 0
+Tells v e w = ((s : Segment) × (now : Moment) × (e ≡ Hears s now) × (is_closed w.state ≡ false) × ((w.sending.una ≢ v.sending.una) ⊎ IsDuplicate v s))
+    ⊎ ((now : Moment) × (e ≡ Ticks now) × (has_come v.timers.retransmission now ≡ true))
+
+pub others_count_none : (v : View) (e : Event) → ((after_event v e).congestion ≡ v.congestion) ⊎ Tells v e (after_event v e)
+others_count_none v (Hears s now) =
+    let w = after_event v (Hears s now) in
+    let x = after_heard v s in
+    let G : Type 0 = (w.congestion ≡ v.congestion) ⊎ Tells v (Hears s now) w in
+    by G (is_closed v.state || is_rejected v s) (λ out. inl (window_by v (Hears s now) Nothing (ap (λ b. if b then Nothing else congestion_event_of (before v s) x) out)))
+    (λ hears.
+    let at = heard_is v s now hears in
+    let none : congestion_event_of (before v s) x ≡ Nothing → G = λ is. inl (window_by v (Hears s now) Nothing (event_is v s now hears ∙ is)) in
+    let tells : is_closed x.state ≡ false → (x.sending.una ≢ v.sending.una) ⊎ IsDuplicate v s → G = λ alive how.
+    inr (inl (s, now, refl, ap (λ (y : View). is_closed y.state) at ∙ alive, elim how [ inl moved ↦ inl (λ same. moved (sym (ap (λ (y : View). y.sending.una) at) ∙ same)) | inr twice ↦ inr twice ])) in
+    either Signal (λ g. (g ≡ Nothing → G) → G) (is_closed x.state) Nothing _ (λ closed how. how refl)
+    (λ alive. either Signal (λ g. (g ≡ Nothing → G) → G) (is_moved (before v s) x) _ _
+    (λ moved how. tells alive (inl (λ same. clash (v.sending.una == x.sending.una) (eq-eqb v.sending.una x.sending.una (sym same)) (not_true (v.sending.una == x.sending.una) moved))))
+    (λ stays. either Signal (λ g. (g ≡ Nothing → G) → G) (is_duplicate v s) (Counts (Duplicate (outstanding x.sending))) Nothing
+    (λ twice how. tells alive (inr (duplicate_tells v s twice))) (λ other how. how refl))) none)
+others_count_none v (Ticks now) =
+    by (((after_event v (Ticks now)).congestion ≡ v.congestion) ⊎ Tells v (Ticks now) (after_event v (Ticks now))) (has_come v.timers.retransmission now)
+    (λ comes. inr (inr (now, refl, comes)))
+    (λ early. inl (window_by v (Ticks now) Nothing (ap (λ b. if is_at_end v now || gives_up v now then Nothing else if b then Counts (Expiry (outstanding v.sending)) else Nothing) early ∙ either_way (is_at_end v now || gives_up v now))))
+  where
+    either_way : (b : Bool) → (if b then Nothing else Nothing) ≡ Nothing
+    either_way true = refl
+    either_way false = refl
+others_count_none v (Emits now) = inl (moves_by_events v (Emits now))
+others_count_none v (Sends octets now) = inl (moves_by_events v (Sends octets now))
+others_count_none v (Receives len) = inl (moves_by_events v (Receives len))
+others_count_none v (Shuts now) = inl (moves_by_events v (Shuts now))
+others_count_none v (Closes now) = inl (moves_by_events v (Closes now))
+others_count_none v (Aborts now) = inl (moves_by_events v (Aborts now))
+others_count_none v (Unreachable number) = inl (moves_by_events v (Unreachable number))
