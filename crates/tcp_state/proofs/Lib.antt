@@ -48,3 +48,4 @@ pub mod ResetErrors
 pub mod Waits
 pub mod PeerSizes
 pub mod Signals
+pub mod Timeouts

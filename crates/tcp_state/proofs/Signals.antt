@@ -21,7 +21,7 @@ use Rattle.tcp_state.specs.Congestion.{Signal, after_signal}
 use Rattle.tcp_state.specs.Congestion.Signal.{Begins, Counts, Nothing}
 use Rattle.retransmit.specs.Deadlines.{next_of}
 use Rattle.tcp_state.specs.declared.calls.Refusal.TheVariants.{ETIMEDOUT}
-use Rattle.tcp_state.specs.Timing.{gives_up, after_timers, clocked}
+use Rattle.tcp_state.specs.Timing.{gives_up, after_timers, clocked, after_tick}
 use Rattle.tcp_state.specs.Arrival.{owing_ack, may_delay, beyond_end, is_acceptable_to, is_read, is_read_on, is_of_fin, fin_acknowledged, after_new_ack as after_acknowledging, after_establishment, after_ack, after_window, is_receiving, after_text, after_fin, after_segment, brings_more, is_lost, after_lost, after_heard, is_rejected, before, is_duplicate, is_moved, congestion_event_of, timed_by}
 use Rattle.tcp_state.specs.Edges.{Event, Hears, Ticks, Emits, Sends, Receives, Shuts, Closes, Aborts, Unreachable, after_event, congestion_event_by}
 use Rattle.tcp_state.specs.Counted.{IsDuplicate}
@@ -178,7 +178,7 @@ window_stays v s =
 
 -- What a segment is that comes to the connection.
 
-heard_is : (v : View) (s : Segment) (now : Moment) → (is_closed v.state || is_rejected v s) ≡ false → after_event v (Hears s now) ≡ timed_by (before v s) (after_heard v s) now
+pub heard_is : (v : View) (s : Segment) (now : Moment) → (is_closed v.state || is_rejected v s) ≡ false → after_event v (Hears s now) ≡ timed_by (before v s) (after_heard v s) now
 heard_is v s now hears = ap (λ b. if b then v else timed_by (before v s) (after_heard v s) now) hears
 
 event_is : (v : View) (s : Segment) (now : Moment) → (is_closed v.state || is_rejected v s) ≡ false → congestion_event_by v (Hears s now) ≡ congestion_event_of (before v s) (after_heard v s)
@@ -187,11 +187,11 @@ event_is v s now hears = ap (λ b. if b then Nothing else congestion_event_of (b
 window_by : (v : View) (e : Event) (signal : Signal) → congestion_event_by v e ≡ signal → (after_event v e).congestion ≡ after_signal v.congestion signal (after_event v e).sending.smss (after_event v e).resend.syn_resent
 window_by v e signal is = moves_by_events v e ∙ ap (λ g. after_signal v.congestion g (after_event v e).sending.smss (after_event v e).resend.syn_resent) is
 
-moved_hears : (v : View) (s : Segment) (now : Moment) → (after_event v (Hears s now)).sending.una ≢ v.sending.una → (is_closed v.state || is_rejected v s) ≡ false
+pub moved_hears : (v : View) (s : Segment) (now : Moment) → (after_event v (Hears s now)).sending.una ≢ v.sending.una → (is_closed v.state || is_rejected v s) ≡ false
 moved_hears v s now moved = by ((is_closed v.state || is_rejected v s) ≡ false) (is_closed v.state || is_rejected v s)
     (λ out. absurd (moved (ap (λ b. let w = if b then v else timed_by (before v s) (after_heard v s) now in w.sending.una) out))) (λ hears. hears)
 
-is_moved_by : (v : View) (s : Segment) → (after_heard v s).sending.una ≢ v.sending.una → is_moved (before v s) (after_heard v s) ≡ true
+pub is_moved_by : (v : View) (s : Segment) → (after_heard v s).sending.una ≢ v.sending.una → is_moved (before v s) (after_heard v s) ≡ true
 is_moved_by v s moved = elim (eqb_tells v.sending.una (after_heard v s).sending.una) [ inl same ↦ absurd (moved (sym same.1)) | inr other ↦ ap not other.0 ]
 
 moved_event : (v : View) (s : Segment) (now : Moment) → (after_event v (Hears s now)).sending.una ≢ v.sending.una → is_closed (after_event v (Hears s now)).state ≡ false
@@ -273,24 +273,24 @@ counts_duplicate v s now sound d =
 
 -- An expiry.
 
+-- a tick that closes nothing comes before the end of a wait, and gives nothing up
+pub goes_on : (v : View) (now : Moment) → is_closed (after_tick v now).state ≡ false → (is_at_end v now ≡ false) × (gives_up v now ≡ false)
+goes_on v now alive = chosen (is_at_end v now) (gives_up v now) alive
+  where
+    acts : View
+    acts = if has_come (next_of v.timers) now then clocked false (after_timers v now) now else v
+
+    chosen : (over gives : Bool) → is_closed (let w = if over then after_stop v else if gives then after_reset v (Some ETIMEDOUT) else acts in w.state) ≡ false → (over ≡ false) × (gives ≡ false)
+    chosen true gives alive = cc
+    chosen false true alive = cc
+    chosen false false alive = (refl, refl)
+
 pub counts_expiry : (v : View) (now : Moment) → has_come v.timers.retransmission now ≡ true → is_closed (after_event v (Ticks now)).state ≡ false
     → (after_event v (Ticks now)).congestion ≡ after_expiry v.congestion (past v.sending.nxt v.sending.una)
 counts_expiry v now comes alive =
     let event : Signal = if has_come v.timers.retransmission now then Counts (Expiry (outstanding v.sending)) else Nothing in
     window_by v (Ticks now) (Counts (Expiry (outstanding v.sending)))
-    (ap₂ (λ a b. if a || b then Nothing else event) (goes_on_at_end (is_at_end v now) alive) (goes_on_given (is_at_end v now) (gives_up v now) alive) ∙ ap (λ b. if b then Counts (Expiry (outstanding v.sending)) else Nothing) comes)
-  where
-    acts : View
-    acts = if has_come (next_of v.timers) now then clocked false (after_timers v now) now else v
-
-    goes_on_at_end : (over : Bool) → is_closed (let w = if over then after_stop v else if gives_up v now then after_reset v (Some ETIMEDOUT) else acts in w.state) ≡ false → over ≡ false
-    goes_on_at_end true alive = cc
-    goes_on_at_end false alive = refl
-
-    goes_on_given : (over gives : Bool) → is_closed (let w = if over then after_stop v else if gives then after_reset v (Some ETIMEDOUT) else acts in w.state) ≡ false → gives ≡ false
-    goes_on_given true gives alive = cc
-    goes_on_given false true alive = cc
-    goes_on_given false false alive = refl
+    (ap₂ (λ a b. if a || b then Nothing else event) (goes_on v now alive).0 (goes_on v now alive).1 ∙ ap (λ b. if b then Counts (Expiry (outstanding v.sending)) else Nothing) comes)
 
 -- Nothing else.
 

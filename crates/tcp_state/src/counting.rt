@@ -1,6 +1,6 @@
 //! Laws of what a connection counts from, and of what it takes each event for.
 
-ghost use Rattle.std.specs.Prelude.{◌≡◌, ◌≢◌, ◌≤◌, ◌⊎◌, ◌↔◌, ℕ, min, max, true, false, length, Some, None, []};
+ghost use Rattle.std.specs.Prelude.{◌≡◌, ◌≢◌, ◌-◌, ◌*◌, ◌<◌, ◌≤◌, ◌&&◌, nat_lt, ◌⊎◌, ◌↔◌, ℕ, min, max, true, false, length, Some, None, []};
 ghost use Rattle.ipv4.specs.declared.addr.Endpoint.{Endpoint};
 ghost use Rattle.tcp_segment.specs.Options.{last_mss};
 ghost use Rattle.tcp_segment.specs.Segment.{Segment, smss_of};
@@ -8,6 +8,9 @@ ghost use Rattle.tcp_segment.specs.Wire.{past};
 ghost use Rattle.clock.specs.declared.moment.Moment.{Moment};
 ghost use Rattle.clock.specs.Moments.{after, has_come};
 ghost use Rattle.congestion.specs.Window.{initial_window, after_new_ack, after_duplicate, after_expiry};
+ghost use Rattle.retransmit.specs.Timeout.{estimate_after, after_sample};
+ghost use Rattle.tcp_halves.specs.Numbers.{is_before};
+ghost use Rattle.tcp_state.specs.declared.resend.Timed.{Timed};
 ghost use Rattle.tcp_state.specs.declared.connection.Fate.{Fate};
 ghost use Rattle.tcp_state.specs.declared.emission.Due.{Due};
 ghost use Rattle.tcp_state.specs.declared.state.State.{State};
@@ -65,4 +68,23 @@ pub fn the_congestion_window_counts_octets()
         ⊎ (((s : Segment) × (now : Moment) × (e ≡ Event.Hears s now) × (is_closed (after_event v e).state ≡ false) × (((after_event v e).sending.una ≢ v.sending.una) ⊎ IsDuplicate v s))
         ⊎ ((now : Moment) × (e ≡ Event.Ticks now) × (has_come v.timers.retransmission now ≡ true))) }
     ensures same { (v : View) (s : Segment) → IsSound v → (is_duplicate v s ≡ true) ↔ IsDuplicate v s }
+{}
+
+/// What moves the retransmission timeout (RFC 6298 sections 2, 3, 5.5 and 5.7). Where SND.UNA comes to the end of the segment that is measured, the time since that went out is a sample; where our SYN is acknowledged
+/// after an expiry, the timeout begins anew with three seconds; an expiry of the retransmission timer doubles it, up to a minute. Nothing else moves it.
+pub fn the_timeout_moves_by_events()
+    ensures sampled { (v : View) (s : Segment) (now : Moment) (timed : Timed) → v.resend.timed ≡ Some timed → (after_event v (Event.Hears s now)).sending.una ≢ v.sending.una
+        → is_closed (after_event v (Event.Hears s now)).state ≡ false → is_before (after_event v (Event.Hears s now)).sending.una timed.end.0 ≡ false
+        → ((after_event v (Event.Hears s now)).resend.timeout.estimate ≡ Some (estimate_after v.resend.timeout.estimate (min 60000 (now.0 - timed.since.0))))
+        × ((is_opening v.state && nat_lt 0 v.resend.expiries) ≡ false → (after_event v (Event.Hears s now)).resend.timeout ≡ after_sample v.resend.timeout (now.0 - timed.since.0)) }
+    ensures lost_syn { (v : View) (s : Segment) (now : Moment) → is_opening v.state ≡ true → 0 < v.resend.expiries → (after_event v (Event.Hears s now)).sending.una ≢ v.sending.una
+        → is_closed (after_event v (Event.Hears s now)).state ≡ false
+        → ((after_event v (Event.Hears s now)).resend.timeout.rto ≡ 3000)
+        × (v.resend.timed ≡ None → (after_event v (Event.Hears s now)).resend.timeout.estimate ≡ v.resend.timeout.estimate) }
+    ensures expired { (v : View) (now : Moment) → has_come v.timers.retransmission now ≡ true → is_closed (after_event v (Event.Ticks now)).state ≡ false
+        → (after_event v (Event.Ticks now)).resend.timeout ≡ record v.resend.timeout { rto = min 60000 (2 * v.resend.timeout.rto) } }
+    ensures others { (v : View) (e : Event) → ((after_event v e).resend.timeout ≡ v.resend.timeout)
+        ⊎ (((s : Segment) × (now : Moment) × (e ≡ Event.Hears s now) × ((after_event v e).sending.una ≢ v.sending.una)
+        × (((timed : Timed) × (v.resend.timed ≡ Some timed) × (is_before (after_event v e).sending.una timed.end.0 ≡ false)) ⊎ ((is_opening v.state ≡ true) × (0 < v.resend.expiries))))
+        ⊎ ((now : Moment) × (e ≡ Event.Ticks now) × (has_come v.timers.retransmission now ≡ true))) }
 {}
