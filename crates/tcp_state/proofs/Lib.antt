@@ -49,3 +49,4 @@ pub mod Waits
 pub mod PeerSizes
 pub mod Signals
 pub mod Timeouts
+pub mod StillStreams

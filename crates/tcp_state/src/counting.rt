@@ -88,3 +88,15 @@ pub fn the_timeout_moves_by_events()
         × (((timed : Timed) × (v.resend.timed ≡ Some timed) × (is_before (after_event v e).sending.una timed.end.0 ≡ false)) ⊎ ((is_opening v.state ≡ true) × (0 < v.resend.expiries))))
         ⊎ ((now : Moment) × (e ≡ Event.Ticks now) × (has_come v.timers.retransmission now ≡ true))) }
 {}
+
+/// The clock and what goes out leave the streams as they are: the octets that are held to be sent and those that can be read or are kept ahead of a gap, and whether either side is closed. A segment that goes out moves
+/// at most SND.NXT and the right edge of the window. Where a tick ends the connection, its caller reads on what can be read, and nothing is held to be sent any longer.
+pub fn ticks_leave_the_streams()
+    ensures ticks { (v : View) (now : Moment) → is_closed (after_event v (Event.Ticks now)).state ≡ false
+        → ((after_event v (Event.Ticks now)).sending ≡ v.sending) × ((after_event v (Event.Ticks now)).receiving ≡ v.receiving) × ((after_event v (Event.Ticks now)).state ≡ v.state) }
+    ensures ends { (v : View) (now : Moment) → is_closed (after_event v (Event.Ticks now)).state ≡ true → is_closed v.state ≡ false
+        → ((after_event v (Event.Ticks now)).receiving ≡ v.receiving) × ((after_event v (Event.Ticks now)).sending.held ≡ []) }
+    ensures goes_out { (v : View) (now : Moment)
+        → ((after_event v (Event.Emits now)).sending ≡ record v.sending { nxt = (after_event v (Event.Emits now)).sending.nxt })
+        × ((after_event v (Event.Emits now)).receiving ≡ record v.receiving { edge = (after_event v (Event.Emits now)).receiving.edge }) × ((after_event v (Event.Emits now)).state ≡ v.state) }
+{}
