@@ -50,3 +50,5 @@ pub mod PeerSizes
 pub mod Signals
 pub mod Timeouts
 pub mod StillStreams
+pub mod Measuring
+pub mod LostSyns

@@ -29,7 +29,7 @@ use Rattle.tcp_state.proofs.Signals.{heard_is, moved_hears, is_moved_by, goes_on
 -- A segment.
 
 -- what is measured stays so, where the segment closes nothing
-timed_still : (v : View) (s : Segment) → is_closed (after_heard v s).state ≡ false → (after_heard v s).resend.timed ≡ v.resend.timed
+pub timed_still : (v : View) (s : Segment) → is_closed (after_heard v s).state ≡ false → (after_heard v s).resend.timed ≡ v.resend.timed
 timed_still v s =
     let P : View → Type 0 = λ w. is_closed w.state ≡ false → w.resend.timed ≡ v.resend.timed in
     let told = after_window (after_ack v s.acknowledgement) s in

@@ -1,9 +1,13 @@
 -- From when a connection counts its waits, and what it takes an event for (RFC 9293 sections 3.6.1 and 3.10.7.4, RFC 5681 section 2, RFC 6298).
-use Rattle.std.specs.Prelude.{◌≡◌, ◌<◌, ◌⊎◌, true, false, []}
+use Rattle.std.specs.Prelude.{◌≡◌, ◌<◌, ◌≤◌, ◌⊎◌, true, false, []}
 use Rattle.tcp_segment.specs.Segment.{Segment, span_of}
 use Rattle.tcp_segment.specs.Wire.{wire, past}
+use Rattle.tcp_state.specs.declared.emission.Due.{Due}
+use Rattle.tcp_state.specs.declared.emission.Due.TheVariants.{Syn, Text, Probe}
+use Rattle.tcp_state.specs.declared.emission.Stretch.{Stretch}
 use Rattle.tcp_state.specs.declared.state.State.{State}
 use Rattle.tcp_state.specs.declared.state.State.TheVariants.{SynSent, FinWait2, TimeWait}
+use Rattle.tcp_halves.specs.Stream.{outstanding}
 use Rattle.tcp_state.specs.View.{View, is_opening}
 use Rattle.tcp_state.specs.Arrival.{is_acceptable_to}
 
@@ -36,3 +40,11 @@ pub record IsDuplicate (v : View) (s : Segment) : Type 0 where
   pub no_syn : s.flags.syn ≡ false
   pub no_fin : s.flags.fin ≡ false
   pub no_rst : s.flags.rst ≡ false
+
+-- numbers go out for the first time: our SYN, or a stretch past all that is outstanding
+abbrev pub BringsNew : View → Due → Type 0
+BringsNew v due = ((due ≡ Syn) × (outstanding v.sending ≡ 0)) ⊎ ((stretch : Stretch) × (due ≡ Text stretch) × (outstanding v.sending ≤ stretch.offset))
+
+-- .. or once more, and a probe counts as such
+abbrev pub BringsAgain : View → Due → Type 0
+BringsAgain v due = (due ≡ Probe) ⊎ (((due ≡ Syn) × (0 < outstanding v.sending)) ⊎ ((stretch : Stretch) × (due ≡ Text stretch) × (stretch.offset < outstanding v.sending)))

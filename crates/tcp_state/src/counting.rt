@@ -10,16 +10,17 @@ ghost use Rattle.clock.specs.Moments.{after, has_come};
 ghost use Rattle.congestion.specs.Window.{initial_window, after_new_ack, after_duplicate, after_expiry};
 ghost use Rattle.retransmit.specs.Timeout.{estimate_after, after_sample};
 ghost use Rattle.tcp_halves.specs.Numbers.{is_before};
+ghost use Rattle.tcp_halves.specs.Stream.{outstanding};
 ghost use Rattle.tcp_state.specs.declared.resend.Timed.{Timed};
 ghost use Rattle.tcp_state.specs.declared.connection.Fate.{Fate};
 ghost use Rattle.tcp_state.specs.declared.emission.Due.{Due};
 ghost use Rattle.tcp_state.specs.declared.state.State.{State};
-ghost use Rattle.tcp_state.specs.View.{View, IsSound, is_opening, is_closed};
+ghost use Rattle.tcp_state.specs.View.{View, IsSound, is_opening, is_closed, opened_actively};
 ghost use Rattle.tcp_state.specs.Timing.{KeepsTime};
 ghost use Rattle.tcp_state.specs.Arrival.{opened_passively, is_duplicate};
 ghost use Rattle.tcp_state.specs.Due.{first_due, octets_of};
 ghost use Rattle.tcp_state.specs.Edges.{Event, after_event, fate_by, moment_of};
-ghost use Rattle.tcp_state.specs.Counted.{WaitsForEnd, BringsFinAgain, BringsSyn, IsDuplicate};
+ghost use Rattle.tcp_state.specs.Counted.{WaitsForEnd, BringsFinAgain, BringsSyn, IsDuplicate, BringsNew, BringsAgain};
 
 /// The wait of a connection for its end is counted from the event that leads to TIME-WAIT or to FIN-WAIT-2 (RFC 9293 sections 3.4.2, 3.6.1 and 3.10.7.4). In TIME-WAIT a segment that brings the peer's FIN again,
 /// and nothing else, begins it anew; in FIN-WAIT-2 nothing but the `close` of its caller does, so that it counts from the later of the two. A tick ends it exactly where it has lasted 240,000 ms in TIME-WAIT,
@@ -99,4 +100,26 @@ pub fn ticks_leave_the_streams()
     ensures goes_out { (v : View) (now : Moment)
         → ((after_event v (Event.Emits now)).sending ≡ record v.sending { nxt = (after_event v (Event.Emits now)).sending.nxt })
         × ((after_event v (Event.Emits now)).receiving ≡ record v.receiving { edge = (after_event v (Event.Emits now)).receiving.edge }) × ((after_event v (Event.Emits now)).state ≡ v.state) }
+{}
+
+/// One round trip after the other is measured (RFC 6298 section 3): where none is, that of the next numbers that go out for the first time, from the moment at which they do to the acknowledgement of all of
+/// them. It is measured until SND.UNA comes to their end, unless something goes out again before, or a probe does, or the connection ends.
+pub fn new_numbers_are_measured()
+    ensures begins { (v : View) (due : Due) (now : Moment) → first_due v ≡ Some due → BringsNew v due → v.resend.timed ≡ None
+        → (timed : Timed) × ((after_event v (Event.Emits now)).resend.timed ≡ Some timed) × (timed.end.0 ≡ (after_event v (Event.Emits now)).sending.nxt) × (timed.since ≡ now) }
+    ensures goes_on { (v : View) (e : Event) (timed : Timed) → IsSound v → v.resend.timed ≡ Some timed → ((after_event v e).resend.timed ≡ Some timed)
+        ⊎ (((after_event v e).resend.timed ≡ None) × ((is_closed (after_event v e).state ≡ true)
+        ⊎ (((s : Segment) × (now : Moment) × (e ≡ Event.Hears s now) × ((after_event v e).sending.una ≢ v.sending.una) × (is_before (after_event v e).sending.una timed.end.0 ≡ false))
+        ⊎ ((now : Moment) × (due : Due) × (e ≡ Event.Emits now) × (first_due v ≡ Some due) × BringsAgain v due)))) }
+{}
+
+/// A connection remembers that its SYN was lost, by which its congestion window begins with one segment (RFC 5681 section 3.1): from the going out of a SYN or SYN-ACK again after an expiry, and then for ever. One
+/// that goes out again in answer to the peer's was not lost, and nothing else counts so.
+pub fn lost_syns_are_remembered()
+    ensures opened { (local peer : Endpoint) (isn : ℕ) → (opened_actively local peer isn).resend.syn_resent ≡ false }
+    ensures accepted { (local peer : Endpoint) (isn : ℕ) (syn : Segment) → (opened_passively local peer isn syn).resend.syn_resent ≡ false }
+    ensures resent { (v : View) (now : Moment) → first_due v ≡ Some Due.Syn → 0 < outstanding v.sending → 0 < v.resend.expiries → (after_event v (Event.Emits now)).resend.syn_resent ≡ true }
+    ensures stays { (v : View) (e : Event) → v.resend.syn_resent ≡ true → (after_event v e).resend.syn_resent ≡ true }
+    ensures others { (v : View) (e : Event) → v.resend.syn_resent ≡ false → (after_event v e).resend.syn_resent ≡ true
+        → (now : Moment) × (e ≡ Event.Emits now) × (first_due v ≡ Some Due.Syn) × (0 < outstanding v.sending) × (0 < v.resend.expiries) }
 {}
