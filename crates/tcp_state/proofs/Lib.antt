@@ -45,6 +45,8 @@ pub mod Clocks
 pub mod Expiries
 pub mod Saying
 pub mod ResetErrors
+pub mod GoingOut
+pub mod WrongAcks
 pub mod Waits
 pub mod PeerSizes
 pub mod Signals

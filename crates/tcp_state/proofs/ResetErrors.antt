@@ -132,7 +132,7 @@ untold_where_shut v s now shut r = elim shut [
 
 -- What a listener opened is taken out.
 
-taken_out : (closed lost over refused opening : Bool) → closed ≡ false → lost ≡ false → refused ≡ false → opening ≡ true
+pub taken_out : (closed lost over refused opening : Bool) → closed ≡ false → lost ≡ false → refused ≡ false → opening ≡ true
     → is_removed (if closed || lost then Stays else if over then Removed else if refused then Rejected else if opening then Removed else Stays) ≡ true
 taken_out false false true refused opening a b c d = refl
 taken_out false false false false true a b c d = refl
@@ -154,7 +154,7 @@ back_to_listen v s now received passive r =
 abbrev Acts : View → Segment → Type 0
 Acts v s = ((v.state ≡ SynSent) × IsResetOfSyn v s) ⊎ (((v.state ≡ SynReceived) ⊎ MayLose v.state) × IsResetAtNext v s)
 
-is_sent : (t : State) → is_syn_sent t ≡ true → t ≡ SynSent
+pub is_sent : (t : State) → is_syn_sent t ≡ true → t ≡ SynSent
 is_sent SynSent e = refl
 is_sent _ e = cc
 

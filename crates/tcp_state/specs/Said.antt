@@ -10,7 +10,7 @@ use Rattle.tcp_state.specs.declared.emission.Due.TheVariants.{Rst, Syn, Text, Pr
 use Rattle.tcp_state.specs.declared.emission.Stretch.{Stretch}
 use Rattle.tcp_state.specs.declared.calls.Refusal.{Refusal}
 use Rattle.tcp_state.specs.declared.state.State.{State}
-use Rattle.tcp_state.specs.declared.state.State.TheVariants.{Closed, SynSent, Established, FinWait1, FinWait2, CloseWait, Closing, LastAck, TimeWait}
+use Rattle.tcp_state.specs.declared.state.State.TheVariants.{Closed, SynSent, SynReceived, Established, FinWait1, FinWait2, CloseWait, Closing, LastAck, TimeWait}
 use Rattle.tcp_state.specs.View.{View}
 use Rattle.tcp_state.specs.Calls.{send_answer, recv_answer, shutdown_refusal}
 use Rattle.tcp_state.specs.Arrival.{is_acceptable_to}
@@ -84,3 +84,13 @@ MayLose state = (state ≡ Established) ⊎ ((state ≡ FinWait1) ⊎ ((state �
 -- both sides are closed
 abbrev pub AreBothShut : State → Type 0
 AreBothShut state = (state ≡ Closing) ⊎ ((state ≡ LastAck) ⊎ (state ≡ TimeWait))
+
+-- an acknowledgement of nothing that is outstanding
+pub record IsWrongAck (v : View) (s : Segment) : Type 0 where
+  pub no_rst : s.flags.rst ≡ false
+  pub ack : s.flags.ack ≡ true
+  pub wrong : (past s.acknowledgement v.sending.una ≡ 0) ⊎ (past v.sending.nxt v.sending.una < past s.acknowledgement v.sending.una)
+
+-- where it is answered by a reset: in SYN-SENT, and in SYN-RECEIVED where the segment is acceptable and no SYN (sections 3.10.7.3, first, and 3.10.7.4, fifth)
+abbrev pub MayReject : View → Segment → Type 0
+MayReject v s = (v.state ≡ SynSent) ⊎ ((v.state ≡ SynReceived) × (is_acceptable_to v s ≡ true) × (s.flags.syn ≡ false))

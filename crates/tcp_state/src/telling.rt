@@ -1,18 +1,20 @@
-//! Laws of what a connection says: to its peer by segments, and to its caller by errors.
+//! Laws of what a connection says, to its peer by segments and to its caller by errors, and of what it sends.
 
-ghost use Rattle.std.specs.Prelude.{◌≡◌, ◌≢◌, ℕ, None, ◌+◌, ◌<◌, ◌≤◌, ◌^◌, ◌⊎◌, ◌||◌, nat_le, true, false, length, []};
+ghost use Rattle.std.specs.Prelude.{◌≡◌, ◌↔◌, Some, min, ◌*◌, ◌≢◌, ℕ, None, ◌+◌, ◌<◌, ◌≤◌, ◌^◌, ◌⊎◌, ◌||◌, nat_le, true, false, length, []};
 ghost use Rattle.tcp_segment.specs.Segment.{Segment, Spells};
 ghost use Rattle.tcp_segment.specs.Wire.{wire, past};
 ghost use Rattle.clock.specs.declared.moment.Moment.{Moment};
+ghost use Rattle.tcp_state.specs.declared.connection.Fate.{Fate};
 ghost use Rattle.tcp_state.specs.declared.calls.Refusal.{Refusal};
 ghost use Rattle.tcp_state.specs.declared.state.State.{State};
 ghost use Rattle.tcp_state.specs.declared.emission.Due.{Due};
 ghost use Rattle.tcp_state.specs.declared.emission.Stretch.{Stretch};
 ghost use Rattle.tcp_halves.specs.Stream.{outstanding};
-ghost use Rattle.tcp_state.specs.View.{View, IsSound, is_opening};
-ghost use Rattle.tcp_state.specs.Due.{MayGoOut, segment_octets, after_emitted};
+ghost use Rattle.tcp_state.specs.View.{View, IsSound, is_opening, awaits_fin_ack};
+ghost use Rattle.tcp_state.specs.Due.{MayGoOut, first_due, segment_octets, after_emitted};
+ghost use Rattle.tcp_state.specs.Arrival.{is_acceptable_to, fate};
 ghost use Rattle.tcp_state.specs.Edges.{Event, after_event, state_after};
-ghost use Rattle.tcp_state.specs.Said.{segment_of, HasFlags, IsSo, IsResetAtNext, IsResetOfSyn, IsClosedBy, MayLose, AreBothShut};
+ghost use Rattle.tcp_state.specs.Said.{segment_of, HasFlags, IsSo, IsResetAtNext, IsResetOfSyn, IsClosedBy, MayLose, AreBothShut, IsWrongAck, MayReject};
 
 /// What each segment that goes out says is so of the connection that sends it (RFC 9293 sections 3.1, 3.4, 3.8.6 and 3.10.7.4): its octets are those that are held for their numbers; it acknowledges
 /// RCV.NXT, and the window that it tells ends at the right edge that the connection keeps from then on. Each control bit stands exactly where it is due. A stretch has its place, its octets and its FIN, a
@@ -43,4 +45,32 @@ pub fn resets_are_told()
         → ((after_event v (Event.Hears s now)).state ≡ State.Closed) × ((after_event v (Event.Hears s now)).pending_error ≡ None) }
     ensures others { (v : View) (s : Segment) (now : Moment) → IsSound v → s.acknowledgement < 2 ^ 32 → (after_event v (Event.Hears s now)).pending_error ≢ v.pending_error
         → ((v.state ≡ State.SynSent) × IsResetOfSyn v s) ⊎ (((v.state ≡ State.SynReceived) ⊎ MayLose v.state) × IsResetAtNext v s) }
+{}
+
+/// While a connection opens, an acknowledgement of nothing that is outstanding is rejected, and answered by a reset: in SYN-SENT always, in SYN-RECEIVED where the segment is acceptable and no SYN; and no other segment is
+/// (RFC 9293 sections 3.10.7.3, first, and 3.10.7.4, fifth).
+pub fn wrong_acknowledgements_are_rejected()
+    ensures { (v : View) (s : Segment) → (fate v s ≡ Fate.Rejected) ↔ (IsWrongAck v s × MayReject v s) }
+{}
+
+/// A SYN in the window ends what a listener opened and is not established: that goes back to LISTEN (RFC 9293 section 3.10.7.4, fourth).
+pub fn second_syns_go_back_to_listen()
+    ensures { (v : View) (s : Segment) (now : Moment) → v.state ≡ State.SynReceived → v.passive ≡ true → is_acceptable_to v s ≡ true → s.flags.syn ≡ true → s.flags.rst ≡ false
+        → state_after v (Event.Hears s now) ≡ State.Listen }
+{}
+
+/// What is new goes out as soon as both windows take it, where nothing goes out again (RFC 9293 sections 3.8.6.1 and 3.8.6.2.1, RFC 1122 section 4.2.3.4): a full segment, whatever is outstanding; where nothing is, all that is
+/// held, or what takes half of the largest window that the peer ever advertised; behind all octets the FIN, which wants one number of the peer's window; and into a closed window the probe
+/// for which its timer has come.
+pub fn what_is_new_goes_out()
+    ensures full { (v : View) → IsSound v → v.resend.mark ≡ None → outstanding v.sending + v.sending.smss ≤ length v.sending.held → outstanding v.sending + v.sending.smss ≤ v.sending.window
+        → outstanding v.sending + v.sending.smss ≤ v.congestion.cwnd → first_due v ≡ Some (Due.Text (record { offset = outstanding v.sending; count = v.sending.smss; fin = false })) }
+    ensures all { (v : View) → IsSound v → v.resend.mark ≡ None → v.sending.nxt ≡ v.sending.una → 0 < length v.sending.held → length v.sending.held ≤ v.sending.window → length v.sending.held ≤ v.congestion.cwnd
+        → first_due v ≡ Some (Due.Text (record { offset = 0; count = min (length v.sending.held) v.sending.smss; fin = false })) }
+    ensures half { (v : View) → IsSound v → v.resend.mark ≡ None → v.sending.nxt ≡ v.sending.una
+        → (let n = min (length v.sending.held) (min v.sending.window v.congestion.cwnd) in 0 < n → v.sending.max_window ≤ 2 * n
+        → first_due v ≡ Some (Due.Text (record { offset = 0; count = min n v.sending.smss; fin = false }))) }
+    ensures fin { (v : View) → IsSound v → v.resend.mark ≡ None → awaits_fin_ack v.state ≡ true → outstanding v.sending ≡ length v.sending.held → outstanding v.sending < v.sending.window
+        → first_due v ≡ Some (Due.Text (record { offset = length v.sending.held; count = 0; fin = true })) }
+    ensures probe { (v : View) → IsSound v → v.resend.mark ≡ None → v.resend.owes_probe ≡ true → v.sending.window ≡ 0 → (0 < length v.sending.held) ⊎ (awaits_fin_ack v.state ≡ true) → first_due v ≡ Some Due.Probe }
 {}

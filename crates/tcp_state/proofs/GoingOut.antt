@@ -1,0 +1,125 @@
+-- What is new goes out, where the windows take it.
+use Rattle.std.proofs.Common.{◌≡◌, ℕ, ◌+◌, ◌*◌, ◌<◌, ◌≤◌, ◌==◌, ◌&&◌, ◌||◌, ◌⊎◌, not, nat_lt, nat_le, min, if◌then◌else◌, true, false, length, Some, None, is_some, inl, inr, arith, refl, ◌∙◌, ap, ap₂}
+use Rattle.std.specs.Option.{option_or}
+use Rattle.std.proofs.lemmas.Bool.{eq-eqb, lt-ltb, le-ltb, le-leb}
+use Rattle.std.proofs.lemmas.Bool.Decides.{eqb_tells}
+use Rattle.tcp_state.specs.declared.emission.Due.TheVariants.{Rst, Syn, Text, Probe}
+use Rattle.tcp_state.specs.declared.state.State.{State}
+use Rattle.tcp_state.specs.declared.state.State.TheVariants.{Closed, SynSent, SynReceived, FinWait1, Closing, LastAck}
+use Rattle.tcp_halves.specs.Stream.{outstanding}
+use Rattle.tcp_halves.specs.Windows.{unsent, usable, sendable, is_worth_sending}
+use Rattle.tcp_halves.proofs.Choices.{both, and_false, or_left, or_right, unowed}
+use Rattle.tcp_state.specs.View.{View, IsSound, is_opening, is_closed, is_write_finished, awaits_fin_ack}
+use Rattle.tcp_state.specs.Timing.{probes, has_unacknowledged}
+use Rattle.tcp_state.specs.Due.{first_due, again_from, new_due, ack_due, sends_new, new_octets, sends_fin, fin_alone}
+
+-- a connection goes on, and is open
+record IsOpen (state : State) : Type 0 where
+  opened : is_opening state ≡ false
+  lives : is_closed state ≡ false
+
+open_with : (t : State) (held : ℕ) → 0 < held → held ≤ (if is_opening t || is_write_finished t then 0 else 65535) → IsOpen t
+open_with SynSent held some few = absurd (omega (arith, some, few))
+open_with SynReceived held some few = absurd (omega (arith, some, few))
+open_with Closed held some few = absurd (omega (arith, some, few))
+open_with _ held some few = record { opened = refl; lives = refl }
+
+open_until : (t : State) → awaits_fin_ack t ≡ true → IsOpen t
+open_until FinWait1 e = record { opened = refl; lives = refl }
+open_until Closing e = record { opened = refl; lives = refl }
+open_until LastAck e = record { opened = refl; lives = refl }
+open_until _ e = cc
+
+-- without a resend mark what is new is due first
+new_first : (v : View) → IsSound v → IsOpen v.state → v.resend.mark ≡ None → first_due v ≡ new_due v
+new_first v sound open_yet unmarked =
+    ap (λ b. if b then Some Rst else if is_opening v.state then (if (outstanding v.sending == 0) || is_some v.resend.mark then Some Syn else ack_due v) else option_or (again_from v v.resend.mark) (new_due v))
+    (unowed v.owes_reset (is_closed v.state) v.released open_yet.lives sound.reset)
+    ∙ ap (λ b. if b then (if (outstanding v.sending == 0) || is_some v.resend.mark then Some Syn else ack_due v) else option_or (again_from v v.resend.mark) (new_due v)) open_yet.opened
+    ∙ ap (λ m. option_or (again_from v m) (new_due v)) unmarked
+
+-- New octets.
+
+octets_due : (v : View) (count : ℕ) → sends_new v ≡ true → (new_octets v).count ≡ count → new_due v ≡ Some (Text (record { offset = outstanding v.sending; count = count; fin = false }))
+octets_due v count sends is =
+    ap (λ b. if b then Some (Text (new_octets v)) else if sends_fin v then Some (Text (fin_alone v)) else if v.resend.owes_probe && probes v then Some Probe else ack_due v) sends
+    ∙ ap (λ n. Some (Text (record { offset = outstanding v.sending; count = n; fin = false }))) is
+
+pub full_goes_out : (v : View) → IsSound v → v.resend.mark ≡ None → outstanding v.sending + v.sending.smss ≤ length v.sending.held → outstanding v.sending + v.sending.smss ≤ v.sending.window
+    → outstanding v.sending + v.sending.smss ≤ v.congestion.cwnd → first_due v ≡ Some (Text (record { offset = outstanding v.sending; count = v.sending.smss; fin = false }))
+full_goes_out v sound unmarked held window cwnd =
+    let n = sendable v.sending v.congestion.cwnd in
+    let least = sound.segment_least in
+    let full : v.sending.smss ≤ n = omega (arith, held, window, cwnd) in
+    let worth : is_worth_sending v.sending v.congestion.cwnd v.resend.overridden ≡ true =
+    or_left (nat_le v.sending.smss n || ((outstanding v.sending == 0) && (nat_le (unsent v.sending) (usable v.sending v.congestion.cwnd) || nat_le v.sending.max_window (2 * n)))) v.resend.overridden
+    (or_left (nat_le v.sending.smss n) _ (le-leb v.sending.smss n full)) in
+    let sends : sends_new v ≡ true = both (nat_lt 0 n) _ (lt-ltb 0 n (omega (arith, full, least))) worth in
+    new_first v sound (open_with v.state (length v.sending.held) (omega (arith, held, least)) sound.held) unmarked ∙ octets_due v v.sending.smss sends (omega (arith, full))
+
+-- nothing is outstanding: what may go out is all that is held, or half of the largest window
+idle : (v : View) → IsSound v → v.resend.mark ≡ None → v.sending.nxt ≡ v.sending.una → 0 < sendable v.sending v.congestion.cwnd
+    → (nat_le (unsent v.sending) (usable v.sending v.congestion.cwnd) || nat_le v.sending.max_window (2 * sendable v.sending v.congestion.cwnd)) ≡ true
+    → first_due v ≡ Some (Text (record { offset = 0; count = min (sendable v.sending v.congestion.cwnd) v.sending.smss; fin = false }))
+idle v sound unmarked none some enough =
+    let n = sendable v.sending v.congestion.cwnd in
+    let out : outstanding v.sending ≡ 0 = omega (arith, none, sound.una) in
+    let worth : is_worth_sending v.sending v.congestion.cwnd v.resend.overridden ≡ true =
+    or_left (nat_le v.sending.smss n || ((outstanding v.sending == 0) && (nat_le (unsent v.sending) (usable v.sending v.congestion.cwnd) || nat_le v.sending.max_window (2 * n)))) v.resend.overridden
+    (or_right (nat_le v.sending.smss n) _ (both (outstanding v.sending == 0) _ (eq-eqb (outstanding v.sending) 0 out) enough)) in
+    let sends : sends_new v ≡ true = both (nat_lt 0 n) _ (lt-ltb 0 n some) worth in
+    new_first v sound (open_with v.state (length v.sending.held) (omega (arith, some)) sound.held) unmarked
+    ∙ octets_due v (min n v.sending.smss) sends refl
+    ∙ ap (λ o. Some (Text (record { offset = o; count = min n v.sending.smss; fin = false }))) out
+
+pub all_goes_out : (v : View) → IsSound v → v.resend.mark ≡ None → v.sending.nxt ≡ v.sending.una → 0 < length v.sending.held → length v.sending.held ≤ v.sending.window → length v.sending.held ≤ v.congestion.cwnd
+    → first_due v ≡ Some (Text (record { offset = 0; count = min (length v.sending.held) v.sending.smss; fin = false }))
+all_goes_out v sound unmarked none some window cwnd =
+    let n = sendable v.sending v.congestion.cwnd in
+    let out : outstanding v.sending ≡ 0 = omega (arith, none, sound.una) in
+    let all : n ≡ length v.sending.held = omega (arith, out, window, cwnd) in
+    idle v sound unmarked none (omega (arith, all, some)) (or_left (nat_le (unsent v.sending) (usable v.sending v.congestion.cwnd)) _ (le-leb (unsent v.sending) (usable v.sending v.congestion.cwnd) (omega (arith, out, window, cwnd))))
+    ∙ ap (λ m. Some (Text (record { offset = 0; count = min m v.sending.smss; fin = false }))) all
+
+pub half_goes_out : (v : View) → IsSound v → v.resend.mark ≡ None → v.sending.nxt ≡ v.sending.una
+    → (let n = min (length v.sending.held) (min v.sending.window v.congestion.cwnd) in 0 < n → v.sending.max_window ≤ 2 * n → first_due v ≡ Some (Text (record { offset = 0; count = min n v.sending.smss; fin = false })))
+half_goes_out v sound unmarked none some half =
+    let n = sendable v.sending v.congestion.cwnd in
+    let m = min (length v.sending.held) (min v.sending.window v.congestion.cwnd) in
+    let out : outstanding v.sending ≡ 0 = omega (arith, none, sound.una) in
+    let all : n ≡ m = omega (arith, out) in
+    idle v sound unmarked none (omega (arith, all, some)) (or_right (nat_le (unsent v.sending) (usable v.sending v.congestion.cwnd)) _ (le-leb v.sending.max_window (2 * n) (omega (arith, all, half))))
+    ∙ ap (λ k. Some (Text (record { offset = 0; count = min k v.sending.smss; fin = false }))) all
+
+-- The FIN.
+
+pub fin_goes_out : (v : View) → IsSound v → v.resend.mark ≡ None → awaits_fin_ack v.state ≡ true → outstanding v.sending ≡ length v.sending.held → outstanding v.sending < v.sending.window
+    → first_due v ≡ Some (Text (record { offset = length v.sending.held; count = 0; fin = true }))
+fin_goes_out v sound unmarked waits all room =
+    let none : sendable v.sending v.congestion.cwnd ≡ 0 = omega (arith, all) in
+    let none_new : sends_new v ≡ false = ap (λ n. nat_lt 0 n && is_worth_sending v.sending v.congestion.cwnd v.resend.overridden) none in
+    let one = awaits_fin_ack v.state && (outstanding v.sending == length v.sending.held) in
+    let sends : sends_fin v ≡ true = both one (nat_lt (outstanding v.sending) v.sending.window)
+    (both (awaits_fin_ack v.state) (outstanding v.sending == length v.sending.held) waits (eq-eqb (outstanding v.sending) (length v.sending.held) all)) (lt-ltb (outstanding v.sending) v.sending.window room) in
+    new_first v sound (open_until v.state waits) unmarked
+    ∙ ap₂ (λ a b. if a then Some (Text (new_octets v)) else if b then Some (Text (fin_alone v)) else if v.resend.owes_probe && probes v then Some Probe else ack_due v) none_new sends
+    ∙ ap (λ n. Some (Text (record { offset = n; count = 0; fin = true }))) all
+
+-- A probe.
+
+pub probe_goes_out : (v : View) → IsSound v → v.resend.mark ≡ None → v.resend.owes_probe ≡ true → v.sending.window ≡ 0 → (0 < length v.sending.held) ⊎ (awaits_fin_ack v.state ≡ true) → first_due v ≡ Some Probe
+probe_goes_out v sound unmarked owes shut has =
+    let open_yet : IsOpen v.state = elim has [ inl some ↦ open_with v.state (length v.sending.held) some sound.held | inr waits ↦ open_until v.state waits ] in
+    let none : sendable v.sending v.congestion.cwnd ≡ 0 = omega (arith, shut) in
+    let none_new : sends_new v ≡ false = ap (λ n. nat_lt 0 n && is_worth_sending v.sending v.congestion.cwnd v.resend.overridden) none in
+    let one = awaits_fin_ack v.state && (outstanding v.sending == length v.sending.held) in
+    let no_fin : sends_fin v ≡ false = ap (λ b. one && b) (le-ltb (outstanding v.sending) v.sending.window (omega (arith, shut))) ∙ and_false one in
+    let unacknowledged : has_unacknowledged v ≡ true = elim has [
+      | inl some ↦ or_left (not (length v.sending.held == 0)) (awaits_fin_ack v.state) (elim (eqb_tells (length v.sending.held) 0) [ inl t ↦ let zero = t.1 in absurd (omega (arith, some, zero)) | inr t ↦ ap not t.0 ])
+      | inr waits ↦ or_right (not (length v.sending.held == 0)) (awaits_fin_ack v.state) waits
+    ] in
+    let goes : probes v ≡ true = both (not (is_opening v.state) && (v.sending.window == 0)) (has_unacknowledged v)
+    (both (not (is_opening v.state)) (v.sending.window == 0) (ap not open_yet.opened) (eq-eqb v.sending.window 0 shut)) unacknowledged in
+    new_first v sound open_yet unmarked
+    ∙ ap₂ (λ a b. if a then Some (Text (new_octets v)) else if b then Some (Text (fin_alone v)) else if v.resend.owes_probe && probes v then Some Probe else ack_due v) none_new no_fin
+    ∙ ap₂ (λ a b. if a && b then Some Probe else ack_due v) owes goes
