@@ -1,4 +1,4 @@
-//! Laws of what a connection counts from, and of what it takes each event for.
+//! Laws of what a connection counts from, of what it takes each event for, and of what the clock leaves.
 
 ghost use Rattle.std.specs.Prelude.{◌≡◌, ◌≢◌, ◌-◌, ◌*◌, ◌<◌, ◌≤◌, ◌&&◌, nat_lt, ◌⊎◌, ◌↔◌, ℕ, min, max, true, false, length, Some, None, []};
 ghost use Rattle.ipv4.specs.declared.addr.Endpoint.{Endpoint};
