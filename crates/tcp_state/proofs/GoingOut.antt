@@ -1,17 +1,19 @@
--- What is new goes out, where the windows take it.
+-- What is new goes out, where the windows take it, and what was lost.
 use Rattle.std.proofs.Common.{◌≡◌, ℕ, ◌+◌, ◌*◌, ◌<◌, ◌≤◌, ◌==◌, ◌&&◌, ◌||◌, ◌⊎◌, not, nat_lt, nat_le, min, if◌then◌else◌, true, false, length, Some, None, is_some, inl, inr, arith, refl, ◌∙◌, ap, ap₂}
 use Rattle.std.specs.Option.{option_or}
 use Rattle.std.proofs.lemmas.Bool.{eq-eqb, lt-ltb, le-ltb, le-leb}
 use Rattle.std.proofs.lemmas.Bool.Decides.{eqb_tells}
 use Rattle.tcp_state.specs.declared.emission.Due.TheVariants.{Rst, Syn, Text, Probe}
+use Rattle.tcp_state.specs.declared.emission.Stretch.{Stretch}
 use Rattle.tcp_state.specs.declared.state.State.{State}
 use Rattle.tcp_state.specs.declared.state.State.TheVariants.{Closed, SynSent, SynReceived, FinWait1, Closing, LastAck}
 use Rattle.tcp_halves.specs.Stream.{outstanding}
-use Rattle.tcp_halves.specs.Windows.{unsent, usable, sendable, is_worth_sending}
+use Rattle.tcp_halves.specs.Windows.{open_window, unsent, usable, sendable, is_worth_sending}
 use Rattle.tcp_halves.proofs.Choices.{both, and_false, or_left, or_right, unowed}
 use Rattle.tcp_state.specs.View.{View, IsSound, is_opening, is_closed, is_write_finished, awaits_fin_ack}
 use Rattle.tcp_state.specs.Timing.{probes, has_unacknowledged}
-use Rattle.tcp_state.specs.Due.{first_due, again_from, new_due, ack_due, sends_new, new_octets, sends_fin, fin_alone}
+use Rattle.tcp_state.specs.Due.{first_due, again, goes_again, again_from, new_due, ack_due, sends_new, new_octets, sends_fin, fin_alone}
+use Rattle.tcp_state.proofs.Signals.{flies_open}
 
 -- a connection goes on, and is open
 record IsOpen (state : State) : Type 0 where
@@ -123,3 +125,37 @@ probe_goes_out v sound unmarked owes shut has =
     new_first v sound open_yet unmarked
     ∙ ap₂ (λ a b. if a then Some (Text (new_octets v)) else if b then Some (Text (fin_alone v)) else if v.resend.owes_probe && probes v then Some Probe else ack_due v) none_new no_fin
     ∙ ap₂ (λ a b. if a && b then Some Probe else ack_due v) owes goes
+
+-- What was lost.
+
+opening_lives : (t : State) → is_opening t ≡ true → is_closed t ≡ false
+opening_lives SynSent e = refl
+opening_lives SynReceived e = refl
+opening_lives _ e = cc
+
+pub syn_goes_out : (v : View) → IsSound v → is_opening v.state ≡ true → (v.sending.nxt ≡ v.sending.una) ⊎ (is_some v.resend.mark ≡ true) → first_due v ≡ Some Syn
+syn_goes_out v sound opening why =
+    let goes : ((outstanding v.sending == 0) || is_some v.resend.mark) ≡ true = elim why [
+      | inl none ↦ or_left (outstanding v.sending == 0) (is_some v.resend.mark) (eq-eqb (outstanding v.sending) 0 (omega (arith, none, sound.una)))
+      | inr marked ↦ or_right (outstanding v.sending == 0) (is_some v.resend.mark) marked
+    ] in
+    ap₂ (λ a b. if a then Some Rst else if b then (if (outstanding v.sending == 0) || is_some v.resend.mark then Some Syn else ack_due v) else option_or (again_from v v.resend.mark) (new_due v))
+    (unowed v.owes_reset (is_closed v.state) v.released (opening_lives v.state opening) sound.reset) opening
+    ∙ ap (λ b. if b then Some Syn else ack_due v) goes
+
+pub lost_goes_out : (v : View) (mark : ℕ) → IsSound v → is_opening v.state ≡ false → v.resend.mark ≡ Some mark → (mark ≡ 0) ⊎ ((mark < v.sending.window) × (mark < v.congestion.cwnd))
+    → (stretch : Stretch) × (first_due v ≡ Some (Text stretch)) × (stretch.offset ≡ mark)
+lost_goes_out v mark sound opened is within =
+    let window = open_window v.sending v.congestion.cwnd in
+    let below = sound.mark mark is in
+    let goes : goes_again v mark ≡ true = elim within [
+      | inl first ↦ or_left (mark == 0) (nat_lt mark window) (eq-eqb mark 0 first)
+      | inr both_take ↦ or_right (mark == 0) (nat_lt mark window) (lt-ltb mark window (omega (arith, both_take.0, both_take.1)))
+    ] in (
+      again v mark,
+      ap₂ (λ a b. if a then Some Rst else if b then (if (outstanding v.sending == 0) || is_some v.resend.mark then Some Syn else ack_due v) else option_or (again_from v v.resend.mark) (new_due v))
+          (unowed v.owes_reset (is_closed v.state) v.released (flies_open v sound (omega (arith, below))) sound.reset) opened
+          ∙ ap (λ m. option_or (again_from v m) (new_due v)) is
+          ∙ ap (λ b. option_or (if b then Some (Text (again v mark)) else None) (new_due v)) goes,
+      refl,
+    )

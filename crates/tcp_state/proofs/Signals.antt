@@ -127,7 +127,7 @@ pub duplicates_are : (v : View) (s : Segment) → IsSound v → (is_duplicate v 
 duplicates_are v s sound = (duplicate_tells v s, is_repeated v s sound)
 
 -- something is outstanding only before the end
-flies_open : (v : View) → IsSound v → 0 < past v.sending.nxt v.sending.una → is_closed v.state ≡ false
+pub flies_open : (v : View) → IsSound v → 0 < past v.sending.nxt v.sending.una → is_closed v.state ≡ false
 flies_open v sound some = by (is_closed v.state ≡ false) (is_closed v.state)
     (λ closed.
     let plain = closed_plain v.state closed in

@@ -1,6 +1,6 @@
 //! Laws of what a connection says, to its peer by segments and to its caller by errors, and of what it sends.
 
-ghost use Rattle.std.specs.Prelude.{◌≡◌, ◌↔◌, Some, min, ◌*◌, ◌≢◌, ℕ, None, ◌+◌, ◌<◌, ◌≤◌, ◌^◌, ◌⊎◌, ◌||◌, nat_le, true, false, length, []};
+ghost use Rattle.std.specs.Prelude.{◌≡◌, ◌↔◌, Some, is_some, min, ◌*◌, ◌≢◌, ℕ, None, ◌+◌, ◌<◌, ◌≤◌, ◌^◌, ◌⊎◌, ◌||◌, nat_le, true, false, length, []};
 ghost use Rattle.tcp_segment.specs.Segment.{Segment, Spells};
 ghost use Rattle.tcp_segment.specs.Wire.{wire, past};
 ghost use Rattle.clock.specs.declared.moment.Moment.{Moment};
@@ -73,4 +73,12 @@ pub fn what_is_new_goes_out()
     ensures fin { (v : View) → IsSound v → v.resend.mark ≡ None → awaits_fin_ack v.state ≡ true → outstanding v.sending ≡ length v.sending.held → outstanding v.sending < v.sending.window
         → first_due v ≡ Some (Due.Text (record { offset = length v.sending.held; count = 0; fin = true })) }
     ensures probe { (v : View) → IsSound v → v.resend.mark ≡ None → v.resend.owes_probe ≡ true → v.sending.window ≡ 0 → (0 < length v.sending.held) ⊎ (awaits_fin_ack v.state ≡ true) → first_due v ≡ Some Due.Probe }
+{}
+
+/// What was lost goes out again before anything new (RFC 6298 section 5.4, RFC 5681 sections 3.1 and 3.2): from the resend mark on, where that is at SND.UNA, or below both windows. While a connection opens that is its SYN,
+/// which is due too as long as it has not gone out.
+pub fn what_was_lost_goes_out_again()
+    ensures opening { (v : View) → IsSound v → is_opening v.state ≡ true → (v.sending.nxt ≡ v.sending.una) ⊎ (is_some v.resend.mark ≡ true) → first_due v ≡ Some Due.Syn }
+    ensures later { (v : View) (mark : ℕ) → IsSound v → is_opening v.state ≡ false → v.resend.mark ≡ Some mark → (mark ≡ 0) ⊎ ((mark < v.sending.window) × (mark < v.congestion.cwnd))
+        → (stretch : Stretch) × (first_due v ≡ Some (Due.Text stretch)) × (stretch.offset ≡ mark) }
 {}
