@@ -54,3 +54,4 @@ pub mod Timeouts
 pub mod StillStreams
 pub mod Measuring
 pub mod LostSyns
+pub mod Freed

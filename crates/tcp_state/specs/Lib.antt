@@ -19,3 +19,4 @@ pub mod Simultaneous
 pub mod Opening
 pub mod Said
 pub mod Counted
+pub mod Duties

@@ -6,6 +6,7 @@ mod arrival;
 mod calls;
 mod connection;
 pub mod counting;
+pub mod duties;
 mod emission;
 mod ending;
 pub mod laws;

@@ -1,0 +1,21 @@
+//! Laws of what a connection has to do with a segment: functions with nothing to do, whose contracts are the laws.
+
+ghost use Rattle.std.specs.Prelude.{◌≡◌, ℕ, ◌+◌, ◌-◌, ◌<◌, ◌≤◌, ◌≢◌, ◌^◌, ◌||◌, true, false, drop};
+ghost use Rattle.tcp_segment.specs.Segment.{Segment};
+ghost use Rattle.tcp_segment.specs.Wire.{wire};
+ghost use Rattle.clock.specs.declared.moment.Moment.{Moment};
+ghost use Rattle.tcp_halves.specs.Stream.{outstanding};
+ghost use Rattle.tcp_state.specs.View.{View, IsSound, is_opening, is_closed};
+ghost use Rattle.tcp_state.specs.Arrival.{after_segment_at};
+ghost use Rattle.tcp_state.specs.Duties.{acknowledges, HoldsFrom};
+
+/// Once a connection is open, an acknowledgement of what is outstanding moves SND.UNA to its number and frees exactly the octets before it, our FIN's number standing behind the last octet; SND.NXT stays (RFC 9293
+/// sections 3.4 and 3.10.7.4, fifth). But where it owes a reset then, since octets came after its caller closed it. Any other segment leaves SND.UNA and what is held as they were, unless it ends the connection.
+pub fn acknowledgements_free_what_they_name()
+    ensures frees { (v : View) (s : Segment) (now : Moment) (own una ack : ℕ) → IsSound v → (is_opening v.state || is_closed v.state) ≡ false → acknowledges v s ≡ true
+        → v.sending.una ≡ wire own una → s.acknowledgement ≡ wire own ack → una < ack → ack ≤ una + outstanding v.sending → (after_segment_at v s now).owes_reset ≡ false
+        → HoldsFrom s.acknowledgement (drop (ack - una) v.sending.held) v (after_segment_at v s now) }
+    ensures others { (v : View) (s : Segment) (now : Moment) (own una : ℕ) → IsSound v → is_opening v.state ≡ false → v.sending.una ≡ wire own una → s.acknowledgement < 2 ^ 32
+        → (acknowledges v s ≡ true → (ack : ℕ) → una < ack → ack ≤ una + outstanding v.sending → s.acknowledgement ≢ wire own ack) → is_closed (after_segment_at v s now).state ≡ false
+        → HoldsFrom v.sending.una v.sending.held v (after_segment_at v s now) }
+{}
