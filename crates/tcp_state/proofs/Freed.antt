@@ -1,5 +1,5 @@
 -- Why an acknowledgement of what is outstanding frees what it names, and no other segment anything.
-use Rattle.std.proofs.Common.{◌≡◌, ◌≢◌, ℕ, ◌+◌, ◌-◌, ◌^◌, ◌<◌, ◌≤◌, ◌||◌, ◌&&◌, not, nat_lt, nat_le, if◌then◌else◌, Bool, true, false, drop, arith, refl, sym, ◌∙◌, ap, subst}
+use Rattle.std.proofs.Common.{◌≡◌, ◌≢◌, ℕ, ◌+◌, ◌-◌, ◌^◌, ◌<◌, ◌≤◌, ◌||◌, ◌&&◌, not, nat_lt, nat_le, if◌then◌else◌, true, false, drop, arith, refl, sym, ◌∙◌, ap, subst}
 use Rattle.std.proofs.lemmas.Bool.{ltb-true, leb-true, lt-ltb, le-leb}
 use Rattle.tcp_segment.specs.Wire.{wire, past}
 use Rattle.tcp_segment.specs.Segment.{Segment}
@@ -28,31 +28,14 @@ pub record Acknowledging (v : View) (s : Segment) : Type 0 where
 
 pub acknowledging : (v : View) (s : Segment) → acknowledges v s ≡ true → Acknowledging v s
 acknowledging v s e =
-    let three = and_left (is_acceptable_to v s && s.flags.ack && not s.flags.rst) (not s.flags.syn) e in
-    let two = and_left (is_acceptable_to v s && s.flags.ack) (not s.flags.rst) three in
-    record {
-      accepted = and_left (is_acceptable_to v s) s.flags.ack two;
-      ack = and_right (is_acceptable_to v s) s.flags.ack two;
-      no_rst = not_true s.flags.rst (and_right (is_acceptable_to v s && s.flags.ack) (not s.flags.rst) three);
-      no_syn = not_true s.flags.syn (and_right (is_acceptable_to v s && s.flags.ack && not s.flags.rst) (not s.flags.syn) e);
-    }
-
-pub all_acknowledge : (accepted ack rst syn : Bool) → accepted ≡ true → ack ≡ true → rst ≡ false → syn ≡ false → (accepted && ack && not rst && not syn) ≡ true
-all_acknowledge true true false false a k r s = refl
-all_acknowledge false ack rst syn a k r s = cc
-all_acknowledge true false rst syn a k r s = cc
-all_acknowledge true true true syn a k r s = cc
-all_acknowledge true true false true a k r s = cc
-
-pub taken_acknowledges : (v : View) (s : Segment) → is_taken v s ≡ true → acknowledges v s ≡ true
-taken_acknowledges v s e =
     let three = and_left (not s.flags.rst && is_acceptable_to v s && not s.flags.syn) s.flags.ack e in
     let two = and_left (not s.flags.rst && is_acceptable_to v s) (not s.flags.syn) three in
-    all_acknowledge (is_acceptable_to v s) s.flags.ack s.flags.rst s.flags.syn
-    (and_right (not s.flags.rst) (is_acceptable_to v s) two)
-    (and_right (not s.flags.rst && is_acceptable_to v s && not s.flags.syn) s.flags.ack e)
-    (not_true s.flags.rst (and_left (not s.flags.rst) (is_acceptable_to v s) two))
-    (not_true s.flags.syn (and_right (not s.flags.rst && is_acceptable_to v s) (not s.flags.syn) three))
+    record {
+      accepted = and_right (not s.flags.rst) (is_acceptable_to v s) two;
+      ack = and_right (not s.flags.rst && is_acceptable_to v s && not s.flags.syn) s.flags.ack e;
+      no_rst = not_true s.flags.rst (and_left (not s.flags.rst) (is_acceptable_to v s) two);
+      no_syn = not_true s.flags.syn (and_right (not s.flags.rst && is_acceptable_to v s) (not s.flags.syn) three);
+    }
 
 pub opened : (t : State) → is_opening t ≡ false → (is_syn_sent t ≡ false) × (is_syn_received t ≡ false)
 opened SynSent e = cc
@@ -162,7 +145,7 @@ others_free_none v s now own una sound open_yet f fits names_none =
     let P : View → Type 0 = λ w. is_closed w.state ≡ false → Held v.sending.una v.sending w.sending in
     let old : is_taken v s ≡ true → is_new_ack v.sending s.acknowledgement ≡ true → ⊥ = λ taken new.
     let named = new_is_named v.sending own una s.acknowledgement f fits new in
-    names_none (taken_acknowledges v s taken) named.0 named.1 named.2 named.3 in
+    names_none taken named.0 named.1 named.2 named.3 in
     let same : Held v.sending.una v.sending v.sending = (refl, refl, refl) in
     let heard : is_closed v.state ≡ false → P (after_heard v s) = λ lives. by_hearing P v s (λ closed. let bad : true ≡ false = closed in cc) (record {
       dropped = λ on. same;

@@ -55,3 +55,7 @@ pub mod StillStreams
 pub mod Measuring
 pub mod LostSyns
 pub mod Freed
+pub mod Standing
+pub mod DrawTests
+pub mod AckAnswers
+pub mod Drawn

@@ -1,15 +1,86 @@
 -- What a segment asks of a connection, by its flags, by the states, and by positions in the two streams (RFC 9293 sections 3.4, 3.8 and 3.10.7.4), for laws that don't go by the steps of its arrival.
-use Rattle.std.specs.Prelude.{◌≡◌, ℕ, ◌&&◌, not, Bool, List}
+use Rattle.std.specs.Prelude.{◌≡◌, ℕ, ◌+◌, ◌<◌, ◌^◌, ◌==◌, ◌&&◌, ◌||◌, not, nat_lt, nat_le, Bool, true, false, List, length}
+use Rattle.stream_buf.specs.Receiving.{ranges}
 use Rattle.tcp_segment.specs.Segment.{Segment}
-use Rattle.tcp_state.specs.View.{View}
+use Rattle.tcp_segment.specs.Wire.{wire}
+use Rattle.tcp_halves.specs.Stream.{outstanding}
+use Rattle.tcp_state.specs.declared.state.State.{State}
+use Rattle.tcp_state.specs.declared.state.State.TheVariants.{SynReceived, Established, FinWait1, FinWait2}
+use Rattle.tcp_state.specs.View.{View, is_opening, is_syn_received}
 use Rattle.tcp_state.specs.Arrival.{is_acceptable_to}
+use Rattle.tcp_state.specs.Positions.{ReceivesAt, IsNear}
 
 -- its acknowledgement field is looked at: it is acceptable, and has ACK, but neither RST nor SYN (section 3.10.7.4, first to fifth)
 abbrev pub acknowledges : View → Segment → Bool
-acknowledges v s = is_acceptable_to v s && s.flags.ack && not s.flags.rst && not s.flags.syn
+acknowledges v s = not s.flags.rst && is_acceptable_to v s && not s.flags.syn && s.flags.ack
 
 -- SND.UNA has this number, these octets are held from there on, and SND.NXT stays
 pub record HoldsFrom (number : ℕ) (octets : List ℕ) (before after : View) : Type 0 where
   pub una : after.sending.una ≡ number
   pub held : after.sending.held ≡ octets
   pub nxt : after.sending.nxt ≡ before.sending.nxt
+
+-- Positions in our stream, that of SND.UNA and that of the acknowledgement of a segment, and in the peer's, those of RCV.NXT, of the end of the window advertised and of the first number of the segment: in each from an
+-- initial number on.
+pub record Places : Type 0 where
+  pub own : ℕ
+  pub una : ℕ
+  pub ack : ℕ
+  pub peer : ℕ
+  pub next : ℕ
+  pub edge : ℕ
+  pub first : ℕ
+
+-- a connection and a segment stand there, less than 2^31 apart, so that the numbers tell the order; without ACK the acknowledgement stands nowhere
+pub record StandsAt (at : Places) (v : View) (s : Segment) : Type 0 where
+  pub una_number : v.sending.una ≡ wire at.own at.una
+  pub ack_number : s.flags.ack ≡ true → s.acknowledgement ≡ wire at.own at.ack
+  pub ack_behind : s.flags.ack ≡ true → at.una + outstanding v.sending < at.ack + 2 ^ 31
+  pub ack_ahead : s.flags.ack ≡ true → at.ack < at.una + 2 ^ 31
+  pub receives : ReceivesAt at.peer at.next at.edge v.receiving
+  pub first_number : s.number ≡ wire at.peer at.first
+  pub first_near : IsNear at.next at.first (length s.octets)
+
+-- What draws an acknowledgement (sections 3.8.6.3 and 3.10.7.4, RFC 1122 section 4.2.3.2).
+
+-- what is not acceptable, and no reset (first)
+abbrev pub is_unacceptable : View → Segment → Bool
+is_unacceptable v s = not s.flags.rst && not (is_acceptable_to v s)
+
+-- a reset in the window behind RCV.NXT (second)
+abbrev pub is_challenged : Places → Segment → Bool
+is_challenged at s = s.flags.rst && nat_lt at.next at.first && nat_lt at.first at.edge
+
+-- an acceptable SYN, unless it ends what a listener opened and is not established (fourth)
+abbrev pub is_another_syn : View → Segment → Bool
+is_another_syn v s = not s.flags.rst && is_acceptable_to v s && s.flags.syn && not (v.passive && is_syn_received v.state)
+
+-- an acknowledgement of what was not sent, once the connection is open (fifth)
+abbrev pub is_ahead : Places → View → Segment → Bool
+is_ahead at v s = acknowledges v s && not (is_opening v.state) && nat_lt (at.una + outstanding v.sending) at.ack
+
+-- the rest of a segment is used: its acknowledgement is of what was sent, and in SYN-RECEIVED of our SYN
+abbrev pub is_used : Places → View → Segment → Bool
+is_used at v s = acknowledges v s && nat_le at.ack (at.una + outstanding v.sending) && (not (is_syn_received v.state) || nat_lt at.una at.ack)
+
+-- the states in which octets and a FIN may come: the peer's side is not closed, as far as we know, or the acknowledgement of our SYN brings them
+abbrev pub may_bring : State → Bool
+may_bring SynReceived = true
+may_bring Established = true
+may_bring FinWait1 = true
+may_bring FinWait2 = true
+may_bring _ = false
+
+-- its octets and its FIN are looked at (seventh and eighth)
+abbrev pub brings_text : Places → View → Segment → Bool
+brings_text at v s = is_used at v s && may_bring v.state
+
+-- octets that don't stand next, or come while some are kept ahead of a gap, or are those of the second segment: their acknowledgement may not wait
+abbrev pub hurries : Places → View → Segment → Bool
+hurries at v s = not (length s.octets == 0) && (not (at.first == at.next) || not (ranges v.receiving.kept == 0) || v.delays_ack)
+
+-- all that draws one at once
+abbrev pub draws : Places → View → Segment → Bool
+draws at v s =
+    is_unacceptable v s || is_challenged at s || is_another_syn v s || is_ahead at v s
+    || (brings_text at v s && (s.flags.fin || hurries at v s))

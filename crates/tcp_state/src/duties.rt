@@ -1,13 +1,13 @@
 //! Laws of what a connection has to do with a segment: functions with nothing to do, whose contracts are the laws.
 
-ghost use Rattle.std.specs.Prelude.{◌≡◌, ℕ, ◌+◌, ◌-◌, ◌<◌, ◌≤◌, ◌≢◌, ◌^◌, ◌||◌, true, false, drop};
+ghost use Rattle.std.specs.Prelude.{◌≡◌, ℕ, ◌+◌, ◌-◌, ◌<◌, ◌≤◌, ◌≢◌, ◌==◌, ◌^◌, ◌||◌, ◌&&◌, not, length, true, false, drop};
 ghost use Rattle.tcp_segment.specs.Segment.{Segment};
 ghost use Rattle.tcp_segment.specs.Wire.{wire};
 ghost use Rattle.clock.specs.declared.moment.Moment.{Moment};
 ghost use Rattle.tcp_halves.specs.Stream.{outstanding};
-ghost use Rattle.tcp_state.specs.View.{View, IsSound, is_opening, is_closed};
+ghost use Rattle.tcp_state.specs.View.{View, IsSound, is_opening, is_syn_sent, is_closed};
 ghost use Rattle.tcp_state.specs.Arrival.{after_segment_at};
-ghost use Rattle.tcp_state.specs.Duties.{acknowledges, HoldsFrom};
+ghost use Rattle.tcp_state.specs.Duties.{acknowledges, HoldsFrom, Places, StandsAt, brings_text, draws};
 
 /// Once a connection is open, an acknowledgement of what is outstanding moves SND.UNA to its number and frees exactly the octets before it, our FIN's number standing behind the last octet; SND.NXT stays (RFC 9293
 /// sections 3.4 and 3.10.7.4, fifth). But where it owes a reset then, since octets came after its caller closed it. Any other segment leaves SND.UNA and what is held as they were, unless it ends the connection.
@@ -18,4 +18,14 @@ pub fn acknowledgements_free_what_they_name()
     ensures others { (v : View) (s : Segment) (now : Moment) (own una : ℕ) → IsSound v → is_opening v.state ≡ false → v.sending.una ≡ wire own una → s.acknowledgement < 2 ^ 32
         → (acknowledges v s ≡ true → (ack : ℕ) → una < ack → ack ≤ una + outstanding v.sending → s.acknowledgement ≢ wire own ack) → is_closed (after_segment_at v s now).state ≡ false
         → HoldsFrom v.sending.una v.sending.held v (after_segment_at v s now) }
+{}
+
+/// Past SYN-SENT these segments, and no others, make an acknowledgement owed at once, where they don't end the connection (RFC 9293 sections 3.8.6.3 and 3.10.7.4, RFC 1122 section 4.2.3.2): one that is not
+/// acceptable and no reset; a reset in the window behind RCV.NXT; an acceptable SYN; an acknowledgement of what was not sent; a FIN; and octets that don't stand next, come while some are kept ahead of a gap, or are
+/// those of a second segment. So an acknowledgement alone draws none. Octets, and nothing else, make one wait.
+pub fn what_draws_an_acknowledgement()
+    ensures owed { (at : Places) (v : View) (s : Segment) (now : Moment) → IsSound v → is_syn_sent v.state ≡ false → StandsAt at v s → is_closed (after_segment_at v s now).state ≡ false
+        → (after_segment_at v s now).owes_ack ≡ (v.owes_ack || draws at v s) }
+    ensures delayed { (at : Places) (v : View) (s : Segment) (now : Moment) → IsSound v → is_syn_sent v.state ≡ false → StandsAt at v s → is_closed (after_segment_at v s now).state ≡ false
+        → (after_segment_at v s now).delays_ack ≡ (v.delays_ack || (brings_text at v s && not (length s.octets == 0))) }
 {}
