@@ -59,3 +59,5 @@ pub mod Standing
 pub mod DrawTests
 pub mod AckAnswers
 pub mod Drawn
+pub mod Used
+pub mod TooLate

@@ -84,3 +84,19 @@ abbrev pub draws : Places → View → Segment → Bool
 draws at v s =
     is_unacceptable v s || is_challenged at s || is_another_syn v s || is_ahead at v s
     || (brings_text at v s && (s.flags.fin || hurries at v s))
+
+-- What comes after the caller closed a connection (section 3.6.1).
+
+-- our side is closed, and the peer's is not, as far as we know
+abbrev pub is_fin_wait : State → Bool
+is_fin_wait FinWait1 = true
+is_fin_wait FinWait2 = true
+is_fin_wait _ = false
+
+-- one of its octets stands at RCV.NXT or past it
+abbrev pub brings_new : Places → Segment → Bool
+brings_new at s = not (length s.octets == 0) && nat_lt at.next (at.first + length s.octets)
+
+-- the caller left the connection, and the segment brings octets that nobody will read
+abbrev pub comes_too_late : Places → View → Segment → Bool
+comes_too_late at v s = v.released && is_fin_wait v.state && is_used at v s && brings_new at s

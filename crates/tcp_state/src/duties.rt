@@ -1,13 +1,15 @@
 //! Laws of what a connection has to do with a segment: functions with nothing to do, whose contracts are the laws.
 
-ghost use Rattle.std.specs.Prelude.{◌≡◌, ℕ, ◌+◌, ◌-◌, ◌<◌, ◌≤◌, ◌≢◌, ◌==◌, ◌^◌, ◌||◌, ◌&&◌, not, length, true, false, drop};
+ghost use Rattle.std.specs.Prelude.{◌≡◌, ℕ, ◌+◌, ◌-◌, ◌<◌, ◌≤◌, ◌≢◌, ◌==◌, ◌^◌, ◌||◌, ◌&&◌, not, length, true, false, drop, Some};
 ghost use Rattle.tcp_segment.specs.Segment.{Segment};
 ghost use Rattle.tcp_segment.specs.Wire.{wire};
 ghost use Rattle.clock.specs.declared.moment.Moment.{Moment};
+ghost use Rattle.tcp_state.specs.declared.connection.Fate.{Fate};
+ghost use Rattle.tcp_state.specs.declared.state.State.{State};
 ghost use Rattle.tcp_halves.specs.Stream.{outstanding};
-ghost use Rattle.tcp_state.specs.View.{View, IsSound, is_opening, is_syn_sent, is_closed};
-ghost use Rattle.tcp_state.specs.Arrival.{after_segment_at};
-ghost use Rattle.tcp_state.specs.Duties.{acknowledges, HoldsFrom, Places, StandsAt, brings_text, draws};
+ghost use Rattle.tcp_state.specs.View.{View, IsSound, is_opening, is_syn_sent, is_closed, reset_since};
+ghost use Rattle.tcp_state.specs.Arrival.{after_segment_at, fate};
+ghost use Rattle.tcp_state.specs.Duties.{acknowledges, HoldsFrom, Places, StandsAt, brings_text, draws, comes_too_late};
 
 /// Once a connection is open, an acknowledgement of what is outstanding moves SND.UNA to its number and frees exactly the octets before it, our FIN's number standing behind the last octet; SND.NXT stays (RFC 9293
 /// sections 3.4 and 3.10.7.4, fifth). But where it owes a reset then, since octets came after its caller closed it. Any other segment leaves SND.UNA and what is held as they were, unless it ends the connection.
@@ -28,4 +30,13 @@ pub fn what_draws_an_acknowledgement()
         → (after_segment_at v s now).owes_ack ≡ (v.owes_ack || draws at v s) }
     ensures delayed { (at : Places) (v : View) (s : Segment) (now : Moment) → IsSound v → is_syn_sent v.state ≡ false → StandsAt at v s → is_closed (after_segment_at v s now).state ≡ false
         → (after_segment_at v s now).delays_ack ≡ (v.delays_ack || (brings_text at v s && not (length s.octets == 0))) }
+{}
+
+/// Octets at RCV.NXT or past it that come after the caller closed the connection abort it: it is CLOSED, and from that moment on owes its peer a reset, for which it keeps its place (RFC 9293 section 3.6.1, RFC 1122 section
+/// 4.2.2.13). No other segment makes a reset owed.
+pub fn octets_after_close_abort()
+    ensures aborts { (at : Places) (v : View) (s : Segment) (now : Moment) → IsSound v → StandsAt at v s → comes_too_late at v s ≡ true
+        → ((after_segment_at v s now).state ≡ State.Closed) × (reset_since (after_segment_at v s now) ≡ Some now) × (fate v s ≡ Fate.Stays) }
+    ensures alone { (at : Places) (v : View) (s : Segment) (now : Moment) → IsSound v → is_closed v.state ≡ false → StandsAt at v s → comes_too_late at v s ≡ false
+        → (after_segment_at v s now).owes_reset ≡ false }
 {}
