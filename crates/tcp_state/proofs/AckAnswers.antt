@@ -54,7 +54,7 @@ ahead_brings_none true right may some false true w n b = cc
 ahead_brings_none true right may some true before w n b = cc
 ahead_brings_none true right may some false false w n b = cc
 
-not_on : (received new before : Bool) → (if received then new else new || not before) ≡ false → (new ≡ false) × (received ≡ false → before ≡ true)
+pub not_on : (received new before : Bool) → (if received then new else new || not before) ≡ false → (new ≡ false) × (received ≡ false → before ≡ true)
 not_on true true before e = cc
 not_on true false before e = (refl, λ bad. cc)
 not_on false true before e = cc
@@ -118,7 +118,7 @@ on_tells false false true e r n = cc
 on_tells true new before e r n = cc
 on_tells false true before e r n = cc
 
-on_new : (received new before : Bool) → (if received then new else new || not before) ≡ true → received ≡ true → new ≡ true
+pub on_new : (received new before : Bool) → (if received then new else new || not before) ≡ true → received ≡ true → new ≡ true
 on_new true true before e r = refl
 on_new true false before e r = cc
 on_new false new before e r = cc

@@ -61,3 +61,4 @@ pub mod AckAnswers
 pub mod Drawn
 pub mod Used
 pub mod TooLate
+pub mod EndInOrder

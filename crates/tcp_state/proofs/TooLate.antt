@@ -21,7 +21,7 @@ left_waits false t e = refl
 left_waits true Established e = cc
 left_waits true _ e = refl
 
-lost_as_late : (at : Places) (v : View) (s : Segment) → IsSound v → StandsAt at v s → is_lost v s ≡ comes_too_late at v s
+pub lost_as_late : (at : Places) (v : View) (s : Segment) → IsSound v → StandsAt at v s → is_lost v s ≡ comes_too_late at v s
 lost_as_late at v s sound stands =
     ap (λ b. b && is_read v s && brings_more v s) (left_waits v.released v.state sound.release)
     ∙ (ap (λ b. v.released && is_fin_wait v.state && b && brings_more v s) (read_as_used at v s sound stands)

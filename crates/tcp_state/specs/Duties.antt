@@ -5,7 +5,7 @@ use Rattle.tcp_segment.specs.Segment.{Segment}
 use Rattle.tcp_segment.specs.Wire.{wire}
 use Rattle.tcp_halves.specs.Stream.{outstanding}
 use Rattle.tcp_state.specs.declared.state.State.{State}
-use Rattle.tcp_state.specs.declared.state.State.TheVariants.{SynReceived, Established, FinWait1, FinWait2}
+use Rattle.tcp_state.specs.declared.state.State.TheVariants.{SynReceived, Established, FinWait1, FinWait2, CloseWait, Closing, LastAck, TimeWait, Closed}
 use Rattle.tcp_state.specs.View.{View, is_opening, is_syn_received}
 use Rattle.tcp_state.specs.Arrival.{is_acceptable_to}
 use Rattle.tcp_state.specs.Positions.{ReceivesAt, IsNear}
@@ -100,3 +100,26 @@ brings_new at s = not (length s.octets == 0) && nat_lt at.next (at.first + lengt
 -- the caller left the connection, and the segment brings octets that nobody will read
 abbrev pub comes_too_late : Places → View → Segment → Bool
 comes_too_late at v s = v.released && is_fin_wait v.state && is_used at v s && brings_new at s
+
+-- The diagram of states (figure 5), where a segment is used.
+
+-- the acknowledgement is past our FIN, which stands behind the last octet that is held
+abbrev pub acknowledges_end : Places → View → Bool
+acknowledges_end at v = nat_lt (at.una + length v.sending.held) at.ack
+
+-- with so many octets come in order, the peer's FIN stands next, and the window has room for it
+abbrev pub ends_stream : Places → View → Segment → ℕ → Bool
+ends_stream at v s count = s.flags.fin && may_bring v.state && (at.first + length s.octets == at.next + count) && nat_lt (at.next + count) at.edge
+
+-- the state by whether our FIN is acknowledged, and by whether the peer's counts
+abbrev pub state_beyond : State → Bool → Bool → State
+state_beyond SynReceived ours false = Established
+state_beyond SynReceived ours true = CloseWait
+state_beyond Established ours true = CloseWait
+state_beyond FinWait1 true false = FinWait2
+state_beyond FinWait1 false true = Closing
+state_beyond FinWait1 true true = TimeWait
+state_beyond FinWait2 ours true = TimeWait
+state_beyond Closing true theirs = TimeWait
+state_beyond LastAck true theirs = Closed
+state_beyond state ours theirs = state

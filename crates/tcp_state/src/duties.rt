@@ -1,6 +1,6 @@
 //! Laws of what a connection has to do with a segment: functions with nothing to do, whose contracts are the laws.
 
-ghost use Rattle.std.specs.Prelude.{◌≡◌, ℕ, ◌+◌, ◌-◌, ◌<◌, ◌≤◌, ◌≢◌, ◌==◌, ◌^◌, ◌||◌, ◌&&◌, not, length, true, false, drop, Some};
+ghost use Rattle.std.specs.Prelude.{◌≡◌, ℕ, ◌+◌, ◌-◌, ◌<◌, ◌≤◌, ◌≢◌, ◌==◌, ◌^◌, ◌||◌, ◌&&◌, not, length, true, false, if◌then◌else◌, drop, Some};
 ghost use Rattle.tcp_segment.specs.Segment.{Segment};
 ghost use Rattle.tcp_segment.specs.Wire.{wire};
 ghost use Rattle.clock.specs.declared.moment.Moment.{Moment};
@@ -9,7 +9,7 @@ ghost use Rattle.tcp_state.specs.declared.state.State.{State};
 ghost use Rattle.tcp_halves.specs.Stream.{outstanding};
 ghost use Rattle.tcp_state.specs.View.{View, IsSound, is_opening, is_syn_sent, is_closed, reset_since};
 ghost use Rattle.tcp_state.specs.Arrival.{after_segment_at, fate};
-ghost use Rattle.tcp_state.specs.Duties.{acknowledges, HoldsFrom, Places, StandsAt, brings_text, draws, comes_too_late};
+ghost use Rattle.tcp_state.specs.Duties.{acknowledges, HoldsFrom, Places, StandsAt, brings_text, draws, is_used, comes_too_late, acknowledges_end, ends_stream, state_beyond};
 
 /// Once a connection is open, an acknowledgement of what is outstanding moves SND.UNA to its number and frees exactly the octets before it, our FIN's number standing behind the last octet; SND.NXT stays (RFC 9293
 /// sections 3.4 and 3.10.7.4, fifth). But where it owes a reset then, since octets came after its caller closed it. Any other segment leaves SND.UNA and what is held as they were, unless it ends the connection.
@@ -39,4 +39,14 @@ pub fn octets_after_close_abort()
         → ((after_segment_at v s now).state ≡ State.Closed) × (reset_since (after_segment_at v s now) ≡ Some now) × (fate v s ≡ Fate.Stays) }
     ensures alone { (at : Places) (v : View) (s : Segment) (now : Moment) → IsSound v → is_closed v.state ≡ false → StandsAt at v s → comes_too_late at v s ≡ false
         → (after_segment_at v s now).owes_reset ≡ false }
+{}
+
+/// A FIN counts exactly where every octet before it has come in order and the window has room for it: RCV.NXT moves over it, and the state moves on, as it does where our FIN is acknowledged (RFC 9293 section 3.3.2, figure 5, and section
+/// 3.10.7.4, fifth and eighth). With any other FIN both are as without. A segment that is not used changes no state and nothing of the peer's stream, unless it ends the connection.
+pub fn the_end_counts_in_order()
+    ensures used { (at : Places) (v : View) (s : Segment) (now : Moment) → IsSound v → (is_syn_sent v.state || is_closed v.state) ≡ false → StandsAt at v s → is_used at v s ≡ true → comes_too_late at v s ≡ false
+        → (let w = after_segment_at v s now in let count = length w.receiving.readable - length v.receiving.readable in
+        (w.state ≡ state_beyond v.state (acknowledges_end at v) (ends_stream at v s count)) × (w.receiving.rnext ≡ wire at.peer (at.next + count + (if ends_stream at v s count then 1 else 0)))) }
+    ensures unused { (at : Places) (v : View) (s : Segment) (now : Moment) → IsSound v → is_syn_sent v.state ≡ false → StandsAt at v s → is_used at v s ≡ false → is_closed (after_segment_at v s now).state ≡ false
+        → ((after_segment_at v s now).state ≡ v.state) × ((after_segment_at v s now).receiving ≡ v.receiving) }
 {}
