@@ -62,3 +62,4 @@ pub mod Drawn
 pub mod Used
 pub mod TooLate
 pub mod EndInOrder
+pub mod Shut

@@ -1,12 +1,14 @@
 -- What a segment asks of a connection, by its flags, by the states, and by positions in the two streams (RFC 9293 sections 3.4, 3.8 and 3.10.7.4), for laws that don't go by the steps of its arrival.
-use Rattle.std.specs.Prelude.{◌≡◌, ℕ, ◌+◌, ◌<◌, ◌^◌, ◌==◌, ◌&&◌, ◌||◌, not, nat_lt, nat_le, Bool, true, false, List, length}
+use Rattle.std.specs.Prelude.{◌≡◌, ℕ, ◌+◌, ◌<◌, ◌^◌, ◌==◌, ◌&&◌, ◌||◌, not, nat_lt, nat_le, Bool, true, false, List, length, Err}
 use Rattle.stream_buf.specs.Receiving.{ranges}
 use Rattle.tcp_segment.specs.Segment.{Segment}
 use Rattle.tcp_segment.specs.Wire.{wire}
 use Rattle.tcp_halves.specs.Stream.{outstanding}
 use Rattle.tcp_state.specs.declared.state.State.{State}
 use Rattle.tcp_state.specs.declared.state.State.TheVariants.{SynReceived, Established, FinWait1, FinWait2, CloseWait, Closing, LastAck, TimeWait, Closed}
-use Rattle.tcp_state.specs.View.{View, is_opening, is_syn_received}
+use Rattle.tcp_state.specs.View.{View, is_opening, is_syn_received, is_write_closed}
+use Rattle.tcp_state.specs.declared.calls.Refusal.TheVariants.{EPIPE}
+use Rattle.tcp_state.specs.Calls.{send_answer}
 use Rattle.tcp_state.specs.Arrival.{is_acceptable_to}
 use Rattle.tcp_state.specs.Positions.{ReceivesAt, IsNear}
 
@@ -123,3 +125,12 @@ state_beyond FinWait2 ours true = TimeWait
 state_beyond Closing true theirs = TimeWait
 state_beyond LastAck true theirs = Closed
 state_beyond state ours theirs = state
+
+-- Our side is closed (section 3.10.4): a FIN is to follow what is held, which stays, as does all of the peer's stream, and octets are taken no longer. Closed again, it stays so.
+pub record IsShut (before after : View) : Type 0 where
+  pub first : before.state ≡ Established → after.state ≡ FinWait1
+  pub last : before.state ≡ CloseWait → after.state ≡ LastAck
+  pub again : is_write_closed before.state ≡ true → after.state ≡ before.state
+  pub sending : after.sending ≡ before.sending
+  pub receiving : after.receiving ≡ before.receiving
+  pub refuses : (octets : List ℕ) → send_answer after octets ≡ Err EPIPE

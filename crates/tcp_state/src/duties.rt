@@ -1,6 +1,6 @@
 //! Laws of what a connection has to do with a segment: functions with nothing to do, whose contracts are the laws.
 
-ghost use Rattle.std.specs.Prelude.{◌≡◌, ℕ, ◌+◌, ◌-◌, ◌<◌, ◌≤◌, ◌≢◌, ◌==◌, ◌^◌, ◌||◌, ◌&&◌, not, length, true, false, if◌then◌else◌, drop, Some};
+ghost use Rattle.std.specs.Prelude.{◌≡◌, ℕ, ◌+◌, ◌-◌, ◌<◌, ◌≤◌, ◌≢◌, ◌==◌, ◌^◌, ◌||◌, ◌&&◌, ◌⊎◌, not, length, true, false, if◌then◌else◌, drop, Some, None, []};
 ghost use Rattle.tcp_segment.specs.Segment.{Segment};
 ghost use Rattle.tcp_segment.specs.Wire.{wire};
 ghost use Rattle.clock.specs.declared.moment.Moment.{Moment};
@@ -8,8 +8,11 @@ ghost use Rattle.tcp_state.specs.declared.connection.Fate.{Fate};
 ghost use Rattle.tcp_state.specs.declared.state.State.{State};
 ghost use Rattle.tcp_halves.specs.Stream.{outstanding};
 ghost use Rattle.tcp_state.specs.View.{View, IsSound, is_opening, is_syn_sent, is_closed, reset_since};
+ghost use Rattle.tcp_state.specs.declared.calls.Refusal.{Refusal};
+ghost use Rattle.tcp_state.specs.Calls.{shutdown_refusal};
+ghost use Rattle.tcp_state.specs.Edges.{Event, after_event, fate_by};
 ghost use Rattle.tcp_state.specs.Arrival.{after_segment_at, fate};
-ghost use Rattle.tcp_state.specs.Duties.{acknowledges, HoldsFrom, Places, StandsAt, brings_text, draws, is_used, comes_too_late, acknowledges_end, ends_stream, state_beyond};
+ghost use Rattle.tcp_state.specs.Duties.{acknowledges, HoldsFrom, Places, StandsAt, brings_text, draws, is_used, comes_too_late, acknowledges_end, ends_stream, state_beyond, IsShut};
 
 /// Once a connection is open, an acknowledgement of what is outstanding moves SND.UNA to its number and frees exactly the octets before it, our FIN's number standing behind the last octet; SND.NXT stays (RFC 9293
 /// sections 3.4 and 3.10.7.4, fifth). But where it owes a reset then, since octets came after its caller closed it. Any other segment leaves SND.UNA and what is held as they were, unless it ends the connection.
@@ -49,4 +52,18 @@ pub fn the_end_counts_in_order()
         (w.state ≡ state_beyond v.state (acknowledges_end at v) (ends_stream at v s count)) × (w.receiving.rnext ≡ wire at.peer (at.next + count + (if ends_stream at v s count then 1 else 0)))) }
     ensures unused { (at : Places) (v : View) (s : Segment) (now : Moment) → IsSound v → is_syn_sent v.state ≡ false → StandsAt at v s → is_used at v s ≡ false → is_closed (after_segment_at v s now).state ≡ false
         → ((after_segment_at v s now).state ≡ v.state) × ((after_segment_at v s now).receiving ≡ v.receiving) }
+{}
+
+/// Closing our side (RFC 9293 sections 3.6 and 3.10.4): ESTABLISHED moves to FIN-WAIT-1, CLOSE-WAIT to LAST-ACK, and a side that is closed stays; what is held still goes out, and what is readable stays. There is nothing to close while
+/// the connection opens. A `close` does so too and leaves the connection, which goes on without a socket. But where it opens for a peer, or octets wait that nobody will read, it is aborted, and owes a reset from that moment on (RFC 1122
+/// section 4.2.2.13); and where it waits for the answer to its SYN, or is CLOSED, it is taken out.
+pub fn closing_closes()
+    ensures shuts { (v : View) (now : Moment) → IsSound v → (is_opening v.state || is_closed v.state) ≡ false
+        → (shutdown_refusal v ≡ None) × IsShut v (after_event v (Event.Shuts now)) × ((after_event v (Event.Shuts now)).released ≡ v.released) × (fate_by v (Event.Shuts now) ≡ Fate.Stays) }
+    ensures opening { (v : View) (now : Moment) → IsSound v → is_opening v.state ≡ true → (shutdown_refusal v ≡ Some Refusal.ENOTCONN) × (after_event v (Event.Shuts now) ≡ v) }
+    ensures leaves { (v : View) (now : Moment) → IsSound v → (is_opening v.state || is_closed v.state) ≡ false → v.receiving.readable ≡ []
+        → IsShut v (after_event v (Event.Closes now)) × ((after_event v (Event.Closes now)).released ≡ true) × ((after_event v (Event.Closes now)).owes_reset ≡ false) × (fate_by v (Event.Closes now) ≡ Fate.Stays) }
+    ensures aborts { (v : View) (now : Moment) → (v.state ≡ State.SynReceived) ⊎ (((is_opening v.state || is_closed v.state) ≡ false) × (v.receiving.readable ≢ []))
+        → ((after_event v (Event.Closes now)).state ≡ State.Closed) × (reset_since (after_event v (Event.Closes now)) ≡ Some now) × (fate_by v (Event.Closes now) ≡ Fate.Stays) }
+    ensures removes { (v : View) (now : Moment) → (v.state ≡ State.SynSent) ⊎ (v.state ≡ State.Closed) → fate_by v (Event.Closes now) ≡ Fate.Removed }
 {}
