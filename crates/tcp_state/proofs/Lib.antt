@@ -63,3 +63,4 @@ pub mod Used
 pub mod TooLate
 pub mod EndInOrder
 pub mod Shut
+pub mod MovedOctets

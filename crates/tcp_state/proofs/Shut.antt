@@ -1,4 +1,4 @@
--- Why closing our side closes it and keeps what is on its way, and when a close aborts a connection or takes it out.
+-- Why closing our side closes it and keeps what is on its way, when a close aborts a connection or takes it out, and what an abort leaves.
 use Rattle.std.proofs.Common.{◌≡◌, ◌≢◌, ℕ, ◌==◌, ◌||◌, ◌&&◌, ◌⊎◌, not, if◌then◌else◌, Bool, true, false, List, [], ◌∷◌, length, Option, Some, None, is_some, Result, Err, inl, inr, arith, refl, sym, ◌∙◌, ap, subst}
 use Rattle.std.specs.Option.{option_or}
 use Rattle.std.proofs.lemmas.Bool.Decides.{eqb_tells}
@@ -8,14 +8,18 @@ use Rattle.tcp_state.specs.declared.calls.Refusal.TheVariants.{EPIPE, ENOTCONN}
 use Rattle.tcp_state.specs.declared.connection.Fate.TheVariants.{Stays, Removed}
 use Rattle.tcp_state.specs.declared.state.State.{State}
 use Rattle.tcp_state.specs.declared.state.State.TheVariants.{Listen, SynSent, SynReceived, Established, CloseWait, Closed}
-use Rattle.tcp_state.specs.View.{View, IsSound, is_opening, is_syn_sent, is_syn_received, is_write_closed, is_closed, is_listening, reset_since}
+use Rattle.tcp_state.specs.View.{View, IsSound, is_opening, is_syn_sent, is_syn_received, is_write_closed, is_closed, is_listening, is_over, reset_since}
 use Rattle.tcp_state.specs.Calls.{unless_pending, shutdown_refusal, beyond_shutdown, after_shutdown, aborted_at, after_release, is_removed_by_close, is_aborted_by_close}
-use Rattle.tcp_state.specs.Edges.{Shuts, Closes, after_event, fate_by}
+use Rattle.tcp_state.specs.Edges.{Emits, Shuts, Closes, Aborts, after_first, after_event, fate_by}
+use Rattle.tcp_state.specs.declared.emission.Due.{Due}
+use Rattle.tcp_state.specs.declared.emission.Due.TheVariants.{Rst}
+use Rattle.tcp_state.specs.Due.{first_due}
 use Rattle.tcp_state.specs.Duties.{IsShut}
-use Rattle.tcp_halves.proofs.Choices.{neither, unowed}
+use Rattle.tcp_halves.proofs.Choices.{either, clash, neither, unowed}
+use Rattle.tcp_state.proofs.Freed.{opened}
 
 -- no error is pending of what is not CLOSED
-no_error : (error : Option Refusal) (closed : Bool) → closed ≡ false → (is_some error && not closed) ≡ false → error ≡ None
+pub no_error : (error : Option Refusal) (closed : Bool) → closed ≡ false → (is_some error && not closed) ≡ false → error ≡ None
 no_error None closed lives e = refl
 no_error (Some error) true lives e = cc
 no_error (Some error) false lives e = cc
@@ -90,21 +94,16 @@ opening_stays v now sound opening =
 
 -- Closing.
 
-sent_opens : (t : State) → is_opening t ≡ false → (is_syn_sent t ≡ false) × (is_syn_received t ≡ false)
-sent_opens SynSent e = cc
-sent_opens SynReceived e = cc
-sent_opens _ e = (refl, refl)
-
 keeps_place : (v : View) → (is_opening v.state || is_closed v.state) ≡ false → is_removed_by_close v ≡ false
 keeps_place v open_yet =
-    let lives = neither (is_opening v.state) (is_closed v.state) open_yet in ap (λ b. b || is_syn_sent v.state) lives.1 ∙ (sent_opens v.state lives.0).0
+    let lives = neither (is_opening v.state) (is_closed v.state) open_yet in ap (λ b. b || is_syn_sent v.state) lives.1 ∙ (opened v.state lives.0).0
 
 pub close_shuts : (v : View) (now : Moment) → IsSound v → (is_opening v.state || is_closed v.state) ≡ false → v.receiving.readable ≡ []
     → IsShut v (after_event v (Closes now)) × ((after_event v (Closes now)).released ≡ true) × ((after_event v (Closes now)).owes_reset ≡ false) × (fate_by v (Closes now) ≡ Stays)
 close_shuts v now sound open_yet read =
     let lives = neither (is_opening v.state) (is_closed v.state) open_yet in
     let kept = keeps_place v open_yet in
-    let goes_on : is_aborted_by_close v ≡ false = ap (λ b. b || not (length v.receiving.readable == 0)) (sent_opens v.state lives.0).1 ∙ ap (λ (octets : List ℕ). not (length octets == 0)) read in
+    let goes_on : is_aborted_by_close v ≡ false = ap (λ b. b || not (length v.receiving.readable == 0)) (opened v.state lives.0).1 ∙ ap (λ (octets : List ℕ). not (length octets == 0)) read in
     let left : after_event v (Closes now) ≡ after_release v now =
     ap (λ b. if b then v else if is_aborted_by_close v then aborted_at v now else after_release v now) kept ∙ ap (λ b. if b then aborted_at v now else after_release v now) goes_on in (
       subst (IsShut v) (sym left) (shut v (after_release v now) sound open_yet refl refl refl refl),
@@ -125,7 +124,7 @@ pub close_aborts : (v : View) (now : Moment) → (v.state ≡ SynReceived) ⊎ (
 close_aborts v now (inl opens) = aborted v now (ap (λ t. is_closed t || is_syn_sent t) opens) (ap (λ t. is_syn_received t || not (length v.receiving.readable == 0)) opens)
 close_aborts v now (inr unread) =
     let lives = neither (is_opening v.state) (is_closed v.state) unread.0 in
-    aborted v now (keeps_place v unread.0) (ap (λ b. b || not (length v.receiving.readable == 0)) (sent_opens v.state lives.0).1 ∙ some v.receiving.readable unread.1)
+    aborted v now (keeps_place v unread.0) (ap (λ b. b || not (length v.receiving.readable == 0)) (opened v.state lives.0).1 ∙ some v.receiving.readable unread.1)
   where
     some : (octets : List ℕ) → octets ≢ [] → not (length octets == 0) ≡ true
     some [] unread = absurd (unread refl)
@@ -134,3 +133,30 @@ close_aborts v now (inr unread) =
 pub close_removes : (v : View) (now : Moment) → (v.state ≡ SynSent) ⊎ (v.state ≡ Closed) → fate_by v (Closes now) ≡ Removed
 close_removes v now (inl waits) = ap (λ t. if is_closed t || is_syn_sent t then Removed else Stays) waits
 close_removes v now (inr closed) = ap (λ t. if is_closed t || is_syn_sent t then Removed else Stays) closed
+
+-- Aborting.
+
+pub abort_owes : (v : View) (now : Moment) → is_closed v.state ≡ false
+    → (let w = after_event v (Aborts now) in (w.state ≡ Closed) × (w.sending.held ≡ []) × (w.released ≡ true) × (reset_since w ≡ Some now)) × (fate_by v (Aborts now) ≡ Stays)
+abort_owes v now lives =
+    let ended : after_event v (Aborts now) ≡ aborted_at v now = ap (λ b. if b then v else aborted_at v now) lives in (
+      (ap (λ (w : View). w.state) ended, ap (λ (w : View). w.sending.held) ended, ap (λ (w : View). w.released) ended, ap reset_since ended),
+      ap (λ b. if b then Removed else Stays) lives,
+    )
+
+pub abort_removes : (v : View) (now : Moment) → v.state ≡ Closed → fate_by v (Aborts now) ≡ Removed
+abort_removes v now closed = ap (λ t. if is_closed t then Removed else Stays) closed
+
+-- the reset goes out, and nothing is left
+owed_by : (owes closed released : Bool) → (owes && not (closed && released)) ≡ false → owes ≡ true → (closed && released) ≡ true
+owed_by true true true e f = refl
+owed_by true true false e f = cc
+owed_by true false released e f = cc
+owed_by false closed released e f = cc
+
+pub reset_goes : (v : View) (now : Moment) → IsSound v → v.owes_reset ≡ true → (first_due v ≡ Some Rst) × ((after_event v (Emits now)).owes_reset ≡ false) × (fate_by v (Emits now) ≡ Removed)
+reset_goes v now sound owes =
+    let due : first_due v ≡ Some Rst = either (Option Due) (λ o. o ≡ Some Rst) v.owes_reset (Some Rst) _ (λ is. refl) (λ none. clash v.owes_reset owes none) in
+    let ended : (is_closed v.state && v.released) ≡ true = owed_by v.owes_reset (is_closed v.state) v.released sound.reset owes in
+    let over : is_over (after_first v (first_due v) now) ≡ true = ap (λ o. is_over (after_first v o now)) due ∙ ap (λ b. b && not false) ended in
+    (due, ap (λ o. (after_first v o now).owes_reset) due, ap (λ b. if b then Removed else Stays) over)

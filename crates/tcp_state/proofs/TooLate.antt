@@ -10,7 +10,7 @@ use Rattle.tcp_state.specs.View.{View, IsSound, is_closed, is_write_closed, rese
 use Rattle.tcp_state.specs.Arrival.{is_receiving, after_ack, is_read, after_window, after_text, brings_more, is_lost, after_lost, after_segment, repeats_fin, begins_wait, before, timed_by, after_segment_at, fate}
 use Rattle.tcp_state.specs.Duties.{Places, StandsAt, is_fin_wait, is_used, comes_too_late}
 use Rattle.tcp_halves.proofs.Choices.{either, clash, and_left, and_right, or_right, unowed}
-use Rattle.tcp_state.proofs.Segments.{after_reading, by_fin, by_ack, by_segment, by_clock, not_rejected}
+use Rattle.tcp_state.proofs.Segments.{by_fin, by_ack, by_segment, by_clock, not_rejected}
 use Rattle.tcp_state.proofs.Clocked.{comes_to}
 use Rattle.tcp_state.proofs.Gains.{receiving_lives}
 use Rattle.tcp_state.proofs.Used.{read_as_used, more_as_new}
@@ -50,28 +50,25 @@ too_late_aborts at v s now sound stands late =
 
 -- No other.
 
-reading_owes : (v : View) (s : Segment) → v.owes_reset ≡ false → (after_reading v s).owes_reset ≡ false
-reading_owes v s none =
-    let P : View → Type 0 = λ w. w.owes_reset ≡ false in
+segment_owes : (v : View) (s : Segment) → (after_segment v s).owes_reset ≡ v.owes_reset
+segment_owes v s =
+    let P : View → Type 0 = λ w. w.owes_reset ≡ v.owes_reset in
     let told = after_window (after_ack v s.acknowledgement) s in
-    let acked : P told = by_ack P v s.acknowledgement (record { old = none; beyond = none; opens = λ received new. none; octets = λ new. none; fin = λ new fin. none }) in
+    let acked : P told = by_ack P v s.acknowledgement (record { old = refl; beyond = refl; opens = λ received new. refl; octets = λ new. refl; fin = λ new fin. refl }) in
     let text : P (after_text told s) = either View P ((length s.octets == 0) || not (is_receiving told.state)) told _ (λ deaf. acked) (λ some. acked) in
-    by_fin P (after_text told s) s (λ counts. text) text text
-
-segment_owes : (v : View) (s : Segment) → v.owes_reset ≡ false → (after_segment v s).owes_reset ≡ false
-segment_owes v s none = by_segment (λ w. w.owes_reset ≡ false) v s (record {
-  dropped = none;
-  drawn = none;
-  reset = λ acts. none;
-  crossed = λ waits. none;
-  opened = λ waits right. none;
-  acknowledged = λ taken. by_ack (λ w. w.owes_reset ≡ false) v s.acknowledgement (record { old = none; beyond = none; opens = λ received new. none; octets = λ new. none; fin = λ new fin. none });
-  read = λ read. reading_owes v s none;
-})
+    by_segment P v s (record {
+      dropped = refl;
+      drawn = refl;
+      reset = λ acts. refl;
+      crossed = λ waits. refl;
+      opened = λ waits right. refl;
+      acknowledged = λ taken. acked;
+      read = λ read. by_fin P (after_text told s) s (λ counts. text) text text;
+    })
 
 pub others_owe_none : (at : Places) (v : View) (s : Segment) (now : Moment) → IsSound v → is_closed v.state ≡ false → StandsAt at v s → comes_too_late at v s ≡ false → (after_segment_at v s now).owes_reset ≡ false
 others_owe_none at v s now sound lives stands in_time =
     let none : v.owes_reset ≡ false = unowed v.owes_reset (is_closed v.state) v.released lives sound.reset in
     let kept : is_lost v s ≡ false = lost_as_late at v s sound stands ∙ in_time in
     by_clock (λ w. w.owes_reset ≡ false) v s now none
-    (λ open_yet. either View (λ w. w.owes_reset ≡ false) (is_lost v s) (after_lost v s) (after_segment v s) (λ lost. clash (is_lost v s) lost kept) (λ keeps. segment_owes v s none))
+    (λ open_yet. either View (λ w. w.owes_reset ≡ false) (is_lost v s) (after_lost v s) (after_segment v s) (λ lost. clash (is_lost v s) lost kept) (λ keeps. segment_owes v s ∙ none))

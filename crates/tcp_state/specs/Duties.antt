@@ -1,5 +1,5 @@
 -- What a segment asks of a connection, by its flags, by the states, and by positions in the two streams (RFC 9293 sections 3.4, 3.8 and 3.10.7.4), for laws that don't go by the steps of its arrival.
-use Rattle.std.specs.Prelude.{◌≡◌, ℕ, ◌+◌, ◌<◌, ◌^◌, ◌==◌, ◌&&◌, ◌||◌, not, nat_lt, nat_le, Bool, true, false, List, length, Err}
+use Rattle.std.specs.Prelude.{◌≡◌, ℕ, ◌+◌, ◌<◌, ◌^◌, ◌==◌, ◌&&◌, ◌||◌, not, nat_lt, nat_le, Bool, true, false, List, ◌++◌, length, drop, slice_index_or, None, Err}
 use Rattle.stream_buf.specs.Receiving.{ranges}
 use Rattle.tcp_segment.specs.Segment.{Segment}
 use Rattle.tcp_segment.specs.Wire.{wire}
@@ -134,3 +134,22 @@ pub record IsShut (before after : View) : Type 0 where
   pub sending : after.sending ≡ before.sending
   pub receiving : after.receiving ≡ before.receiving
   pub refuses : (octets : List ℕ) → send_answer after octets ≡ Err EPIPE
+
+-- A call moved octets between its caller and one of the halves, and nothing else of the two.
+
+-- these octets were taken, behind those that were held
+pub record TakesBehind (octets : List ℕ) (before after : View) : Type 0 where
+  pub held : after.sending.held ≡ before.sending.held ++ octets
+  pub una : after.sending.una ≡ before.sending.una
+  pub nxt : after.sending.nxt ≡ before.sending.nxt
+  pub receiving : after.receiving ≡ before.receiving
+  pub state : after.state ≡ before.state
+
+-- so many of the readable ones were read, from the first on
+pub record ReadsFirst (count : ℕ) (before after : View) : Type 0 where
+  pub readable : after.receiving.readable ≡ drop count before.receiving.readable
+  pub rnext : after.receiving.rnext ≡ before.receiving.rnext
+  pub edge : after.receiving.edge ≡ before.receiving.edge
+  pub kept : (distance : ℕ) → slice_index_or after.receiving.kept distance None ≡ slice_index_or before.receiving.kept distance None
+  pub sending : after.sending ≡ before.sending
+  pub state : after.state ≡ before.state

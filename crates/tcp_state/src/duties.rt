@@ -1,18 +1,21 @@
 //! Laws of what a connection has to do with a segment: functions with nothing to do, whose contracts are the laws.
 
-ghost use Rattle.std.specs.Prelude.{◌≡◌, ℕ, ◌+◌, ◌-◌, ◌<◌, ◌≤◌, ◌≢◌, ◌==◌, ◌^◌, ◌||◌, ◌&&◌, ◌⊎◌, not, length, true, false, if◌then◌else◌, drop, Some, None, []};
+ghost use Rattle.std.specs.Prelude.{◌≡◌, ℕ, ◌+◌, ◌-◌, ◌<◌, ◌≤◌, ◌≢◌, ◌==◌, ◌^◌, ◌||◌, ◌&&◌, ◌⊎◌, not, length, true, false, if◌then◌else◌, List, take, drop, min, Some, None, [], Ok, Err};
 ghost use Rattle.tcp_segment.specs.Segment.{Segment};
 ghost use Rattle.tcp_segment.specs.Wire.{wire};
 ghost use Rattle.clock.specs.declared.moment.Moment.{Moment};
 ghost use Rattle.tcp_state.specs.declared.connection.Fate.{Fate};
 ghost use Rattle.tcp_state.specs.declared.state.State.{State};
 ghost use Rattle.tcp_halves.specs.Stream.{outstanding};
-ghost use Rattle.tcp_state.specs.View.{View, IsSound, is_opening, is_syn_sent, is_closed, reset_since};
+ghost use Rattle.tcp_state.specs.View.{View, IsSound, is_opening, is_syn_sent, is_write_closed, is_read_closed, is_closed, reset_since};
 ghost use Rattle.tcp_state.specs.declared.calls.Refusal.{Refusal};
-ghost use Rattle.tcp_state.specs.Calls.{shutdown_refusal};
+ghost use Rattle.tcp_state.specs.declared.calls.Received.{Received};
+ghost use Rattle.tcp_state.specs.Calls.{send_answer, recv_answer, shutdown_refusal};
 ghost use Rattle.tcp_state.specs.Edges.{Event, after_event, fate_by};
+ghost use Rattle.tcp_state.specs.declared.emission.Due.{Due};
+ghost use Rattle.tcp_state.specs.Due.{first_due};
 ghost use Rattle.tcp_state.specs.Arrival.{after_segment_at, fate};
-ghost use Rattle.tcp_state.specs.Duties.{acknowledges, HoldsFrom, Places, StandsAt, brings_text, draws, is_used, comes_too_late, acknowledges_end, ends_stream, state_beyond, IsShut};
+ghost use Rattle.tcp_state.specs.Duties.{acknowledges, HoldsFrom, Places, StandsAt, brings_text, draws, is_used, comes_too_late, acknowledges_end, ends_stream, state_beyond, IsShut, TakesBehind, ReadsFirst};
 
 /// Once a connection is open, an acknowledgement of what is outstanding moves SND.UNA to its number and frees exactly the octets before it, our FIN's number standing behind the last octet; SND.NXT stays (RFC 9293
 /// sections 3.4 and 3.10.7.4, fifth). But where it owes a reset then, since octets came after its caller closed it. Any other segment leaves SND.UNA and what is held as they were, unless it ends the connection.
@@ -66,4 +69,34 @@ pub fn closing_closes()
     ensures aborts { (v : View) (now : Moment) → (v.state ≡ State.SynReceived) ⊎ (((is_opening v.state || is_closed v.state) ≡ false) × (v.receiving.readable ≢ []))
         → ((after_event v (Event.Closes now)).state ≡ State.Closed) × (reset_since (after_event v (Event.Closes now)) ≡ Some now) × (fate_by v (Event.Closes now) ≡ Fate.Stays) }
     ensures removes { (v : View) (now : Moment) → (v.state ≡ State.SynSent) ⊎ (v.state ≡ State.Closed) → fate_by v (Event.Closes now) ≡ Fate.Removed }
+{}
+
+/// An abort (RFC 9293 section 3.10.5) leaves nothing of a connection but the reset that its peer is owed from that moment on: it is CLOSED, nothing is held, and its caller has left. Where the reset has gone out, it is taken out, as
+/// is at once what was CLOSED already.
+pub fn aborts_owe_a_reset()
+    ensures owes { (v : View) (now : Moment) → is_closed v.state ≡ false
+        → (let w = after_event v (Event.Aborts now) in (w.state ≡ State.Closed) × (w.sending.held ≡ []) × (w.released ≡ true) × (reset_since w ≡ Some now)) × (fate_by v (Event.Aborts now) ≡ Fate.Stays) }
+    ensures goes { (v : View) (now : Moment) → IsSound v → v.owes_reset ≡ true
+        → (first_due v ≡ Some Due.Rst) × ((after_event v (Event.Emits now)).owes_reset ≡ false) × (fate_by v (Event.Emits now) ≡ Fate.Removed) }
+    ensures removes { (v : View) (now : Moment) → v.state ≡ State.Closed → fate_by v (Event.Aborts now) ≡ Fate.Removed }
+{}
+
+/// A `send` once the connection is open, and our side isn't closed, takes as many octets as the buffer of 65,535 has room for, the first ones, in order behind those that are held, and answers how many (RFC 9293 section 3.10.2).
+/// Where there is no room it takes none, and answers EAGAIN; no octets are taken always.
+pub fn sends_take_what_fits()
+    ensures takes { (v : View) (octets : List ℕ) (now : Moment) → IsSound v → (is_opening v.state || is_write_closed v.state) ≡ false → (0 < length octets → length v.sending.held < 65535)
+        → (let count = min (length octets) (65535 - length v.sending.held) in (send_answer v octets ≡ Ok count) × TakesBehind (take count octets) v (after_event v (Event.Sends octets now))) }
+    ensures full { (v : View) (octets : List ℕ) (now : Moment) → IsSound v → (is_opening v.state || is_write_closed v.state) ≡ false → 0 < length octets → length v.sending.held ≡ 65535
+        → (send_answer v octets ≡ Err Refusal.EAGAIN) × (after_event v (Event.Sends octets now) ≡ v) }
+{}
+
+/// A `recv` once the connection is open moves as many of the octets that are readable as its buffer has room for, from the first on, and answers how many (RFC 9293 section 3.10.3). Where none is readable it answers an end of
+/// stream if the peer's FIN came or the connection is CLOSED, and else EAGAIN, and changes nothing.
+pub fn receives_read_what_came()
+    ensures reads { (v : View) (len : ℕ) → v.pending_error ≡ None → is_opening v.state ≡ false → v.receiving.readable ≢ []
+        → (let count = min len (length v.receiving.readable) in (recv_answer v len ≡ Ok (Received.Octets count)) × ReadsFirst count v (after_event v (Event.Receives len))) }
+    ensures ended { (v : View) (len : ℕ) → v.pending_error ≡ None → is_opening v.state ≡ false → v.receiving.readable ≡ [] → is_read_closed v.state ≡ true
+        → (recv_answer v len ≡ Ok Received.EndOfStream) × (after_event v (Event.Receives len) ≡ v) }
+    ensures waits { (v : View) (len : ℕ) → v.pending_error ≡ None → is_opening v.state ≡ false → v.receiving.readable ≡ [] → is_read_closed v.state ≡ false
+        → (recv_answer v len ≡ Err Refusal.EAGAIN) × (after_event v (Event.Receives len) ≡ v) }
 {}
