@@ -1,13 +1,13 @@
--- What a segment asks of a connection, by its flags, by the states, and by positions in the two streams (RFC 9293 sections 3.4, 3.8 and 3.10.7.4), for laws that don't go by the steps of its arrival.
-use Rattle.std.specs.Prelude.{◌≡◌, ℕ, ◌+◌, ◌<◌, ◌^◌, ◌==◌, ◌&&◌, ◌||◌, not, nat_lt, nat_le, Bool, true, false, List, ◌++◌, length, drop, slice_index_or, None, Err}
+-- What a segment or a call asks of a connection, by its flags, by the states, and by positions in the two streams (RFC 9293 sections 3.4, 3.8 and 3.10.7.4), for laws that don't go by the steps of its arrival.
+use Rattle.std.specs.Prelude.{◌≡◌, ◌≢◌, ℕ, ◌+◌, ◌<◌, ◌≤◌, ◌^◌, ◌==◌, ◌&&◌, ◌||◌, not, nat_lt, nat_le, Bool, true, false, List, ◌++◌, length, drop, slice_index_or, None, Err}
 use Rattle.stream_buf.specs.Receiving.{ranges}
 use Rattle.tcp_segment.specs.Segment.{Segment}
 use Rattle.tcp_segment.specs.Wire.{wire}
 use Rattle.tcp_halves.specs.Stream.{outstanding}
 use Rattle.tcp_state.specs.declared.state.State.{State}
 use Rattle.tcp_state.specs.declared.state.State.TheVariants.{SynReceived, Established, FinWait1, FinWait2, CloseWait, Closing, LastAck, TimeWait, Closed}
-use Rattle.tcp_state.specs.View.{View, is_opening, is_syn_received, is_write_closed}
 use Rattle.tcp_state.specs.declared.calls.Refusal.TheVariants.{EPIPE}
+use Rattle.tcp_state.specs.View.{View, is_opening, is_syn_received, is_write_closed}
 use Rattle.tcp_state.specs.Calls.{send_answer}
 use Rattle.tcp_state.specs.Arrival.{is_acceptable_to}
 use Rattle.tcp_state.specs.Positions.{ReceivesAt, IsNear}
@@ -15,6 +15,10 @@ use Rattle.tcp_state.specs.Positions.{ReceivesAt, IsNear}
 -- its acknowledgement field is looked at: it is acceptable, and has ACK, but neither RST nor SYN (section 3.10.7.4, first to fifth)
 abbrev pub acknowledges : View → Segment → Bool
 acknowledges v s = not s.flags.rst && is_acceptable_to v s && not s.flags.syn && s.flags.ack
+
+-- it names none of the numbers that are outstanding, from that position of SND.UNA on
+abbrev pub NamesNone : ℕ → ℕ → View → Segment → Type 0
+NamesNone own una v s = (ack : ℕ) → una < ack → ack ≤ una + outstanding v.sending → s.acknowledgement ≢ wire own ack
 
 -- SND.UNA has this number, these octets are held from there on, and SND.NXT stays
 pub record HoldsFrom (number : ℕ) (octets : List ℕ) (before after : View) : Type 0 where

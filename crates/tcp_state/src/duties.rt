@@ -1,4 +1,4 @@
-//! Laws of what a connection has to do with a segment: functions with nothing to do, whose contracts are the laws.
+//! Laws of what a connection must do with a segment, and at a call: functions with nothing to do, whose contracts are the laws.
 
 ghost use Rattle.std.specs.Prelude.{◌≡◌, ℕ, ◌+◌, ◌-◌, ◌<◌, ◌≤◌, ◌≢◌, ◌==◌, ◌^◌, ◌||◌, ◌&&◌, ◌⊎◌, not, length, true, false, if◌then◌else◌, List, take, drop, min, Some, None, [], Ok, Err};
 ghost use Rattle.tcp_segment.specs.Segment.{Segment};
@@ -15,16 +15,16 @@ ghost use Rattle.tcp_state.specs.Edges.{Event, after_event, fate_by};
 ghost use Rattle.tcp_state.specs.declared.emission.Due.{Due};
 ghost use Rattle.tcp_state.specs.Due.{first_due};
 ghost use Rattle.tcp_state.specs.Arrival.{after_segment_at, fate};
-ghost use Rattle.tcp_state.specs.Duties.{acknowledges, HoldsFrom, Places, StandsAt, brings_text, draws, is_used, comes_too_late, acknowledges_end, ends_stream, state_beyond, IsShut, TakesBehind, ReadsFirst};
+ghost use Rattle.tcp_state.specs.Duties.{acknowledges, NamesNone, HoldsFrom, Places, StandsAt, brings_text, draws, is_used, comes_too_late, acknowledges_end, ends_stream, state_beyond, IsShut, TakesBehind, ReadsFirst};
 
-/// Once a connection is open, an acknowledgement of what is outstanding moves SND.UNA to its number and frees exactly the octets before it, our FIN's number standing behind the last octet; SND.NXT stays (RFC 9293
-/// sections 3.4 and 3.10.7.4, fifth). But where it owes a reset then, since octets came after its caller closed it. Any other segment leaves SND.UNA and what is held as they were, unless it ends the connection.
+/// Past SYN-SENT an acknowledgement of what is outstanding moves SND.UNA to its number and frees exactly the octets before it, with our SYN before the first of them and our FIN behind the last, and SND.NXT stays (RFC 9293
+/// sections 3.4 and 3.10.7.4, fifth); unless octets come with it after the caller closed the connection, which then owes a reset. Any other segment leaves all three as they were, unless it ends the connection.
 pub fn acknowledgements_free_what_they_name()
-    ensures frees { (v : View) (s : Segment) (now : Moment) (own una ack : ℕ) → IsSound v → (is_opening v.state || is_closed v.state) ≡ false → acknowledges v s ≡ true
+    ensures frees { (v : View) (s : Segment) (now : Moment) (own una ack : ℕ) → IsSound v → (is_syn_sent v.state || is_closed v.state) ≡ false → acknowledges v s ≡ true
         → v.sending.una ≡ wire own una → s.acknowledgement ≡ wire own ack → una < ack → ack ≤ una + outstanding v.sending → (after_segment_at v s now).owes_reset ≡ false
         → HoldsFrom s.acknowledgement (drop (ack - una) v.sending.held) v (after_segment_at v s now) }
-    ensures others { (v : View) (s : Segment) (now : Moment) (own una : ℕ) → IsSound v → is_opening v.state ≡ false → v.sending.una ≡ wire own una → s.acknowledgement < 2 ^ 32
-        → (acknowledges v s ≡ true → (ack : ℕ) → una < ack → ack ≤ una + outstanding v.sending → s.acknowledgement ≢ wire own ack) → is_closed (after_segment_at v s now).state ≡ false
+    ensures others { (v : View) (s : Segment) (now : Moment) (own una : ℕ) → IsSound v → is_syn_sent v.state ≡ false → v.sending.una ≡ wire own una → s.acknowledgement < 2 ^ 32
+        → (acknowledges v s ≡ true → NamesNone own una v s) → is_closed (after_segment_at v s now).state ≡ false
         → HoldsFrom v.sending.una v.sending.held v (after_segment_at v s now) }
 {}
 
@@ -38,7 +38,7 @@ pub fn what_draws_an_acknowledgement()
         → (after_segment_at v s now).delays_ack ≡ (v.delays_ack || (brings_text at v s && not (length s.octets == 0))) }
 {}
 
-/// Octets at RCV.NXT or past it that come after the caller closed the connection abort it: it is CLOSED, and from that moment on owes its peer a reset, for which it keeps its place (RFC 9293 section 3.6.1, RFC 1122 section
+/// Octets at RCV.NXT or past it abort a connection that its caller closed: it is CLOSED, and from that moment on owes its peer a reset, for which it keeps its place (RFC 9293 section 3.6.1, RFC 1122 section
 /// 4.2.2.13). No other segment makes a reset owed.
 pub fn octets_after_close_abort()
     ensures aborts { (at : Places) (v : View) (s : Segment) (now : Moment) → IsSound v → StandsAt at v s → comes_too_late at v s ≡ true
@@ -47,8 +47,8 @@ pub fn octets_after_close_abort()
         → (after_segment_at v s now).owes_reset ≡ false }
 {}
 
-/// A FIN counts exactly where every octet before it has come in order and the window has room for it: RCV.NXT moves over it, and the state moves on, as it does where our FIN is acknowledged (RFC 9293 section 3.3.2, figure 5, and section
-/// 3.10.7.4, fifth and eighth). With any other FIN both are as without. A segment that is not used changes no state and nothing of the peer's stream, unless it ends the connection.
+/// A FIN counts exactly where every octet before it has come in order and the window has room for it: RCV.NXT moves over it, and the state moves on, as it does where our FIN is acknowledged (RFC 9293 section 3.3.2,
+/// figure 5, and section 3.10.7.4, fifth and eighth). Any other FIN leaves both as they are without it. A segment that is not used changes neither the state nor anything of the peer's stream, unless it ends the connection.
 pub fn the_end_counts_in_order()
     ensures used { (at : Places) (v : View) (s : Segment) (now : Moment) → IsSound v → (is_syn_sent v.state || is_closed v.state) ≡ false → StandsAt at v s → is_used at v s ≡ true → comes_too_late at v s ≡ false
         → (let w = after_segment_at v s now in let count = length w.receiving.readable - length v.receiving.readable in
@@ -57,9 +57,9 @@ pub fn the_end_counts_in_order()
         → ((after_segment_at v s now).state ≡ v.state) × ((after_segment_at v s now).receiving ≡ v.receiving) }
 {}
 
-/// Closing our side (RFC 9293 sections 3.6 and 3.10.4): ESTABLISHED moves to FIN-WAIT-1, CLOSE-WAIT to LAST-ACK, and a side that is closed stays; what is held still goes out, and what is readable stays. There is nothing to close while
-/// the connection opens. A `close` does so too and leaves the connection, which goes on without a socket. But where it opens for a peer, or octets wait that nobody will read, it is aborted, and owes a reset from that moment on (RFC 1122
-/// section 4.2.2.13); and where it waits for the answer to its SYN, or is CLOSED, it is taken out.
+/// Closing our side (RFC 9293 sections 3.6 and 3.10.4): ESTABLISHED moves to FIN-WAIT-1, CLOSE-WAIT to LAST-ACK, and a side that is closed stays so; what is held and what is readable stay, and octets are taken no longer.
+/// There is nothing to close while the connection opens. A `close` does the same, and its caller has left. But where the connection opens for a peer, or octets wait that nobody will read, a `close` aborts it, and it
+/// owes a reset from that moment on (RFC 1122 section 4.2.2.13); and where it waits for the answer to its SYN, or is CLOSED, it is taken out.
 pub fn closing_closes()
     ensures shuts { (v : View) (now : Moment) → IsSound v → (is_opening v.state || is_closed v.state) ≡ false
         → (shutdown_refusal v ≡ None) × IsShut v (after_event v (Event.Shuts now)) × ((after_event v (Event.Shuts now)).released ≡ v.released) × (fate_by v (Event.Shuts now) ≡ Fate.Stays) }
@@ -71,8 +71,8 @@ pub fn closing_closes()
     ensures removes { (v : View) (now : Moment) → (v.state ≡ State.SynSent) ⊎ (v.state ≡ State.Closed) → fate_by v (Event.Closes now) ≡ Fate.Removed }
 {}
 
-/// An abort (RFC 9293 section 3.10.5) leaves nothing of a connection but the reset that its peer is owed from that moment on: it is CLOSED, nothing is held, and its caller has left. Where the reset has gone out, it is taken out, as
-/// is at once what was CLOSED already.
+/// An abort (RFC 9293 section 3.10.5) leaves nothing of a connection but the reset that its peer is owed from that moment on: it is CLOSED, nothing is held, and its caller has left. Once that reset has gone out, it is taken
+/// out, as what is CLOSED already is at once.
 pub fn aborts_owe_a_reset()
     ensures owes { (v : View) (now : Moment) → is_closed v.state ≡ false
         → (let w = after_event v (Event.Aborts now) in (w.state ≡ State.Closed) × (w.sending.held ≡ []) × (w.released ≡ true) × (reset_since w ≡ Some now)) × (fate_by v (Event.Aborts now) ≡ Fate.Stays) }
@@ -81,8 +81,8 @@ pub fn aborts_owe_a_reset()
     ensures removes { (v : View) (now : Moment) → v.state ≡ State.Closed → fate_by v (Event.Aborts now) ≡ Fate.Removed }
 {}
 
-/// A `send` once the connection is open, and our side isn't closed, takes as many octets as the buffer of 65,535 has room for, the first ones, in order behind those that are held, and answers how many (RFC 9293 section 3.10.2).
-/// Where there is no room it takes none, and answers EAGAIN; no octets are taken always.
+/// Once a connection is open, and while our side isn't closed, a `send` takes the first octets, as many as the buffer of 65,535 has room for, behind those that are held, and answers how many (RFC 9293 section 3.10.2). Where
+/// there is room for none of them, it answers EAGAIN and changes nothing.
 pub fn sends_take_what_fits()
     ensures takes { (v : View) (octets : List ℕ) (now : Moment) → IsSound v → (is_opening v.state || is_write_closed v.state) ≡ false → (0 < length octets → length v.sending.held < 65535)
         → (let count = min (length octets) (65535 - length v.sending.held) in (send_answer v octets ≡ Ok count) × TakesBehind (take count octets) v (after_event v (Event.Sends octets now))) }
@@ -90,8 +90,8 @@ pub fn sends_take_what_fits()
         → (send_answer v octets ≡ Err Refusal.EAGAIN) × (after_event v (Event.Sends octets now) ≡ v) }
 {}
 
-/// A `recv` once the connection is open moves as many of the octets that are readable as its buffer has room for, from the first on, and answers how many (RFC 9293 section 3.10.3). Where none is readable it answers an end of
-/// stream if the peer's FIN came or the connection is CLOSED, and else EAGAIN, and changes nothing.
+/// Once a connection is open, a `recv` reads the first of the octets that are readable, as many as its buffer has room for, and answers how many (RFC 9293 section 3.10.3). Where none is readable it changes nothing, and answers
+/// the end of the stream if the peer's FIN came or the connection is CLOSED, and else EAGAIN.
 pub fn receives_read_what_came()
     ensures reads { (v : View) (len : ℕ) → v.pending_error ≡ None → is_opening v.state ≡ false → v.receiving.readable ≢ []
         → (let count = min len (length v.receiving.readable) in (recv_answer v len ≡ Ok (Received.Octets count)) × ReadsFirst count v (after_event v (Event.Receives len))) }
