@@ -61,11 +61,11 @@ all-more : {X : Type 0} (P Q : X → Type 0) → ((x : X) → P x → Q x) → (
 all-more P Q more [] all = tt
 all-more P Q more (x ∷ xs) all = (more x all.0, all-more P Q more xs all.1)
 
-all-behind : {X : Type 0} (P : X → Type 0) (xs : List X) (x : X) → AllByRecursion P xs → P x → AllByRecursion P (xs ++ x ∷ [])
+pub all-behind : {X : Type 0} (P : X → Type 0) (xs : List X) (x : X) → AllByRecursion P xs → P x → AllByRecursion P (xs ++ x ∷ [])
 all-behind P [] x all last = (last, tt)
 all-behind P (y ∷ ys) x all last = (all.0, all-behind P ys x all.1 last)
 
-all-filtered : {X : Type 0} (P : X → Type 0) (p : X → Bool) (xs : List X) → AllByRecursion P xs → AllByRecursion P (filter p xs)
+pub all-filtered : {X : Type 0} (P : X → Type 0) (p : X → Bool) (xs : List X) → AllByRecursion P xs → AllByRecursion P (filter p xs)
 all-filtered P p [] all = tt
 all-filtered {X} P p (x ∷ xs) all = by_test (p x) (all-filtered P p xs all.1)
   where
@@ -73,7 +73,7 @@ all-filtered {X} P p (x ∷ xs) all = by_test (p x) (all-filtered P p xs all.1)
     by_test true rest = (all.0, rest)
     by_test false rest = rest
 
-all-left : {X : Type 0} (P : X → Type 0) (xs : List X) (k : ℕ) → AllByRecursion P xs → AllByRecursion P (remove xs k)
+pub all-left : {X : Type 0} (P : X → Type 0) (xs : List X) (k : ℕ) → AllByRecursion P xs → AllByRecursion P (remove xs k)
 all-left P [] zero all = tt
 all-left P [] (suc k) all = tt
 all-left P (x ∷ xs) zero all = all.1

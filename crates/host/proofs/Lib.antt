@@ -13,3 +13,4 @@ pub mod Reporting
 pub mod Gathering
 pub mod Unusable
 pub mod Tables
+pub mod Ran

@@ -1,5 +1,5 @@
 -- What the events of a host make of its table: that is reached by events of the table, none of them refused, and its connections keep time.
-use Rattle.std.proofs.Common.{◌≡◌, ℕ, ◌<◌, ◌^◌, not, Bool, true, false, List, Option, Some, None, Result, Ok, Err, refl, sym, ap, subst}
+use Rattle.std.proofs.Common.{◌≡◌, ℕ, ◌<◌, ◌^◌, not, Bool, true, false, List, Option, Some, None, Result, Ok, Err, refl, sym, ◌∙◌, ap, subst}
 use Rattle.std.proofs.lemmas.Bool.{and_parts}
 use Rattle.ipv4.specs.declared.addr.Addr.{Addr}
 use Rattle.ipv4.specs.Addresses.{same_addr, is_unicast}
@@ -34,6 +34,7 @@ use Rattle.sockets.specs.Timing.{EachKeepsTime}
 use Rattle.sockets.specs.Timing as timing
 use Rattle.sockets.specs.SocketsView.{SocketsView, later_moment, new_sockets}
 use Rattle.sockets.proofs.Led.{led_nowhere, led_by, led_on, further, reached_by, reached_ordered, reached_over}
+use Rattle.sockets.proofs.Numbered.{address_stays}
 use Rattle.sockets.proofs.Timed.{each_timed, left_timed, fresh_timed}
 use Rattle.host.specs.Arrival.{arrival_by_route, segment_arrival, MeetsSegment, MeetsMessage, MeetsFragment, MeetsHeard, after_user_datagram, after_payload, after_outcome, fragment_outcome, heard_by}
 use Rattle.host.specs.ConfigView.{ConfigView}
@@ -139,6 +140,12 @@ event-leads (Emits now) old new sound small makes = let moment : Moment = later_
 
 -- What a table keeps over an event of its host ..
 
+-- the address that it is over
+addr-on : (h new : SocketsView) → IsStep h new → new.addr ≡ h.addr
+addr-on h _ stays = refl
+addr-on h _ (steps e allowed small) = address_stays h e
+addr-on h _ (ticks lost moment) = address_stays h (table.Ticks moment)
+
 reached-on : (h new : SocketsView) → IsStep h new → IsReached h → IsReached new
 reached-on h _ stays reached = reached
 reached-on h _ (steps e allowed small) reached = further h (after_event h e) (led_by h e allowed) reached
@@ -158,6 +165,10 @@ pub event-timed : (event : Event) (old new : HostView) → IsSoundHost old → I
 event-timed event old new sound small makes keeps = timed-on old.sockets new.sockets sound.table (event-leads event old new sound small makes) keeps
 
 -- .. and over any list of them.
+
+pub run-addr : (c : ConfigView) (events : List Event) (h : HostView) → Runs c events h → h.sockets.addr ≡ c.addr
+run-addr c _ _ Begins = refl
+run-addr c _ _ (GoesOn before event old new ran sound small makes) = addr-on old.sockets new.sockets (event-leads event old new sound small makes) ∙ run-addr c before old ran
 
 pub run-reached : (c : ConfigView) (events : List Event) (h : HostView) → Runs c events h → IsReached h.sockets
 run-reached c _ _ Begins = reached_by c.addr (new_sockets c.addr) (led_nowhere (new_sockets c.addr))

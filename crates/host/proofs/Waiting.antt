@@ -65,7 +65,7 @@ kept-all {X} p (x ∷ xs) e = by_test (p x) refl (kept-all p xs) e
 
 -- The least deadline.
 
-fold-come : {X : Type 0} (f : X → Option Moment) (first : Option Moment) (xs : List X) (now : Moment)
+pub fold-come : {X : Type 0} (f : X → Option Moment) (first : Option Moment) (xs : List X) (now : Moment)
     → has_come (fold (λ least x. sooner least (f x)) first xs) now ≡ (has_come first now || list_any (λ x. has_come (f x) now) xs)
 fold-come f first [] now = or-false (has_come first now)
 fold-come f first (x ∷ xs) now =

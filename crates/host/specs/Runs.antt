@@ -8,7 +8,7 @@ use Rattle.sockets.specs.Causes as table
 use Rattle.sockets.specs.Order.{IsAllowed}
 use Rattle.sockets.specs.Timing as timing
 use Rattle.host.specs.Arrival.{IsDelivered}
-use Rattle.host.specs.ConfigView.{ConfigView}
+use Rattle.host.specs.ConfigView.{ConfigView, IsConfig}
 use Rattle.host.specs.Emission.{after_emission}
 use Rattle.host.specs.HostView.{HostView, new_host, with_sockets}
 use Rattle.host.specs.Sound.{IsSoundHost}
@@ -41,6 +41,13 @@ IsNumbered (Emits now) = Unit {0}
 pub data Runs (c : ConfigView) : List Event → HostView → Type 0 where
   Begins : Runs c [] (new_host c)
   GoesOn : (before : List Event) (event : Event) (old new : HostView) → Runs c before old → IsSoundHost old → IsNumbered event → Makes event old new → Runs c (before ++ event ∷ []) new
+
+-- A list of events leads to this host, from one of a set-up on which nothing happened. `Host::sound` says so of every host.
+pub record HasRun (h : HostView) : Type 0 where
+  pub config : ConfigView
+  pub set_up : IsConfig config
+  pub events : List Event
+  pub runs : Runs config events h
 
 -- one of these events was the delivery of octets that are this to a host of this set-up
 pub record WasHeard (c : ConfigView) (events : List Event) (meaning : Meaning) : Type 0 where

@@ -8,7 +8,7 @@ ghost use Rattle.sockets.specs.Arrival.{pair_opened};
 ghost use Rattle.host.specs.Arrival.{queue_answer};
 ghost use Rattle.host.specs.Messages.{is_hard, refused_quote, told_by};
 
-use crate::host::Host;
+use crate::layers::Layers;
 use clock::Moment;
 use frames::{Control, DropCause, Meaning, ReceivedSegment, read};
 use icmp::{IcmpView, Quote, Reason};
@@ -17,23 +17,11 @@ use ipv4::{Ipv4View, Pair, Protocol};
 use sockets::Taken;
 use tcp_segment::Seq;
 
-impl Host {
+impl Layers {
     ghost use Rattle.host.specs.Arrival.{IsDelivered, MeetsDatagram, MeetsHeard, MeetsMessage, foreseen, foreseen_of};
 
-    /// Takes a frame, at the later of `now` and the kept moment. `isn` is used only where it opens a connection.
-    ///
-    /// The first cause to drop it from the lowest layer up, and then nothing has changed: Short under 14 octets or over 1,514; OtherMac
-    /// where it isn't for us, and a broadcast is for us with ARP alone; OtherType with neither IPv4 nor ARP; IpHeader, IpSum where the header
-    /// of the datagram isn't well; OtherAddress where the datagram is for another host, or it or the ARP packet comes from our own
-    /// address or not from a unicast address; Fragment for one of any protocol but UDP; UpperHeader, UpperSum where the ARP packet, the
-    /// segment, the message or the UDP datagram isn't well. NoRoom where it would open a connection and there is no place in the backlog or
-    /// the table, no id, no memory or no route to its source, where its UDP datagram finds 64 others at the socket, where it is a fragment of
-    /// a datagram that has no place in the pool, where it is to be answered by a reset, an echo or an error and 16 control replies wait, and where
-    /// it asks for our MAC and 16 wait: what that ARP packet says is learnt all the same.
-    ///
-    /// What answers a datagram isn't sent where no route leads to its source, and the frame is taken then. So is a fragment of UDP: what its
-    /// datagram comes to once it is whole is no matter of this frame.
-    pub fn deliver(&mut self, now: Moment, isn: Seq, frame: &[u8]) -> Result<(), DropCause>
+    /// Takes a frame, as `Host::deliver`.
+    pub(crate) fn deliver(&mut self, now: Moment, isn: Seq, frame: &[u8]) -> Result<(), DropCause>
         ensures { IsDelivered self.old now isn.0 frame.now result self.new }
     {
         let now = self.sockets.later_moment(now);
@@ -48,7 +36,7 @@ impl Host {
     }
 
     /// Takes a segment for us, at this moment.
-    #[tactic(auto, using(crate::proofs::Answered::answered, crate::proofs::Answered::met_answer, crate::proofs::Answered::owed_addr))]
+    #[tactic(auto, using(crate::proofs::Answered::answered, crate::proofs::Answered::met_answer))]
     fn take(
         &mut self,
         now: Moment,
@@ -109,8 +97,8 @@ impl Host {
         )
     }
 
-    /// The pair that delivering this frame would open if memory were there (RFC 9293 section 3.10.7.2); None where it would open none.
-    pub fn would_open(&self, frame: &[u8]) -> Option<Pair>
+    /// The pair that delivering this frame would open, as `Host::would_open`.
+    pub(crate) fn would_open(&self, frame: &[u8]) -> Option<Pair>
         ensures { result ≡ foreseen self.now frame.now }
     {
         match read(self.interface.mac(), self.interface.addr(), frame) {

@@ -23,7 +23,8 @@ impl Host {
         ensures ok { IfOk result (λ id. (id.0 ≡ self.old.sockets.last_id + 1) × IsMade kind self.old.sockets self.new.sockets × (self.new ≡ with_sockets self.old self.new.sockets)) }
         ensures err { OnErr result (self.new ≡ self.old) }
     {
-        self.sockets.socket(kind)
+        self.sound();
+        self.layers.sockets.socket(kind)
     }
 
     /// Binds a socket to a local endpoint; port 0 asks for a dynamic port, which `sockname` tells. EBADF, EINVAL, EADDRNOTAVAIL, EADDRINUSE.
@@ -33,7 +34,8 @@ impl Host {
         ensures ok { OnOk result (self.new ≡ with_sockets self.old (after_bind self.old.sockets id local)) }
         ensures err { OnErr result (self.new ≡ self.old) }
     {
-        self.sockets.bind(id, local)
+        self.sound();
+        self.layers.sockets.bind(id, local)
     }
 
     /// Lets a bound socket take connections, of which 1 to 8 may wait. EBADF, EOPNOTSUPP, EINVAL, EDESTADDRREQ. See `Sockets::listen`.
@@ -42,7 +44,8 @@ impl Host {
         ensures ok { OnOk result (self.new ≡ with_sockets self.old (after_listen self.old.sockets id backlog)) }
         ensures err { OnErr result (self.new ≡ self.old) }
     {
-        self.sockets.listen(id, backlog)
+        self.sound();
+        self.layers.sockets.listen(id, backlog)
     }
 
     /// Takes the connection that waits longest at a listener past its opening. EBADF, EOPNOTSUPP, EINVAL, EAGAIN. See `Sockets::accept`.
@@ -51,7 +54,8 @@ impl Host {
         ensures ok { OnOk result (self.new ≡ with_sockets self.old (after_accept self.old.sockets id)) }
         ensures err { OnErr result (self.new ≡ self.old) }
     {
-        self.sockets.accept(id)
+        self.sound();
+        self.layers.sockets.accept(id)
     }
 
     /// Opens a connection to `peer`, whose initial sequence number here is `isn`, where one of the host's routes leads to it (RFC 1122 section
@@ -69,16 +73,18 @@ impl Host {
         ensures numbered { isn.0 < 2 ^ 32 }
         ensures err { OnErr result (self.new ≡ self.old) }
     {
-        let is_routed = self.interface.is_routed(peer.addr);
-        self.sockets.connect(isn, id, peer, is_routed)
+        self.sound();
+        let is_routed = self.layers.interface.is_routed(peer.addr);
+        self.layers.sockets.connect(isn, id, peer, is_routed)
     }
 
     /// The pair that `connect` would open; None where it would be refused.
     pub fn would_connect(&self, id: SocketId, peer: Endpoint) -> Option<Pair>
         ensures { result ≡ pair_connected self.now.sockets id peer (is_routed self.now.interface peer.addr) }
     {
-        self.sockets
-            .would_connect(id, peer, self.interface.is_routed(peer.addr))
+        self.layers
+            .sockets
+            .would_connect(id, peer, self.layers.interface.is_routed(peer.addr))
     }
 
     /// Gives octets to a connection, and answers how many it took. EBADF, EDESTADDRREQ, EOPNOTSUPP, ENOTCONN, ECONNREFUSED, ECONNRESET,
@@ -88,7 +94,8 @@ impl Host {
         ensures ok { OnOk result (self.new ≡ with_sockets self.old (after_send self.old.sockets id octets.now)) }
         ensures err { OnErr result (self.new ≡ self.old) }
     {
-        self.sockets.send(id, octets)
+        self.sound();
+        self.layers.sockets.send(id, octets)
     }
 
     /// Reads octets of a connection into `buffer`, or the end of the stream. EBADF, EOPNOTSUPP, EINVAL, ENOTCONN, ECONNREFUSED, ECONNRESET,
@@ -99,7 +106,8 @@ impl Host {
         ensures ok { OnOk result (self.new ≡ with_sockets self.old (after_recv self.old.sockets id (length buffer.old))) }
         ensures err { OnErr result (self.new ≡ self.old) }
     {
-        self.sockets.recv(id, buffer)
+        self.sound();
+        self.layers.sockets.recv(id, buffer)
     }
 
     /// Closes our side of a connection: a FIN follows the octets that were given. EBADF, EOPNOTSUPP, ECONNREFUSED, ECONNRESET, ETIMEDOUT,
@@ -109,7 +117,8 @@ impl Host {
         ensures ok { OnOk result (self.new ≡ with_sockets self.old (after_shutdown self.old.sockets id)) }
         ensures err { OnErr result (self.new ≡ self.old) }
     {
-        self.sockets.shutdown_write(id)
+        self.sound();
+        self.layers.sockets.shutdown_write(id)
     }
 
     /// Gives a UDP datagram for `peer` to a socket, where one of the host's routes leads to it (RFC 1122 section 3.3.1.1). EBADF, EOPNOTSUPP,
@@ -119,8 +128,8 @@ impl Host {
         ensures ok { OnOk result (self.new ≡ with_sockets self.old (after_sendto self.old.sockets id peer octets.now (is_routed self.old.interface peer.addr))) }
         ensures err { OnErr result (self.new ≡ self.old) }
     {
-        self.sockets
-            .sendto(id, peer, octets, self.interface.is_routed(peer.addr))
+        self.sound();
+        self.layers.sockets.sendto(id, peer, octets, self.layers.interface.is_routed(peer.addr))
     }
 
     /// Reads the first UDP datagram that came to a socket into `buffer`, as far as it fits. EBADF, EOPNOTSUPP, EINVAL, EAGAIN. See
@@ -135,7 +144,8 @@ impl Host {
         ensures ok { OnOk result (self.new ≡ with_sockets self.old (after_recvfrom self.old.sockets id)) }
         ensures err { OnErr result (self.new ≡ self.old) }
     {
-        self.sockets.recvfrom(id, buffer)
+        self.sound();
+        self.layers.sockets.recvfrom(id, buffer)
     }
 
     /// Closes a socket: its id names none any more. EBADF. See `Sockets::close`.
@@ -144,27 +154,28 @@ impl Host {
         ensures ok { OnOk result (self.new ≡ with_sockets self.old (after_close self.old.sockets id)) }
         ensures err { OnErr result (self.new ≡ self.old) }
     {
-        self.sockets.close(id)
+        self.sound();
+        self.layers.sockets.close(id)
     }
 
     /// The state of a socket. EBADF. See `Sockets::state`.
     pub fn state(&self, id: SocketId) -> Result<SocketState, Refusal>
         ensures { result ≡ state_answer self.now.sockets id }
     {
-        self.sockets.state(id)
+        self.layers.sockets.state(id)
     }
 
     /// Where a socket is. EBADF. See `Sockets::sockname`.
     pub fn sockname(&self, id: SocketId) -> Result<Endpoint, Refusal>
         ensures { result ≡ sockname_answer self.now.sockets id }
     {
-        self.sockets.sockname(id)
+        self.layers.sockets.sockname(id)
     }
 
     /// The peer of a socket's connection. EBADF, ENOTCONN. See `Sockets::peername`.
     pub fn peername(&self, id: SocketId) -> Result<Endpoint, Refusal>
         ensures { result ≡ peername_answer self.now.sockets id }
     {
-        self.sockets.peername(id)
+        self.layers.sockets.peername(id)
     }
 }

@@ -6,7 +6,7 @@ ghost use Rattle.sockets.specs.Datagrams.{reception};
 ghost use Rattle.host.specs.Arrival.{after_user_datagram};
 ghost use Rattle.host.specs.HostView.{HostView};
 
-use crate::host::Host;
+use crate::layers::Layers;
 use clock::Moment;
 use frames::{DropCause, ReceivedDatagram};
 use icmp::Reason;
@@ -16,7 +16,7 @@ use reassembly::{Assembled, Loss};
 use sockets::{Reception, Sockets};
 use udp::UdpView;
 
-impl Host {
+impl Layers {
     ghost use Rattle.host.specs.Arrival.{MeetsFragment, MeetsUserDatagram, fragment_outcome};
 
     /// Takes a UDP datagram for us that came whole, at this moment: it goes to the socket that is bound to its port, and where none is,

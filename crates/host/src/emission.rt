@@ -4,7 +4,7 @@ ghost use Rattle.std.specs.Prelude.{◌≡◌, ◌≤◌, ◌++◌, drop, positi
 ghost use Rattle.sockets.specs.Entries.{due_of, sends, IsDueAt};
 ghost use Rattle.host.specs.Emission.{Sends};
 
-use crate::host::Host;
+use crate::layers::Layers;
 use clock::Moment;
 use ether::{FRAME_MAX, Mac};
 use frames::HEADS;
@@ -28,16 +28,12 @@ pub(crate) enum Plan {
     },
 }
 
-impl Host {
+impl Layers {
     ghost use Rattle.host.specs.Emission.{emission_len, after_emission, emission_front, goes_out_from, len_of, octets_of, left_by, front_of, table_emission};
     ghost use Rattle.host.specs.Plans.{planned, planned_or_nothing, plan_to, IsFirst};
 
-    /// Writes the frame that goes out first, at the later of `now` and the kept moment, from `out[0]` on, and answers its length,
-    /// 60 to 1,514 octets: that of the first control reply for which one can, in the order in which they wait, else that of the segment
-    /// or the part of a datagram of the first entry, in order of id, for which one can (RFC 894, RFC 9293 section 3.8, RFC 768). Where the MAC of the next hop
-    /// isn't known, the ARP request for it goes out in that place, once a second an address, and what it is for waits as it is
-    /// (RFC 1122 sections 2.3.2.1 and 2.3.2.2). None only where nothing can go out now, and then nothing has changed.
-    pub fn next_frame(&mut self, now: Moment, out: &mut [u8; FRAME_MAX]) -> Option<usize>
+    /// Writes the frame that goes out first, as `Host::next_frame`.
+    pub(crate) fn next_frame(&mut self, now: Moment, out: &mut [u8; FRAME_MAX]) -> Option<usize>
         ensures answer { result ≡ emission_len self.old now }
         ensures bounds { IfSome result (λ len. (60 ≤ len) × (len ≤ FRAME_MAX)) }
         ensures after { self.new ≡ after_emission self.old now }

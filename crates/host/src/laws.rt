@@ -53,8 +53,7 @@ ghost use Rattle.host.specs.Ticks.{after_tick, least_deadline, hop_deadline};
 /// The layers compose. A frame that goes out with a segment is heard, where it is for, as the very segment that is meant, from our address, where
 /// that isn't its own: so it is dropped there for nothing but lack of room, and the entry of its pair, or the rule for none, meets that segment. Whoever
 /// else hears a segment in what goes out hears that one, at the address that it is for; and the pair that is read of the frame is that of
-/// its two ends, or none where it carries none (RFC 9293 section 3.1). A host keeps itself sound, as `Host::sound` says, and its table in
-/// order, as `sockets::laws::tables_stay_ordered` does.
+/// its two ends, or none where it carries none (RFC 9293 section 3.1). Every host is sound and its table in order, as `Host::sound` says.
 pub fn layers_compose()
     ensures heard { (h : HostView) (now : Moment) (c : Carried) → IsSoundHost h → IsOrdered h.sockets → carried h now ≡ Some c → h.interface.addr ≢ c.to
         → heard c.mac c.to (emission_octets h now) ≡ Ok (Tcp (record { source = h.interface.addr; segment = c.segment })) }
@@ -123,7 +122,8 @@ pub fn answered_datagrams_may_be()
 {}
 
 /// Over every list of events of a host its table is one that events of the table lead to, none of them refused. So it is in order, nothing of it is over, and each law of
-/// tables that are reached is one of it. And each of its connections keeps its time and its congestion window.
+/// tables that are reached is one of it. And each of its connections keeps its time and its congestion window. There is such a list for every host, as
+/// `Host::sound` says.
 pub fn tables_are_reached()
     ensures event { (event : Event) (old new : HostView) → IsSoundHost old → IsNumbered event → Makes event old new → IsReached old.sockets → IsReached new.sockets }
     ensures timed { (event : Event) (old new : HostView) → IsSoundHost old → IsNumbered event → Makes event old new → EachKeepsTime old.sockets → EachKeepsTime new.sockets }

@@ -9,6 +9,7 @@ mod datagrams;
 mod emission;
 mod host;
 pub mod laws;
+mod layers;
 mod ticks;
 
 pub use config::Config;

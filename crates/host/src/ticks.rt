@@ -3,7 +3,7 @@
 ghost use Rattle.std.specs.Prelude.{◌≡◌};
 ghost use Rattle.host.specs.Ticks.{all_reported};
 
-use crate::host::Host;
+use crate::layers::Layers;
 use clock::{Moment, sooner};
 use icmp::Reason;
 use interface::Interface;
@@ -11,15 +11,11 @@ use ipv4::Endpoint;
 use reassembly::Expired;
 use sockets::Entry;
 
-impl Host {
+impl Layers {
     ghost use Rattle.host.specs.Ticks.{after_tick, least_deadline, hop_deadline, request_deadline};
 
-    /// Moves the kept moment forward to `now`, and lets each timer act whose moment has come. It never goes back. A connection
-    /// that its caller closed is gone once its wait is over. Control replies, resets of aborts and datagrams that have waited for 3,000 ms or
-    /// more are dropped where the MAC of their next hop isn't known then; all else waits on. Neighbours that were not heard in the last 20
-    /// minutes are forgotten (RFC 1122 section 2.3.2.1). Fragments whose first came 60 seconds ago or earlier are dropped, and their source is
-    /// told so where the fragment zero came (section 3.3.2) and 16 control replies don't wait yet.
-    pub fn tick(&mut self, now: Moment)
+    /// Lets time pass, as `Host::tick`.
+    pub(crate) fn tick(&mut self, now: Moment)
         ensures { self.new ≡ after_tick self.old now }
     {
         let now = self.sockets.later_moment(now);
@@ -32,10 +28,8 @@ impl Host {
         report_expired(&mut self.interface, now, &expired);
     }
 
-    /// The least moment at which a tick does something, or a request may go out that something waits for: of the entries' timers, of the
-    /// 60 seconds of the pool's fragments, of the 3,000 ms of the control replies, the resets of aborts and the datagrams whose next hop isn't
-    /// known at the kept moment, and of the moments from which the request for a hop may go out again.
-    pub fn next_deadline(&self) -> Option<Moment>
+    /// The deadline, as `Host::next_deadline`.
+    pub(crate) fn next_deadline(&self) -> Option<Moment>
         ensures { result ≡ least_deadline self.now }
     {
         let now = self.sockets.kept();

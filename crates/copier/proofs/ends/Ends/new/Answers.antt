@@ -23,6 +23,6 @@ returns-clause-course c =
       b_listens = l.2;
       a_socket = subst (λ (h : HostView). MakesSocket h c.in_ok-sender.sender k.0) a.2 k.1;
       a_connects = k.2;
-      sound_b = c.sound.ensures;
+      sound_b = c.sound.ensures.sound;
       others = refl;
     })

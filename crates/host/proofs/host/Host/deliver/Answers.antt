@@ -1,9 +1,8 @@
--- What is heard as a message fits into a frame.
-use Rattle.std.proofs.Common.{Ok, sym, ◌∙◌, ap}
-use Rattle.frames.specs.declared.meaning.Meaning.{Meaning}
-use Rattle.frames.proofs.Hearers.{messages_fit}
+use Rattle.std.proofs.Common.{rules}
+use Rattle.host.specs.Runs.{Delivers}
+use Rattle.host.proofs.Ran.{ran}
 use Rattle.host.proofs.host.Host.deliver.Goals as goal
 
-pub hear-requires-in-Icmp : goal.hear-requires-in-Icmp
-hear-requires-in-Icmp c =
-    messages_fit c.mac.result c.addr.result c.args.frame.now c.in-Icmp.control (sym c.read.ensures ∙ c.in_ok-packet.was ∙ ap (λ (m : Meaning). Ok m) c.in-Icmp.is)
+pub invariant_of-self : goal.invariant_of-self
+invariant_of-self c =
+    ran (Delivers c.args.now c.args.isn.0 c.args.frame.now) c.deliver.new.self c.self.view_is c.sound.ensures.sound c.self.invariant (search rules) (c.deliver.result, c.deliver.ensures)

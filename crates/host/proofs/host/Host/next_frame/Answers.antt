@@ -1,10 +1,6 @@
-use Rattle.std.proofs.Common.{◌≤◌, arith, sym, ◌∙◌}
-use Rattle.interface.specs.Emission.{len_at}
-use Rattle.interface.proofs.Waits.{first_goes}
+use Rattle.host.specs.Runs.{Emits}
+use Rattle.host.proofs.Ran.{ran}
 use Rattle.host.proofs.host.Host.next_frame.Goals as goal
 
-pub returns-in-Some-clause-bounds : goal.returns-in-Some-clause-bounds
-returns-in-Some-clause-bounds c =
-    let least : 60 ≤ len_at c.self.inside.interface c.later_moment-now.result c.in-Some.place =
-    (first_goes c.self.inside.interface c.later_moment-now.result c.in-Some.place (sym c.first_reply.ensures ∙ c.in-Some.is)).1 in
-    (omega (arith, c.emit_reply.ensures.len, least), omega (arith, c.emit_reply.ensures.most))
+pub invariant_of-self : goal.invariant_of-self
+invariant_of-self c = ran (Emits c.args.now) c.next_frame.new.self c.self.view_is c.sound.ensures.sound c.self.invariant tt c.next_frame.ensures.after

@@ -1,50 +1,12 @@
--- Both sides and the pool, at the later of the moment and the kept one.
-use Rattle.std.proofs.Common.{rules, ◌≡◌, List, sym, subst, ◌∙◌, ap}
-use Rattle.ipv4.specs.Addresses.{IsUnicast}
-use Rattle.clock.specs.declared.moment.Moment.{Moment}
-use Rattle.interface.specs.InterfaceView.{InterfaceView}
-use Rattle.interface.specs.Timing.{after_tick as interface_after_tick}
-use Rattle.reassembly.specs.declared.expired.Expired.{Expired}
-use Rattle.reassembly.specs.Places.{after_age, expired}
-use Rattle.sockets.specs.SocketsView.{SocketsView}
-use Rattle.sockets.specs.Lost.{after_giving_up}
+use Rattle.std.proofs.Common.{◌∙◌, ap}
 use Rattle.host.specs.HostView.{HostView}
-use Rattle.host.specs.Ticks.{all_reported, lacks_hop, table_after_tick, after_tick}
-use Rattle.host.proofs.Answered.{all_reported-addr}
+use Rattle.host.specs.Runs.{Ticks}
+use Rattle.host.specs.Ticks.{after_tick}
+use Rattle.host.proofs.Ran.{ran}
 use Rattle.host.proofs.host.Host.tick.Goals as goal
 
--- a host at a moment
-after : HostView → Moment → HostView
-after h moment = record {
-  interface = all_reported moment (interface_after_tick h.interface moment) (expired moment h.pool);
-  sockets = table_after_tick h moment;
-  pool = after_age moment h.pool;
-}
-
 pub invariant_of-self : goal.invariant_of-self
-invariant_of-self c =
-    let h : HostView = record { interface = c.self.inside.interface; sockets = c.self.inside.sockets; pool = c.self.inside.pool } in
-    let now : Moment = c.later_moment-now.result in
-    let given_up : c.give_up.new.self ≡ after_giving_up c.tick.new.self (lacks_hop h now) now = c.give_up.ensures (lacks_hop h now) (λ addr answer called. search rules) in
-    let told : c.report_expired.new.interface.addr ≡ c.tick-2.new.self.addr =
-    ap (λ (i : InterfaceView). i.addr) c.report_expired.ensures ∙ all_reported-addr now c.deref.result.now c.tick-2.new.self in
-    let own : c.report_expired.new.interface.addr ≡ c.self.inside.interface.addr = told ∙ ap (λ (i : InterfaceView). i.addr) c.tick-2.ensures in
-    let table : c.give_up.new.self.addr ≡ c.self.inside.sockets.addr = ap (λ (t : SocketsView). t.addr) given_up ∙ ap (λ (t : SocketsView). t.addr) c.tick.ensures in
-    (own ∙ c.self.invariant.0 ∙ sym table, subst IsUnicast (sym own) c.self.invariant.1)
+invariant_of-self c = ran (Ticks c.args.now) c.tick.new.self c.self.view_is c.sound.ensures.sound c.self.invariant tt c.tick.ensures
 
 pub returns : goal.returns
-unfolding after
-returns c =
-    let h : HostView = record { interface = c.self.inside.interface; sockets = c.self.inside.sockets; pool = c.self.inside.pool } in
-    let now : Moment = c.later_moment-now.result in
-    let given_up : c.give_up.new.self ≡ after_giving_up c.tick.new.self (lacks_hop h now) now = c.give_up.ensures (lacks_hop h now) (λ addr answer called. search rules) in
-    let table : c.give_up.new.self ≡ table_after_tick h now = given_up ∙ ap (λ (t : SocketsView). after_giving_up t (lacks_hop h now) now) c.tick.ensures in
-    let datagrams : c.deref.result.now ≡ expired now h.pool = c.deref.ensures.0 ∙ c.age-expired.ensures.expired in
-    let own : c.report_expired.new.interface ≡ all_reported now (interface_after_tick h.interface now) (expired now h.pool) =
-    c.report_expired.ensures
-    ∙ ap (λ (i : InterfaceView). all_reported now i c.deref.result.now) c.tick-2.ensures
-    ∙ ap (λ (l : List Expired). all_reported now (interface_after_tick h.interface now) l) datagrams in
-    let pool : c.age-expired.new.self ≡ after_age now h.pool = c.age-expired.ensures.pool in
-    let all : ◌≡◌ {A = HostView} (record { interface = c.report_expired.new.interface; sockets = c.give_up.new.self; pool = c.age-expired.new.self }) (after h now) =
-    λ i. record { interface = own i; sockets = table i; pool = pool i } in
-    all ∙ ap (after h) c.later_moment-now.ensures ∙ ap (λ (g : HostView). after_tick g c.args.now) c.self.view_is
+returns c = c.tick.ensures ∙ ap (λ (h : HostView). after_tick h c.args.now) c.self.view_is

@@ -8,7 +8,7 @@ use Rattle.sockets.specs.Entries.{sends}
 use Rattle.host.specs.HostView.{HostView}
 use Rattle.host.specs.Emission.{goes_out_from}
 use Rattle.host.proofs.Emitting.{plan_at, plan_missed, plan_past}
-use Rattle.host.proofs.host.Host.plan.Goals as goal
+use Rattle.host.proofs.layers.Layers.plan.Goals as goal
 
 pub returns-then-is_some-clause-what : goal.returns-then-is_some-clause-what
 returns-then-is_some-clause-what c =

@@ -4,7 +4,7 @@ use Rattle.std.specs.List.{AllWithin}
 use Rattle.sockets.specs.declared.entry.Entry.{Entry}
 use Rattle.sockets.specs.Entries.{sends}
 use Rattle.host.specs.Emission.{goes_out_from}
-use Rattle.host.proofs.host.Host.plan.Given as goal
+use Rattle.host.proofs.layers.Layers.plan.Given as goal
 
 abbrev pub invariant-loop-place : goal.invariant-loop-place
 invariant-loop-place l = AllWithin (λ (e : Entry). sends (goes_out_from l.self l.now) e ≡ false) l.entries 0 l.place

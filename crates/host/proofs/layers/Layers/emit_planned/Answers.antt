@@ -3,7 +3,7 @@ use Rattle.std.proofs.Common.{◌≡◌, true, sym, subst}
 use Rattle.arp.specs.Cache.{may_ask}
 use Rattle.host.specs.HostView.{HostView}
 use Rattle.host.specs.Plans.{IsFirst}
-use Rattle.host.proofs.host.Host.emit_planned.Goals as goal
+use Rattle.host.proofs.layers.Layers.emit_planned.Goals as goal
 
 pub emit_request-requires : goal.emit_request-requires
 emit_request-requires c =

@@ -7,7 +7,7 @@ use Rattle.interface.specs.Replies.{after_report, answer_result}
 use Rattle.reassembly.specs.Fragments.{quote_of}
 use Rattle.host.specs.HostView.{HostView, with_interface}
 use Rattle.host.specs.Arrival.{MeetsDatagram, queue_answer}
-use Rattle.host.proofs.host.Host.report.Goals as goal
+use Rattle.host.proofs.layers.Layers.report.Goals as goal
 
 pub returns : goal.returns
 returns c =

@@ -9,8 +9,8 @@ use Rattle.std.specs.List.{position}
 use Rattle.host.specs.HostView.{HostView}
 use Rattle.host.specs.Emission.{Sends, goes_out_from, octets_of}
 use Rattle.host.proofs.Emitting.{framed_out}
-use Rattle.host.proofs.host.Host.emit_entry.Goals.{in-Segment, in-Datagram}
-use Rattle.host.proofs.host.Host.emit_entry.Goals as goal
+use Rattle.host.proofs.layers.Layers.emit_entry.Goals.{in-Segment, in-Datagram}
+use Rattle.host.proofs.layers.Layers.emit_entry.Goals as goal
 
 pub emit_at-requires-clause-due : goal.emit_at-requires-clause-due
 emit_at-requires-clause-due c =

@@ -1,0 +1,95 @@
+-- Why there is no host but one that a list of events led to, and what such a host keeps.
+use Rattle.std.proofs.Common.{◌≡◌, ◌↔◌, ◌+◌, ◌∷◌, ◌++◌, [], Bool, true, false, Option, None, IsTrue, OnOk, OnErr, IfOk, Result, Ok, Err, is_ok, refl, sym, ◌∙◌, ap, subst}
+use Rattle.std.specs.Result.{result_err}
+use Rattle.ipv4.specs.Addresses.{IsUnicast}
+use Rattle.interface.specs.Sound.{IsSound}
+use Rattle.sockets.specs.declared.entry.Kind.{Kind}
+use Rattle.sockets.specs.declared.entry.Kind.TheVariants.{Tcp, Udp}
+use Rattle.sockets.specs.declared.entry.SocketId.{SocketId}
+use Rattle.sockets.specs.declared.refusal.Refusal.{Refusal}
+use Rattle.sockets.specs.declared.refusal.Refusal.TheVariants.{EMFILE}
+use Rattle.sockets.specs.Calls.{is_table_full, IsMade}
+use Rattle.sockets.specs.Causes as table
+use Rattle.sockets.specs.Offered.{IsReached}
+use Rattle.sockets.specs.Order.{IsAllowed, IsOrdered}
+use Rattle.sockets.specs.Sound.{IsSoundTable, NoneIsOver}
+use Rattle.sockets.specs.SocketsView.{SocketsView}
+use Rattle.sockets.specs.Timing as timing
+use Rattle.sockets.specs.Timing.{EachKeepsTime}
+use Rattle.host.specs.ConfigView.{ConfigView, IsConfig}
+use Rattle.host.specs.HostView.{HostView, new_host, with_sockets}
+use Rattle.host.specs.Runs.{Event, Calls, IsNumbered, Makes, Runs, Begins, GoesOn, HasRun}
+use Rattle.host.specs.Sound.{IsSoundHost}
+use Rattle.host.proofs.Causes.{run-stands}
+use Rattle.host.proofs.Tables.{run-addr, run-reached, run-ordered, run-over, run-timed}
+
+-- Nothing happened to it ..
+
+pub run-begins : (c : ConfigView) (h : HostView) → IsConfig c → h ≡ new_host c → HasRun h
+run-begins c h set_up is = record { config = c; set_up = set_up; events = []; runs = subst (Runs c []) (sym is) Begins }
+
+-- .. or one event more.
+
+run-on : (event : Event) (old new : HostView) → IsSoundHost old → HasRun old → IsNumbered event → Makes event old new → HasRun new
+run-on event old new sound run small makes =
+    record { config = run.config; set_up = run.set_up; events = run.events ++ event ∷ []; runs = GoesOn run.events event old new run.runs sound small makes }
+
+-- It finds the layers of a host that is sound.
+pub ran : {old host : HostView} (event : Event) (new : HostView) → old ≡ host → IsSoundHost host → HasRun old → IsNumbered event → Makes event old new → HasRun new
+ran {old = old} event new is sound run small makes = run-on event old new (subst IsSoundHost (sym is) sound) run small makes
+
+-- A call makes one event of the table, where it isn't refused.
+pub called : {T : Type 0} {old layers host : HostView} (r : Result T Refusal) (call : table.Event) (new : SocketsView) → old ≡ layers → layers ≡ host → IsSoundHost host → HasRun layers
+    → timing.IsNumbered call → (is_ok r ≡ true → IsAllowed old.sockets call) → OnOk r (new ≡ table.after_event old.sockets call) → OnErr r (new ≡ old.sockets) → HasRun (with_sockets old new)
+called {old = old} {host = host} (Ok value) call new opened is sound run small allowed made same =
+    ran (Calls call) (with_sockets old new) (opened ∙ is) sound (subst HasRun (sym opened) run) small (allowed refl, ap (with_sockets old) made)
+called {old = old} (Err refusal) call new opened is sound run small allowed made same = subst HasRun (sym opened ∙ sym (ap (with_sockets old) same)) run
+
+-- that it isn't, by its refusal ..
+pub unrefused : {T : Type 0} (r : Result T Refusal) (refusal : Option Refusal) → result_err r ≡ refusal → is_ok r ≡ true → refusal ≡ None
+unrefused (Ok value) refusal is fine = sym is
+unrefused (Err e) refusal is fine = cc
+
+-- .. or its answer
+pub answered : {T : Type 0} (r answer : Result T Refusal) → r ≡ answer → is_ok r ≡ true → is_ok answer ≡ true
+answered r answer is fine = ap is_ok (sym is) ∙ fine
+
+-- A socket is made where the table isn't full.
+
+has-place : (r : Result SocketId Refusal) (full : Bool) → (r ≡ Err EMFILE) ↔ IsTrue full → is_ok r ≡ true → full ≡ false
+has-place r false is fine = refl
+has-place r true is fine = let refused : r ≡ Err EMFILE = is.1 refl in let no = sym (ap is_ok refused) ∙ fine in cc
+
+pub made : {old layers host : HostView} (r : Result SocketId Refusal) (kind : Kind) (new : SocketsView) → old ≡ layers → layers ≡ host → IsSoundHost host → HasRun layers
+    → (r ≡ Err EMFILE) ↔ IsTrue (is_table_full old.sockets) → IfOk r (λ id. (id.0 ≡ old.sockets.last_id + 1) × IsMade kind old.sockets new) → OnErr r (new ≡ old.sockets) → HasRun (with_sockets old new)
+made {old = old} (Ok id) Tcp new opened is sound run full new_one same =
+    called (Ok id) (table.Makes new_one.1.0) new opened is sound run tt (has-place (Ok id) (is_table_full old.sockets) full) new_one.1.1 tt
+made {old = old} (Ok id) Udp new opened is sound run full new_one same =
+    called (Ok id) table.MakesDatagrams new opened is sound run tt (has-place (Ok id) (is_table_full old.sockets) full) new_one.1 tt
+made (Err refusal) kind new opened is sound run full new_one same = called {T = SocketId} (Err refusal) table.MakesDatagrams new opened is sound run tt (λ fine. let no : false ≡ true = fine in cc) tt same
+
+-- What is kept of it.
+
+-- it is sound, where its sides are
+pub run-sound : (h : HostView) → IsSound h.interface → IsSoundTable h.sockets → HasRun h → IsSoundHost h
+run-sound h interface table run =
+    let stands = run-stands run.config run.events h run.runs in
+    let own : h.interface.addr ≡ run.config.addr = stands.interface.addr in
+    record {
+      interface = interface;
+      table = table;
+      own = own ∙ sym (run-addr run.config run.events h run.runs);
+      single = subst IsUnicast (sym own) run.set_up.addr;
+    }
+
+pub keeps-reached : (h : HostView) → HasRun h → IsReached h.sockets
+keeps-reached h run = run-reached run.config run.events h run.runs
+
+pub keeps-ordered : (h : HostView) → HasRun h → IsOrdered h.sockets
+keeps-ordered h run = run-ordered run.config run.events h run.runs
+
+pub keeps-over : (h : HostView) → HasRun h → NoneIsOver h.sockets
+keeps-over h run = run-over run.config run.events h run.runs
+
+pub keeps-timed : (h : HostView) → HasRun h → EachKeepsTime h.sockets
+keeps-timed h run = run-timed run.config run.events h run.runs

@@ -1,0 +1,9 @@
+use Rattle.std.proofs.Common.{ap}
+use Rattle.sockets.specs.Causes as table
+use Rattle.host.specs.declared.host.Host.TheInside.{Inside}
+use Rattle.host.proofs.Ran.{called, unrefused}
+use Rattle.host.proofs.host.Host.listen.Goals as goal
+
+pub invariant_of-self : goal.invariant_of-self
+invariant_of-self c =
+    called c.listen.result (table.Listens c.args.id c.args.backlog) c.listen.new.self (ap (λ (h : Inside). h.layers) c.self-inside.view_is) c.self.view_is c.sound.ensures.sound c.self.invariant tt (unrefused c.listen.result _ c.listen.ensures.refused) c.listen.ensures.ok c.listen.ensures.err
