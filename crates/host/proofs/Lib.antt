@@ -14,3 +14,5 @@ pub mod Gathering
 pub mod Unusable
 pub mod Tables
 pub mod Ran
+pub mod FrameSide
+pub mod ComesUp

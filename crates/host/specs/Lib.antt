@@ -10,3 +10,4 @@ pub mod Carried
 pub mod Runs
 pub mod Causes
 pub mod Plans
+pub mod ComesUp

@@ -1,11 +1,12 @@
 //! Laws of the definitions that the contracts of this crate cite: each is the contract of a function that does nothing.
 
-ghost use Rattle.std.specs.Prelude.{◌≡◌, ◌≢◌, ℕ, ◌||◌, false, IsTrue, List, [], ◌∷◌, ◌++◌, find, slice_get, take, Option, Some, None, option_map, Result, Ok, Err};
+ghost use Rattle.std.specs.Prelude.{◌≡◌, ◌≢◌, ℕ, ◌||◌, false, true, IsTrue, List, [], ◌∷◌, ◌++◌, Contains, find, slice_get, take, Option, Some, None, option_map, Result, Ok, Err};
 ghost use Rattle.std.specs.List.{list_any};
 ghost use Rattle.ether.specs.declared.mac.Mac.{Mac};
 ghost use Rattle.ether.specs.Frame.{Frame};
 ghost use Rattle.ether.specs.Reading.{frame_in};
 ghost use Rattle.ipv4.specs.declared.addr.Addr.{Addr};
+ghost use Rattle.ipv4.specs.declared.addr.Endpoint.{Endpoint};
 ghost use Rattle.ipv4.specs.Addresses.{IsUnicast};
 ghost use Rattle.ipv4.specs.Datagram.{Datagram, header_octets};
 ghost use Rattle.clock.specs.declared.moment.Moment.{Moment};
@@ -30,7 +31,12 @@ ghost use Rattle.interface.specs.declared.reply.Waiting.{Waiting};
 ghost use Rattle.interface.specs.Ways.{is_routed};
 ghost use Rattle.interface.specs.Timing.{least_deadline as reply_deadline};
 ghost use Rattle.reassembly.specs.Places.{next_deadline as pool_deadline};
+ghost use Rattle.tcp_state.specs.Positions.{HasToSend};
+ghost use Rattle.tcp_state.specs.View.{View};
+ghost use Rattle.udp_socket.specs.SocketView.{Outgoing, SocketView};
 ghost use Rattle.sockets.specs.declared.entry.Entry.{Entry};
+ghost use Rattle.sockets.specs.declared.entry.SocketId.{SocketId};
+ghost use Rattle.sockets.specs.declared.role.Role.TheVariants.{Connected, Datagrams};
 ghost use Rattle.sockets.specs.Entries.{due_peer, is_datagrams_at, sends};
 ghost use Rattle.sockets.specs.Offered.{IsReached};
 ghost use Rattle.sockets.specs.Order.{IsOrdered};
@@ -43,10 +49,11 @@ ghost use Rattle.host.specs.HostView.{HostView, with_interface, with_sockets};
 ghost use Rattle.host.specs.Arrival.{IsDelivered, MeetsSegment, heard_by, segment_arrival};
 ghost use Rattle.host.specs.Carried.{Carried, carried};
 ghost use Rattle.host.specs.Causes.{IsAbout};
+ghost use Rattle.host.specs.ComesUp.{IsDueSoon, IsQuiet, ComesUp, ConnectionComesUp, address_of, is_on_route};
 ghost use Rattle.host.specs.Emission.{Replies, Sends, Nothing, emission, emission_to, emission_len, after_emission, emission_octets, goes_out_from};
 ghost use Rattle.host.specs.Messages.{errors_of};
-ghost use Rattle.host.specs.Places.{ReplyOf, EntryOf, places, can_go_out};
-ghost use Rattle.host.specs.Runs.{Event, IsNumbered, Makes, Runs, WasHeard};
+ghost use Rattle.host.specs.Places.{Place, ReplyOf, EntryOf, places, can_go_out};
+ghost use Rattle.host.specs.Runs.{Event, HasRun, IsNumbered, Makes, Runs, WasHeard};
 ghost use Rattle.host.specs.Sound.{IsSoundHost};
 ghost use Rattle.host.specs.Ticks.{after_tick, least_deadline, hop_deadline};
 
@@ -99,6 +106,21 @@ pub fn dropped_frames_change_the_cache_alone()
 pub fn deadline_is_the_least()
     ensures { (h : HostView) (now : Moment) → has_come (least_deadline h) now
         ≡ (has_come (timer_deadline h.sockets) now || has_come (reply_deadline h.interface h.sockets.kept) now || has_come (pool_deadline h.pool) now || list_any (λ e. has_come (hop_deadline h e) now) h.sockets.entries) }
+{}
+
+/// What is due comes up (RFC 1122 sections 2.3.2.1 and 2.3.2.2, RFC 9293 section 3.8). For each place that is due, to whose address a route leads, a frame can go out at
+/// the kept moment, or the deadline is not after the moment from which its hop may be asked for again, which lies within a second of a request that was sent. Each
+/// control reply that waits is such a place, and so is each UDP socket with a datagram to send. A connection with something to send is one, or the deadline is not after that of
+/// its own timers. So where no frame can go out and there is no deadline, nothing waits for which there is a way: who asks for frames until none goes out, and then
+/// sleeps until the deadline, leaves nothing behind.
+pub fn what_is_due_comes_up()
+    ensures place { (h : HostView) (place : Place) → HasRun h → Contains (places h) place → is_on_route h.interface.routes (address_of place) ≡ true → ComesUp h place }
+    ensures reply { (h : HostView) (w : Waiting) → HasRun h → Contains h.interface.replies w → IsDueSoon h (ReplyOf w) }
+    ensures datagram { (h : HostView) (e : Entry) (bound : Option Endpoint) (socket : SocketView) (first : Outgoing) (others : List Outgoing) → HasRun h → Contains h.sockets.entries e
+        → e.role ≡ Datagrams bound socket → socket.outbox ≡ first ∷ others → IsTrue (is_routed h.interface first.peer.addr) → IsDueSoon h (EntryOf e) }
+    ensures connection { (h : HostView) (e : Entry) (c : View) (listener : Option SocketId) → IsSoundHost h → HasRun h → Contains h.sockets.entries e → e.role ≡ Connected c listener
+        → IsTrue (is_routed h.interface c.peer.addr) → HasToSend c → ConnectionComesUp h e c }
+    ensures never_silent { (h : HostView) → IsSoundHost h → HasRun h → find (can_go_out h h.sockets.kept) (places h) ≡ None → least_deadline h ≡ None → IsQuiet h }
 {}
 
 /// A tick before the deadline, at which no neighbour is forgotten, changes nothing but the kept moment. (One that forgets the hop of what waits,

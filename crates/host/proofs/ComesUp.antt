@@ -1,0 +1,492 @@
+-- What is due comes up: a frame can go out for it, or the host is woken when its hop may be asked for again.
+use Rattle.std.proofs.Common.{◌≡◌, ◌⊎◌, inl, inr, ℕ, zero, suc, ◌+◌, ◌<◌, ◌≤◌, ◌||◌, nat_le, nat_lt, Bool, true, false, cond, List, [], ◌∷◌, Contains, slice_index_or, filter, fold, length, map, Option, Some, None, IfSome, IsTrue, is_some, option_map, refl, sym, ◌∙◌, ap, subst, arith}
+use Rattle.std.specs.List.{find, list_any, AllByRecursion}
+use Rattle.std.proofs.lemmas.Bool.Decides.{nat_tests}
+use Rattle.std.proofs.lemmas.List.Elements.{Contains-append_cases, Contains-append_left, Contains-append_right}
+use Rattle.ether.specs.declared.mac.Mac.{Mac}
+use Rattle.ipv4.specs.declared.addr.Addr.{Addr}
+use Rattle.ipv4.specs.declared.addr.Endpoint.{Endpoint}
+use Rattle.clock.specs.declared.moment.Moment.{Moment}
+use Rattle.clock.specs.Moments.{has_come, later, sooner}
+use Rattle.clock.proofs.Comings.{sooner-has_come}
+use Rattle.arp.specs.declared.entry.Asked.{Asked}
+use Rattle.arp.specs.Cache.{end_of, is_note_of, look, may_ask, IsNextAsk}
+use Rattle.arp.specs.Waits.{first_end, next_ask, own_end, room_end}
+use Rattle.arp.proofs.WaitsOver.{next_is}
+use Rattle.interface.specs.declared.reply.Reply.{Reply}
+use Rattle.interface.specs.declared.reply.Reply.TheVariants.{Arp, Reset, Echo, Error}
+use Rattle.interface.specs.declared.reply.Waiting.{Waiting}
+use Rattle.interface.specs.declared.way.Way.TheVariants.{Ask, Waits}
+use Rattle.interface.specs.InterfaceView.{InterfaceView}
+use Rattle.interface.specs.Replies.{goes_out, way_of}
+use Rattle.interface.specs.Routing.{next_hop}
+use Rattle.interface.specs.Timing.{asked_until, asked_until_over, deadline_for, deadline_of, end_of as reply_end, sought, least_deadline as reply_deadline}
+use Rattle.interface.proofs.Waits.{kept}
+use Rattle.interface.specs.Ways.{is_routed, knows_hop, mac_of, way, way_by_mac, way_over}
+use Rattle.reassembly.specs.Places.{next_deadline as pool_deadline}
+use Rattle.sockets.specs.declared.entry.Entry.{Entry}
+use Rattle.sockets.specs.declared.entry.SocketId.{SocketId}
+use Rattle.sockets.specs.declared.role.Role.{Role}
+use Rattle.sockets.specs.declared.role.Role.TheVariants.{Idle, Listener, Connected, Datagrams}
+use Rattle.sockets.specs.Entries.{deadline_of as timer_of, due_peer, has_due, is_due}
+use Rattle.sockets.specs.Lost.{give_up_at}
+use Rattle.sockets.specs.Sound.{IsSoundRole}
+use Rattle.sockets.specs.Ticks.{least_deadline as timer_deadline}
+use Rattle.sockets.specs.Timing.{KeepsTimeIn, EachKeepsTime}
+use Rattle.tcp_state.specs.declared.emission.Due.{Due}
+use Rattle.tcp_state.specs.Due.{first_due}
+use Rattle.tcp_state.specs.Positions.{HasToSend, takes_numbers}
+use Rattle.tcp_state.specs.Timing.{deadline}
+use Rattle.tcp_state.specs.View.{View}
+use Rattle.tcp_state.proofs.Waiting.{goes_out as timed_or_due}
+use Rattle.udp_socket.specs.Emission.{due_peer as datagram_peer}
+use Rattle.udp_socket.specs.SocketView.{Outgoing, SocketView}
+use Rattle.host.specs.ComesUp.{address_of, is_on_route, IsAskedFrom, IsWokenBy, IsDueSoon, IsQuiet, ComesUp, ConnectionComesUp}
+use Rattle.host.specs.Emission.{way_to}
+use Rattle.host.specs.HostView.{HostView}
+use Rattle.host.specs.Places.{Place, ReplyOf, EntryOf, places, can_go_out}
+use Rattle.host.specs.Runs.{HasRun}
+use Rattle.host.specs.Sound.{IsSoundHost}
+use Rattle.host.specs.Ticks.{hop_deadline, lacks_hop, least_deadline, request_deadline}
+use Rattle.host.proofs.Causes.{all-filtered}
+use Rattle.host.proofs.FrameSide.{KeepsSide, run-side}
+use Rattle.host.proofs.Tables.{run-timed}
+use Rattle.host.proofs.Waiting.{deadline-come, fold-come}
+
+-- Tests and lists.
+
+or-left : (a b : Bool) → a ≡ true → (a || b) ≡ true
+or-left true b e = refl
+or-left false b e = cc
+
+or-right : (a b : Bool) → b ≡ true → (a || b) ≡ true
+or-right true b e = refl
+or-right false b e = e
+
+same-comes : (m : Moment) → has_come (Some m) m ≡ true
+same-comes m = grind (arith, nat_tests)
+
+any-of : {X : Type 0} (p : X → Bool) (xs : List X) (x : X) → Contains xs x → p x ≡ true → list_any p xs ≡ true
+any-of p [] x at e = absurd (omega (arith, at.1))
+any-of {X} p (y ∷ ys) x at e = by_place (λ there. any-of p ys x there e) at.0 at.1 at.2
+  where
+    by_place : (Contains ys x → list_any p ys ≡ true) → (k : ℕ) → k < length (y ∷ ys) → slice_index_or (y ∷ ys) k x ≡ x → (p y || list_any p ys) ≡ true
+    by_place further zero within is = or-left (p y) (list_any p ys) (ap p is ∙ e)
+    by_place further (suc k) within is = or-right (p y) (list_any p ys) (further (k, omega (arith, within), is))
+
+all-of : {X : Type 0} (P : X → Type 0) (xs : List X) (x : X) → AllByRecursion P xs → Contains xs x → P x
+all-of P [] x all at = absurd (omega (arith, at.1))
+all-of {X} P (y ∷ ys) x all at = by_place (all-of P ys x all.1) at.0 at.1 at.2
+  where
+    by_place : (Contains ys x → P x) → (k : ℕ) → k < length (y ∷ ys) → slice_index_or (y ∷ ys) k x ≡ x → P x
+    by_place further zero within is = subst P is all.0
+    by_place further (suc k) within is = further (k, omega (arith, within), is)
+
+behind : {X : Type 0} (y : X) (ys : List X) (x : X) → Contains ys x → Contains (y ∷ ys) x
+behind y ys x at = (suc at.0, omega (arith, at.1), at.2)
+
+-- what a list of others has
+mapped-in : {X Y : Type 0} (f : X → Y) (xs : List X) (y : Y) → Contains (map f xs) y → (x : X) × Contains xs x × (f x ≡ y)
+mapped-in f [] y at = absurd (omega (arith, at.1))
+mapped-in {X} {Y} f (x ∷ xs) y at = by_place (mapped-in f xs y) at.0 at.1 at.2
+  where
+    by_place : (Contains (map f xs) y → (z : X) × Contains xs z × (f z ≡ y)) → (k : ℕ) → k < length (map f (x ∷ xs)) → slice_index_or (map f (x ∷ xs)) k y ≡ y → (z : X) × Contains (x ∷ xs) z × (f z ≡ y)
+    by_place further zero within is = (x, (0, omega arith, refl), is)
+    by_place further (suc k) within is = let rest = further (k, omega (arith, within), is) in (rest.0, behind x xs rest.0 rest.1, rest.2)
+
+in-mapped : {X Y : Type 0} (f : X → Y) (xs : List X) (x : X) → Contains xs x → Contains (map f xs) (f x)
+in-mapped f [] x at = absurd (omega (arith, at.1))
+in-mapped {X} {Y} f (y ∷ ys) x at = by_place (in-mapped f ys x) at.0 at.1 at.2
+  where
+    by_place : (Contains ys x → Contains (map f ys) (f x)) → (k : ℕ) → k < length (y ∷ ys) → slice_index_or (y ∷ ys) k x ≡ x → Contains (map f (y ∷ ys)) (f x)
+    by_place further zero within is = (0, omega arith, ap f is)
+    by_place further (suc k) within is = behind (f y) (map f ys) (f x) (further (k, omega (arith, within), is))
+
+-- what a filter lets through
+filtered-in : {X : Type 0} (p : X → Bool) (xs : List X) (x : X) → Contains (filter p xs) x → Contains xs x × (p x ≡ true)
+filtered-in p [] x at = absurd (omega (arith, at.1))
+filtered-in {X} p (y ∷ ys) x at = by_test (p y) refl (filtered-in p ys x) at
+  where
+    further : (Contains (filter p ys) x → Contains ys x × (p x ≡ true)) → Contains (filter p ys) x → Contains (y ∷ ys) x × (p x ≡ true)
+    further rest at = let found = rest at in (behind y ys x found.0, found.1)
+
+    here : p y ≡ true → (Contains (filter p ys) x → Contains ys x × (p x ≡ true)) → (k : ℕ) → k < length (y ∷ filter p ys) → slice_index_or (y ∷ filter p ys) k x ≡ x → Contains (y ∷ ys) x × (p x ≡ true)
+    here passes rest zero within is = ((0, omega arith, is), subst (λ (z : X). p z ≡ true) is passes)
+    here passes rest (suc k) within is = further rest (k, omega (arith, within), is)
+
+    by_test : (b : Bool) → p y ≡ b → (Contains (filter p ys) x → Contains ys x × (p x ≡ true)) → Contains (cond b (y ∷ filter p ys) (filter p ys)) x → Contains (y ∷ ys) x × (p x ≡ true)
+    by_test true e rest at = here e rest at.0 at.1 at.2
+    by_test false e rest at = further rest at
+
+-- From when on a hop may be asked for.
+
+-- one of the requests was sent a second before this moment at most
+abbrev IsEnd : List Asked → Moment → Type 0
+IsEnd asked m = (request : Asked) × Contains asked request × (m.0 ≤ request.at.0 + 1000)
+
+end-soon : (request : Asked) → (let end = end_of request in end.0 ≤ request.at.0 + 1000)
+end-soon request = grind arith
+
+ends-in : (all asked : List Asked) → ((request : Asked) → Contains asked request → Contains all request) → AllByRecursion (λ (request : Asked). IsEnd all (end_of request)) asked
+ends-in all [] noted = tt
+ends-in all (request ∷ rest) noted =
+    ((request, noted request (0, omega arith, refl), end-soon request), ends-in all rest (λ r at. noted r (behind request rest r at)))
+
+either-of : (P : Moment → Type 0) (t : Bool) (a b : Moment) → P a → P b → IfSome (cond t (Some a) (Some b)) P
+either-of P true a b p q = p
+either-of P false a b p q = q
+
+later-of : (P : Moment → Type 0) (a : Option Moment) (b : Moment) → IfSome a P → P b → IfSome (later a (Some b)) P
+later-of P None b p q = q
+later-of P (Some a) b p q = either-of P (nat_le a.0 b.0) b a q p
+
+sooner-of : (P : Moment → Type 0) (a : Option Moment) (b : Moment) → IfSome a P → P b → IfSome (sooner a (Some b)) P
+sooner-of P None b p q = q
+sooner-of P (Some a) b p q = either-of P (nat_le a.0 b.0) a b p q
+
+both-of : (P : Moment → Type 0) (a b : Option Moment) → IfSome a P → IfSome b P → IfSome (later a b) P
+both-of P None b p q = q
+both-of P (Some a) None p q = p
+both-of P (Some a) (Some b) p q = later-of P (Some a) b p q
+
+last-of : (P : Moment → Type 0) (first : Option Moment) (asked : List Asked) → IfSome first P → AllByRecursion (λ (request : Asked). P (end_of request)) asked
+    → IfSome (fold (λ (latest : Option Moment) (request : Asked). later latest (Some (end_of request))) first asked) P
+last-of P first [] p all = p
+last-of P first (request ∷ rest) p all = last-of P (later first (Some (end_of request))) rest (later-of P first (end_of request) p all.0) all.1
+
+soonest-of : (P : Moment → Type 0) (first : Option Moment) (asked : List Asked) → IfSome first P → AllByRecursion (λ (request : Asked). P (end_of request)) asked
+    → IfSome (fold (λ (soonest : Option Moment) (request : Asked). sooner soonest (Some (end_of request))) first asked) P
+soonest-of P first [] p all = p
+soonest-of P first (request ∷ rest) p all = soonest-of P (sooner first (Some (end_of request))) rest (sooner-of P first (end_of request) p all.0) all.1
+
+next-soon : (hop : Addr) (asked : List Asked) → IfSome (next_ask hop asked) (IsEnd asked)
+unfolding next_ask
+next-soon hop asked = both-of (IsEnd asked) (room_end asked) (own_end hop asked) (by_room (nat_lt (length asked) 64)) (last-of (IsEnd asked) None (filter (is_note_of hop) asked) tt own)
+  where
+    all : AllByRecursion (λ (request : Asked). IsEnd asked (end_of request)) asked
+    all = ends-in asked asked (λ request at. at)
+
+    own : AllByRecursion (λ (request : Asked). IsEnd asked (end_of request)) (filter (is_note_of hop) asked)
+    own = all-filtered (λ (request : Asked). IsEnd asked (end_of request)) (is_note_of hop) asked all
+
+    by_room : (b : Bool) → IfSome (cond b None (first_end asked)) (IsEnd asked)
+    by_room true = tt
+    by_room false = soonest-of (IsEnd asked) None asked tt all
+
+next-from : (hop : Addr) (asked : List Asked) → length asked ≤ 64 → IsNextAsk hop asked (next_ask hop asked)
+unfolding next_ask
+next-from hop asked few = next_is hop asked (later (room_end asked) (own_end hop asked)) few refl
+
+-- where none may go out now, there is such a moment
+asked-from : (h : HostView) (now : Moment) (to hop : Addr) → length h.interface.cache.asked ≤ 64 → next_hop h.interface.routes to ≡ Some hop → may_ask now hop h.interface.cache.asked ≡ false
+    → (moment : Moment) × (next_ask hop h.interface.cache.asked ≡ Some moment) × IsAskedFrom h to moment
+asked-from h now to hop few leads not_now = by_next (next_ask hop h.interface.cache.asked) refl (next-from hop h.interface.cache.asked few) (next-soon hop h.interface.cache.asked)
+  where
+    by_next : (o : Option Moment) → next_ask hop h.interface.cache.asked ≡ o → IsNextAsk hop h.interface.cache.asked o → IfSome o (IsEnd h.interface.cache.asked)
+        → (moment : Moment) × (next_ask hop h.interface.cache.asked ≡ Some moment) × IsAskedFrom h to moment
+    by_next None is from soon = let no = sym (from now) ∙ not_now in cc
+    by_next (Some moment) is from soon = (moment, is, record { hop = hop; leads = leads; from = from; request = soon.0; noted = soon.1; soon = soon.2 })
+
+-- What can't go out now.
+
+-- its hop isn't known, and may not be asked for
+record IsHeld (h : HostView) (now : Moment) (to hop : Addr) : Type 0 where
+  leads : next_hop h.interface.routes to ≡ Some hop
+  unknown : look now hop h.interface.cache ≡ None
+  unasked : may_ask now hop h.interface.cache.asked ≡ false
+
+held-by : (h : HostView) (now : Moment) (to : Addr) → is_on_route h.interface.routes (Some to) ≡ true → goes_out (way h.interface now to) ≡ false → (hop : Addr) × IsHeld h now to hop
+held-by h now to routed held = by_hop (next_hop h.interface.routes to) refl routed
+  where
+    by_ask : (hop : Addr) → next_hop h.interface.routes to ≡ Some hop → look now hop h.interface.cache ≡ None → (b : Bool) → may_ask now hop h.interface.cache.asked ≡ b
+        → goes_out (way_by_mac now h.interface.cache.asked hop None) ≡ false → (hop : Addr) × IsHeld h now to hop
+    by_ask hop leads unknown true may goes = let no : true ≡ false = sym (ap (λ (b : Bool). goes_out (cond b (Ask hop) Waits)) may) ∙ goes in cc
+    by_ask hop leads unknown false may goes = (hop, record { leads = leads; unknown = unknown; unasked = may })
+
+    by_mac : (hop : Addr) → next_hop h.interface.routes to ≡ Some hop → (o : Option Mac) → look now hop h.interface.cache ≡ o → goes_out (way_by_mac now h.interface.cache.asked hop o) ≡ false
+        → (hop : Addr) × IsHeld h now to hop
+    by_mac hop leads (Some mac) known goes = cc
+    by_mac hop leads None unknown goes = by_ask hop leads unknown (may_ask now hop h.interface.cache.asked) refl goes
+
+    by_hop : (o : Option Addr) → next_hop h.interface.routes to ≡ o → is_some o ≡ true → (hop : Addr) × IsHeld h now to hop
+    by_hop None leads is = cc
+    by_hop (Some hop) leads is =
+        let goes : goes_out (way_by_mac now h.interface.cache.asked hop (look now hop h.interface.cache)) ≡ false = sym (ap (λ (o : Option Addr). goes_out (way_over now h.interface.cache o)) leads) ∙ held in
+        by_mac hop leads (look now hop h.interface.cache) refl goes
+
+until-is : (h : HostView) (now : Moment) (to hop : Addr) → IsHeld h now to hop → asked_until h.interface now to ≡ next_ask hop h.interface.cache.asked
+until-is h now to hop held =
+    ap (asked_until_over h.interface.cache now) held.leads
+    ∙ ap (λ (o : Option Mac). cond (is_some o || may_ask now hop h.interface.cache.asked) None (next_ask hop h.interface.cache.asked)) held.unknown
+    ∙ ap (λ (b : Bool). cond b None (next_ask hop h.interface.cache.asked)) held.unasked
+
+unknown-is : (h : HostView) (now : Moment) (to hop : Addr) → IsHeld h now to hop → knows_hop h.interface now to ≡ false
+unknown-is h now to hop held = ap (λ (o : Option Addr). is_some (mac_of now h.interface.cache o)) held.leads ∙ ap (λ (o : Option Mac). is_some o) held.unknown
+
+-- The host is woken.
+
+woken : (h : HostView) (m : Moment) → has_come (least_deadline h) m ≡ true → IsWokenBy h m
+woken h m come = by_deadline (least_deadline h) refl come
+  where
+    by_deadline : (o : Option Moment) → least_deadline h ≡ o → has_come o m ≡ true → IsWokenBy h m
+    by_deadline None is e = cc
+    by_deadline (Some d) is e = let order : d.0 ≤ m.0 = grind (arith, nat_tests, e) in (d, is, order)
+
+-- by a timer
+timer-wakes : (h : HostView) (e : Entry) (m : Moment) → Contains h.sockets.entries e → timer_of e.role ≡ Some m → IsWokenBy h m
+timer-wakes h e m at is =
+    let own : has_come (timer_of e.role) m ≡ true = ap (λ (o : Option Moment). has_come o m) is ∙ same-comes m in
+    let timers : has_come (timer_deadline h.sockets) m ≡ true =
+    fold-come (λ (x : Entry). timer_of x.role) None h.sockets.entries m ∙ any-of (λ (x : Entry). has_come (timer_of x.role) m) h.sockets.entries e at own in
+    woken h m (deadline-come h m
+    ∙ or-left (has_come (timer_deadline h.sockets) m || has_come (reply_deadline h.interface h.sockets.kept) m || has_come (pool_deadline h.pool) m) (list_any (λ x. has_come (hop_deadline h x) m) h.sockets.entries)
+    (or-left (has_come (timer_deadline h.sockets) m || has_come (reply_deadline h.interface h.sockets.kept) m) (has_come (pool_deadline h.pool) m)
+    (or-left (has_come (timer_deadline h.sockets) m) (has_come (reply_deadline h.interface h.sockets.kept) m) timers)))
+
+-- for a reply
+reply-wakes : (h : HostView) (w : Waiting) (to hop : Addr) (m : Moment) → Contains h.interface.replies w → sought w.reply ≡ Some to → IsHeld h h.sockets.kept to hop → next_ask hop h.interface.cache.asked ≡ Some m
+    → IsWokenBy h m
+reply-wakes h w to hop m at seeks held next =
+    let i : InterfaceView = h.interface in
+    let kept : Moment = h.sockets.kept in
+    let own : deadline_of i kept w ≡ sooner (Some (reply_end w)) (Some m) =
+    ap (deadline_for i kept (reply_end w)) seeks
+    ∙ ap (λ (b : Bool). cond b None (sooner (Some (reply_end w)) (asked_until i kept to))) (unknown-is h kept to hop held)
+    ∙ ap (sooner (Some (reply_end w))) (until-is h kept to hop held ∙ next) in
+    let come : has_come (deadline_of i kept w) m ≡ true =
+    ap (λ (o : Option Moment). has_come o m) own ∙ sooner-has_come (Some (reply_end w)) (Some m) m ∙ or-right (has_come (Some (reply_end w)) m) (has_come (Some m) m) (same-comes m) in
+    let replies : has_come (reply_deadline i kept) m ≡ true = fold-come (deadline_of i kept) None i.replies m ∙ any-of (λ (x : Waiting). has_come (deadline_of i kept x) m) i.replies w at come in
+    woken h m (deadline-come h m
+    ∙ or-left (has_come (timer_deadline h.sockets) m || has_come (reply_deadline i kept) m || has_come (pool_deadline h.pool) m) (list_any (λ x. has_come (hop_deadline h x) m) h.sockets.entries)
+    (or-left (has_come (timer_deadline h.sockets) m || has_come (reply_deadline i kept) m) (has_come (pool_deadline h.pool) m)
+    (or-right (has_come (timer_deadline h.sockets) m) (has_come (reply_deadline i kept) m) replies)))
+
+-- for an entry
+entry-wakes : (h : HostView) (e : Entry) (peer : Endpoint) (hop : Addr) (m : Moment) → Contains h.sockets.entries e → due_peer e.role ≡ Some peer → IsHeld h h.sockets.kept peer.addr hop → next_ask hop h.interface.cache.asked ≡ Some m
+    → IsWokenBy h m
+entry-wakes h e peer hop m at is held next =
+    let gives_up : Option Moment = give_up_at (lacks_hop h h.sockets.kept) e.role in
+    let own : request_deadline h (due_peer e.role) ≡ Some m = ap (request_deadline h) is ∙ until-is h h.sockets.kept peer.addr hop held ∙ next in
+    let come : has_come (hop_deadline h e) m ≡ true =
+    ap (λ (o : Option Moment). has_come (sooner gives_up o) m) own ∙ sooner-has_come gives_up (Some m) m ∙ or-right (has_come gives_up m) (has_come (Some m) m) (same-comes m) in
+    woken h m (deadline-come h m
+    ∙ or-right (has_come (timer_deadline h.sockets) m || has_come (reply_deadline h.interface h.sockets.kept) m || has_come (pool_deadline h.pool) m) (list_any (λ x. has_come (hop_deadline h x) m) h.sockets.entries)
+    (any-of (λ (x : Entry). has_come (hop_deadline h x) m) h.sockets.entries e at come))
+
+-- A place.
+
+way-sought : (i : InterfaceView) (now : Moment) (r : Reply) (to : Addr) → sought r ≡ Some to → way_of i now r ≡ way i now to
+way-sought i now (Arp packet) to e = cc
+way-sought i now (Reset x head) to e = let same : x ≡ to = cc in ap (way i now) same
+way-sought i now (Echo x identifier number octets) to e = let same : x ≡ to = cc in ap (way i now) same
+way-sought i now (Error x reason quoted) to e = let same : x ≡ to = cc in ap (way i now) same
+
+unsought-goes : (i : InterfaceView) (now : Moment) (r : Reply) → sought r ≡ None → goes_out (way_of i now r) ≡ true
+unsought-goes i now (Arp packet) e = refl
+unsought-goes i now (Reset x head) e = cc
+unsought-goes i now (Echo x identifier number octets) e = cc
+unsought-goes i now (Error x reason quoted) e = cc
+
+reply-at : (h : HostView) (w : Waiting) → Contains (places h) (ReplyOf w) → Contains h.interface.replies w
+reply-at h w at = by_side (Contains-append_cases (map ReplyOf h.interface.replies) (map EntryOf (filter is_due h.sockets.entries)) (ReplyOf w) at)
+  where
+    by_side : Contains (map ReplyOf h.interface.replies) (ReplyOf w) ⊎ Contains (map EntryOf (filter is_due h.sockets.entries)) (ReplyOf w) → Contains h.interface.replies w
+    by_side (inl here) = let found = mapped-in ReplyOf h.interface.replies (ReplyOf w) here in let same : found.0 ≡ w = let e = found.2 in cc in subst (Contains h.interface.replies) same found.1
+    by_side (inr there) = let found = mapped-in EntryOf (filter is_due h.sockets.entries) (ReplyOf w) there in let no = found.2 in cc
+
+entry-at : (h : HostView) (e : Entry) → Contains (places h) (EntryOf e) → Contains h.sockets.entries e × (is_due e ≡ true)
+entry-at h e at = by_side (Contains-append_cases (map ReplyOf h.interface.replies) (map EntryOf (filter is_due h.sockets.entries)) (EntryOf e) at)
+  where
+    by_side : Contains (map ReplyOf h.interface.replies) (EntryOf e) ⊎ Contains (map EntryOf (filter is_due h.sockets.entries)) (EntryOf e) → Contains h.sockets.entries e × (is_due e ≡ true)
+    by_side (inl here) = let found = mapped-in ReplyOf h.interface.replies (EntryOf e) here in let no = found.2 in cc
+    by_side (inr there) =
+        let found = mapped-in EntryOf (filter is_due h.sockets.entries) (EntryOf e) there in
+        let same : found.0 ≡ e = let is = found.2 in cc in
+        filtered-in is_due h.sockets.entries e (subst (Contains (filter is_due h.sockets.entries)) same found.1)
+
+due-somebody : (role : Role) → has_due role ≡ true → (peer : Endpoint) × (due_peer role ≡ Some peer)
+due-somebody (Idle buffers bound) e = cc
+due-somebody (Listener local backlog) e = cc
+due-somebody (Connected c l) e = (c.peer, ap (λ (b : Bool). cond b (Some c.peer) None) e)
+due-somebody (Datagrams bound socket) e = by_peer (datagram_peer socket.outbox) refl e
+  where
+    by_peer : (o : Option Endpoint) → datagram_peer socket.outbox ≡ o → is_some o ≡ true → (peer : Endpoint) × (datagram_peer socket.outbox ≡ Some peer)
+    by_peer None is some = cc
+    by_peer (Some peer) is some = (peer, is)
+
+-- what to do for an address that a route leads to
+held-up : (h : HostView) (to : Addr) → length h.interface.cache.asked ≤ 64 → is_on_route h.interface.routes (Some to) ≡ true → goes_out (way h.interface h.sockets.kept to) ≡ false
+    → (hop : Addr) × (moment : Moment) × IsHeld h h.sockets.kept to hop × (next_ask hop h.interface.cache.asked ≡ Some moment) × IsAskedFrom h to moment
+held-up h to few routed held =
+    let by = held-by h h.sockets.kept to routed held in
+    let from = asked-from h h.sockets.kept to by.0 few (let x = by.1 in x.leads) (let x = by.1 in x.unasked) in
+    (by.0, from.0, by.1, from.1, from.2)
+
+reply-comes : (h : HostView) (w : Waiting) → length h.interface.cache.asked ≤ 64 → Contains h.interface.replies w → is_on_route h.interface.routes (sought w.reply) ≡ true → ComesUp h (ReplyOf w)
+reply-comes h w few at routed = by_test (can_go_out h h.sockets.kept (ReplyOf w)) refl
+  where
+    by_address : (o : Option Addr) → sought w.reply ≡ o → is_on_route h.interface.routes o ≡ true → can_go_out h h.sockets.kept (ReplyOf w) ≡ false → ComesUp h (ReplyOf w)
+    by_address None is fine held = let no = sym (unsought-goes h.interface h.sockets.kept w.reply is) ∙ held in cc
+    by_address (Some to) is fine held =
+        let waits = held-up h to few fine (sym (ap goes_out (way-sought h.interface h.sockets.kept w.reply to is)) ∙ held) in
+        inr (to, waits.1, is, waits.4, reply-wakes h w to waits.0 waits.1 at is waits.2 waits.3)
+
+    by_test : (b : Bool) → can_go_out h h.sockets.kept (ReplyOf w) ≡ b → ComesUp h (ReplyOf w)
+    by_test true goes = inl goes
+    by_test false held = by_address (sought w.reply) refl routed held
+
+entry-comes : (h : HostView) (e : Entry) → length h.interface.cache.asked ≤ 64 → Contains h.sockets.entries e → is_due e ≡ true → is_on_route h.interface.routes (address_of (EntryOf e)) ≡ true → ComesUp h (EntryOf e)
+entry-comes h e few at due routed = by_test (can_go_out h h.sockets.kept (EntryOf e)) refl
+  where
+    by_peer : (peer : Endpoint) → due_peer e.role ≡ Some peer → can_go_out h h.sockets.kept (EntryOf e) ≡ false → ComesUp h (EntryOf e)
+    by_peer peer is held =
+        let fine : is_on_route h.interface.routes (Some peer.addr) ≡ true = sym (ap (λ (o : Option Endpoint). is_on_route h.interface.routes (option_map (λ (x : Endpoint). x.addr) o)) is) ∙ routed in
+        let waits = held-up h peer.addr few fine (sym (ap (λ (o : Option Endpoint). goes_out (way_to h h.sockets.kept o)) is) ∙ held) in
+        inr (peer.addr, waits.1, ap (λ (o : Option Endpoint). option_map (λ (x : Endpoint). x.addr) o) is, waits.4, entry-wakes h e peer waits.0 waits.1 at is waits.2 waits.3)
+
+    by_test : (b : Bool) → can_go_out h h.sockets.kept (EntryOf e) ≡ b → ComesUp h (EntryOf e)
+    by_test true goes = inl goes
+    by_test false held = let some = due-somebody e.role due in by_peer some.0 some.1 held
+
+pub place-comes : (h : HostView) (place : Place) → length h.interface.cache.asked ≤ 64 → Contains (places h) place → is_on_route h.interface.routes (address_of place) ≡ true → ComesUp h place
+place-comes h (ReplyOf w) few at routed = reply-comes h w few (reply-at h w at) routed
+place-comes h (EntryOf e) few at routed = let found = entry-at h e at in entry-comes h e few found.0 found.1 routed
+
+-- What waits is due.
+
+reply-due : (h : HostView) (w : Waiting) → Contains h.interface.replies w → Contains (places h) (ReplyOf w)
+reply-due h w at = Contains-append_left (map ReplyOf h.interface.replies) (map EntryOf (filter is_due h.sockets.entries)) (ReplyOf w) (in-mapped ReplyOf h.interface.replies w at)
+
+entry-due : (h : HostView) (e : Entry) → Contains h.sockets.entries e → is_due e ≡ true → Contains (places h) (EntryOf e)
+entry-due h e at due =
+    Contains-append_right (map ReplyOf h.interface.replies) (map EntryOf (filter is_due h.sockets.entries)) (EntryOf e)
+    (in-mapped EntryOf (filter is_due h.sockets.entries) e (kept is_due h.sockets.entries e due at))
+
+-- the first datagram of a UDP socket
+
+datagram-comes : (h : HostView) (e : Entry) (bound : Option Endpoint) (socket : SocketView) (first : Outgoing) (others : List Outgoing) → length h.interface.cache.asked ≤ 64 → Contains h.sockets.entries e → e.role ≡ Datagrams bound socket
+    → socket.outbox ≡ first ∷ others → is_some (next_hop h.interface.routes first.peer.addr) ≡ true → IsDueSoon h (EntryOf e)
+datagram-comes h e bound socket first others few at is waits routed =
+    let peer : due_peer e.role ≡ Some first.peer = ap due_peer is ∙ ap datagram_peer waits in
+    let due : is_due e ≡ true = ap has_due is ∙ ap (λ (os : List Outgoing). is_some (datagram_peer os)) waits in
+    let fine : is_on_route h.interface.routes (address_of (EntryOf e)) ≡ true = ap (λ (o : Option Endpoint). is_on_route h.interface.routes (option_map (λ (x : Endpoint). x.addr) o)) peer ∙ routed in
+    (entry-due h e at due, entry-comes h e few at due fine)
+
+-- A connection.
+
+numbers-due : (o : Option Due) → takes_numbers o ≡ true → is_some o ≡ true
+numbers-due None e = cc
+numbers-due (Some due) e = refl
+
+pub connection-comes : (h : HostView) (e : Entry) (c : View) (l : Option SocketId) → length h.interface.cache.asked ≤ 64 → IsSoundHost h → EachKeepsTime h.sockets → Contains h.sockets.entries e → e.role ≡ Connected c l
+    → is_some (next_hop h.interface.routes c.peer.addr) ≡ true → HasToSend c → ConnectionComesUp h e c
+connection-comes h e c l few sound timed at is routed waits = by_due (takes_numbers (first_due c)) refl
+  where
+    solid : IsSoundRole (Connected c l)
+    solid = subst IsSoundRole is (all-of (λ (x : Entry). IsSoundRole x.role) h.sockets.entries e sound.table.entries at)
+
+    keeps : KeepsTimeIn (Connected c l)
+    keeps = subst KeepsTimeIn is (all-of (λ (x : Entry). KeepsTimeIn x.role) h.sockets.entries e timed at)
+
+    either : (takes_numbers (first_due c) || is_some (deadline c)) ≡ true
+    either = timed_or_due c solid.sound keeps.0 keeps.1 waits
+
+    by_deadline : (o : Option Moment) → deadline c ≡ o → is_some o ≡ true → ConnectionComesUp h e c
+    by_deadline None none some = cc
+    by_deadline (Some m) ends some = inr (m, ends, timer-wakes h e m at (ap timer_of is ∙ ends))
+
+    by_due : (b : Bool) → takes_numbers (first_due c) ≡ b → ConnectionComesUp h e c
+    by_due true takes =
+        let some : is_some (first_due c) ≡ true = numbers-due (first_due c) takes in
+        let due : is_due e ≡ true = ap has_due is ∙ some in
+        let to : address_of (EntryOf e) ≡ Some c.peer.addr =
+        ap (λ (r : Role). option_map (λ (x : Endpoint). x.addr) (due_peer r)) is ∙ ap (λ (b : Bool). option_map (λ (x : Endpoint). x.addr) (cond b (Some c.peer) None)) some in
+        let fine : is_on_route h.interface.routes (address_of (EntryOf e)) ≡ true = ap (is_on_route h.interface.routes) to ∙ routed in
+        inl (entry-due h e at due, entry-comes h e few at due fine)
+    by_due false takes = by_deadline (deadline c) refl (sym (ap (λ (b : Bool). b || is_some (deadline c)) takes) ∙ either)
+
+-- Where no frame can go out and there is no deadline, nothing waits.
+
+none-can : {X : Type 0} (p : X → Bool) (xs : List X) (x : X) → find p xs ≡ None → Contains xs x → p x ≡ true → ⊥
+none-can p [] x none at e = omega (arith, at.1)
+none-can {X} p (y ∷ ys) x none at e = by_test (λ rest there. none-can p ys x rest there e) (p y) refl none
+  where
+    by_place : (find p ys ≡ None → Contains ys x → ⊥) → p y ≡ false → find p ys ≡ None → (k : ℕ) → k < length (y ∷ ys) → slice_index_or (y ∷ ys) k x ≡ x → ⊥
+    by_place further fails rest zero within is = let no : true ≡ false = sym e ∙ sym (ap p is) ∙ fails in cc
+    by_place further fails rest (suc k) within is = further rest (k, omega (arith, within), is)
+
+    by_test : (find p ys ≡ None → Contains ys x → ⊥) → (b : Bool) → p y ≡ b → cond b (Some y) (find p ys) ≡ None → ⊥
+    by_test further true passes found = cc
+    by_test further false fails found = by_place further fails found at.0 at.1 at.2
+
+unwoken : (h : HostView) (m : Moment) → least_deadline h ≡ None → IsWokenBy h m → ⊥
+unwoken h m none wakes = let no = sym none ∙ wakes.1 in cc
+
+comes-not : (h : HostView) (place : Place) → find (can_go_out h h.sockets.kept) (places h) ≡ None → least_deadline h ≡ None → Contains (places h) place → ComesUp h place → ⊥
+comes-not h place none quiet at (inl goes) = none-can (can_go_out h h.sockets.kept) (places h) place none at goes
+comes-not h place none quiet at (inr waits) = unwoken h waits.1 quiet waits.4
+
+unrouted-place : (h : HostView) → length h.interface.cache.asked ≤ 64 → find (can_go_out h h.sockets.kept) (places h) ≡ None → least_deadline h ≡ None
+    → (place : Place) → Contains (places h) place → is_on_route h.interface.routes (address_of place) ≡ false
+unrouted-place h few none quiet place at = by_test (is_on_route h.interface.routes (address_of place)) refl
+  where
+    by_test : (b : Bool) → is_on_route h.interface.routes (address_of place) ≡ b → is_on_route h.interface.routes (address_of place) ≡ false
+    by_test true routed = absurd (comes-not h place none quiet at (place-comes h place few at routed))
+    by_test false unrouted = unrouted
+
+no-reply : (h : HostView) → KeepsSide h.interface → find (can_go_out h h.sockets.kept) (places h) ≡ None → least_deadline h ≡ None → h.interface.replies ≡ []
+no-reply h keeps none quiet = by_replies h.interface.replies refl
+  where
+    by_replies : (ws : List Waiting) → h.interface.replies ≡ ws → h.interface.replies ≡ []
+    by_replies [] is = is
+    by_replies (w ∷ ws) is =
+        let here : Contains h.interface.replies w = subst (λ (xs : List Waiting). Contains xs w) (sym is) (0, omega arith, refl) in
+        let routed : is_on_route h.interface.routes (sought w.reply) ≡ true = all-of (λ (x : Waiting). is_on_route h.interface.routes (sought x.reply) ≡ true) h.interface.replies w keeps.routed here in
+        absurd (comes-not h (ReplyOf w) none quiet (reply-due h w here) (reply-comes h w keeps.few here routed))
+
+no-datagram : (h : HostView) → length h.interface.cache.asked ≤ 64 → find (can_go_out h h.sockets.kept) (places h) ≡ None → least_deadline h ≡ None
+    → (e : Entry) (bound : Option Endpoint) (socket : SocketView) (first : Outgoing) (others : List Outgoing) → Contains h.sockets.entries e → e.role ≡ Datagrams bound socket → socket.outbox ≡ first ∷ others
+    → is_routed h.interface first.peer.addr ≡ false
+no-datagram h few none quiet e bound socket first others at is waits = by_test (is_routed h.interface first.peer.addr) refl
+  where
+    by_test : (b : Bool) → is_routed h.interface first.peer.addr ≡ b → is_routed h.interface first.peer.addr ≡ false
+    by_test true routed = let due = datagram-comes h e bound socket first others few at is waits routed in absurd (comes-not h (EntryOf e) none quiet due.0 due.1)
+    by_test false unrouted = unrouted
+
+nothing-to-send : (h : HostView) → length h.interface.cache.asked ≤ 64 → IsSoundHost h → EachKeepsTime h.sockets → find (can_go_out h h.sockets.kept) (places h) ≡ None → least_deadline h ≡ None
+    → (e : Entry) (c : View) (l : Option SocketId) → Contains h.sockets.entries e → e.role ≡ Connected c l → is_some (next_hop h.interface.routes c.peer.addr) ≡ true → HasToSend c → ⊥
+nothing-to-send h few sound timed none quiet e c l at is routed waits = by_cause (connection-comes h e c l few sound timed at is routed waits)
+  where
+    by_cause : ConnectionComesUp h e c → ⊥
+    by_cause (inl due) = comes-not h (EntryOf e) none quiet due.0 due.1
+    by_cause (inr timer) = unwoken h timer.0 quiet timer.2
+
+-- Of every host.
+
+pub place-of-run : (h : HostView) (place : Place) → HasRun h → Contains (places h) place → is_on_route h.interface.routes (address_of place) ≡ true → ComesUp h place
+place-of-run h place run at routed = let keeps = run-side run.config run.events h run.runs in place-comes h place keeps.few at routed
+
+pub reply-of-run : (h : HostView) (w : Waiting) → HasRun h → Contains h.interface.replies w → IsDueSoon h (ReplyOf w)
+reply-of-run h w run at =
+    let keeps = run-side run.config run.events h run.runs in
+    let routed : is_on_route h.interface.routes (sought w.reply) ≡ true = all-of (λ (x : Waiting). is_on_route h.interface.routes (sought x.reply) ≡ true) h.interface.replies w keeps.routed at in
+    (reply-due h w at, reply-comes h w keeps.few at routed)
+
+pub datagram-of-run : (h : HostView) (e : Entry) (bound : Option Endpoint) (socket : SocketView) (first : Outgoing) (others : List Outgoing) → HasRun h → Contains h.sockets.entries e → e.role ≡ Datagrams bound socket
+    → socket.outbox ≡ first ∷ others → IsTrue (is_routed h.interface first.peer.addr) → IsDueSoon h (EntryOf e)
+datagram-of-run h e bound socket first others run at is waits routed = let keeps = run-side run.config run.events h run.runs in datagram-comes h e bound socket first others keeps.few at is waits routed
+
+pub connection-of-run : (h : HostView) (e : Entry) (c : View) (listener : Option SocketId) → IsSoundHost h → HasRun h → Contains h.sockets.entries e → e.role ≡ Connected c listener → IsTrue (is_routed h.interface c.peer.addr)
+    → HasToSend c → ConnectionComesUp h e c
+connection-of-run h e c l sound run at is routed waits =
+    let keeps = run-side run.config run.events h run.runs in connection-comes h e c l keeps.few sound (run-timed run.config run.events h run.runs) at is routed waits
+
+pub quiet-of-run : (h : HostView) → IsSoundHost h → HasRun h → find (can_go_out h h.sockets.kept) (places h) ≡ None → least_deadline h ≡ None → IsQuiet h
+quiet-of-run h sound run none quiet =
+    let keeps = run-side run.config run.events h run.runs in
+    record {
+      replies = no-reply h keeps none quiet;
+      due = unrouted-place h keeps.few none quiet;
+      datagrams = no-datagram h keeps.few none quiet;
+      connections = λ e c l at is routed waits. nothing-to-send h keeps.few sound (run-timed run.config run.events h run.runs) none quiet e c l at is routed waits;
+    }

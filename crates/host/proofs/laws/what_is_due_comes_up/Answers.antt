@@ -1,0 +1,5 @@
+use Rattle.host.proofs.ComesUp.{place-of-run, reply-of-run, datagram-of-run, connection-of-run, quiet-of-run}
+use Rattle.host.proofs.laws.what_is_due_comes_up.Goals as goal
+
+pub returns : goal.returns
+returns c = record { place = place-of-run; reply = reply-of-run; datagram = datagram-of-run; connection = connection-of-run; never_silent = quiet-of-run }

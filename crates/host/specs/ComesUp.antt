@@ -1,0 +1,68 @@
+-- When what waits to go out is looked at next: it can go out, or the host has a deadline for it (RFC 1122 sections 2.3.2.1 and 2.3.2.2, RFC 9293
+-- section 3.8). `laws::what_is_due_comes_up` says that one of both is so.
+use Rattle.std.specs.Prelude.{◌≡◌, ◌⊎◌, ◌≤◌, ◌+◌, Bool, false, true, IsTrue, List, [], ◌∷◌, Contains, Option, Some, None, option_map, is_some}
+use Rattle.ipv4.specs.declared.addr.Addr.{Addr}
+use Rattle.ipv4.specs.declared.addr.Endpoint.{Endpoint}
+use Rattle.clock.specs.declared.moment.Moment.{Moment}
+use Rattle.arp.specs.declared.entry.Asked.{Asked}
+use Rattle.arp.specs.Cache.{IsNextAsk}
+use Rattle.routes.specs.declared.route.Route.{Route}
+use Rattle.interface.specs.Routing.{next_hop}
+use Rattle.interface.specs.Timing.{sought}
+use Rattle.interface.specs.Ways.{is_routed}
+use Rattle.tcp_state.specs.Positions.{HasToSend}
+use Rattle.tcp_state.specs.View.{View}
+use Rattle.tcp_state.specs.Timing.{deadline}
+use Rattle.udp_socket.specs.SocketView.{Outgoing, SocketView}
+use Rattle.sockets.specs.declared.entry.Entry.{Entry}
+use Rattle.sockets.specs.declared.entry.SocketId.{SocketId}
+use Rattle.sockets.specs.declared.role.Role.TheVariants.{Connected, Datagrams}
+use Rattle.sockets.specs.Entries.{due_peer}
+use Rattle.host.specs.HostView.{HostView}
+use Rattle.host.specs.Places.{Place, ReplyOf, EntryOf, places, can_go_out}
+use Rattle.host.specs.Ticks.{least_deadline}
+
+-- the address to which what is due in a place goes; an ARP reply names its MAC, and needs none
+abbrev pub address_of : Place → Option Addr
+address_of (ReplyOf waiting) = sought waiting.reply
+address_of (EntryOf e) = option_map (λ peer. peer.addr) (due_peer e.role)
+
+-- a route leads to an address, where one is needed
+abbrev pub is_on_route : List Route → Option Addr → Bool
+is_on_route routes None = true
+is_on_route routes (Some to) = is_some (next_hop routes to)
+
+-- From this moment on, and not before, a request may go out for the next hop to an address. It lies within a second of a request that was sent.
+pub record IsAskedFrom (h : HostView) (to : Addr) (moment : Moment) : Type 0 where
+  pub hop : Addr
+  pub leads : next_hop h.interface.routes to ≡ Some hop
+  pub from : IsNextAsk hop h.interface.cache.asked (Some moment)
+  pub request : Asked
+  pub noted : Contains h.interface.cache.asked request
+  pub soon : moment.0 ≤ request.at.0 + 1000
+
+-- the host has a deadline, and that is not after this moment
+abbrev pub IsWokenBy : HostView → Moment → Type 0
+IsWokenBy h moment = (deadline : Moment) × (least_deadline h ≡ Some deadline) × (deadline.0 ≤ moment.0)
+
+-- a frame can go out for a place at the kept moment, or the host is woken by the moment from which the hop may be asked for again
+abbrev pub ComesUp : HostView → Place → Type 0
+ComesUp h place =
+    (can_go_out h h.sockets.kept place ≡ true) ⊎ ((to : Addr) × (moment : Moment) × (address_of place ≡ Some to) × IsAskedFrom h to moment × IsWokenBy h moment)
+
+-- it is due, and comes up
+abbrev pub IsDueSoon : HostView → Place → Type 0
+IsDueSoon h place = Contains (places h) place × ComesUp h place
+
+-- a connection is due and comes up, or the host is woken by the deadline of its own timers
+abbrev pub ConnectionComesUp : HostView → Entry → View → Type 0
+ConnectionComesUp h e c = IsDueSoon h (EntryOf e) ⊎ ((moment : Moment) × (deadline c ≡ Some moment) × IsWokenBy h moment)
+
+-- Nothing waits that could be sent: no control reply; and no route leads to where a place's frame goes, the first datagram of a UDP socket, or what a
+-- connection has to send.
+pub record IsQuiet (h : HostView) : Type 0 where
+  pub replies : h.interface.replies ≡ []
+  pub due : (place : Place) → Contains (places h) place → is_on_route h.interface.routes (address_of place) ≡ false
+  pub datagrams : (e : Entry) (bound : Option Endpoint) (socket : SocketView) (first : Outgoing) (others : List Outgoing) → Contains h.sockets.entries e → e.role ≡ Datagrams bound socket → socket.outbox ≡ first ∷ others
+      → is_routed h.interface first.peer.addr ≡ false
+  pub connections : (e : Entry) (c : View) (listener : Option SocketId) → Contains h.sockets.entries e → e.role ≡ Connected c listener → IsTrue (is_routed h.interface c.peer.addr) → HasToSend c → ⊥
