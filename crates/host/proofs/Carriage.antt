@@ -75,7 +75,7 @@ Carry i octets (Some c) = Goes i octets c
 
 -- Elements of lists of which each is sound.
 
-found-all : {X : Type 0} (P : X → Type 0) (t : X → Bool) (xs : List X) (x : X) → AllByRecursion P xs → find t xs ≡ Some x → P x
+pub found-all : {X : Type 0} (P : X → Type 0) (t : X → Bool) (xs : List X) (x : X) → AllByRecursion P xs → find t xs ≡ Some x → P x
 found-all P t [] x all e = cc
 found-all P t (y ∷ ys) x all e = by_test (t y) (found-all P t ys x all.1) e
   where

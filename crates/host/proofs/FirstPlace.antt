@@ -49,7 +49,7 @@ find-filtered {X} p q (x ∷ xs) = by_test (q x) (find-filtered p q xs)
 at-place : {X : Type 0} (p : X → Bool) (xs : List X) (i : ℕ) → position p xs ≡ Some i → find p xs ≡ slice_get xs i
 at-place p xs i e = find_at p xs ∙ ap (slice_get xs) (cond_some _ _ _ e).1
 
-find-passes : {X : Type 0} (p : X → Bool) (xs : List X) (x : X) → find p xs ≡ Some x → p x ≡ true
+pub find-passes : {X : Type 0} (p : X → Bool) (xs : List X) (x : X) → find p xs ≡ Some x → p x ≡ true
 find-passes p [] x e = cc
 find-passes {X} p (y ∷ ys) x e = by_test (p y) refl (find-passes p ys x) e
   where

@@ -16,3 +16,4 @@ pub mod Tables
 pub mod Ran
 pub mod FrameSide
 pub mod ComesUp
+pub mod Owed

@@ -11,3 +11,4 @@ pub mod Runs
 pub mod Causes
 pub mod Plans
 pub mod ComesUp
+pub mod Duties

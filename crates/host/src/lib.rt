@@ -6,6 +6,7 @@ mod arrival;
 mod calls;
 mod config;
 mod datagrams;
+pub mod duties;
 mod emission;
 mod host;
 pub mod laws;

@@ -1,0 +1,75 @@
+//! What a host must do: laws of the definitions that the contracts of this crate cite, each the contract of a function that does nothing.
+
+ghost use Rattle.std.specs.Prelude.{◌≡◌, ◌≢◌, ◌<◌, ℕ, List, [], ◌∷◌, ◌++◌, Contains, find, length, take, IsTrue, Option, Some, None, Result, Ok};
+ghost use Rattle.ipv4.specs.declared.addr.Endpoint.{Endpoint};
+ghost use Rattle.ipv4.specs.Datagram.{Datagram};
+ghost use Rattle.clock.specs.declared.moment.Moment.{Moment};
+ghost use Rattle.arp.specs.declared.packet.ArpPacket.{ArpPacket};
+ghost use Rattle.arp.specs.declared.packet.Operation.TheVariants.{Request, Reply};
+ghost use Rattle.icmp.specs.declared.error.Reason.TheVariants.{PortUnreachable};
+ghost use Rattle.icmp.specs.declared.quote.Quote.{Quote};
+ghost use Rattle.icmp.specs.Message.{IsEchoRequest};
+ghost use Rattle.icmp.specs.Reading.{quote_in};
+ghost use Rattle.udp.specs.Datagram.{UserDatagram};
+ghost use Rattle.udp.specs.Reading.{datagram_or_fault};
+ghost use Rattle.frames.specs.declared.drop.DropCause.{DropCause};
+ghost use Rattle.frames.specs.declared.meaning.Control.{Control};
+ghost use Rattle.frames.specs.declared.meaning.ReceivedDatagram.{ReceivedDatagram};
+ghost use Rattle.frames.specs.declared.meaning.Meaning.TheVariants as meaning;
+ghost use Rattle.interface.specs.declared.reply.Reply.TheVariants as reply;
+ghost use Rattle.interface.specs.Ways.{is_routed};
+ghost use Rattle.reassembly.specs.Reassembly.Outcome.{Completes};
+ghost use Rattle.tcp_state.specs.declared.state.State.TheVariants.{SynSent};
+ghost use Rattle.tcp_state.specs.Unreachable.{IsRefused};
+ghost use Rattle.tcp_state.specs.View.{View};
+ghost use Rattle.udp_socket.specs.SocketView.{SocketView};
+ghost use Rattle.sockets.specs.declared.entry.SocketId.{SocketId};
+ghost use Rattle.sockets.specs.declared.role.Role.TheVariants.{Connected, Datagrams};
+ghost use Rattle.sockets.specs.Entries.{is_between, is_datagrams_at, has_room_to_receive};
+ghost use Rattle.sockets.specs.SocketsView.{later_moment};
+ghost use Rattle.host.specs.Arrival.{IsDelivered, fragment_outcome, heard_by};
+ghost use Rattle.host.specs.Duties.{HasBehindOthers, IsHardError};
+ghost use Rattle.host.specs.HostView.{HostView};
+ghost use Rattle.host.specs.Sound.{IsSoundHost};
+
+/// A request for our address is answered (RFC 826): where fewer than 16 control replies wait, it is taken, and the reply with our MAC, to the address
+/// and the MAC that asked, stands behind all that wait.
+pub fn requests_for_us_are_answered()
+    ensures { (h : HostView) (now : Moment) (isn : ℕ) (octets : List ℕ) (packet : ArpPacket) (answer : Result (Unit {0}) DropCause) (new : HostView)
+        → heard_by h octets ≡ Ok (meaning.Arp packet) → packet.operation ≡ Request → packet.target_addr ≡ h.interface.addr → length h.interface.replies < 16
+        → IsDelivered h now isn octets answer new
+        → let reply = reply.Arp (record { operation = Reply; sender_mac = h.interface.mac; sender_addr = h.interface.addr; target_mac = packet.sender_mac; target_addr = packet.sender_addr }) in
+        (answer ≡ Ok tt) × (new.interface.replies ≡ h.interface.replies ++ record { since = later_moment h.sockets now; reply = reply } ∷ []) }
+{}
+
+/// A UDP datagram for a port to which a socket with room is bound is taken, and stands behind the others that came for the socket, with its octets and
+/// the endpoint that it is from (RFC 768), whether it came whole or a fragment completes it. One that a fragment completes and whose port no socket is bound
+/// to is reported to its source by the quote of its last fragment zero, where a route leads there and fewer than 16 control replies wait.
+pub fn datagrams_reach_their_sockets()
+    ensures whole { (h : HostView) (now : Moment) (isn : ℕ) (octets : List ℕ) (r : ReceivedDatagram) (answer : Result (Unit {0}) DropCause) (new : HostView) (id : SocketId) (bound : Option Endpoint) (socket : SocketView)
+        → heard_by h octets ≡ Ok (meaning.Udp r) → find (is_datagrams_at r.datagram.destination) h.sockets.entries ≡ Some (record { id = id; role = Datagrams bound socket })
+        → IsTrue (has_room_to_receive (length r.datagram.payload) (Datagrams bound socket)) → IsDelivered h now isn octets answer new
+        → (answer ≡ Ok tt) × HasBehindOthers id bound socket r.carrier.source r.datagram new }
+    ensures completed { (h : HostView) (now : Moment) (isn : ℕ) (octets : List ℕ) (d : Datagram) (payload quote : List ℕ) (u : UserDatagram) (answer : Result (Unit {0}) DropCause) (new : HostView) (id : SocketId) (bound : Option Endpoint) (socket : SocketView)
+        → heard_by h octets ≡ Ok (meaning.UdpFragment d) → fragment_outcome (later_moment h.sockets now) d h.pool ≡ Some (Completes payload quote) → datagram_or_fault d.source d.destination payload ≡ Ok u
+        → find (is_datagrams_at u.destination) h.sockets.entries ≡ Some (record { id = id; role = Datagrams bound socket }) → IsTrue (has_room_to_receive (length u.payload) (Datagrams bound socket))
+        → IsDelivered h now isn octets answer new → (answer ≡ Ok tt) × HasBehindOthers id bound socket d.source u new }
+    ensures unbound { (h : HostView) (now : Moment) (isn : ℕ) (octets : List ℕ) (d : Datagram) (payload quote : List ℕ) (u : UserDatagram) (answer : Result (Unit {0}) DropCause) (new : HostView)
+        → heard_by h octets ≡ Ok (meaning.UdpFragment d) → fragment_outcome (later_moment h.sockets now) d h.pool ≡ Some (Completes payload quote) → datagram_or_fault d.source d.destination payload ≡ Ok u
+        → find (is_datagrams_at u.destination) h.sockets.entries ≡ None → IsTrue (is_routed h.interface d.source) → length h.interface.replies < 16 → IsDelivered h now isn octets answer new
+        → let reply = reply.Error d.source PortUnreachable (take 68 quote) in
+        (answer ≡ Ok tt) × (new.interface.replies ≡ h.interface.replies ++ record { since = later_moment h.sockets now; reply = reply } ∷ []) }
+{}
+
+/// A hard error about our SYN ends the opening (RFC 1122 section 4.2.3.9): a message of type 3, code 2, 3 or 4, that quotes a segment of TCP with the two ends of a connection in
+/// SYN-SENT and the number of its SYN, which has gone out, leaves its connection refused, as every call is told then. Any other message but an
+/// echo request leaves the host as it was.
+pub fn hard_errors_end_openings()
+    ensures refused { (h : HostView) (now : Moment) (isn : ℕ) (octets : List ℕ) (c : Control) (quote : Quote) (answer : Result (Unit {0}) DropCause) (new : HostView) (id : SocketId) (v : View) (listener : Option SocketId) → IsSoundHost h
+        → heard_by h octets ≡ Ok (meaning.Icmp c) → IsHardError c.message → quote_in c.message.payload ≡ Some quote → quote.protocol.0 ≡ 6
+        → find (is_between quote.source quote.destination) h.sockets.entries ≡ Some (record { id = id; role = Connected v listener }) → v.state ≡ SynSent → v.sending.nxt ≢ v.sending.una → quote.number ≡ v.sending.una
+        → IsDelivered h now isn octets answer new
+        → (answer ≡ Ok tt) × (w : View) × IsRefused w × Contains new.sockets.entries (record { id = id; role = Connected w listener }) }
+    ensures others { (h : HostView) (now : Moment) (isn : ℕ) (octets : List ℕ) (c : Control) (answer : Result (Unit {0}) DropCause) (new : HostView)
+        → heard_by h octets ≡ Ok (meaning.Icmp c) → ¬ IsEchoRequest c.message → ¬ IsHardError c.message → IsDelivered h now isn octets answer new → (answer ≡ Ok tt) × (new ≡ h) }
+{}
