@@ -17,3 +17,4 @@ pub mod Ran
 pub mod FrameSide
 pub mod ComesUp
 pub mod Owed
+pub mod Late

@@ -69,14 +69,14 @@ met-by h now isn octets answer new m is delivered = subst (λ (r : Result Meanin
 
 -- Where fewer than 16 replies wait, one more does.
 
-roomy : (i : InterfaceView) → length i.replies < 16 → is_full i ≡ false
+pub roomy : (i : InterfaceView) → length i.replies < 16 → is_full i ≡ false
 roomy i few = by_test (length i.replies == 16) refl
   where
     by_test : (b : Bool) → (length i.replies == 16) ≡ b → (length i.replies == 16) ≡ false
     by_test true is = absurd (omega (arith, few, eqb-true (length i.replies) 16 is))
     by_test false is = is
 
-joins : (is_owed : Bool) (now : Moment) (r : Reply) (i : InterfaceView) → is_owed ≡ true → is_full i ≡ false → owed is_owed now r i ≡ queued now r i
+pub joins : (is_owed : Bool) (now : Moment) (r : Reply) (i : InterfaceView) → is_owed ≡ true → is_full i ≡ false → owed is_owed now r i ≡ queued now r i
 joins is_owed now r i so room = ap (λ (b : Bool). cond (b && not (is_full i)) (queued now r i) i) so ∙ ap (λ (b : Bool). cond (not b) (queued now r i) i) room
 
 told-so : (is_owed : Bool) (i : InterfaceView) → is_owed ≡ true → is_full i ≡ false → queue_answer (owed_answer is_owed i) ≡ Ok tt

@@ -1,12 +1,12 @@
 //! What a host must do: laws of the definitions that the contracts of this crate cite, each the contract of a function that does nothing.
 
-ghost use Rattle.std.specs.Prelude.{◌≡◌, ◌≢◌, ◌<◌, ℕ, List, [], ◌∷◌, ◌++◌, Contains, find, length, take, IsTrue, Option, Some, None, Result, Ok};
+ghost use Rattle.std.specs.Prelude.{◌≡◌, ◌≢◌, ◌<◌, ◌≤◌, ◌+◌, ℕ, List, [], ◌∷◌, ◌++◌, Contains, find, length, take, IsTrue, Option, Some, None, Result, Ok};
 ghost use Rattle.ipv4.specs.declared.addr.Endpoint.{Endpoint};
 ghost use Rattle.ipv4.specs.Datagram.{Datagram};
 ghost use Rattle.clock.specs.declared.moment.Moment.{Moment};
 ghost use Rattle.arp.specs.declared.packet.ArpPacket.{ArpPacket};
 ghost use Rattle.arp.specs.declared.packet.Operation.TheVariants.{Request, Reply};
-ghost use Rattle.icmp.specs.declared.error.Reason.TheVariants.{PortUnreachable};
+ghost use Rattle.icmp.specs.declared.error.Reason.TheVariants.{PortUnreachable, ReassemblyTimeExceeded};
 ghost use Rattle.icmp.specs.declared.quote.Quote.{Quote};
 ghost use Rattle.icmp.specs.Message.{IsEchoRequest};
 ghost use Rattle.icmp.specs.Reading.{quote_in};
@@ -18,6 +18,7 @@ ghost use Rattle.frames.specs.declared.meaning.ReceivedDatagram.{ReceivedDatagra
 ghost use Rattle.frames.specs.declared.meaning.Meaning.TheVariants as meaning;
 ghost use Rattle.interface.specs.declared.reply.Reply.TheVariants as reply;
 ghost use Rattle.interface.specs.Ways.{is_routed};
+ghost use Rattle.reassembly.specs.Reassembly.{Reassembly};
 ghost use Rattle.reassembly.specs.Reassembly.Outcome.{Completes};
 ghost use Rattle.tcp_state.specs.declared.state.State.TheVariants.{SynSent};
 ghost use Rattle.tcp_state.specs.Unreachable.{IsRefused};
@@ -31,6 +32,7 @@ ghost use Rattle.host.specs.Arrival.{IsDelivered, fragment_outcome, heard_by};
 ghost use Rattle.host.specs.Duties.{HasBehindOthers, IsHardError};
 ghost use Rattle.host.specs.HostView.{HostView};
 ghost use Rattle.host.specs.Sound.{IsSoundHost};
+ghost use Rattle.host.specs.Ticks.{after_tick};
 
 /// A request for our address is answered (RFC 826): where fewer than 16 control replies wait, it is taken, and the reply with our MAC, to the address
 /// and the MAC that asked, stands behind all that wait.
@@ -59,6 +61,16 @@ pub fn datagrams_reach_their_sockets()
         → find (is_datagrams_at u.destination) h.sockets.entries ≡ None → IsTrue (is_routed h.interface d.source) → length h.interface.replies < 16 → IsDelivered h now isn octets answer new
         → let reply = reply.Error d.source PortUnreachable (take 68 quote) in
         (answer ≡ Ok tt) × (new.interface.replies ≡ h.interface.replies ++ record { since = later_moment h.sockets now; reply = reply } ∷ []) }
+{}
+
+/// A datagram whose fragments haven't all come within 60 seconds of the first is reported to its source, where its fragment zero came and a route leads there: a tick from then on
+/// leaves an error, time exceeded in reassembly (type 11, code 1), among the control replies, where there is room for one of each place of the pool (RFC 792, RFC 1122
+/// section 3.3.2).
+pub fn late_datagrams_are_reported()
+    ensures { (h : HostView) (now : Moment) (r : Reassembly) (quote : List ℕ) → Contains h.pool (Some r) → (let moment = later_moment h.sockets now in r.since.0 + 60000 ≤ moment.0) → r.quote ≡ Some quote
+        → IsTrue (is_routed h.interface r.key.source) → length h.interface.replies + length h.pool ≤ 16
+        → let after = after_tick h now in
+        Contains after.interface.replies (record { since = later_moment h.sockets now; reply = reply.Error r.key.source ReassemblyTimeExceeded (take 68 quote) }) }
 {}
 
 /// A hard error about our SYN ends the opening (RFC 1122 section 4.2.3.9): a message of type 3, code 2, 3 or 4, that quotes a segment of TCP with the two ends of a connection in
