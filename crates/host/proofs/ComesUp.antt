@@ -13,6 +13,7 @@ use Rattle.arp.specs.declared.entry.Asked.{Asked}
 use Rattle.arp.specs.Cache.{end_of, is_note_of, look, may_ask, IsNextAsk}
 use Rattle.arp.specs.Waits.{first_end, next_ask, own_end, room_end}
 use Rattle.arp.proofs.WaitsOver.{next_is}
+use Rattle.routes.specs.declared.route.Route.{Route}
 use Rattle.interface.specs.declared.reply.Reply.{Reply}
 use Rattle.interface.specs.declared.reply.Reply.TheVariants.{Arp, Reset, Echo, Error}
 use Rattle.interface.specs.declared.reply.Waiting.{Waiting}
@@ -434,8 +435,8 @@ unrouted-place h few none quiet place at = by_test (is_on_route h.interface.rout
     by_test true routed = absurd (comes-not h place none quiet at (place-comes h place few at routed))
     by_test false unrouted = unrouted
 
-no-reply : (h : HostView) → KeepsSide h.interface → find (can_go_out h h.sockets.kept) (places h) ≡ None → least_deadline h ≡ None → h.interface.replies ≡ []
-no-reply h keeps none quiet = by_replies h.interface.replies refl
+no-reply : (h : HostView) (routes : List Route) → KeepsSide routes h.interface → find (can_go_out h h.sockets.kept) (places h) ≡ None → least_deadline h ≡ None → h.interface.replies ≡ []
+no-reply h routes keeps none quiet = by_replies h.interface.replies refl
   where
     by_replies : (ws : List Waiting) → h.interface.replies ≡ ws → h.interface.replies ≡ []
     by_replies [] is = is
@@ -485,7 +486,7 @@ pub quiet-of-run : (h : HostView) → IsSoundHost h → HasRun h → find (can_g
 quiet-of-run h sound run none quiet =
     let keeps = run-side run.config run.events h run.runs in
     record {
-      replies = no-reply h keeps none quiet;
+      replies = no-reply h run.config.routes keeps none quiet;
       due = unrouted-place h keeps.few none quiet;
       datagrams = no-datagram h keeps.few none quiet;
       connections = λ e c l at is routed waits. nothing-to-send h keeps.few sound (run-timed run.config run.events h run.runs) none quiet e c l at is routed waits;

@@ -1,4 +1,4 @@
--- What the frame side of a host keeps over every list of events: at most 64 requests are noted, and to each reply that waits a route leads.
+-- What the frame side of a host keeps over every list of events: its routes; at most 64 requests are noted; and to each reply that waits a route leads.
 use Rattle.std.proofs.Common.{◌≡◌, ℕ, ◌≤◌, ◌&&◌, not, Bool, true, false, cond, List, [], ◌∷◌, ◌++◌, length, take, Option, Some, None, Result, Ok, Err, refl, sym, subst, arith, length-append}
 use Rattle.std.specs.List.{AllByRecursion}
 use Rattle.std.proofs.lemmas.Bool.{and_parts}
@@ -19,6 +19,7 @@ use Rattle.frames.specs.declared.drop.DropCause.{DropCause}
 use Rattle.frames.specs.declared.meaning.Control.{Control}
 use Rattle.frames.specs.declared.meaning.Meaning.{Meaning}
 use Rattle.frames.specs.declared.meaning.Meaning.TheVariants.{Arp, Tcp, Icmp, Udp, Other, UdpFragment}
+use Rattle.routes.specs.declared.route.Route.{Route}
 use Rattle.interface.specs.declared.reply.Reply.{Reply}
 use Rattle.interface.specs.declared.reply.Reply.TheVariants as reply
 use Rattle.interface.specs.declared.reply.Waiting.{Waiting}
@@ -50,7 +51,8 @@ use Rattle.host.specs.Runs.{Event, Calls, Ticks, Delivers, Emits, Makes, Runs, B
 use Rattle.host.specs.Ticks.{after_tick, all_reported, reported}
 use Rattle.host.proofs.Causes.{all-behind, all-filtered, all-left}
 
-pub record KeepsSide (i : InterfaceView) : Type 0 where
+pub record KeepsSide (routes : List Route) (i : InterfaceView) : Type 0 where
+  pub same : i.routes ≡ routes
   pub few : length i.cache.asked ≤ 64
   pub routed : AllByRecursion (λ (w : Waiting). is_on_route i.routes (sought w.reply) ≡ true) i.replies
 
@@ -67,80 +69,81 @@ few-after now hop asked few = by_test (has_place_for hop (live_notes now asked))
     by_test true is = omega (arith, has_place hop (live_notes now asked) is, length-append (live_notes now asked) (record { addr = hop; at = now } ∷ []))
     by_test false is = live
 
-side-asked : (i : InterfaceView) (now : Moment) (hop : Addr) → KeepsSide i → KeepsSide (asked i now hop)
-side-asked i now hop keeps = record { few = few-after now hop i.cache.asked keeps.few; routed = keeps.routed }
+side-asked : {routes : List Route} (i : InterfaceView) (now : Moment) (hop : Addr) → KeepsSide routes i → KeepsSide routes (asked i now hop)
+side-asked i now hop keeps = record { same = keeps.same; few = few-after now hop i.cache.asked keeps.few; routed = keeps.routed }
 
 -- A reply joins those that wait where a route leads to its address.
 
-side-owed : (is_owed : Bool) (now : Moment) (r : Reply) (i : InterfaceView) → (is_owed ≡ true → is_on_route i.routes (sought r) ≡ true) → KeepsSide i → KeepsSide (owed is_owed now r i)
-side-owed is_owed now r i leads keeps = by_test (is_owed && not (is_full i)) refl
+side-owed : {routes : List Route} (is_owed : Bool) (now : Moment) (r : Reply) (i : InterfaceView) → (is_owed ≡ true → is_on_route i.routes (sought r) ≡ true) → KeepsSide routes i → KeepsSide routes (owed is_owed now r i)
+side-owed {routes = routes} is_owed now r i leads keeps = by_test (is_owed && not (is_full i)) refl
   where
-    by_test : (b : Bool) → (is_owed && not (is_full i)) ≡ b → KeepsSide (cond b (queued now r i) i)
+    by_test : (b : Bool) → (is_owed && not (is_full i)) ≡ b → KeepsSide routes (cond b (queued now r i) i)
     by_test true is = record {
+      same = keeps.same;
       few = keeps.few;
       routed = all-behind (λ (w : Waiting). is_on_route i.routes (sought w.reply) ≡ true) i.replies (record { since = now; reply = r }) keeps.routed (leads (and_parts is_owed (not (is_full i)) is).0);
     }
     by_test false is = keeps
 
-side-told : (i : InterfaceView) (now : Moment) (to : Addr) (reason : Reason) (quoted : List ℕ) → KeepsSide i → KeepsSide (after_report i now to reason quoted)
+side-told : {routes : List Route} (i : InterfaceView) (now : Moment) (to : Addr) (reason : Reason) (quoted : List ℕ) → KeepsSide routes i → KeepsSide routes (after_report i now to reason quoted)
 side-told i now to reason quoted keeps = side-owed (is_routed i to) now (reply.Error to reason quoted) i (λ is. is) keeps
 
-side-reported : (now : Moment) (datagrams : List Expired) (i : InterfaceView) → KeepsSide i → KeepsSide (all_reported now i datagrams)
+side-reported : {routes : List Route} (now : Moment) (datagrams : List Expired) (i : InterfaceView) → KeepsSide routes i → KeepsSide routes (all_reported now i datagrams)
 side-reported now [] i keeps = keeps
 side-reported now (d ∷ ds) i keeps = side-reported now ds (reported now i d) (side-told i now d.key.source ReassemblyTimeExceeded (take 68 d.quote) keeps)
 
 -- It leaves when it has gone out, or is dropped.
 
-side-left : (i : InterfaceView) (now : Moment) (place : ℕ) (way : Way) → KeepsSide i → KeepsSide (reply_left_by i now place way)
-side-left i now place (To mac) keeps = record { few = keeps.few; routed = all-left (λ (w : Waiting). is_on_route i.routes (sought w.reply) ≡ true) i.replies place keeps.routed }
+side-left : {routes : List Route} (i : InterfaceView) (now : Moment) (place : ℕ) (way : Way) → KeepsSide routes i → KeepsSide routes (reply_left_by i now place way)
+side-left i now place (To mac) keeps = record { same = keeps.same; few = keeps.few; routed = all-left (λ (w : Waiting). is_on_route i.routes (sought w.reply) ≡ true) i.replies place keeps.routed }
 side-left i now place (Ask hop) keeps = side-asked i now hop keeps
 side-left i now place NoWay keeps = keeps
 
-side-ticked : (i : InterfaceView) (now : Moment) → KeepsSide i → KeepsSide (interface_after_tick i now)
-side-ticked i now keeps = record { few = keeps.few; routed = all-filtered (λ (w : Waiting). is_on_route i.routes (sought w.reply) ≡ true) (stays i now) i.replies keeps.routed }
+side-ticked : {routes : List Route} (i : InterfaceView) (now : Moment) → KeepsSide routes i → KeepsSide routes (interface_after_tick i now)
+side-ticked i now keeps = record { same = keeps.same; few = keeps.few; routed = all-filtered (λ (w : Waiting). is_on_route i.routes (sought w.reply) ≡ true) (stays i now) i.replies keeps.routed }
 
 -- What an event makes of it.
 
-abbrev KeepsSideOf : HostView → Type 0
-KeepsSideOf h = KeepsSide h.interface
+abbrev KeepsSideOf : List Route → HostView → Type 0
+KeepsSideOf routes h = KeepsSide routes h.interface
 
-side-to : (left new : HostView) → new ≡ left → KeepsSideOf left → KeepsSideOf new
-side-to left new is keeps = subst KeepsSideOf (sym is) keeps
+side-to : {routes : List Route} (left new : HostView) → new ≡ left → KeepsSideOf routes left → KeepsSideOf routes new
+side-to {routes = routes} left new is keeps = subst (KeepsSideOf routes) (sym is) keeps
 
-side-segment : (a : Arrival) (h : HostView) (now : Moment) (source : Addr) (answer : Result (Unit {0}) DropCause) (new : HostView) → KeepsSideOf h → MeetsSegment a h now source answer new → KeepsSideOf new
+side-segment : {routes : List Route} (a : Arrival) (h : HostView) (now : Moment) (source : Addr) (answer : Result (Unit {0}) DropCause) (new : HostView) → KeepsSideOf routes h → MeetsSegment a h now source answer new → KeepsSideOf routes new
 side-segment (Becomes next) h now source answer new keeps met = side-to (with_sockets h next) new met.1 keeps
 side-segment (Opens next) h now source (Ok done) new keeps met = side-to (with_sockets h next) new met keeps
 side-segment (Opens next) h now source (Err cause) new keeps met = side-to h new met.1 keeps
 side-segment NoRoomInTable h now source answer new keeps met = side-to h new met.1 keeps
 side-segment (Answers head) h now source answer new keeps met = side-to _ new met.1 (side-owed (is_routed h.interface source) now (reply.Reset source head) h.interface (λ is. is) keeps)
 
-side-message : (told : Told) (h : HostView) (now : Moment) (c : Control) (answer : Result (Unit {0}) DropCause) (new : HostView) → KeepsSideOf h → MeetsMessage told h now c answer new → KeepsSideOf new
+side-message : {routes : List Route} (told : Told) (h : HostView) (now : Moment) (c : Control) (answer : Result (Unit {0}) DropCause) (new : HostView) → KeepsSideOf routes h → MeetsMessage told h now c answer new → KeepsSideOf routes new
 side-message Asks h now c answer new keeps met =
     side-to _ new met.1 (side-owed (is_routed h.interface c.source) now (reply.Echo c.source c.message.identifier c.message.number c.message.payload) h.interface (λ is. is) keeps)
 side-message (Refuses quote) h now c answer new keeps met = side-to _ new met.1 keeps
 side-message Nothing h now c answer new keeps met = side-to h new met.1 keeps
 
-side-user : (to : Reception) (h : HostView) (now : Moment) (source : Addr) (d : UserDatagram) (quote : List ℕ) → KeepsSideOf h → KeepsSideOf (after_user_datagram to h now source d quote)
+side-user : {routes : List Route} (to : Reception) (h : HostView) (now : Moment) (source : Addr) (d : UserDatagram) (quote : List ℕ) → KeepsSideOf routes h → KeepsSideOf routes (after_user_datagram to h now source d quote)
 side-user socket.Queued h now source d quote keeps = keeps
 side-user socket.NoRoom h now source d quote keeps = keeps
 side-user socket.NoSocket h now source d quote keeps = side-told h.interface now source PortUnreachable quote keeps
 
-side-payload : (read : Result UserDatagram UdpFault) (h : HostView) (now : Moment) (source : Addr) (quote : List ℕ) → KeepsSideOf h → KeepsSideOf (after_payload read h now source quote)
+side-payload : {routes : List Route} (read : Result UserDatagram UdpFault) (h : HostView) (now : Moment) (source : Addr) (quote : List ℕ) → KeepsSideOf routes h → KeepsSideOf routes (after_payload read h now source quote)
 side-payload (Ok d) h now source quote keeps = side-user (reception h.sockets d) h now source d (take 68 quote) keeps
 side-payload (Err fault) h now source quote keeps = keeps
 
-side-outcome : (outcome : Outcome) (h : HostView) (now : Moment) (d : Datagram) → KeepsSideOf h → KeepsSideOf (after_outcome outcome h now d)
+side-outcome : {routes : List Route} (outcome : Outcome) (h : HostView) (now : Moment) (d : Datagram) → KeepsSideOf routes h → KeepsSideOf routes (after_outcome outcome h now d)
 side-outcome (Waits r) h now d keeps = keeps
 side-outcome GivesUp h now d keeps = keeps
 side-outcome (Completes payload quote) h now d keeps = side-payload (datagram_or_fault d.source d.destination payload) h now d.source quote keeps
 
-side-fragment : (outcome : Option Outcome) (h : HostView) (now : Moment) (d : Datagram) (answer : Result (Unit {0}) DropCause) (new : HostView) → KeepsSideOf h → MeetsFragment outcome h now d answer new → KeepsSideOf new
+side-fragment : {routes : List Route} (outcome : Option Outcome) (h : HostView) (now : Moment) (d : Datagram) (answer : Result (Unit {0}) DropCause) (new : HostView) → KeepsSideOf routes h → MeetsFragment outcome h now d answer new → KeepsSideOf routes new
 side-fragment None h now d answer new keeps met = side-to h new met.1 keeps
 side-fragment (Some outcome) h now d answer new keeps met = side-to _ new met.1 (side-outcome outcome (with_pool h (after_take now d h.pool)) now d keeps)
 
-side-heard : (m : Result Meaning DropCause) (h : HostView) (now : Moment) (isn : ℕ) (answer : Result (Unit {0}) DropCause) (new : HostView) → KeepsSideOf h → MeetsHeard m h now isn answer new → KeepsSideOf new
-side-heard (Ok (Arp packet)) h now isn answer new keeps met =
-    let aware : KeepsSide (learnt now packet h.interface) = record { few = keeps.few; routed = keeps.routed } in
+side-heard : {routes : List Route} (m : Result Meaning DropCause) (h : HostView) (now : Moment) (isn : ℕ) (answer : Result (Unit {0}) DropCause) (new : HostView) → KeepsSideOf routes h → MeetsHeard m h now isn answer new → KeepsSideOf routes new
+side-heard {routes = routes} (Ok (Arp packet)) h now isn answer new keeps met =
+    let aware : KeepsSide routes (learnt now packet h.interface) = record { same = keeps.same; few = keeps.few; routed = keeps.routed } in
     side-to _ new met.1 (side-owed (is_request_for h.interface.addr packet) now (reply.Arp (reply_to packet h.interface.mac)) (learnt now packet h.interface) (λ is. refl) aware)
 side-heard (Ok (Tcp r)) h now isn answer new keeps met = side-segment (segment_arrival h now isn r.source r.segment) h now r.source answer new keeps met
 side-heard (Ok (Icmp c)) h now isn answer new keeps met = side-message (told_by c.message) h now c answer new keeps met
@@ -149,13 +152,13 @@ side-heard (Ok (UdpFragment d)) h now isn answer new keeps met = side-fragment (
 side-heard (Ok (Other d)) h now isn answer new keeps met = side-to _ new met.1 (side-told h.interface now d.source ProtocolUnreachable (quote_of d) keeps)
 side-heard (Err cause) h now isn answer new keeps met = side-to h new met.1 keeps
 
-side-emitted : (h : HostView) (now : Moment) (x : Emission) → KeepsSideOf h → KeepsSideOf (left_by h now x)
+side-emitted : {routes : List Route} (h : HostView) (now : Moment) (x : Emission) → KeepsSideOf routes h → KeepsSideOf routes (left_by h now x)
 side-emitted h now (Replies place) keeps = side-left h.interface now place (way_at h.interface now place) keeps
 side-emitted h now (Sends mac to) keeps = keeps
 side-emitted h now (AsksFor hop) keeps = side-asked h.interface now hop keeps
 side-emitted h now NothingGoes keeps = keeps
 
-side-on : (event : Event) (old new : HostView) → Makes event old new → KeepsSideOf old → KeepsSideOf new
+side-on : {routes : List Route} (event : Event) (old new : HostView) → Makes event old new → KeepsSideOf routes old → KeepsSideOf routes new
 side-on (Calls call) old new makes keeps = side-to (with_sockets old (after_event old.sockets call)) new makes.1 keeps
 side-on (Ticks now) old new makes keeps =
     let moment : Moment = later_moment old.sockets now in
@@ -163,6 +166,6 @@ side-on (Ticks now) old new makes keeps =
 side-on (Delivers now isn octets) old new makes keeps = side-heard (heard_by old octets) old (later_moment old.sockets now) isn makes.0 new keeps makes.1
 side-on (Emits now) old new makes keeps = let moment : Moment = later_moment old.sockets now in side-to _ new makes (side-emitted old moment (emission old moment) keeps)
 
-pub run-side : (c : ConfigView) (events : List Event) (h : HostView) → Runs c events h → KeepsSide h.interface
-run-side c _ _ Begins = record { few = omega arith; routed = tt }
+pub run-side : (c : ConfigView) (events : List Event) (h : HostView) → Runs c events h → KeepsSide c.routes h.interface
+run-side c _ _ Begins = record { same = refl; few = omega arith; routed = tt }
 run-side c _ _ (GoesOn before event old new ran sound small makes) = side-on event old new makes (run-side c before old ran)

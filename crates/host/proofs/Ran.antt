@@ -1,7 +1,8 @@
 -- Why there is no host but one that a list of events led to, and what such a host keeps.
-use Rattle.std.proofs.Common.{◌≡◌, ◌↔◌, ◌+◌, ◌∷◌, ◌++◌, [], Bool, true, false, Option, None, IsTrue, OnOk, OnErr, IfOk, Result, Ok, Err, is_ok, refl, sym, ◌∙◌, ap, subst}
+use Rattle.std.proofs.Common.{◌≡◌, ◌↔◌, ◌+◌, ◌∷◌, ◌++◌, [], Bool, true, false, List, Option, None, IsTrue, OnOk, OnErr, IfOk, Result, Ok, Err, is_ok, refl, sym, ◌∙◌, ap, subst}
 use Rattle.std.specs.Result.{result_err}
 use Rattle.ipv4.specs.Addresses.{IsUnicast}
+use Rattle.routes.specs.declared.route.Route.{Route}
 use Rattle.interface.specs.Sound.{IsSound}
 use Rattle.sockets.specs.declared.entry.Kind.{Kind}
 use Rattle.sockets.specs.declared.entry.Kind.TheVariants.{Tcp, Udp}
@@ -18,32 +19,41 @@ use Rattle.sockets.specs.Timing as timing
 use Rattle.sockets.specs.Timing.{EachKeepsTime}
 use Rattle.host.specs.ConfigView.{ConfigView, IsConfig}
 use Rattle.host.specs.HostView.{HostView, new_host, with_sockets}
-use Rattle.host.specs.Runs.{Event, Calls, IsNumbered, Makes, Runs, Begins, GoesOn, HasRun}
+use Rattle.host.specs.Runs.{Event, Calls, IsAsked, IsCall, IsNumbered, Makes, Runs, Begins, GoesOn, HasRun}
 use Rattle.host.specs.Sound.{IsSoundHost}
-use Rattle.host.proofs.Causes.{run-stands}
+use Rattle.host.proofs.Causes.{all-behind, run-stands}
+use Rattle.host.proofs.FrameSide.{run-side}
 use Rattle.host.proofs.Tables.{run-addr, run-reached, run-ordered, run-over, run-timed}
 
 -- Nothing happened to it ..
 
 pub run-begins : (c : ConfigView) (h : HostView) → IsConfig c → h ≡ new_host c → HasRun h
-run-begins c h set_up is = record { config = c; set_up = set_up; events = []; runs = subst (Runs c []) (sym is) Begins }
+run-begins c h set_up is = record { config = c; set_up = set_up; events = []; asked = tt; runs = subst (Runs c []) (sym is) Begins }
 
 -- .. or one event more.
 
-run-on : (event : Event) (old new : HostView) → IsSoundHost old → HasRun old → IsNumbered event → Makes event old new → HasRun new
-run-on event old new sound run small makes =
-    record { config = run.config; set_up = run.set_up; events = run.events ++ event ∷ []; runs = GoesOn run.events event old new run.runs sound small makes }
+run-on : (event : Event) (old new : HostView) → IsSoundHost old → (run : HasRun old) → IsNumbered event → IsAsked run.config event → Makes event old new → HasRun new
+run-on event old new sound run small may makes = record {
+  config = run.config;
+  set_up = run.set_up;
+  events = run.events ++ event ∷ [];
+  asked = all-behind (IsAsked run.config) run.events event run.asked may;
+  runs = GoesOn run.events event old new run.runs sound small makes;
+}
 
 -- It finds the layers of a host that is sound.
-pub ran : {old host : HostView} (event : Event) (new : HostView) → old ≡ host → IsSoundHost host → HasRun old → IsNumbered event → Makes event old new → HasRun new
-ran {old = old} event new is sound run small makes = run-on event old new (subst IsSoundHost (sym is) sound) run small makes
+pub ran : {old host : HostView} (event : Event) (new : HostView) → old ≡ host → IsSoundHost host → HasRun old → IsNumbered event → ((c : ConfigView) → IsAsked c event) → Makes event old new → HasRun new
+ran {old = old} event new is sound run small may makes = run-on event old new (subst IsSoundHost (sym is) sound) run small (may run.config) makes
 
--- A call makes one event of the table, where it isn't refused.
+-- A call makes one event of the table, where it isn't refused, and asks the host's own routes.
 pub called : {T : Type 0} {old layers host : HostView} (r : Result T Refusal) (call : table.Event) (new : SocketsView) → old ≡ layers → layers ≡ host → IsSoundHost host → HasRun layers
-    → timing.IsNumbered call → (is_ok r ≡ true → IsAllowed old.sockets call) → OnOk r (new ≡ table.after_event old.sockets call) → OnErr r (new ≡ old.sockets) → HasRun (with_sockets old new)
-called {old = old} {host = host} (Ok value) call new opened is sound run small allowed made same =
-    ran (Calls call) (with_sockets old new) (opened ∙ is) sound (subst HasRun (sym opened) run) small (allowed refl, ap (with_sockets old) made)
-called {old = old} (Err refusal) call new opened is sound run small allowed made same = subst HasRun (sym opened ∙ sym (ap (with_sockets old) same)) run
+    → timing.IsNumbered call → IsCall old.interface.routes call → (is_ok r ≡ true → IsAllowed old.sockets call) → OnOk r (new ≡ table.after_event old.sockets call) → OnErr r (new ≡ old.sockets)
+    → HasRun (with_sockets old new)
+called {old = old} (Ok value) call new opened is sound run small own allowed made same =
+    let so : HasRun old = subst HasRun (sym opened) run in
+    let keeps = run-side so.config so.events old so.runs in
+    run-on (Calls call) old (with_sockets old new) (subst IsSoundHost (sym (opened ∙ is)) sound) so small (subst (λ (routes : List Route). IsCall routes call) keeps.same own) (allowed refl, ap (with_sockets old) made)
+called {old = old} (Err refusal) call new opened is sound run small own allowed made same = subst HasRun (sym opened ∙ sym (ap (with_sockets old) same)) run
 
 -- that it isn't, by its refusal ..
 pub unrefused : {T : Type 0} (r : Result T Refusal) (refusal : Option Refusal) → result_err r ≡ refusal → is_ok r ≡ true → refusal ≡ None
@@ -63,10 +73,10 @@ has-place r true is fine = let refused : r ≡ Err EMFILE = is.1 refl in let no 
 pub made : {old layers host : HostView} (r : Result SocketId Refusal) (kind : Kind) (new : SocketsView) → old ≡ layers → layers ≡ host → IsSoundHost host → HasRun layers
     → (r ≡ Err EMFILE) ↔ IsTrue (is_table_full old.sockets) → IfOk r (λ id. (id.0 ≡ old.sockets.last_id + 1) × IsMade kind old.sockets new) → OnErr r (new ≡ old.sockets) → HasRun (with_sockets old new)
 made {old = old} (Ok id) Tcp new opened is sound run full new_one same =
-    called (Ok id) (table.Makes new_one.1.0) new opened is sound run tt (has-place (Ok id) (is_table_full old.sockets) full) new_one.1.1 tt
+    called (Ok id) (table.Makes new_one.1.0) new opened is sound run tt tt (has-place (Ok id) (is_table_full old.sockets) full) new_one.1.1 tt
 made {old = old} (Ok id) Udp new opened is sound run full new_one same =
-    called (Ok id) table.MakesDatagrams new opened is sound run tt (has-place (Ok id) (is_table_full old.sockets) full) new_one.1 tt
-made (Err refusal) kind new opened is sound run full new_one same = called {T = SocketId} (Err refusal) table.MakesDatagrams new opened is sound run tt (λ fine. let no : false ≡ true = fine in cc) tt same
+    called (Ok id) table.MakesDatagrams new opened is sound run tt tt (has-place (Ok id) (is_table_full old.sockets) full) new_one.1 tt
+made (Err refusal) kind new opened is sound run full new_one same = called {T = SocketId} (Err refusal) table.MakesDatagrams new opened is sound run tt tt (λ fine. let no : false ≡ true = fine in cc) tt same
 
 -- What is kept of it.
 

@@ -1,9 +1,12 @@
 -- What may happen to a host, one event after another, and what was delivered to it by then.
-use Rattle.std.specs.Prelude.{◌≡◌, ℕ, ◌<◌, ◌^◌, List, [], ◌∷◌, ◌++◌, Contains, Result, Ok}
+use Rattle.std.specs.Prelude.{◌≡◌, ℕ, ◌<◌, ◌^◌, List, [], ◌∷◌, ◌++◌, Contains, is_some, Result, Ok}
+use Rattle.std.specs.List.{AllByRecursion}
 use Rattle.clock.specs.declared.moment.Moment.{Moment}
 use Rattle.frames.specs.declared.drop.DropCause.{DropCause}
 use Rattle.frames.specs.declared.meaning.Meaning.{Meaning}
 use Rattle.frames.specs.Meaning.{heard}
+use Rattle.routes.specs.declared.route.Route.{Route}
+use Rattle.interface.specs.Routing.{next_hop}
 use Rattle.sockets.specs.Causes as table
 use Rattle.sockets.specs.Order.{IsAllowed}
 use Rattle.sockets.specs.Timing as timing
@@ -42,11 +45,40 @@ pub data Runs (c : ConfigView) : List Event → HostView → Type 0 where
   Begins : Runs c [] (new_host c)
   GoesOn : (before : List Event) (event : Event) (old new : HostView) → Runs c before old → IsSoundHost old → IsNumbered event → Makes event old new → Runs c (before ++ event ∷ []) new
 
--- A list of events leads to this host, from one of a set-up on which nothing happened. `Host::sound` says so of every host.
+-- Of the events of a table these are calls of a socket, and `connect` and `sendto` ask these routes; all others come of the host's own events.
+abbrev pub IsCall : List Route → table.Event → Type 0
+IsCall routes (table.Makes buffers) = Unit {0}
+IsCall routes table.MakesDatagrams = Unit {0}
+IsCall routes (table.Binds id local) = Unit {0}
+IsCall routes (table.Listens id backlog) = Unit {0}
+IsCall routes (table.Accepts id) = Unit {0}
+IsCall routes (table.Connects isn id peer routed) = routed ≡ is_some (next_hop routes peer.addr)
+IsCall routes (table.Sends id octets) = Unit {0}
+IsCall routes (table.Receives id len) = Unit {0}
+IsCall routes (table.Shuts id) = Unit {0}
+IsCall routes (table.Closes id) = Unit {0}
+IsCall routes (table.SendsTo id peer octets routed) = routed ≡ is_some (next_hop routes peer.addr)
+IsCall routes (table.ReceivesFrom id len) = Unit {0}
+IsCall routes (table.Ticks now) = ⊥
+IsCall routes (table.Hears now isn source s) = ⊥
+IsCall routes (table.Emits goes now) = ⊥
+IsCall routes (table.GivesUp lost now) = ⊥
+IsCall routes (table.Unreachable local peer number) = ⊥
+IsCall routes (table.HearsDatagram source d) = ⊥
+
+-- what may be asked of a host of this set-up
+abbrev pub IsAsked : ConfigView → Event → Type 0
+IsAsked c (Calls call) = IsCall c.routes call
+IsAsked c (Ticks now) = Unit {0}
+IsAsked c (Delivers now isn octets) = Unit {0}
+IsAsked c (Emits now) = Unit {0}
+
+-- A list of events that may be asked of it leads to this host, from one of a set-up on which nothing happened. `Host::sound` says so of every host.
 pub record HasRun (h : HostView) : Type 0 where
   pub config : ConfigView
   pub set_up : IsConfig config
   pub events : List Event
+  pub asked : AllByRecursion (IsAsked config) events
   pub runs : Runs config events h
 
 -- one of these events was the delivery of octets that are this to a host of this set-up

@@ -6,4 +6,4 @@ use Rattle.host.proofs.host.Host.accept.Goals as goal
 
 pub invariant_of-self : goal.invariant_of-self
 invariant_of-self c =
-    called c.accept.result (table.Accepts c.args.id) c.accept.new.self (ap (λ (h : Inside). h.layers) c.self-inside.view_is) c.self.view_is c.sound.ensures.sound c.self.invariant tt (answered c.accept.result _ c.accept.ensures.answer) c.accept.ensures.ok c.accept.ensures.err
+    called c.accept.result (table.Accepts c.args.id) c.accept.new.self (ap (λ (h : Inside). h.layers) c.self-inside.view_is) c.self.view_is c.sound.ensures.sound c.self.invariant tt tt (answered c.accept.result _ c.accept.ensures.answer) c.accept.ensures.ok c.accept.ensures.err

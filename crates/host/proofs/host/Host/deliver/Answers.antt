@@ -5,4 +5,4 @@ use Rattle.host.proofs.host.Host.deliver.Goals as goal
 
 pub invariant_of-self : goal.invariant_of-self
 invariant_of-self c =
-    ran (Delivers c.args.now c.args.isn.0 c.args.frame.now) c.deliver.new.self c.self.view_is c.sound.ensures.sound c.self.invariant (search rules) (c.deliver.result, c.deliver.ensures)
+    ran (Delivers c.args.now c.args.isn.0 c.args.frame.now) c.deliver.new.self c.self.view_is c.sound.ensures.sound c.self.invariant (search rules) (λ config. tt) (c.deliver.result, c.deliver.ensures)

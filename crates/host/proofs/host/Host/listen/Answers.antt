@@ -6,4 +6,4 @@ use Rattle.host.proofs.host.Host.listen.Goals as goal
 
 pub invariant_of-self : goal.invariant_of-self
 invariant_of-self c =
-    called c.listen.result (table.Listens c.args.id c.args.backlog) c.listen.new.self (ap (λ (h : Inside). h.layers) c.self-inside.view_is) c.self.view_is c.sound.ensures.sound c.self.invariant tt (unrefused c.listen.result _ c.listen.ensures.refused) c.listen.ensures.ok c.listen.ensures.err
+    called c.listen.result (table.Listens c.args.id c.args.backlog) c.listen.new.self (ap (λ (h : Inside). h.layers) c.self-inside.view_is) c.self.view_is c.sound.ensures.sound c.self.invariant tt tt (unrefused c.listen.result _ c.listen.ensures.refused) c.listen.ensures.ok c.listen.ensures.err

@@ -6,4 +6,4 @@ use Rattle.host.proofs.host.Host.recvfrom.Goals as goal
 
 pub invariant_of-self : goal.invariant_of-self
 invariant_of-self c =
-    called c.recvfrom.result (table.ReceivesFrom c.args.id (length c.args.buffer.now)) c.recvfrom.new.self (ap (λ (h : Inside). h.layers) c.self-inside.view_is) c.self.view_is c.sound.ensures.sound c.self.invariant tt (answered c.recvfrom.result _ c.recvfrom.ensures.answer) c.recvfrom.ensures.ok c.recvfrom.ensures.err
+    called c.recvfrom.result (table.ReceivesFrom c.args.id (length c.args.buffer.now)) c.recvfrom.new.self (ap (λ (h : Inside). h.layers) c.self-inside.view_is) c.self.view_is c.sound.ensures.sound c.self.invariant tt tt (answered c.recvfrom.result _ c.recvfrom.ensures.answer) c.recvfrom.ensures.ok c.recvfrom.ensures.err

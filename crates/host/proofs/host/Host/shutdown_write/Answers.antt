@@ -6,4 +6,4 @@ use Rattle.host.proofs.host.Host.shutdown_write.Goals as goal
 
 pub invariant_of-self : goal.invariant_of-self
 invariant_of-self c =
-    called c.shutdown_write.result (table.Shuts c.args.id) c.shutdown_write.new.self (ap (λ (h : Inside). h.layers) c.self-inside.view_is) c.self.view_is c.sound.ensures.sound c.self.invariant tt (unrefused c.shutdown_write.result _ c.shutdown_write.ensures.refused) c.shutdown_write.ensures.ok c.shutdown_write.ensures.err
+    called c.shutdown_write.result (table.Shuts c.args.id) c.shutdown_write.new.self (ap (λ (h : Inside). h.layers) c.self-inside.view_is) c.self.view_is c.sound.ensures.sound c.self.invariant tt tt (unrefused c.shutdown_write.result _ c.shutdown_write.ensures.refused) c.shutdown_write.ensures.ok c.shutdown_write.ensures.err
