@@ -80,6 +80,13 @@ made (Err refusal) kind new opened is sound run full new_one same = called {T = 
 
 -- What is kept of it.
 
+-- its set-up
+pub set_up-stays : (c : ConfigView) (events : List Event) (h : HostView) → Runs c events h → (h.interface.mac ≡ c.mac) × (h.interface.addr ≡ c.addr) × (h.sockets.addr ≡ c.addr) × (h.interface.routes ≡ c.routes)
+set_up-stays c events h ran =
+    let stands = run-stands c events h ran in
+    let keeps = run-side c events h ran in
+    (stands.interface.mac, stands.interface.addr, run-addr c events h ran, keeps.same)
+
 -- it is sound, where its sides are
 pub run-sound : (h : HostView) → IsSound h.interface → IsSoundTable h.sockets → HasRun h → IsSoundHost h
 run-sound h interface table run =

@@ -155,6 +155,12 @@ pub fn tables_are_reached()
     ensures keeps_time { (c : ConfigView) (events : List Event) (h : HostView) → Runs c events h → EachKeepsTime h.sockets }
 {}
 
+/// A host keeps its set-up: over every list of events its MAC, the address on both of its sides and its routes are those that it was made with.
+pub fn set_ups_stay()
+    ensures { (c : ConfigView) (events : List Event) (h : HostView) → Runs c events h
+        → (h.interface.mac ≡ c.mac) × (h.interface.addr ≡ c.addr) × (h.sockets.addr ≡ c.addr) × (h.interface.routes ≡ c.routes) }
+{}
+
 /// An echo reply has its request, over every list of events of a host (RFC 792). Whoever hears one in what the host gives out is at an address
 /// from which an echo request was delivered to the host, with the very identifier, number and data of the reply. And a request that is taken, to
 /// whose source a route leads, has its reply behind all others that wait.
