@@ -1,18 +1,16 @@
 -- What is due comes up: a frame can go out for it, or the host is woken when its hop may be asked for again.
-use Rattle.std.proofs.Common.{◌≡◌, ◌⊎◌, inl, inr, ℕ, zero, suc, ◌+◌, ◌<◌, ◌≤◌, ◌||◌, nat_le, nat_lt, Bool, true, false, cond, List, [], ◌∷◌, Contains, slice_index_or, filter, fold, length, map, Option, Some, None, IfSome, IsTrue, is_some, option_map, refl, sym, ◌∙◌, ap, subst, arith}
-use Rattle.std.specs.List.{find, list_any, AllByRecursion}
+use Rattle.std.proofs.Common.{◌≡◌, ◌⊎◌, inl, inr, ℕ, zero, suc, ◌<◌, ◌≤◌, ◌||◌, Bool, true, false, cond, List, [], ◌∷◌, Contains, slice_index_or, filter, length, map, Option, Some, None, IsTrue, is_some, option_map, refl, sym, ◌∙◌, ap, subst, arith}
+use Rattle.std.specs.List.{find, list_any}
 use Rattle.std.proofs.lemmas.Bool.Decides.{nat_tests}
 use Rattle.std.proofs.lemmas.List.Elements.{Contains-append_cases, Contains-append_left, Contains-append_right}
 use Rattle.ether.specs.declared.mac.Mac.{Mac}
 use Rattle.ipv4.specs.declared.addr.Addr.{Addr}
 use Rattle.ipv4.specs.declared.addr.Endpoint.{Endpoint}
 use Rattle.clock.specs.declared.moment.Moment.{Moment}
-use Rattle.clock.specs.Moments.{has_come, later, sooner}
+use Rattle.clock.specs.Moments.{has_come, sooner}
 use Rattle.clock.proofs.Comings.{sooner-has_come}
-use Rattle.arp.specs.declared.entry.Asked.{Asked}
-use Rattle.arp.specs.Cache.{end_of, is_note_of, look, may_ask, IsNextAsk}
-use Rattle.arp.specs.Waits.{first_end, next_ask, own_end, room_end}
-use Rattle.arp.proofs.WaitsOver.{next_is}
+use Rattle.arp.specs.Cache.{look, may_ask}
+use Rattle.arp.specs.Waits.{next_ask}
 use Rattle.routes.specs.declared.route.Route.{Route}
 use Rattle.interface.specs.declared.reply.Reply.{Reply}
 use Rattle.interface.specs.declared.reply.Reply.TheVariants.{Arp, Reset, Echo, Error}
@@ -49,144 +47,10 @@ use Rattle.host.specs.Places.{Place, ReplyOf, EntryOf, places, can_go_out}
 use Rattle.host.specs.Runs.{HasRun}
 use Rattle.host.specs.Sound.{IsSoundHost}
 use Rattle.host.specs.Ticks.{hop_deadline, lacks_hop, least_deadline, request_deadline}
-use Rattle.host.proofs.Causes.{all-filtered}
 use Rattle.host.proofs.FrameSide.{KeepsSide, run-side}
 use Rattle.host.proofs.Tables.{run-timed}
 use Rattle.host.proofs.Waiting.{deadline-come, fold-come}
-
--- Tests and lists.
-
-or-left : (a b : Bool) → a ≡ true → (a || b) ≡ true
-or-left true b e = refl
-or-left false b e = cc
-
-or-right : (a b : Bool) → b ≡ true → (a || b) ≡ true
-or-right true b e = refl
-or-right false b e = e
-
-same-comes : (m : Moment) → has_come (Some m) m ≡ true
-same-comes m = grind (arith, nat_tests)
-
-any-of : {X : Type 0} (p : X → Bool) (xs : List X) (x : X) → Contains xs x → p x ≡ true → list_any p xs ≡ true
-any-of p [] x at e = absurd (omega (arith, at.1))
-any-of {X} p (y ∷ ys) x at e = by_place (λ there. any-of p ys x there e) at.0 at.1 at.2
-  where
-    by_place : (Contains ys x → list_any p ys ≡ true) → (k : ℕ) → k < length (y ∷ ys) → slice_index_or (y ∷ ys) k x ≡ x → (p y || list_any p ys) ≡ true
-    by_place further zero within is = or-left (p y) (list_any p ys) (ap p is ∙ e)
-    by_place further (suc k) within is = or-right (p y) (list_any p ys) (further (k, omega (arith, within), is))
-
-all-of : {X : Type 0} (P : X → Type 0) (xs : List X) (x : X) → AllByRecursion P xs → Contains xs x → P x
-all-of P [] x all at = absurd (omega (arith, at.1))
-all-of {X} P (y ∷ ys) x all at = by_place (all-of P ys x all.1) at.0 at.1 at.2
-  where
-    by_place : (Contains ys x → P x) → (k : ℕ) → k < length (y ∷ ys) → slice_index_or (y ∷ ys) k x ≡ x → P x
-    by_place further zero within is = subst P is all.0
-    by_place further (suc k) within is = further (k, omega (arith, within), is)
-
-behind : {X : Type 0} (y : X) (ys : List X) (x : X) → Contains ys x → Contains (y ∷ ys) x
-behind y ys x at = (suc at.0, omega (arith, at.1), at.2)
-
--- what a list of others has
-mapped-in : {X Y : Type 0} (f : X → Y) (xs : List X) (y : Y) → Contains (map f xs) y → (x : X) × Contains xs x × (f x ≡ y)
-mapped-in f [] y at = absurd (omega (arith, at.1))
-mapped-in {X} {Y} f (x ∷ xs) y at = by_place (mapped-in f xs y) at.0 at.1 at.2
-  where
-    by_place : (Contains (map f xs) y → (z : X) × Contains xs z × (f z ≡ y)) → (k : ℕ) → k < length (map f (x ∷ xs)) → slice_index_or (map f (x ∷ xs)) k y ≡ y → (z : X) × Contains (x ∷ xs) z × (f z ≡ y)
-    by_place further zero within is = (x, (0, omega arith, refl), is)
-    by_place further (suc k) within is = let rest = further (k, omega (arith, within), is) in (rest.0, behind x xs rest.0 rest.1, rest.2)
-
-in-mapped : {X Y : Type 0} (f : X → Y) (xs : List X) (x : X) → Contains xs x → Contains (map f xs) (f x)
-in-mapped f [] x at = absurd (omega (arith, at.1))
-in-mapped {X} {Y} f (y ∷ ys) x at = by_place (in-mapped f ys x) at.0 at.1 at.2
-  where
-    by_place : (Contains ys x → Contains (map f ys) (f x)) → (k : ℕ) → k < length (y ∷ ys) → slice_index_or (y ∷ ys) k x ≡ x → Contains (map f (y ∷ ys)) (f x)
-    by_place further zero within is = (0, omega arith, ap f is)
-    by_place further (suc k) within is = behind (f y) (map f ys) (f x) (further (k, omega (arith, within), is))
-
--- what a filter lets through
-filtered-in : {X : Type 0} (p : X → Bool) (xs : List X) (x : X) → Contains (filter p xs) x → Contains xs x × (p x ≡ true)
-filtered-in p [] x at = absurd (omega (arith, at.1))
-filtered-in {X} p (y ∷ ys) x at = by_test (p y) refl (filtered-in p ys x) at
-  where
-    further : (Contains (filter p ys) x → Contains ys x × (p x ≡ true)) → Contains (filter p ys) x → Contains (y ∷ ys) x × (p x ≡ true)
-    further rest at = let found = rest at in (behind y ys x found.0, found.1)
-
-    here : p y ≡ true → (Contains (filter p ys) x → Contains ys x × (p x ≡ true)) → (k : ℕ) → k < length (y ∷ filter p ys) → slice_index_or (y ∷ filter p ys) k x ≡ x → Contains (y ∷ ys) x × (p x ≡ true)
-    here passes rest zero within is = ((0, omega arith, is), subst (λ (z : X). p z ≡ true) is passes)
-    here passes rest (suc k) within is = further rest (k, omega (arith, within), is)
-
-    by_test : (b : Bool) → p y ≡ b → (Contains (filter p ys) x → Contains ys x × (p x ≡ true)) → Contains (cond b (y ∷ filter p ys) (filter p ys)) x → Contains (y ∷ ys) x × (p x ≡ true)
-    by_test true e rest at = here e rest at.0 at.1 at.2
-    by_test false e rest at = further rest at
-
--- From when on a hop may be asked for.
-
--- one of the requests was sent a second before this moment at most
-abbrev IsEnd : List Asked → Moment → Type 0
-IsEnd asked m = (request : Asked) × Contains asked request × (m.0 ≤ request.at.0 + 1000)
-
-end-soon : (request : Asked) → (let end = end_of request in end.0 ≤ request.at.0 + 1000)
-end-soon request = grind arith
-
-ends-in : (all asked : List Asked) → ((request : Asked) → Contains asked request → Contains all request) → AllByRecursion (λ (request : Asked). IsEnd all (end_of request)) asked
-ends-in all [] noted = tt
-ends-in all (request ∷ rest) noted =
-    ((request, noted request (0, omega arith, refl), end-soon request), ends-in all rest (λ r at. noted r (behind request rest r at)))
-
-either-of : (P : Moment → Type 0) (t : Bool) (a b : Moment) → P a → P b → IfSome (cond t (Some a) (Some b)) P
-either-of P true a b p q = p
-either-of P false a b p q = q
-
-later-of : (P : Moment → Type 0) (a : Option Moment) (b : Moment) → IfSome a P → P b → IfSome (later a (Some b)) P
-later-of P None b p q = q
-later-of P (Some a) b p q = either-of P (nat_le a.0 b.0) b a q p
-
-sooner-of : (P : Moment → Type 0) (a : Option Moment) (b : Moment) → IfSome a P → P b → IfSome (sooner a (Some b)) P
-sooner-of P None b p q = q
-sooner-of P (Some a) b p q = either-of P (nat_le a.0 b.0) a b p q
-
-both-of : (P : Moment → Type 0) (a b : Option Moment) → IfSome a P → IfSome b P → IfSome (later a b) P
-both-of P None b p q = q
-both-of P (Some a) None p q = p
-both-of P (Some a) (Some b) p q = later-of P (Some a) b p q
-
-last-of : (P : Moment → Type 0) (first : Option Moment) (asked : List Asked) → IfSome first P → AllByRecursion (λ (request : Asked). P (end_of request)) asked
-    → IfSome (fold (λ (latest : Option Moment) (request : Asked). later latest (Some (end_of request))) first asked) P
-last-of P first [] p all = p
-last-of P first (request ∷ rest) p all = last-of P (later first (Some (end_of request))) rest (later-of P first (end_of request) p all.0) all.1
-
-soonest-of : (P : Moment → Type 0) (first : Option Moment) (asked : List Asked) → IfSome first P → AllByRecursion (λ (request : Asked). P (end_of request)) asked
-    → IfSome (fold (λ (soonest : Option Moment) (request : Asked). sooner soonest (Some (end_of request))) first asked) P
-soonest-of P first [] p all = p
-soonest-of P first (request ∷ rest) p all = soonest-of P (sooner first (Some (end_of request))) rest (sooner-of P first (end_of request) p all.0) all.1
-
-next-soon : (hop : Addr) (asked : List Asked) → IfSome (next_ask hop asked) (IsEnd asked)
-unfolding next_ask
-next-soon hop asked = both-of (IsEnd asked) (room_end asked) (own_end hop asked) (by_room (nat_lt (length asked) 64)) (last-of (IsEnd asked) None (filter (is_note_of hop) asked) tt own)
-  where
-    all : AllByRecursion (λ (request : Asked). IsEnd asked (end_of request)) asked
-    all = ends-in asked asked (λ request at. at)
-
-    own : AllByRecursion (λ (request : Asked). IsEnd asked (end_of request)) (filter (is_note_of hop) asked)
-    own = all-filtered (λ (request : Asked). IsEnd asked (end_of request)) (is_note_of hop) asked all
-
-    by_room : (b : Bool) → IfSome (cond b None (first_end asked)) (IsEnd asked)
-    by_room true = tt
-    by_room false = soonest-of (IsEnd asked) None asked tt all
-
-next-from : (hop : Addr) (asked : List Asked) → length asked ≤ 64 → IsNextAsk hop asked (next_ask hop asked)
-unfolding next_ask
-next-from hop asked few = next_is hop asked (later (room_end asked) (own_end hop asked)) few refl
-
--- where none may go out now, there is such a moment
-asked-from : (h : HostView) (now : Moment) (to hop : Addr) → length h.interface.cache.asked ≤ 64 → next_hop h.interface.routes to ≡ Some hop → may_ask now hop h.interface.cache.asked ≡ false
-    → (moment : Moment) × (next_ask hop h.interface.cache.asked ≡ Some moment) × IsAskedFrom h to moment
-asked-from h now to hop few leads not_now = by_next (next_ask hop h.interface.cache.asked) refl (next-from hop h.interface.cache.asked few) (next-soon hop h.interface.cache.asked)
-  where
-    by_next : (o : Option Moment) → next_ask hop h.interface.cache.asked ≡ o → IsNextAsk hop h.interface.cache.asked o → IfSome o (IsEnd h.interface.cache.asked)
-        → (moment : Moment) × (next_ask hop h.interface.cache.asked ≡ Some moment) × IsAskedFrom h to moment
-    by_next None is from soon = let no = sym (from now) ∙ not_now in cc
-    by_next (Some moment) is from soon = (moment, is, record { hop = hop; leads = leads; from = from; request = soon.0; noted = soon.1; soon = soon.2 })
+use Rattle.host.proofs.AskedAgain.{or-left, or-right, same-comes, any-of, all-of, mapped-in, in-mapped, filtered-in, asked-from}
 
 -- What can't go out now.
 

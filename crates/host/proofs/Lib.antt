@@ -15,6 +15,7 @@ pub mod Unusable
 pub mod Tables
 pub mod Ran
 pub mod FrameSide
+pub mod AskedAgain
 pub mod ComesUp
 pub mod Owed
 pub mod Late

@@ -146,7 +146,7 @@ impl Host {
     }
 
     /// What every host keeps of itself, for the contracts above: events led to it, and so its table is in order, nothing of it is over, and each
-    /// of its connections keeps its time. It changes nothing.
+    /// of its connections keeps its time. It changes nothing, and nothing of it is left in the program that LLVM makes.
     pub fn sound(&self)
         ensures sound { IsSoundHost self.now }
         ensures run { HasRun self.now }
