@@ -262,7 +262,8 @@ class Host:
         _LIBRARY.host_tick(self._handle, _moment(now))
 
     def next_deadline(self):
-        """The moment at which `tick` is wanted at the latest, or None."""
+        """The moment at which `tick` is wanted at the latest, or None. A program that takes frames until there is none, and ticks then, never sleeps
+        for ever over octets that a peer to whom a route leads has not acknowledged."""
         moment = _U64()
         return moment.value if self._call("host_next_deadline", moment) else None
 
