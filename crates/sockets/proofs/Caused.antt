@@ -153,7 +153,7 @@ step_caused h _ _ _ sound (closed named id role socket alone) = or_left _ _ (bot
 step_caused h _ _ _ sound (given_up lost now x gone) = gone
 
 -- what is added is what an event may add
-joining_added : (h : SocketsView) (e : Event) (x : Entry) → IsJoining h e x → IsAdded h e (x ∷ [])
+pub joining_added : (h : SocketsView) (e : Event) (x : Entry) → IsJoining h e x → IsAdded h e (x ∷ [])
 joining_added h _ _ (made buffers) = refl
 joining_added h _ _ made_datagrams = refl
 joining_added h _ _ (called now isn source s listener call) = inr (

@@ -49,3 +49,6 @@ pub mod Places
 pub mod ErrorsFirst
 pub mod Led
 pub mod Timed
+pub mod OneEvent
+pub mod EachOnce
+pub mod EventsOnce

@@ -20,3 +20,4 @@ pub mod Traffic
 pub mod Names
 pub mod Offered
 pub mod Timing
+pub mod Steps

@@ -33,6 +33,7 @@ ghost use Rattle.clock.specs.declared.moment.TheConstants.{HOP_WAIT};
 ghost use Rattle.sockets.specs.Offered.{IsReached};
 ghost use Rattle.sockets.specs.Order.{IsOrdered, IsAllowed};
 ghost use Rattle.sockets.specs.Causes.{Event, after_event, IsAdded, IsStep, Follows};
+ghost use Rattle.sockets.specs.Steps.{IsOneEvent};
 ghost use Rattle.sockets.specs.Traffic.{streams, is_of_datagrams, after_events, datagrams_taken_in};
 
 /// What `would_open` foresees of a segment is the pair that it leads to the opening of, whatever the moment and the initial number.
@@ -63,6 +64,13 @@ pub fn connects_are_foreseen()
 /// where a socket was made, or a segment opened a connection at a listener.
 pub fn ends_have_causes()
     ensures { (h : SocketsView) (e : Event) → IsSoundTable h → Follows (IsStep h e) (IsAdded h e) h.entries (let after = after_event h e in after.entries) }
+{}
+
+/// An event of the table is at most one event of each connection in it, the one that `event_of` names (RFC 9293 section 3.10). What is left of a connection is exactly what that one leaves of it, and
+/// all of it where there is none: so a tick is a tick of each, and a call, a close, a segment or an error is one of its own connection alone. A socket has a connection then that it had not before
+/// only by a `connect` of its own; any other that is new stands behind the entries, where a segment opened it.
+pub fn an_event_is_one_of_each_connection()
+    ensures { (h : SocketsView) (e : Event) → IsOrdered h → Follows (IsOneEvent h e) (IsAdded h e) h.entries (let after = after_event h e in after.entries) }
 {}
 
 /// What is over is taken out at once: no event leaves a connection in the table that its caller closed, that is CLOSED and owes no reset. A new

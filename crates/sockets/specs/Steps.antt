@@ -1,0 +1,75 @@
+-- What an event of the table is to a connection in it: one event of the connection's own, or none (RFC 9293 section 3.10).
+use Rattle.std.specs.Prelude.{◌≡◌, ℕ, ◌==◌, Bool, true, false, if◌then◌else◌, Option, Some, None, option_map, Ok}
+use Rattle.ipv4.specs.declared.addr.Endpoint.{Endpoint}
+use Rattle.tcp_halves.specs.declared.buffers.Buffers.{Buffers}
+use Rattle.tcp_state.specs.View.{View, opened_actively}
+use Rattle.tcp_state.specs.Edges as edge
+use Rattle.sockets.specs.declared.entry.SocketId.{SocketId}
+use Rattle.sockets.specs.declared.entry.Entry.{Entry}
+use Rattle.sockets.specs.declared.role.Role.{Role}
+use Rattle.sockets.specs.declared.role.Role.TheVariants.{Idle, Listener, Connected, Datagrams}
+use Rattle.sockets.specs.Entries.{in_connection, is_socket, is_waiting_at, is_between, is_kept}
+use Rattle.sockets.specs.SocketsView.{SocketsView, later_moment}
+use Rattle.sockets.specs.Lost.{is_given_up}
+use Rattle.sockets.specs.Calls.{is_next_at, port_connected}
+use Rattle.sockets.specs.Arrival.{local_end, peer_end}
+use Rattle.sockets.specs.Causes.{Event, Accepts, Connects, Sends, Receives, Shuts, Closes, Ticks, Hears, Emits, GivesUp, Unreachable, is_next_out}
+
+-- Which event of an entry's connection an event of the table is, if any: a call of its socket, but for a read into an empty buffer; the close of its socket,
+-- or of the listener that it waits at, by which it is aborted; any tick; a segment of its two ends; that of all that is due it is what goes out; or a hard
+-- error about a segment between its two ends. Calls happen at the kept moment, and all else at the later of that and the event's own.
+abbrev pub event_of : SocketsView → Event → Entry → Option edge.Event
+event_of h (Sends id octets) x = if is_socket id x then Some (edge.Sends octets h.kept) else None
+event_of h (Receives id len) x = if len == 0 then None else if is_socket id x then Some (edge.Receives len) else None
+event_of h (Shuts id) x = if is_socket id x then Some (edge.Shuts h.kept) else None
+event_of h (Closes id) x = if is_socket id x then Some (edge.Closes h.kept) else if is_waiting_at id x then Some (edge.Aborts h.kept) else None
+event_of h (Ticks now) x = Some (edge.Ticks (later_moment h now))
+event_of h (Hears now isn source s) x = if is_between (local_end h s) (peer_end source s) x then Some (edge.Hears s (later_moment h now)) else None
+event_of h (Emits goes now) x = if is_next_out h goes x then Some (edge.Emits (later_moment h now)) else None
+event_of h (Unreachable local peer number) x = if is_between local peer x then Some (edge.Unreachable number) else None
+event_of h _ x = None
+
+-- what one event of its own leaves of a connection, or none: nothing where the event takes it out
+abbrev pub view_left : View → Option edge.Event → Option View
+view_left c None = Some c
+view_left c (Some event) = if is_kept (edge.fate_by c event) then Some (edge.after_event c event) else None
+
+-- at which listener a connection waits then: at none once it is accepted
+abbrev pub listener_left : SocketsView → Event → Entry → Option SocketId → Option SocketId
+listener_left h (Accepts id) x listener = if is_next_at h id x then None else listener
+listener_left h _ x listener = listener
+
+-- the reset of an abort is given up, and its connection with it
+abbrev pub is_reset_given_up : SocketsView → Event → Entry → Bool
+is_reset_given_up h (GivesUp lost now) x = is_given_up lost (later_moment h now) x.role
+is_reset_given_up h _ x = false
+
+-- an entry with a connection
+abbrev pub connected : SocketId → View → Option SocketId → Entry
+connected id c listener = record { id = id; role = Connected c listener }
+
+-- what an event of the table leaves of it
+abbrev pub connection_left : SocketsView → Event → SocketId → View → Option SocketId → Option Entry
+connection_left h e id c listener =
+    if is_reset_given_up h e (connected id c listener) then None
+    else option_map (λ d. connected id d (listener_left h e (connected id c listener) listener)) (view_left c (event_of h e (connected id c listener)))
+
+-- What may be left of an entry that has no connection. A close of it takes it out. It has a connection then only where it is an idle socket and a `connect`
+-- opens it, in SYN-SENT, from our address and the port that the call gives it.
+pub data IsSocketLeft (h : SocketsView) : Event → Entry → Option Entry → Type 0 where
+  has_none : {e : Event} {x : Entry} (y : Entry) → y.id ≡ x.id → in_connection None (λ c. Some c) y.role ≡ None → IsSocketLeft h e x (Some y)
+  opens : (isn : ℕ) (named : SocketId) (peer : Endpoint) (routed : Bool) (port : ℕ) (id : SocketId) (buffers : Buffers) (bound : Option Endpoint)
+      → is_socket named (record { id = id; role = Idle buffers bound }) ≡ true → port_connected h named peer routed ≡ Ok port
+      → IsSocketLeft h (Connects isn named peer routed) (record { id = id; role = Idle buffers bound }) (Some (connected id (opened_actively (record { addr = h.addr; port = port }) peer isn) None))
+  closes : (named : SocketId) (x : Entry) → is_socket named x ≡ true → IsSocketLeft h (Closes named) x None
+
+-- what is left of an entry: of a connection exactly what its one event leaves, or all of it where it has none
+abbrev pub IsLeft : SocketsView → Event → SocketId → Role → Option Entry → Type 0
+IsLeft h e id (Connected c listener) left = left ≡ connection_left h e id c listener
+IsLeft h e id (Idle buffers bound) left = IsSocketLeft h e (record { id = id; role = Idle buffers bound }) left
+IsLeft h e id (Listener local backlog) left = IsSocketLeft h e (record { id = id; role = Listener local backlog }) left
+IsLeft h e id (Datagrams bound socket) left = IsSocketLeft h e (record { id = id; role = Datagrams bound socket }) left
+
+-- the same of an entry by itself
+abbrev pub IsOneEvent : SocketsView → Event → Entry → Option Entry → Type 0
+IsOneEvent h e x left = IsLeft h e x.id x.role left
