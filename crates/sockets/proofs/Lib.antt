@@ -49,6 +49,8 @@ pub mod Places
 pub mod ErrorsFirst
 pub mod Led
 pub mod Timed
+pub mod Near
+pub mod Telling
 pub mod OneEvent
 pub mod EachOnce
 pub mod EventsOnce

@@ -36,6 +36,7 @@ use Rattle.sockets.specs.Calls.{port_bound, after_bind, is_next_at, port_connect
 use Rattle.sockets.specs.Datagrams.{end_sent_from, after_sendto, reception, after_reception}
 use Rattle.sockets.specs.Arrival.{local_end, peer_end, arrival_with_reply}
 use Rattle.sockets.specs.Causes.{Event, Makes, MakesDatagrams, Binds, Listens, Accepts, Connects, Sends, Receives, Shuts, Closes, Ticks, Hears, Emits, GivesUp, Unreachable, SendsTo, ReceivesFrom, HearsDatagram, after_arrival, after_event, IsAdded, Follows}
+use Rattle.sockets.specs.Timing.{IsUpTo}
 use Rattle.sockets.specs.Traffic.{datagrams_taken}
 use Rattle.sockets.proofs.Arrivals.{IsCalled, by_arrival}
 use Rattle.sockets.proofs.Emitting.{segment_sent-found}
@@ -99,6 +100,7 @@ pub record IsFollowed (h : SocketsView) (e : Event) (w : SocketsView) : Type 0 w
   pub addr : w.addr ≡ h.addr
   pub last_id : w.last_id ≡ h.last_id
   pub kept : h.kept.0 ≤ w.kept.0
+  pub up_to : (last : Moment) → h.kept.0 ≤ last.0 → IsUpTo last e → w.kept.0 ≤ last.0
   pub last_port : takes_end e ≡ false → w.last_port ≡ h.last_port
   pub identification : datagrams_taken h e ≡ 0 → w.identification ≡ h.identification
   pub added : IsAdded h e []
@@ -128,6 +130,9 @@ given_up_gone false gone = cc
 -- the later of a moment and the kept one is no earlier than either
 pub later_kept : (h : SocketsView) (now : Moment) → (let later = later_moment h now in (h.kept.0 ≤ later.0) × (now.0 ≤ later.0))
 later_kept h now = grind (arith, nat_tests)
+
+pub later_up_to : (h : SocketsView) (now last : Moment) → h.kept.0 ≤ last.0 → now.0 ≤ last.0 → (let later = later_moment h now in later.0 ≤ last.0)
+later_up_to h now last kept told = grind (arith, nat_tests)
 
 module _ (h : SocketsView) (e : Event) where
   -- Entries.
@@ -164,7 +169,7 @@ module _ (h : SocketsView) (e : Event) where
 
   -- nothing changes but entries and those offered
   plain : (entries : List Entry) (offered : List SocketId) → IsAdded h e [] → Follows (IsStepOf h e) IsNothing h.entries entries → IsStepped h e (record h { entries = entries; offered = offered })
-  plain entries offered added f = followed (record { addr = refl; last_id = refl; kept = omega arith; last_port = λ free. refl; identification = λ none. refl; added = added; entries = f })
+  plain entries offered added f = followed (record { addr = refl; last_id = refl; kept = omega arith; up_to = λ last before up. before; last_port = λ free. refl; identification = λ none. refl; added = added; entries = f })
 
   -- nothing happens
   unchanged : IsAdded h e [] → IsStepped h e h
@@ -174,7 +179,7 @@ module _ (h : SocketsView) (e : Event) where
   ported : takes_end e ≡ true → (last_port identification : ℕ) (entries : List Entry) → (datagrams_taken h e ≡ 0 → identification ≡ h.identification) → IsAdded h e [] → Follows (IsStepOf h e) IsNothing h.entries entries
       → IsStepped h e (record h { last_port = last_port; identification = identification; entries = entries })
   ported takes last_port identification entries drawn added f =
-      followed (record { addr = refl; last_id = refl; kept = omega arith; last_port = λ free. let bad : true ≡ false = sym takes ∙ free in cc; identification = drawn; added = added; entries = f })
+      followed (record { addr = refl; last_id = refl; kept = omega arith; up_to = λ last before up. before; last_port = λ free. let bad : true ≡ false = sym takes ∙ free in cc; identification = drawn; added = added; entries = f })
 
   -- the first that passes changes
   changes : (test : Entry → Bool) (change : Role → Role) → ((x : Entry) → test x ≡ true → IsStepOf h e x (Some (with_role change x))) → Follows (IsStepOf h e) IsNothing h.entries (change_first test (with_role change) h.entries)
@@ -328,6 +333,7 @@ tick_stepped h now =
       addr = refl;
       last_id = refl;
       kept = (later_kept h now).0;
+      up_to = λ last before up. later_up_to h now last before up;
       last_port = λ free. refl;
       identification = λ none. refl;
       added = refl;

@@ -15,7 +15,7 @@ use Rattle.sockets.proofs.Followed.{IsNothing, all_followed, all_joined}
 use Rattle.sockets.proofs.Steps.{IsStepOf, stays, moves, binds, listens, opens, accepted, requeues, binds_datagrams, IsJoining, made, made_datagrams, called, IsStepped, followed, joined, stepped}
 
 -- what a step keeps of an entry that is this by then holds of all that is left
-all_left : (Step : Entry → Option Entry → Type 0) (Q P : Entry → Type 0) → ((x y : Entry) → Step x (Some y) → Q x → P x → P y) → (xs ys : List Entry) → Follows Step IsNothing xs ys → AllByRecursion Q xs → AllByRecursion P xs → AllByRecursion P ys
+pub all_left : (Step : Entry → Option Entry → Type 0) (Q P : Entry → Type 0) → ((x y : Entry) → Step x (Some y) → Q x → P x → P y) → (xs ys : List Entry) → Follows Step IsNothing xs ys → AllByRecursion Q xs → AllByRecursion P xs → AllByRecursion P ys
 all_left Step Q P keeps [] ys f sound all = subst (λ (ws : List Entry). AllByRecursion P ws) (sym f) tt
 all_left Step Q P keeps (x ∷ xs) [] f sound all = tt
 all_left Step Q P keeps (x ∷ xs) (y ∷ ys) (inl f) sound all = (keeps x y f.0 sound.0 all.0, all_left Step Q P keeps xs ys f.1 sound.1 all.1)

@@ -1,5 +1,6 @@
 -- Which states the entries of the table join, what ends them, and what makes them tell an error (RFC 9293 sections 3.3.2 and 3.10).
 use Rattle.std.specs.Prelude.{◌≡◌, ◌⊎◌, ℕ, ◌+◌, ◌==◌, ◌&&◌, ◌||◌, not, Bool, true, false, List, [], ◌∷◌, Option, Some, None, find}
+use Rattle.std.specs.List.{AllByRecursion}
 use Rattle.ipv4.specs.declared.addr.Addr.{Addr}
 use Rattle.ipv4.specs.declared.addr.Endpoint.{Endpoint}
 use Rattle.tcp_segment.specs.Segment.{Segment}
@@ -121,6 +122,10 @@ IsEdge Datagram (Stream after) = ⊥
 -- the error that an entry's connection tells its caller
 abbrev pub pending_error_in : Role → Option Error
 pending_error_in role = in_connection None (λ c. c.pending_error) role
+
+-- whatever entry has this id, it's one of a connection that tells this error; an id whose entry is gone has none
+abbrev pub TellsStill : SocketId → Error → SocketsView → Type 0
+TellsStill id error h = AllByRecursion (λ (e : Entry). e.id ≡ id → pending_error_in e.role ≡ Some error) h.entries
 
 -- an event of the entry's connection makes it tell an error: a reset that acts or a hard error, in a state that has it, or the last expiry of its timer
 abbrev pub reports : edge.Event → Error → Role → Bool

@@ -1,13 +1,18 @@
--- What every connection of the table keeps of its timers and of its congestion window.
-use Rattle.std.specs.Prelude.{◌<◌, ◌^◌}
+-- What every connection of the table keeps of its timers and of its congestion window, and how far its timers may lie ahead.
+use Rattle.std.specs.Prelude.{◌≡◌, ◌+◌, ◌≤◌, ◌<◌, ◌^◌, List, [], ◌∷◌, Some}
 use Rattle.std.specs.List.{AllByRecursion}
+use Rattle.clock.specs.declared.moment.Moment.{Moment}
+use Rattle.retransmit.specs.declared.timers.TimerKind.{TimerKind}
+use Rattle.retransmit.specs.Deadlines.{deadline_of}
+use Rattle.tcp_state.specs.View.{View}
 use Rattle.tcp_state.specs.Congestion.{KeepsCongestion}
 use Rattle.tcp_state.specs.Timing.{KeepsTime}
 use Rattle.sockets.specs.declared.entry.Entry.{Entry}
 use Rattle.sockets.specs.declared.role.Role.{Role}
 use Rattle.sockets.specs.declared.role.Role.TheVariants.{Idle, Listener, Connected, Datagrams}
 use Rattle.sockets.specs.SocketsView.{SocketsView}
-use Rattle.sockets.specs.Causes.{Event, Connects, Hears}
+use Rattle.sockets.specs.Causes.{Event, Connects, Ticks, Hears, Emits, GivesUp, after_event}
+use Rattle.sockets.specs.Sound.{IsSoundTable}
 
 -- the timers of a connection run exactly where something waits for them, and its congestion window is one that events lead to
 abbrev pub KeepsTimeIn : Role → Type 0
@@ -25,3 +30,32 @@ abbrev pub IsNumbered : Event → Type 0
 IsNumbered (Connects isn id peer routed) = isn < 2 ^ 32
 IsNumbered (Hears now isn source s) = isn < 2 ^ 32
 IsNumbered _ = Unit {0}
+
+-- each event of a list comes to a table whose connections are sound, and opens none but with a number of 32 bits
+abbrev pub AreSound : SocketsView → List Event → Type 0
+AreSound h [] = Unit {0}
+AreSound h (e ∷ rest) = IsSoundTable h × IsNumbered e × AreSound (after_event h e) rest
+
+-- a connection counts its wait from this moment at the latest, and each of its timers runs until a minute past it at the latest
+pub record IsNear (latest : Moment) (c : View) : Type 0 where
+  pub since : c.since.0 ≤ latest.0
+  pub timers : (kind : TimerKind) (deadline : Moment) → deadline_of c.timers kind ≡ Some deadline → deadline.0 ≤ latest.0 + 60000
+
+abbrev pub IsNearIn : Moment → Role → Type 0
+IsNearIn latest (Connected c listener) = IsNear latest c
+IsNearIn latest (Listener local backlog) = Unit {0}
+IsNearIn latest (Idle buffers bound) = Unit {0}
+IsNearIn latest (Datagrams bound socket) = Unit {0}
+
+-- so it is for each connection of the table, whose kept moment is this one at the latest
+pub record AreNear (latest : Moment) (h : SocketsView) : Type 0 where
+  pub kept : h.kept.0 ≤ latest.0
+  pub each : AllByRecursion (λ (e : Entry). IsNearIn latest e.role) h.entries
+
+-- an event names this moment at the latest, where it names one
+abbrev pub IsUpTo : Moment → Event → Type 0
+IsUpTo latest (Ticks now) = now.0 ≤ latest.0
+IsUpTo latest (Hears now isn source s) = now.0 ≤ latest.0
+IsUpTo latest (Emits goes now) = now.0 ≤ latest.0
+IsUpTo latest (GivesUp lost now) = now.0 ≤ latest.0
+IsUpTo latest _ = Unit {0}

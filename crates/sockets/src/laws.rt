@@ -1,6 +1,7 @@
 //! Laws over the definitions alone: functions with nothing to do, whose contracts are the laws.
 
 ghost use Rattle.std.specs.Prelude.{◌≡◌, ◌⊎◌, ℕ, ◌+◌, ◌-◌, ◌%◌, ◌^◌, ◌≤◌, ◌<◌, ◌==◌, Bool, true, false, not, List, [], length, count_by, filter, find, Option, Some, None, Err, is_some, is_ok, option_map};
+ghost use Rattle.std.specs.List.{AllByRecursion};
 ghost use Rattle.ipv4.specs.declared.addr.Addr.{Addr};
 ghost use Rattle.udp_socket.specs.SocketView.{SocketView, with_sent};
 ghost use Rattle.ipv4.specs.declared.addr.Endpoint.{Endpoint};
@@ -20,19 +21,20 @@ ghost use Rattle.sockets.specs.SocketsView.{SocketsView, holder_id, new_sockets,
 ghost use Rattle.sockets.specs.Ticks.{after_tick, least_deadline, IsLeastDeadline, HasNoDeadline};
 ghost use Rattle.sockets.specs.Lost.{role_after_giving_up, after_giving_up, waiting_resets, waits_still};
 ghost use Rattle.sockets.specs.Arrival.{Opens, NoRoom, Answers, local_end, peer_end, arrival, opened_by, pair_opened};
+ghost use Rattle.sockets.specs.declared.role.Role.{Role};
 ghost use Rattle.sockets.specs.declared.role.Role.TheVariants.{Connected, Datagrams};
 ghost use Rattle.sockets.specs.Datagrams.{sendto_answer, after_sendto, sending_end};
 ghost use Rattle.sockets.specs.Calls.{refusal_of, connect_refusal, after_connect, send_answer, recv_answer, shutdown_refusal, pair_connected};
 ghost use Rattle.sockets.specs.Pairs.{socket_pair};
 ghost use Rattle.sockets.specs.Sound.{IsSoundTable, NoneIsOver};
-ghost use Rattle.sockets.specs.Timing.{EachKeepsTime, IsNumbered};
+ghost use Rattle.sockets.specs.Timing.{EachKeepsTime, IsNumbered, AreSound, AreNear, IsUpTo};
 ghost use Rattle.sockets.specs.Ports.{first_port, IsDynamic, IsFirstBehind};
 ghost use Rattle.sockets.specs.declared.calls.TheConstants.{MOST_BACKLOG};
 ghost use Rattle.sockets.specs.declared.table.TheConstants.{ENTRIES};
 ghost use Rattle.clock.specs.declared.moment.TheConstants.{HOP_WAIT};
 ghost use Rattle.sockets.specs.Offered.{IsReached};
 ghost use Rattle.sockets.specs.Order.{IsOrdered, IsAllowed};
-ghost use Rattle.sockets.specs.Causes.{Event, after_event, IsAdded, IsStep, Follows};
+ghost use Rattle.sockets.specs.Causes.{Event, after_event, IsAdded, IsStep, Follows, pending_error_in, TellsStill};
 ghost use Rattle.sockets.specs.Steps.{IsOneEvent};
 ghost use Rattle.sockets.specs.Traffic.{streams, is_of_datagrams, after_events, datagrams_taken_in};
 
@@ -87,6 +89,17 @@ pub fn connections_keep_time()
     ensures fresh { (addr : Addr) → EachKeepsTime (new_sockets addr) }
     ensures kept { (h : SocketsView) (e : Event) → IsSoundTable h → IsNumbered e → EachKeepsTime h → EachKeepsTime (after_event h e) }
     ensures given_up { (h : SocketsView) (lost : Addr → Bool) (now : Moment) → EachKeepsTime h → EachKeepsTime (after_giving_up h lost now) }
+{}
+
+/// No timer of a connection runs until later than a minute past the latest moment that the table was told of, and no wait is counted from a later one: in a new table, over each event, and over a list of them. So no
+/// deadline lies more than 240,000 ms past it, the time that TIME-WAIT lasts (RFC 9293 section 3.4.2). A segment, an emission and what is given up are taken at a moment that the table doesn't keep; where each names
+/// none but what the table keeps, since a tick told it, all this is said of the kept moment.
+pub fn timers_lie_near()
+    ensures fresh { (addr : Addr) (latest : Moment) → AreNear latest (new_sockets addr) }
+    ensures event { (h : SocketsView) (e : Event) (latest : Moment) → IsSoundTable h → IsUpTo latest e → AreNear latest h → AreNear latest (after_event h e) }
+    ensures over { (h : SocketsView) (events : List Event) (latest : Moment) → AreSound h events → AllByRecursion (IsUpTo latest) events → AreNear latest h → AreNear latest (after_events h events) }
+    ensures kept { (h : SocketsView) (e : Event) → IsSoundTable h → let after = after_event h e in IsUpTo after.kept e → AreNear h.kept h → AreNear after.kept after }
+    ensures deadline { (h : SocketsView) (latest moment : Moment) → AreNear latest h → least_deadline h ≡ Some moment → moment.0 ≤ latest.0 + 240000 }
 {}
 
 /// No socket is given up with the resets that can't go out: each id names what it named, a UDP socket without the datagrams that it gives up.
@@ -161,6 +174,15 @@ pub fn errors_are_reported_first()
         → recv_answer h id len ≡ Err (refusal_of error) }
     ensures shutdown { (h : SocketsView) (id : SocketId) (c : View) (listener : Option SocketId) (error : Error) → role_of h id ≡ Some (Connected c listener) → c.pending_error ≡ Some error
         → shutdown_refusal h id ≡ Some (refusal_of error) }
+{}
+
+/// The error that a connection tells it tells for good, over each event and over every list of them: whatever entry has its id then is one of a connection that tells it, whether a socket names the connection or not,
+/// and none but its close or its removal ends that. So each call of its socket that is told the error (`errors_are_reported_first`) is told it again, as often as it is made.
+pub fn errors_told_stay()
+    ensures event { (h : SocketsView) (e : Event) (id : SocketId) (error : Error) → IsSoundTable h → EachKeepsTime h → id.0 ≤ h.last_id → TellsStill id error h → TellsStill id error (after_event h e) }
+    ensures over { (h : SocketsView) (events : List Event) (id : SocketId) (error : Error) → AreSound h events → EachKeepsTime h → id.0 ≤ h.last_id → TellsStill id error h → TellsStill id error (after_events h events) }
+    ensures socket { (h : SocketsView) (events : List Event) (id : SocketId) (c : View) (listener : Option SocketId) (error : Error) → IsOrdered h → AreSound h events → EachKeepsTime h → role_of h id ≡ Some (Connected c listener)
+        → c.pending_error ≡ Some error → let later = after_events h events in (role : Role) → role_of later id ≡ Some role → pending_error_in role ≡ Some error }
 {}
 
 /// The kept moment never goes back, whatever happens, and a tick keeps its own unless that is earlier: timers and waits see moments in order.

@@ -1,0 +1,218 @@
+-- Why no timer of a connection lies more than a minute past the latest moment that the table was told.
+use Rattle.std.proofs.Common.{◌≡◌, ◌⊎◌, inl, inr, ℕ, ◌+◌, ◌≤◌, ◌==◌, ◌||◌, ◌&&◌, not, nat_le, Bool, true, false, if◌then◌else◌, List, [], ◌∷◌, length, Option, Some, None, fold, refl, sym, ◌∙◌, ap, subst, arith}
+use Rattle.std.proofs.lemmas.Bool.Decides.{nat_tests}
+use Rattle.std.specs.List.{AllByRecursion}
+use Rattle.ipv4.specs.declared.addr.Addr.{Addr}
+use Rattle.clock.specs.declared.moment.Moment.{Moment}
+use Rattle.clock.specs.Moments.{after, sooner}
+use Rattle.retransmit.specs.declared.timers.TimerKind.{TimerKind}
+use Rattle.retransmit.specs.declared.timers.TimerKind.TheVariants.{Retransmission, Probe, DelayedAck, Override}
+use Rattle.retransmit.specs.Deadlines.{deadline_of as timer_of, next_of}
+use Rattle.tcp_segment.specs.Segment.{Segment}
+use Rattle.tcp_halves.proofs.Choices.{either}
+use Rattle.tcp_state.specs.declared.state.State.{State}
+use Rattle.tcp_state.specs.declared.state.State.TheVariants.{FinWait2, TimeWait}
+use Rattle.tcp_state.specs.View.{View, IsSound, is_fin_wait_2, end_of_wait, ends_at}
+use Rattle.tcp_state.specs.Calls.{latest}
+use Rattle.tcp_state.specs.Timing.{deadline}
+use Rattle.tcp_state.specs.Arrival.{is_receiving, after_ack, after_window, after_text, after_heard, before, since_after}
+use Rattle.tcp_state.specs.Due.{first_due}
+use Rattle.tcp_state.specs.Edges as edge
+use Rattle.tcp_state.proofs.Clocked.{timers_keep, emission_keeps}
+use Rattle.tcp_state.proofs.Events.{by_event}
+use Rattle.tcp_state.proofs.Segments.{by_ack, by_fin, by_hearing}
+use Rattle.tcp_state.proofs.SetSoon.{soon, never}
+use Rattle.sockets.specs.declared.entry.Entry.{Entry}
+use Rattle.sockets.specs.declared.role.Role.{Role}
+use Rattle.sockets.specs.declared.role.Role.TheVariants.{Idle, Listener, Connected, Datagrams}
+use Rattle.sockets.specs.Entries.{deadline_of}
+use Rattle.sockets.specs.Causes.{Event, after_event}
+use Rattle.sockets.specs.Sound.{IsSoundRole, IsSoundTable}
+use Rattle.sockets.specs.SocketsView.{SocketsView, new_sockets, later_moment}
+use Rattle.sockets.specs.Ticks.{least_deadline}
+use Rattle.sockets.specs.Timing.{AreSound, IsNear, IsNearIn, AreNear, IsUpTo}
+use Rattle.sockets.specs.Traffic.{after_events}
+use Rattle.sockets.proofs.Followed.{IsNothing, by_test, all_joined}
+use Rattle.sockets.proofs.Numbered.{moment_kept}
+use Rattle.sockets.proofs.Steps.{IsEventOf, sends_it, reads_it, shuts_it, closes_it, aborts_it, ticks_it, comes_to_it, goes_out, tells_it, IsStepOf, stays, moves, opens, accepted, IsJoining, made, made_datagrams, called, IsFollowed, IsStepped, followed, joined, stepped, later_up_to}
+use Rattle.sockets.proofs.Timed.{all_left}
+
+-- One connection.
+
+-- what a segment is heard as counts no wait
+abbrev IsSince : View → View → Type 0
+IsSince c d = d.since ≡ c.since
+
+heard_since : (c : View) (s : Segment) → IsSince c (after_heard c s)
+heard_since c s =
+    by_hearing (IsSince c) c s acked
+    (record { dropped = refl; drawn = refl; reset = λ acts. refl; crossed = λ waits. refl; opened = λ waits right. refl; acknowledged = λ taken. acked; read = λ reads. by_fin (IsSince c) (after_text told s) s (λ counts. texted) texted texted })
+  where
+    told : View
+    told = after_window (after_ack c s.acknowledgement) s
+
+    acked : IsSince c (after_ack c s.acknowledgement)
+    acked = by_ack (IsSince c) c s.acknowledgement (record { old = refl; beyond = refl; opens = λ received new. refl; octets = λ new. refl; fin = λ new fin. refl })
+
+    texted : IsSince c (after_text told s)
+    texted = either View (IsSince c) ((length s.octets == 0) || not (is_receiving told.state)) told _ (λ none. acked) (λ some. acked)
+
+-- a wait is counted from where it was, or from the moment of the event at the latest
+abbrev SinceBy : Moment → View → edge.Event → View → Type 0
+SinceBy last c e d = ((now : Moment) → edge.moment_of e ≡ Some now → now.0 ≤ last.0) → d.since.0 ≤ last.0
+
+chosen : (b : Bool) (now since last : Moment) → now.0 ≤ last.0 → since.0 ≤ last.0 → (let m = if b then now else since in m.0 ≤ last.0)
+chosen true now since last first second = first
+chosen false now since last first second = second
+
+later_of : (a b last : Moment) → a.0 ≤ last.0 → b.0 ≤ last.0 → (let m = latest a b in m.0 ≤ last.0)
+later_of a b last first second = omega (arith, first, second)
+
+since_by : (last : Moment) (c : View) → c.since.0 ≤ last.0 → (e : edge.Event) → SinceBy last c e (edge.after_event c e)
+since_by last c old =
+    by_event (SinceBy last c) c
+    (record {
+      same = λ e told. old;
+      heard = λ s now lives told.
+          let w = after_heard c s in
+          let kept : w.since.0 ≤ last.0 = subst (λ (m : Moment). m.0 ≤ last.0) (sym (heard_since c s)) old in
+          chosen _ now w.since last (told now refl) kept;
+      over = λ now ends told. old;
+      given_up = λ now waits gives told. old;
+      acts = λ now told. subst (λ (m : Moment). m.0 ≤ last.0) (sym (ap (λ (d : View). d.since) (timers_keep c now))) old;
+      emits = λ now told. subst (λ (m : Moment). m.0 ≤ last.0) (sym (ap (λ (d : View). d.since) (emission_keeps c (first_due c) now))) old;
+      sends = λ octets taken now open_ told. old;
+      reads = λ len told. old;
+      shuts = λ now told. old;
+      leaves = λ now lives told. chosen (is_fin_wait_2 c.state) (latest c.since now) c.since last (later_of c.since now last old (told now refl)) old;
+      aborts = λ e now moment cause lives told. told now moment;
+      refused = λ number hit told. old;
+    })
+
+event_near : (last : Moment) (c : View) (ev : edge.Event) → IsSound c → ((now : Moment) → edge.moment_of ev ≡ Some now → now.0 ≤ last.0) → IsNear last c → IsNear last (edge.after_event c ev)
+event_near last c ev sound told near = record { since = since_by last c near.since ev told; timers = λ kind end set. by_moment kind end set (edge.moment_of ev) refl }
+  where
+    by_moment : (kind : TimerKind) (end : Moment) → (let d = edge.after_event c ev in timer_of d.timers kind) ≡ Some end → (o : Option Moment) → edge.moment_of ev ≡ o → end.0 ≤ last.0 + 60000
+    by_moment kind end set None is = near.timers kind end (never c ev end kind is set)
+    by_moment kind end set (Some now) is = elim (soon c ev now end kind sound is set) [
+      | inl was ↦ near.timers kind end was
+      | inr later ↦ omega (arith, later, told now is)
+    ]
+
+none_near : (last : Moment) (kind : TimerKind) (end : Moment) → timer_of (record { retransmission = None; probe = None; delayed_ack = None; overriding = None }) kind ≡ Some end → end.0 ≤ last.0 + 60000
+none_near last Retransmission end set = cc
+none_near last Probe end set = cc
+none_near last DelayedAck end set = cc
+none_near last Override end set = cc
+
+-- The table.
+
+same_moment : (a now last : Moment) → a.0 ≤ last.0 → ◌≡◌ {A = Option Moment} (Some a) (Some now) → now.0 ≤ last.0
+same_moment a now last before is = let same : a ≡ now = cc in subst (λ (m : Moment). m.0 ≤ last.0) same before
+
+-- an event of the table tells its connections no later moment
+told_by : (h : SocketsView) (last : Moment) → h.kept.0 ≤ last.0 → (x : Entry) (e : Event) (ev : edge.Event) → IsEventOf h x e ev → IsUpTo last e → (now : Moment) → edge.moment_of ev ≡ Some now → now.0 ≤ last.0
+told_by h last kept x _ _ (sends_it id octets named) up now is = same_moment h.kept now last kept is
+told_by h last kept x _ _ (reads_it id len named) up now is = cc
+told_by h last kept x _ _ (shuts_it id named) up now is = same_moment h.kept now last kept is
+told_by h last kept x _ _ (closes_it id named) up now is = same_moment h.kept now last kept is
+told_by h last kept x _ _ (aborts_it id waits) up now is = same_moment h.kept now last kept is
+told_by h last kept x _ _ (ticks_it moment) up now is = same_moment (later_moment h moment) now last (later_up_to h moment last kept up) is
+told_by h last kept x _ _ (comes_to_it moment isn source s between) up now is = same_moment (later_moment h moment) now last (later_up_to h moment last kept up) is
+told_by h last kept x _ _ (goes_out goes moment found) up now is = same_moment (later_moment h moment) now last (later_up_to h moment last kept up) is
+told_by h last kept x _ _ (tells_it local peer number between) up now is = cc
+
+step_near : (h : SocketsView) (e : Event) (last : Moment) → h.kept.0 ≤ last.0 → IsUpTo last e → (x y : Entry) → IsStepOf h e x (Some y) → IsSoundRole x.role → IsNearIn last x.role → IsNearIn last y.role
+step_near h e last kept up x _ stays sound near = near
+step_near h e last kept up _ _ (moves ev id c l meets is) sound near = event_near last c ev sound.sound (told_by h last kept _ e ev meets up) near
+step_near h _ last kept up _ _ (opens isn named peer routed id buffers bound local names) sound near = record { since = omega arith; timers = none_near last }
+step_near h _ last kept up _ _ (accepted named id c l next) sound near = near
+step_near h e last kept up _ _ _ sound near = tt
+
+joining_near : (h : SocketsView) (e : Event) (last : Moment) (x : Entry) → IsJoining h e x → IsNearIn last x.role
+joining_near h _ last _ (made buffers) = tt
+joining_near h _ last _ made_datagrams = tt
+joining_near h _ last _ (called now isn source s listener call) = record { since = omega arith; timers = none_near last }
+
+moment_up_to : (h : SocketsView) (e : Event) (last : Moment) → h.kept.0 ≤ last.0 → IsUpTo last e → (let w = after_event h e in w.kept.0 ≤ last.0)
+moment_up_to h e last before up = by_step (after_event h e) (stepped h e)
+  where
+    by_step : (w : SocketsView) → IsStepped h e w → w.kept.0 ≤ last.0
+    by_step w (followed f) = f.up_to last before up
+    by_step _ (joined j) = before
+
+pub each_near : (h : SocketsView) (e : Event) (last : Moment) → IsSoundTable h → IsUpTo last e → AreNear last h → AreNear last (after_event h e)
+each_near h e last sound up near = record { kept = moment_up_to h e last near.kept up; each = by_step (after_event h e) (stepped h e) }
+  where
+    by_step : (w : SocketsView) → IsStepped h e w → AllByRecursion (λ (x : Entry). IsNearIn last x.role) w.entries
+    by_step w (followed f) = all_left (IsStepOf h e) (λ (x : Entry). IsSoundRole x.role) (λ (x : Entry). IsNearIn last x.role) (step_near h e last near.kept up) h.entries w.entries f.entries sound.entries near.each
+    by_step _ (joined {x = x} j) = all_joined (λ (y : Entry). IsNearIn last y.role) h.entries x near.each (joining_near h e last x j)
+
+pub fresh_near : (addr : Addr) (last : Moment) → AreNear last (new_sockets addr)
+fresh_near addr last = record { kept = omega arith; each = tt }
+
+pub led_near : (h : SocketsView) (events : List Event) (last : Moment) → AreSound h events → AllByRecursion (IsUpTo last) events → AreNear last h → AreNear last (after_events h events)
+led_near h [] last sound up near = near
+led_near h (e ∷ rest) last sound up near = led_near (after_event h e) rest last sound.2 up.1 (each_near h e last sound.0 up.0 near)
+
+-- a later moment does as well
+further : (last new : Moment) → last.0 ≤ new.0 → (entries : List Entry) → AllByRecursion (λ (x : Entry). IsNearIn last x.role) entries → AllByRecursion (λ (x : Entry). IsNearIn new x.role) entries
+further last new later [] all = tt
+further last new later (x ∷ xs) all = (by_role x.role all.0, further last new later xs all.1)
+  where
+    by_role : (r : Role) → IsNearIn last r → IsNearIn new r
+    by_role (Connected c l) near = record { since = omega (arith, near.since, later); timers = λ kind end set. omega (arith, near.timers kind end set, later) }
+    by_role (Idle buffers bound) near = tt
+    by_role (Listener local backlog) near = tt
+    by_role (Datagrams bound queues) near = tt
+
+-- where an event names no moment that the table doesn't keep then
+pub kept_near : (h : SocketsView) (e : Event) → IsSoundTable h → (let after = after_event h e in IsUpTo after.kept e → AreNear h.kept h → AreNear after.kept after)
+kept_near h e sound up near =
+    let new : Moment = (let after = after_event h e in after.kept) in
+    let later : h.kept.0 ≤ new.0 = moment_kept h e in
+    each_near h e new sound up (record { kept = later; each = further h.kept new later h.entries near.each })
+
+-- Deadlines.
+
+-- none but at a number at the most
+abbrev IsWithin : ℕ → Option Moment → Type 0
+IsWithin most o = (m : Moment) → o ≡ Some m → m.0 ≤ most
+
+sooner_within : (most : ℕ) (a b : Option Moment) → IsWithin most a → IsWithin most b → IsWithin most (sooner a b)
+sooner_within most None b first second = second
+sooner_within most (Some a) None first second = first
+sooner_within most (Some a) (Some b) first second = by_test (nat_le a.0 b.0) (λ yes. rw yes first) (λ no. rw no second)
+
+ends : (last since : Moment) (milliseconds : ℕ) → since.0 ≤ last.0 → milliseconds ≤ 240000 → IsWithin (last.0 + 240000) (Some (after since milliseconds))
+ends last since milliseconds began few m is =
+    let same : after since milliseconds ≡ m = cc in
+    let at : (let end = after since milliseconds in end.0) ≡ m.0 = ap (λ (end : Moment). end.0) same in
+    omega (arith, at, began, few)
+
+wait_within : (last : Moment) (t : State) (released : Bool) (since : Moment) → since.0 ≤ last.0 → IsWithin (last.0 + 240000) (end_of_wait t released since)
+wait_within last TimeWait released since began m is = ends last since 240000 began (omega arith) m is
+wait_within last FinWait2 true since began m is = ends last since 60000 began (omega arith) m is
+wait_within last FinWait2 false since began m is = cc
+wait_within last _ released since began m is = cc
+
+deadline_within : (last : Moment) (r : Role) → IsNearIn last r → IsWithin (last.0 + 240000) (deadline_of r)
+deadline_within last (Connected c l) near =
+    let timer : (kind : TimerKind) → IsWithin (last.0 + 240000) (timer_of c.timers kind) = λ kind m set. omega (arith, near.timers kind m set) in
+    let most : ℕ = last.0 + 240000 in
+    sooner_within most (next_of c.timers) (ends_at c)
+    (sooner_within most (sooner c.timers.retransmission c.timers.probe) (sooner c.timers.delayed_ack c.timers.overriding)
+    (sooner_within most c.timers.retransmission c.timers.probe (timer Retransmission) (timer Probe))
+    (sooner_within most c.timers.delayed_ack c.timers.overriding (timer DelayedAck) (timer Override)))
+    (wait_within last c.state c.released c.since near.since)
+deadline_within last (Idle buffers bound) near = λ m is. cc
+deadline_within last (Listener local backlog) near = λ m is. cc
+deadline_within last (Datagrams bound queues) near = λ m is. cc
+
+least_within : (last : Moment) (entries : List Entry) (o : Option Moment) → IsWithin (last.0 + 240000) o → AllByRecursion (λ (x : Entry). IsNearIn last x.role) entries
+    → IsWithin (last.0 + 240000) (fold (λ least e. sooner least (deadline_of e.role)) o entries)
+least_within last [] o within all = within
+least_within last (x ∷ xs) o within all = least_within last xs (sooner o (deadline_of x.role)) (sooner_within (last.0 + 240000) o (deadline_of x.role) within (deadline_within last x.role all.0)) all.1
+
+pub deadline_near : (h : SocketsView) (last moment : Moment) → AreNear last h → least_deadline h ≡ Some moment → moment.0 ≤ last.0 + 240000
+deadline_near h last moment near is = least_within last h.entries None (λ m none. cc) near.each moment is
