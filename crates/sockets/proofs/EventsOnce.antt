@@ -1,5 +1,5 @@
 -- What each event makes of the entries, one by one.
-use Rattle.std.proofs.Common.{◌≡◌, inl, inr, ◌⊎◌, ℕ, ◌==◌, Bool, true, false, List, [], ◌∷◌, Option, Some, None, refl, sym, ◌∙◌, ap, subst}
+use Rattle.std.proofs.Common.{◌≡◌, ◌&&◌, inl, inr, ◌⊎◌, ℕ, ◌==◌, Bool, true, false, List, [], ◌∷◌, Option, Some, None, refl, sym, ◌∙◌, ap, subst}
 use Rattle.std.proofs.lemmas.Bool.{eqb-true}
 use Rattle.std.specs.List.{find}
 use Rattle.ipv4.specs.declared.addr.Addr.{Addr}
@@ -25,7 +25,7 @@ use Rattle.sockets.specs.Calls.{after_socket_closed, after_close}
 use Rattle.sockets.specs.Emission.{after_segment_sent}
 use Rattle.sockets.specs.Arrival.{local_end, peer_end, arrival_with_reply}
 use Rattle.sockets.specs.Causes.{Event, Makes, MakesDatagrams, Binds, Listens, Accepts, Connects, Sends, Receives, Shuts, Closes, Ticks, Hears, Emits, GivesUp, Unreachable, SendsTo, ReceivesFrom, HearsDatagram, after_arrival, after_event, is_next_out, IsAdded, Follows}
-use Rattle.sockets.specs.Steps.{connected, has_none, closes, IsLeft, IsOneEvent}
+use Rattle.sockets.specs.Steps.{connected, closes_socket, remains, changes, closes, IsLeft, IsOneEvent}
 use Rattle.sockets.specs.Order.{IsOrdered}
 use Rattle.sockets.proofs.Arrivals.{by_arrival, IsReply, refusing, to_stray, at_listener}
 use Rattle.sockets.proofs.Caused.{joining_added}
@@ -60,7 +60,7 @@ module _ (h : SocketsView) (id : SocketId) (o : IsOrdered h) where
     where
       by_role : (r : Role) → is_socket id (entry x.id r) ≡ true → is_kept (role.close_fate_of r) ≡ true → IsClosing h id (entry x.id r) (Some (entry x.id (role.role_after_close h.kept r)))
       by_role (Connected c None) named kept =
-          inr (took h (Closes id) (λ y l. (refl, refl)) (edge.Closes h.kept) (λ d. edge.after_event d (edge.Closes h.kept)) (λ d. refl) (connected x.id c None) (rw named refl) kept, refl)
+          inr (took h (Closes id) (λ y l. (refl, refl)) (edge.Closes h.kept) (λ d. edge.after_event d (edge.Closes h.kept)) (λ d. refl) (connected x.id c None) (rw named refl) kept refl, refl)
       by_role (Connected c (Some l)) named kept = let bad : false ≡ true = and_right (x.id.0 == id.0) false named in cc
       by_role _ named kept = cc
 
@@ -84,14 +84,22 @@ module _ (h : SocketsView) (id : SocketId) (o : IsOrdered h) where
       subst (λ (w : SocketsView). Follows (IsClosing h id) IsNothing h.entries w.entries) (sym (closed-found h id first found))
       (once_settled (IsClosing h id) (is_socket id) (λ x other. inl (refl, other)) (is_socket id) first named (role.close_fate_of first.role) (role.role_after_close h.kept) (closing first named) (taken first named) h.entries found (socket_once h id o)))
 
+  -- the close of one socket is that of no other
+  other_stays : (y : Entry) → is_socket id y ≡ false → closes_socket (Closes id) y ≡ false
+  other_stays y apart = by_first (in_connection true (λ (c : View). false) y.role)
+    where
+      by_first : (b : Bool) → (b && is_socket id y) ≡ false
+      by_first true = apart
+      by_first false = refl
+
   forsaking : (y : Entry) → is_kept (role.listener_close_fate_of id y.role) ≡ true → IsForsaking h id y (Some (with_role (role.role_after_listener_close h.kept id) y))
   forsaking y kept =
       by_test (waits_at id y.role)
       (λ waits. rw waits (
-        λ no. took h (Closes id) (λ x l. (refl, refl)) (edge.Aborts h.kept) (λ (c : View). edge.after_event c (edge.Aborts h.kept)) (λ c. refl) y (rw (no, waits) refl) (rw waits at kept),
+        λ no. took h (Closes id) (λ x l. (refl, refl)) (edge.Aborts h.kept) (λ (c : View). edge.after_event c (edge.Aborts h.kept)) (λ c. refl) y (rw (no, waits) refl) (rw waits at kept) (other_stays y no),
         λ other. cc,
       ))
-      (λ other. rw other (λ no. passed h (Closes id) (λ x l. (refl, refl)) y (rw (no, other) refl), λ e. refl))
+      (λ other. rw other (λ no. passed h (Closes id) (λ x l. (refl, refl)) y (rw (no, other) refl) (other_stays y no), λ e. refl))
 
   forsaken : (y : Entry) → is_kept (role.listener_close_fate_of id y.role) ≡ false → IsForsaking h id y None
   forsaken y gone =
@@ -102,7 +110,7 @@ module _ (h : SocketsView) (id : SocketId) (o : IsOrdered h) where
       ))
       (λ other. let kept : is_kept (role.listener_close_fate_of id y.role) ≡ true = rw other in cc)
 
-  closes_once : Follows (IsOneEvent h (Closes id)) IsNothing h.entries (let w = after_close h id in w.entries)
+  pub closes_once : Follows (IsOneEvent h (Closes id)) IsNothing h.entries (let w = after_close h id in w.entries)
   closes_once =
       let closed : SocketsView = after_socket_closed h id in
       steps_joined (IsClosing h id) (IsForsaking h id) (IsOneEvent h (Closes id)) (λ x gone. gone) joins h.entries closed.entries _ socket_closed
@@ -118,7 +126,7 @@ ticks_once : (h : SocketsView) (now : Moment) → Follows (IsOneEvent h (Ticks n
 ticks_once h now =
     let later : Moment = later_moment h now in
     each_followed (IsOneEvent h (Ticks now)) IsNothing refl (λ x. is_kept (role.tick_fate_of later x.role)) (with_role (role.role_after_tick later)) h.entries
-    (λ x kept. took h (Ticks now) (λ y l. (refl, refl)) (edge.Ticks later) (λ (c : View). edge.after_event c (edge.Ticks later)) (λ c. refl) x refl kept)
+    (λ x kept. took h (Ticks now) (λ y l. (refl, refl)) (edge.Ticks later) (λ (c : View). edge.after_event c (edge.Ticks later)) (λ c. refl) x refl kept refl)
     (λ x gone. taken_out h (Ticks now) (λ y l. (refl, refl)) (edge.Ticks later) x refl gone)
 
 given_up_once : (h : SocketsView) (lost : Addr → Bool) (now : Moment) → Follows (IsOneEvent h (GivesUp lost now)) IsNothing h.entries (let w = after_event h (GivesUp lost now) in w.entries)
@@ -132,9 +140,9 @@ given_up_once h lost now = each_followed (IsOneEvent h e) IsNothing refl (λ x. 
 
     stays : (id : SocketId) (r : Role) → is_kept (give_up_fate_of lost later r) ≡ true → IsLeft h e id r (Some (entry id (role_after_giving_up lost later r)))
     stays id (Connected c l) kept = by_test (is_given_up lost later (Connected c l)) (λ yes. let gone : is_kept (give_up_fate_of lost later (Connected c l)) ≡ false = rw yes in cc) (λ no. rw no refl)
-    stays id (Idle buffers bound) kept = has_none (entry id (Idle buffers bound)) refl refl
-    stays id (Listener l b) kept = has_none (entry id (Listener l b)) refl refl
-    stays id (Datagrams bound queues) kept = has_none (entry id (role_after_giving_up lost later (Datagrams bound queues))) refl refl
+    stays id (Idle buffers bound) kept = remains refl
+    stays id (Listener l b) kept = remains refl
+    stays id (Datagrams bound queues) kept = changes (entry id (role_after_giving_up lost later (Datagrams bound queues))) refl refl refl
 
     goes : (id : SocketId) (r : Role) → is_kept (give_up_fate_of lost later r) ≡ false → IsLeft h e id r None
     goes id (Connected c l) gone = by_test (is_given_up lost later (Connected c l)) (λ yes. rw yes refl) (λ no. let kept : is_kept (give_up_fate_of lost later (Connected c l)) ≡ true = rw no in cc)
@@ -160,20 +168,20 @@ module _ (h : SocketsView) (now : Moment) (isn : ℕ) (source : Addr) (s : Segme
   refused : (first : Entry) → between first ≡ true → role.fate_of s first.role ≡ Rejected → IsOneEvent h heard first (Some first)
   refused first here rejected =
       let kept : is_kept (in_connection Stays (λ (c : View). edge.fate_by c at) first.role) ≡ true = ap is_kept rejected in
-      subst (λ (y : Entry). IsOneEvent h heard first (Some y)) (same first.role rejected) (took h heard (λ x l. (refl, refl)) at (λ (c : View). edge.after_event c at) (λ c. refl) first (rw here refl) kept)
+      subst (λ (y : Entry). IsOneEvent h heard first (Some y)) (same first.role rejected) (took h heard (λ x l. (refl, refl)) at (λ (c : View). edge.after_event c at) (λ c. refl) first (rw here refl) kept refl)
     where
       same : (r : Role) → role.fate_of s r ≡ Rejected → entry first.id (on_connection (λ (c : View). edge.after_event c at) r) ≡ entry first.id r
       same (Connected c l) rejected = ap (λ (d : View). connected first.id d l) (rejected_leaves_at c s (later_moment h now) rejected)
       same _ rejected = refl
 
   nobody : find between h.entries ≡ None → Follows (IsOneEvent h heard) IsNothing h.entries h.entries
-  nobody none = untouched (IsOneEvent h heard) between (passed_over h heard (λ x l. (refl, refl)) between (λ x other. rw other refl)) h.entries (count_unfound between h.entries none)
+  nobody none = untouched (IsOneEvent h heard) between (passed_over h heard (λ x l. (refl, refl)) (λ x. refl) between (λ x other. rw other refl)) h.entries (count_unfound between h.entries none)
 
   replied : (reply : Option Head) → IsReply h source s reply → Follows (IsOneEvent h heard) IsNothing h.entries h.entries
   replied _ (refusing first found rejected) =
       let here : between first ≡ true = found_passes between h.entries first found in
       subst (λ (ys : List Entry). Follows (IsOneEvent h heard) IsNothing h.entries ys) (unchanged_first between h.entries)
-      (changed_first (IsOneEvent h heard) between (passed_over h heard (λ x l. (refl, refl)) between (λ x other. rw other refl)) between first here (λ x. x) (refused first here rejected) h.entries found (o.ends (local_end h s) (peer_end source s)))
+      (changed_first (IsOneEvent h heard) between (passed_over h heard (λ x l. (refl, refl)) (λ x. refl) between (λ x other. rw other refl)) between first here (λ x. x) (refused first here rejected) h.entries found (o.ends (local_end h s) (peer_end source s)))
   replied _ (to_stray none stray) = nobody none
   replied _ (at_listener listener none found other) = nobody none
 
@@ -185,17 +193,17 @@ module _ (h : SocketsView) (now : Moment) (isn : ℕ) (source : Addr) (s : Segme
   hears_once =
       by_arrival h now isn source s (λ a. Follows (IsOneEvent h heard) (IsAdded h heard) h.entries (let w = after_arrival h a in w.entries)) (λ reply is. answered reply (replied reply is))
       (λ first taker. readded (IsOneEvent h heard) (IsAdded h heard) (inl refl) h.entries _
-      (settles_once h heard (λ x l. (refl, refl)) at between (λ x other. rw other refl) (λ x here. rw here refl) first taker.found (o.ends (local_end h s) (peer_end source s))))
+      (settles_once h heard (λ x l. (refl, refl)) (λ x. refl) at between (λ x other. rw other refl) (λ x here. rw here refl) first taker.found (o.ends (local_end h s) (peer_end source s))))
       (λ listener call full. readded (IsOneEvent h heard) (IsAdded h heard) (inl refl) h.entries h.entries (nobody call.none))
-      (λ listener call room. joined_apart (IsOneEvent h heard) between (passed_over h heard (λ x l. (refl, refl)) between (λ x other. rw other refl)) (IsAdded h heard) h.entries _
+      (λ listener call room. joined_apart (IsOneEvent h heard) between (passed_over h heard (λ x l. (refl, refl)) (λ x. refl) between (λ x other. rw other refl)) (IsAdded h heard) h.entries _
       (joining_added h heard _ (called now isn source s listener call)) (count_unfound between h.entries call.none))
 
 told_once : (h : SocketsView) (local peer : Endpoint) (number : ℕ) → IsOrdered h → Follows (IsOneEvent h (Unreachable local peer number)) IsNothing h.entries (let w = after_event h (Unreachable local peer number) in w.entries)
 told_once h local peer number o =
     by_option (find (is_between local peer) h.entries)
-    (λ none. subst P (sym (told-none h local peer number none)) (untouched (IsOneEvent h e) (is_between local peer) (passed_over h e (λ x l. (refl, refl)) (is_between local peer) (λ x other. rw other refl)) h.entries (count_unfound (is_between local peer) h.entries none)))
+    (λ none. subst P (sym (told-none h local peer number none)) (untouched (IsOneEvent h e) (is_between local peer) (passed_over h e (λ x l. (refl, refl)) (λ x. refl) (is_between local peer) (λ x other. rw other refl)) h.entries (count_unfound (is_between local peer) h.entries none)))
     (λ first found. subst P (sym (told-found h local peer number first found))
-    (settles_once h e (λ x l. (refl, refl)) (edge.Unreachable number) (is_between local peer) (λ x other. rw other refl) (λ x here. rw here refl) first found (o.ends local peer)))
+    (settles_once h e (λ x l. (refl, refl)) (λ x. refl) (edge.Unreachable number) (is_between local peer) (λ x other. rw other refl) (λ x here. rw here refl) first found (o.ends local peer)))
   where
     e : Event
     e = Unreachable local peer number
@@ -208,11 +216,11 @@ told_once h local peer number o =
 emits_once : (h : SocketsView) (goes : Entry → Bool) (now : Moment) → IsOrdered h → Follows (IsOneEvent h (Emits goes now)) IsNothing h.entries (let w = after_event h (Emits goes now) in w.entries)
 emits_once h goes now o =
     by_option (find (sends goes) h.entries)
-    (λ none. let same : after_segment_sent h goes now ≡ h = rw none refl in subst P (sym same) (as_it_was (IsOneEvent h e) IsNothing refl (λ x. passed h e (λ y l. (refl, refl)) x (rw none refl)) h.entries))
+    (λ none. let same : after_segment_sent h goes now ≡ h = rw none refl in subst P (sym same) (as_it_was (IsOneEvent h e) IsNothing refl (λ x. passed h e (λ y l. (refl, refl)) x (rw none refl) refl) h.entries))
     (λ first found.
     let next : is_next_out h goes first ≡ true = rw found (eqb-same first.id.0) in
     subst P (sym (segment_sent-found h goes now first found))
-    (once_settled (IsOneEvent h e) (is_next_out h goes) (passed_over h e (λ x l. (refl, refl)) (is_next_out h goes) (λ x other. rw other refl)) (sends goes) first next
+    (once_settled (IsOneEvent h e) (is_next_out h goes) (passed_over h e (λ x l. (refl, refl)) (λ x. refl) (is_next_out h goes) (λ x other. rw other refl)) (sends goes) first next
     (role.emission_fate_of (role.role_after_emission later first.role)) (role.role_after_emission later) (going first.id first.role next) (gone first.id first.role next) h.entries found
     (ids_once first.id.0 (is_next_out h goes) (λ x passes. let same : (first.id.0 == x.id.0) ≡ true = rw found at passes in sym (eqb-true first.id.0 x.id.0 same)) 0 h.last_id h.entries o.ids)))
   where
@@ -226,10 +234,10 @@ emits_once h goes now o =
     P w = Follows (IsOneEvent h e) IsNothing h.entries w.entries
 
     going : (id : SocketId) (r : Role) → is_next_out h goes (entry id r) ≡ true → is_kept (role.emission_fate_of (role.role_after_emission later r)) ≡ true → IsLeft h e id r (Some (entry id (role.role_after_emission later r)))
-    going id (Connected c l) next kept = took h e (λ x k. (refl, refl)) (edge.Emits later) (λ (d : View). edge.after_event d (edge.Emits later)) (λ d. refl) (connected id c l) (rw next refl) kept
-    going id (Idle buffers bound) next kept = has_none (entry id (Idle buffers bound)) refl refl
-    going id (Listener l b) next kept = has_none (entry id (Listener l b)) refl refl
-    going id (Datagrams bound queues) next kept = has_none (entry id (Datagrams bound (after_part queues))) refl refl
+    going id (Connected c l) next kept = took h e (λ x k. (refl, refl)) (edge.Emits later) (λ (d : View). edge.after_event d (edge.Emits later)) (λ d. refl) (connected id c l) (rw next refl) kept refl
+    going id (Idle buffers bound) next kept = remains refl
+    going id (Listener l b) next kept = remains refl
+    going id (Datagrams bound queues) next kept = changes (entry id (Datagrams bound (after_part queues))) refl refl next
 
     gone : (id : SocketId) (r : Role) → is_next_out h goes (entry id r) ≡ true → is_kept (role.emission_fate_of (role.role_after_emission later r)) ≡ false → IsLeft h e id r None
     gone id (Connected c l) next removed = taken_out h e (λ x k. (refl, refl)) (edge.Emits later) (connected id c l) (rw next refl) removed
@@ -241,10 +249,10 @@ plain : (h : SocketsView) (e : Event) → IsAdded h e [] → Follows (IsOneEvent
 plain h e none f = readded (IsOneEvent h e) (IsAdded h e) none h.entries (let w = after_event h e in w.entries) f
 
 pub one_event : (h : SocketsView) (e : Event) → IsOrdered h → Follows (IsOneEvent h e) (IsAdded h e) h.entries (let after = after_event h e in after.entries)
-one_event h (Makes buffers) o = joined_by (IsOneEvent h (Makes buffers)) (IsAdded h (Makes buffers)) (λ x. passed h (Makes buffers) (λ y l. (refl, refl)) x refl) h.entries _ refl
-one_event h MakesDatagrams o = joined_by (IsOneEvent h MakesDatagrams) (IsAdded h MakesDatagrams) (λ x. passed h MakesDatagrams (λ y l. (refl, refl)) x refl) h.entries _ refl
+one_event h (Makes buffers) o = joined_by (IsOneEvent h (Makes buffers)) (IsAdded h (Makes buffers)) (λ x. passed h (Makes buffers) (λ y l. (refl, refl)) x refl refl) h.entries _ refl
+one_event h MakesDatagrams o = joined_by (IsOneEvent h MakesDatagrams) (IsAdded h MakesDatagrams) (λ x. passed h MakesDatagrams (λ y l. (refl, refl)) x refl refl) h.entries _ refl
 one_event h (Binds id local) o = plain h (Binds id local) refl (bound_once h id local)
-one_event h (Listens id backlog) o = plain h (Listens id backlog) refl (sockets_change h (Listens id backlog) (λ x l. (refl, refl)) (λ x. refl) (is_socket id) (role.role_after_listen backlog) (λ i r passes. listens h id backlog i r))
+one_event h (Listens id backlog) o = plain h (Listens id backlog) refl (sockets_change h (Listens id backlog) (λ x l. (refl, refl)) (λ x. refl) (λ x. refl) (is_socket id) (role.role_after_listen backlog) (λ i r passes. listens h id backlog i r passes))
 one_event h (Accepts id) o = plain h (Accepts id) refl (accepts_once h o id)
 one_event h (Connects isn id peer routed) o = plain h (Connects isn id peer routed) refl (connected_once h isn id peer routed)
 one_event h (Sends id octets) o = plain h (Sends id octets) refl (sends_once h o id octets)
@@ -257,5 +265,5 @@ one_event h (Emits goes now) o = plain h (Emits goes now) refl (emits_once h goe
 one_event h (GivesUp lost now) o = plain h (GivesUp lost now) refl (given_up_once h lost now)
 one_event h (Unreachable local peer number) o = plain h (Unreachable local peer number) refl (told_once h local peer number o)
 one_event h (SendsTo id peer octets routed) o = plain h (SendsTo id peer octets routed) refl (sent_once h id peer octets routed)
-one_event h (ReceivesFrom id len) o = plain h (ReceivesFrom id len) refl (queues_change h (ReceivesFrom id len) (λ x l. (refl, refl)) (λ x. refl) (λ bound. bound) after_read (is_socket id))
+one_event h (ReceivesFrom id len) o = plain h (ReceivesFrom id len) refl (queues_change h (ReceivesFrom id len) (λ x l. (refl, refl)) (λ x. refl) (λ x. refl) (λ bound. bound) after_read (is_socket id) (λ x passes. passes))
 one_event h (HearsDatagram source d) o = plain h (HearsDatagram source d) refl (received_once h source d)

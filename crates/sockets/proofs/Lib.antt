@@ -54,3 +54,6 @@ pub mod Telling
 pub mod OneEvent
 pub mod EachOnce
 pub mod EventsOnce
+pub mod ByIds
+pub mod Closings
+pub mod Strays

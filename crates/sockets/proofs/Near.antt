@@ -1,6 +1,5 @@
 -- Why no timer of a connection lies more than a minute past the latest moment that the table was told.
-use Rattle.std.proofs.Common.{◌≡◌, ◌⊎◌, inl, inr, ℕ, ◌+◌, ◌≤◌, ◌==◌, ◌||◌, ◌&&◌, not, nat_le, Bool, true, false, if◌then◌else◌, List, [], ◌∷◌, length, Option, Some, None, fold, refl, sym, ◌∙◌, ap, subst, arith}
-use Rattle.std.proofs.lemmas.Bool.Decides.{nat_tests}
+use Rattle.std.proofs.Common.{◌≡◌, inl, inr, ℕ, ◌+◌, ◌≤◌, ◌==◌, ◌||◌, not, nat_le, Bool, true, false, if◌then◌else◌, List, [], ◌∷◌, length, Option, Some, None, fold, refl, sym, ap, subst, arith}
 use Rattle.std.specs.List.{AllByRecursion}
 use Rattle.ipv4.specs.declared.addr.Addr.{Addr}
 use Rattle.clock.specs.declared.moment.Moment.{Moment}
@@ -14,8 +13,7 @@ use Rattle.tcp_state.specs.declared.state.State.{State}
 use Rattle.tcp_state.specs.declared.state.State.TheVariants.{FinWait2, TimeWait}
 use Rattle.tcp_state.specs.View.{View, IsSound, is_fin_wait_2, end_of_wait, ends_at}
 use Rattle.tcp_state.specs.Calls.{latest}
-use Rattle.tcp_state.specs.Timing.{deadline}
-use Rattle.tcp_state.specs.Arrival.{is_receiving, after_ack, after_window, after_text, after_heard, before, since_after}
+use Rattle.tcp_state.specs.Arrival.{is_receiving, after_ack, after_window, after_text, after_heard, before}
 use Rattle.tcp_state.specs.Due.{first_due}
 use Rattle.tcp_state.specs.Edges as edge
 use Rattle.tcp_state.proofs.Clocked.{timers_keep, emission_keeps}
@@ -32,9 +30,9 @@ use Rattle.sockets.specs.SocketsView.{SocketsView, new_sockets, later_moment}
 use Rattle.sockets.specs.Ticks.{least_deadline}
 use Rattle.sockets.specs.Timing.{AreSound, IsNear, IsNearIn, AreNear, IsUpTo}
 use Rattle.sockets.specs.Traffic.{after_events}
-use Rattle.sockets.proofs.Followed.{IsNothing, by_test, all_joined}
+use Rattle.sockets.proofs.Followed.{by_test, all_joined}
 use Rattle.sockets.proofs.Numbered.{moment_kept}
-use Rattle.sockets.proofs.Steps.{IsEventOf, sends_it, reads_it, shuts_it, closes_it, aborts_it, ticks_it, comes_to_it, goes_out, tells_it, IsStepOf, stays, moves, opens, accepted, IsJoining, made, made_datagrams, called, IsFollowed, IsStepped, followed, joined, stepped, later_up_to}
+use Rattle.sockets.proofs.Steps.{IsEventOf, sends_it, reads_it, shuts_it, closes_it, aborts_it, ticks_it, comes_to_it, goes_out, tells_it, IsStepOf, stays, moves, opens, accepted, IsJoining, made, made_datagrams, called, IsStepped, followed, joined, stepped, later_up_to}
 use Rattle.sockets.proofs.Timed.{all_left}
 
 -- One connection.

@@ -16,7 +16,7 @@ use Rattle.sockets.specs.Lists.{change_first, remove_first}
 use Rattle.sockets.specs.Entries.{on_connection, in_connection, is_socket, is_kept, entries_after_step, with_role}
 use Rattle.sockets.specs.SocketsView.{SocketsView, with_socket}
 use Rattle.sockets.specs.Causes.{Event, Follows}
-use Rattle.sockets.specs.Steps.{event_of, listener_left, is_reset_given_up, connected, connection_left, has_none, IsLeft, IsOneEvent}
+use Rattle.sockets.specs.Steps.{event_of, listener_left, is_reset_given_up, connected, connection_left, closes_socket, remains, IsLeft, IsOneEvent}
 use Rattle.sockets.specs.Order.{IsOrdered}
 use Rattle.sockets.proofs.Opened.{found_passes}
 use Rattle.sockets.proofs.OfferCounts.{one-true, one-false, count-cons, count-found}
@@ -132,31 +132,29 @@ module _ (h : SocketsView) (e : Event) where
         ap (λ k. Some (connected id c k)) (sym f.1) ∙ sym left
 
     -- an event that is none of the connection's own leaves the entry
-    pub passed : (x : Entry) → event_of h e x ≡ None → IsOneEvent h e x (Some x)
-    passed x none = by_role x.role none
+    pub passed : (x : Entry) → event_of h e x ≡ None → closes_socket e x ≡ false → IsOneEvent h e x (Some x)
+    passed x none stays = by_role x.role none stays
       where
-        by_role : (r : Role) → event_of h e (entry x.id r) ≡ None → IsLeft h e x.id r (Some (entry x.id r))
-        by_role (Connected c l) is = apart x.id c l is
-        by_role (Idle buffers bound) is = has_none (entry x.id (Idle buffers bound)) refl refl
-        by_role (Listener local backlog) is = has_none (entry x.id (Listener local backlog)) refl refl
-        by_role (Datagrams bound queues) is = has_none (entry x.id (Datagrams bound queues)) refl refl
-
-    pub passed_over : (only : Entry → Bool) → ((x : Entry) → only x ≡ false → event_of h e x ≡ None) → (x : Entry) → only x ≡ false → IsOneEvent h e x (Some x)
-    passed_over only none x fails = passed x (none x fails)
+        by_role : (r : Role) → event_of h e (entry x.id r) ≡ None → closes_socket e (entry x.id r) ≡ false → IsLeft h e x.id r (Some (entry x.id r))
+        by_role (Connected c l) is stays = apart x.id c l is
+        by_role (Idle buffers bound) is stays = remains stays
+        by_role (Listener local backlog) is stays = remains stays
+        by_role (Datagrams bound queues) is stays = remains stays
 
     module _ (ev : edge.Event) where
       -- one that is leaves what that event leaves of the connection ..
-      pub took : (change : View → View) → ((c : View) → change c ≡ edge.after_event c ev) → (x : Entry) → event_of h e x ≡ Some ev → is_kept (in_connection Stays (λ (c : View). edge.fate_by c ev) x.role) ≡ true → IsOneEvent h e x (Some (with_role (on_connection change) x))
-      took change says x is kept = by_role x.role is kept
+      pub took : (change : View → View) → ((c : View) → change c ≡ edge.after_event c ev) → (x : Entry) → event_of h e x ≡ Some ev → is_kept (in_connection Stays (λ (c : View). edge.fate_by c ev) x.role) ≡ true → closes_socket e x ≡ false
+          → IsOneEvent h e x (Some (with_role (on_connection change) x))
+      took change says x is kept stays = by_role x.role is kept stays
         where
-          by_role : (r : Role) → event_of h e (entry x.id r) ≡ Some ev → is_kept (in_connection Stays (λ (c : View). edge.fate_by c ev) r) ≡ true → IsLeft h e x.id r (Some (entry x.id (on_connection change r)))
-          by_role (Connected c l) is kept =
+          by_role : (r : Role) → event_of h e (entry x.id r) ≡ Some ev → is_kept (in_connection Stays (λ (c : View). edge.fate_by c ev) r) ≡ true → closes_socket e (entry x.id r) ≡ false → IsLeft h e x.id r (Some (entry x.id (on_connection change r)))
+          by_role (Connected c l) is kept stays =
               let f = plain (connected x.id c l) l in
               let left : connection_left h e x.id c l ≡ Some (connected x.id (edge.after_event c ev) (listener_left h e (connected x.id c l) l)) = rw (f.0, is, kept) refl in
               ap (λ d. Some (connected x.id d l)) (says c) ∙ ap (λ k. Some (connected x.id (edge.after_event c ev) k)) (sym f.1) ∙ sym left
-          by_role (Idle buffers bound) is kept = has_none (entry x.id (Idle buffers bound)) refl refl
-          by_role (Listener local backlog) is kept = has_none (entry x.id (Listener local backlog)) refl refl
-          by_role (Datagrams bound queues) is kept = has_none (entry x.id (Datagrams bound queues)) refl refl
+          by_role (Idle buffers bound) is kept stays = remains stays
+          by_role (Listener local backlog) is kept stays = remains stays
+          by_role (Datagrams bound queues) is kept stays = remains stays
 
       -- .. or takes it out
       pub taken_out : (x : Entry) → event_of h e x ≡ Some ev → is_kept (in_connection Stays (λ (c : View). edge.fate_by c ev) x.role) ≡ false → IsOneEvent h e x None
@@ -168,29 +166,35 @@ module _ (h : SocketsView) (e : Event) where
           by_role (Listener local backlog) is gone = cc
           by_role (Datagrams bound queues) is gone = cc
 
-      -- the connection of two ends, and of no other entry
-      pub settles_once : (test : Entry → Bool) → ((x : Entry) → test x ≡ false → event_of h e x ≡ None) → ((x : Entry) → test x ≡ true → event_of h e x ≡ Some ev) → (first : Entry) → find test h.entries ≡ Some first → count_by test h.entries ≤ 1
-          → Follows (IsOneEvent h e) IsNothing h.entries (entries_after_step (in_connection Stays (λ (c : View). edge.fate_by c ev) first.role) test (on_connection (λ (c : View). edge.after_event c ev)) h.entries)
-      settles_once test none is first found few =
-          let here : test first ≡ true = found_passes test h.entries first found in
-          once_settled (IsOneEvent h e) test (passed_over test none) test first here (in_connection Stays (λ (c : View). edge.fate_by c ev) first.role) (on_connection (λ (c : View). edge.after_event c ev))
-          (took (λ c. edge.after_event c ev) (λ c. refl) first (is first here)) (taken_out first (is first here)) h.entries found few
+    -- where the event closes no socket that has no connection
+    module _ (stays : (x : Entry) → closes_socket e x ≡ false) where
+      pub passed_over : (only : Entry → Bool) → ((x : Entry) → only x ≡ false → event_of h e x ≡ None) → (x : Entry) → only x ≡ false → IsOneEvent h e x (Some x)
+      passed_over only none x fails = passed x (none x fails) (stays x)
 
-      -- a call that the socket of an id takes
-      pub calls_once : (id : SocketId) (change : View → View) → ((c : View) → change c ≡ edge.after_event c ev) → ((c : View) → is_kept (edge.fate_by c ev) ≡ true) → ((x : Entry) → is_socket id x ≡ false → event_of h e x ≡ None) → ((x : Entry) → is_socket id x ≡ true → event_of h e x ≡ Some ev)
-          → IsOrdered h → Follows (IsOneEvent h e) IsNothing h.entries (let w = with_socket h id (on_connection change) in w.entries)
-      calls_once id change says kept none is o =
-          once_changed (IsOneEvent h e) (is_socket id) (passed_over (is_socket id) none) (with_role (on_connection change)) (λ x named. took change says x (is x named) (staying x.role)) h.entries (socket_once h id o)
-        where
-          staying : (r : Role) → is_kept (in_connection Stays (λ (c : View). edge.fate_by c ev) r) ≡ true
-          staying (Connected c l) = kept c
-          staying (Idle buffers bound) = refl
-          staying (Listener local backlog) = refl
-          staying (Datagrams bound queues) = refl
+      module _ (ev : edge.Event) where
+        -- the connection of two ends, and of no other entry
+        pub settles_once : (test : Entry → Bool) → ((x : Entry) → test x ≡ false → event_of h e x ≡ None) → ((x : Entry) → test x ≡ true → event_of h e x ≡ Some ev) → (first : Entry) → find test h.entries ≡ Some first → count_by test h.entries ≤ 1
+            → Follows (IsOneEvent h e) IsNothing h.entries (entries_after_step (in_connection Stays (λ (c : View). edge.fate_by c ev) first.role) test (on_connection (λ (c : View). edge.after_event c ev)) h.entries)
+        settles_once test none is first found few =
+            let here : test first ≡ true = found_passes test h.entries first found in
+            once_settled (IsOneEvent h e) test (passed_over test none) test first here (in_connection Stays (λ (c : View). edge.fate_by c ev) first.role) (on_connection (λ (c : View). edge.after_event c ev))
+            (λ kept. took ev (λ c. edge.after_event c ev) (λ c. refl) first (is first here) kept (stays first)) (taken_out ev first (is first here)) h.entries found few
 
-    -- no connection takes it
-    pub unchanged : ((x : Entry) → event_of h e x ≡ None) → Follows (IsOneEvent h e) IsNothing h.entries h.entries
-    unchanged none = as_it_was (IsOneEvent h e) IsNothing refl (λ x. passed x (none x)) h.entries
+        -- a call that the socket of an id takes
+        pub calls_once : (id : SocketId) (change : View → View) → ((c : View) → change c ≡ edge.after_event c ev) → ((c : View) → is_kept (edge.fate_by c ev) ≡ true) → ((x : Entry) → is_socket id x ≡ false → event_of h e x ≡ None) → ((x : Entry) → is_socket id x ≡ true → event_of h e x ≡ Some ev)
+            → IsOrdered h → Follows (IsOneEvent h e) IsNothing h.entries (let w = with_socket h id (on_connection change) in w.entries)
+        calls_once id change says kept none is o =
+            once_changed (IsOneEvent h e) (is_socket id) (passed_over (is_socket id) none) (with_role (on_connection change)) (λ x named. took ev change says x (is x named) (staying x.role) (stays x)) h.entries (socket_once h id o)
+          where
+            staying : (r : Role) → is_kept (in_connection Stays (λ (c : View). edge.fate_by c ev) r) ≡ true
+            staying (Connected c l) = kept c
+            staying (Idle buffers bound) = refl
+            staying (Listener local backlog) = refl
+            staying (Datagrams bound queues) = refl
 
-    pub sockets_change : ((x : Entry) → event_of h e x ≡ None) → (test : Entry → Bool) (change : Role → Role) → ((id : SocketId) (r : Role) → test (entry id r) ≡ true → IsLeft h e id r (Some (entry id (change r)))) → Follows (IsOneEvent h e) IsNothing h.entries (change_first test (with_role change) h.entries)
-    sockets_change none test change step = first_changed (IsOneEvent h e) IsNothing refl test (with_role change) h.entries (λ x. passed x (none x)) (λ x passes found. step x.id x.role passes)
+      -- no connection takes it
+      pub unchanged : ((x : Entry) → event_of h e x ≡ None) → Follows (IsOneEvent h e) IsNothing h.entries h.entries
+      unchanged none = as_it_was (IsOneEvent h e) IsNothing refl (λ x. passed x (none x) (stays x)) h.entries
+
+      pub sockets_change : ((x : Entry) → event_of h e x ≡ None) → (test : Entry → Bool) (change : Role → Role) → ((id : SocketId) (r : Role) → test (entry id r) ≡ true → IsLeft h e id r (Some (entry id (change r)))) → Follows (IsOneEvent h e) IsNothing h.entries (change_first test (with_role change) h.entries)
+      sockets_change none test change step = first_changed (IsOneEvent h e) IsNothing refl test (with_role change) h.entries (λ x. passed x (none x) (stays x)) (λ x passes found. step x.id x.role passes)

@@ -21,3 +21,5 @@ pub mod Names
 pub mod Offered
 pub mod Timing
 pub mod Steps
+pub mod Closing
+pub mod Strays

@@ -1,5 +1,5 @@
 -- What an event of the table is to a connection in it: one event of the connection's own, or none (RFC 9293 section 3.10).
-use Rattle.std.specs.Prelude.{◌≡◌, ℕ, ◌==◌, Bool, true, false, if◌then◌else◌, Option, Some, None, option_map, Ok}
+use Rattle.std.specs.Prelude.{◌≡◌, ℕ, ◌==◌, ◌&&◌, Bool, true, false, if◌then◌else◌, Option, Some, None, option_map, Ok}
 use Rattle.ipv4.specs.declared.addr.Endpoint.{Endpoint}
 use Rattle.tcp_halves.specs.declared.buffers.Buffers.{Buffers}
 use Rattle.tcp_state.specs.View.{View, opened_actively}
@@ -8,12 +8,12 @@ use Rattle.sockets.specs.declared.entry.SocketId.{SocketId}
 use Rattle.sockets.specs.declared.entry.Entry.{Entry}
 use Rattle.sockets.specs.declared.role.Role.{Role}
 use Rattle.sockets.specs.declared.role.Role.TheVariants.{Idle, Listener, Connected, Datagrams}
-use Rattle.sockets.specs.Entries.{in_connection, is_socket, is_waiting_at, is_between, is_kept}
+use Rattle.sockets.specs.Entries.{in_connection, is_socket, is_waiting_at, is_between, is_datagrams_at, is_kept}
 use Rattle.sockets.specs.SocketsView.{SocketsView, later_moment}
 use Rattle.sockets.specs.Lost.{is_given_up}
 use Rattle.sockets.specs.Calls.{is_next_at, port_connected}
 use Rattle.sockets.specs.Arrival.{local_end, peer_end}
-use Rattle.sockets.specs.Causes.{Event, Accepts, Connects, Sends, Receives, Shuts, Closes, Ticks, Hears, Emits, GivesUp, Unreachable, is_next_out}
+use Rattle.sockets.specs.Causes.{Event, Binds, Listens, Accepts, Connects, Sends, Receives, Shuts, Closes, Ticks, Hears, Emits, GivesUp, Unreachable, SendsTo, ReceivesFrom, HearsDatagram, is_next_out}
 
 -- Which event of an entry's connection an event of the table is, if any: a call of its socket, but for a read into an empty buffer; the close of its socket,
 -- or of the listener that it waits at, by which it is aborted; any tick; a segment of its two ends; that of all that is due it is what goes out; or a hard
@@ -54,10 +54,28 @@ connection_left h e id c listener =
     if is_reset_given_up h e (connected id c listener) then None
     else option_map (λ d. connected id d (listener_left h e (connected id c listener) listener)) (view_left c (event_of h e (connected id c listener)))
 
--- What may be left of an entry that has no connection. A close of it takes it out. It has a connection then only where it is an idle socket and a `connect`
--- opens it, in SYN-SENT, from our address and the port that the call gives it.
+-- the close of a socket without a connection
+abbrev pub closes_socket : Event → Entry → Bool
+closes_socket (Closes id) x = in_connection true (λ c. false) x.role && is_socket id x
+closes_socket _ x = false
+
+-- the events that may change a socket without a connection: a call of it but for its close, a datagram for its port, that of all that is due it is what
+-- goes out, and that datagrams are given up
+abbrev pub may_change : SocketsView → Event → Entry → Bool
+may_change h (Binds id local) x = is_socket id x
+may_change h (Listens id backlog) x = is_socket id x
+may_change h (SendsTo id peer octets routed) x = is_socket id x
+may_change h (ReceivesFrom id len) x = is_socket id x
+may_change h (HearsDatagram source d) x = is_datagrams_at d.destination x
+may_change h (Emits goes now) x = is_next_out h goes x
+may_change h (GivesUp lost now) x = true
+may_change h _ x = false
+
+-- What is left of an entry that has no connection: nothing exactly where it is closed, and all of it but for those events. It has a connection then only where
+-- it is an idle socket and a `connect` opens it, in SYN-SENT, from our address and the port that the call gives it.
 pub data IsSocketLeft (h : SocketsView) : Event → Entry → Option Entry → Type 0 where
-  has_none : {e : Event} {x : Entry} (y : Entry) → y.id ≡ x.id → in_connection None (λ c. Some c) y.role ≡ None → IsSocketLeft h e x (Some y)
+  remains : {e : Event} {x : Entry} → closes_socket e x ≡ false → IsSocketLeft h e x (Some x)
+  changes : {e : Event} {x : Entry} (y : Entry) → y.id ≡ x.id → in_connection None (λ c. Some c) y.role ≡ None → may_change h e x ≡ true → IsSocketLeft h e x (Some y)
   opens : (isn : ℕ) (named : SocketId) (peer : Endpoint) (routed : Bool) (port : ℕ) (id : SocketId) (buffers : Buffers) (bound : Option Endpoint)
       → is_socket named (record { id = id; role = Idle buffers bound }) ≡ true → port_connected h named peer routed ≡ Ok port
       → IsSocketLeft h (Connects isn named peer routed) (record { id = id; role = Idle buffers bound }) (Some (connected id (opened_actively (record { addr = h.addr; port = port }) peer isn) None))

@@ -6,6 +6,7 @@ mod arrival;
 mod calls;
 mod closing;
 mod datagrams;
+pub mod duties;
 mod emission;
 mod entry;
 mod index;
