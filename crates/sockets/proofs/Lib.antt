@@ -57,3 +57,4 @@ pub mod EventsOnce
 pub mod ByIds
 pub mod Closings
 pub mod Strays
+pub mod Calling

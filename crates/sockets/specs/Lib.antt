@@ -23,3 +23,4 @@ pub mod Timing
 pub mod Steps
 pub mod Closing
 pub mod Strays
+pub mod Moved

@@ -1,5 +1,5 @@
 -- What an event of the table is to a connection in it: one event of the connection's own, or none (RFC 9293 section 3.10).
-use Rattle.std.specs.Prelude.{◌≡◌, ℕ, ◌==◌, ◌&&◌, Bool, true, false, if◌then◌else◌, Option, Some, None, option_map, Ok}
+use Rattle.std.specs.Prelude.{◌≡◌, ℕ, ◌==◌, ◌&&◌, not, Bool, true, false, if◌then◌else◌, Option, Some, None, option_map, Ok}
 use Rattle.ipv4.specs.declared.addr.Endpoint.{Endpoint}
 use Rattle.tcp_halves.specs.declared.buffers.Buffers.{Buffers}
 use Rattle.tcp_state.specs.View.{View, opened_actively}
@@ -14,6 +14,7 @@ use Rattle.sockets.specs.Lost.{is_given_up}
 use Rattle.sockets.specs.Calls.{is_next_at, port_connected}
 use Rattle.sockets.specs.Arrival.{local_end, peer_end}
 use Rattle.sockets.specs.Causes.{Event, Binds, Listens, Accepts, Connects, Sends, Receives, Shuts, Closes, Ticks, Hears, Emits, GivesUp, Unreachable, SendsTo, ReceivesFrom, HearsDatagram, is_next_out}
+use Rattle.sockets.specs.Traffic.{is_stream}
 
 -- Which event of an entry's connection an event of the table is, if any: a call of its socket, but for a read into an empty buffer; the close of its socket,
 -- or of the listener that it waits at, by which it is aborted; any tick; a segment of its two ends; that of all that is due it is what goes out; or a hard
@@ -60,7 +61,7 @@ closes_socket (Closes id) x = in_connection true (λ c. false) x.role && is_sock
 closes_socket _ x = false
 
 -- the events that may change a socket without a connection: a call of it but for its close, a datagram for its port, that of all that is due it is what
--- goes out, and that datagrams are given up
+-- goes out, and of a UDP socket that datagrams are given up
 abbrev pub may_change : SocketsView → Event → Entry → Bool
 may_change h (Binds id local) x = is_socket id x
 may_change h (Listens id backlog) x = is_socket id x
@@ -68,7 +69,7 @@ may_change h (SendsTo id peer octets routed) x = is_socket id x
 may_change h (ReceivesFrom id len) x = is_socket id x
 may_change h (HearsDatagram source d) x = is_datagrams_at d.destination x
 may_change h (Emits goes now) x = is_next_out h goes x
-may_change h (GivesUp lost now) x = true
+may_change h (GivesUp lost now) x = not (is_stream x.role)
 may_change h _ x = false
 
 -- What is left of an entry that has no connection: nothing exactly where it is closed, and all of it but for those events. It has a connection then only where

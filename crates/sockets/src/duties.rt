@@ -1,29 +1,38 @@
 //! Laws over what the table owes its callers and its peers: functions with nothing to do, whose contracts are the laws.
 
-ghost use Rattle.std.specs.Prelude.{◌≡◌, ℕ, ◌+◌, ◌%◌, ◌^◌, ◌==◌, ◌||◌, not, true, false, [], ◌∷◌, ◌++◌, length, filter, find, Option, Some, None};
+ghost use Rattle.std.specs.Prelude.{◌≡◌, ℕ, ◌+◌, ◌-◌, ◌%◌, ◌^◌, ◌==◌, ◌&&◌, ◌||◌, not, nat_lt, min, if◌then◌else◌, true, false, List, [], ◌∷◌, ◌++◌, length, take, drop, filter, find, Option, Some, None, Ok, Err};
+ghost use Rattle.std.specs.List.{list_any};
 ghost use Rattle.ipv4.specs.declared.addr.Addr.{Addr};
+ghost use Rattle.ipv4.specs.declared.addr.Endpoint.{Endpoint};
+ghost use Rattle.ipv4.specs.Addresses.{same_addr};
+ghost use Rattle.udp_socket.specs.SocketView.{SocketView};
+ghost use Rattle.tcp_halves.specs.declared.buffers.Buffers.{Buffers};
+ghost use Rattle.tcp_state.specs.declared.calls.Received.TheVariants.{Octets};
 ghost use Rattle.clock.specs.declared.moment.Moment.{Moment};
 ghost use Rattle.tcp_segment.specs.declared.head.Head.{Head};
 ghost use Rattle.tcp_segment.specs.Segment.{Segment, span_of};
 ghost use Rattle.tcp_state.specs.declared.connection.Fate.TheVariants.{Rejected};
-ghost use Rattle.tcp_state.specs.View.{View, is_closed, is_syn_sent, is_syn_received};
+ghost use Rattle.tcp_state.specs.View.{View, is_opening, is_closed, is_syn_sent, is_syn_received, is_write_closed};
 ghost use Rattle.sockets.specs.declared.entry.SocketId.{SocketId};
 ghost use Rattle.sockets.specs.declared.entry.Entry.{Entry};
 ghost use Rattle.sockets.specs.declared.role.Role.{Role};
-ghost use Rattle.sockets.specs.declared.role.Role.TheVariants.{Connected};
-ghost use Rattle.sockets.specs.Entries.{in_connection, is_socket, is_between, is_listening_at, is_waiting_at, is_waiting_id, fate_of};
+ghost use Rattle.sockets.specs.declared.role.Role.TheVariants.{Idle, Listener, Connected, Datagrams};
+ghost use Rattle.sockets.specs.declared.refusal.Refusal.TheVariants.{EINVAL, EADDRINUSE, EAGAIN};
+ghost use Rattle.sockets.specs.Entries.{in_connection, is_socket, is_between, is_listening_at, has_port, is_datagrams_at, is_waiting_at, is_waiting_id, fate_of};
 ghost use Rattle.sockets.specs.SocketsView.{SocketsView, role_of};
-ghost use Rattle.sockets.specs.Calls.{after_close};
+ghost use Rattle.sockets.specs.Calls.{any_addr, bind_refusal, listen_refusal, after_listen, send_answer, after_send, recv_answer, recv_front, after_recv, after_close};
 ghost use Rattle.sockets.specs.Arrival.{Becomes, Opens, NoRoom, Answers, local_end, peer_end, has_no_room, arrival};
 ghost use Rattle.sockets.specs.Causes.{IsOpenedBy};
 ghost use Rattle.sockets.specs.Closing.{entry_of, IsAborted, IsGoingOn};
+ghost use Rattle.sockets.specs.Moved.{HoldsMore, HasRead};
 ghost use Rattle.sockets.specs.Order.{IsOrdered};
 ghost use Rattle.sockets.specs.Steps.{connected};
 ghost use Rattle.sockets.specs.Strays.{IsResetOf};
 
-/// What a close leaves (RFC 9293 section 3.10.4), by what the socket is. Of one that has no connection nothing is left, nor of one whose connection is CLOSED or in SYN-SENT. A connection in SYN-RECEIVED, or with octets
-/// that its caller has not read (section 3.6.1), is aborted: its reset waits from the kept moment on. Any other goes on: all that is held goes out, and a FIN behind it. Each connection that waits at a listener that is closed
-/// is aborted with it, and taken out where it is CLOSED already. Every other entry stays, and so do those offered, but for those that wait at it. The id names no socket any more.
+/// What a close leaves (RFC 9293 section 3.10.4), by what the socket is. Of one that has no connection nothing is left, nor of one whose connection is CLOSED or in SYN-SENT. A connection in
+/// SYN-RECEIVED, or with octets that its caller has not read (section 3.6.1), is aborted: its reset waits from the kept moment on. Any other goes on: all that is held goes out, and a FIN behind it.
+/// Each connection that waits at a listener that is closed is aborted with it, and taken out where it is CLOSED already. Every other entry stays, and so do those offered, but for those that wait at
+/// it. The id names no socket any more.
 pub fn closes_leave()
     ensures alone { (h : SocketsView) (id : SocketId) (role : Role) → IsOrdered h → role_of h id ≡ Some role → in_connection None (λ c. Some c) role ≡ None → entry_of (after_close h id) id ≡ None }
     ensures ended { (h : SocketsView) (id : SocketId) (c : View) → IsOrdered h → role_of h id ≡ Some (Connected c None) → (is_closed c.state || is_syn_sent c.state) ≡ true → entry_of (after_close h id) id ≡ None }
@@ -39,9 +48,9 @@ pub fn closes_leave()
     ensures nameless { (h : SocketsView) (id : SocketId) (role : Role) → IsOrdered h → role_of h id ≡ Some role → role_of (after_close h id) id ≡ None }
 {}
 
-/// A segment for which there is no connection (RFC 9293 sections 3.5.2, 3.10.7.1 and 3.10.7.2). One with RST changes nothing and draws no answer. One with ACK draws <SEQ=SEG.ACK><CTL=RST>, at a listener too. One with neither
-/// draws <SEQ=0><ACK=SEG.SEQ+SEG.LEN><CTL=RST,ACK> where nobody listens, modulo 2^32, and its length counts its SYN and its FIN; at a listener it is dropped, but for a SYN, which opens a connection in SYN-RECEIVED between the two
-/// ends behind all entries wherever there is a place for it.
+/// A segment for which there is no connection (RFC 9293 sections 3.5.2, 3.10.7.1 and 3.10.7.2). One with RST changes nothing and draws no answer. One with ACK draws <SEQ=SEG.ACK><CTL=RST>, at a
+/// listener too. One with neither draws <SEQ=0><ACK=SEG.SEQ+SEG.LEN><CTL=RST,ACK> where nobody listens, modulo 2^32, and its length counts its SYN and its FIN; at a listener it is dropped, but for a
+/// SYN, which opens a connection in SYN-RECEIVED between the two ends behind all entries wherever there is a place for it.
 pub fn strays_are_answered()
     ensures reset { (h : SocketsView) (now : Moment) (isn : ℕ) (source : Addr) (s : Segment) → find (is_between (local_end h s) (peer_end source s)) h.entries ≡ None → s.flags.rst ≡ true → arrival h now isn source s ≡ Becomes h }
     ensures acknowledgement { (h : SocketsView) (now : Moment) (isn : ℕ) (source : Addr) (s : Segment) → find (is_between (local_end h s) (peer_end source s)) h.entries ≡ None → s.flags.rst ≡ false → s.flags.ack ≡ true
@@ -61,4 +70,30 @@ pub fn strays_are_answered()
 pub fn refused_segments_are_answered()
     ensures { (h : SocketsView) (now : Moment) (isn : ℕ) (source : Addr) (s : Segment) (e : Entry) → find (is_between (local_end h s) (peer_end source s)) h.entries ≡ Some e → fate_of s e.role ≡ Rejected
         → (head : Head) × (arrival h now isn source s ≡ Answers head) × IsResetOf s s.acknowledgement 0 false head }
+{}
+
+/// A port that is asked for, at our address or 0.0.0.0, is refused as EADDRINUSE exactly where an entry of the socket's kind has it: over TCP any socket, listener or connection, and over UDP a
+/// socket. A backlog is taken from 1 to 8.
+pub fn ports_and_backlogs_are_tested()
+    ensures bind { (h : SocketsView) (id : SocketId) (local : Endpoint) (buffers : Buffers) → role_of h id ≡ Some (Idle buffers None) → (same_addr local.addr h.addr || same_addr local.addr any_addr) ≡ true → (local.port == 0) ≡ false
+        → bind_refusal h id local ≡ (if list_any (has_port local.port) h.entries then Some EADDRINUSE else None) }
+    ensures bind_datagrams { (h : SocketsView) (id : SocketId) (local : Endpoint) (socket : SocketView) → role_of h id ≡ Some (Datagrams None socket) → (same_addr local.addr h.addr || same_addr local.addr any_addr) ≡ true
+        → (local.port == 0) ≡ false → bind_refusal h id local ≡ (if list_any (is_datagrams_at local.port) h.entries then Some EADDRINUSE else None) }
+    ensures backlog { (h : SocketsView) (id : SocketId) (backlog : ℕ) (buffers : Buffers) (bound : Endpoint) → role_of h id ≡ Some (Idle buffers (Some bound)) → listen_refusal h id backlog ≡ (if (backlog == 0) || nat_lt 8 backlog then Some EINVAL else None) }
+    ensures listens { (h : SocketsView) (id : SocketId) (backlog : ℕ) (buffers : Buffers) (bound : Endpoint) → role_of h id ≡ Some (Idle buffers (Some bound)) → role_of (after_listen h id backlog) id ≡ Some (Listener bound backlog) }
+{}
+
+/// What `send` and `recv` move, where the connection is past its opening and told no error. Of what is given to be sent the first octets are taken, as many as have room behind those that are held, of
+/// which there are 65,535 at most; EAGAIN where some are given and none has. Into a buffer the first octets are read that came, as many as it takes; the rest of it stays.
+pub fn calls_move_octets()
+    ensures send { (h : SocketsView) (id : SocketId) (c : View) → role_of h id ≡ Some (Connected c None) → (octets : List ℕ) → c.pending_error ≡ None → is_opening c.state ≡ false → is_write_closed c.state ≡ false
+        → let room = 65535 - length c.sending.held in send_answer h id octets ≡ (if (room == 0) && not (length octets == 0) then Err EAGAIN else Ok (min (length octets) room)) }
+    ensures sent { (h : SocketsView) (id : SocketId) (c : View) → role_of h id ≡ Some (Connected c None) → (octets : List ℕ) → c.pending_error ≡ None → is_opening c.state ≡ false → is_write_closed c.state ≡ false
+        → (d : View) × (role_of (after_send h id octets) id ≡ Some (Connected d None)) × HoldsMore (take (min (length octets) (65535 - length c.sending.held)) octets) c d }
+    ensures recv { (h : SocketsView) (id : SocketId) (c : View) → role_of h id ≡ Some (Connected c None) → (len : ℕ) → c.pending_error ≡ None → is_opening c.state ≡ false → (length c.receiving.readable == 0) ≡ false → (len == 0) ≡ false
+        → recv_answer h id len ≡ Ok (Octets (min len (length c.receiving.readable))) }
+    ensures read { (h : SocketsView) (id : SocketId) (c : View) → role_of h id ≡ Some (Connected c None) → (buffer : List ℕ) → c.pending_error ≡ None → is_opening c.state ≡ false → (length c.receiving.readable == 0) ≡ false
+        → (length buffer == 0) ≡ false → let n = min (length buffer) (length c.receiving.readable) in recv_front h id buffer ≡ take n c.receiving.readable ++ drop n buffer }
+    ensures left { (h : SocketsView) (id : SocketId) (c : View) → role_of h id ≡ Some (Connected c None) → (len : ℕ) → c.pending_error ≡ None → is_opening c.state ≡ false → (length c.receiving.readable == 0) ≡ false → (len == 0) ≡ false
+        → (d : View) × (role_of (after_recv h id len) id ≡ Some (Connected d None)) × HasRead (min len (length c.receiving.readable)) c d }
 {}

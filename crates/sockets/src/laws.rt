@@ -91,9 +91,9 @@ pub fn connections_keep_time()
     ensures given_up { (h : SocketsView) (lost : Addr → Bool) (now : Moment) → EachKeepsTime h → EachKeepsTime (after_giving_up h lost now) }
 {}
 
-/// No timer of a connection runs until later than a minute past the latest moment that the table was told of, and no wait is counted from a later one: in a new table, over each event, and over a list of them. So no
-/// deadline lies more than 240,000 ms past it, the time that TIME-WAIT lasts (RFC 9293 section 3.4.2). A segment, an emission and what is given up are taken at a moment that the table doesn't keep; where each names
-/// none but what the table keeps, since a tick told it, all this is said of the kept moment.
+/// No timer of a connection runs until later than a minute past the latest moment that the table was told of, and no wait is counted from a later one: in a new table, over each event, and over a list
+/// of them. So no deadline lies more than 240,000 ms past it, the time that TIME-WAIT lasts (RFC 9293 section 3.4.2). A segment, an emission and what is given up are taken at a moment that the table
+/// doesn't keep; where each names none but what the table keeps, since a tick told it, all this is said of the kept moment.
 pub fn timers_lie_near()
     ensures fresh { (addr : Addr) (latest : Moment) → AreNear latest (new_sockets addr) }
     ensures event { (h : SocketsView) (e : Event) (latest : Moment) → IsSoundTable h → IsUpTo latest e → AreNear latest h → AreNear latest (after_event h e) }
@@ -176,8 +176,8 @@ pub fn errors_are_reported_first()
         → shutdown_refusal h id ≡ Some (refusal_of error) }
 {}
 
-/// The error that a connection tells it tells for good, over each event and over every list of them: whatever entry has its id then is one of a connection that tells it, whether a socket names the connection or not,
-/// and none but its close or its removal ends that. So each call of its socket that is told the error (`errors_are_reported_first`) is told it again, as often as it is made.
+/// The error that a connection tells it tells for good, over each event and over every list of them: whatever entry has its id then is one of a connection that tells it, whether a socket names the
+/// connection or not, and none but its close or its removal ends that. So each call of its socket that is told the error (`errors_are_reported_first`) is told it again, as often as it is made.
 pub fn errors_told_stay()
     ensures event { (h : SocketsView) (e : Event) (id : SocketId) (error : Error) → IsSoundTable h → EachKeepsTime h → id.0 ≤ h.last_id → TellsStill id error h → TellsStill id error (after_event h e) }
     ensures over { (h : SocketsView) (events : List Event) (id : SocketId) (error : Error) → AreSound h events → EachKeepsTime h → id.0 ≤ h.last_id → TellsStill id error h → TellsStill id error (after_events h events) }

@@ -1,0 +1,102 @@
+-- What the calls of a socket answer, and what they move.
+use Rattle.std.proofs.Common.{◌≡◌, ℕ, ◌-◌, ◌==◌, ◌&&◌, ◌||◌, not, nat_lt, min, if◌then◌else◌, Bool, true, false, List, [], ◌∷◌, ◌++◌, length, take, drop, Some, None, Ok, Err, refl, sym, ◌∙◌, ap, subst, arith}
+use Rattle.std.specs.List.{list_any}
+use Rattle.std.proofs.lemmas.Bool.{eqb-true}
+use Rattle.std.proofs.lemmas.List.{append-nil}
+use Rattle.ipv4.specs.declared.addr.Endpoint.{Endpoint}
+use Rattle.ipv4.specs.Addresses.{same_addr}
+use Rattle.tcp_halves.specs.declared.buffers.Buffers.{Buffers}
+use Rattle.tcp_state.specs.declared.calls.Received.TheVariants.{Octets}
+use Rattle.tcp_state.specs.View.{View, is_opening, is_write_closed}
+use Rattle.tcp_state.specs.Calls.{with_octets, after_send, after_recv}
+use Rattle.udp_socket.specs.SocketView.{SocketView as Queues}
+use Rattle.sockets.specs.declared.entry.SocketId.{SocketId}
+use Rattle.sockets.specs.declared.role.Role.{Role}
+use Rattle.sockets.specs.declared.role.Role.TheVariants.{Idle, Listener, Connected, Datagrams}
+use Rattle.sockets.specs.declared.refusal.Refusal.TheVariants.{EINVAL, EADDRINUSE, EAGAIN}
+use Rattle.sockets.specs.Entries.{is_socket, has_socket, has_port, is_datagrams_at, role_after_listen, role_after_send, role_after_recv}
+use Rattle.sockets.specs.SocketsView.{SocketsView, role_of}
+use Rattle.sockets.specs.Calls as call
+use Rattle.sockets.specs.Calls.{any_addr, bind_refusal, listen_refusal, send_answer, recv_answer, recv_front}
+use Rattle.sockets.specs.Moved.{HoldsMore, HasRead}
+use Rattle.sockets.proofs.Followed.{by_test}
+use Rattle.sockets.proofs.Opened.{found_passes, socket_changed}
+use Rattle.sockets.proofs.Telling.{role_found}
+use Rattle.tcp_state.proofs.Edges.{and_right}
+
+-- Bind and listen.
+
+ours_open : (a b : Bool) → (a || b) ≡ true → (not a && not b) ≡ false
+ours_open true b ours = refl
+ours_open false true ours = refl
+ours_open false false ours = cc
+
+module _ (h : SocketsView) (id : SocketId) (local : Endpoint) where
+  pub bind_used : (buffers : Buffers) → role_of h id ≡ Some (Idle buffers None) → (same_addr local.addr h.addr || same_addr local.addr any_addr) ≡ true → (local.port == 0) ≡ false
+      → bind_refusal h id local ≡ (if list_any (has_port local.port) h.entries then Some EADDRINUSE else None)
+  bind_used buffers is ours asked =
+      let here = ours_open (same_addr local.addr h.addr) (same_addr local.addr any_addr) ours in
+      by_test (list_any (has_port local.port) h.entries) (λ taken. rw (is, here, asked, taken) refl) (λ free. rw (is, here, asked, free) refl)
+
+  pub bind_used_datagrams : (queues : Queues) → role_of h id ≡ Some (Datagrams None queues) → (same_addr local.addr h.addr || same_addr local.addr any_addr) ≡ true → (local.port == 0) ≡ false
+      → bind_refusal h id local ≡ (if list_any (is_datagrams_at local.port) h.entries then Some EADDRINUSE else None)
+  bind_used_datagrams queues is ours asked =
+      let here = ours_open (same_addr local.addr h.addr) (same_addr local.addr any_addr) ours in
+      by_test (list_any (is_datagrams_at local.port) h.entries) (λ taken. rw (is, here, asked, taken) refl) (λ free. rw (is, here, asked, free) refl)
+
+module _ (h : SocketsView) (id : SocketId) where
+  pub backlog_tested : (backlog : ℕ) (buffers : Buffers) (bound : Endpoint) → role_of h id ≡ Some (Idle buffers (Some bound)) → listen_refusal h id backlog ≡ (if (backlog == 0) || nat_lt 8 backlog then Some EINVAL else None)
+  backlog_tested backlog buffers bound is = rw is refl
+
+  pub listens_then : (backlog : ℕ) (buffers : Buffers) (bound : Endpoint) → role_of h id ≡ Some (Idle buffers (Some bound)) → role_of (call.after_listen h id backlog) id ≡ Some (Listener bound backlog)
+  listens_then backlog buffers bound is = socket_changed h id (role_after_listen backlog) (Idle buffers (Some bound)) is refl
+
+-- Octets.
+
+none_left : (xs : List ℕ) → (length xs == 0) ≡ true → xs ≡ []
+none_left [] none = refl
+none_left (x ∷ xs) none = absurd (omega (arith, eqb-true (length (x ∷ xs)) 0 none))
+
+module _ (h : SocketsView) (id : SocketId) (c : View) (is : role_of h id ≡ Some (Connected c None)) where
+  -- a socket's connection is one that its caller has not left
+  owned : (d : View) → d.released ≡ c.released → has_socket (Connected d None) ≡ true
+  owned d same =
+      let there = role_found h id (Connected c None) is in
+      let held : has_socket (Connected c None) ≡ true = ap has_socket (sym there.2) ∙ and_right (there.0.id.0 == id.0) _ (found_passes (is_socket id) h.entries there.0 there.1) in
+      ap (λ b. not (false || b)) same ∙ held
+
+  pub send_answered : (octets : List ℕ) → c.pending_error ≡ None → is_opening c.state ≡ false → is_write_closed c.state ≡ false
+      → (let room = 65535 - length c.sending.held in send_answer h id octets ≡ (if (room == 0) && not (length octets == 0) then Err EAGAIN else Ok (min (length octets) room)))
+  send_answered octets told opened writes =
+      by_test ((65535 - length c.sending.held == 0) && not (length octets == 0)) (λ full. rw (is, told, opened, writes, full) refl) (λ room. rw (is, told, opened, writes, room) refl)
+
+  pub send_moved : (octets : List ℕ) → c.pending_error ≡ None → is_opening c.state ≡ false → is_write_closed c.state ≡ false
+      → (d : View) × (role_of (call.after_send h id octets) id ≡ Some (Connected d None)) × HoldsMore (take (min (length octets) (65535 - length c.sending.held)) octets) c d
+  send_moved octets told opened writes =
+      let taken : List ℕ = take (min (length octets) (65535 - length c.sending.held)) octets in
+      let after : after_send c octets h.kept ≡ with_octets c taken h.kept = rw (told, opened, writes) refl in
+      let moved : HoldsMore taken c (after_send c octets h.kept) = subst (HoldsMore taken c) (sym after) (holds taken) in
+      (after_send c octets h.kept, socket_changed h id (role_after_send h.kept octets) (Connected c None) is (owned (after_send c octets h.kept) moved.left), moved)
+    where
+      holds : (taken : List ℕ) → HoldsMore taken c (with_octets c taken h.kept)
+      holds taken =
+          by_test (length taken == 0)
+          (λ none. let same : with_octets c taken h.kept ≡ c = rw none refl in
+          let nothing : c.sending.held ≡ c.sending.held ++ taken = sym (ap (λ xs. c.sending.held ++ xs) (none_left taken none) ∙ append-nil c.sending.held) in
+          subst (HoldsMore taken c) (sym same) (record { held = nothing; una = refl; nxt = refl; receiving = refl; state = refl; told = refl; left = refl }))
+          (λ some. rw some (record { held = refl; una = refl; nxt = refl; receiving = refl; state = refl; told = refl; left = refl }))
+
+  pub recv_answered : (len : ℕ) → c.pending_error ≡ None → is_opening c.state ≡ false → (length c.receiving.readable == 0) ≡ false → (len == 0) ≡ false → recv_answer h id len ≡ Ok (Octets (min len (length c.receiving.readable)))
+  recv_answered len told opened some room = rw (is, room, told, opened, some) refl
+
+  pub recv_read : (buffer : List ℕ) → c.pending_error ≡ None → is_opening c.state ≡ false → (length c.receiving.readable == 0) ≡ false → (length buffer == 0) ≡ false
+      → (let n = min (length buffer) (length c.receiving.readable) in recv_front h id buffer ≡ take n c.receiving.readable ++ drop n buffer)
+  recv_read buffer told opened some room = rw (is, room, told, opened, some) refl
+
+  pub recv_moved : (len : ℕ) → c.pending_error ≡ None → is_opening c.state ≡ false → (length c.receiving.readable == 0) ≡ false → (len == 0) ≡ false
+      → (d : View) × (role_of (call.after_recv h id len) id ≡ Some (Connected d None)) × HasRead (min len (length c.receiving.readable)) c d
+  recv_moved len told opened some room =
+      let d : View = after_recv c len in
+      let after : role_after_recv len (Connected c None) ≡ Connected d None = rw room refl in
+      let reads : HasRead (min len (length c.receiving.readable)) c d = rw (told, opened, some) (record { readable = refl; rnext = refl; sending = refl; state = refl; told = refl; left = refl }) in
+      (d, socket_changed h id (role_after_recv len) (Connected c None) is (ap has_socket after ∙ owned d reads.left) ∙ ap (λ (r : Role). Some r) after, reads)
