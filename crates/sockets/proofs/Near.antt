@@ -24,15 +24,16 @@ use Rattle.sockets.specs.declared.entry.Entry.{Entry}
 use Rattle.sockets.specs.declared.role.Role.{Role}
 use Rattle.sockets.specs.declared.role.Role.TheVariants.{Idle, Listener, Connected, Datagrams}
 use Rattle.sockets.specs.Entries.{deadline_of}
-use Rattle.sockets.specs.Causes.{Event, after_event}
+use Rattle.sockets.specs.Causes.{Event, GivesUp, after_event}
+use Rattle.sockets.specs.Lost.{after_giving_up}
 use Rattle.sockets.specs.Sound.{IsSoundRole, IsSoundTable}
 use Rattle.sockets.specs.SocketsView.{SocketsView, new_sockets, later_moment}
 use Rattle.sockets.specs.Ticks.{least_deadline}
 use Rattle.sockets.specs.Timing.{AreSound, IsNear, IsNearIn, AreNear, IsUpTo}
 use Rattle.sockets.specs.Traffic.{after_events}
-use Rattle.sockets.proofs.Followed.{by_test, all_joined}
+use Rattle.sockets.proofs.Followed.{by_test, all_followed, all_joined}
 use Rattle.sockets.proofs.Numbered.{moment_kept}
-use Rattle.sockets.proofs.Steps.{IsEventOf, sends_it, reads_it, shuts_it, closes_it, aborts_it, ticks_it, comes_to_it, goes_out, tells_it, IsStepOf, stays, moves, opens, accepted, IsJoining, made, made_datagrams, called, IsStepped, followed, joined, stepped, later_up_to}
+use Rattle.sockets.proofs.Steps.{IsEventOf, sends_it, reads_it, shuts_it, closes_it, aborts_it, ticks_it, comes_to_it, goes_out, tells_it, IsStepOf, stays, moves, opens, accepted, binds_datagrams, requeues, IsJoining, made, made_datagrams, called, IsStepped, followed, joined, stepped, later_up_to}
 use Rattle.sockets.proofs.Timed.{all_left}
 
 -- One connection.
@@ -145,6 +146,20 @@ each_near h e last sound up near = record { kept = moment_up_to h e last near.ke
     by_step : (w : SocketsView) → IsStepped h e w → AllByRecursion (λ (x : Entry). IsNearIn last x.role) w.entries
     by_step w (followed f) = all_left (IsStepOf h e) (λ (x : Entry). IsSoundRole x.role) (λ (x : Entry). IsNearIn last x.role) (step_near h e last near.kept up) h.entries w.entries f.entries sound.entries near.each
     by_step _ (joined {x = x} j) = all_joined (λ (y : Entry). IsNearIn last y.role) h.entries x near.each (joining_near h e last x j)
+
+-- giving up moves no connection, so it wants none to be sound
+given_up_near : (h : SocketsView) (lost : Addr → Bool) (now last : Moment) (x y : Entry) → IsStepOf h (GivesUp lost now) x (Some y) → IsNearIn last x.role → IsNearIn last y.role
+given_up_near h lost now last x _ stays near = near
+given_up_near h lost now last _ _ (moves ev id c l meets is) near = elim meets [ ]
+given_up_near h lost now last _ _ (requeues id bound before after) near = tt
+given_up_near h lost now last _ _ (binds_datagrams id bound local before after takes) near = tt
+
+pub left_near : (h : SocketsView) (lost : Addr → Bool) (now last : Moment) → AreNear last h → AreNear last (after_giving_up h lost now)
+left_near h lost now last near = record { kept = near.kept; each = by_step (after_giving_up h lost now) (stepped h (GivesUp lost now)) }
+  where
+    by_step : (w : SocketsView) → IsStepped h (GivesUp lost now) w → AllByRecursion (λ (x : Entry). IsNearIn last x.role) w.entries
+    by_step w (followed f) = all_followed (IsStepOf h (GivesUp lost now)) (λ (x : Entry). IsNearIn last x.role) (given_up_near h lost now last) h.entries w.entries f.entries near.each
+    by_step _ (joined j) = elim j [ ]
 
 pub fresh_near : (addr : Addr) (last : Moment) → AreNear last (new_sockets addr)
 fresh_near addr last = record { kept = omega arith; each = tt }

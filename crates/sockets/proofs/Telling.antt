@@ -1,7 +1,9 @@
 -- Why an error that a connection of the table tells stays told.
-use Rattle.std.proofs.Common.{◌≡◌, ℕ, ◌+◌, ◌≤◌, ◌<◌, cond, List, [], ◌∷◌, Option, Some, None, is_some, refl, sym, ◌∙◌, ap, arith}
+use Rattle.std.proofs.Common.{◌≡◌, ℕ, ◌+◌, ◌≤◌, ◌<◌, Bool, cond, List, [], ◌∷◌, Option, Some, None, is_some, refl, sym, ◌∙◌, ap, arith}
 use Rattle.std.proofs.lemmas.Bool.{eqb-true}
 use Rattle.std.specs.List.{find, AllByRecursion}
+use Rattle.ipv4.specs.declared.addr.Addr.{Addr}
+use Rattle.clock.specs.declared.moment.Moment.{Moment}
 use Rattle.tcp_state.specs.View.{View}
 use Rattle.tcp_state.specs.Edges as edge
 use Rattle.tcp_state.specs.declared.calls.Refusal.{Refusal as Error}
@@ -14,12 +16,13 @@ use Rattle.sockets.specs.declared.role.Role.TheVariants.{Connected}
 use Rattle.sockets.specs.Entries.{is_socket}
 use Rattle.sockets.specs.Ids.{AreAscending}
 use Rattle.sockets.specs.Order.{IsOrdered}
-use Rattle.sockets.specs.Causes.{Event, after_event, pending_error_in, TellsStill}
+use Rattle.sockets.specs.Causes.{Event, GivesUp, after_event, pending_error_in, TellsStill}
+use Rattle.sockets.specs.Lost.{after_giving_up}
 use Rattle.sockets.specs.Sound.{IsSoundRole, IsSoundTable}
 use Rattle.sockets.specs.SocketsView.{SocketsView, role_of}
 use Rattle.sockets.specs.Timing.{KeepsTimeIn, EachKeepsTime, AreSound}
 use Rattle.sockets.specs.Traffic.{after_events}
-use Rattle.sockets.proofs.Followed.{by_test, all_joined}
+use Rattle.sockets.proofs.Followed.{by_test, all_followed, all_joined}
 use Rattle.sockets.proofs.Numbered.{never_back}
 use Rattle.sockets.proofs.OfferCounts.{by_option}
 use Rattle.sockets.proofs.Steps.{IsStepOf, stays, moves, binds, listens, opens, accepted, requeues, binds_datagrams, IsJoining, made, made_datagrams, called, IsStepped, followed, joined, stepped}
@@ -62,6 +65,20 @@ tells_on h e id error sound keeps given all = by_step (after_event h e) (stepped
     by_step : (w : SocketsView) → IsStepped h e w → TellsStill id error w
     by_step w (followed f) = all_left (IsStepOf h e) (Keeps id error) (Tells id error) (step_tells id error h e) h.entries w.entries f.entries (both id error h.entries sound.entries keeps) all
     by_step _ (joined {x = x} j) = all_joined (Tells id error) h.entries x all (joining_tells id error h e x given j)
+
+-- giving up moves no connection
+given_up_tells : (id : SocketId) (error : Error) (h : SocketsView) (lost : Addr → Bool) (now : Moment) (x y : Entry) → IsStepOf h (GivesUp lost now) x (Some y) → Tells id error x → Tells id error y
+given_up_tells id error h lost now x _ stays tells = tells
+given_up_tells id error h lost now _ _ (moves ev i c l meets is) tells = elim meets [ ]
+given_up_tells id error h lost now _ _ (requeues i bound before after) tells = tells
+given_up_tells id error h lost now _ _ (binds_datagrams i bound local before after takes) tells = tells
+
+pub tells_left : (h : SocketsView) (lost : Addr → Bool) (now : Moment) (id : SocketId) (error : Error) → TellsStill id error h → TellsStill id error (after_giving_up h lost now)
+tells_left h lost now id error all = by_step (after_giving_up h lost now) (stepped h (GivesUp lost now))
+  where
+    by_step : (w : SocketsView) → IsStepped h (GivesUp lost now) w → TellsStill id error w
+    by_step w (followed f) = all_followed (IsStepOf h (GivesUp lost now)) (Tells id error) (given_up_tells id error h lost now) h.entries w.entries f.entries all
+    by_step _ (joined j) = elim j [ ]
 
 pub tells_led : (h : SocketsView) (events : List Event) (id : SocketId) (error : Error) → AreSound h events → EachKeepsTime h → id.0 ≤ h.last_id → TellsStill id error h → TellsStill id error (after_events h events)
 tells_led h [] id error sound keeps given all = all

@@ -99,6 +99,7 @@ pub fn timers_lie_near()
     ensures event { (h : SocketsView) (e : Event) (latest : Moment) → IsSoundTable h → IsUpTo latest e → AreNear latest h → AreNear latest (after_event h e) }
     ensures over { (h : SocketsView) (events : List Event) (latest : Moment) → AreSound h events → AllByRecursion (IsUpTo latest) events → AreNear latest h → AreNear latest (after_events h events) }
     ensures kept { (h : SocketsView) (e : Event) → IsSoundTable h → let after = after_event h e in IsUpTo after.kept e → AreNear h.kept h → AreNear after.kept after }
+    ensures given_up { (h : SocketsView) (lost : Addr → Bool) (now latest : Moment) → AreNear latest h → AreNear latest (after_giving_up h lost now) }
     ensures deadline { (h : SocketsView) (latest moment : Moment) → AreNear latest h → least_deadline h ≡ Some moment → moment.0 ≤ latest.0 + 240000 }
 {}
 
@@ -181,6 +182,7 @@ pub fn errors_are_reported_first()
 pub fn errors_told_stay()
     ensures event { (h : SocketsView) (e : Event) (id : SocketId) (error : Error) → IsSoundTable h → EachKeepsTime h → id.0 ≤ h.last_id → TellsStill id error h → TellsStill id error (after_event h e) }
     ensures over { (h : SocketsView) (events : List Event) (id : SocketId) (error : Error) → AreSound h events → EachKeepsTime h → id.0 ≤ h.last_id → TellsStill id error h → TellsStill id error (after_events h events) }
+    ensures given_up { (h : SocketsView) (lost : Addr → Bool) (now : Moment) (id : SocketId) (error : Error) → TellsStill id error h → TellsStill id error (after_giving_up h lost now) }
     ensures socket { (h : SocketsView) (events : List Event) (id : SocketId) (c : View) (listener : Option SocketId) (error : Error) → IsOrdered h → AreSound h events → EachKeepsTime h → role_of h id ≡ Some (Connected c listener)
         → c.pending_error ≡ Some error → let later = after_events h events in (role : Role) → role_of later id ≡ Some role → pending_error_in role ≡ Some error }
 {}
