@@ -1,6 +1,9 @@
 -- What the calls of a socket answer, and what they move.
-use Rattle.std.proofs.Common.{◌≡◌, ℕ, ◌-◌, ◌==◌, ◌&&◌, ◌||◌, not, nat_lt, min, if◌then◌else◌, Bool, true, false, List, [], ◌∷◌, ◌++◌, length, take, drop, Some, None, Ok, Err, refl, sym, ◌∙◌, ap, subst, arith}
-use Rattle.std.specs.List.{list_any}
+use Rattle.std.proofs.Common.{◌≡◌, ℕ, ◌-◌, ◌==◌, ◌&&◌, ◌||◌, not, nat_lt, min, if◌then◌else◌, Bool, true, false, cond, List, [], ◌∷◌, ◌++◌, length, take, drop, Some, None, Ok, Err, refl, sym, ◌∙◌, ap, subst, arith}
+use Rattle.std.specs.List.{find, list_any}
+use Rattle.sockets.specs.Ids.{has_id}
+use Rattle.sockets.specs.Lists.{change_first}
+use Rattle.sockets.specs.Closing.{entry_of}
 use Rattle.std.proofs.lemmas.Bool.{eqb-true}
 use Rattle.std.proofs.lemmas.List.{append-nil}
 use Rattle.ipv4.specs.declared.addr.Endpoint.{Endpoint}
@@ -11,14 +14,15 @@ use Rattle.tcp_state.specs.View.{View, is_opening, is_write_closed}
 use Rattle.tcp_state.specs.Calls.{with_octets, after_send, after_recv}
 use Rattle.udp_socket.specs.SocketView.{SocketView as Queues}
 use Rattle.sockets.specs.declared.entry.SocketId.{SocketId}
+use Rattle.sockets.specs.declared.entry.Entry.{Entry}
 use Rattle.sockets.specs.declared.role.Role.{Role}
 use Rattle.sockets.specs.declared.role.Role.TheVariants.{Idle, Listener, Connected, Datagrams}
 use Rattle.sockets.specs.declared.refusal.Refusal.TheVariants.{EINVAL, EADDRINUSE, EAGAIN}
-use Rattle.sockets.specs.Entries.{is_socket, has_socket, has_port, is_datagrams_at, role_after_listen, role_after_send, role_after_recv}
-use Rattle.sockets.specs.SocketsView.{SocketsView, role_of}
+use Rattle.sockets.specs.Entries.{is_socket, has_socket, has_port, is_datagrams_at, role_after_listen, role_after_send, role_after_recv, with_role}
+use Rattle.sockets.specs.SocketsView.{SocketsView, role_of, with_socket}
 use Rattle.sockets.specs.Calls as call
 use Rattle.sockets.specs.Calls.{any_addr, bind_refusal, listen_refusal, send_answer, recv_answer, recv_front}
-use Rattle.sockets.specs.Moved.{HoldsMore, HasRead}
+use Rattle.sockets.specs.Moved.{HoldsMore, HasRead, IsSameBesides}
 use Rattle.sockets.proofs.Followed.{by_test}
 use Rattle.sockets.proofs.Opened.{found_passes, socket_changed}
 use Rattle.sockets.proofs.Telling.{role_found}
@@ -100,3 +104,24 @@ module _ (h : SocketsView) (id : SocketId) (c : View) (is : role_of h id ≡ Som
       let after : role_after_recv len (Connected c None) ≡ Connected d None = rw room refl in
       let reads : HasRead (min len (length c.receiving.readable)) c d = rw (told, opened, some) (record { readable = refl; rnext = refl; sending = refl; state = refl; told = refl; left = refl }) in
       (d, socket_changed h id (role_after_recv len) (Connected c None) is (ap has_socket after ∙ owned d reads.left) ∙ ap (λ (r : Role). Some r) after, reads)
+
+-- What a call leaves alone.
+
+-- what the first that passes is not stays under its id
+found_still : (id other : SocketId) (change : Role → Role) (xs : List Entry) (x : Entry) → find (has_id other) xs ≡ Some x → is_socket id x ≡ false → find (has_id other) (change_first (is_socket id) (with_role change) xs) ≡ Some x
+found_still id other change [] x found apart = found
+found_still id other change (y ∷ ys) x found apart =
+    by_test (has_id other y)
+    (λ here.
+    let same : y ≡ x = (let one : Some y ≡ Some x = ap (λ b. cond b (Some y) (find (has_id other) ys)) (sym here) ∙ found in cc) in
+    let fails : is_socket id y ≡ false = ap (is_socket id) same ∙ apart in
+    rw (fails, here) (ap (λ (e : Entry). Some e) same))
+    (λ there.
+    let behind : find (has_id other) ys ≡ Some x = ap (λ b. cond b (Some y) (find (has_id other) ys)) (sym there) ∙ found in
+    by_test (is_socket id y) (λ named. rw (named, there) behind) (λ passed. rw (passed, there) (found_still id other change ys x behind apart)))
+
+pub others_still : (h : SocketsView) (id other : SocketId) (change : Role → Role) (x : Entry) → entry_of h other ≡ Some x → is_socket id x ≡ false → entry_of (with_socket h id change) other ≡ Some x
+others_still h id other change x found apart = found_still id other change h.entries x found apart
+
+pub same_besides : (h : SocketsView) (id : SocketId) (change : Role → Role) → IsSameBesides h (with_socket h id change)
+same_besides h id change = record { addr = refl; kept = refl; last_port = refl; last_id = refl; identification = refl; offered = refl }

@@ -1,5 +1,6 @@
 -- What a segment leads to for which there is no connection.
-use Rattle.std.proofs.Common.{◌≡◌, ℕ, ◌+◌, ◌%◌, ◌^◌, ◌&&◌, not, Bool, true, false, [], ◌∷◌, ◌++◌, Option, Some, None, refl, ap}
+use Rattle.std.proofs.Common.{◌≡◌, ℕ, ◌+◌, ◌%◌, ◌^◌, ◌&&◌, not, Bool, true, false, [], ◌∷◌, ◌++◌, Option, Some, None, refl, ap, ◌⊎◌, ◌≤◌, ◌<◌, ◌==◌, ◌||◌, nat_le, count_by, length, arith}
+use Rattle.std.proofs.lemmas.Bool.Decides.{nat_tests}
 use Rattle.std.specs.List.{find}
 use Rattle.std.proofs.lemmas.Bool.{and_from}
 use Rattle.ipv4.specs.declared.addr.Addr.{Addr}
@@ -11,11 +12,18 @@ use Rattle.tcp_state.specs.declared.connection.Fate.TheVariants.{Rejected}
 use Rattle.sockets.specs.declared.entry.Entry.{Entry}
 use Rattle.sockets.specs.Arrival.{Becomes, Opens, NoRoom, Answers, local_end, peer_end, is_opening, has_no_room, after_opening, arrival}
 use Rattle.sockets.specs.Causes.{IsOpenedBy}
-use Rattle.sockets.specs.Entries.{is_between, is_listening_at, fate_of, new_waiting}
+use Rattle.sockets.specs.Entries.{is_between, is_listening_at, is_waiting_at, backlog_of, fate_of, new_waiting}
 use Rattle.sockets.specs.Replies.{reset_at_ack, reset_past}
 use Rattle.sockets.specs.SocketsView.{SocketsView}
 use Rattle.sockets.specs.Strays.{IsResetOf}
 use Rattle.sockets.proofs.Ends.{eqb-same, same_end-same}
+
+-- when there is a place: fewer wait than may, and neither the table nor the ids are used up
+place : (backlog waiting entries ids : ℕ) → waiting < backlog → entries < 64 → ids < 2 ^ 64 → (nat_le backlog waiting || ((entries == 64) || (ids == 2 ^ 64))) ≡ false
+place backlog waiting entries ids fewer few young = grind (arith, nat_tests)
+
+no_place : (backlog waiting entries ids : ℕ) → (backlog ≤ waiting) ⊎ ((entries ≡ 64) ⊎ (ids ≡ 2 ^ 64)) → (nat_le backlog waiting || ((entries == 64) || (ids == 2 ^ 64))) ≡ true
+no_place backlog waiting entries ids full = grind (arith, nat_tests)
 
 module _ (h : SocketsView) (now : Moment) (isn : ℕ) (source : Addr) (s : Segment) where
   at_ack : IsResetOf s s.acknowledgement 0 false (reset_at_ack s)
@@ -59,15 +67,18 @@ module _ (h : SocketsView) (now : Moment) (isn : ℕ) (source : Addr) (s : Segme
   opens_so rst ack syn = rw (syn, rst, ack) refl
 
   pub syn_unplaced : (listener : Entry) → find (is_between (local_end h s) (peer_end source s)) h.entries ≡ None → find (is_listening_at s.destination) h.entries ≡ Some listener → s.flags.rst ≡ false → s.flags.ack ≡ false → s.flags.syn ≡ true
-      → has_no_room h listener ≡ true → arrival h now isn source s ≡ NoRoom
-  syn_unplaced listener none found rst ack syn full = rw (none, found, opens_so rst ack syn, full) refl
+      → (backlog_of listener.role ≤ count_by (is_waiting_at listener.id) h.entries) ⊎ ((length h.entries ≡ 64) ⊎ (h.last_id + 1 ≡ 2 ^ 64)) → arrival h now isn source s ≡ NoRoom
+  syn_unplaced listener none found rst ack syn full =
+      let no_room : has_no_room h listener ≡ true = no_place (backlog_of listener.role) (count_by (is_waiting_at listener.id) h.entries) (length h.entries) (h.last_id + 1) full in
+      rw (none, found, opens_so rst ack syn, no_room) refl
 
   pub refusal_answered : (e : Entry) → find (is_between (local_end h s) (peer_end source s)) h.entries ≡ Some e → fate_of s e.role ≡ Rejected → (head : Head) × (arrival h now isn source s ≡ Answers head) × IsResetOf s s.acknowledgement 0 false head
   refusal_answered e found rejected = (reset_at_ack s, rw (found, rejected) refl, at_ack)
 
   pub syn_opens : (listener : Entry) → find (is_between (local_end h s) (peer_end source s)) h.entries ≡ None → find (is_listening_at s.destination) h.entries ≡ Some listener → s.flags.rst ≡ false → s.flags.ack ≡ false → s.flags.syn ≡ true
-      → has_no_room h listener ≡ false → (next : SocketsView) × (arrival h now isn source s ≡ Opens next) × ((e : Entry) × (next.entries ≡ h.entries ++ e ∷ []) × IsOpenedBy h source s e)
-  syn_opens listener none found rst ack syn room =
+      → count_by (is_waiting_at listener.id) h.entries < backlog_of listener.role → length h.entries < 64 → h.last_id + 1 < 2 ^ 64 → (next : SocketsView) × (arrival h now isn source s ≡ Opens next) × ((e : Entry) × (next.entries ≡ h.entries ++ e ∷ []) × IsOpenedBy h source s e)
+  syn_opens listener none found rst ack syn fewer few young =
+      let room : has_no_room h listener ≡ false = place (backlog_of listener.role) (count_by (is_waiting_at listener.id) h.entries) (length h.entries) (h.last_id + 1) fewer few young in
       let opened = opens_so rst ack syn in
       let waiting : Entry = new_waiting (record { 0 = h.last_id + 1 }) listener.id (opened_passively (local_end h s) (peer_end source s) isn s) in (
         after_opening h isn listener source s,

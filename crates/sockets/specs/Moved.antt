@@ -1,6 +1,7 @@
 -- What a call moves between its caller and a connection: octets, and nothing else.
 use Rattle.std.specs.Prelude.{◌≡◌, ℕ, List, ◌++◌, drop}
 use Rattle.tcp_state.specs.View.{View}
+use Rattle.sockets.specs.SocketsView.{SocketsView}
 
 -- octets were given to a connection: they stand behind those that it holds, and what it sent and received is as it was
 pub record HoldsMore (octets : List ℕ) (before after : View) : Type 0 where
@@ -20,3 +21,12 @@ pub record HasRead (count : ℕ) (before after : View) : Type 0 where
   pub state : after.state ≡ before.state
   pub told : after.pending_error ≡ before.pending_error
   pub left : after.released ≡ before.released
+
+-- all of a table is as it was, but for its entries
+pub record IsSameBesides (before after : SocketsView) : Type 0 where
+  pub addr : after.addr ≡ before.addr
+  pub kept : after.kept ≡ before.kept
+  pub last_port : after.last_port ≡ before.last_port
+  pub last_id : after.last_id ≡ before.last_id
+  pub identification : after.identification ≡ before.identification
+  pub offered : after.offered ≡ before.offered

@@ -1,6 +1,6 @@
 //! Laws over what the table owes its callers and its peers: functions with nothing to do, whose contracts are the laws.
 
-ghost use Rattle.std.specs.Prelude.{◌≡◌, ℕ, ◌+◌, ◌-◌, ◌%◌, ◌^◌, ◌==◌, ◌&&◌, ◌||◌, not, nat_lt, min, if◌then◌else◌, true, false, List, [], ◌∷◌, ◌++◌, length, take, drop, filter, find, Option, Some, None, Ok, Err};
+ghost use Rattle.std.specs.Prelude.{◌≡◌, ◌⊎◌, ℕ, ◌+◌, ◌-◌, ◌%◌, ◌^◌, ◌≤◌, ◌<◌, ◌==◌, ◌&&◌, ◌||◌, not, nat_lt, min, if◌then◌else◌, true, false, List, [], ◌∷◌, ◌++◌, length, take, drop, filter, count_by, find, Option, Some, None, Ok, Err};
 ghost use Rattle.std.specs.List.{list_any};
 ghost use Rattle.ipv4.specs.declared.addr.Addr.{Addr};
 ghost use Rattle.ipv4.specs.declared.addr.Endpoint.{Endpoint};
@@ -18,13 +18,13 @@ ghost use Rattle.sockets.specs.declared.entry.Entry.{Entry};
 ghost use Rattle.sockets.specs.declared.role.Role.{Role};
 ghost use Rattle.sockets.specs.declared.role.Role.TheVariants.{Idle, Listener, Connected, Datagrams};
 ghost use Rattle.sockets.specs.declared.refusal.Refusal.TheVariants.{EINVAL, EADDRINUSE, EAGAIN};
-ghost use Rattle.sockets.specs.Entries.{in_connection, is_socket, is_between, is_listening_at, has_port, is_datagrams_at, is_waiting_at, is_waiting_id, fate_of};
+ghost use Rattle.sockets.specs.Entries.{in_connection, is_socket, is_between, is_listening_at, has_port, is_datagrams_at, backlog_of, is_waiting_at, is_waiting_id, fate_of};
 ghost use Rattle.sockets.specs.SocketsView.{SocketsView, role_of};
-ghost use Rattle.sockets.specs.Calls.{any_addr, bind_refusal, listen_refusal, after_listen, send_answer, after_send, recv_answer, recv_front, after_recv, after_close};
-ghost use Rattle.sockets.specs.Arrival.{Becomes, Opens, NoRoom, Answers, local_end, peer_end, has_no_room, arrival};
+ghost use Rattle.sockets.specs.Calls.{any_addr, bind_refusal, listen_refusal, after_listen, send_answer, after_send, recv_answer, recv_front, after_recv, after_shutdown, after_close};
+ghost use Rattle.sockets.specs.Arrival.{Becomes, Opens, NoRoom, Answers, local_end, peer_end, arrival};
 ghost use Rattle.sockets.specs.Causes.{IsOpenedBy};
 ghost use Rattle.sockets.specs.Closing.{entry_of, IsAborted, IsGoingOn};
-ghost use Rattle.sockets.specs.Moved.{HoldsMore, HasRead};
+ghost use Rattle.sockets.specs.Moved.{HoldsMore, HasRead, IsSameBesides};
 ghost use Rattle.sockets.specs.Order.{IsOrdered};
 ghost use Rattle.sockets.specs.Steps.{connected};
 ghost use Rattle.sockets.specs.Strays.{IsResetOf};
@@ -50,7 +50,8 @@ pub fn closes_leave()
 
 /// A segment for which there is no connection (RFC 9293 sections 3.5.2, 3.10.7.1 and 3.10.7.2). One with RST changes nothing and draws no answer. One with ACK draws <SEQ=SEG.ACK><CTL=RST>, at a
 /// listener too. One with neither draws <SEQ=0><ACK=SEG.SEQ+SEG.LEN><CTL=RST,ACK> where nobody listens, modulo 2^32, and its length counts its SYN and its FIN; at a listener it is dropped, but for a
-/// SYN, which opens a connection in SYN-RECEIVED between the two ends behind all entries wherever there is a place for it.
+/// SYN, which opens a connection in SYN-RECEIVED between the two ends behind all entries wherever fewer wait at the listener than its backlog allows, the table has fewer than 64 entries, and the last
+/// id is not given.
 pub fn strays_are_answered()
     ensures reset { (h : SocketsView) (now : Moment) (isn : ℕ) (source : Addr) (s : Segment) → find (is_between (local_end h s) (peer_end source s)) h.entries ≡ None → s.flags.rst ≡ true → arrival h now isn source s ≡ Becomes h }
     ensures acknowledgement { (h : SocketsView) (now : Moment) (isn : ℕ) (source : Addr) (s : Segment) → find (is_between (local_end h s) (peer_end source s)) h.entries ≡ None → s.flags.rst ≡ false → s.flags.ack ≡ true
@@ -60,10 +61,11 @@ pub fn strays_are_answered()
     ensures dropped { (h : SocketsView) (now : Moment) (isn : ℕ) (source : Addr) (s : Segment) (listener : Entry) → find (is_between (local_end h s) (peer_end source s)) h.entries ≡ None → find (is_listening_at s.destination) h.entries ≡ Some listener
         → s.flags.rst ≡ false → s.flags.ack ≡ false → s.flags.syn ≡ false → arrival h now isn source s ≡ Becomes h }
     ensures opens { (h : SocketsView) (now : Moment) (isn : ℕ) (source : Addr) (s : Segment) (listener : Entry) → find (is_between (local_end h s) (peer_end source s)) h.entries ≡ None → find (is_listening_at s.destination) h.entries ≡ Some listener
-        → s.flags.rst ≡ false → s.flags.ack ≡ false → s.flags.syn ≡ true → has_no_room h listener ≡ false
+        → s.flags.rst ≡ false → s.flags.ack ≡ false → s.flags.syn ≡ true → count_by (is_waiting_at listener.id) h.entries < backlog_of listener.role → length h.entries < 64 → h.last_id + 1 < 2 ^ 64
         → (next : SocketsView) × (arrival h now isn source s ≡ Opens next) × ((e : Entry) × (next.entries ≡ h.entries ++ e ∷ []) × IsOpenedBy h source s e) }
     ensures no_place { (h : SocketsView) (now : Moment) (isn : ℕ) (source : Addr) (s : Segment) (listener : Entry) → find (is_between (local_end h s) (peer_end source s)) h.entries ≡ None → find (is_listening_at s.destination) h.entries ≡ Some listener
-        → s.flags.rst ≡ false → s.flags.ack ≡ false → s.flags.syn ≡ true → has_no_room h listener ≡ true → arrival h now isn source s ≡ NoRoom }
+        → s.flags.rst ≡ false → s.flags.ack ≡ false → s.flags.syn ≡ true
+        → (backlog_of listener.role ≤ count_by (is_waiting_at listener.id) h.entries) ⊎ ((length h.entries ≡ 64) ⊎ (h.last_id + 1 ≡ 2 ^ 64)) → arrival h now isn source s ≡ NoRoom }
 {}
 
 /// A segment that its connection refuses, since it acknowledges what was not sent while the connection opens (RFC 9293 sections 3.10.7.3 and 3.10.7.4), draws <SEQ=SEG.ACK><CTL=RST> and changes nothing.
@@ -96,4 +98,13 @@ pub fn calls_move_octets()
         → (length buffer == 0) ≡ false → let n = min (length buffer) (length c.receiving.readable) in recv_front h id buffer ≡ take n c.receiving.readable ++ drop n buffer }
     ensures left { (h : SocketsView) (id : SocketId) (c : View) → role_of h id ≡ Some (Connected c None) → (len : ℕ) → c.pending_error ≡ None → is_opening c.state ≡ false → (length c.receiving.readable == 0) ≡ false → (len == 0) ≡ false
         → (d : View) × (role_of (after_recv h id len) id ≡ Some (Connected d None)) × HasRead (min len (length c.receiving.readable)) c d }
+{}
+
+/// A call of a connection's socket, and `listen`, change that socket alone: every entry that the id doesn't name as a socket stays, and all else of the table.
+pub fn calls_change_their_socket_alone()
+    ensures listen { (h : SocketsView) (id other : SocketId) (backlog : ℕ) (x : Entry) → entry_of h other ≡ Some x → is_socket id x ≡ false → entry_of (after_listen h id backlog) other ≡ Some x }
+    ensures send { (h : SocketsView) (id other : SocketId) (octets : List ℕ) (x : Entry) → entry_of h other ≡ Some x → is_socket id x ≡ false → entry_of (after_send h id octets) other ≡ Some x }
+    ensures recv { (h : SocketsView) (id other : SocketId) (len : ℕ) (x : Entry) → entry_of h other ≡ Some x → is_socket id x ≡ false → entry_of (after_recv h id len) other ≡ Some x }
+    ensures shutdown { (h : SocketsView) (id other : SocketId) (x : Entry) → entry_of h other ≡ Some x → is_socket id x ≡ false → entry_of (after_shutdown h id) other ≡ Some x }
+    ensures table { (h : SocketsView) (id : SocketId) (backlog : ℕ) (octets : List ℕ) (len : ℕ) → IsSameBesides h (after_listen h id backlog) × IsSameBesides h (after_send h id octets) × IsSameBesides h (after_recv h id len) × IsSameBesides h (after_shutdown h id) }
 {}
