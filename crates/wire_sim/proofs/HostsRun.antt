@@ -111,7 +111,7 @@ called routed (call.PeerName id) h answer new small meets = asked (peername_answ
 -- What an event of a world makes of a host: it stays, or takes one event of its own, and what that delivers is a frame that the event delivered.
 
 -- the event delivers this to a side
-record Brings (n : NetworkView) (side : Side) (happens : Event) (octets : List ℕ) : Type 0 where
+pub record Brings (n : NetworkView) (side : Side) (happens : Event) (octets : List ℕ) : Type 0 where
   pub index : ℕ
   pub isn : Seq
   pub is : happens ≡ event.Deliver side index isn
@@ -119,10 +119,10 @@ record Brings (n : NetworkView) (side : Side) (happens : Event) (octets : List �
   pub there : slice_get n.frames index ≡ Some frame
   pub carries : frame.octets.items ≡ octets
 
-abbrev AreBrought : NetworkView → Side → Event → HostEvent → Type 0
+abbrev pub AreBrought : NetworkView → Side → Event → HostEvent → Type 0
 AreBrought n side happens e = (now : Moment) (isn : ℕ) (octets : List ℕ) → e ≡ Delivers now isn octets → Brings n side happens octets
 
-abbrev IsMoved : NetworkView → Side → Event → HostView → HostView → Type 0
+abbrev pub IsMoved : NetworkView → Side → Event → HostView → HostView → Type 0
 IsMoved n side happens h new = (new ≡ h) ⊎ ((e : HostEvent) × IsNumbered e × Makes e h new × AreBrought n side happens e)
 
 call-moves : (n : NetworkView) (s : Side) (c : Call) (h : HostView) (answer : Answer) (new : HostView) → IsNumberedCall c → HostMeetsCall c h answer new → IsMoved n s (event.Call s c) h new
@@ -174,7 +174,7 @@ both-sides A B = inr refl
 both-sides B A = inr refl
 both-sides B B = inl refl
 
-moved : (old new : WorldView) (happens : Event) (answer : Answer) → IsStep happens answer old new → (side : Side) → IsMoved old.network side happens (host_of old.network side) (host_of new.network side)
+pub moved : (old new : WorldView) (happens : Event) (answer : Answer) → IsStep happens answer old new → (side : Side) → IsMoved old.network side happens (host_of old.network side) (host_of new.network side)
 moved old new happens answer step side = by_side (both-sides side (side_of happens))
   where
     by_side : (side ≡ side_of happens) ⊎ (side ≡ other_side (side_of happens)) → IsMoved old.network side happens (host_of old.network side) (host_of new.network side)
@@ -183,7 +183,7 @@ moved old new happens answer step side = by_side (both-sides side (side_of happe
 
 -- What was delivered once stays so.
 
-frames-stay : (happens : Event) (place : ℕ) (answer : Answer) (n m : NetworkView) → Steps happens place answer n m → (index : ℕ) (f : Frame) → slice_get n.frames index ≡ Some f → slice_get m.frames index ≡ Some f
+pub frames-stay : (happens : Event) (place : ℕ) (answer : Answer) (n m : NetworkView) → Steps happens place answer n m → (index : ℕ) (f : Frame) → slice_get n.frames index ≡ Some f → slice_get m.frames index ≡ Some f
 frames-stay happens place answer n m step index f there = elim (frames-step happens place answer n m step) [
   | inl same ↦ subst (λ (fs : List Frame). slice_get fs index ≡ Some f) (sym same) there
   | inr puts ↦ subst (λ (k : NetworkView). slice_get k.frames index ≡ Some f) (sym puts.emits.after) (got-still n.frames puts.emits.frame index f there)
@@ -235,7 +235,7 @@ run-on w v happens answer step side sound (inr (e, numbered, makes, brings)) r =
     only x y (zero, within, is) = is
     only x y (suc k, within, is) = absurd (omega (arith, within))
 
-sound-at : {happens : Event} {answer : Answer} (old new : WorldView) → IsStep happens answer old new → (side : Side) → IsSoundHost (host_of old.network side)
+pub sound-at : {happens : Event} {answer : Answer} (old new : WorldView) → IsStep happens answer old new → (side : Side) → IsSoundHost (host_of old.network side)
 sound-at old new step A = step.sound_a
 sound-at old new step B = step.sound_b
 

@@ -10,6 +10,7 @@ pub mod filing
 pub mod fairness
 pub mod runs
 pub mod datagrams
+pub mod passage
 pub mod RunGiven
 pub mod HostsAreSetUp
 pub mod HostsRun

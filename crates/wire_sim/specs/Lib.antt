@@ -15,3 +15,5 @@ pub mod Holding
 pub mod Notes
 pub mod Names
 pub mod HostRuns
+pub mod Sent
+pub mod Passage

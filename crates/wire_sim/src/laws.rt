@@ -7,6 +7,7 @@ ghost use Rattle.wire_sim.specs.Holding.{EveryOpeningIsBegun, EveryHoldingIsNote
 ghost use Rattle.wire_sim.specs.Notes.{EveryNoteIsTraced, EveryDelayIsTraced};
 ghost use Rattle.wire_sim.specs.RoomyRuns.{EveryRoomyRunIsARun, EveryStepLeavesRoom, EveryRunLeavesRoom, EveryBareRunHasRoom};
 ghost use Rattle.wire_sim.specs.Datagrams.{EveryRunKeepsDatagrams, EveryDatagramIsTraced};
+ghost use Rattle.wire_sim.specs.Passage.{EveryFrameIsHeardAsSent, EveryFrameIsMetAsSent, EverySegmentArrives, EveryHostStays};
 
 /// In every run of a world of two hosts, over every list of socket calls, ticks, emissions and fair deliveries in any order, for
 /// every pair of endpoints, every epoch and both directions, what was read at one end begins what was written at the other, and the
@@ -107,6 +108,30 @@ pub fn every_run_keeps_datagrams()
 /// that was accepted, from whom and which octets each that was read.
 pub fn every_datagram_is_traced()
     ensures { EveryDatagramIsTraced }
+{}
+
+/// Each segment that is delivered (RFC 9293 section 3.1) is the very one that the sender's host had to send as its frame went out. Where it is for the host that it
+/// comes to, the connection of its two ends takes it, and where there is none, it is met as that segment, or dropped for want of room alone. Else it is for
+/// another interface or another address, and dropped as that and nothing else.
+pub fn every_segment_arrives()
+    ensures { EverySegmentArrives }
+{}
+
+/// Each frame in the network went out of its sender's host in the run that led there, and whoever receives it hears what that host had to send then: the segment, the ICMP
+/// message, the whole UDP datagram or the fragment of one, or the ARP packet; or that it is for another interface or another address. No frame is malformed.
+pub fn every_frame_is_heard_as_sent()
+    ensures { EveryFrameIsHeardAsSent }
+{}
+
+/// So a frame that is delivered is met as what it was sent as. It is dropped for another interface or another address exactly where it is for one, else it is
+/// taken, or there was no room for what it says.
+pub fn every_frame_is_met_as_sent()
+    ensures { EveryFrameIsMetAsSent }
+{}
+
+/// No event changes the MAC, the address or the routes of a host of a world.
+pub fn every_host_stays()
+    ensures { EveryHostStays }
 {}
 
 /// What is seen of a run of a world with its room is a run of a world, so that each law over runs holds of it.

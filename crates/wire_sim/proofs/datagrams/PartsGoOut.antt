@@ -41,7 +41,7 @@ cut_len payload len number all below =
     omega (arith, all, below, length-take (at + n - at) (drop at payload), length-drop at payload)
 
 -- it is a part that a frame can carry
-is-part : (own : List Accepted) (local : Endpoint) (o : Outgoing) (number : ℕ) → AreInTurn own → Contains own (accepted_of local o) → number < count_of (8 + length o.octets)
+pub is-part : (own : List Accepted) (local : Endpoint) (o : Outgoing) (number : ℕ) → AreInTurn own → Contains own (accepted_of local o) → number < count_of (8 + length o.octets)
     → IsPart (record { identification = o.identification; fragment = fragment_of o number }) (octets_of local o number) × (length o.peer.addr.0 ≡ 4)
 is-part own local o number turn (k, within, there) below =
     let a : Accepted = accepted_of local o in

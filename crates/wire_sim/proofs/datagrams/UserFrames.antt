@@ -94,7 +94,7 @@ keeps-reply own i moment place sound = by_place (slice_get i.replies place) refl
     by_place (Some waiting) at = by_way waiting.reply (All-at (λ (w : Waiting). IsSoundReply i.addr w.reply) i.replies place waiting sound.replies at) (way_of i moment waiting.reply) refl
 
 -- What a table sends goes out for the peer of what is due.
-sends-to : (h : HostView) (moment : Moment) (mac : Mac) (to : Addr) (e : Entry) (peer : Endpoint) → emission h moment ≡ Sends mac to → find (sends (goes_out_from h moment)) h.sockets.entries ≡ Some e → due_peer e.role ≡ Some peer → to ≡ peer.addr
+pub sends-to : (h : HostView) (moment : Moment) (mac : Mac) (to : Addr) (e : Entry) (peer : Endpoint) → emission h moment ≡ Sends mac to → find (sends (goes_out_from h moment)) h.sockets.entries ≡ Some e → due_peer e.role ≡ Some peer → to ≡ peer.addr
 sends-to h moment mac to e peer is found due = by_place (position (is_due h.interface moment) h.interface.replies) is
   where
     by_way : (w : Way) → emission_by peer.addr w ≡ Sends mac to → to ≡ peer.addr
@@ -112,7 +112,7 @@ pub record IsDue (socket : SocketView) (part : Part) : Type 0 where
   pub to : first_peer socket.outbox ≡ Some peer
   pub told : due_part socket ≡ Some part
 
-what-is-due : (bound : Option Endpoint) (socket : SocketView) (part : Part) → due_emitted (Datagrams bound socket) ≡ Some (out.Datagram part) → IsDue socket part
+pub what-is-due : (bound : Option Endpoint) (socket : SocketView) (part : Part) → due_emitted (Datagrams bound socket) ≡ Some (out.Datagram part) → IsDue socket part
 what-is-due bound socket part due = by_outbox socket.outbox refl
   where
     by_outbox : (outbox : List Outgoing) → socket.outbox ≡ outbox → IsDue socket part

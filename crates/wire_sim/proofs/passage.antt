@@ -1,0 +1,10 @@
+pub mod HeardAnywhere
+pub mod HopsAreWhole
+pub mod PartsSaid
+pub mod HostsSend
+pub mod HopsAreSpelled
+pub mod SegmentsCarried
+pub mod HostsStay
+pub mod FramesPass
+pub mod FramesMet
+pub mod FramesAreSent
