@@ -29,6 +29,8 @@ use Rattle.host.specs.Emission.{after_emission, emission_octets}
 use Rattle.host.specs.HostView.{HostView}
 use Rattle.host.specs.Runs.{Event as HostEvent, Calls, Ticks, Delivers, Emits, IsNumbered, Makes, Runs, Begins, GoesOn}
 use Rattle.host.specs.Sound.{IsSoundHost}
+use Rattle.host.specs.ConfigView.{ConfigView}
+use Rattle.routes.specs.declared.route.Route.{Route}
 use Rattle.host.specs.Runs as host_runs
 use Rattle.host.proofs.Causes.{run-stands}
 use Rattle.host.proofs.Messages.{request-there, cause-there}
@@ -51,6 +53,7 @@ use Rattle.wire_sim.specs.Runs.{begins, goes_on, IsStep, IsNumberedCall}
 use Rattle.wire_sim.specs.Steps.{Answers, MeetsSocket, recv_len, MeetsReceived, MeetsReceivedFrom, MeetsCall, HostMeetsCall, with_host, station_after_tick, MeetsFrame, DeliversFrame, EmitsFrame, MeetsEmission, Steps}
 use Rattle.wire_sim.specs.WorldView.{NetworkView, WorldView, station_of, host_of, clock_of}
 use Rattle.wire_sim.proofs.fairness.NotesAreTraced.{frames-step, got-still, got-last}
+use Rattle.wire_sim.proofs.passage.HostsStay.{run-stays}
 use Rattle.wire_sim.proofs.openings.HoldingsAreNoted.{other-stays, side_of}
 use Rattle.wire_sim.proofs.runs.RunsAreLawful.{own-again, own-with}
 
@@ -213,16 +216,27 @@ delivered-now w v happens answer step side octets b = record {
   carries = b.carries;
 }
 
+-- a host keeps its set-up
+set-up : (c : ConfigView) (events : List HostEvent) (h : HostView) → Runs c events h → c ≡ record { mac = h.interface.mac; addr = h.interface.addr; routes = h.interface.routes }
+set-up c events h runs =
+    let s = run-stays c events h runs in
+    let with_mac : Mac → ConfigView = λ m. record { mac = m; addr = c.addr; routes = c.routes } in
+    let with_addr : Addr → ConfigView = λ a. record { mac = h.interface.mac; addr = a; routes = c.routes } in
+    let with_routes : List Route → ConfigView = λ rs. record { mac = h.interface.mac; addr = h.interface.addr; routes = rs } in
+    ap with_mac (sym s.mac) ∙ (ap with_addr (sym s.addr) ∙ ap with_routes (sym s.routes))
+
 -- a host that goes on
 run-on : (w v : WorldView) (happens : Event) (answer : Answer) → IsStep happens answer w v → (side : Side) → IsSoundHost (host_of w.network side) → IsMoved w.network side happens (host_of w.network side) (host_of v.network side) → HasRun w side → HasRun v side
 run-on w v happens answer step side sound (inl same) r = record {
   config = r.config;
+  own = set-up r.config r.events (host_of v.network side) (subst (Runs r.config r.events) (sym same) r.runs);
   events = r.events;
   runs = subst (Runs r.config r.events) (sym same) r.runs;
   traced = λ now isn octets within. delivered-on w v happens answer step side octets (r.traced now isn octets within);
 }
 run-on w v happens answer step side sound (inr (e, numbered, makes, brings)) r = record {
   config = r.config;
+  own = set-up r.config (r.events ++ e ∷ []) (host_of v.network side) (GoesOn r.events e (host_of w.network side) (host_of v.network side) r.runs sound numbered makes);
   events = r.events ++ e ∷ [];
   runs = GoesOn r.events e (host_of w.network side) (host_of v.network side) r.runs sound numbered makes;
   traced = λ now isn octets within. elim (Contains-append_cases r.events (e ∷ []) (Delivers now isn octets) within) [
@@ -245,8 +259,8 @@ nothing-traced w side now isn octets (k, within, is) = absurd (omega (arith, wit
 -- Any world.
 
 pub hosts-run : EveryHostRuns
-hosts-run limit w (begins a b apart small) A = record { config = a; events = []; runs = Begins; traced = nothing-traced w A }
-hosts-run limit w (begins a b apart small) B = record { config = b; events = []; runs = Begins; traced = nothing-traced w B }
+hosts-run limit w (begins a b apart small) A = record { config = a; own = refl; events = []; runs = Begins; traced = nothing-traced w A }
+hosts-run limit w (begins a b apart small) B = record { config = b; own = refl; events = []; runs = Begins; traced = nothing-traced w B }
 hosts-run limit _ (goes_on w v happens answer reached step) side = run-on w v happens answer step side (sound-at w v step side) (moved w v happens answer step side) (hosts-run limit w reached side)
 
 pub tables-kept : EveryTableIsKept

@@ -31,8 +31,8 @@ pub fn every_moment_is_lawful()
     ensures { EveryMomentIsLawful }
 {}
 
-/// Each host of a world is one that a list of its own events leads to, from a new one: calls that are not refused, ticks, deliveries and emissions. So all that
-/// is so over every such list, as that an echo reply has its request, is so of it.
+/// Each host of a world is one that a list of its own events leads to, from a new one of its MAC, its address and its routes: calls that are not refused, ticks, deliveries
+/// and emissions. So all that is so over every such list, as that an echo reply has its request, is so of it.
 pub fn every_host_runs()
     ensures { EveryHostRuns }
 {}

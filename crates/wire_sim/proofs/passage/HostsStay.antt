@@ -44,7 +44,7 @@ use Rattle.host.specs.ConfigView.{ConfigView}
 use Rattle.host.specs.Emission.{Emission, Replies, Sends, Asks as AsksFor, Nothing as NothingGoes, after_emission, emission, left_by}
 use Rattle.host.specs.HostView.{HostView, with_interface, with_pool, with_sockets}
 use Rattle.host.specs.Messages.{Told, Asks, Refuses, Nothing, told_by}
-use Rattle.host.specs.Runs.{Event, Calls, Ticks, Delivers, Emits, Makes}
+use Rattle.host.specs.Runs.{Event, Calls, Ticks, Delivers, Emits, Makes, Runs, Begins, GoesOn}
 use Rattle.host.specs.Ticks.{after_tick, all_reported, reported}
 
 -- an ARP reply tells of this address
@@ -190,3 +190,8 @@ stays-on c (Delivers now isn octets) old new s makes = stays-heard c old (later_
 stays-on c (Emits now) old new s makes =
     let moment : Moment = later_moment old.sockets now in
     to-new c (after_emission old now) new makes (stays-left c old moment s (emission old moment))
+
+-- any list of events
+pub run-stays : (c : ConfigView) (events : List Event) (h : HostView) → Runs c events h → IsSideOf c h.interface
+run-stays c _ _ Begins = record { mac = refl; addr = refl; routes = refl; replies = tt }
+run-stays c _ _ (GoesOn before event old new ran sound small makes) = stays-on c event old new (run-stays c before old ran) makes
