@@ -10,7 +10,6 @@ use Rattle.wire_sim.specs.declared.event.Event.{Event}
 use Rattle.wire_sim.specs.declared.event.Event.TheVariants as event
 use Rattle.wire_sim.specs.declared.event.Answer.{Answer}
 use Rattle.wire_sim.specs.declared.event.Unfair.{Unfair}
-use Rattle.wire_sim.specs.Runs.{IsOutcome}
 use Rattle.wire_sim.specs.WorldView.{WorldView}
 use Rattle.script.specs.declared.lines.Command.{Command}
 use Rattle.script.specs.declared.lines.Item.TheVariants.{Do, Limit}
@@ -24,8 +23,6 @@ use Rattle.std.proofs.Common.{codes, IfOk, OnOk, IfErr, IfSome, slice_get}
 use Rattle.std.specs.Io.KnownBytes.{Appends}
 use Rattle.std.proofs.lemmas.Result.{IfOk-weaker}
 use Rattle.sides.specs.declared.side.Side.TheVariants.{A, B}
-use Rattle.wire_sim.specs.Runs.{RunsTo}
-use Rattle.wire_sim.proofs.RunGiven.{runs-added}
 use Rattle.script.specs.declared.action.Action.{Action}
 use Rattle.script.specs.declared.lines.Command.TheVariants.{At, Pass}
 use Rattle.script.specs.Words.{lines_of}
@@ -39,16 +36,17 @@ use Rattle.devices.specs.Streams.{TakesFront}
 use Rattle.commands.specs.declared.fault.TextFault.{TextFault}
 use Rattle.commands.specs.declared.fault.TextFault.TheVariants.{Line, TooLong, NotHex, Header, Record, Read, Write, NoMemory}
 use Rattle.commands.specs.declared.sim.Ends.{Ends}
-use Rattle.commands.specs.Play.{Carries, Delivers, Does, IsFirst, pass_text, text_of_outcome}
+use Rattle.commands.specs.Play.{ComesTo, Carries, Delivers, Does, IsFirst, pass_text, text_of_outcome}
 use Rattle.commands.specs.Recording.{TakesCapture}
 use Rattle.commands.specs.Laddered.{CarriesEach, HasBrought, none, one_more, HasRun, starts, goes_on, HasDone, nothing, limits, does, recorded, IsCut, IsLeftAt, TakesBothOf, TakesLadder, TakesLadderOf, Tells, carried_by, ladder_in}
+use Rattle.commands.proofs.PlayLemmas.{delivered_last}
 use Rattle.commands.proofs.RunLemmas.{limit_said_once}
 
 -- one frame more is brought, and what it came to is noted behind what the others came to
 pub brought_more : (to : Side) (isn : Seq) (frames : List ℕ) (i : ℕ) (outcome : Result Answer Unfair) (passages noted : List (Option Passage))
     (old w v : WorldView) → i < length frames → i < length passages →
     noted ≡ set passages i (passage_of (event.Deliver to (get_or frames i 0) isn) outcome) →
-    HasBrought to isn old (take i frames) (take i passages) w → IsOutcome (event.Deliver to (get_or frames i 0) isn) outcome w v →
+    HasBrought to isn old (take i frames) (take i passages) w → ComesTo (event.Deliver to (get_or frames i 0) isn) outcome w v →
     HasBrought to isn old (take (i + 1) frames) (take (i + 1) noted) v
 brought_more to isn frames i outcome passages noted old w v within room set_is so_far one =
     let passage = passage_of (event.Deliver to (get_or frames i 0) isn) outcome in
@@ -121,14 +119,9 @@ cut_last lines happened w v ran = (lines, [], happened, v, sym (append-nil lines
 -- frames that were brought were delivered
 delivered_by : (to : Side) (isn : Seq) (w v : WorldView) (frames : List ℕ) (passages : List (Option Passage)) →
     HasBrought to isn w frames passages v → Delivers to isn frames w v
-delivered_by to isn w v frames passages none = ([], refl)
+delivered_by to isn w v frames passages none = refl
 delivered_by to isn w v frames passages (one_more before so m v2 index outcome first one) =
-    let happens : ℕ → Event = λ k. event.Deliver to k isn in
-    let rest = delivered_by to isn w m before so first in (
-      rest.0 ++ outcome ∷ [],
-      subst (λ events. RunsTo events (rest.0 ++ outcome ∷ []) w v) (sym (map-append happens before (index ∷ [])))
-          (runs-added (map happens before) rest.0 w m v (happens index) (happens index) outcome rest.1 refl one),
-    )
+    delivered_last to isn before index outcome w m v (delivered_by to isn w m before so first) one
 
 -- so many frames were carried
 pub carries_by : (from : Side) (isn : Seq) (frames : List ℕ) (brought : List (Option Passage)) (w v : WorldView) →
@@ -143,7 +136,7 @@ does_by (Pass isn) passages text w v t =
 
 -- one host did something
 pub told_act : {T E : Type 0} (r : Result T E) (octets : T → List ℕ) (side : Side) (action : Action) (e : Event) (outcome : Result Answer Unfair) (p : Option Passage) (w v : WorldView)
-    (before after : List Happened) → IsEventOf side action e → IsOutcome e outcome w v → p ≡ passage_of e outcome →
+    (before after : List Happened) → IsEventOf side action e → ComesTo e outcome w v → p ≡ passage_of e outcome →
     after ≡ before ++ map Passed (option_to_list p) → IfOk r (λ t. octets t ≡ text_of_outcome (style_of action) outcome) →
     IfOk r (λ t. (passages : List Passage) × Tells (At side action) passages (octets t) w v × (after ≡ before ++ map Passed passages))
 told_act r octets side action e outcome p w v before after of_it came is grown printed =

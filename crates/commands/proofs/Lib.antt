@@ -1,4 +1,6 @@
 pub mod SimLemmas
+pub mod RoomLemmas
+pub mod WantedLemmas
 pub mod PlayLemmas
 pub mod RunLemmas
 pub mod HexLemmas

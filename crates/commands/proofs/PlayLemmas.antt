@@ -1,18 +1,16 @@
 -- What the commands of a script print, command by command.
-use Rattle.std.proofs.Common.{◌≡◌, ℕ, ◌+◌, ◌<◌, ◌⊎◌, inl, inr, List, [], ◌∷◌, ◌++◌, length, map, take, drop, get_or, Option, Some, None, append_assoc, append-nil, Result, Ok, Err, refl, ap, sym, subst, ◌∙◌, add-one, arith}
+use Rattle.std.proofs.Common.{◌≡◌, ℕ, ◌+◌, ◌<◌, ◌⊎◌, inl, inr, List, [], ◌∷◌, ◌++◌, length, take, drop, get_or, Option, Some, None, append_assoc, append-nil, Result, Ok, Err, refl, ap, sym, subst, ◌∙◌, add-one, arith}
 use Rattle.std.specs.Result.{OnErr}
 use Rattle.std.proofs.Math.Seq.{take-suc}
-use Rattle.std.proofs.lemmas.List.{map-append, take_more_set}
+use Rattle.std.proofs.lemmas.List.{take_more, take_more_set}
 use Rattle.std.proofs.Math.ListN.{set, length-set}
 use Rattle.tcp_segment.specs.declared.seq.Seq.{Seq}
 use Rattle.sides.specs.declared.side.Side.{Side}
-use Rattle.wire_sim.specs.declared.event.Event.{Event}
 use Rattle.wire_sim.specs.declared.event.Event.TheVariants as event
 use Rattle.wire_sim.specs.declared.event.Answer.{Answer}
 use Rattle.wire_sim.specs.declared.event.Unfair.{Unfair}
-use Rattle.wire_sim.specs.Runs.{IsOutcome, RunsTo}
+use Rattle.wire_sim.specs.Runs.{IsOutcome}
 use Rattle.wire_sim.specs.WorldView.{WorldView}
-use Rattle.wire_sim.proofs.RunGiven.{runs-added}
 use Rattle.wire_sim.specs.declared.event.Answer.TheVariants.{Frame}
 use Rattle.std.specs.Io.KnownBytes.{Keeps}
 use Rattle.std.proofs.lemmas.List.{take-append-drop, drop_more}
@@ -23,29 +21,20 @@ use Rattle.commands.specs.declared.fault.TextFault.TheVariants.{Write, NoMemory}
 use Rattle.devices.specs.Streams.{TakesFront}
 use Rattle.commands.specs.Moved.{TakesAllBut}
 use Rattle.devices.proofs.Moving.{Appends-more, Keeps-appends}
-use Rattle.commands.specs.Play.{HasEmitted, goes_out, passes, starts, goes_on, Delivers, HasPrinted, Does, Prints, IsPlayed, IsLeftBefore, IsCutShort}
+use Rattle.commands.specs.Play.{ComesTo, HasEmitted, goes_out, passes, starts, goes_on, Delivers, HasPrinted, Does, Prints, IsPlayed, IsLeftBefore, IsCutShort}
 
--- the first frames, and one more
-one_more_of : {X : Type 0} (f : ℕ → X) (frames : List ℕ) (i : ℕ) → i < length frames →
-    map f (take (i + 1) frames) ≡ map f (take i frames) ++ f (get_or frames i 0) ∷ []
-one_more_of f frames i within =
-    ap (λ k. map f (take k frames)) (add-one i) ∙ ap (map f) (take-suc frames i 0 within) ∙ map-append f (take i frames) (get_or frames i 0 ∷ [])
+-- one frame more is delivered, behind all others
+pub delivered_last : (to : Side) (isn : Seq) (frames : List ℕ) (index : ℕ) (told : Result Answer Unfair) (w m v : WorldView) → Delivers to isn frames w m →
+    ComesTo (event.Deliver to index isn) told m v → Delivers to isn (frames ++ index ∷ []) w v
+delivered_last to isn [] index told w m v so_far one = (told, v, subst (λ x. ComesTo (event.Deliver to index isn) told x v) so_far one, refl)
+delivered_last to isn (f ∷ fs) index told w m v so_far one =
+    (so_far.0, so_far.1, so_far.2, delivered_last to isn fs index told so_far.1 m v so_far.3 one)
 
--- one frame more is delivered
-pub delivered_more : (to : Side) (isn : Seq) (frames : List ℕ) (i : ℕ) (outcome : Result Answer Unfair) (w m v : WorldView) → i < length frames →
-    Delivers to isn (take i frames) w m → IsOutcome (event.Deliver to (get_or frames i 0) isn) outcome m v →
-    Delivers to isn (take (i + 1) frames) w v
-delivered_more to isn frames i outcome w m v within so_far one =
-    let happens : ℕ → Event = λ index. event.Deliver to index isn in
-    let index = get_or frames i 0 in (
-      so_far.0 ++ outcome ∷ [],
-      subst (λ events. RunsTo events (so_far.0 ++ outcome ∷ []) w v) (sym (one_more_of happens frames i within))
-          (runs-added (map happens (take i frames)) so_far.0 w m v (happens index) (happens index) outcome so_far.1 refl one),
-    )
-
--- none was delivered yet
-pub delivered_none : (to : Side) (isn : Seq) (w : WorldView) → Delivers to isn [] w w
-delivered_none to isn w = ([], refl)
+-- behind the first frames
+pub delivered_more : (to : Side) (isn : Seq) (frames : List ℕ) (i : ℕ) (told : Result Answer Unfair) (w m v : WorldView) → i < length frames →
+    Delivers to isn (take i frames) w m → ComesTo (event.Deliver to (get_or frames i 0) isn) told m v → Delivers to isn (take (i + 1) frames) w v
+delivered_more to isn frames i told w m v within so_far one =
+    subst (λ fs. Delivers to isn fs w v) (sym (take_more frames i 0 within)) (delivered_last to isn (take i frames) (get_or frames i 0) told w m v so_far one)
 
 -- one frame more goes out, and its index is noted behind those of the others
 pub emitted_more : (side : Side) (times count index len : ℕ) (frames noted : List ℕ) (outcome : Result Answer Unfair) (old w v : WorldView) →

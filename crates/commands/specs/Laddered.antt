@@ -10,7 +10,6 @@ use Rattle.wire_sim.specs.declared.event.Event.TheVariants as event
 use Rattle.wire_sim.specs.declared.event.Answer.{Answer}
 use Rattle.wire_sim.specs.declared.event.Unfair.{Unfair}
 use Rattle.sides.specs.Sides.{other_side}
-use Rattle.wire_sim.specs.Runs.{IsOutcome}
 use Rattle.wire_sim.specs.WorldView.{WorldView}
 use Rattle.script.specs.declared.lines.Command.{Command}
 use Rattle.script.specs.declared.lines.Command.TheVariants.{At, Pass}
@@ -34,13 +33,13 @@ use Rattle.commands.specs.declared.fault.TextFault.TheVariants.{Write, NoMemory}
 use Rattle.commands.specs.declared.sim.Ends.{Ends}
 use Rattle.devices.specs.Streams.{TakesFront}
 use Rattle.commands.specs.Recording.{TakesCapture}
-use Rattle.commands.specs.Play.{Does, Emits, IsFirst, pass_text, text_of_outcome}
+use Rattle.commands.specs.Play.{ComesTo, Does, Emits, IsFirst, pass_text, text_of_outcome}
 
 -- these frames were brought to a side in order, and this is what each came to
 pub data HasBrought (to : Side) (isn : Seq) (old : WorldView) : List ℕ → List (Option Passage) → WorldView → Type 0 where
   none : HasBrought to isn old [] [] old
   one_more : (frames : List ℕ) (passages : List (Option Passage)) (w v : WorldView) (index : ℕ) (outcome : Result Answer Unfair) →
-      HasBrought to isn old frames passages w → IsOutcome (event.Deliver to index isn) outcome w v →
+      HasBrought to isn old frames passages w → ComesTo (event.Deliver to index isn) outcome w v →
       HasBrought to isn old (frames ++ index ∷ []) (passages ++ passage_of (event.Deliver to index isn) outcome ∷ []) v
 
 -- what happened to frames that a side sent and that then were brought to the other
@@ -54,7 +53,7 @@ CarriesEach from isn frames brought old new = (w : WorldView) × Emits from fram
 -- a command is done: this happens to frames, and this is printed
 abbrev pub Tells : Command → List Passage → List ℕ → WorldView → WorldView → Type 0
 Tells (At side action) passages text old new =
-    (happens : Event) × (outcome : Result Answer Unfair) × IsEventOf side action happens × IsOutcome happens outcome old new
+    (happens : Event) × (outcome : Result Answer Unfair) × IsEventOf side action happens × ComesTo happens outcome old new
     × (passages ≡ option_to_list (passage_of happens outcome)) × (text ≡ text_of_outcome (style_of action) outcome)
 Tells (Pass isn) passages text old new =
     (of_a : List ℕ) × (of_b : List ℕ) × (to_b : List (Option Passage)) × (to_a : List (Option Passage)) × (w : WorldView)

@@ -1,7 +1,9 @@
 pub use Rattle.devices.specs.Streams
 pub mod Moved
 pub mod Sim
+pub mod Room
 pub mod Play
+pub mod Wanted
 pub mod Hex
 pub mod Captured
 pub mod Recording

@@ -1,5 +1,5 @@
 -- What the commands of a script print, over the worlds that they lead to.
-use Rattle.std.specs.Prelude.{◌≡◌, ◌⊎◌, ◌<◌, ◌+◌, ◌^◌, ◌++◌, ℕ, List, [], ◌∷◌, Option, Some, None, Result, Ok, Err, codes, length, map}
+use Rattle.std.specs.Prelude.{◌≡◌, ◌⊎◌, ◌<◌, ◌+◌, ◌^◌, ◌++◌, ℕ, List, [], ◌∷◌, Option, Some, None, Result, Ok, Err, codes, length, IsOk}
 use Rattle.std.specs.Fmt.{decimal}
 use Rattle.std.specs.Io.KnownBytes.{Appends}
 use Rattle.tcp_segment.specs.declared.seq.Seq.{Seq}
@@ -12,7 +12,8 @@ use Rattle.wire_sim.specs.declared.event.Answer.TheVariants.{Frame, NoFrame}
 use Rattle.wire_sim.specs.declared.event.Unfair.{Unfair}
 use Rattle.wire_sim.specs.Names.{unfair_text}
 use Rattle.sides.specs.Sides.{other_side}
-use Rattle.wire_sim.specs.Runs.{IsOutcome, RunsTo}
+use Rattle.wire_sim.specs.Runs.{unfair, IsOutcome}
+use Rattle.wire_sim.specs.WorldRoom.{IsPlain}
 use Rattle.wire_sim.specs.WorldView.{WorldView, fresh_world}
 use Rattle.script.specs.declared.answer.Style.{Style}
 use Rattle.script.specs.declared.lines.Command.{Command}
@@ -39,6 +40,12 @@ text_of_outcome how (Err refusal) = unfair_text refusal
 abbrev pub line_of_outcome : Style → Result Answer Unfair → List ℕ
 line_of_outcome how outcome = text_of_outcome how outcome ++ codes "\n"
 
+-- What comes of an event that is given to a world with room for it: what may come of it in any world, but want of memory only where it wants octets
+-- of its own, to read or to emit.
+pub record ComesTo (happens : Event) (told : Result Answer Unfair) (old new : WorldView) : Type 0 where
+  pub outcome : IsOutcome happens told old new
+  pub memory : unfair old happens ≡ None → IsPlain happens → IsOk told
+
 -- A side was asked for a frame so many times, and these went out, in order. A refusal is passed over.
 pub data HasEmitted (side : Side) (old : WorldView) : ℕ → List ℕ → WorldView → Type 0 where
   begins : HasEmitted side old 0 [] old
@@ -55,8 +62,9 @@ Emits side frames old new =
 
 -- these frames are delivered to a side in order, whatever comes of each
 abbrev pub Delivers : Side → Seq → List ℕ → WorldView → WorldView → Type 0
-Delivers side isn frames old new =
-    (outcomes : List (Result Answer Unfair)) × RunsTo (map (λ index. event.Deliver side index isn) frames) outcomes old new
+Delivers side isn [] old new = new ≡ old
+Delivers side isn (index ∷ rest) old new =
+    (told : Result Answer Unfair) × (w : WorldView) × ComesTo (event.Deliver side index isn) told old w × Delivers side isn rest w new
 
 -- a side emits so many frames, and the other takes them in order
 abbrev pub Carries : Side → Seq → ℕ → WorldView → WorldView → Type 0
@@ -73,13 +81,13 @@ pass_line from_a from_b = pass_text from_a from_b ++ codes "\n"
 -- what a command does: its event has an outcome, or it carries frames of a and then of b
 abbrev pub Does : Command → WorldView → WorldView → Type 0
 Does (At side action) old new =
-    (happens : Event) × (outcome : Result Answer Unfair) × IsEventOf side action happens × IsOutcome happens outcome old new
+    (happens : Event) × (outcome : Result Answer Unfair) × IsEventOf side action happens × ComesTo happens outcome old new
 Does (Pass isn) old new = (from_a : ℕ) × (from_b : ℕ) × (w : WorldView) × Carries A isn from_a old w × Carries B isn from_b w new
 
 -- a command prints this line: what is shown of the outcome of its event, or how many frames of a and of b it carried
 abbrev pub Prints : Command → List ℕ → WorldView → WorldView → Type 0
 Prints (At side action) line old new =
-    (happens : Event) × (outcome : Result Answer Unfair) × IsEventOf side action happens × IsOutcome happens outcome old new
+    (happens : Event) × (outcome : Result Answer Unfair) × IsEventOf side action happens × ComesTo happens outcome old new
     × (line ≡ line_of_outcome (style_of action) outcome)
 Prints (Pass isn) line old new =
     (from_a : ℕ) × (from_b : ℕ) × (w : WorldView) × Carries A isn from_a old w × Carries B isn from_b w new × (line ≡ pass_line from_a from_b)

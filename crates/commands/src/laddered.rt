@@ -12,6 +12,8 @@ ghost use Rattle.ladder.specs.declared.happened.Happened.{Happened as Thing};
 ghost use Rattle.ladder.specs.declared.happened.Happened.TheVariants.{Passed};
 ghost use Rattle.devices.specs.Streams.{counted, TakesFront};
 ghost use Rattle.commands.specs.Sim.{capture_in_all, is_before_run, read_fails, run_in_all, write_fails_in, IsDue};
+ghost use Rattle.wire_sim.specs.WorldRoom.{HasRoomFor};
+ghost use Rattle.commands.specs.Room.{TakesUp};
 ghost use Rattle.commands.specs.Play.{Does};
 ghost use Rattle.commands.specs.Laddered.{carried_by, ladder_in, node_at, recorded, script_nodes, CarriesEach, HasBrought, HasDone, HasRun, IsCut, Tells, TakesBothOf, TakesLadder, TakesLadderOf};
 
@@ -19,7 +21,10 @@ use crate::fault::TextFault;
 use crate::input::whole_script;
 use crate::output::{flush, write_all};
 use crate::recording::record;
-use crate::sim::{Ends, MOST_FRAMES, emit, new_world, style, text_of, text_of_pass};
+use crate::sim::{
+    Ends, MOST_EVENTS, MOST_FRAMES, emit, give, happen, make_room, new_world, style, text_of,
+    text_of_pass,
+};
 use devices::{Sink, Source};
 use ladder::{Errand, Happened, Line, Node, Nodes, Numbering, Passage, Run, Text};
 use script::{Action, Command, Item, Script, event, split_lines};
@@ -246,7 +251,7 @@ fn act(
 {
     let event = event(alloc, side, action)?;
     let errand = Errand::of(&event);
-    let outcome = world.step(event);
+    let outcome = give(world, event)?;
     note_passage(errand.passage(&outcome), happened)?;
     text_of(alloc, &outcome, style(action))
 }
@@ -269,8 +274,9 @@ fn pass(
     ensures told { IfOk result (λ text. (passages : List OnePassage)
         × Tells (Command.Pass isn) passages (string_bytes text) world.old.seen world.new.seen
         × (happened.new.items ≡ happened.old.items ++ map Passed passages)) }
-    ensures left { OnErr result (Does (Command.Pass isn) world.old.seen world.new.seen) }
+    ensures left { OnErr result ((world.new.seen ≡ world.old.seen) ⊎ Does (Command.Pass isn) world.old.seen world.new.seen) }
 {
+    make_room(world, 2 * MOST_EVENTS)?;
     let of_a = carry(world, Side::A, isn);
     let of_b = carry(world, Side::B, isn);
     note(Side::A, &of_a, happened)?;
@@ -280,9 +286,11 @@ fn pass(
 
 /// One side emits until it has no frame, or was asked 64 times, and the other side takes these frames in order.
 fn carry(world: &mut World, from: Side, isn: Seq) -> Carried
+    requires { HasRoomFor MOST_EVENTS world.old }
     ensures few { result.count ≤ MOST_FRAMES }
     ensures counted { length (take result.count result.frames) ≡ result.count }
     ensures carried { CarriesEach from isn (take result.count result.frames) (take result.count result.passages) world.old.seen world.new.seen }
+    ensures room { TakesUp MOST_EVENTS world.old world.new }
 {
     let mut frames = [0usize; MOST_FRAMES];
     let count = emit(world, from, &mut frames);
@@ -303,13 +311,15 @@ fn bring(
     isn: Seq,
     passages: &mut [Option<Passage>; MOST_FRAMES],
 )
-    requires { length frames.now ≤ MOST_FRAMES }
-    ensures { HasBrought to isn world.old.seen frames.now (take (length frames.now) passages.new) world.new.seen }
+    requires fits { length frames.now ≤ MOST_FRAMES }
+    requires room { HasRoomFor (length frames.now) world.old }
+    ensures brought { HasBrought to isn world.old.seen frames.now (take (length frames.now) passages.new) world.new.seen }
+    ensures room { TakesUp (length frames.now) world.old world.new }
 {
     for (place, index) in frames.iter().enumerate() {
         let event = Event::Deliver(to, *index, isn);
         let errand = Errand::of(&event);
-        passages[place] = errand.passage(&world.step(event));
+        passages[place] = errand.passage(&happen(world, event));
     }
 }
 

@@ -7,6 +7,7 @@ pub mod fault;
 pub mod frame;
 mod input;
 pub mod laddered;
+pub mod laws;
 mod output;
 mod recording;
 pub mod sim;

@@ -5,7 +5,9 @@ ghost use Rattle.std.specs.Option.{ForSome};
 ghost use Rattle.devices.specs.Streams.{counted};
 ghost use Rattle.commands.specs.Sim.{read_fails, write_fails_in, is_before_run, run_in_all, capture_in_all, first_fault, IsDue, IsFaultDue};
 ghost use Rattle.script.specs.Text.{style_of};
-ghost use Rattle.commands.specs.Play.{text_of_outcome, line_of_outcome, Emits, Delivers, Carries, Does, Prints, pass_text, pass_line, IsPlayed, IsCutShort, IsFirst, limit_line, TakesRun, TakesPrinted, TakesPrintedBy, TakesBoth};
+ghost use Rattle.wire_sim.specs.WorldRoom.{HasRoomFor, HasRoom};
+ghost use Rattle.commands.specs.Room.{TakesUp};
+ghost use Rattle.commands.specs.Play.{ComesTo, text_of_outcome, line_of_outcome, Emits, Delivers, Carries, Does, Prints, pass_text, pass_line, IsPlayed, IsCutShort, IsFirst, limit_line, TakesRun, TakesPrinted, TakesPrintedBy, TakesBoth};
 
 use crate::fault::TextFault;
 use crate::input::whole_script;
@@ -20,9 +22,15 @@ use wire_sim::{Answer, Event, Side, Unfair, World, config};
 /// The most frames of one side that a `pass` moves.
 pub(crate) const MOST_FRAMES: usize = 64;
 
+/// The most events by which it moves them: it asks for so many, and brings them to the other side.
+pub(crate) const MOST_EVENTS: usize = 2 * MOST_FRAMES;
+
 /// Reads the whole script, then runs it and prints a line for each command. `Line` or `TooLong` where the script is bad,
 /// and then nothing is run; `Read` or `Write` where a device fails; `NoMemory` for want of memory. What was printed before
 /// a fault stays printed.
+///
+/// Before each command the world is given room for its events, and where there is no memory for that, the run ends. So `U5 NoMemory` is printed
+/// only of a command that reads octets, or of an emission; of all else a line says what the host answers, or which rule it breaks.
 pub fn sim<R: Source, W: Sink>(alloc: Global, script: &mut R, out: &mut W) -> Result<(), TextFault>
     ensures read { R.failures script.new ≡ counted (read_fails result) (R.failures script.old) }
     ensures written { W.failures out.new ≡ counted (write_fails_in result) (W.failures out.old) }
@@ -186,15 +194,42 @@ fn act(
     ensures printed { IfOk result (λ line. Prints (Command.At side action.now) (string_bytes line) world.old.seen world.new.seen) }
     ensures left { OnErr result ((world.new.seen ≡ world.old.seen) ⊎ Does (Command.At side action.now) world.old.seen world.new.seen) }
 {
-    let outcome = world.step(event(alloc, side, action)?);
+    let outcome = give(world, event(alloc, side, action)?)?;
     line_of(alloc, &outcome, style(action))
+}
+
+/// Makes room in a world for an event, and gives it. Where there is no memory for the room, nothing that is seen has changed.
+pub(crate) fn give(world: &mut World, event: Event) -> Result<Result<Answer, Unfair>, AllocError>
+    ensures came { IfOk result (λ outcome. ComesTo event outcome world.old.seen world.new.seen) }
+    ensures left { OnErr result (world.new.seen ≡ world.old.seen) }
+{
+    make_room(world, 1)?;
+    Ok(happen(world, event))
+}
+
+/// Makes room in a world for so many events more. Where there is no memory for it, nothing that is seen has changed.
+pub(crate) fn make_room(world: &mut World, events: usize) -> Result<(), AllocError>
+    ensures room { OnOk result (HasRoomFor events world.new) }
+    ensures seen { world.new.seen ≡ world.old.seen }
+{
+    world.reserve(events).map_err(|_| AllocError)
+}
+
+/// Gives an event to a world with room for it.
+pub(crate) fn happen(world: &mut World, event: Event) -> Result<Answer, Unfair>
+    requires { HasRoom world.old }
+    ensures came { ComesTo event result world.old.seen world.new.seen }
+    ensures room { TakesUp 1 world.old world.new }
+{
+    world.step(event)
 }
 
 /// Frames go from a to b, then from b to a. Answers the line that says how many.
 fn pass(alloc: Global, isn: Seq, world: &mut World) -> Result<String, AllocError>
     ensures printed { IfOk result (λ line. Prints (Command.Pass isn) (string_bytes line) world.old.seen world.new.seen) }
-    ensures left { OnErr result (Does (Command.Pass isn) world.old.seen world.new.seen) }
+    ensures left { OnErr result ((world.new.seen ≡ world.old.seen) ⊎ Does (Command.Pass isn) world.old.seen world.new.seen) }
 {
+    make_room(world, 2 * MOST_EVENTS)?;
     let from_a = carry(world, Side::A, isn);
     let from_b = carry(world, Side::B, isn);
     line_of_pass(alloc, from_a, from_b)
@@ -264,8 +299,10 @@ pub(crate) fn style(action: &Action<'_>) -> Style
 /// One side emits until it has no frame, or was asked 64 times, and the other side takes these frames in order. Answers how
 /// many there were.
 fn carry(world: &mut World, from: Side, isn: Seq) -> usize
+    requires { HasRoomFor MOST_EVENTS world.old }
     ensures few { result ≤ MOST_FRAMES }
     ensures carried { Carries from isn result world.old.seen world.new.seen }
+    ensures room { TakesUp MOST_EVENTS world.old world.new }
 {
     let mut frames = [0usize; MOST_FRAMES];
     let count = emit(world, from, &mut frames);
@@ -278,6 +315,7 @@ fn carry(world: &mut World, from: Side, isn: Seq) -> usize
 pub(crate) fn emit(world: &mut World, from: Side, frames: &mut [usize; MOST_FRAMES]) -> usize
     ensures few { result ≤ MOST_FRAMES }
     ensures emitted { Emits from (take result frames.new) world.old.seen world.new.seen }
+    ensures room { TakesUp MOST_FRAMES world.old world.new }
 {
     let mut count = 0;
     for _ in 0..MOST_FRAMES {
@@ -295,9 +333,11 @@ pub(crate) fn emit(world: &mut World, from: Side, frames: &mut [usize; MOST_FRAM
 
 /// One side takes these frames in order, whatever comes of each.
 fn deliver(world: &mut World, to: Side, frames: &[usize], isn: Seq)
-    ensures { Delivers to isn frames.now world.old.seen world.new.seen }
+    requires { HasRoomFor (length frames.now) world.old }
+    ensures delivered { Delivers to isn frames.now world.old.seen world.new.seen }
+    ensures room { TakesUp (length frames.now) world.old world.new }
 {
     for index in frames {
-        let _ = world.step(Event::Deliver(to, *index, isn));
+        let _ = happen(world, Event::Deliver(to, *index, isn));
     }
 }
