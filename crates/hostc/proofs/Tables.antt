@@ -10,6 +10,7 @@ use Rattle.ipv4.proofs.OnePrefix.{one_prefix}
 use Rattle.routes.specs.declared.route.Route.{Route}
 use Rattle.routes.specs.declared.table.AddFault.{AddFault}
 use Rattle.routes.specs.declared.table.AddFault.TheVariants.{Full, SamePrefix}
+use Rattle.routes.specs.declared.table.TheConstants.{MOST}
 use Rattle.routes.specs.Routes.{HasPrefix}
 use Rattle.hostc.specs.Types.{addr_of, hop_of}
 use Rattle.hostc.specs.Setup.{said, said_by, IsTold, IsValidTable}
@@ -21,6 +22,10 @@ same_prefix p q a l = one_prefix p q q.addr l (λ k h. ap (λ (x : Rattle.ipv4.s
 -- as many routes as were passed, and each says what was passed in its place
 as_many : (given : List HostRoute) (table : List Route) → IsTold given table → length table ≡ length given
 as_many given table told = sym (length-map table said) ∙ ap length told ∙ length-map given said_by
+
+-- over 32 routes make none
+pub too_many : (given : List HostRoute) → MOST < length given → ¬ IsValidTable given
+too_many given over v = let told = as_many given v.0 v.2 in let most = v.1.limit in absurd (omega (arith, told, most, over))
 
 at_place : (given : List HostRoute) (table : List Route) (i : ℕ) (d : Route) (r : HostRoute) → IsTold given table → i < length table → i < length given → said (get_or table i d) ≡ said_by (get_or given i r)
 at_place given table i d r told here there = sym (get_or-map said table i d (said d) here) ∙ ap (λ xs. get_or xs i (said d)) told ∙ get_or-map said_by given i r (said d) there

@@ -17,6 +17,11 @@ abbrev pub of_host : {T : Type 0} → (HostView → Result T Refusal) → Option
 of_host answer None = Err EBADF
 of_host answer (Some h) = answer h
 
+-- a call on the host that a handle holds: it answers, and leaves the host so; EBADF where the handle holds none
+abbrev pub Asks : {T : Type 0} → (HostView → Result T Refusal → HostView → Type 0) → Option HostView → Result T Refusal → Option HostView → Type 0
+Asks calls None answer new = (answer ≡ Err EBADF) × (new ≡ None)
+Asks calls (Some old) answer new = (left : HostView) × calls old answer left × (new ≡ Some left)
+
 -- what is left in a buffer: all of it where there is no host
 abbrev pub left_in : {T : Type 0} → (HostView → T) → Option HostView → T → T
 left_in left None old = old

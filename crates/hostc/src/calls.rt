@@ -23,14 +23,10 @@ use tcp_segment::Seq;
 pub extern "C" fn host_socket(alloc: Global, handle: &mut Handle, kind: u32) -> i64
     ensures { SocketCall (kind_of kind) handle.old.host result handle.new.host }
 {
-    let Some(mut host) = handle.take(alloc) else {
-        return refused(Refusal::EBADF);
-    };
-    let answer = match kind_of(kind) {
+    let answer = handle.ask(alloc, |host| match kind_of(kind) {
         Some(kind) => host.socket(kind),
         None => Err(Refusal::EINVAL),
-    };
-    handle.put(alloc, host);
+    });
     match answer {
         Ok(id) => told(id.0),
         Err(refusal) => refused(refusal),
@@ -49,13 +45,8 @@ pub extern "C" fn host_bind(
     ensures answer { result ≡ answered (of_host (λ h. done (bind_refusal h.sockets (socket_of id) (endpoint_of addr port))) handle.old.host) }
     ensures after { handle.new.host ≡ option_map (λ h. after_call (bind_refusal h.sockets (socket_of id) (endpoint_of addr port)) h (after_bind h.sockets (socket_of id) (endpoint_of addr port))) handle.old.host }
 {
-    let Some(mut host) = handle.take(alloc) else {
-        return refused(Refusal::EBADF);
-    };
     let local = endpoint_of(addr, port);
-    let answer = host.bind(SocketId(id), local);
-    handle.put(alloc, host);
-    done(answer)
+    done(handle.ask(alloc, |host| host.bind(SocketId(id), local)))
 }
 
 /// `Host::listen`. Answers 0. EBADF where the handle holds no host; else as `Host::listen`.
@@ -64,12 +55,7 @@ pub extern "C" fn host_listen(alloc: Global, handle: &mut Handle, id: u64, backl
     ensures answer { result ≡ answered (of_host (λ h. done (listen_refusal h.sockets (socket_of id) backlog)) handle.old.host) }
     ensures after { handle.new.host ≡ option_map (λ h. after_call (listen_refusal h.sockets (socket_of id) backlog) h (after_listen h.sockets (socket_of id) backlog)) handle.old.host }
 {
-    let Some(mut host) = handle.take(alloc) else {
-        return refused(Refusal::EBADF);
-    };
-    let answer = host.listen(SocketId(id), backlog);
-    handle.put(alloc, host);
-    done(answer)
+    done(handle.ask(alloc, |host| host.listen(SocketId(id), backlog)))
 }
 
 /// `Host::accept`. Answers the id of the connection, and `peer` is its peer then. EBADF where the handle holds no host; else as
@@ -80,12 +66,7 @@ pub extern "C" fn host_accept(alloc: Global, handle: &mut Handle, id: u64, peer:
     ensures peer { peer.new ≡ written (λ a. end_of a.1) (result_ok (of_host (λ h. accept_answer h.sockets (socket_of id)) handle.old.host)) peer.old }
     ensures after { handle.new.host ≡ option_map (λ h. after_call (result_err (accept_answer h.sockets (socket_of id))) h (after_accept h.sockets (socket_of id))) handle.old.host }
 {
-    let Some(mut host) = handle.take(alloc) else {
-        return refused(Refusal::EBADF);
-    };
-    let answer = host.accept(SocketId(id));
-    handle.put(alloc, host);
-    match answer {
+    match handle.ask(alloc, |host| host.accept(SocketId(id))) {
         Ok((id, end)) => {
             *peer = end_of(end);
             told(id.0)
@@ -108,12 +89,10 @@ pub extern "C" fn host_connect(
     ensures answer { result ≡ answered (of_host (λ h. done (connect_refusal h.sockets (socket_of id) (endpoint_of addr port) (is_routed h.interface (addr_of addr)))) handle.old.host) }
     ensures after { handle.new.host ≡ option_map (λ h. after_call (connect_refusal h.sockets (socket_of id) (endpoint_of addr port) (is_routed h.interface (addr_of addr))) h (after_connect h.sockets isn (socket_of id) (endpoint_of addr port) (is_routed h.interface (addr_of addr)))) handle.old.host }
 {
-    let Some(mut host) = handle.take(alloc) else {
-        return refused(Refusal::EBADF);
-    };
-    let answer = host.connect(Moment(now), Seq(isn), SocketId(id), endpoint_of(addr, port));
-    handle.put(alloc, host);
-    done(answer)
+    let peer = endpoint_of(addr, port);
+    done(handle.ask(alloc, |host| {
+        host.connect(Moment(now), Seq(isn), SocketId(id), peer)
+    }))
 }
 
 /// `Host::send`. Answers how many octets were taken. EBADF where the handle holds no host; else as `Host::send`.
@@ -122,12 +101,7 @@ pub extern "C" fn host_send(alloc: Global, handle: &mut Handle, id: u64, octets:
     ensures answer { result ≡ answered (of_host (λ h. send_answer h.sockets (socket_of id) octets.now) handle.old.host) }
     ensures after { handle.new.host ≡ option_map (λ h. after_call (result_err (send_answer h.sockets (socket_of id) octets.now)) h (after_send h.sockets (socket_of id) octets.now)) handle.old.host }
 {
-    let Some(mut host) = handle.take(alloc) else {
-        return refused(Refusal::EBADF);
-    };
-    let answer = host.send(SocketId(id), octets);
-    handle.put(alloc, host);
-    counted(answer)
+    counted(handle.ask(alloc, |host| host.send(SocketId(id), octets)))
 }
 
 /// `Host::recv`. Answers how many octets were read, and 0 at the end of the stream. EBADF where the handle holds no host; else as
@@ -152,12 +126,7 @@ pub extern "C" fn host_shutdown_write(alloc: Global, handle: &mut Handle, id: u6
     ensures answer { result ≡ answered (of_host (λ h. done (shutdown_refusal h.sockets (socket_of id))) handle.old.host) }
     ensures after { handle.new.host ≡ option_map (λ h. after_call (shutdown_refusal h.sockets (socket_of id)) h (after_shutdown h.sockets (socket_of id))) handle.old.host }
 {
-    let Some(mut host) = handle.take(alloc) else {
-        return refused(Refusal::EBADF);
-    };
-    let answer = host.shutdown_write(SocketId(id));
-    handle.put(alloc, host);
-    done(answer)
+    done(handle.ask(alloc, |host| host.shutdown_write(SocketId(id))))
 }
 
 /// `Host::close`. Answers 0. EBADF where the handle holds no host; else as `Host::close`.
@@ -166,10 +135,5 @@ pub extern "C" fn host_close(alloc: Global, handle: &mut Handle, id: u64) -> i64
     ensures answer { result ≡ answered (of_host (λ h. done (close_refusal h.sockets (socket_of id))) handle.old.host) }
     ensures after { handle.new.host ≡ option_map (λ h. after_call (close_refusal h.sockets (socket_of id)) h (after_close h.sockets (socket_of id))) handle.old.host }
 {
-    let Some(mut host) = handle.take(alloc) else {
-        return refused(Refusal::EBADF);
-    };
-    let answer = host.close(SocketId(id));
-    handle.put(alloc, host);
-    done(answer)
+    done(handle.ask(alloc, |host| host.close(SocketId(id))))
 }

@@ -28,12 +28,8 @@ pub extern "C" fn host_sendto(
     ensures answer { result ≡ answered (of_host (λ h. sendto_answer h.sockets (socket_of id) (endpoint_of addr port) octets.now (is_routed h.interface (addr_of addr))) handle.old.host) }
     ensures after { handle.new.host ≡ option_map (λ h. after_call (result_err (sendto_answer h.sockets (socket_of id) (endpoint_of addr port) octets.now (is_routed h.interface (addr_of addr)))) h (after_sendto h.sockets (socket_of id) (endpoint_of addr port) octets.now (is_routed h.interface (addr_of addr)))) handle.old.host }
 {
-    let Some(mut host) = handle.take(alloc) else {
-        return refused(Refusal::EBADF);
-    };
-    let answer = host.sendto(SocketId(id), endpoint_of(addr, port), octets);
-    handle.put(alloc, host);
-    counted(answer)
+    let peer = endpoint_of(addr, port);
+    counted(handle.ask(alloc, |host| host.sendto(SocketId(id), peer, octets)))
 }
 
 /// `Host::recvfrom`. Answers how many octets were read, and `from` is where the datagram is from then. EBADF where the handle holds no

@@ -2,10 +2,12 @@
 
 ghost use Rattle.std.specs.Prelude.{◌≡◌, Option, None, Some, option_map};
 ghost use Rattle.host.specs.HostView.{HostView};
+ghost use Rattle.std.specs.Fn.{FnOnceReturnsAtMut};
+ghost use Rattle.hostc.specs.Calls.{Asks};
 ghost use Rattle.hostc.specs.Held.{held};
 
 use crate::parts::Parts;
-use host::Host;
+use host::{Host, Refusal};
 use std::alloc::Global;
 use std::marker::Model;
 use std::mem::replace;
@@ -60,6 +62,23 @@ impl Handle {
     {
         let parts = replace(self, Handle::empty()).open(alloc)?;
         Some(parts.into_box())
+    }
+
+    /// What a call of the host that it holds answers. EBADF where it holds none.
+    pub(crate) fn ask<A, F: FnOnce(&mut Host) -> Result<A, Refusal>>(
+        &mut self,
+        alloc: Global,
+        call: F,
+    ) -> Result<A, Refusal>
+        requires { F.IsAlwaysCallable call }
+        ensures { Asks (FnOnceReturnsAtMut F.FnOnce call) self.old.host result self.new.host }
+    {
+        let Some(mut host) = self.take(alloc) else {
+            return Err(Refusal::EBADF);
+        };
+        let answer = call(&mut host);
+        self.put(alloc, host);
+        answer
     }
 
     /// Puts a host in. One that it held is gone.

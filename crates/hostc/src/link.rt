@@ -37,17 +37,13 @@ pub extern "C" fn host_next_deadline(alloc: Global, handle: &mut Handle, moment:
     ensures moment { moment.new ≡ written (λ deadline. deadline.0) (option_and_then least_deadline handle.old.host) moment.old }
     ensures same { handle.new.host ≡ handle.old.host }
 {
-    let Some(host) = handle.take(alloc) else {
-        return refused(Refusal::EBADF);
-    };
-    let answer = host.next_deadline();
-    handle.put(alloc, host);
-    match answer {
-        Some(deadline) => {
+    match handle.ask(alloc, |host| Ok(host.next_deadline())) {
+        Ok(Some(deadline)) => {
             *moment = deadline.0;
             1
         }
-        None => 0,
+        Ok(None) => 0,
+        Err(refusal) => refused(refusal),
     }
 }
 
@@ -64,12 +60,10 @@ pub extern "C" fn host_deliver(
 ) -> i64
     ensures { Delivery handle.old.host (moment_of now) isn frame.now result handle.new.host }
 {
-    let Some(mut host) = handle.take(alloc) else {
-        return NO_HOST;
-    };
-    let answer = host.deliver(Moment(now), Seq(isn), frame);
-    handle.put(alloc, host);
-    taken(answer)
+    match handle.ask(alloc, |host| Ok(host.deliver(Moment(now), Seq(isn), frame))) {
+        Ok(verdict) => taken(verdict),
+        Err(_) => NO_HOST,
+    }
 }
 
 /// `Host::next_frame`. Answers the length of the frame, 60 to 1,514 octets, which stands at the front of `out` then; 0 where none can go

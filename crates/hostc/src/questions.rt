@@ -23,12 +23,7 @@ pub extern "C" fn host_state(alloc: Global, handle: &mut Handle, id: u64) -> i64
     ensures answer { result ≡ answered (of_host (λ h. numbered state_number (state_answer h.sockets (socket_of id))) handle.old.host) }
     ensures same { handle.new.host ≡ handle.old.host }
 {
-    let Some(host) = handle.take(alloc) else {
-        return refused(Refusal::EBADF);
-    };
-    let answer = host.state(SocketId(id));
-    handle.put(alloc, host);
-    state_told(answer)
+    state_told(handle.ask(alloc, |host| host.state(SocketId(id))))
 }
 
 /// `Host::would_connect`. Answers 1, and `pair` is the pair that `host_connect` would open then, the lesser end first; 0 where it would be
@@ -46,12 +41,13 @@ pub extern "C" fn host_would_connect(
     ensures pair { pair.new ≡ written ends_of (option_and_then (λ h. pair_connected h.sockets (socket_of id) (endpoint_of addr port) (is_routed h.interface (addr_of addr))) handle.old.host) pair.old }
     ensures same { handle.new.host ≡ handle.old.host }
 {
-    let Some(host) = handle.take(alloc) else {
-        return refused(Refusal::EBADF);
-    };
-    let answer = host.would_connect(SocketId(id), endpoint_of(addr, port));
-    handle.put(alloc, host);
-    shown(answer, pair)
+    shown(
+        handle.ask(
+            alloc,
+            |host| Ok(host.would_connect(SocketId(id), endpoint_of(addr, port))),
+        ),
+        pair,
+    )
 }
 
 /// `Host::would_open`. Answers 1, and `pair` is the pair that this frame would open then, the lesser end first; 0 where it would open none.
@@ -67,12 +63,7 @@ pub extern "C" fn host_would_open(
     ensures pair { pair.new ≡ written ends_of (option_and_then (λ h. foreseen h frame.now) handle.old.host) pair.old }
     ensures same { handle.new.host ≡ handle.old.host }
 {
-    let Some(host) = handle.take(alloc) else {
-        return refused(Refusal::EBADF);
-    };
-    let answer = host.would_open(frame);
-    handle.put(alloc, host);
-    shown(answer, pair)
+    shown(handle.ask(alloc, |host| Ok(host.would_open(frame))), pair)
 }
 
 /// `Host::sockname`. Answers 0, and `end` is the socket's own end then. EBADF, also where the handle holds no host; else as
@@ -83,12 +74,7 @@ pub extern "C" fn host_sockname(alloc: Global, handle: &mut Handle, id: u64, end
     ensures end { end.new ≡ written end_of (result_ok (of_host (λ h. sockname_answer h.sockets (socket_of id)) handle.old.host)) end.old }
     ensures same { handle.new.host ≡ handle.old.host }
 {
-    let Some(host) = handle.take(alloc) else {
-        return refused(Refusal::EBADF);
-    };
-    let answer = host.sockname(SocketId(id));
-    handle.put(alloc, host);
-    shown_end(answer, end)
+    shown_end(handle.ask(alloc, |host| host.sockname(SocketId(id))), end)
 }
 
 /// `Host::peername`. Answers 0, and `end` is the end of the connection's peer then. EBADF, also where the handle holds no host; else as
@@ -99,12 +85,7 @@ pub extern "C" fn host_peername(alloc: Global, handle: &mut Handle, id: u64, end
     ensures end { end.new ≡ written end_of (result_ok (of_host (λ h. peername_answer h.sockets (socket_of id)) handle.old.host)) end.old }
     ensures same { handle.new.host ≡ handle.old.host }
 {
-    let Some(host) = handle.take(alloc) else {
-        return refused(Refusal::EBADF);
-    };
-    let answer = host.peername(SocketId(id));
-    handle.put(alloc, host);
-    shown_end(answer, end)
+    shown_end(handle.ask(alloc, |host| host.peername(SocketId(id))), end)
 }
 
 /// 0, and writes the end; or the number of the refusal.
@@ -121,16 +102,17 @@ fn shown_end(answer: Result<Endpoint, Refusal>, end: &mut End) -> i64
     }
 }
 
-/// 1, and writes the pair; 0 where there is none.
-fn shown(found: Option<Pair>, pair: &mut [End; 2]) -> i64
-    ensures answer { result ≡ answered (Ok (whether found)) }
-    ensures pair { pair.new ≡ written ends_of found pair.old }
+/// 1, and writes the pair; 0 where there is none; or the number of the refusal.
+fn shown(found: Result<Option<Pair>, Refusal>, pair: &mut [End; 2]) -> i64
+    ensures answer { result ≡ answered (numbered whether found) }
+    ensures pair { pair.new ≡ written ends_of (option_and_then (λ pair. pair) (result_ok found)) pair.old }
 {
     match found {
-        Some(found) => {
+        Ok(Some(found)) => {
             *pair = ends_of(found);
             1
         }
-        None => 0,
+        Ok(None) => 0,
+        Err(refusal) => refused(refusal),
     }
 }

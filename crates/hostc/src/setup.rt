@@ -57,12 +57,15 @@ fn made(alloc: Global, mac: Mac, addr: u32, routes: &[HostRoute]) -> Result<Box<
     Box::new(alloc, host).map_err(|_| Refusal::ENOMEM)
 }
 
-/// The table of these routes. EINVAL where they make none.
+/// The table of these routes. EINVAL where they make none: where there are over 32 of them none is read.
 fn table(given: &[HostRoute]) -> Result<Routes, Refusal>
     ensures valid { IsOk result ↔ IsValidTable given.now }
     ensures told { IfOk result (λ table. IsTold given.now table) }
     ensures refusal { IfErr result (λ refusal. refusal ≡ Refusal.EINVAL) }
 {
+    if given.len() > routes::MOST {
+        return Err(Refusal::EINVAL);
+    }
     let mut routes = Routes::new();
     for route in given {
         let Ok(prefix) = Prefix::new(addr_of(route.prefix), route.length) else {

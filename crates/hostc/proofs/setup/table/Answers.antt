@@ -8,7 +8,7 @@ use Rattle.routes.specs.declared.route.Route.{Route}
 use Rattle.routes.specs.Routes.{IsTable, HasPrefix}
 use Rattle.routes.proofs.Tables.{table-push}
 use Rattle.hostc.specs.Setup.{said_by}
-use Rattle.hostc.proofs.Tables.{no_prefix, not_taken, told_one_more}
+use Rattle.hostc.proofs.Tables.{too_many, no_prefix, not_taken, told_one_more}
 use Rattle.hostc.proofs.setup.table.Goals as goal
 
 -- src/setup.rt:74:13
