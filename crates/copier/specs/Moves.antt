@@ -1,5 +1,5 @@
 -- What each move of the two ends makes of a course.
-use Rattle.std.specs.Prelude.{◌≡◌, ℕ, ◌≤◌, Bool, true, false, List, [], ◌∷◌, ◌++◌, length, take, Option, Some, ⊤}
+use Rattle.std.specs.Prelude.{◌≡◌, ℕ, ◌≤◌, Bool, true, false, List, [], ◌∷◌, ◌++◌, length, take, Option, Some, Result, IfErr, OnOk, ⊤}
 use Rattle.tcp_state.specs.declared.calls.Received.{Received}
 use Rattle.tcp_state.specs.declared.calls.Received.TheVariants as received
 use Rattle.sockets.specs.declared.entry.SocketId.{SocketId}
@@ -8,12 +8,16 @@ use Rattle.sides.specs.declared.side.Side.{Side}
 use Rattle.sides.specs.declared.side.Side.TheVariants.{A, B}
 use Rattle.host.specs.HostView.{HostView}
 use Rattle.wire_sim.specs.Steps.{readable_on}
+use Rattle.devices.specs.Streams.{counted}
 use Rattle.devices.specs.Passages.{Passage, taken, given, MayGive, IsFairLink}
 use Rattle.copy_law.specs.CopyView.{CopyView}
 use Rattle.copy_law.specs.Course.{IsCourse}
 use Rattle.copier.specs.declared.ends.Ends.{Ends}
 use Rattle.copier.specs.declared.ends.Arrival.{Arrival}
 use Rattle.copier.specs.declared.ends.Arrival.TheVariants.{Nothing, Octets, End}
+use Rattle.copier.specs.declared.fault.CopyFault.{CopyFault}
+use Rattle.copier.specs.declared.fault.CopyFault.TheVariants.{Link}
+use Rattle.copier.specs.Faults.{link_fails}
 
 -- a copy between two ends, where so much passed through the link and was written and read
 abbrev pub copy_of : Ends → List Passage → List ℕ → List ℕ → Bool → Bool → CopyView
@@ -80,6 +84,13 @@ KeepsTold old new = (told : List Passage) → old ≡ Some told → (longer : Li
 abbrev pub Carries : Option (List Passage) → Option (List Passage) → Ends → Ends → Type 0
 Carries before after old new = (told : List Passage) → before ≡ Some told → (longer : List Passage) × (after ≡ Some longer)
     × (IsFairLink longer → IsFairLink told × ((sent read : List ℕ) (closed ended : Bool) → IsCourse (copy_of old told sent read closed ended) → IsCourse (copy_of new longer sent read closed ended)))
+
+-- Frames passed between a link and an end, or the link failed: it counts that, what passed before was fair where all that passed is, and where it did not fail a course goes on.
+pub record Passes (result : Result Bool CopyFault) (counted_before counted_after : ℕ) (told_before told_after : Option (List Passage)) (old new : Ends) : Type 0 where
+  pub failed : counted_after ≡ counted (link_fails result) counted_before
+  pub fault : IfErr result (λ fault. fault ≡ Link)
+  pub told : KeepsTold told_before told_after
+  pub carries : OnOk result (Carries told_before told_after old new)
 
 -- what a receive answers is at the front of its buffer: the first octets that were readable
 abbrev pub GivesFront : Received → List ℕ → SocketsView → SocketId → Type 0

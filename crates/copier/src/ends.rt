@@ -4,7 +4,7 @@ ghost use Rattle.std.specs.Prelude.{◌≡◌, ◌≤◌, ◌+◌, ◌<◌, ◌^
 ghost use Rattle.devices.specs.Streams.{counted};
 ghost use Rattle.devices.specs.Time.{IsToldTime};
 ghost use Rattle.copier.specs.Faults.{link_fails, IsOfHosts};
-ghost use Rattle.copier.specs.Moves.{copy_of, host_of, with_host, GoesOn, Emits, Hears, Writes, Closes, Reads, GivesFront, KeepsTold, Carries};
+ghost use Rattle.copier.specs.Moves.{copy_of, host_of, with_host, GoesOn, Emits, Hears, Writes, Closes, Reads, GivesFront, KeepsTold, Carries, Passes};
 ghost use Rattle.copy_law.specs.Course.{IsCourse, holds_pair_of, MakesSocket, Listens, Connects, clock_after};
 ghost use Rattle.host.specs.Sound.{IsSoundHost};
 ghost use Rattle.host.specs.HostView.{HostView, new_host, with_sockets};
@@ -48,6 +48,15 @@ pub(crate) enum Arrival {
     Octets(usize),
     /// The end of the stream.
     End,
+}
+
+/// Which way a frame goes between a side's host and the link.
+#[derive(Clone, Copy, Debug, PartialEq, Eq)]
+enum Leg {
+    /// From the host into the link.
+    From(Side),
+    /// Out of the link, to the host.
+    To(Side),
 }
 
 /// Two hosts. a opens a connection to b and writes, b accepts it and reads.
@@ -119,7 +128,8 @@ impl Ends {
 
     /// A side's host takes a frame. One that would open a connection again is passed over.
     fn hear(&mut self, to: Side, frame: &[u8])
-        ensures { Hears to frame.now self.old self.new }
+        ensures hears { Hears to frame.now self.old self.new }
+        ensures clock { self.new.clock ≡ self.old.clock }
     {
         match to {
             Side::A => self.hear_at_a(frame),
@@ -129,7 +139,8 @@ impl Ends {
 
     /// a takes a frame. Its connection is open, so it opens none.
     fn hear_at_a(&mut self, frame: &[u8])
-        ensures { Hears Side.A frame.now self.old self.new }
+        ensures hears { Hears Side.A frame.now self.old self.new }
+        ensures clock { self.new.clock ≡ self.old.clock }
     {
         self.sound();
         if self.a.would_open(frame).is_some() {
@@ -140,7 +151,8 @@ impl Ends {
 
     /// b takes a frame, which opens a connection once.
     fn hear_at_b(&mut self, frame: &[u8])
-        ensures { Hears Side.B frame.now self.old self.new }
+        ensures hears { Hears Side.B frame.now self.old self.new }
+        ensures clock { self.new.clock ≡ self.old.clock }
     {
         self.sound();
         if self.opened && self.b.would_open(frame).is_some() {
@@ -164,11 +176,8 @@ impl Ends {
     fn hand_over<L: Link>(&mut self, from: Side, link: &mut L) -> Result<bool, CopyFault>
         requires { IsToldTime (L.clock link.old) self.old.clock }
         ensures time { IsToldTime (L.clock link.new) self.new.clock }
-        ensures failed { L.failures link.new ≡ counted (link_fails result) (L.failures link.old) }
-        ensures fault { IfErr result (λ fault. fault ≡ CopyFault.Link) }
-        ensures told { KeepsTold (L.told link.old) (L.told link.new) }
+        ensures passes { Passes result (L.failures link.old) (L.failures link.new) (L.told link.old) (L.told link.new) self.old self.new }
         ensures leads { L.leads_to link.old link.new }
-        ensures carries { OnOk result (Carries (L.told link.old) (L.told link.new) self.old self.new) }
     {
         let mut frame = [0; FRAME_MAX];
         let Some(len) = self.emit(from, &mut frame) else {
@@ -182,11 +191,10 @@ impl Ends {
 
     /// Hands a frame of the link to a side's host, and answers whether there was one.
     fn take_in<L: Link>(&mut self, to: Side, link: &mut L) -> Result<bool, CopyFault>
-        ensures failed { L.failures link.new ≡ counted (link_fails result) (L.failures link.old) }
-        ensures fault { IfErr result (λ fault. fault ≡ CopyFault.Link) }
-        ensures told { KeepsTold (L.told link.old) (L.told link.new) }
+        requires { IsToldTime (L.clock link.old) self.old.clock }
+        ensures time { IsToldTime (L.clock link.new) self.new.clock }
+        ensures passes { Passes result (L.failures link.old) (L.failures link.new) (L.told link.old) (L.told link.new) self.old self.new }
         ensures leads { L.leads_to link.old link.new }
-        ensures carries { OnOk result (Carries (L.told link.old) (L.told link.new) self.old self.new) }
     {
         let mut frame = [0; FRAME_MAX];
         match link.recv(to, &mut frame) {
@@ -199,40 +207,33 @@ impl Ends {
         }
     }
 
-    /// Hands the frames of a side's host to the link, at most 64, and answers whether there were any.
-    fn hand_over_all<L: Link>(&mut self, from: Side, link: &mut L) -> Result<bool, CopyFault>
+    /// Hands one frame over, the one way or the other, and answers whether there was one.
+    fn pass<L: Link>(&mut self, leg: Leg, link: &mut L) -> Result<bool, CopyFault>
         requires { IsToldTime (L.clock link.old) self.old.clock }
         ensures time { IsToldTime (L.clock link.new) self.new.clock }
-        ensures failed { L.failures link.new ≡ counted (link_fails result) (L.failures link.old) }
-        ensures fault { IfErr result (λ fault. fault ≡ CopyFault.Link) }
-        ensures told { KeepsTold (L.told link.old) (L.told link.new) }
+        ensures passes { Passes result (L.failures link.old) (L.failures link.new) (L.told link.old) (L.told link.new) self.old self.new }
         ensures leads { L.leads_to link.old link.new }
-        ensures carries { OnOk result (Carries (L.told link.old) (L.told link.new) self.old self.new) }
     {
-        let mut moved = false;
-        for _ in 0..MOST_FRAMES {
-            if !self.hand_over(from, link)? {
-                return Ok(moved);
-            }
-            moved = true;
+        match leg {
+            Leg::From(side) => self.hand_over(side, link),
+            Leg::To(side) => self.take_in(side, link),
         }
-        Ok(moved)
     }
 
-    /// Hands the frames of the link to a side's host, at most 64, and answers whether there were any.
-    fn take_in_all<L: Link>(&mut self, to: Side, link: &mut L) -> Result<bool, CopyFault>
-        ensures failed { L.failures link.new ≡ counted (link_fails result) (L.failures link.old) }
-        ensures fault { IfErr result (λ fault. fault ≡ CopyFault.Link) }
-        ensures told { KeepsTold (L.told link.old) (L.told link.new) }
+    /// Hands all frames over one way, at most 64, and answers whether there were any.
+    fn pass_all<L: Link>(&mut self, leg: Leg, link: &mut L) -> Result<bool, CopyFault>
+        requires { IsToldTime (L.clock link.old) self.old.clock }
+        ensures time { IsToldTime (L.clock link.new) self.new.clock }
+        ensures passes { Passes result (L.failures link.old) (L.failures link.new) (L.told link.old) (L.told link.new) self.old self.new }
         ensures leads { L.leads_to link.old link.new }
-        ensures carries { OnOk result (Carries (L.told link.old) (L.told link.new) self.old self.new) }
     {
         let mut moved = false;
         for _ in 0..MOST_FRAMES {
-            if !self.take_in(to, link)? {
-                return Ok(moved);
+            match self.pass(leg, link) {
+                Ok(true) => moved = true,
+                Ok(false) => return Ok(moved),
+                Err(fault) => return Err(fault),
             }
-            moved = true;
         }
         Ok(moved)
     }
@@ -246,10 +247,10 @@ impl Ends {
         ensures carries { OnOk result (Carries (L.told link.old) (L.told link.new) self.old self.new) }
     {
         link.tick(self.clock);
-        let from_a = self.hand_over_all(Side::A, link)?;
-        let from_b = self.hand_over_all(Side::B, link)?;
-        let to_b = self.take_in_all(Side::B, link)?;
-        let to_a = self.take_in_all(Side::A, link)?;
+        let from_a = self.pass_all(Leg::From(Side::A), link)?;
+        let from_b = self.pass_all(Leg::From(Side::B), link)?;
+        let to_b = self.pass_all(Leg::To(Side::B), link)?;
+        let to_a = self.pass_all(Leg::To(Side::A), link)?;
         Ok(from_a | from_b | to_b | to_a)
     }
 

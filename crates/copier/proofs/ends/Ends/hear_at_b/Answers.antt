@@ -8,11 +8,11 @@ use Rattle.copier.proofs.Moving.{passes, hears-at_b}
 use Rattle.copier.proofs.ends.Ends.hear_at_b.Goals as goal
 use Rattle.copier.proofs.ends.Ends.hear_at_b.Goals.{else-self-via-then-self+else-is_some, else-self-via-else-self, then-self-2, else-self-2}
 
-pub returns-then-is_some : goal.returns-then-is_some
-returns-then-is_some c = passes c.args.self.now _ B c.args.frame.now c.sound.ensures.a c.sound.ensures.b refl
+pub returns-then-is_some-clause-hears : goal.returns-then-is_some-clause-hears
+returns-then-is_some-clause-hears c = passes c.args.self.now _ B c.args.frame.now c.sound.ensures.a c.sound.ensures.b refl
 
-pub returns : goal.returns
-returns c =
+pub returns-clause-hears : goal.returns-clause-hears
+returns-clause-hears c =
     let e : Ends = c.args.self.now in
     let once : (e.opened ≡ false) ⊎ (foreseen e.b c.args.frame.now ≡ None) = elim c.else-self.branch [
       | else-self-via-then-self+else-is_some w ↦ inr (sym w.would_open.ensures ∙ none_of w.would_open.result (sym w.is_some.ensures ∙ w.if-is_some.false))

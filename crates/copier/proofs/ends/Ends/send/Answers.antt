@@ -1,4 +1,4 @@
-use Rattle.std.proofs.Common.{◌≡◌, ◌-◌, ◌≤◌, Ok, min, length, take, arith, sym, ◌∙◌, ap}
+use Rattle.std.proofs.Common.{◌≡◌, ◌-◌, ◌≤◌, Ok, length, take, arith, sym, ◌∙◌, ap}
 use Rattle.std.proofs.lemmas.List.{length-take, take-take}
 use Rattle.host.specs.HostView.{HostView}
 use Rattle.sockets.specs.Calls.{send_answer}

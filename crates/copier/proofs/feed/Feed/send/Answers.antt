@@ -1,4 +1,4 @@
-use Rattle.std.proofs.Common.{◌-◌, length, drop, arith, refl}
+use Rattle.std.proofs.Common.{◌-◌, drop, arith, refl}
 use Rattle.std.proofs.lemmas.List.{length-take}
 use Rattle.copier.proofs.Feeding.{fed-sent}
 use Rattle.copier.proofs.feed.Feed.send.Goals as goal
