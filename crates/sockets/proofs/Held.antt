@@ -59,7 +59,7 @@ unheld here there (x ∷ xs) apart all none =
     (λ other. rw (joins_between here there x.role apart all.0 other) (unheld here there xs apart all.1 (ap (λ b. cond b (Some x) (find (is_between here there) xs)) (sym other) ∙ none)))
 
 -- a connection that is not CLOSED is of its pair
-joins_own : (c : View) (l : Option SocketId) → is_closed c.state ≡ false → joins (pair_of c.local c.peer) (Connected c l) ≡ true
+pub joins_own : (c : View) (l : Option SocketId) → is_closed c.state ≡ false → joins (pair_of c.local c.peer) (Connected c l) ≡ true
 joins_own c l live = step (is_le (endpoint_cmp c.local c.peer))
   where
     own : is_live_between c.local c.peer (Connected c l) ≡ true

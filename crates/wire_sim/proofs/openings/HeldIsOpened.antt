@@ -34,7 +34,7 @@ use Rattle.sockets.specs.Lost.{role_after_giving_up}
 use Rattle.sockets.specs.SocketsView.{SocketsView}
 use Rattle.sockets.specs.Unreachable as table_errors
 use Rattle.wire_sim.proofs.lists.FoundAfterChange.{none-removed}
-use Rattle.wire_sim.proofs.tables.PairOfPorts.{same_end-true}
+use Rattle.sockets.proofs.Ends.{same_end-true}
 use Rattle.sockets.proofs.KeptEnds.{KeepsEnds, keeps-nothing, keeps-shutdown, keeps-event, keeps-first}
 
 -- Lists.

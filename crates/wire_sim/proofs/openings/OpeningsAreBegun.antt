@@ -38,7 +38,8 @@ use Rattle.wire_sim.proofs.tables.CallsOnTable.{outcome, not_refused, connects-o
 use Rattle.wire_sim.proofs.openings.OctetsAreCovered.{as_list, opens}
 use Rattle.wire_sim.proofs.lists.FoundAfterChange.{found-made}
 use Rattle.wire_sim.proofs.openings.HeldIsOpened.{joined, unheld_connecting, unheld-changed_at}
-use Rattle.wire_sim.proofs.tables.PairOfPorts.{joins-own, unheld-between}
+use Rattle.sockets.proofs.Held.{joins_own}
+use Rattle.wire_sim.proofs.tables.PairOfPorts.{unheld-between}
 use Rattle.wire_sim.proofs.pairing.WorldAsPairings.{told}
 use Rattle.wire_sim.proofs.pairing.ConnectIsMove.{table-ours}
 use Rattle.wire_sim.proofs.runs.RunsAreLawful.{IsOrderly, orderly, orderly-swapped, openings-with}
@@ -84,7 +85,7 @@ connecting-host limit hs ts n trace w isn id peer place may =
     record {
       pair = pair;
       unheld = ap (option_map (λ (e : Entry). e.id)) free;
-      held = ap (λ w. holder_id w pair) is_next ∙ ap (option_map (λ (e : Entry). e.id)) (found-made (is_socket id) (is_of_pair pair) (with_role g) own.entries x k.found free (joins-own c None refl));
+      held = ap (λ w. holder_id w pair) is_next ∙ ap (option_map (λ (e : Entry). e.id)) (found-made (is_socket id) (is_of_pair pair) (with_role g) own.entries x k.found free (joins_own c None refl));
       others = λ p q none. elim (joined c None p q) [
         | inl same ↦ inl same
         | inr out ↦ inr (ap (λ (w : SocketsView). find (is_of_pair (pair_of p q)) w.entries) is_next ∙ unheld-changed_at (is_socket id) g (pair_of p q) own.entries (unheld_connecting local peer isn.0 (pair_of p q) out) none)

@@ -39,7 +39,9 @@ use Rattle.wire_sim.proofs.lists.FoundAfterChange.{All-find, find-passes, find-a
 use Rattle.sockets.proofs.KeptEnds.{keeps-event}
 use Rattle.wire_sim.proofs.tables.EntryIsMade.{Makes, free-later, end-unmade}
 use Rattle.wire_sim.proofs.openings.OpeningIsFound.{opening-found, opening-only, opening-at_parts}
-use Rattle.wire_sim.proofs.tables.PairOfPorts.{same_end-true, joins-own, unheld-between, unheld-closed}
+use Rattle.sockets.proofs.Ends.{same_end-true}
+use Rattle.sockets.proofs.Held.{joins_own}
+use Rattle.wire_sim.proofs.tables.PairOfPorts.{unheld-between, unheld-closed}
 use Rattle.wire_sim.proofs.pairing.WorldAsPairings.{told, Bag, Projects, projects-turned}
 use Rattle.wire_sim.proofs.pairing.ConnectIsMove.{table-ours}
 use Rattle.wire_sim.proofs.pairing.OpeningIsMove.{projects-made}
@@ -263,7 +265,7 @@ projects-began limit hs ts a b own own' other bag openings trace isn place local
     ] in
     let was_free : holder_id own pair ≡ None = ap (option_map (λ (e : Entry). e.id)) free in
     let holds : holder_id own' pair ≡ Some id =
-    ap (λ w. holder_id w pair) becomes ∙ ap (option_map (λ (e : Entry). e.id)) (find-added (is_of_pair pair) own.entries x free (joins-own c (Some listener.id) refl)) in
+    ap (λ w. holder_id w pair) becomes ∙ ap (option_map (λ (e : Entry). e.id)) (find-added (is_of_pair pair) own.entries x free (joins_own c (Some listener.id) refl)) in
     let noted : opened_by_frame openings hs place pair own own' ≡ Some o =
     ap (λ w. held_anew openings hs place pair w (holder_id own' pair)) was_free ∙ ap (held_anew openings hs place pair None) holds in
     let unsent : sent_on hs id trace ≡ [] = ap (λ (a : Account). a.gave) (h.own_table.silent id unopened (inl above)) in

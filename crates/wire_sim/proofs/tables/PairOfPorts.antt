@@ -17,27 +17,16 @@ use Rattle.sockets.specs.Entries.{is_live_between, is_between, joins, is_of_pair
 use Rattle.sockets.specs.SocketsView.{SocketsView, holder_id}
 use Rattle.wire_sim.specs.Tallies.{same_pair}
 use Rattle.wire_sim.proofs.lists.FoundAfterChange.{find-passes}
-use Rattle.wire_sim.proofs.tables.TableById.{AreSole, role_at, found-role, none-role, eqb-same, same_addr-same}
+use Rattle.sockets.proofs.Ends.{same_addr-same, same_addr-true, same_end-same, same_end-true}
+use Rattle.sockets.proofs.Held.{joins_own}
+use Rattle.wire_sim.proofs.tables.TableById.{AreSole, role_at, found-role, none-role}
 
 -- Tests of addresses, endpoints and pairs.
-
-same_addr-true : (a b : Addr) → same_addr a b ≡ true → a ≡ b
-same_addr-true a b e = ap (λ xs. let x : Addr = record { 0 = xs } in x) (same_text a.0 b.0 (sym e))
 
 -- the test of two addresses is symmetric
 pub same_addr-other : (a b : Addr) → same_addr a b ≡ false → same_addr b a ≡ false
 same_addr-other a b other = false_from_ne_true (same_addr b a)
     (λ e. let bad : true ≡ false = sym (same_addr-same a b (sym (same_addr-true b a e))) ∙ other in cc)
-
-pub same_end-same : (a : Endpoint) → same_end a a ≡ true
-same_end-same a = and_from (same_addr a.addr a.addr) (a.port == a.port) (same_addr-same a.addr a.addr refl) (eqb-same a.port)
-
-pub same_end-true : (a b : Endpoint) → same_end a b ≡ true → a ≡ b
-same_end-true a b e =
-    let parts = and_parts (same_addr a.addr b.addr) (a.port == b.port) e in
-    let addr : a.addr ≡ b.addr = same_addr-true a.addr b.addr parts.0 in
-    let port : a.port ≡ b.port = eqb-true a.port b.port parts.1 in
-    ap (λ x. let y : Endpoint = record { addr = x; port = a.port } in y) addr ∙ ap (λ n. let y : Endpoint = record { addr = b.addr; port = n } in y) port
 
 -- a pair is the same as itself ..
 pub same_pair-same : (pair : Pair) → same_pair pair pair ≡ true
@@ -52,21 +41,6 @@ same_pair-true a b e =
     ap (λ x. let y : Pair = record { first = x; second = a.second } in y) first ∙ ap (λ x. let y : Pair = record { first = b.first; second = x } in y) second
 
 -- Who holds a pair.
-
--- a connection that is not CLOSED is one of its pair
-pub joins-own : (c : View) (l : Option SocketId) → is_closed c.state ≡ false → joins (pair_of c.local c.peer) (Connected c l) ≡ true
-joins-own c l live = step (is_le (endpoint_cmp c.local c.peer))
-  where
-    own : is_live_between c.local c.peer (Connected c l) ≡ true
-    own = and_from (not (is_closed c.state)) (same_end c.local c.local && same_end c.peer c.peer) (ap not live) (and_from (same_end c.local c.local) (same_end c.peer c.peer) (same_end-same c.local) (same_end-same c.peer))
-
-    second : (b d : Bool) → d ≡ true → (b || d) ≡ true
-    second true d e = refl
-    second false d e = e
-
-    step : (b : Bool) → joins (cond b (record { first = c.local; second = c.peer }) (record { first = c.peer; second = c.local })) (Connected c l) ≡ true
-    step true = ap (λ b. b || is_live_between c.peer c.local (Connected c l)) own
-    step false = second (is_live_between c.peer c.local (Connected c l)) (is_live_between c.local c.peer (Connected c l)) own
 
 -- a role with a connection from our address
 abbrev pub IsOurs : Addr → Role → Type 0
@@ -118,7 +92,7 @@ unheld-closed xs pair i c l none at same = decide (is_closed c.state) refl
     decide : (b : Bool) → is_closed c.state ≡ b → b ≡ true
     decide true is = refl
     decide false is =
-        let bad : true ≡ false = sym (joins-own c l is) ∙ (ap (λ p. joins p (Connected c l)) same ∙ none-role (joins pair) xs i (Connected c l) none at) in
+        let bad : true ≡ false = sym (joins_own c l is) ∙ (ap (λ p. joins p (Connected c l)) same ∙ none-role (joins pair) xs i (Connected c l) none at) in
         cc
 
 -- a host without a holder of a pair

@@ -206,15 +206,6 @@ pub record IsTable (side : Side) (own : Addr) (last : ℕ) (xs : List Entry) (os
   pub later : (id : SocketId) → last < id.0 → find (is_opening_at side id) os ≡ None
   pub silent : (id : SocketId) → find (is_opening_at side id) os ≡ None → MayOpen last xs id → told id ≡ untold
 
--- Tests.
-
-pub pointwise-same : (xs : List ℕ) → pointwise nat_eq xs xs ≡ true
-pointwise-same [] = refl
-pointwise-same (x ∷ xs) = ap (λ b. b && pointwise nat_eq xs xs) (eqb-same x) ∙ pointwise-same xs
-
-pub same_addr-same : (a b : Addr) → a ≡ b → same_addr a b ≡ true
-same_addr-same a b same = ap (λ x. same_addr a x) (sym same) ∙ pointwise-same a.0
-
 -- an entry by its parts
 pub entry_with : (e : Entry) (r : Role) → e.role ≡ r → ◌≡◌ {A = Entry} e (record { id = e.id; role = r })
 entry_with e r same = ap (λ r. let x : Entry = record { id = e.id; role = r } in x) same
