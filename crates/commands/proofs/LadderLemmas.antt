@@ -19,14 +19,14 @@ use Rattle.ladder.specs.declared.passage.Passage.TheVariants.{Sent}
 use Rattle.ladder.specs.declared.happened.Happened.{Happened}
 use Rattle.ladder.specs.declared.happened.Happened.TheVariants.{Passed}
 use Rattle.ladder.specs.Passages.{passage_of}
-use Rattle.std.proofs.Common.{codes, IfOk, OnOk, IfErr, IfSome, slice_get}
+use Rattle.std.proofs.Common.{codes, IfOk, OnOk, IfErr, IfSome}
 use Rattle.std.specs.Io.KnownBytes.{Appends}
 use Rattle.std.proofs.lemmas.Result.{IfOk-weaker}
 use Rattle.sides.specs.declared.side.Side.TheVariants.{A, B}
 use Rattle.script.specs.declared.action.Action.{Action}
 use Rattle.script.specs.declared.lines.Command.TheVariants.{At, Pass}
 use Rattle.script.specs.Words.{lines_of}
-use Rattle.script.specs.Script.{command_in, limit_of, limit_said, limits_of}
+use Rattle.script.specs.Script.{command_in, limit_of, limit_said}
 use Rattle.script.specs.declared.lines.Item.{Item}
 use Rattle.std.specs.Result.{OnErr}
 use Rattle.script.specs.Events.{IsEventOf}
@@ -40,7 +40,6 @@ use Rattle.commands.specs.Play.{ComesTo, Carries, Delivers, Does, IsFirst, pass_
 use Rattle.commands.specs.Recording.{TakesCapture}
 use Rattle.commands.specs.Laddered.{CarriesEach, HasBrought, none, one_more, HasRun, starts, goes_on, HasDone, nothing, limits, does, recorded, IsCut, IsLeftAt, TakesBothOf, TakesLadder, TakesLadderOf, Tells, carried_by, ladder_in}
 use Rattle.commands.proofs.PlayLemmas.{delivered_last}
-use Rattle.commands.proofs.RunLemmas.{limit_said_once}
 
 -- one frame more is brought, and what it came to is noted behind what the others came to
 pub brought_more : (to : Side) (isn : Seq) (frames : List ℕ) (i : ℕ) (outcome : Result Answer Unfair) (passages noted : List (Option Passage))
@@ -180,26 +179,22 @@ taken_by octets (Err Write) numbering first v old new is_first took = (v, (first
 taken_by octets (Err NoMemory) numbering first v old new is_first took = took.1
 
 -- the limit that the world has is the one that the script says
-first_by : (octets : List ℕ) (limit : Option ℕ) (first : WorldView) → option_to_list limit ≡ limits_of (lines_of octets) → IsFirst limit first →
-    IsFirst (limit_of octets) first
-first_by octets limit first limited is_first = subst (λ n. IsFirst n first) (limit_said_once limit ∙ ap (λ l. slice_get l 0) limited) is_first
-
 pub ladder_by : (told : Option (List ℕ)) (octets : List ℕ) (r : Result (Unit {0}) TextFault) (numbering : Numbering) (limit : Option ℕ) (first v : WorldView)
-    (old new : Option (List ℕ)) → IfSome told (λ t. octets ≡ t) → option_to_list limit ≡ limits_of (lines_of octets) → IsFirst limit first →
+    (old new : Option (List ℕ)) → IfSome told (λ t. octets ≡ t) → limit ≡ limit_of octets → IsFirst limit first →
     TakesLadder r numbering (lines_of octets) first v old new → IfSome told (λ t. TakesLadderOf t r numbering old new)
 ladder_by None octets r numbering limit first v old new all limited is_first took = tt
 ladder_by (Some t) octets r numbering limit first v old new all limited is_first took =
     subst (λ x. TakesLadderOf x r numbering old new) all
-    (taken_by octets r numbering first v old new (first_by octets limit first limited is_first) took)
+    (taken_by octets r numbering first v old new (subst (λ n. IsFirst n first) limited is_first) took)
 
 pub both_by : (told : Option (List ℕ)) (octets : List ℕ) (ends : Ends) (numbering : Numbering) (limit : Option ℕ) (first v : WorldView)
-    (old new old_capture new_capture : Option (List ℕ)) → IfSome told (λ t. octets ≡ t) → option_to_list limit ≡ limits_of (lines_of octets) →
+    (old new old_capture new_capture : Option (List ℕ)) → IfSome told (λ t. octets ≡ t) → limit ≡ limit_of octets →
     IsFirst limit first → TakesLadder ends.run numbering (lines_of octets) first v old new → TakesCapture ends.capture v old_capture new_capture →
     IfSome told (λ t. TakesBothOf t ends numbering old new old_capture new_capture)
 both_by None octets ends numbering limit first v old new old_capture new_capture all limited is_first took captured = tt
 both_by (Some t) octets ends numbering limit first v old new old_capture new_capture all limited is_first took captured =
     subst (λ x. TakesBothOf x ends numbering old new old_capture new_capture) all
-    (v, (first, first_by octets limit first limited is_first, took), captured)
+    (v, (first, subst (λ n. IsFirst n first) limited is_first, took), captured)
 
 -- a line that says a command was done
 pub done_said : {T E : Type 0} (r : Result T E) (line : List ℕ) (command : Command) (w v : WorldView) (before after : List Happened) → item_of line ≡ Some (Do command) →

@@ -10,7 +10,7 @@ use Rattle.commands.specs.declared.fault.TextFault.{TextFault}
 use Rattle.commands.specs.declared.fault.TextFault.TheVariants.{Line, TooLong, NotHex, Header, Record, Read, Write, NoMemory}
 use Rattle.std.specs.Option.{IsSomeAnd}
 use Rattle.script.specs.Words.{lines_of}
-use Rattle.script.specs.Script.{limit_of, limits_of, commands_of}
+use Rattle.script.specs.Script.{limit_of, commands_of}
 use Rattle.commands.specs.Sim.{write_fails_in, is_before_run, run_in_all}
 use Rattle.devices.specs.Streams.{TakesFront}
 use Rattle.commands.specs.Moved.{TakesAllBut}
@@ -32,14 +32,7 @@ is_first : (limit : Option ℕ) → IsFirst limit (first_of limit)
 unfolding first_of
 is_first limit = record { a = set_up A; b = set_up B; a_is = is_set_up A; b_is = is_set_up B; fresh = refl }
 
--- memory ran out before anything was run
-pub nothing_told : (r : Result (Unit {0}) TextFault) (fault : TextFault) (limit : Option ℕ) (commands : List Command) (old : Option (List ℕ)) →
-    IsErrAnd r (λ e. e ≡ fault) → fault ≡ NoMemory → TakesPrinted r limit commands old old
-nothing_told (Ok done) fault limit commands old is memory = absurd is
-nothing_told (Err e) fault limit commands old is memory =
-    rw (is, memory) ([], commands, limit_line limit ++ [], refl, ([], first_of limit, first_of limit, is_first limit, starts, refl), inr (Keeps-appends old old (kept old)))
-
--- nor anything of a world that was made
+-- memory ran out before anything was run in a world that was made
 pub nothing_run : (r : Result (Unit {0}) TextFault) (fault : TextFault) (limit : Option ℕ) (commands : List Command) (world : WorldView)
     (old : Option (List ℕ)) → IsErrAnd r (λ e. e ≡ fault) → fault ≡ NoMemory → IsFirst limit world → TakesRun r limit commands world old old
 nothing_run (Ok done) fault limit commands world old is memory first = absurd is
@@ -214,9 +207,6 @@ no_write_in_line fault o (inl memory) is = cc
 no_write_in_line fault None (inr bad) is = absurd bad
 no_write_in_line fault (Some n) (inr bad) is = cc
 
-pub no_write_of_memory : (fault : TextFault) → fault ≡ NoMemory → fault ≡ Write → ⊥
-no_write_of_memory fault memory is = cc
-
 -- the limit of a script is the one that its lines say
 pub limit_said_once : (limit : Option ℕ) → limit ≡ slice_get (option_to_list limit) 0
 limit_said_once None = refl
@@ -225,23 +215,21 @@ limit_said_once (Some n) = refl
 -- a run of a script's commands is what its octets ask for
 pub told_by : (told : Option (List ℕ)) (octets : List ℕ) (r : Result (Unit {0}) TextFault) (limit : Option ℕ) (commands : List Command)
     (old new : Option (List ℕ)) → IfSome told (λ t. octets ≡ t) → commands ≡ commands_of (lines_of octets) →
-    option_to_list limit ≡ limits_of (lines_of octets) → TakesPrinted r limit commands old new → IfSome told (λ t. TakesPrintedBy t r old new)
+    limit ≡ limit_of octets → TakesPrinted r limit commands old new → IfSome told (λ t. TakesPrintedBy t r old new)
 told_by None octets r limit commands old new all said limited taken = tt
 told_by (Some t) octets r limit commands old new all said limited taken =
-    let one : limit ≡ limit_of octets = limit_said_once limit ∙ ap (λ l. slice_get l 0) limited in
     subst (λ x. TakesPrintedBy x r old new) all
-    (subst (λ x. TakesPrinted r x (commands_of (lines_of octets)) old new) one (subst (λ x. TakesPrinted r limit x old new) said taken))
+    (subst (λ x. TakesPrinted r x (commands_of (lines_of octets)) old new) limited (subst (λ x. TakesPrinted r limit x old new) said taken))
 
 -- and in which world it ended
 pub run_by : (told : Option (List ℕ)) (octets : List ℕ) (ends : Ends) (limit : Option ℕ) (commands : List Command) (w : WorldView)
     (old new old_capture new_capture : Option (List ℕ)) → IfSome told (λ t. octets ≡ t) → commands ≡ commands_of (lines_of octets) →
-    option_to_list limit ≡ limits_of (lines_of octets) → TakesRun ends.run limit commands w old new →
+    limit ≡ limit_of octets → TakesRun ends.run limit commands w old new →
     TakesCapture ends.capture w old_capture new_capture → IfSome told (λ t. TakesBoth t ends old new old_capture new_capture)
 run_by None octets ends limit commands w old new old_capture new_capture all said limited taken captured = tt
 run_by (Some t) octets ends limit commands w old new old_capture new_capture all said limited taken captured =
-    let one : limit ≡ limit_of octets = limit_said_once limit ∙ ap (λ l. slice_get l 0) limited in
     subst (λ x. TakesBoth x ends old new old_capture new_capture) all (
       w,
-      subst (λ x. TakesRun ends.run x (commands_of (lines_of octets)) w old new) one (subst (λ x. TakesRun ends.run limit x w old new) said taken),
+      subst (λ x. TakesRun ends.run x (commands_of (lines_of octets)) w old new) limited (subst (λ x. TakesRun ends.run limit x w old new) said taken),
       captured,
     )

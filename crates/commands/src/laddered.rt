@@ -22,12 +22,12 @@ use crate::input::whole_script;
 use crate::output::{flush, write_all};
 use crate::recording::record;
 use crate::sim::{
-    Ends, MOST_EVENTS, MOST_FRAMES, emit, give, happen, make_room, new_world, style, text_of,
+    Begun, Ends, MOST_EVENTS, MOST_FRAMES, begin, emit, give, happen, make_room, style, text_of,
     text_of_pass,
 };
 use devices::{Sink, Source};
 use ladder::{Errand, Happened, Line, Node, Nodes, Numbering, Passage, Run, Text};
-use script::{Action, Command, Item, Script, event, split_lines};
+use script::{Action, Command, Item, event, split_lines};
 use std::alloc::{AllocError, Global};
 use tcp_segment::Seq;
 use wire_sim::{Event, Side, World, address, mac};
@@ -48,8 +48,7 @@ pub fn sim_ladder<R: Source, W: Sink>(
     ensures told { IfSome (R.remaining script.old) (λ octets. TakesLadderOf octets result numbering (W.taken out.old) (W.taken out.new)) }
 {
     let octets = whole_script(alloc, script)?;
-    let script = Script::parse(alloc, octets.as_slice())?;
-    let mut world = new_world(alloc, script.limit)?;
+    let Begun { mut world, .. } = begin(alloc, octets.as_slice())?;
     run(alloc, octets.as_slice(), numbering, &mut world, out)
 }
 
@@ -72,8 +71,7 @@ pub fn sim_ladder_captured<R: Source, W: Sink, C: Sink>(
         (λ octets. TakesBothOf octets ends numbering (W.taken out.old) (W.taken out.new) (C.taken capture.old) (C.taken capture.new))) }
 {
     let octets = whole_script(alloc, script)?;
-    let script = Script::parse(alloc, octets.as_slice())?;
-    let mut world = new_world(alloc, script.limit)?;
+    let Begun { mut world, .. } = begin(alloc, octets.as_slice())?;
     let run = run(alloc, octets.as_slice(), numbering, &mut world, out);
     let capture = record(&world, capture);
     Ok(Ends { run, capture })

@@ -1,7 +1,9 @@
 //! `hostd sim`: runs a script on a world of two hosts and prints what they answer.
 
 ghost use Rattle.std.specs.Prelude.{◌≡◌, ◌⊎◌, true, false, ◌≤◌, ◌<◌, ◌^◌, length, take, string_bytes, IfOk, IfErr, IfSome, OnOk, OnErr};
-ghost use Rattle.std.specs.Option.{ForSome};
+ghost use Rattle.std.specs.Option.{ForSome, IsSomeAnd};
+ghost use Rattle.script.specs.Words.{lines_of};
+ghost use Rattle.script.specs.Script.{commands_of, first_bad_line, limit_of};
 ghost use Rattle.devices.specs.Streams.{counted};
 ghost use Rattle.commands.specs.Sim.{read_fails, write_fails_in, is_before_run, run_in_all, capture_in_all, first_fault, IsDue, IsFaultDue};
 ghost use Rattle.script.specs.Text.{style_of};
@@ -40,8 +42,8 @@ pub fn sim<R: Source, W: Sink>(alloc: Global, script: &mut R, out: &mut W) -> Re
     ensures printed { IfSome (R.remaining script.old) (λ octets. TakesPrintedBy octets result (W.taken out.old) (W.taken out.new)) }
 {
     let octets = whole_script(alloc, script)?;
-    let script = Script::parse(alloc, octets.as_slice())?;
-    run(alloc, &script, out)
+    let Begun { script, mut world } = begin(alloc, octets.as_slice())?;
+    run(alloc, &script, &mut world, out)
 }
 
 /// How a run with a capture ended.
@@ -84,26 +86,34 @@ pub fn sim_captured<R: Source, W: Sink, C: Sink>(
         (λ octets. TakesBoth octets ends (W.taken out.old) (W.taken out.new) (C.taken capture.old) (C.taken capture.new))) }
 {
     let octets = whole_script(alloc, script)?;
-    let script = Script::parse(alloc, octets.as_slice())?;
-    let mut world = new_world(alloc, script.limit)?;
-    let run = run_in(alloc, &script, &mut world, out);
+    let Begun { script, mut world } = begin(alloc, octets.as_slice())?;
+    let run = run(alloc, &script, &mut world, out);
     let capture = record(&world, capture);
     Ok(Ends { run, capture })
 }
 
-/// Runs a script's commands, and hands on what they print, also where a fault ends the run.
-fn run<W: Sink>(alloc: Global, script: &Script<'_>, out: &mut W) -> Result<(), TextFault>
-    ensures written { W.failures out.new ≡ counted (write_fails_in result) (W.failures out.old) }
-    ensures faults { IfErr result (λ fault. is_before_run fault ≡ false) }
-    ensures flushed { OnOk result (W.is_flushed out.new ≡ true) }
-    ensures printed { TakesPrinted result script.now.limit script.now.commands.items (W.taken out.old) (W.taken out.new) }
+/// A script, and the world in which nothing of it happened yet.
+#[derive(Drop)]
+pub(crate) struct Begun<'a> {
+    pub(crate) script: Script<'a>,
+    pub(crate) world: World,
+}
+
+/// The script that octets are, and its world. `Line` where they are none, `NoMemory` for want of memory.
+pub(crate) fn begin<'a>(alloc: Global, octets: &'a [u8]) -> Result<Begun<'a>, TextFault>
+    ensures good { OnOk result (first_bad_line octets.entry.now ≡ None) }
+    ensures commands { IfOk result (λ begun. begun.script.commands.items ≡ commands_of (lines_of octets.entry.now)) }
+    ensures limit { IfOk result (λ begun. begun.script.limit ≡ limit_of octets.entry.now) }
+    ensures world { IfOk result (λ begun. IsFirst begun.script.limit begun.world.seen) }
+    ensures bad { IfErr result (λ fault. (fault ≡ TextFault.NoMemory) ⊎ IsSomeAnd (first_bad_line octets.entry.now) (λ n. fault ≡ TextFault.Line n)) }
 {
-    let mut world = new_world(alloc, script.limit)?;
-    run_in(alloc, script, &mut world, out)
+    let script = Script::parse(alloc, octets)?;
+    let world = new_world(alloc, script.limit)?;
+    Ok(Begun { script, world })
 }
 
 /// Runs a script's commands in a world in which nothing happened yet, and hands on what they print, also where a fault ends the run.
-fn run_in<W: Sink>(
+fn run<W: Sink>(
     alloc: Global,
     script: &Script<'_>,
     world: &mut World,
@@ -156,7 +166,7 @@ fn play<W: Sink>(
 }
 
 /// A fresh world. The two hosts differ in address and MAC, so it is made unless there is no memory.
-pub fn new_world(alloc: Global, limit: Option<u64>) -> Result<World, TextFault>
+fn new_world(alloc: Global, limit: Option<u64>) -> Result<World, TextFault>
     requires { ForSome limit (λ n. (1 ≤ n) × (n ≤ 2 ^ 30)) }
     ensures world { IfOk result (λ world. IsFirst limit world.seen) }
     ensures faults { IfErr result (λ fault. fault ≡ TextFault.NoMemory) }

@@ -7,10 +7,10 @@ returns-clause-read g c = rw (ran_is_no_read c.run.result c.run.ensures.faults) 
 
 pub returns-clause-due : goal.returns-clause-due
 returns-clause-due g c =
-    due_ran _ c.in_ok-octets.octets.items c.run.result c.in_ok-octets.ensures.all c.in_ok-octets.ensures.short (rw c.as_slice.ensures.value at c.in_ok-script.ensures.good)
+    due_ran _ c.in_ok-octets.octets.items c.run.result c.in_ok-octets.ensures.all c.in_ok-octets.ensures.short (rw c.as_slice.ensures.value at c.in_ok-world.ensures.good)
     c.run.ensures.faults
 
 pub returns-clause-told : goal.returns-clause-told
 returns-clause-told g c =
-    ladder_by _ c.in_ok-octets.octets.items c.run.result _ _ _ _ _ _ c.in_ok-octets.ensures.all (rw c.as_slice.ensures.value at c.in_ok-script.ensures.limit)
+    ladder_by _ c.in_ok-octets.octets.items c.run.result _ _ _ _ _ _ c.in_ok-octets.ensures.all (rw c.as_slice.ensures.value at c.in_ok-world.ensures.limit)
     c.in_ok-world.ensures.world (rw c.as_slice-2.ensures.value at c.run.ensures.told)

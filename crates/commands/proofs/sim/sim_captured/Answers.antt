@@ -1,6 +1,6 @@
 use Rattle.commands.specs.declared.sim.Ends.{Ends}
-use Rattle.commands.proofs.SimLemmas.{passed_as, due_ran}
-use Rattle.commands.proofs.RunLemmas.{as_printed, none_told_all, no_write_before, no_write_in_line, no_write_of_memory, run_by, told_by}
+use Rattle.commands.proofs.SimLemmas.{due_ran}
+use Rattle.commands.proofs.RunLemmas.{as_printed, none_told_all, no_write_before, no_write_in_line, run_by, told_by}
 use Rattle.commands.proofs.sim.sim_captured.Goals as goal
 
 pub returns-in_err-octets-clause-printed : goal.returns-in_err-octets-clause-printed
@@ -10,26 +10,22 @@ returns-in_err-octets-clause-printed g c =
 pub returns-in_err-script-clause-printed : goal.returns-in_err-script-clause-printed
 returns-in_err-script-clause-printed g c =
     none_told_all _ c.from_residual-in_err-script.result _ _ c.from_residual-in_err-script.ensures.1
-    (no_write_in_line _ _ (passed_as _ _ c.in_err-script.ensures.bad))
-
-pub returns-in_err-world-clause-printed : goal.returns-in_err-world-clause-printed
-returns-in_err-world-clause-printed g c =
-    none_told_all _ c.from_residual-in_err-world.result _ _ c.from_residual-in_err-world.ensures.1 (no_write_of_memory _ c.in_err-world.ensures.faults)
+    (no_write_in_line _ _ c.in_err-script.ensures.bad)
 
 pub returns-clause-due : goal.returns-clause-due
 returns-clause-due g c =
-    due_ran _ c.in_ok-octets.octets.items c.run_in-run.result c.in_ok-octets.ensures.all c.in_ok-octets.ensures.short
-    (rw c.as_slice.ensures.value at c.in_ok-script.ensures.good) c.run_in-run.ensures.faults
+    due_ran _ c.in_ok-octets.octets.items c.run-run.result c.in_ok-octets.ensures.all c.in_ok-octets.ensures.short
+    (rw c.as_slice.ensures.value at c.in_ok-script.ensures.good) c.run-run.ensures.faults
 
 pub returns-clause-printed : goal.returns-clause-printed
 returns-clause-printed g c =
-    told_by _ c.in_ok-octets.octets.items c.run_in-run.result _ _ _ _ c.in_ok-octets.ensures.all
+    told_by _ c.in_ok-octets.octets.items c.run-run.result _ _ _ _ c.in_ok-octets.ensures.all
     (rw c.as_slice.ensures.value at c.in_ok-script.ensures.commands) (rw c.as_slice.ensures.value at c.in_ok-script.ensures.limit)
-    (as_printed _ _ _ _ _ _ c.run_in-run.ensures.printed)
+    (as_printed _ _ _ _ _ _ c.run-run.ensures.printed)
 
 pub returns-clause-told : goal.returns-clause-told
 returns-clause-told g c =
-    let ends : Ends = record { run = c.run_in-run.result; capture = c.record-capture.result } in
-    run_by _ c.in_ok-octets.octets.items ends _ _ c.run_in-run.new.world.seen _ _ _ _ c.in_ok-octets.ensures.all
+    let ends : Ends = record { run = c.run-run.result; capture = c.record-capture.result } in
+    run_by _ c.in_ok-octets.octets.items ends _ _ c.run-run.new.world.seen _ _ _ _ c.in_ok-octets.ensures.all
     (rw c.as_slice.ensures.value at c.in_ok-script.ensures.commands) (rw c.as_slice.ensures.value at c.in_ok-script.ensures.limit)
-    c.run_in-run.ensures.printed c.record-capture.ensures.taken
+    c.run-run.ensures.printed c.record-capture.ensures.taken
