@@ -278,22 +278,22 @@ used_answered at v s order same d t on lives =
     let open_yet : is_closed (after_ack v s.acknowledgement).state ≡ false = ap is_closed (sym text.2) ∙ sym fin.2 ∙ lives in
     let r = reached v s.acknowledgement on open_yet in
     let o = on_stands (is_opening v.state) (is_syn_received v.state) (nat_lt (at.una + outstanding v.sending) at.ack) (nat_le at.ack (at.una + outstanding v.sending)) (nat_lt at.una at.ack) (is_new_ack v.sending s.acknowledgement) (is_before v.sending.nxt s.acknowledgement)
-        order (opening_received v.state) on in
+    order (opening_received v.state) on in
     let none = length s.octets == 0 in
     let kept = ranges v.receiving.kept == 0 in
     let next = s.number == v.receiving.rnext in
     let delay : may_delay told s ≡ (next && kept) = ap (λ r. (s.number == r.rnext) && (ranges r.kept == 0)) (ack_receives v s.acknowledgement) in
     let texted : (after_text told s).owes_ack ≡ (v.owes_ack || (may_bring v.state && not none && (v.delays_ack || not (next && kept)))) =
-        text.0 ∙ (ap (λ b. b || (is_receiving told.state && not none && (told.delays_ack || not (may_delay told s)))) r.owes
-        ∙ (ap (λ b. v.owes_ack || (b && not none && (told.delays_ack || not (may_delay told s)))) r.receives
-        ∙ (ap (λ b. v.owes_ack || (may_bring v.state && not none && (b || not (may_delay told s)))) r.delays
-        ∙ ap (λ b. v.owes_ack || (may_bring v.state && not none && (v.delays_ack || not b))) delay))) in
+    text.0 ∙ (ap (λ b. b || (is_receiving told.state && not none && (told.delays_ack || not (may_delay told s)))) r.owes
+    ∙ (ap (λ b. v.owes_ack || (b && not none && (told.delays_ack || not (may_delay told s)))) r.receives
+    ∙ (ap (λ b. v.owes_ack || (may_bring v.state && not none && (b || not (may_delay told s)))) r.delays
+    ∙ ap (λ b. v.owes_ack || (may_bring v.state && not none && (v.delays_ack || not b))) delay))) in
     let receives : is_receiving (after_text told s).state ≡ may_bring v.state = ap is_receiving text.2 ∙ r.receives in
     record {
       owes = fin.0 ∙ (ap (λ b. b || (is_receiving (after_text told s).state && s.flags.fin)) texted
           ∙ (ap (λ b. v.owes_ack || (may_bring v.state && not none && (v.delays_ack || not (next && kept))) || (b && s.flags.fin)) receives
           ∙ (joined_owes v.owes_ack (is_opening v.state) (nat_lt (at.una + outstanding v.sending) at.ack) (nat_le at.ack (at.una + outstanding v.sending)) (not (is_syn_received v.state) || nat_lt at.una at.ack) (may_bring v.state)
-              s.flags.fin none v.delays_ack next kept (at.first == at.next) o.none_ahead o.within_is o.right_is same
+          s.flags.fin none v.delays_ack next kept (at.first == at.next) o.none_ahead o.within_is o.right_is same
           ∙ sym (ap (λ b. v.owes_ack || b) d))));
       delays = fin.1 ∙ (text.1 ∙ (ap (λ b. b || (is_receiving told.state && not none)) r.delays ∙ (ap (λ b. v.delays_ack || (b && not none)) r.receives
           ∙ (joined_delays v.delays_ack (nat_le at.ack (at.una + outstanding v.sending)) (not (is_syn_received v.state) || nat_lt at.una at.ack) (may_bring v.state) none o.within_is o.right_is

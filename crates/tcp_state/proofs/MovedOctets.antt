@@ -87,9 +87,10 @@ pub send_waits : (v : View) (octets : List ℕ) (now : Moment) → IsSound v →
     → (send_answer v octets ≡ Err EAGAIN) × (after_event v (Sends octets now) ≡ v)
 send_waits v octets now sound open_yet some full =
     let none_left : ((send_room v.sending == 0) && not (length octets == 0)) ≡ true = shut (length v.sending.held) (length octets) full some in
-    let few : (length (take (send_count v octets) octets) == 0) ≡ true = eq-eqb (length (take (send_count v octets) octets)) 0 (none (length v.sending.held) (length octets) (length (take (send_count v octets) octets)) full (length-take (send_count v octets) octets)) in
-    (answer v octets sound open_yet ∙ ap (λ b. if b then Err EAGAIN else Ok (send_count v octets)) none_left,
-    sent v octets now sound open_yet ∙ either View (λ w. w ≡ v) (length (take (send_count v octets) octets) == 0) v _ (λ is. refl) (λ more. clash (length (take (send_count v octets) octets) == 0) few more))
+    let few : (length (take (send_count v octets) octets) == 0) ≡ true = eq-eqb (length (take (send_count v octets) octets)) 0 (none (length v.sending.held) (length octets) (length (take (send_count v octets) octets)) full (length-take (send_count v octets) octets)) in (
+      answer v octets sound open_yet ∙ ap (λ b. if b then Err EAGAIN else Ok (send_count v octets)) none_left,
+      sent v octets now sound open_yet ∙ either View (λ w. w ≡ v) (length (take (send_count v octets) octets) == 0) v _ (λ is. refl) (λ more. clash (length (take (send_count v octets) octets) == 0) few more),
+    )
   where
     shut : (held len : ℕ) → held ≡ 65535 → 0 < len → ((65535 - held == 0) && not (len == 0)) ≡ true
     shut held len full some = ap (λ b. b && not (len == 0)) (eq-eqb (65535 - held) 0 (omega (arith, full))) ∙ elim (eqb_tells len 0) [ inl zero ↦ absurd (omega (arith, zero.1, some)) | inr more ↦ ap not more.0 ]

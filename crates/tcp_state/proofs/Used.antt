@@ -40,15 +40,15 @@ before_end peer next first len behind ahead old = omega (arith, behind, ahead, o
 
 end_tells : (peer next first len : ℕ) → next < first + 2 ^ 31 → first + len < next + 2 ^ 31 → is_before (wire peer next) ((wire peer first + len) % 2 ^ 32) ≡ nat_lt next (first + len)
 end_tells peer next first len behind ahead = elim (leb_tells (2 ^ 31) (past (wire peer next) ((wire peer first + len) % 2 ^ 32))) [
-      | inl t ↦ t.0 ∙ sym (elim (leb_tells (first + len) next) [
-        | inl old ↦ let bad = before_end peer next first len behind ahead old.1 in absurd (omega (arith, bad, t.1))
-        | inr new ↦ lt-ltb next (first + len) new.1
-      ])
-      | inr t ↦ t.0 ∙ sym (elim (leb_tells (first + len) next) [
-        | inl old ↦ lt-leb (suc next) (first + len) (omega (arith, old.1))
-        | inr new ↦ let bad = past_end peer next first len behind ahead new.1 in absurd (omega (arith, bad, t.1))
-      ])
-    ]
+  | inl t ↦ t.0 ∙ sym (elim (leb_tells (first + len) next) [
+    | inl old ↦ let bad = before_end peer next first len behind ahead old.1 in absurd (omega (arith, bad, t.1))
+    | inr new ↦ lt-ltb next (first + len) new.1
+  ])
+  | inr t ↦ t.0 ∙ sym (elim (leb_tells (first + len) next) [
+    | inl old ↦ lt-leb (suc next) (first + len) (omega (arith, old.1))
+    | inr new ↦ let bad = past_end peer next first len behind ahead new.1 in absurd (omega (arith, bad, t.1))
+  ])
+]
 
 pub more_as_new : (at : Places) (v : View) (s : Segment) → StandsAt at v s → brings_more v s ≡ brings_new at s
 more_as_new at v s stands =
