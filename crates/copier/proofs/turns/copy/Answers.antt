@@ -41,3 +41,6 @@ loop-init g c = record {
 
 pub returns-in-Some-clause-leads : goal.returns-in-Some-clause-leads
 returns-in-Some-clause-leads g c = g.met.L.Link.leads_on _ _ _ c.loop.invariant.leads c.in_ok-count.ensures.leads
+
+pub returns-in_err-count-clause-leads : goal.returns-in_err-count-clause-leads
+returns-in_err-count-clause-leads g c = g.met.L.Link.leads_on c.args.link.now c.loop.link c.turn.new.link c.loop.invariant.leads c.turn.ensures.leads
