@@ -140,7 +140,7 @@ within_held v ack sound opened new none =
 -- no window is advertised in SYN-SENT, so that nothing is kept
 unheard_keeps : (v : View) → IsSound v → is_syn_sent v.state ≡ true → kept_at v.receiving.kept ≡ nothing_kept
 unheard_keeps v sound waiting =
-    let shut : receive_window v.receiving ≡ 0 = eqb-true (receive_window v.receiving) 0 (not_not (receive_window v.receiving == 0) (sym (ap (λ b. b && not (receive_window v.receiving == 0)) waiting) ∙ sound.unheard)) in
+    let shut : receive_window v.receiving ≡ 0 = eqb-true (receive_window v.receiving) 0 (not_not (receive_window v.receiving == 0) (sym (ap (λ b. b && not (receive_window v.receiving == 0)) waiting) ∙ sound.untold)) in
     unkept v.receiving.kept (λ i o e. let below = sound.kept i o e in omega (arith, shut, below))
   where
     not_not : (b : Bool) → not b ≡ false → b ≡ true

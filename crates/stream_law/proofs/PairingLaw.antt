@@ -13,8 +13,8 @@ abbrev pub room : ℕ
 room = 65535
 
 moves : (limit : ℕ) (p q : Pairing) → Move limit p q → Shown room limit p → Shown room limit q
-moves limit _ _ (connects p local peer isn none fits) h = moves-connects room limit p local peer isn none fits h
-moves limit _ _ (accepts p local peer isn e none fits among timely syn) h = moves-accepts room limit p local peer isn e none fits among syn h
+moves limit _ _ (connects p local peer isn now none fits) h = moves-connects room limit p local peer isn now none fits h
+moves limit _ _ (accepts p local peer isn e now none fits among timely syn) h = moves-accepts room limit p local peer isn e now none fits among syn h
 moves limit _ _ (takes p v octets now is sound untold opened unclosed) h = moves-takes room limit p v octets now (omega arith) is sound untold opened unclosed h
 moves limit _ _ (closes p v now is sound opened) h = moves-closes room limit p v now is sound opened h
 moves limit _ _ (ends p v len is kept told) h = moves-ends room limit p v len is kept told h

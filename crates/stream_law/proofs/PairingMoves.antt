@@ -27,11 +27,11 @@ use Rattle.stream_law.proofs.PairingInvariant.{Connected, Shown, other_stays, co
 use Rattle.stream_law.proofs.PairingEndings.{rests-fits, resting, ending}
 
 -- a caller opens
-pub moves-connects : (cap limit : ℕ) (p : Pairing) (local peer : Endpoint) (isn : ℕ) → p.own.connection ≡ Absent → isn < 2 ^ 32 → Shown cap limit p
-    → Shown cap limit (with_connection p (opened_actively local peer isn))
-moves-connects cap limit p local peer isn none fits h =
+pub moves-connects : (cap limit : ℕ) (p : Pairing) (local peer : Endpoint) (isn : ℕ) (now : Moment) → p.own.connection ≡ Absent → isn < 2 ^ 32 → Shown cap limit p
+    → Shown cap limit (with_connection p (opened_actively local peer isn now))
+moves-connects cap limit p local peer isn now none fits h =
     let k = unconnected p.own.connection h.into h.from none h.own.connection in
-    let v = opened_actively local peer isn in
+    let v = opened_actively local peer isn now in
     let into' : Channel = record h.into { sending = Open (sender_of v) } in
     record {
       into = into';
@@ -57,11 +57,11 @@ moves-connects cap limit p local peer isn none fits h =
     }
 
 -- a SYN opens
-pub moves-accepts : (cap limit : ℕ) (p : Pairing) (local peer : Endpoint) (isn : ℕ) (e : Emission) → p.own.connection ≡ Absent → isn < 2 ^ 32 → IsAmong e p.received → e.segment.flags.syn ≡ true
-    → Shown cap limit p → Shown cap limit (with_connection p (opened_passively local peer isn e.segment))
-moves-accepts cap limit p local peer isn e none fits among syn h =
+pub moves-accepts : (cap limit : ℕ) (p : Pairing) (local peer : Endpoint) (isn : ℕ) (e : Emission) (now : Moment) → p.own.connection ≡ Absent → isn < 2 ^ 32 → IsAmong e p.received → e.segment.flags.syn ≡ true
+    → Shown cap limit p → Shown cap limit (with_connection p (opened_passively local peer isn e.segment now))
+moves-accepts cap limit p local peer isn e now none fits among syn h =
     let k = unconnected p.own.connection h.into h.from none h.own.connection in
-    let v = opened_passively local peer isn e.segment in
+    let v = opened_passively local peer isn e.segment now in
     let into' : Channel = record h.into { sending = Open (sender_of v) } in
     let from' : Channel = record h.from { receiving = Synchronised (record { rnext = (e.segment.number + 1) % 2 ^ 32; kept = nothing_kept }) } in
     let opened : from'.receiving ≡ receiving_of v = ap (λ (kept : ℕ → Option ℕ). Synchronised (record { rnext = (e.segment.number + 1) % 2 ^ 32; kept = kept })) (sym (keeps_nothing CAPACITY)) in

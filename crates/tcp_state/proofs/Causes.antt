@@ -15,7 +15,9 @@ use Rattle.tcp_state.specs.Calls.{beyond_shutdown, is_removed_by_close, is_abort
 use Rattle.tcp_state.specs.Arrival.{is_receiving, beyond_fin, beyond_end, is_of_fin, after_ack, is_read, after_window, after_text, after_fin, ends_by_syn, ends_by_reset, ends_opening, is_acting_reset, after_segment, is_lost, after_lost, after_heard, is_rejected}
 use Rattle.tcp_state.specs.Due.{first_due}
 use Rattle.tcp_state.specs.Unreachable.{is_unreachable, after_unreachable}
-use Rattle.tcp_state.specs.Edges.{Event, Hears, Ticks, Emits, Sends, Receives, Shuts, Closes, Aborts, Unreachable, after_first, after_event, fate_by, is_removed, is_reset_by, is_last_ack, ends_by_ack, is_cause, ends_by}
+use Rattle.clock.specs.Moments.{has_come}
+use Rattle.tcp_state.specs.Hop.{unheard_until}
+use Rattle.tcp_state.specs.Edges.{Event, Hears, Ticks, Emits, Sends, Receives, Shuts, Closes, Aborts, Unreachable, LosesHop, after_first, after_event, fate_by, is_removed, is_reset_by, is_last_ack, ends_by_ack, is_cause, ends_by}
 use Rattle.tcp_state.proofs.Clocked.{timers_keep, emission_keeps}
 pub use Rattle.tcp_halves.proofs.Choices.{both, or_left, or_right, or_else, not_true, of_false}
 use Rattle.tcp_halves.proofs.Choices.{either, by, clash, and_left, and_right, else_chosen}
@@ -195,6 +197,10 @@ removal_caused v (Aborts now) lives e = refl
 removal_caused v (Unreachable number) lives e =
     either View (λ w. is_over w ≡ true → is_unreachable v number ≡ true) (is_unreachable v number) (after_reset v (Some ECONNREFUSED)) v (λ hit over. hit) (λ other over. clash (is_over v) over lives)
     (removed_where_over (is_over (after_unreachable v number)) e)
+removal_caused v (LosesHop now) lives e =
+    let over = has_come (unheard_until v) now in
+    let left = v.released || (v.passive && is_syn_received v.state) in
+    and_left over left (removed_where_over (over && left) e)
 removal_caused v (Sends octets now) lives e = cc
 removal_caused v (Receives len) lives e = cc
 removal_caused v (Shuts now) lives e = cc
@@ -214,6 +220,7 @@ closing_caused v e lives = by_event (λ e w. is_closed w.state ≡ true → is_c
   leaves = λ now remains closed. clash (is_closed (beyond_shutdown v.state)) closed (shut_closes_none v.state lives);
   aborts = λ e now at cause remains closed. cause;
   refused = λ number hit closed. hit;
+  hopless = λ now over closed. over;
 }) e
 
 pub ends_caused : (v : View) (e : Event) → is_over v ≡ false → ends_by v e ≡ true → is_cause v e ≡ true

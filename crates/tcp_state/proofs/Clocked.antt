@@ -14,7 +14,7 @@ use Rattle.tcp_state.specs.declared.emission.Stretch.{Stretch}
 use Rattle.tcp_halves.specs.Stream.{outstanding, after_sent}
 use Rattle.tcp_state.specs.View.{View, is_opening, is_syn_received, is_closed}
 use Rattle.tcp_state.specs.Resend.{Resend, resend_probed, resend_acknowledged, resend_lost}
-use Rattle.tcp_state.specs.Timing.{KeepsTime, probes, retransmits, awaits_more, running, retransmission_timer, probe_timer, delayed_ack_timer, override_timer, interval_of, clocked, retransmission_expired, probe_expired, after_expiry, delayed_ack_expired, override_expired, after_timers}
+use Rattle.tcp_state.specs.Timing.{KeepsTime, probes, retransmits, awaits_more, running, retransmission_timer, probe_timer, delayed_ack_timer, override_timer, interval_of, awaits_first, unheard_since, clocked, retransmission_expired, probe_expired, after_expiry, delayed_ack_expired, override_expired, after_timers}
 use Rattle.tcp_state.specs.Arrival.{after_heard, is_rejected, begins_wait, answers_probe, is_duplicate, before, since_after, is_moved, resend_heard, resend_after, congestion_event_of, reveals_loss, congestion_after, timed_by, after_segment_at}
 use Rattle.tcp_state.specs.Due.{probe_stretch, end_of, after_ack_paid, after_resent, after_first_sent, after_numbers, after_new_octets, brings_new_octets, after_syn_again, after_syn_out, after_stretch, after_probe, after_going_out, after_emitted}
 use Rattle.tcp_state.specs.Edges.{after_first}
@@ -24,15 +24,16 @@ use Rattle.congestion.specs.Window.{Window}
 use Rattle.congestion.specs.Events.Event.{NewAck, Duplicate}
 use Rattle.tcp_halves.proofs.Choices.{either}
 use Rattle.tcp_state.proofs.Segments.{by_clock}
+use Rattle.tcp_state.proofs.Awaited.{waits_on}
 
 -- Timers.
 
--- nothing changed but what is owed, the retransmission state, the timers and the congestion window
+-- nothing changed but what is owed, the retransmission state, the timers, the congestion window, and since when a first segment waits
 abbrev pub KeepsTo : View → View → Type 0
-KeepsTo v w = w ≡ record v { owes_ack = w.owes_ack; resend = w.resend; timers = w.timers; congestion = w.congestion }
+KeepsTo v w = w ≡ record v { owes_ack = w.owes_ack; resend = w.resend; timers = w.timers; congestion = w.congestion; unheard = w.unheard }
 
 keeps_on : (v w x : View) → KeepsTo v w → KeepsTo w x → KeepsTo v x
-keeps_on v w x first then_kept = then_kept ∙ ap (λ (u : View). record u { owes_ack = x.owes_ack; resend = x.resend; timers = x.timers; congestion = x.congestion }) first
+keeps_on v w x first then_kept = then_kept ∙ ap (λ (u : View). record u { owes_ack = x.owes_ack; resend = x.resend; timers = x.timers; congestion = x.congestion; unheard = x.unheard }) first
 
 expiry_keeps : (v : View) (now : Moment) → KeepsTo v (after_expiry v now)
 expiry_keeps v now =
@@ -65,13 +66,13 @@ by_others P v now first acks over =
 
 -- What goes out.
 
--- nothing changed but the two halves, the acknowledgements that are owed, the retransmission state and the timers
+-- nothing changed but the two halves, the acknowledgements that are owed, the retransmission state, the timers, and since when a first segment waits
 abbrev pub Emitted : View → View → Type 0
-Emitted v w = w ≡ record v { sending = w.sending; receiving = w.receiving; owes_ack = w.owes_ack; delays_ack = w.delays_ack; resend = w.resend; timers = w.timers }
+Emitted v w = w ≡ record v { sending = w.sending; receiving = w.receiving; owes_ack = w.owes_ack; delays_ack = w.delays_ack; resend = w.resend; timers = w.timers; unheard = w.unheard }
 
 emits_on : (v w x : View) → Emitted v w → Emitted w x → Emitted v x
 emits_on v w x first then_kept =
-    then_kept ∙ ap (λ (u : View). record u { sending = x.sending; receiving = x.receiving; owes_ack = x.owes_ack; delays_ack = x.delays_ack; resend = x.resend; timers = x.timers }) first
+    then_kept ∙ ap (λ (u : View). record u { sending = x.sending; receiving = x.receiving; owes_ack = x.owes_ack; delays_ack = x.delays_ack; resend = x.resend; timers = x.timers; unheard = x.unheard }) first
 
 numbers_emitted : (v : View) (offset end : ℕ) (now : Moment) → Emitted v (after_numbers v offset end now)
 numbers_emitted v offset end now =
@@ -140,27 +141,29 @@ owed_still true probing e = e refl
 owed_still false probing e = refl
 
 -- the parts of the retransmission state and the timers, one by one
-parts : (v : View) (owes : Bool) (since : Moment) (interval : ℕ) (probe : Bool) (resending probing ack overriding : Option Moment) → interval ≡ v.resend.interval → probe ≡ v.resend.owes_probe
-    → resending ≡ v.timers.retransmission → probing ≡ v.timers.probe → overriding ≡ v.timers.overriding
+parts : (v : View) (owes : Bool) (since : Moment) (interval : ℕ) (probe : Bool) (resending probing ack overriding unheard : Option Moment) → interval ≡ v.resend.interval → probe ≡ v.resend.owes_probe
+    → resending ≡ v.timers.retransmission → probing ≡ v.timers.probe → overriding ≡ v.timers.overriding → unheard ≡ v.unheard
     → record v {
       owes_ack = owes;
       since = since;
       resend = record v.resend { interval = interval; owes_probe = probe };
       timers = record { retransmission = resending; probe = probing; delayed_ack = ack; overriding = overriding };
+      unheard = unheard;
     } ≡ record v { owes_ack = owes; since = since; timers = record v.timers { delayed_ack = ack } }
-parts v owes since interval probe resending probing ack overriding a b c d e = rw a (rw b (rw c (rw d (rw e refl))))
+parts v owes since interval probe resending probing ack overriding unheard a b c d e f = rw a (rw b (rw c (rw d (rw e (rw f refl)))))
 
 -- an acknowledgement that is owed ends the wait of one that is delayed, and leaves the other timers as they run
 pub settles : (v : View) (owes : Bool) (since now : Moment) → KeepsTime v
     → (let w = record v { owes_ack = owes; since = since } in clocked false w now ≡ record w { timers = record v.timers { delayed_ack = delayed_ack_timer w now } })
 settles v owes since now keeps =
     let w = record v { owes_ack = owes; since = since } in
-    parts v owes since (interval_of v) (v.resend.owes_probe && probes v) (retransmission_timer v false now) (probe_timer v now) (delayed_ack_timer w now) (override_timer v now)
+    parts v owes since (interval_of v) (v.resend.owes_probe && probes v) (retransmission_timer v false now) (probe_timer v now) (delayed_ack_timer w now) (override_timer v now) (unheard_since v now)
     (interval_stays (probes v) (is_some v.timers.probe) v.resend.interval v.resend.timeout.rto keeps.probe keeps.interval)
     (owed_still v.resend.owes_probe (probes v) keeps.owed)
     (runs_on (retransmits v) v.timers.retransmission now v.resend.timeout.rto keeps.retransmission)
     (runs_on (probes v) v.timers.probe now v.resend.timeout.rto keeps.probe)
     (goes_on (awaits_more v) v.timers.overriding now OVERRIDE_WAIT keeps.overriding)
+    (waits_on (awaits_first v) v.unheard now keeps.unheard)
 
 -- Segments.
 

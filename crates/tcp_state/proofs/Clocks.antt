@@ -17,7 +17,7 @@ use Rattle.tcp_state.specs.Timing.{probes, retransmits, awaits_more, running, cl
 use Rattle.tcp_state.specs.Calls.{latest, aborted_at}
 use Rattle.tcp_state.specs.Arrival.{after_heard, acknowledges_unsent, is_rejected, is_acceptable_to, answers_probe, timed_by, before, since_after, is_moved, resend_heard, resend_after, congestion_after}
 use Rattle.tcp_state.specs.Due.{first_due, after_going_out}
-use Rattle.tcp_state.specs.Edges.{Event, Hears, Ticks, Emits, Sends, Receives, Shuts, Closes, Unreachable, moment_of, after_first, after_event}
+use Rattle.tcp_state.specs.Edges.{Event, Hears, Ticks, Emits, Sends, Receives, Shuts, Closes, Unreachable, LosesHop, moment_of, after_first, after_event}
 use Rattle.tcp_halves.proofs.Choices.{either, clash, and_left, and_right, both, or_left, or_right, not_true, of_false}
 use Rattle.tcp_state.proofs.Segments.{by_clock}
 use Rattle.tcp_state.proofs.Events.{holding, shut, by_event}
@@ -323,6 +323,7 @@ clocks v = by_event (Clocks v) v (record {
   leaves = λ now lives. called (shut v true (if is_fin_wait_2 v.state then latest v.since now else v.since)) (Closes now) now refl refl refl;
   aborts = λ e now at cause lives. stops v (aborted_at v now) e refl refl refl;
   refused = λ number hit. stops v _ (Unreachable number) refl refl refl;
+  hopless = λ now over. stops v _ (LosesHop now) refl refl refl;
 })
   where
     called : (x : View) (e : Event) (now : Moment) → moment_of e ≡ Some now → x.timers ≡ v.timers → x.resend ≡ v.resend → Clocks v e (clocked false x now)

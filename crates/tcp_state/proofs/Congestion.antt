@@ -27,7 +27,8 @@ use Rattle.tcp_state.specs.Calls.{send_count, beyond_shutdown, shutdown_refusal,
 use Rattle.tcp_state.specs.Arrival.{opened_passively, is_receiving, beyond_fin, after_ack, after_window, after_text, after_fin, after_heard, is_rejected, before, is_moved, resend_heard, resend_after, congestion_event_of, congestion_after, timed_by, after_segment_at}
 use Rattle.tcp_state.specs.Due.{after_ack_paid, after_syn_out, after_going_out, first_due}
 use Rattle.tcp_state.specs.Unreachable.{is_unreachable}
-use Rattle.tcp_state.specs.Edges.{Event, Hears, Ticks, Emits, Sends, Receives, Shuts, Closes, Aborts, Unreachable, after_first, after_event, congestion_event_at, congestion_event_by}
+use Rattle.tcp_state.specs.Hop.{unheard_until}
+use Rattle.tcp_state.specs.Edges.{Event, Hears, Ticks, Emits, Sends, Receives, Shuts, Closes, Aborts, Unreachable, LosesHop, after_first, after_event, congestion_event_at, congestion_event_by}
 use Rattle.tcp_state.proofs.Clocked.{by_others, emission_keeps, heard_paced, after_paced, signalled}
 use Rattle.tcp_halves.proofs.Choices.{either, by, clash, and_left, and_right, or_left, or_right}
 use Rattle.tcp_state.proofs.Segments.{by_fin, by_ack, by_hearing, by_clock}
@@ -305,6 +306,8 @@ moves v (Closes now) =
 moves v (Aborts now) = either View (Moves v Nothing) (is_closed v.state) v (aborted_at v now) (λ closed. still v v refl refl (λ begun. begun)) (λ aborts. still v _ refl refl (λ begun. cc))
 moves v (Unreachable number) =
     either View (Moves v Nothing) (is_unreachable v number) (after_reset v (Some ECONNREFUSED)) v (λ refused. still v _ refl refl (λ begun. cc)) (λ other. still v v refl refl (λ begun. begun))
+moves v (LosesHop now) =
+    either View (Moves v Nothing) (has_come (unheard_until v) now) (after_reset v (Some ETIMEDOUT)) v (λ over. still v _ refl refl (λ begun. cc)) (λ waits. still v v refl refl (λ begun. begun))
 
 pub moves_by_events : (v : View) (e : Event) → (after_event v e).congestion ≡ after_signal v.congestion (congestion_event_by v e) (after_event v e).sending.smss (after_event v e).resend.syn_resent
 moves_by_events v e = (moves v e).window
@@ -317,11 +320,11 @@ stays_kept v e = (moves v e).keeps
 first_size : IsSize 536
 first_size = record { least = omega arith; most = omega arith }
 
-pub opened_kept : (local peer : Endpoint) (isn : ℕ) → KeepsCongestion (opened_actively local peer isn)
-opened_kept local peer isn = record { sound = first_sound 536 false first_size; segment = λ begun. cc }
+pub opened_kept : (local peer : Endpoint) (isn : ℕ) (now : Moment) → KeepsCongestion (opened_actively local peer isn now)
+opened_kept local peer isn now = record { sound = first_sound 536 false first_size; segment = λ begun. cc }
 
-pub accepted_kept : (local peer : Endpoint) (isn : ℕ) (syn : Segment) → KeepsCongestion (opened_passively local peer isn syn)
-accepted_kept local peer isn syn = record { sound = first_sound 536 false first_size; segment = λ begun. cc }
+pub accepted_kept : (local peer : Endpoint) (isn : ℕ) (syn : Segment) (now : Moment) → KeepsCongestion (opened_passively local peer isn syn now)
+accepted_kept local peer isn syn now = record { sound = first_sound 536 false first_size; segment = λ begun. cc }
 
 pub one_segment : (v : View) → KeepsCongestion v → is_idle v.state ≡ false → v.sending.smss ≤ v.congestion.cwnd
 one_segment v keeps begun = subst (λ n. n ≤ v.congestion.cwnd) (keeps.segment begun) (holds_segment v.congestion keeps.sound)

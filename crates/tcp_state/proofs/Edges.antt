@@ -124,6 +124,7 @@ event-edge v = by_event (λ e w. IsEdge v.state w.state) v (record {
   leaves = λ now lives. shuts v.state;
   aborts = λ e now at cause lives. closes v.state;
   refused = λ number hit. closes v.state;
+  hopless = λ now over. closes v.state;
 })
 
 pub edges_hold : (v : View) (e : Event) → IsEdge v.state (state_after v e)

@@ -10,7 +10,8 @@ use Rattle.tcp_halves.specs.Windows.{has_grown}
 use Rattle.tcp_state.specs.Resend.{resend_probed}
 use Rattle.tcp_state.specs.View.{View, is_opening, is_closed}
 use Rattle.tcp_state.specs.Timing.{probes}
-use Rattle.tcp_state.specs.Due.{probe_stretch, end_of, after_resent, after_first_sent, after_numbers, after_new_octets, brings_new_octets, after_syn_out, after_stretch, after_probe, ack_due, again, goes_again, again_from, sends_new, new_octets, sends_fin, fin_alone, new_due, first_due}
+use Rattle.tcp_state.specs.New.{sends_new, sends_fin}
+use Rattle.tcp_state.specs.Due.{probe_stretch, end_of, after_resent, after_first_sent, after_numbers, after_new_octets, brings_new_octets, after_syn_out, after_stretch, after_probe, ack_due, again, goes_again, again_from, new_octets, fin_alone, new_due, first_due}
 use Rattle.tcp_state.proofs.Clocked.{syn_out}
 use Rattle.tcp_halves.proofs.Choices.{either, and_right}
 

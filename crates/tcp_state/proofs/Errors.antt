@@ -1,4 +1,4 @@
--- Why an error is told only by a reset, by an error about our SYN, or at the last expiry, and stays told.
+-- Why an error is told only by a reset, by an error about our SYN, at the last expiry, or at the end of the wait for a hop, and stays told.
 use Rattle.std.proofs.Common.{◌≡◌, ℕ, ◌==◌, ◌||◌, ◌&&◌, ◌⊎◌, not, nat_lt, nat_le, true, false, length, Option, Some, None, inl, inr, refl, sym, ◌∙◌, ap, is_some}
 use Rattle.tcp_segment.specs.Segment.{Segment}
 use Rattle.clock.specs.declared.moment.Moment.{Moment}
@@ -14,12 +14,14 @@ use Rattle.tcp_state.specs.Timing.{KeepsTime, probes, retransmits, gives_up}
 use Rattle.tcp_state.specs.Arrival.{is_receiving, after_ack, after_window, after_text, ends_by_reset, reset_error, after_heard}
 use Rattle.tcp_state.specs.Due.{first_due}
 use Rattle.tcp_state.specs.Unreachable.{is_unreachable}
+use Rattle.tcp_state.specs.Hop.{hop_wait, end_of_hop_wait, unheard_until}
 use Rattle.tcp_state.specs.Edges.{Event, Hears, after_event, is_reset_by, is_error_of, is_timeout, may_raise}
 use Rattle.tcp_state.proofs.Clocked.{timers_keep, emission_keeps}
 use Rattle.tcp_halves.proofs.Choices.{either, by, clash, and_left, and_false, both, of_false, and_not}
 use Rattle.tcp_state.proofs.Segments.{by_fin, by_ack, by_hearing}
 use Rattle.tcp_state.proofs.Events.{by_event}
 use Rattle.tcp_state.proofs.Unchanged.{closed_plain, closed_holds}
+use Rattle.tcp_state.proofs.Awaited.{awaits_nothing}
 
 -- an error about our SYN refuses a connection in SYN-SENT, and nothing else
 waiting_where : (v : View) (number : ℕ) → is_unreachable v number ≡ true → is_syn_sent v.state ≡ true
@@ -30,9 +32,9 @@ opening_refused SynSent ECONNREFUSED e f = refl
 opening_refused SynSent _ e f = cc
 opening_refused _ error e f = cc
 
-waits_open : (t : State) → is_syn_sent t ≡ true → is_closed t ≡ false
-waits_open SynSent e = refl
-waits_open _ e = cc
+opens_alive : (t : State) → is_syn_sent t ≡ true → is_closed t ≡ false
+opens_alive SynSent e = refl
+opens_alive _ e = cc
 
 -- each error has its states
 error_of : (t : State) (error : Refusal) → reset_error t ≡ Some error → is_error_of t error ≡ true
@@ -78,6 +80,18 @@ Tells v e w = (w.pending_error ≡ v.pending_error) ⊎ Raises v e w.pending_err
 open_where_lives : (v : View) (now : Moment) → IsSound v → KeepsTime v → gives_up v now ≡ true → is_closed v.state ≡ false
 open_where_lives v now sound keeps expired = by (is_closed v.state ≡ false) (is_closed v.state) (λ closed. clash (gives_up v now) expired (lives_on v now sound keeps closed)) (λ lives. lives)
 
+-- what is CLOSED waits for no hop
+pub waits_open : (v : View) → IsSound v → KeepsTime v → is_some v.unheard ≡ true → is_closed v.state ≡ false
+waits_open v sound keeps waits = by (is_closed v.state ≡ false) (is_closed v.state)
+    (λ closed.
+    let plain = closed_plain v.state closed in
+    clash (is_some v.unheard) waits (keeps.unheard ∙ awaits_nothing v plain.0 (closed_holds v sound closed).0 plain.1))
+    (λ lives. lives)
+
+waited : (since : Option Moment) (wait : ℕ) (now : Moment) → has_come (end_of_hop_wait since wait) now ≡ true → is_some since ≡ true
+waited None wait now e = cc
+waited (Some since) wait now e = refl
+
 -- a segment tells by a reset that acts
 heard_tells : (v : View) (s : Segment) (now : Moment) → Tells v (Hears s now) (after_heard v s)
 heard_tells v s now =
@@ -116,8 +130,12 @@ tells v = by_event (Tells v) v (record {
   leaves = λ now lives. inl refl;
   aborts = λ e now at cause lives. inl refl;
   refused = λ number hit. let waits = waiting_where v number hit in inr (record {
-    lives = λ sound keeps. waits_open v.state waits;
+    lives = λ sound keeps. opens_alive v.state waits;
     allowed = λ error told. both (is_unreachable v number) (is_error_of v.state error) hit (opening_refused v.state error waits told);
+  });
+  hopless = λ now over. inr (record {
+    lives = λ sound keeps. waits_open v sound keeps (waited v.unheard (hop_wait v) now over);
+    allowed = λ error told. both (has_come (unheard_until v) now) (is_timeout error) over (timed_out error told);
   });
 })
 

@@ -12,7 +12,8 @@ use Rattle.tcp_state.specs.Calls.{send_count, recv_count, with_octets, beyond_sh
 use Rattle.tcp_state.specs.Arrival.{after_heard, is_rejected, before, timed_by}
 use Rattle.tcp_state.specs.Due.{first_due}
 use Rattle.tcp_state.specs.Unreachable.{is_unreachable}
-use Rattle.tcp_state.specs.Edges.{Event, Hears, Ticks, Emits, Sends, Receives, Shuts, Closes, Aborts, Unreachable, moment_of, after_first, after_event, is_cause}
+use Rattle.tcp_state.specs.Hop.{unheard_until}
+use Rattle.tcp_state.specs.Edges.{Event, Hears, Ticks, Emits, Sends, Receives, Shuts, Closes, Aborts, Unreachable, LosesHop, moment_of, after_first, after_event, is_cause}
 use Rattle.tcp_halves.proofs.Choices.{either, neither, or_right}
 
 -- octets are taken to be sent
@@ -24,7 +25,8 @@ abbrev pub shut : View → Bool → Moment → View
 shut v released since = record v { state = beyond_shutdown v.state; released = released; since = since }
 
 -- What each event may make of a connection: most leave it as it is, each for a reason of its own. A segment is heard; its wait is over, it is given up, or a timer
--- acts; something goes out; octets are taken to be sent, or read; our side closes, and with it its caller may leave; it is aborted; and its SYN can't be delivered.
+-- acts; something goes out; octets are taken to be sent, or read; our side closes, and with it its caller may leave; it is aborted; its SYN can't be delivered; and it
+-- waited for its hop as long as it may.
 pub record ByEvent (P : Event → View → Type 0) (v : View) : Type 0 where
   pub same : (e : Event) → P e v
   pub heard : (s : Segment) (now : Moment) → is_closed v.state ≡ false → P (Hears s now) (timed_by (before v s) (after_heard v s) now)
@@ -38,6 +40,7 @@ pub record ByEvent (P : Event → View → Type 0) (v : View) : Type 0 where
   pub leaves : (now : Moment) → is_closed v.state ≡ false → P (Closes now) (after_release v now)
   pub aborts : (e : Event) (now : Moment) → moment_of e ≡ Some now → is_cause v e ≡ true → is_closed v.state ≡ false → P e (aborted_at v now)
   pub refused : (number : ℕ) → is_unreachable v number ≡ true → P (Unreachable number) (after_reset v (Some ECONNREFUSED))
+  pub hopless : (now : Moment) → has_come (unheard_until v) now ≡ true → P (LosesHop now) (after_reset v (Some ETIMEDOUT))
 
 pub by_event : (P : Event → View → Type 0) (v : View) → ByEvent P v → (e : Event) → P e (after_event v e)
 by_event P v cases (Hears s now) =
@@ -67,3 +70,5 @@ by_event P v cases (Closes now) =
 by_event P v cases (Aborts now) = let e = Aborts now in either View (P e) (is_closed v.state) v (aborted_at v now) (λ closed. cases.same e) (cases.aborts e now refl refl)
 by_event P v cases (Unreachable number) =
     let e = Unreachable number in either View (P e) (is_unreachable v number) (after_reset v (Some ECONNREFUSED)) v (cases.refused number) (λ other. cases.same e)
+by_event P v cases (LosesHop now) =
+    let e = LosesHop now in either View (P e) (has_come (unheard_until v) now) (after_reset v (Some ETIMEDOUT)) v (cases.hopless now) (λ waits. cases.same e)

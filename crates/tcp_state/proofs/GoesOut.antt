@@ -11,7 +11,8 @@ use Rattle.tcp_halves.specs.Stream.{outstanding}
 use Rattle.tcp_halves.specs.Windows.{sendable, is_worth_sending, has_grown}
 use Rattle.tcp_state.specs.View.{View, IsSound, is_opening, is_syn_sent, is_closed, awaits_fin_ack}
 use Rattle.tcp_state.specs.Timing.{probes, has_unacknowledged}
-use Rattle.tcp_state.specs.Due.{MayGoOut, IsHeld, first_due, probe_stretch, again, sends_new, new_octets, sends_fin, fin_alone}
+use Rattle.tcp_state.specs.New.{sends_new, sends_fin}
+use Rattle.tcp_state.specs.Due.{MayGoOut, IsHeld, first_due, probe_stretch, again, new_octets, fin_alone}
 use Rattle.tcp_halves.proofs.Choices.{either, clash, and_left, and_right, both, or_else, not_true}
 use Rattle.tcp_state.proofs.Emissions.{is_ack_due, by_due}
 

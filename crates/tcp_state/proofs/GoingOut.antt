@@ -12,7 +12,8 @@ use Rattle.tcp_halves.specs.Windows.{open_window, unsent, usable, sendable, is_w
 use Rattle.tcp_halves.proofs.Choices.{both, and_false, or_left, or_right, unowed}
 use Rattle.tcp_state.specs.View.{View, IsSound, is_opening, is_closed, is_write_finished, awaits_fin_ack}
 use Rattle.tcp_state.specs.Timing.{probes, has_unacknowledged}
-use Rattle.tcp_state.specs.Due.{first_due, again, goes_again, again_from, new_due, ack_due, sends_new, new_octets, sends_fin, fin_alone}
+use Rattle.tcp_state.specs.New.{sends_new, sends_fin}
+use Rattle.tcp_state.specs.Due.{first_due, again, goes_again, again_from, new_due, ack_due, new_octets, fin_alone}
 use Rattle.tcp_state.proofs.Signals.{flies_open}
 
 -- a connection goes on, and is open

@@ -3,6 +3,7 @@ pub mod Sizes
 pub mod Segments
 pub mod Events
 pub mod GoesOut
+pub mod Awaited
 pub mod Clocked
 pub mod Edges
 pub mod Sound
@@ -54,6 +55,7 @@ pub mod Timeouts
 pub mod StillStreams
 pub mod Measuring
 pub mod LostSyns
+pub mod Hopless
 pub mod Freed
 pub mod Standing
 pub mod DrawTests

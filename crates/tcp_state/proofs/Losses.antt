@@ -1,7 +1,7 @@
 -- Why the third duplicate ACK in a row, and no other, puts the segment at SND.UNA out again, and that alone.
 use Rattle.std.proofs.Common.{◌≡◌, ℕ, ◌+◌, ◌-◌, ◌%◌, ◌^◌, ◌<◌, ◌==◌, ◌&&◌, ◌||◌, not, nat_lt, nat_le, if◌then◌else◌, Bool, true, false, length, Some, None, is_some, arith, refl, sym, ◌∙◌, ap, subst}
 use Rattle.std.specs.Option.{option_or}
-use Rattle.std.proofs.lemmas.Bool.{eqb-true}
+use Rattle.std.proofs.lemmas.Bool.{eqb-true, lt-ltb, ltb-true}
 use Rattle.tcp_segment.specs.Segment.{Segment}
 use Rattle.tcp_segment.specs.Wire.{past}
 use Rattle.clock.specs.declared.moment.Moment.{Moment}
@@ -20,7 +20,7 @@ use Rattle.tcp_state.specs.Resend.{Resend, stopped, mark_past, mark_left, resend
 use Rattle.tcp_state.specs.View.{View, IsSound, is_opening, is_syn_sent, is_syn_received, is_closed}
 use Rattle.tcp_state.specs.Congestion.{Signal}
 use Rattle.tcp_state.specs.Congestion.Signal.{Begins, Counts, Nothing}
-use Rattle.tcp_state.specs.Arrival.{owing_ack, after_establishment, is_receiving, beyond_fin, is_of_fin, fin_acknowledged, after_new_ack, after_ack, is_read, after_window, after_text, counts_fin, after_fin, is_lost, after_lost, after_segment, after_heard, is_duplicate, before, is_moved, resend_heard, resend_after, congestion_event_of, reveals_loss, timed_by, after_segment_at}
+use Rattle.tcp_state.specs.Arrival.{owing_ack, after_establishment, is_receiving, beyond_fin, is_of_fin, fin_acknowledged, after_new_ack, after_ack, is_read, after_window, after_text, counts_fin, after_fin, is_lost, after_lost, after_segment, after_heard, octets_outstanding, is_duplicate, before, is_moved, resend_heard, resend_after, congestion_event_of, reveals_loss, timed_by, after_segment_at}
 use Rattle.tcp_state.specs.Due.{end_of, after_resent, after_first_sent, after_numbers, after_new_octets, brings_new_octets, after_emitted, ack_due, again, again_from, new_due, first_due}
 use Rattle.tcp_state.proofs.Clocked.{comes_to, unmoved, heard_paced, signalled}
 use Rattle.tcp_halves.proofs.Choices.{either, clash, and_left, and_right, and_false, both, not_true, unowed}
@@ -42,18 +42,18 @@ twice : (v : View) (s : Segment) → is_duplicate v s ≡ true → IsTwice v s
 twice v s e =
     let one = not (is_opening v.state) in
     let two = one && is_read v s in
-    let three = two && nat_lt 0 (outstanding v.sending) in
+    let three = two && nat_lt 0 (octets_outstanding v) in
     let four = three && (length s.octets == 0) in
     let five = four && not s.flags.fin in
     let e6 = and_left (five && (s.acknowledgement == v.sending.una)) (s.window == v.sending.window) e in
     let e5 = and_left five (s.acknowledgement == v.sending.una) e6 in
     let e4 = and_left four (not s.flags.fin) e5 in
     let e3 = and_left three (length s.octets == 0) e4 in
-    let e2 = and_left two (nat_lt 0 (outstanding v.sending)) e3 in
+    let e2 = and_left two (nat_lt 0 (octets_outstanding v)) e3 in
     record {
       opened = not_true (is_opening v.state) (and_left one (is_read v s) e2);
       read = read_tells v s (and_right one (is_read v s) e2);
-      some = and_right two (nat_lt 0 (outstanding v.sending)) e3;
+      some = lt-ltb 0 (outstanding v.sending) (omega (arith, ltb-true 0 (octets_outstanding v) (and_right two (nat_lt 0 (octets_outstanding v)) e3)));
       empty = and_right three (length s.octets == 0) e4;
       no_fin = not_true s.flags.fin (and_right four (not s.flags.fin) e5);
       same = eqb-true s.acknowledgement v.sending.una (and_right five (s.acknowledgement == v.sending.una) e6);

@@ -125,6 +125,7 @@ all_events v e = by_event (λ e w. Same v w ⊎ Resends v e w) v (record {
   leaves = λ now lives. inl refl;
   aborts = λ e now at cause lives. inl refl;
   refused = λ number hit. inl refl;
+  hopless = λ now over. inl refl;
 }) e
 
 pub resent_is_lost : (v : View) (now : Moment) → first_due v ≡ Some Syn → 0 < outstanding v.sending → 0 < v.resend.expiries → (after_event v (Emits now)).resend.syn_resent ≡ true

@@ -164,6 +164,7 @@ measures v = by_event (λ e. Measures v (moment_of e)) v (record {
   leaves = λ now lives. keeps v _ (Some now) refl refl;
   aborts = λ e now at cause lives. leaves v (aborted_at v now) (moment_of e) refl refl;
   refused = λ number hit. leaves v _ None refl refl;
+  hopless = λ now over. leaves v _ (Some now) refl refl;
 })
 
 pub sampled : (v : View) (e : Event) → ((after_event v e).resend.timeout.estimate ≡ v.resend.timeout.estimate) ⊎ ((is_some v.resend.timed ≡ true) × ((after_event v e).resend.timed ≡ None))

@@ -160,4 +160,5 @@ measuring_goes_on v e timed sound is = by_event (λ e w. GoesOn v e timed w) v (
   leaves = λ now lives. inl is;
   aborts = λ e now at cause lives. inr (refl, inl refl);
   refused = λ number hit. inr (refl, inl refl);
+  hopless = λ now over. inr (refl, inl refl);
 }) e

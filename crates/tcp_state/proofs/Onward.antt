@@ -305,4 +305,5 @@ never_back v e sound = by_event (λ e w. HasNumber e → NeverBack v w) v (recor
   leaves = λ now lives fits. still v (after_release v now) refl refl refl;
   aborts = λ e now at cause lives fits. ended v (aborted_at v now) sound refl refl refl;
   refused = λ number hit fits. ended v (after_reset v (Some ECONNREFUSED)) sound refl refl refl;
+  hopless = λ now over fits. ended v (after_reset v (Some ETIMEDOUT)) sound refl refl refl;
 }) e

@@ -142,6 +142,7 @@ others_leave_size v e = by_event (λ e w. (w.sending.smss ≡ v.sending.smss) �
   leaves = λ now lives. inl refl;
   aborts = λ e now at cause lives. inl refl;
   refused = λ number hit. inl refl;
+  hopless = λ now over. inl refl;
 }) e
 
 -- What goes out keeps to it.

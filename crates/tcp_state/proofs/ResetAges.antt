@@ -20,7 +20,7 @@ Ages v e w = (reset_since w ≡ reset_since v) ⊎ ((reset_since w ≡ None) ⊎
 none_owed : (w : View) → w.owes_reset ≡ false → reset_since w ≡ None
 none_owed w none = ap (λ b. if b then Some w.since else None) none
 
-live : (v : View) → IsSound v → is_closed v.state ≡ false → v.owes_reset ≡ false
+pub live : (v : View) → IsSound v → is_closed v.state ≡ false → v.owes_reset ≡ false
 live v sound lives = unowed v.owes_reset (is_closed v.state) v.released lives sound.reset
 
 -- A segment.
@@ -78,6 +78,7 @@ ages v e sound = by_event (Ages v) v (record {
   leaves = λ now lives. inr (inl (none_owed (after_release v now) (live v sound lives)));
   aborts = λ e now at cause lives. inr (inr (live v sound lives, at));
   refused = λ number hit. inl refl;
+  hopless = λ now over. inl refl;
 }) e
 
 pub resets_begin : (v : View) (e : Event) (since : Moment) → IsSound v → reset_since v ≡ None → reset_since (after_event v e) ≡ Some since → moment_of e ≡ Some since

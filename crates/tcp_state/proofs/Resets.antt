@@ -13,7 +13,7 @@ use Rattle.tcp_halves.specs.Halves.{Receiving}
 use Rattle.tcp_halves.specs.Stream.{outstanding, is_new_ack, is_in_window, receive_window, is_acceptable}
 use Rattle.tcp_state.specs.View.{View, IsSound, is_opening, is_syn_sent, is_closed, is_over, is_time_wait, is_write_finished, takes_flag_number, after_reset}
 use Rattle.tcp_state.specs.Timing.{KeepsTime}
-use Rattle.tcp_state.specs.Arrival.{is_acceptable_to, is_acting_reset, is_read, is_duplicate, is_lost, after_lost, ends_by_syn, ends_by_reset, ends_opening, acknowledges_unsent, is_rejected, reset_error, after_rst_in_syn_sent, after_rst, after_segment, is_of_fin, begins_wait, repeats_fin, answers_probe, after_segment_at, after_heard}
+use Rattle.tcp_state.specs.Arrival.{is_acceptable_to, is_acting_reset, is_read, octets_outstanding, is_duplicate, is_lost, after_lost, ends_by_syn, ends_by_reset, ends_opening, acknowledges_unsent, is_rejected, reset_error, after_rst_in_syn_sent, after_rst, after_segment, is_of_fin, begins_wait, repeats_fin, answers_probe, after_segment_at, after_heard}
 use Rattle.tcp_state.specs.Edges.{Hears, after_event, fate_by, is_removed, is_reset_by, ends_by, ends_by_ack}
 use Rattle.tcp_state.proofs.Clocked.{Owing, OwingAt, owing_timed, starts_none, comes_to}
 use Rattle.tcp_halves.proofs.Choices.{either, by, clash, and_left, and_right, both, or_left, or_right, or_else, not_true, of_false}
@@ -108,11 +108,11 @@ duplicate_is_read : (v : View) (s : Segment) → is_duplicate v s ≡ true → i
 duplicate_is_read v s same =
     let opened = not (is_opening v.state) in
     let read = opened && is_read v s in
-    let flies = read && nat_lt 0 (outstanding v.sending) in
+    let flies = read && nat_lt 0 (octets_outstanding v) in
     let bare = flies && (length s.octets == 0) in
     let goes_on = bare && not s.flags.fin in
     let at_una = goes_on && (s.acknowledgement == v.sending.una) in
-    and_right opened (is_read v s) (and_left read (nat_lt 0 (outstanding v.sending)) (and_left flies (length s.octets == 0)
+    and_right opened (is_read v s) (and_left read (nat_lt 0 (octets_outstanding v)) (and_left flies (length s.octets == 0)
     (and_left bare (not s.flags.fin) (and_left goes_on (s.acknowledgement == v.sending.una) (and_left at_una (s.window == v.sending.window) same)))))
 
 unaccepted_repeats_none : (v : View) (s : Segment) → is_acceptable_to v s ≡ false → is_duplicate v s ≡ false

@@ -136,7 +136,7 @@ so_syn v now sound opening =
       acknowledgement = λ acks. ap (λ b. if b then r.rnext else 0) acks;
       window = λ acks. told v sent (after_emitted v Syn now).receiving.edge same (ap (λ b. let w = if b then after_ack_paid sent else sent in w.receiving.edge) acks);
       unacknowledging = λ none. ap (λ b. if b then r.rnext else 0) none;
-      first = λ syn none. let shut = shut_at_first v.state (receive_window r) (length r.readable) (sent_alone v.state opening none) sound.unheard sound.readable in
+      first = λ syn none. let shut = shut_at_first v.state (receive_window r) (length r.readable) (sent_alone v.state opening none) sound.untold sound.readable in
           first_told r sound.rnext shut.0 shut.1;
       syn = λ syn. (refl, refl, refl);
       plain = λ none. cc;

@@ -180,6 +180,7 @@ sets_soon v = by_event (SetsSoon v) v (record {
   leaves = λ now lives. inr (inr (now, refl, shut_soon true (if is_fin_wait_2 v.state then latest v.since now else v.since) now));
   aborts = λ e now at cause lives. inr (inl refl);
   refused = λ number hit. inr (inl refl);
+  hopless = λ now over. inr (inl refl);
 })
   where
     shut_soon : (released : Bool) (since now : Moment) → v.resend.timeout.rto ≤ 60000 → SetSoon now v.timers (clocked false (shut v released since) now).timers

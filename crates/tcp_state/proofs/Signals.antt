@@ -22,9 +22,9 @@ use Rattle.tcp_state.specs.Congestion.Signal.{Begins, Counts, Nothing}
 use Rattle.retransmit.specs.Deadlines.{next_of}
 use Rattle.tcp_state.specs.declared.calls.Refusal.TheVariants.{ETIMEDOUT}
 use Rattle.tcp_state.specs.Timing.{gives_up, after_timers, clocked, after_tick}
-use Rattle.tcp_state.specs.Arrival.{owing_ack, may_delay, beyond_end, is_acceptable_to, is_read, is_read_on, is_of_fin, fin_acknowledged, after_new_ack as after_acknowledging, after_establishment, after_ack, after_window, is_receiving, after_text, after_fin, after_segment, brings_more, is_lost, after_lost, after_heard, is_rejected, before, is_duplicate, is_moved, congestion_event_of, timed_by}
-use Rattle.tcp_state.specs.Edges.{Event, Hears, Ticks, Emits, Sends, Receives, Shuts, Closes, Aborts, Unreachable, after_event, congestion_event_by}
-use Rattle.tcp_state.specs.Counted.{IsDuplicate}
+use Rattle.tcp_state.specs.Arrival.{owing_ack, may_delay, beyond_end, is_acceptable_to, is_read, is_read_on, is_of_fin, fin_acknowledged, after_new_ack as after_acknowledging, after_establishment, after_ack, after_window, is_receiving, after_text, after_fin, after_segment, brings_more, is_lost, after_lost, after_heard, is_rejected, before, octets_outstanding, is_duplicate, is_moved, congestion_event_of, timed_by}
+use Rattle.tcp_state.specs.Edges.{Event, Hears, Ticks, Emits, Sends, Receives, Shuts, Closes, Aborts, Unreachable, LosesHop, after_event, congestion_event_by}
+use Rattle.tcp_state.specs.Counted.{HasOctetOut, IsDuplicate}
 use Rattle.tcp_state.proofs.Segments.{IsRead, by_ack, by_hearing, reads, read_tells, reading_sends, not_rejected}
 use Rattle.tcp_state.proofs.Unchanged.{closed_plain}
 use Rattle.tcp_state.proofs.Congestion.{moves_by_events}
@@ -85,7 +85,7 @@ duplicate_tells : (v : View) (s : Segment) → is_duplicate v s ≡ true → IsD
 duplicate_tells v s e =
     let opened = not (is_opening v.state) in
     let read = opened && is_read v s in
-    let flies = read && nat_lt 0 (outstanding v.sending) in
+    let flies = read && nat_lt 0 (octets_outstanding v) in
     let bare = flies && (length s.octets == 0) in
     let goes_on = bare && not s.flags.fin in
     let at_una = goes_on && (s.acknowledgement == v.sending.una) in
@@ -93,11 +93,12 @@ duplicate_tells v s e =
     let five = and_left goes_on (s.acknowledgement == v.sending.una) six in
     let four = and_left bare (not s.flags.fin) five in
     let three = and_left flies (length s.octets == 0) four in
-    let two = and_left read (nat_lt 0 (outstanding v.sending)) three in
+    let two = and_left read (nat_lt 0 (octets_outstanding v)) three in
+    let some = ltb-true 0 (octets_outstanding v) (and_right read (nat_lt 0 (octets_outstanding v)) three) in
     let r = read_tells v s (and_right opened (is_read v s) two) in
     record {
       opened = not_true (is_opening v.state) (and_left opened (is_read v s) two);
-      outstanding = ltb-true 0 (outstanding v.sending) (and_right read (nat_lt 0 (outstanding v.sending)) three);
+      outstanding = (0, omega (arith, some), omega (arith, some));
       acceptable = r.accepted;
       ack = r.ack;
       at_una = eqb-true s.acknowledgement v.sending.una (and_right goes_on (s.acknowledgement == v.sending.una) six);
@@ -112,12 +113,13 @@ is_repeated : (v : View) (s : Segment) → IsSound v → IsDuplicate v s → is_
 is_repeated v s sound d =
     let opened = not (is_opening v.state) in
     let read = opened && is_read v s in
-    let flies = read && nat_lt 0 (outstanding v.sending) in
+    let flies = read && nat_lt 0 (octets_outstanding v) in
     let bare = flies && (length s.octets == 0) in
     let goes_on = bare && not s.flags.fin in
     let at_una = goes_on && (s.acknowledgement == v.sending.una) in
     let two = both opened (is_read v s) (of_false (is_opening v.state) d.opened) (is_read_by v s (duplicate_reads v s sound d)) in
-    let three = both read (nat_lt 0 (outstanding v.sending)) two (lt-ltb 0 (outstanding v.sending) d.outstanding) in
+    let out = d.outstanding in
+    let three = both read (nat_lt 0 (octets_outstanding v)) two (lt-ltb 0 (octets_outstanding v) (omega (arith, out.1, out.2))) in
     let four = both flies (length s.octets == 0) three (eq-eqb (length s.octets) 0 (ap length d.octets)) in
     let five = both bare (not s.flags.fin) four (of_false s.flags.fin d.no_fin) in
     let six = both goes_on (s.acknowledgement == v.sending.una) five (eq-eqb s.acknowledgement v.sending.una d.at_una) in
@@ -136,6 +138,10 @@ flies_open v sound some = by (is_closed v.state ≡ false) (is_closed v.state)
     absurd (omega (arith, some, held, flight)))
     (λ lives. lives)
 
+-- where an octet is outstanding, a number is
+numbers_out : (v : View) → HasOctetOut v → 0 < past v.sending.nxt v.sending.una
+numbers_out v out = omega (arith, out.2)
+
 -- such a segment changes at most the window that the peer tells
 only_window : (v : View) (s : Segment) → IsSound v → IsDuplicate v s → after_heard v s ≡ after_window v s
 only_window v s sound d =
@@ -152,7 +158,7 @@ only_window v s sound d =
     let text : after_text told s ≡ told = ap (λ b. if b || not (is_receiving told.state) then told else texted told) none in
     let fin : (w : View) → after_fin w s ≡ w = λ w. ap (λ b. if b && is_receiving w.state && next w then ended w else if b && is_receiving w.state then owing_ack w else w) d.no_fin in
     ap (λ b. if b then after_lost v s else after_segment v s) kept
-    ∙ reads v s (flies_open v sound d.outstanding) opened.0 (duplicate_reads v s sound d)
+    ∙ reads v s (flies_open v sound (numbers_out v d.outstanding)) opened.0 (duplicate_reads v s sound d)
     ∙ ap (λ (w : View). after_fin (after_text (after_window w s) s) s) acked
     ∙ ap (λ (w : View). after_fin w s) text
     ∙ fin told
@@ -254,7 +260,7 @@ counts_octets v s now opened moved alive =
 
 pub counts_duplicate : (v : View) (s : Segment) (now : Moment) → IsSound v → IsDuplicate v s → (after_event v (Hears s now)).congestion ≡ after_duplicate v.congestion (past v.sending.nxt v.sending.una)
 counts_duplicate v s now sound d =
-    let lives = flies_open v sound d.outstanding in
+    let lives = flies_open v sound (numbers_out v d.outstanding) in
     let opened = opened_tells v.state d.opened in
     let hears : (is_closed v.state || is_rejected v s) ≡ false = ap (λ b. b || is_rejected v s) lives ∙ not_rejected v s opened.0 opened.1 in
     let told = after_window v s in
@@ -329,3 +335,4 @@ others_count_none v (Shuts now) = inl (moves_by_events v (Shuts now))
 others_count_none v (Closes now) = inl (moves_by_events v (Closes now))
 others_count_none v (Aborts now) = inl (moves_by_events v (Aborts now))
 others_count_none v (Unreachable number) = inl (moves_by_events v (Unreachable number))
+others_count_none v (LosesHop now) = inl (moves_by_events v (LosesHop now))

@@ -78,6 +78,7 @@ seen_by_event v e sound lives = by_event (λ e w. IsSilentEnd w → is_read_clos
   leaves = λ now remains k. let bad : true ≡ false = k.kept in cc;
   aborts = λ e now at cause remains k. let bad : true ≡ false = k.kept in cc;
   refused = λ number hit k. let told = k.quiet in cc;
+  hopless = λ now over k. let told = k.quiet in cc;
 }) e
 
 pub silent_ends_seen : (v : View) (e : Event) → IsSound v → is_closed v.state ≡ false → is_closed (after_event v e).state ≡ true → (after_event v e).pending_error ≡ None → (after_event v e).released ≡ false

@@ -1,5 +1,5 @@
 -- Why two connections that open to each other at the same time both open.
-use Rattle.std.proofs.Common.{◌≡◌, ℕ, ◌+◌, ◌-◌, ◌%◌, ◌^◌, ◌<◌, ◌==◌, ◌||◌, ◌&&◌, not, min, max, nat_lt, nat_le, if◌then◌else◌, Bool, true, false, [], Some, None, inl, inr, option_map, arith, refl, sym, ◌∙◌, ap, subst}
+use Rattle.std.proofs.Common.{◌≡◌, ℕ, ◌+◌, ◌-◌, ◌%◌, ◌^◌, ◌<◌, ◌==◌, ◌||◌, ◌&&◌, not, min, max, nat_lt, nat_le, if◌then◌else◌, Bool, true, false, [], Option, Some, None, inl, inr, option_map, arith, refl, sym, ◌∙◌, ap, subst}
 use Rattle.std.proofs.lemmas.Bool.{lt-ltb, le-ltb, lt-leb, le-leb}
 use Rattle.std.proofs.lemmas.Bool.Decides.{eqb_tells}
 use Rattle.ipv4.specs.declared.addr.Endpoint.{Endpoint}
@@ -20,7 +20,7 @@ use Rattle.tcp_halves.specs.Halves.{Receiving}
 use Rattle.tcp_halves.specs.Stream.{outstanding, sending_from, receiving_nothing, receive_window, is_in_window, is_acceptable}
 use Rattle.tcp_halves.specs.Windows.{updates_window, is_worth_sending, has_grown, after_advertisement}
 use Rattle.tcp_state.specs.Resend.{Resend, first_resend, mark_past, resend_lost}
-use Rattle.tcp_state.specs.Timing.{clocked}
+use Rattle.tcp_state.specs.Timing.{waiting_since, clocked}
 use Rattle.tcp_state.specs.View.{View, first_congestion, opened_actively}
 use Rattle.tcp_state.specs.Congestion.{after_signal}
 use Rattle.tcp_state.specs.Congestion.Signal.{Begins, Nothing}
@@ -42,20 +42,21 @@ abbrev runs_from : Moment → Timers
 runs_from first = record no_timers { retransmission = Some (after first 1000) }
 
 abbrev waiting : Endpoint → Endpoint → ℕ → Moment → View
-waiting here there isn first = record (opened_actively here there isn) { sending = record (sending_from isn) { nxt = wire isn 1 }; resend = timed_from isn first; timers = runs_from first }
+waiting here there isn first = record (opened_actively here there isn first) { sending = record (sending_from isn) { nxt = wire isn 1 }; resend = timed_from isn first; timers = runs_from first; unheard = None }
 
 -- it has both SYNs
 abbrev receives : ℕ → Receiving
 receives other = record { readable = []; kept = receiving_nothing.kept; rnext = wire other 1; edge = (wire other 1 + 65535) % 2 ^ 32 }
 
 abbrev answering : Endpoint → Endpoint → ℕ → ℕ → Bool → Resend → Moment → View
-answering here there isn other owes resend first = record (opened_actively here there isn) {
+answering here there isn other owes resend first = record (opened_actively here there isn first) {
   state = SynReceived;
   sending = record (sending_from isn) { nxt = wire isn 1; window = 65535; max_window = 65535; wl1 = other; smss = 1460 };
   receiving = receives other;
   owes_ack = owes;
   resend = resend;
   timers = runs_from first;
+  unheard = None;
 }
 
 -- its SYN goes out again, with an acknowledgement ..
@@ -68,11 +69,12 @@ again_sent here there isn other owes first = answering here there isn other owes
 
 -- it is open, and its congestion window begins
 abbrev opened : Endpoint → Endpoint → ℕ → ℕ → View
-opened here there isn other = record (opened_actively here there isn) {
+opened here there isn other = record (opened_actively here there isn (record { 0 = 0 })) {
   state = Established;
   sending = record { held = []; una = wire isn 1; nxt = wire isn 1; window = 65535; max_window = 65535; wl1 = wire other 1; wl2 = wire isn 1; smss = 1460 };
   receiving = receives other;
   congestion = initial_window 1460 false;
+  unheard = None;
 }
 
 -- .. but for the clock
@@ -106,32 +108,35 @@ moves n fits = elim (eqb_tells n (wire n 1)) [ inl same ↦ let one = one_out n 
 
 -- The SYN.
 
-first_is_syn : (here there : Endpoint) (isn : ℕ) → isn < 2 ^ 32 → first_due (opened_actively here there isn) ≡ Some Syn
-first_is_syn here there isn fits = ap (λ n. if (n == 0) || false then Some Syn else None) (none_out isn fits)
+first_is_syn : (here there : Endpoint) (isn : ℕ) (at : Moment) → isn < 2 ^ 32 → first_due (opened_actively here there isn at) ≡ Some Syn
+first_is_syn here there isn at fits = ap (λ n. if (n == 0) || false then Some Syn else None) (none_out isn fits)
 
 sent_first : (isn : ℕ) → isn < 2 ^ 32 → later_number isn isn (wire isn 1) ≡ wire isn 1
 sent_first isn fits =
     either ℕ (λ n. n ≡ wire isn 1) (nat_le (past isn isn) (past (wire isn 1) isn)) (wire isn 1) isn
     (λ le. refl) (λ gt. clash (nat_le (past isn isn) (past (wire isn 1) isn)) (le-leb (past isn isn) (past (wire isn 1) isn) (omega (arith, fits))) gt)
 
--- the timer of the SYN runs while it is outstanding
-abbrev running_if : View → Moment → ℕ → View
-running_if v first out = record v { timers = record no_timers { retransmission = if nat_lt 0 out && true then Some (after first 1000) else None } }
+-- the timer of the SYN runs while it is outstanding, and it waits where it is not
+abbrev running_if : View → Option Moment → Moment → Moment → ℕ → View
+running_if v was now first out = record v {
+  timers = record no_timers { retransmission = if nat_lt 0 out && true then Some (after first 1000) else None };
+  unheard = if (out == 0) && true then Some (waiting_since was now) else None;
+}
 
 -- it goes out, where so many numbers are outstanding
 abbrev out_again : View → Moment → ℕ → View
 out_again v now out = let sent = if nat_lt 0 out then after_resent v 1 else after_first_sent v 1 now in if nat_lt 0 out then after_syn_again sent else sent
 
-syn_goes : (here there : Endpoint) (isn : ℕ) (now : Moment) → isn < 2 ^ 32 → after_event (opened_actively here there isn) (Emits now) ≡ waiting here there isn now
-syn_goes here there isn now fits =
-    let v = opened_actively here there isn in
-    ap (λ d. after_first v d now) (first_is_syn here there isn fits)
+syn_goes : (here there : Endpoint) (isn : ℕ) (at now : Moment) → isn < 2 ^ 32 → after_event (opened_actively here there isn at) (Emits now) ≡ waiting here there isn now
+syn_goes here there isn at now fits =
+    let v = opened_actively here there isn at in
+    ap (λ d. after_first v d now) (first_is_syn here there isn at fits)
     ∙ (ap (λ n. clocked false (out_again v now n) now) (none_out isn fits)
     ∙ (ap (λ n. clocked false (record v { sending = record (sending_from isn) { nxt = n }; resend = record first_resend { timed = Some (record { end = record { 0 = n }; since = now }) } }) now) (sent_first isn fits)
-    ∙ ap (running_if (waiting here there isn now) now) (one_out isn fits)))
+    ∙ ap (running_if (waiting here there isn now) (Some at) now now) (one_out isn fits)))
 
 abbrev syn_of : Endpoint → Endpoint → ℕ → Segment
-syn_of here there isn = sent_segment (head_of (opened_actively here there isn) Syn) []
+syn_of here there isn = sent_segment (head_of (opened_actively here there isn (record { 0 = 0 })) Syn) []
 
 syn_comes : (here there : Endpoint) (isn other : ℕ) (first now : Moment) → isn < 2 ^ 32
     → after_event (waiting here there isn first) (Hears (syn_of there here other) now) ≡ again_due here there isn other first
@@ -140,7 +145,7 @@ syn_comes here there isn other first now fits =
     let w = again_due here there isn other first in
     let b = before v (syn_of there here other) in
     ap (λ n. timed_by b (record w { receiving = record w.receiving { edge = (wire other 1 + (if n == 0 then 0 else 65535)) % 2 ^ 32 }; resend = record w.resend { mark = mark_past 0 n } }) now) (one_out isn fits)
-    ∙ (timed_unmoved b w now (unmoved v) refl refl ∙ ap (running_if w first) (one_out isn fits))
+    ∙ (timed_unmoved b w now (unmoved v) refl refl ∙ ap (running_if w None now first) (one_out isn fits))
 
 -- The SYN-ACK.
 
@@ -159,7 +164,7 @@ syn_ack_goes here there isn other first now fits other_fits =
     ∙ (ap (λ n. clocked false (after_ack_paid (out_again v now n)) now) (one_out isn fits)
     ∙ (ap (λ n. clocked false (after_ack_paid (record w { sending = record w.sending { nxt = n }; resend = record first_resend { mark = mark_past 1 (past n isn) } })) now) (sent_again isn)
     ∙ (ap (λ n. clocked false (after_ack_paid (record w { resend = record first_resend { mark = mark_past 1 n } })) now) (one_out isn fits)
-    ∙ (ap (λ r. clocked false (record w { receiving = r }) now) (still_told other other_fits) ∙ ap (running_if w first) (one_out isn fits)))))
+    ∙ (ap (λ r. clocked false (record w { receiving = r }) now) (still_told other other_fits) ∙ ap (running_if w None now first) (one_out isn fits)))))
 
 abbrev syn_ack_of : Endpoint → Endpoint → ℕ → ℕ → Moment → Segment
 syn_ack_of here there isn other first = sent_segment (head_of (again_due here there isn other first) Syn) []
@@ -181,7 +186,7 @@ syn_ack_comes here there isn other first now fits other_fits =
     let s = syn_ack_of there here other isn first in
     let b = before v s in
     comes_to v s now refl (and_no (acknowledges_unsent v s) (is_acceptable_to v s && false) (and_no (is_acceptable_to v s) false refl))
-    ∙ (ap (λ a. timed_by b (if a then after_acceptable_segment v s else owing_ack v) now) (unacceptable other other_fits) ∙ (timed_unmoved b w now (unmoved v) refl refl ∙ ap (running_if w first) (one_out isn fits)))
+    ∙ (ap (λ a. timed_by b (if a then after_acceptable_segment v s else owing_ack v) now) (unacceptable other other_fits) ∙ (timed_unmoved b w now (unmoved v) refl refl ∙ ap (running_if w None now first) (one_out isn fits)))
 
 -- The acknowledgement.
 
@@ -194,7 +199,7 @@ ack_goes here there isn other first now fits other_fits =
     let v = again_sent here there isn other true first in
     let w = again_sent here there isn other false first in
     ap (λ d. after_first v d now) (first_is_ack here there isn other first fits)
-    ∙ (ap (λ r. clocked false (record w { receiving = r }) now) (still_told other other_fits) ∙ ap (running_if w first) (one_out isn fits))
+    ∙ (ap (λ r. clocked false (record w { receiving = r }) now) (still_told other other_fits) ∙ ap (running_if w None now first) (one_out isn fits))
 
 abbrev ack_of : Endpoint → Endpoint → ℕ → ℕ → Segment
 ack_of here there isn other = sent_segment (head_of (again_sent here there isn other true (record { 0 = 0 })) Ack) []
@@ -244,6 +249,7 @@ at_rest here there isn other first now =
         retransmission = if nat_lt 0 n && true then Some (after now 1000) else None;
         overriding = if nat_lt 0 (min (0 - n) (w.congestion.cwnd - n)) && not (is_worth_sending w.sending w.congestion.cwnd false) then Some (after now OVERRIDE_WAIT) else None;
       };
+      unheard = if (n == 0) && ((nat_lt 0 (min (0 - n) (w.congestion.cwnd - n)) && is_worth_sending w.sending w.congestion.cwnd false) || false || false) then Some now else None;
     }) (none_out (wire isn 1) (omega arith))
 
 ack_comes : (here there : Endpoint) (isn other : ℕ) (first now : Moment) → isn < 2 ^ 32 → other < 2 ^ 32
@@ -277,11 +283,11 @@ crosses v w x s y now goes is comes = ap (λ u. after_coming u (first_segment w)
 segment_due : (v : View) (due : Due) → first_due v ≡ Some due → first_segment v ≡ Some (sent_segment (head_of v due) (octets_of v due))
 segment_due v due is = ap (λ o. option_map (λ d. sent_segment (head_of v d) (octets_of v d)) o) is
 
-syns_cross : (here there : Endpoint) (isn other : ℕ) (now : Moment) → isn < 2 ^ 32 → other < 2 ^ 32
-    → after_coming (after_event (opened_actively here there isn) (Emits now)) (first_segment (opened_actively there here other)) now ≡ again_due here there isn other now
-syns_cross here there isn other now fits other_fits =
-    crosses (opened_actively here there isn) (opened_actively there here other) (waiting here there isn now) (syn_of there here other) (again_due here there isn other now) now
-    (syn_goes here there isn now fits) (segment_due (opened_actively there here other) Syn (first_is_syn there here other other_fits)) (syn_comes here there isn other now now fits)
+syns_cross : (here there : Endpoint) (isn other : ℕ) (one two now : Moment) → isn < 2 ^ 32 → other < 2 ^ 32
+    → after_coming (after_event (opened_actively here there isn one) (Emits now)) (first_segment (opened_actively there here other two)) now ≡ again_due here there isn other now
+syns_cross here there isn other one two now fits other_fits =
+    crosses (opened_actively here there isn one) (opened_actively there here other two) (waiting here there isn now) (syn_of there here other) (again_due here there isn other now) now
+    (syn_goes here there isn one now fits) (segment_due (opened_actively there here other two) Syn (first_is_syn there here other two other_fits)) (syn_comes here there isn other now now fits)
 
 syn_acks_cross : (here there : Endpoint) (isn other : ℕ) (first now : Moment) → isn < 2 ^ 32 → other < 2 ^ 32
     → after_coming (after_event (again_due here there isn other first) (Emits now)) (first_segment (again_due there here other isn first)) now ≡ again_sent here there isn other true first
@@ -299,8 +305,8 @@ acks_cross here there isn other first now fits other_fits =
     crosses v w (again_sent here there isn other false first) (ack_of there here other isn) (opened here there isn other) now
     (ack_goes here there isn other first now fits other_fits) (segment_due w Ack (first_is_ack there here other isn first other_fits)) (ack_comes here there isn other first now fits other_fits)
 
-abbrev both_open : Endpoint → Endpoint → ℕ → ℕ → Ends
-both_open here there isn other = record { one = opened_actively here there isn; other = opened_actively there here other }
+abbrev both_open : Endpoint → Endpoint → ℕ → ℕ → Moment → Moment → Ends
+both_open here there isn other one two = record { one = opened_actively here there isn one; other = opened_actively there here other two }
 
 abbrev both_due : Endpoint → Endpoint → ℕ → ℕ → Moment → Ends
 both_due here there isn other first = record { one = again_due here there isn other first; other = again_due there here other isn first }
@@ -308,10 +314,10 @@ both_due here there isn other first = record { one = again_due here there isn ot
 abbrev both_sent : Endpoint → Endpoint → ℕ → ℕ → Moment → Ends
 both_sent here there isn other first = record { one = again_sent here there isn other true first; other = again_sent there here other isn true first }
 
-first_crossing : (here there : Endpoint) (isn other : ℕ) (now : Moment) → isn < 2 ^ 32 → other < 2 ^ 32 → crossed (both_open here there isn other) now ≡ both_due here there isn other now
-first_crossing here there isn other now fits other_fits =
-    ap (λ v. record { one = v; other = after_coming (after_event (opened_actively there here other) (Emits now)) (first_segment (opened_actively here there isn)) now }) (syns_cross here there isn other now fits other_fits)
-    ∙ ap (λ w. record { one = again_due here there isn other now; other = w }) (syns_cross there here other isn now other_fits fits)
+first_crossing : (here there : Endpoint) (isn other : ℕ) (one two now : Moment) → isn < 2 ^ 32 → other < 2 ^ 32 → crossed (both_open here there isn other one two) now ≡ both_due here there isn other now
+first_crossing here there isn other one two now fits other_fits =
+    ap (λ v. record { one = v; other = after_coming (after_event (opened_actively there here other two) (Emits now)) (first_segment (opened_actively here there isn one)) now }) (syns_cross here there isn other one two now fits other_fits)
+    ∙ ap (λ w. record { one = again_due here there isn other now; other = w }) (syns_cross there here other isn two one now other_fits fits)
 
 second_crossing : (here there : Endpoint) (isn other : ℕ) (first now : Moment) → isn < 2 ^ 32 → other < 2 ^ 32 → crossed (both_due here there isn other first) now ≡ both_sent here there isn other first
 second_crossing here there isn other first now fits other_fits =
@@ -342,15 +348,15 @@ answers here there isn other first fits other_fits = record {
 has_opened : (here there : Endpoint) (isn other : ℕ) → other < 2 ^ 32 → HasOpened isn other (opened here there isn other)
 has_opened here there isn other fits = record { state = refl; una = refl; nxt = refl; expects = refl; due = none_left here there isn other fits }
 
-pub both_answered : (here there : Endpoint) (isn other : ℕ) (first : Moment) → isn < 2 ^ 32 → other < 2 ^ 32
-    → (let ends = crossed (both_open here there isn other) first in AnswersSyn isn other ends.one × AnswersSyn other isn ends.other)
-both_answered here there isn other first fits other_fits =
-    subst (λ (ends : Ends). AnswersSyn isn other ends.one × AnswersSyn other isn ends.other) (sym (first_crossing here there isn other first fits other_fits))
+pub both_answered : (here there : Endpoint) (isn other : ℕ) (one two first : Moment) → isn < 2 ^ 32 → other < 2 ^ 32
+    → (let ends = crossed (both_open here there isn other one two) first in AnswersSyn isn other ends.one × AnswersSyn other isn ends.other)
+both_answered here there isn other one two first fits other_fits =
+    subst (λ (ends : Ends). AnswersSyn isn other ends.one × AnswersSyn other isn ends.other) (sym (first_crossing here there isn other one two first fits other_fits))
     (answers here there isn other first fits other_fits, answers there here other isn first other_fits fits)
 
-pub both_opened : (here there : Endpoint) (isn other : ℕ) (first second third : Moment) → isn < 2 ^ 32 → other < 2 ^ 32
-    → (let ends = crossed (crossed (crossed (both_open here there isn other) first) second) third in HasOpened isn other ends.one × HasOpened other isn ends.other)
-both_opened here there isn other first second third fits other_fits =
-    let met = ap (λ ends. crossed (crossed ends second) third) (first_crossing here there isn other first fits other_fits)
+pub both_opened : (here there : Endpoint) (isn other : ℕ) (one two first second third : Moment) → isn < 2 ^ 32 → other < 2 ^ 32
+    → (let ends = crossed (crossed (crossed (both_open here there isn other one two) first) second) third in HasOpened isn other ends.one × HasOpened other isn ends.other)
+both_opened here there isn other one two first second third fits other_fits =
+    let met = ap (λ ends. crossed (crossed ends second) third) (first_crossing here there isn other one two first fits other_fits)
     ∙ (ap (λ ends. crossed ends third) (second_crossing here there isn other first second fits other_fits) ∙ third_crossing here there isn other first third fits other_fits) in
     subst (λ (ends : Ends). HasOpened isn other ends.one × HasOpened other isn ends.other) (sym met) (has_opened here there isn other other_fits, has_opened there here other isn fits)

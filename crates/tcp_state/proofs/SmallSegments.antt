@@ -7,7 +7,8 @@ use Rattle.tcp_state.specs.declared.emission.Stretch.{Stretch}
 use Rattle.tcp_halves.specs.Stream.{outstanding}
 use Rattle.tcp_halves.specs.Windows.{unsent, usable, sendable, is_worth_sending}
 use Rattle.tcp_state.specs.View.{View, IsSound}
-use Rattle.tcp_state.specs.Due.{first_due, again, sends_new, new_octets, fin_alone}
+use Rattle.tcp_state.specs.New.{sends_new}
+use Rattle.tcp_state.specs.Due.{first_due, again, new_octets, fin_alone}
 use Rattle.tcp_halves.proofs.Choices.{clash, and_left, and_right, or_else}
 use Rattle.tcp_state.proofs.Emissions.{by_due}
 

@@ -19,7 +19,7 @@ use Rattle.tcp_halves.specs.Stream.{outstanding, is_new_ack}
 use Rattle.tcp_state.specs.View.{View, IsSound, is_opening, is_syn_sent, is_syn_received, is_closed, is_over, is_write_closed, after_reset}
 use Rattle.tcp_state.specs.Resend.{mark_past}
 use Rattle.tcp_state.specs.Timing.{probes}
-use Rattle.tcp_state.specs.Arrival.{reset_error, after_rst_in_syn_sent, after_rst, is_acting_reset, ends_by_reset, ends_by_syn, ends_opening, is_acceptable_to, is_simultaneous_syn, after_simultaneous_syn, after_syn_ack, after_segment, is_receiving, is_read, is_duplicate, brings_more, is_lost, after_lost, after_heard, before, is_moved, resend_after, timed_by, after_segment_at, is_rejected, fate}
+use Rattle.tcp_state.specs.Arrival.{reset_error, after_rst_in_syn_sent, after_rst, is_acting_reset, ends_by_reset, ends_by_syn, ends_opening, is_acceptable_to, is_simultaneous_syn, after_simultaneous_syn, after_syn_ack, after_segment, is_receiving, is_read, octets_outstanding, is_duplicate, brings_more, is_lost, after_lost, after_heard, before, is_moved, resend_after, timed_by, after_segment_at, is_rejected, fate}
 use Rattle.tcp_state.specs.Due.{first_due, ack_due}
 use Rattle.tcp_state.specs.Edges.{after_first}
 use Rattle.tcp_state.specs.Simultaneous.{AnswersSyn}
@@ -59,7 +59,7 @@ then_sent una nxt small fits few =
 -- while the connection opens, no segment is a duplicate ACK
 repeats_none : (v : View) (s : Segment) → is_opening v.state ≡ true → is_duplicate v s ≡ false
 repeats_none v s opens =
-    ap (λ b. not b && is_read v s && nat_lt 0 (outstanding v.sending) && (length s.octets == 0) && not s.flags.fin && (s.acknowledgement == v.sending.una) && (s.window == v.sending.window)) opens
+    ap (λ b. not b && is_read v s && nat_lt 0 (octets_outstanding v) && (length s.octets == 0) && not s.flags.fin && (s.acknowledgement == v.sending.una) && (s.window == v.sending.window)) opens
 
 answers : (v : View) (s : Segment) (now : Moment) → IsSound v → v.state ≡ SynSent → AnswersSyn v.sending.una s.number (timed_by (before v s) (after_simultaneous_syn v s) now)
 answers v s now sound opens =

@@ -214,4 +214,5 @@ others_keep v e = by_event (λ e w. (w.resend.timeout ≡ v.resend.timeout) ⊎ 
   leaves = λ now lives. inl refl;
   aborts = λ e now at cause lives. inl refl;
   refused = λ number hit. inl refl;
+  hopless = λ now over. inl refl;
 }) e

@@ -16,9 +16,10 @@ use Rattle.tcp_state.specs.declared.state.State.{State}
 use Rattle.tcp_state.specs.declared.state.State.TheVariants.{Closed, Established, CloseWait}
 use Rattle.tcp_state.specs.declared.timing.TheConstants.{DELAYED_ACK_WAIT, OVERRIDE_WAIT}
 use Rattle.tcp_halves.specs.Halves.{Sending}
+use Rattle.tcp_halves.specs.Stream.{outstanding}
 use Rattle.tcp_halves.specs.Windows.{sendable, is_worth_sending, updates_window}
 use Rattle.tcp_state.specs.View.{View, IsSound, is_opening, is_closed, is_fin_wait_2, awaits_fin_ack, is_write_closed, after_stop, opened_actively}
-use Rattle.tcp_state.specs.Timing.{KeepsTime, probes, retransmits, awaits_second, awaits_more, running, clocked, after_expiry, delayed_ack_expired, after_timers}
+use Rattle.tcp_state.specs.Timing.{KeepsTime, probes, retransmits, awaits_second, awaits_more, running, waiting_since, awaits_first, clocked, after_expiry, delayed_ack_expired, after_timers}
 use Rattle.tcp_state.specs.Calls.{beyond_shutdown, latest}
 use Rattle.tcp_state.specs.Arrival.{opened_passively, is_receiving, beyond_end, after_ack, after_window, after_text, after_fin, after_heard, is_moved, since_after, resend_after, congestion_after, before}
 use Rattle.tcp_state.specs.Due.{first_due, after_going_out}
@@ -29,6 +30,8 @@ use Rattle.tcp_state.proofs.Segments.{by_fin, by_ack, by_hearing}
 use Rattle.tcp_state.proofs.Causes.{end_closes_none}
 use Rattle.tcp_state.proofs.Events.{holding, shut, by_event}
 use Rattle.tcp_state.proofs.Unchanged.{closed_holds, closed_owes}
+use Rattle.tcp_state.specs.New.{sends_new, sends_fin}
+use Rattle.tcp_state.proofs.Awaited.{awaits_nothing, stands_where, awaits_still}
 
 -- The clock at the end of an event.
 
@@ -70,6 +73,7 @@ clocked_keeps moved v now quiet = record {
   interval = first_wait (probes v) (is_some v.timers.probe) v.timers.probe now v.resend.interval v.resend.timeout.rto;
   owed = and_right v.resend.owes_probe (probes v);
   closed = λ closed. none_waits (awaits_more v) v.timers.overriding now OVERRIDE_WAIT (awaits_none v (quiet closed).1) (quiet closed).0;
+  unheard = stands_where (awaits_first v) (waiting_since v.unheard now) ∙ sym (awaits_still v (outstanding v.sending == 0) (is_opening v.state || sends_new v || sends_fin v));
 }
 
 -- An end.
@@ -87,6 +91,7 @@ stop_keeps v small =
       interval = λ none_runs. refl;
       owed = λ owes. cc;
       closed = λ closed. refl;
+      unheard = sym (awaits_nothing (after_stop v) refl refl refl);
     }
 
 -- whatever is told or owed of it
@@ -94,7 +99,7 @@ ended : (v : View) (error : Option Refusal) (released owes : Bool) (since : Mome
     → KeepsTime (record (after_stop v) { pending_error = error; released = released; owes_reset = owes; since = since })
 ended v error released owes since small =
     let k = stop_keeps v small in
-    record { retransmission = k.retransmission; probe = k.probe; delayed_ack = k.delayed_ack; overriding = k.overriding; interval = k.interval; owed = k.owed; closed = k.closed }
+    record { retransmission = k.retransmission; probe = k.probe; delayed_ack = k.delayed_ack; overriding = k.overriding; interval = k.interval; owed = k.owed; closed = k.closed; unheard = k.unheard }
 
 -- Segments.
 
@@ -200,11 +205,13 @@ stays_timed v e sound keeps = by_event (λ e w. KeepsTime w) v (record {
     interval = keeps.interval;
     owed = keeps.owed;
     closed = keeps.closed;
+    unheard = keeps.unheard;
   };
   shuts = λ now. clocked_keeps false (shut v v.released v.since) now was_quiet;
   leaves = λ now lives. clocked_keeps false (shut v true (if is_fin_wait_2 v.state then latest v.since now else v.since)) now was_quiet;
   aborts = λ e now at cause lives. ended v v.pending_error true true now sound.nxt;
   refused = λ number hit. ended v (Some ECONNREFUSED) v.released v.owes_reset v.since sound.nxt;
+  hopless = λ now over. ended v (Some ETIMEDOUT) v.released v.owes_reset v.since sound.nxt;
 }) e
   where
     was_quiet : is_closed (beyond_shutdown v.state) ≡ true → (v.timers.overriding ≡ None) × (length v.sending.held ≡ 0)
@@ -212,12 +219,12 @@ stays_timed v e sound keeps = by_event (λ e w. KeepsTime w) v (record {
 
 -- A connection that opens: nothing is outstanding, and its SYN is due.
 
-pub opened_timed : (local peer : Endpoint) (isn : ℕ) → isn < 2 ^ 32 → KeepsTime (opened_actively local peer isn)
-opened_timed local peer isn small =
+pub opened_timed : (local peer : Endpoint) (isn : ℕ) (now : Moment) → isn < 2 ^ 32 → KeepsTime (opened_actively local peer isn now)
+opened_timed local peer isn now small =
     let none : past isn isn ≡ 0 = omega (arith, small) in
-    record { retransmission = sym (ap (λ n. nat_lt 0 n && true) none); probe = refl; delayed_ack = refl; overriding = λ waits. cc; interval = λ none_runs. refl; owed = λ owes. cc; closed = λ closed. refl }
+    record { retransmission = sym (ap (λ n. nat_lt 0 n && true) none); probe = refl; delayed_ack = refl; overriding = λ waits. cc; interval = λ none_runs. refl; owed = λ owes. cc; closed = λ closed. refl; unheard = sym (ap (λ n. (n == 0) && true) none) }
 
-pub accepted_timed : (local peer : Endpoint) (isn : ℕ) (syn : Segment) → isn < 2 ^ 32 → KeepsTime (opened_passively local peer isn syn)
-accepted_timed local peer isn syn small =
+pub accepted_timed : (local peer : Endpoint) (isn : ℕ) (syn : Segment) (now : Moment) → isn < 2 ^ 32 → KeepsTime (opened_passively local peer isn syn now)
+accepted_timed local peer isn syn now small =
     let none : past isn isn ≡ 0 = omega (arith, small) in
-    record { retransmission = sym (ap (λ n. nat_lt 0 n && true) none); probe = refl; delayed_ack = refl; overriding = λ waits. cc; interval = λ none_runs. refl; owed = λ owes. cc; closed = λ closed. refl }
+    record { retransmission = sym (ap (λ n. nat_lt 0 n && true) none); probe = refl; delayed_ack = refl; overriding = λ waits. cc; interval = λ none_runs. refl; owed = λ owes. cc; closed = λ closed. refl; unheard = sym (ap (λ n. (n == 0) && true) none) }

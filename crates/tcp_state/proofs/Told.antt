@@ -106,6 +106,7 @@ in_steps v e sound past_opening small = by_event (λ e w. Steps v w) v (record {
   leaves = λ now lives. inl refl;
   aborts = λ e now at cause lives. inl refl;
   refused = λ number hit. inl refl;
+  hopless = λ now over. inl refl;
 }) e
 
 -- A step that can be told is told with what goes out next.

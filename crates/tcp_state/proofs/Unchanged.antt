@@ -14,7 +14,8 @@ use Rattle.tcp_halves.specs.Windows.{sendable, is_worth_sending, has_grown}
 use Rattle.tcp_state.specs.View.{View, IsSound, is_opening, is_syn_sent, is_syn_received, is_closed, is_over, awaits_fin_ack, is_write_finished, takes_flag_number}
 use Rattle.tcp_state.specs.Timing.{probes}
 use Rattle.tcp_state.specs.Arrival.{owing_ack, after_establishment, after_ack, is_read_on, after_acknowledging_segment, after_acceptable_segment, ends_opening, is_acceptable_to, is_right_syn_ack, after_syn_ack, is_simultaneous_syn, after_simultaneous_syn, after_segment, is_lost, after_lost, after_heard, acknowledges_unsent, is_rejected, before, timed_by, after_segment_at, fate}
-use Rattle.tcp_state.specs.Due.{first_due, again_from, new_due, ack_due, sends_fin, new_octets, fin_alone}
+use Rattle.tcp_state.specs.New.{sends_fin}
+use Rattle.tcp_state.specs.Due.{first_due, again_from, new_due, ack_due, new_octets, fin_alone}
 use Rattle.tcp_halves.proofs.Choices.{either, clash, and_left, and_right, and_false, or_right, or_else, not_true}
 
 -- the tests of a fate that rejects
@@ -138,7 +139,7 @@ closed_holds v sound closed =
     let flight : outstanding v.sending ≤ length v.sending.held + 0 = subst (λ b. outstanding v.sending ≤ length v.sending.held + (if b then 1 else 0)) plain.3 sound.flight in
     (omega (arith, held), omega (arith, held, flight))
 
-none_below : (o : Option ℕ) (n : ℕ) → n ≡ 0 → ((distance : ℕ) → o ≡ Some distance → distance < n) → o ≡ None
+pub none_below : (o : Option ℕ) (n : ℕ) → n ≡ 0 → ((distance : ℕ) → o ≡ Some distance → distance < n) → o ≡ None
 none_below None n none below = refl
 none_below (Some distance) n none below = let within = below distance refl in absurd (omega (arith, none, within))
 

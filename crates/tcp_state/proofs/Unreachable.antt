@@ -15,7 +15,8 @@ use Rattle.tcp_halves.specs.Windows.{sendable, is_worth_sending}
 use Rattle.tcp_state.specs.View.{View, IsSound, is_opening, is_syn_sent, is_closed, is_write_closed, after_stop, after_reset, is_over}
 use Rattle.tcp_state.specs.Resend.{Resend, stopped}
 use Rattle.tcp_state.specs.Timing.{probes, retransmits, awaits_more, running, retransmission_timer, probe_timer, override_timer, clocked}
-use Rattle.tcp_state.specs.Due.{first_due, new_octets, sends_new, new_due}
+use Rattle.tcp_state.specs.New.{sends_new}
+use Rattle.tcp_state.specs.Due.{first_due, new_octets, new_due}
 use Rattle.tcp_state.specs.Edges.{Unreachable, after_event, fate_by}
 use Rattle.tcp_state.specs.Unreachable.{is_unreachable, after_unreachable, IsRefused}
 use Rattle.tcp_halves.proofs.Choices.{both, of_false, unowed}

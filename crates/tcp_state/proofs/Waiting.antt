@@ -13,7 +13,8 @@ use Rattle.tcp_halves.specs.Windows.{sendable, is_worth_sending}
 use Rattle.tcp_state.specs.View.{View, IsSound, is_opening, is_closed, awaits_fin_ack, ends_at}
 use Rattle.tcp_state.specs.Congestion.{KeepsCongestion}
 use Rattle.tcp_state.specs.Timing.{KeepsTime, has_unacknowledged, probes, deadline}
-use Rattle.tcp_state.specs.Due.{first_due, ack_due, again, goes_again, again_from, sends_new, new_octets, sends_fin, fin_alone, new_due}
+use Rattle.tcp_state.specs.New.{sends_new, sends_fin}
+use Rattle.tcp_state.specs.Due.{first_due, ack_due, again, goes_again, again_from, new_octets, fin_alone, new_due}
 use Rattle.tcp_state.specs.Positions.{HasToSend, takes_numbers}
 use Rattle.tcp_halves.proofs.Choices.{either, by, clash, and_false, both, or_left, or_right, of_false}
 use Rattle.tcp_state.proofs.Unchanged.{closed_plain, closed_holds}

@@ -66,6 +66,7 @@ begins_with_event v e = by_event (λ e w. WaitsForEnd w.state → v.state ≢ w.
   leaves = λ now lives waits apart. shut_waits v.state waits apart;
   aborts = λ e now at cause lives waits apart. never_waits waits;
   refused = λ number hit waits apart. never_waits waits;
+  hopless = λ now over waits apart. never_waits waits;
 }) e
 
 -- It goes on.
@@ -157,6 +158,7 @@ moves v e waits = by_event (λ e w. Moves v e w) v (record {
       (λ half same. inr (inr (now, refl, half))) (λ other same. inl (ap (λ b. if b then latest v.since now else v.since) other)) stays;
   aborts = λ e now at cause lives stays. closed_apart v.state waits stays;
   refused = λ number hit stays. closed_apart v.state waits stays;
+  hopless = λ now over stays. closed_apart v.state waits stays;
 }) e
   where
     Still : Segment → Moment → Type 0

@@ -1,5 +1,5 @@
 -- What an arriving segment makes of a connection, step by step (RFC 9293 section 3.10.7).
-use Rattle.std.specs.Prelude.{ℕ, ◌+◌, ◌-◌, ◌%◌, ◌^◌, ◌==◌, ◌&&◌, ◌||◌, not, nat_lt, Bool, true, false, if◌then◌else◌, length, Option, Some, None}
+use Rattle.std.specs.Prelude.{ℕ, ◌+◌, ◌-◌, ◌%◌, ◌^◌, ◌==◌, ◌&&◌, ◌||◌, not, nat_lt, min, Bool, true, false, if◌then◌else◌, length, Option, Some, None}
 use Rattle.tcp_state.specs.declared.calls.Refusal.{Refusal}
 use Rattle.tcp_state.specs.declared.calls.Refusal.TheVariants.{ECONNREFUSED, ECONNRESET}
 use Rattle.ipv4.specs.declared.addr.Endpoint.{Endpoint}
@@ -29,9 +29,9 @@ use Rattle.tcp_state.specs.Calls.{aborted}
 abbrev pub owing_ack : View → View
 owing_ack v = record v { owes_ack = true }
 
--- a connection that a SYN opens at a listener (section 3.10.7.2): no window is advertised yet
-abbrev pub opened_passively : Endpoint → Endpoint → ℕ → Segment → View
-opened_passively local peer isn syn = record {
+-- a connection that a SYN opens at a listener at this moment (section 3.10.7.2): no window is advertised yet
+abbrev pub opened_passively : Endpoint → Endpoint → ℕ → Segment → Moment → View
+opened_passively local peer isn syn now = record {
   local = local;
   peer = peer;
   state = SynReceived;
@@ -47,6 +47,7 @@ opened_passively local peer isn syn = record {
   released = false;
   owes_reset = false;
   since = record { 0 = 0 };
+  unheard = Some now;
 }
 
 -- Why a reset ends the connection, by the state that it ends: refused while it opens, reset while octets may still come or go; else both sides were closed
@@ -258,10 +259,14 @@ repeats_fin v s = is_time_wait v.state && not s.flags.rst && not (is_acceptable_
 abbrev pub answers_probe : View → Segment → Bool
 answers_probe v s = not (is_opening v.state) && (v.sending.window == 0) && is_acceptable_to v s && s.flags.ack && not s.flags.rst
 
+-- past the opening, how many octets are outstanding: the FIN behind all that are held is none
+abbrev pub octets_outstanding : View → ℕ
+octets_outstanding v = min (length v.sending.held) (outstanding v.sending)
+
 -- A duplicate ACK (RFC 5681 section 2): octets are outstanding, and the segment brings none, nor a SYN or a FIN; it acknowledges what is acknowledged and tells the window that is known.
 abbrev pub is_duplicate : View → Segment → Bool
 is_duplicate v s =
-    not (is_opening v.state) && is_read v s && nat_lt 0 (outstanding v.sending)
+    not (is_opening v.state) && is_read v s && nat_lt 0 (octets_outstanding v)
     && (length s.octets == 0) && not s.flags.fin
     && (s.acknowledgement == v.sending.una) && (s.window == v.sending.window)
 

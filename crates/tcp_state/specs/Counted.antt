@@ -1,5 +1,5 @@
 -- From when a connection counts its waits, and what it takes an event for (RFC 9293 sections 3.6.1 and 3.10.7.4, RFC 5681 section 2, RFC 6298).
-use Rattle.std.specs.Prelude.{◌≡◌, ◌<◌, ◌≤◌, ◌⊎◌, true, false, []}
+use Rattle.std.specs.Prelude.{◌≡◌, None, ℕ, length, ◌<◌, ◌≤◌, ◌⊎◌, true, false, []}
 use Rattle.tcp_segment.specs.Segment.{Segment, span_of}
 use Rattle.tcp_segment.specs.Wire.{wire, past}
 use Rattle.tcp_state.specs.declared.emission.Due.{Due}
@@ -9,6 +9,10 @@ use Rattle.tcp_state.specs.declared.state.State.{State}
 use Rattle.tcp_state.specs.declared.state.State.TheVariants.{SynSent, FinWait2, TimeWait}
 use Rattle.tcp_halves.specs.Stream.{outstanding}
 use Rattle.tcp_state.specs.View.{View, is_opening}
+use Rattle.tcp_state.specs.declared.calls.Refusal.TheVariants.{ETIMEDOUT}
+use Rattle.tcp_state.specs.Timing.{deadline}
+use Rattle.tcp_state.specs.Due.{first_due}
+use Rattle.tcp_state.specs.Said.{IsClosedBy}
 use Rattle.tcp_state.specs.Arrival.{is_acceptable_to}
 
 -- the states in which a connection waits for its end
@@ -28,10 +32,14 @@ pub record BringsSyn (v : View) (s : Segment) : Type 0 where
   pub no_rst : s.flags.rst ≡ false
   pub syn : s.flags.syn ≡ true
 
--- A duplicate ACK (RFC 5681 section 2): numbers are outstanding, and an acceptable segment acknowledges none of them and tells the window that is known; it brings no octets, no SYN, FIN or RST.
+-- some octet that is held has gone out, and is not acknowledged
+abbrev pub HasOctetOut : View → Type 0
+HasOctetOut v = (i : ℕ) × (i < length v.sending.held) × (i < past v.sending.nxt v.sending.una)
+
+-- A duplicate ACK (RFC 5681 section 2): octets are outstanding, not only our FIN, and an acceptable segment acknowledges none of them and tells the window that is known; it brings no octets, no SYN, FIN or RST.
 pub record IsDuplicate (v : View) (s : Segment) : Type 0 where
   pub opened : is_opening v.state ≡ false
-  pub outstanding : 0 < past v.sending.nxt v.sending.una
+  pub outstanding : HasOctetOut v
   pub acceptable : is_acceptable_to v s ≡ true
   pub ack : s.flags.ack ≡ true
   pub at_una : s.acknowledgement ≡ v.sending.una
@@ -40,6 +48,15 @@ pub record IsDuplicate (v : View) (s : Segment) : Type 0 where
   pub no_syn : s.flags.syn ≡ false
   pub no_fin : s.flags.fin ≡ false
   pub no_rst : s.flags.rst ≡ false
+
+-- A connection that was given up: it is CLOSED, every call is told ETIMEDOUT, it holds nothing and nothing is outstanding, nothing of it is due, and the clock does nothing more to it.
+pub record IsGivenUp (w : View) : Type 0 where
+  pub told : IsClosedBy ETIMEDOUT w
+  pub held : w.sending.held ≡ []
+  pub none_out : w.sending.nxt ≡ w.sending.una
+  pub due : first_due w ≡ None
+  pub timer : deadline w ≡ None
+  pub unheard : w.unheard ≡ None
 
 -- numbers go out for the first time: our SYN, or a stretch past all that is outstanding
 abbrev pub BringsNew : View → Due → Type 0

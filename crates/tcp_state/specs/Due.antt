@@ -11,8 +11,9 @@ use Rattle.tcp_state.specs.declared.emission.Stretch.{Stretch}
 use Rattle.clock.specs.declared.moment.Moment.{Moment}
 use Rattle.tcp_state.specs.Resend.{resend_again, resend_sent, resend_probed, resend_syn_again}
 use Rattle.tcp_halves.specs.Stream.{outstanding, after_sent, receive_window}
-use Rattle.tcp_halves.specs.Windows.{open_window, sendable, next_count, is_worth_sending, has_grown, after_advertisement}
+use Rattle.tcp_halves.specs.Windows.{open_window, next_count, has_grown, after_advertisement}
 use Rattle.tcp_state.specs.View.{View, is_opening, is_syn_sent, is_syn_received, is_closed, awaits_fin_ack}
+use Rattle.tcp_state.specs.New.{sends_new, sends_fin}
 use Rattle.tcp_state.specs.Timing.{probes, clocked}
 
 -- The segment that goes out for each thing that may be due.
@@ -194,17 +195,11 @@ abbrev pub again_from : View → Option ℕ → Option Due
 again_from v None = None
 again_from v (Some mark) = if goes_again v mark then Some (Text (again v mark)) else None
 
--- new octets: both windows take some, and they are worth a segment
-abbrev pub sends_new : View → Bool
-sends_new v = nat_lt 0 (sendable v.sending v.congestion.cwnd) && is_worth_sending v.sending v.congestion.cwnd v.resend.overridden
-
+-- the new octets of the next segment
 abbrev pub new_octets : View → Stretch
 new_octets v = record { offset = outstanding v.sending; count = next_count v.sending v.congestion.cwnd; fin = false }
 
--- the FIN of a closed side: all octets went out, and the peer's window takes one number more
-abbrev pub sends_fin : View → Bool
-sends_fin v = awaits_fin_ack v.state && (outstanding v.sending == length v.sending.held) && nat_lt (outstanding v.sending) v.sending.window
-
+-- the FIN behind all octets
 abbrev pub fin_alone : View → Stretch
 fin_alone v = record { offset = outstanding v.sending; count = 0; fin = true }
 

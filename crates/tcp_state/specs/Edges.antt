@@ -16,6 +16,7 @@ use Rattle.tcp_state.specs.declared.calls.Refusal.TheVariants.{ECONNREFUSED, ECO
 use Rattle.tcp_halves.specs.Stream.{outstanding, is_new_ack}
 use Rattle.tcp_state.specs.View.{View, is_syn_sent, is_syn_received, is_closed, is_at_end, is_over}
 use Rattle.tcp_state.specs.Timing.{gives_up, after_tick, tick_fate}
+use Rattle.tcp_state.specs.Hop.{unheard_until, after_hopless, hopless_fate}
 use Rattle.tcp_state.specs.Calls.{after_send, after_recv, shutdown_refusal, after_shutdown, after_abort, abort_fate, is_removed_by_close, is_aborted_by_close, after_close, close_fate}
 use Rattle.tcp_state.specs.Arrival.{reset_error, is_acting_reset, ends_by_reset, ends_by_syn, is_of_fin, is_lost, is_read, is_rejected, before, after_heard, congestion_event_of, after_segment_at, fate}
 use Rattle.tcp_state.specs.Due.{first_due, after_emitted}
@@ -55,8 +56,8 @@ may_join _ _ = false
 abbrev pub IsEdge : State → State → Type 0
 IsEdge before after = (before ≡ after) ⊎ (may_join before after ≡ true)
 
--- what may happen to a connection: a segment comes, the clock moves, what is due first goes out, its caller calls, or an error tells that the segment of a
--- number can't be delivered
+-- what may happen to a connection: a segment comes, the clock moves, what is due first goes out, its caller calls, an error tells that the segment of a
+-- number can't be delivered, or the clock moves while the hop to its peer is not known
 pub data Event : Type 0 where
   Hears : Segment → Moment → Event
   Ticks : Moment → Event
@@ -67,6 +68,7 @@ pub data Event : Type 0 where
   Closes : Moment → Event
   Aborts : Moment → Event
   Unreachable : ℕ → Event
+  LosesHop : Moment → Event
 
 -- when it happens, where it has a moment
 abbrev pub moment_of : Event → Option Moment
@@ -77,6 +79,7 @@ moment_of (Sends octets now) = Some now
 moment_of (Shuts now) = Some now
 moment_of (Closes now) = Some now
 moment_of (Aborts now) = Some now
+moment_of (LosesHop now) = Some now
 moment_of _ = None
 
 -- what is due goes out, if anything is
@@ -95,6 +98,7 @@ after_event v (Shuts now) = if is_some (shutdown_refusal v) then v else after_sh
 after_event v (Closes now) = after_close v now
 after_event v (Aborts now) = after_abort v now
 after_event v (Unreachable number) = after_unreachable v number
+after_event v (LosesHop now) = after_hopless v now
 
 -- what a tick is to the congestion window: an event where the retransmission timer expires
 abbrev pub congestion_event_at : View → Moment → Signal
@@ -120,6 +124,7 @@ fate_by v (Shuts now) = Stays
 fate_by v (Closes now) = close_fate v
 fate_by v (Aborts now) = abort_fate v
 fate_by v (Unreachable number) = unreachable_fate v number
+fate_by v (LosesHop now) = hopless_fate v now
 
 abbrev pub is_removed : Fate → Bool
 is_removed Removed = true
@@ -148,7 +153,7 @@ ends_by_ack v s = is_last_ack v.state && is_read v s && is_new_ack v.sending s.a
 
 -- What ends a connection: a `close` that takes it out or aborts it, and an abort; a reset that acts, a SYN before it is established,
 -- octets after its caller closed it, or the acknowledgement of our FIN in LAST-ACK; the clock at the end of its wait, or at the thirteenth expiry without progress; the going out of
--- the reset of an abort; and an error that tells that its SYN can't be delivered.
+-- the reset of an abort; an error that tells that its SYN can't be delivered; and the clock, where what takes numbers waited for a hop as long as it may.
 abbrev pub is_cause : View → Event → Bool
 is_cause v (Closes now) = is_removed_by_close v || is_aborted_by_close v
 is_cause v (Aborts now) = true
@@ -159,6 +164,7 @@ is_cause v (Sends octets now) = false
 is_cause v (Receives len) = false
 is_cause v (Shuts now) = false
 is_cause v (Unreachable number) = is_unreachable v number
+is_cause v (LosesHop now) = has_come (unheard_until v) now
 
 -- it is taken out, or becomes CLOSED
 abbrev pub ends_by : View → Event → Bool
@@ -179,7 +185,8 @@ abbrev pub is_timeout : Refusal → Bool
 is_timeout ETIMEDOUT = true
 is_timeout _ = false
 
--- an event raises this error: a reset that acts and leaves the connection its place, or an error about its SYN, in a state that has it; or the last expiry
+-- an event raises this error: a reset that acts and leaves the connection its place, or an error about its SYN, in a state that has it; or the last expiry,
+-- or the end of the wait for a hop
 abbrev pub may_raise : View → Event → Refusal → Bool
 may_raise v (Hears s now) error = is_reset_by v s && not (ends_by_reset v s) && is_error_of v.state error
 may_raise v (Ticks now) error = not (is_at_end v now) && gives_up v now && is_timeout error
@@ -190,3 +197,4 @@ may_raise v (Shuts now) error = false
 may_raise v (Closes now) error = false
 may_raise v (Aborts now) error = false
 may_raise v (Unreachable number) error = is_unreachable v number && is_error_of v.state error
+may_raise v (LosesHop now) error = has_come (unheard_until v) now && is_timeout error

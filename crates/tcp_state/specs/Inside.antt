@@ -19,4 +19,5 @@ view_of c = record {
   released = c.is_released;
   owes_reset = c.owes_reset;
   since = c.since;
+  unheard = c.unheard;
 }

@@ -6,7 +6,9 @@ pub mod Resend
 pub mod ResendInside
 pub mod View
 pub mod Congestion
+pub mod New
 pub mod Timing
+pub mod Hop
 pub mod Names
 pub mod Calls
 pub mod Arrival

@@ -13,6 +13,7 @@ use Rattle.tcp_state.specs.declared.timing.TheConstants.{DELAYED_ACK_WAIT, OVERR
 use Rattle.tcp_state.specs.Resend.{resend_expired, resend_probes}
 use Rattle.tcp_halves.specs.Stream.{outstanding}
 use Rattle.tcp_halves.specs.Windows.{waits_for_more}
+use Rattle.tcp_state.specs.New.{sends_new, sends_fin}
 use Rattle.tcp_state.specs.View.{View, is_opening, is_syn_received, is_closed, awaits_fin_ack, ends_at, is_at_end, after_stop, after_reset}
 
 -- When each timer runs.
@@ -62,6 +63,19 @@ override_timer v now = if awaits_more v then running v.timers.overriding now OVE
 abbrev pub interval_of : View → ℕ
 interval_of v = if probes v && is_some v.timers.probe then v.resend.interval else v.resend.timeout.rto
 
+-- A segment that takes numbers is due, and nothing is outstanding: the SYN while the connection opens; new octets, or the FIN alone, that may go out; or a probe that is owed.
+abbrev pub awaits_first : View → Bool
+awaits_first v = (outstanding v.sending == 0) && (is_opening v.state || sends_new v || sends_fin v || (v.resend.owes_probe && probes v))
+
+-- a wait goes on where it stands, and else begins
+abbrev pub waiting_since : Option Moment → Moment → Moment
+waiting_since (Some since) now = since
+waiting_since None now = now
+
+-- since when such a segment has been due
+abbrev pub unheard_since : View → Moment → Option Moment
+unheard_since v now = if awaits_first v then Some (waiting_since v.unheard now) else None
+
 -- At the end of each event its timers run, stop or begin as the connection wants them, and no probe is due of a window that is open. `moved` tells whether the event moved SND.UNA.
 abbrev pub clocked : Bool → View → Moment → View
 clocked moved v now = record v {
@@ -72,9 +86,10 @@ clocked moved v now = record v {
     delayed_ack = delayed_ack_timer v now;
     overriding = override_timer v now;
   };
+  unheard = unheard_since v now;
 }
 
--- The timers run exactly where something waits for them, the override where new octets began to. So it is for each connection after each event.
+-- The timers run exactly where something waits for them, the override where new octets began to; and a moment stands exactly where a segment that takes numbers is due while nothing is outstanding. So it is for each connection after each event.
 pub record KeepsTime (v : View) : Type 0 where
   pub retransmission : is_some v.timers.retransmission ≡ retransmits v
   pub probe : is_some v.timers.probe ≡ probes v
@@ -83,6 +98,7 @@ pub record KeepsTime (v : View) : Type 0 where
   pub interval : is_some v.timers.probe ≡ false → v.resend.interval ≡ v.resend.timeout.rto
   pub owed : v.resend.owes_probe ≡ true → probes v ≡ true
   pub closed : is_closed v.state ≡ true → v.timers.overriding ≡ None
+  pub unheard : is_some v.unheard ≡ awaits_first v
 
 -- What a tick does.
 

@@ -44,6 +44,8 @@ pub record View : Type 0 where
   pub owes_reset : Bool
   -- the moment from which its wait in TIME-WAIT, or in FIN-WAIT-2 where it is released, or that of the reset that it owes, is counted
   pub since : Moment
+  -- since when a segment that takes numbers (the SYN, octets, the FIN, a probe) has been due while nothing is outstanding
+  pub unheard : Option Moment
 
 -- SYN-SENT or SYN-RECEIVED
 abbrev pub is_opening : State → Bool
@@ -127,6 +129,7 @@ after_stop v = record v {
   delays_ack = false;
   resend = stopped v.resend;
   timers = no_timers;
+  unheard = None;
 }
 
 -- An error ends the connection: every call reports it from now on.
@@ -145,9 +148,9 @@ reset_since v = if v.owes_reset then Some v.since else None
 abbrev pub first_congestion : Window
 first_congestion = initial_window DEFAULT_MSS false
 
--- a connection that its caller opens (RFC 9293 section 3.10.1)
-abbrev pub opened_actively : Endpoint → Endpoint → ℕ → View
-opened_actively local peer isn = record {
+-- a connection that its caller opens at this moment (RFC 9293 section 3.10.1)
+abbrev pub opened_actively : Endpoint → Endpoint → ℕ → Moment → View
+opened_actively local peer isn now = record {
   local = local;
   peer = peer;
   state = SynSent;
@@ -163,6 +166,7 @@ opened_actively local peer isn = record {
   released = false;
   owes_reset = false;
   since = record { 0 = 0 };
+  unheard = Some now;
 }
 
 -- a SYN, or the FIN of a closed side behind all octets, may be outstanding
@@ -184,7 +188,7 @@ pub record IsSound (v : View) : Type 0 where
   pub held : length v.sending.held ≤ (if is_opening v.state || is_write_finished v.state then 0 else CAPACITY)
   pub readable : length v.receiving.readable ≤ (if is_opening v.state then 0 else CAPACITY)
   pub window : ReceivingFits v.receiving
-  pub unheard : (is_syn_sent v.state && not (receive_window v.receiving == 0)) ≡ false
+  pub untold : (is_syn_sent v.state && not (receive_window v.receiving == 0)) ≡ false
   pub buffer : IsReceiving (buffer_of v.receiving)
   pub kept : KeptInWindow v.receiving
   pub flight : outstanding v.sending ≤ most_outstanding v

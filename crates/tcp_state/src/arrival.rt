@@ -2,7 +2,7 @@
 
 ghost use Rattle.std.specs.Prelude.{◌≡◌, ◌≤◌, ◌-◌, [], length, true, false, ◌&&◌, ◌||◌, not, if◌then◌else◌, IsTrue, ◌==◌};
 ghost use Rattle.tcp_state.specs.View.{is_opening, is_syn_sent, is_syn_received, is_closed, awaits_fin_ack, after_reset};
-ghost use Rattle.tcp_state.specs.Arrival.{after_segment, after_syn_ack, owing_ack, after_establishment, after_ack, is_read_on, after_window, after_text, after_acknowledging_segment, after_acceptable_segment, ends_by_syn, is_acceptable_to, fin_acknowledged, after_new_ack, after_fin, reset_error, after_rst_in_syn_sent, after_rst, is_acting_reset, ends_by_reset, is_right_syn_ack, is_simultaneous_syn, after_simultaneous_syn, fate, after_segment_at, after_heard, is_lost, is_read, brings_more, after_lost, repeats_fin, is_rejected, ends_opening, is_of_fin, may_delay, answers_probe, is_duplicate, before, is_moved, resend_heard, congestion_event_of, reveals_loss, congestion_after, timed_by, begins_wait};
+ghost use Rattle.tcp_state.specs.Arrival.{after_segment, after_syn_ack, owing_ack, after_establishment, after_ack, is_read_on, after_window, after_text, after_acknowledging_segment, after_acceptable_segment, ends_by_syn, is_acceptable_to, fin_acknowledged, after_new_ack, after_fin, reset_error, after_rst_in_syn_sent, after_rst, is_acting_reset, ends_by_reset, is_right_syn_ack, is_simultaneous_syn, after_simultaneous_syn, fate, after_segment_at, after_heard, is_lost, is_read, brings_more, after_lost, repeats_fin, is_rejected, ends_opening, is_of_fin, may_delay, answers_probe, octets_outstanding, is_duplicate, before, is_moved, resend_heard, congestion_event_of, reveals_loss, congestion_after, timed_by, begins_wait};
 ghost use Rattle.tcp_state.specs.declared.state.State.{State};
 ghost use Rattle.tcp_segment.specs.Segment.{smss_of};
 ghost use Rattle.tcp_segment.specs.Wire.{past};
@@ -72,17 +72,25 @@ impl Connection {
         }
     }
 
-    /// Whether a segment is a duplicate ACK (RFC 5681 section 2).
+    /// Whether a segment is a duplicate ACK (RFC 5681 section 2): octets are outstanding, and not only our FIN.
     fn is_duplicate(&self, segment: &TcpView<'_>) -> bool
         ensures { result ≡ is_duplicate self.now segment.now }
     {
         !self.state.is_opening()
             && self.is_read(segment)
-            && self.sender.outstanding() > 0
+            && self.octets_outstanding() > 0
             && segment.payload().is_empty()
             && !segment.flags().fin
             && segment.acknowledgement() == self.sender.una()
             && u32::from(segment.window()) == self.sender.window()
+    }
+
+    /// How many octets are outstanding, past the opening: our FIN, behind all that are held, is none.
+    fn octets_outstanding(&self) -> usize
+        ensures { result ≡ octets_outstanding self.now }
+    {
+        let outstanding = self.sender.outstanding() as usize;
+        self.sender.held_len().min(outstanding)
     }
 
     /// Whether a segment shows that a peer whose window is closed is there.

@@ -61,6 +61,8 @@ pub struct Connection {
     pub(crate) owes_reset: bool,
     /// The moment from which TIME-WAIT, FIN-WAIT-2 without a caller, or the wait of an owed reset is counted.
     pub(crate) since: Moment,
+    /// Since when a segment that takes numbers has been due while nothing is outstanding.
+    pub(crate) unheard: Option<Moment>,
 }
 
 impl Model for Connection {
@@ -76,9 +78,15 @@ impl Model for Connection {
 }
 
 impl Connection {
-    /// A connection that its caller opens: a SYN with the number `isn` is due (RFC 9293 section 3.5).
-    pub fn active(buffers: Buffers, local: Endpoint, peer: Endpoint, isn: Seq) -> Connection
-        ensures { result ≡ opened_actively local peer isn.0 }
+    /// A connection that its caller opens at this moment: a SYN with the number `isn` is due (RFC 9293 section 3.5).
+    pub fn active(
+        buffers: Buffers,
+        local: Endpoint,
+        peer: Endpoint,
+        isn: Seq,
+        now: Moment,
+    ) -> Connection
+        ensures { result ≡ opened_actively local peer isn.0 now }
     {
         let (sender, receiver) = buffers.into_halves(isn);
         Connection {
@@ -97,20 +105,22 @@ impl Connection {
             is_released: false,
             owes_reset: false,
             since: Moment(0),
+            unheard: Some(now),
         }
     }
 
-    /// A connection that the peer's `syn` opens at a listener: a SYN-ACK with the number `isn` is due.
+    /// A connection that the peer's `syn` opens at a listener at this moment: a SYN-ACK with the number `isn` is due.
     pub fn passive(
         buffers: Buffers,
         local: Endpoint,
         peer: Endpoint,
         isn: Seq,
         syn: &TcpView<'_>,
+        now: Moment,
     ) -> Connection
-        ensures { result ≡ opened_passively local peer isn.0 syn.now }
+        ensures { result ≡ opened_passively local peer isn.0 syn.now now }
     {
-        let mut connection = Connection::active(buffers, local, peer, isn);
+        let mut connection = Connection::active(buffers, local, peer, isn, now);
         connection.take_syn(syn, 0);
         connection.is_passive = true;
         connection

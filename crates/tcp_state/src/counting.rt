@@ -1,9 +1,9 @@
 //! Laws of what a connection counts from, of what it takes each event for, and of what the clock leaves.
 
-ghost use Rattle.std.specs.Prelude.{◌≡◌, ◌≢◌, ◌-◌, ◌*◌, ◌<◌, ◌≤◌, ◌&&◌, nat_lt, ◌⊎◌, ◌↔◌, ℕ, min, max, true, false, length, Some, None, []};
+ghost use Rattle.std.specs.Prelude.{◌≡◌, ◌≢◌, ◌-◌, ◌*◌, ◌<◌, ◌≤◌, ◌&&◌, nat_lt, ◌⊎◌, ◌↔◌, ℕ, min, max, true, false, if◌then◌else◌, length, Some, None, is_some, []};
 ghost use Rattle.ipv4.specs.declared.addr.Endpoint.{Endpoint};
 ghost use Rattle.tcp_segment.specs.Options.{last_mss};
-ghost use Rattle.tcp_segment.specs.Segment.{Segment, smss_of};
+ghost use Rattle.tcp_segment.specs.Segment.{Segment, smss_of, span_of};
 ghost use Rattle.tcp_segment.specs.Wire.{past};
 ghost use Rattle.clock.specs.declared.moment.Moment.{Moment};
 ghost use Rattle.clock.specs.Moments.{after, has_come};
@@ -15,12 +15,13 @@ ghost use Rattle.tcp_state.specs.declared.resend.Timed.{Timed};
 ghost use Rattle.tcp_state.specs.declared.connection.Fate.{Fate};
 ghost use Rattle.tcp_state.specs.declared.emission.Due.{Due};
 ghost use Rattle.tcp_state.specs.declared.state.State.{State};
-ghost use Rattle.tcp_state.specs.View.{View, IsSound, is_opening, is_closed, opened_actively};
+ghost use Rattle.tcp_state.specs.View.{View, IsSound, is_opening, is_syn_received, is_closed, opened_actively};
 ghost use Rattle.tcp_state.specs.Timing.{KeepsTime};
 ghost use Rattle.tcp_state.specs.Arrival.{opened_passively, is_duplicate};
 ghost use Rattle.tcp_state.specs.Due.{first_due, octets_of};
-ghost use Rattle.tcp_state.specs.Edges.{Event, after_event, fate_by, moment_of};
-ghost use Rattle.tcp_state.specs.Counted.{WaitsForEnd, BringsFinAgain, BringsSyn, IsDuplicate, BringsNew, BringsAgain};
+ghost use Rattle.tcp_state.specs.Edges.{Event, after_event, fate_by, moment_of, state_after};
+ghost use Rattle.tcp_state.specs.Said.{segment_of};
+ghost use Rattle.tcp_state.specs.Counted.{WaitsForEnd, BringsFinAgain, BringsSyn, IsDuplicate, IsGivenUp, BringsNew, BringsAgain};
 
 /// The wait of a connection for its end is counted from the event that leads to TIME-WAIT or to FIN-WAIT-2 (RFC 9293 sections 3.4.2, 3.6.1 and 3.10.7.4). In TIME-WAIT a segment that brings the peer's FIN again,
 /// and nothing else, begins it anew; in FIN-WAIT-2 nothing but the `close` of its caller does, so that it counts from the later of the two. A tick ends it exactly where it has lasted 240,000 ms in TIME-WAIT,
@@ -46,7 +47,7 @@ pub fn waits_are_counted_from_their_event()
 /// The most octets that a connection sends in one segment are those of the SYN by which its peer opened (RFC 9293 section 3.7.1, RFC 5681 section 2): what its MSS option says, at least 64 and at most 1,460,
 /// or 536 where it has none. So it is whether the SYN came to a listener, with the answer to our SYN, or across it; no other event moves the number, and what is due has no more octets.
 pub fn sizes_are_the_peers()
-    ensures listener { (local peer : Endpoint) (isn : ℕ) (syn : Segment) → (opened_passively local peer isn syn).sending.smss ≡ smss_of syn }
+    ensures listener { (local peer : Endpoint) (isn : ℕ) (syn : Segment) (now : Moment) → (opened_passively local peer isn syn now).sending.smss ≡ smss_of syn }
     ensures opens { (v : View) (s : Segment) (now : Moment) → v.state ≡ State.SynSent
         → ((after_event v (Event.Hears s now)).state ≡ State.SynReceived) ⊎ ((after_event v (Event.Hears s now)).state ≡ State.Established) → (after_event v (Event.Hears s now)).sending.smss ≡ smss_of s }
     ensures others { (v : View) (e : Event) → ((after_event v e).sending.smss ≡ v.sending.smss) ⊎ ((s : Segment) × (now : Moment) × (e ≡ Event.Hears s now) × BringsSyn v s × ((after_event v e).sending.smss ≡ smss_of s)) }
@@ -116,10 +117,36 @@ pub fn new_numbers_are_measured()
 /// A connection remembers that its SYN was lost, by which its congestion window begins with one segment (RFC 5681 section 3.1): from the going out of a SYN or SYN-ACK again after an expiry, and then for ever. One
 /// that goes out again in answer to the peer's was not lost, and nothing else counts so.
 pub fn lost_syns_are_remembered()
-    ensures opened { (local peer : Endpoint) (isn : ℕ) → (opened_actively local peer isn).resend.syn_resent ≡ false }
-    ensures accepted { (local peer : Endpoint) (isn : ℕ) (syn : Segment) → (opened_passively local peer isn syn).resend.syn_resent ≡ false }
+    ensures opened { (local peer : Endpoint) (isn : ℕ) (now : Moment) → (opened_actively local peer isn now).resend.syn_resent ≡ false }
+    ensures accepted { (local peer : Endpoint) (isn : ℕ) (syn : Segment) (now : Moment) → (opened_passively local peer isn syn now).resend.syn_resent ≡ false }
     ensures resent { (v : View) (now : Moment) → first_due v ≡ Some Due.Syn → 0 < outstanding v.sending → 0 < v.resend.expiries → (after_event v (Event.Emits now)).resend.syn_resent ≡ true }
     ensures stays { (v : View) (e : Event) → v.resend.syn_resent ≡ true → (after_event v e).resend.syn_resent ≡ true }
     ensures others { (v : View) (e : Event) → v.resend.syn_resent ≡ false → (after_event v e).resend.syn_resent ≡ true
         → (now : Moment) × (e ≡ Event.Emits now) × (first_due v ≡ Some Due.Syn) × (0 < outstanding v.sending) × (0 < v.resend.expiries) }
+{}
+
+/// Since when a connection waits for the hop to its peer. A moment stands exactly where a segment that takes numbers is due first and nothing is outstanding: the SYN, octets, the FIN, or a probe. It is that of the
+/// event by which the wait began, as the opening is; and as long as it stands no event moves it.
+pub fn first_segments_wait_from_their_event()
+    ensures stands { (v : View) → IsSound v → KeepsTime v
+        → (is_some v.unheard ≡ true) ↔ ((v.sending.nxt ≡ v.sending.una) × ((due : Due) × (first_due v ≡ Some due) × (0 < span_of (segment_of v due)))) }
+    ensures opened { (local peer : Endpoint) (isn : ℕ) (now : Moment) → (opened_actively local peer isn now).unheard ≡ Some now }
+    ensures accepted { (local peer : Endpoint) (isn : ℕ) (syn : Segment) (now : Moment) → (opened_passively local peer isn syn now).unheard ≡ Some now }
+    ensures begins { (v : View) (e : Event) (since : Moment) → v.unheard ≡ None → (after_event v e).unheard ≡ Some since → moment_of e ≡ Some since }
+    ensures stays { (v : View) (e : Event) (since : Moment) → v.unheard ≡ Some since → ((after_event v e).unheard ≡ Some since) ⊎ ((after_event v e).unheard ≡ None) }
+{}
+
+/// A connection whose hop is not known at a tick is given up where a first segment has waited for it for 483,000 ms, the time in which a SYN that nobody answers is given up (RFC 1122 section 4.2.3.5, RFC 9293
+/// section 3.8.3): every call is told ETIMEDOUT, and what its caller closed is taken out. What a listener opened, and is not established, waits for 3,000 ms, and goes back to LISTEN. Before, and where nothing waits,
+/// such a tick changes nothing.
+pub fn lost_hops_give_up()
+    ensures unneeded { (v : View) (now : Moment) → v.unheard ≡ None → (after_event v (Event.LosesHop now) ≡ v) × (fate_by v (Event.LosesHop now) ≡ Fate.Stays) }
+    ensures awaited { (v : View) (since now : Moment) → (v.passive && is_syn_received v.state) ≡ false → v.unheard ≡ Some since → now.0 < (after since 483000).0
+        → (after_event v (Event.LosesHop now) ≡ v) × (fate_by v (Event.LosesHop now) ≡ Fate.Stays) }
+    ensures given_up { (v : View) (since now : Moment) → IsSound v → KeepsTime v → (v.passive && is_syn_received v.state) ≡ false → v.unheard ≡ Some since → (after since 483000).0 ≤ now.0
+        → IsGivenUp (after_event v (Event.LosesHop now)) × (fate_by v (Event.LosesHop now) ≡ (if v.released then Fate.Removed else Fate.Stays)) }
+    ensures listener_waits { (v : View) (since now : Moment) → (v.passive && is_syn_received v.state) ≡ true → v.unheard ≡ Some since → now.0 < (after since 3000).0
+        → (after_event v (Event.LosesHop now) ≡ v) × (fate_by v (Event.LosesHop now) ≡ Fate.Stays) }
+    ensures listener_ends { (v : View) (since now : Moment) → IsSound v → KeepsTime v → (v.passive && is_syn_received v.state) ≡ true → v.unheard ≡ Some since → (after since 3000).0 ≤ now.0
+        → IsGivenUp (after_event v (Event.LosesHop now)) × (fate_by v (Event.LosesHop now) ≡ Fate.Removed) × (state_after v (Event.LosesHop now) ≡ State.Listen) }
 {}

@@ -5,8 +5,9 @@ ghost use Rattle.inet_sum.specs.Sum.{sum_of};
 ghost use Rattle.tcp_state.specs.View.{is_opening, is_syn_sent, most_outstanding};
 ghost use Rattle.tcp_halves.specs.Stream.{outstanding};
 ghost use Rattle.tcp_segment.specs.declared.TheConstants.{MSS};
+ghost use Rattle.tcp_state.specs.New.{sends_new, sends_fin};
 ghost use Rattle.tcp_state.specs.Timing.{probes};
-ghost use Rattle.tcp_state.specs.Due.{MayGoOut, IsHeld, first_due, ack_due, again, goes_again, again_from, sends_new, new_octets, sends_fin, fin_alone, new_due, probe_stretch, numbers_of, end_of, flags_of, flags_of_stretch, ack_number, number_of, octets_of, window_of, head_of, segment_octets, emitted_len, after_emitted, after_going_out, after_ack_paid, after_numbers, after_resent, after_first_sent, after_new_octets, brings_new_octets, after_stretch, after_probe, after_syn_out};
+ghost use Rattle.tcp_state.specs.Due.{MayGoOut, IsHeld, first_due, ack_due, again, goes_again, again_from, new_octets, fin_alone, new_due, probe_stretch, numbers_of, end_of, flags_of, flags_of_stretch, ack_number, number_of, octets_of, window_of, head_of, segment_octets, emitted_len, after_emitted, after_going_out, after_ack_paid, after_numbers, after_resent, after_first_sent, after_new_octets, brings_new_octets, after_stretch, after_probe, after_syn_out};
 
 use crate::connection::Connection;
 use crate::state::State;
@@ -151,7 +152,7 @@ impl Connection {
     }
 
     /// Whether new octets go out.
-    fn sends_new(&self) -> bool
+    pub(crate) fn sends_new(&self) -> bool
         ensures { result ≡ sends_new self.now }
     {
         let cwnd = self.congestion.window();
@@ -176,7 +177,7 @@ impl Connection {
     }
 
     /// Whether the FIN of a closed side goes out behind all octets.
-    fn sends_fin(&self) -> bool
+    pub(crate) fn sends_fin(&self) -> bool
         ensures { result ≡ sends_fin self.now }
     {
         let outstanding = self.sender.outstanding();

@@ -50,6 +50,7 @@ impl Connection {
         self.delays_ack = false;
         self.resend.stop();
         self.timers = Timers::new();
+        self.unheard = None;
     }
 
     /// An error ends the connection: it is CLOSED, and every call reports `error` from now on.

@@ -6,6 +6,7 @@ ghost use Rattle.tcp_segment.specs.Segment.{Segment, span_of};
 ghost use Rattle.tcp_segment.specs.declared.TheConstants.{DEFAULT_MSS, LEAST_MSS, MSS};
 ghost use Rattle.tcp_halves.specs.declared.buffers.TheConstants.{CAPACITY};
 ghost use Rattle.tcp_state.specs.declared.ending.TheConstants.{TIME_WAIT, FIN_WAIT_2};
+ghost use Rattle.tcp_state.specs.declared.hop.TheConstants.{HOP_PATIENCE};
 ghost use Rattle.tcp_state.specs.declared.timing.TheConstants.{DELAYED_ACK_WAIT};
 ghost use Rattle.tcp_state.specs.declared.calls.Refusal.{Refusal};
 ghost use Rattle.clock.specs.declared.moment.Moment.{Moment};
@@ -37,7 +38,7 @@ ghost use Rattle.tcp_state.specs.Opening.{OpenedBy, Confirmed};
 ghost use Rattle.tcp_state.specs.Edges.{Event, after_event, fate_by, moment_of, state_after, IsEdge, ends_by, is_cause, may_raise, congestion_event_by};
 
 /// The constants have their values: TIME-WAIT lasts 2 MSL, twice the two minutes that a segment may live (RFC 9293 section 3.4.2), a peer's segments are taken to have room for 536 octets where its SYN doesn't say for
-/// how many (section 3.7.1), and an acknowledgement waits for less than half a second (RFC 1122 section 4.2.3.2); the others are this stack's own.
+/// how many (section 3.7.1), and an acknowledgement waits for less than half a second (RFC 1122 section 4.2.3.2), and a hop is given up after the time of a SYN that nobody answers (section 4.2.3.5); the others are this stack's own.
 pub fn constants()
     ensures time_wait { TIME_WAIT ≡ 240000 }
     ensures fin_wait { FIN_WAIT_2 ≡ 60000 }
@@ -46,6 +47,7 @@ pub fn constants()
     ensures least_size { LEAST_MSS ≡ 64 }
     ensures size { MSS ≡ 1460 }
     ensures capacity { CAPACITY ≡ 65535 }
+    ensures hop_patience { HOP_PATIENCE ≡ 483000 }
 {}
 
 /// One event joins only states that the table of edges joins, or leaves the state.
@@ -58,7 +60,7 @@ pub fn ends_have_causes()
     ensures { (v : View) (e : Event) → is_over v ≡ false → ends_by v e ≡ true → is_cause v e ≡ true }
 {}
 
-/// An error that is pending was pending before, or a reset raises it, or an error about its SYN, in a state that has it, or the clock at the last expiry.
+/// An error that is pending was pending before, or a reset raises it, or an error about its SYN, in a state that has it, or the clock at the last expiry or at the end of the wait for a hop.
 pub fn errors_have_causes()
     ensures { (v : View) (e : Event) (error : Refusal) → (after_event v e).pending_error ≡ Some error → (v.pending_error ≡ Some error) ⊎ (may_raise v e error ≡ true) }
 {}
@@ -196,8 +198,8 @@ pub fn what_waits_goes_out()
 
 /// The timers run exactly where something waits for them: when a connection opens, and after each event (RFC 6298 section 5, RFC 9293 sections 3.8.1, 3.8.6.1 and 3.8.6.3).
 pub fn timers_run_as_they_should()
-    ensures opened { (local peer : Endpoint) (isn : ℕ) → isn < 2 ^ 32 → KeepsTime (opened_actively local peer isn) }
-    ensures accepted { (local peer : Endpoint) (isn : ℕ) (syn : Segment) → isn < 2 ^ 32 → KeepsTime (opened_passively local peer isn syn) }
+    ensures opened { (local peer : Endpoint) (isn : ℕ) (now : Moment) → isn < 2 ^ 32 → KeepsTime (opened_actively local peer isn now) }
+    ensures accepted { (local peer : Endpoint) (isn : ℕ) (syn : Segment) (now : Moment) → isn < 2 ^ 32 → KeepsTime (opened_passively local peer isn syn now) }
     ensures stays { (v : View) (e : Event) → IsSound v → KeepsTime v → KeepsTime (after_event v e) }
 {}
 
@@ -220,8 +222,8 @@ pub fn new_numbers_keep_the_window()
 /// The congestion window is one that events lead to, and counts in segments of the size that the peer takes: when a connection opens, and after each event. So it is never less than such a segment
 /// once it is open (RFC 5681 section 3.1).
 pub fn the_congestion_window_is_kept()
-    ensures opened { (local peer : Endpoint) (isn : ℕ) → KeepsCongestion (opened_actively local peer isn) }
-    ensures accepted { (local peer : Endpoint) (isn : ℕ) (syn : Segment) → KeepsCongestion (opened_passively local peer isn syn) }
+    ensures opened { (local peer : Endpoint) (isn : ℕ) (now : Moment) → KeepsCongestion (opened_actively local peer isn now) }
+    ensures accepted { (local peer : Endpoint) (isn : ℕ) (syn : Segment) (now : Moment) → KeepsCongestion (opened_passively local peer isn syn now) }
     ensures stays { (v : View) (e : Event) → IsSound v → KeepsCongestion v → KeepsCongestion (after_event v e) }
     ensures least { (v : View) → KeepsCongestion v → (is_opening v.state || is_closed v.state) ≡ false → v.sending.smss ≤ v.congestion.cwnd }
 {}
@@ -284,17 +286,17 @@ pub fn hard_errors_end_openings_alone()
 /// Two connections that open to each other at the same time (RFC 9293 section 3.5, figure 7): once their SYNs crossed, a SYN-ACK is due at each, with the number
 /// of its SYN; once the SYN-ACKs crossed, and then what is due for them, both are open, and each expects the number behind the other's SYN.
 pub fn simultaneous_openings_meet()
-    ensures answers { (here there : Endpoint) (isn other : ℕ) (first : Moment) → isn < 2 ^ 32 → other < 2 ^ 32
-        → (let ends = crossed (record { one = opened_actively here there isn; other = opened_actively there here other }) first in AnswersSyn isn other ends.one × AnswersSyn other isn ends.other) }
-    ensures opens { (here there : Endpoint) (isn other : ℕ) (first second third : Moment) → isn < 2 ^ 32 → other < 2 ^ 32
-        → (let ends = crossed (crossed (crossed (record { one = opened_actively here there isn; other = opened_actively there here other }) first) second) third in
+    ensures answers { (here there : Endpoint) (isn other : ℕ) (one two first : Moment) → isn < 2 ^ 32 → other < 2 ^ 32
+        → (let ends = crossed (record { one = opened_actively here there isn one; other = opened_actively there here other two }) first in AnswersSyn isn other ends.one × AnswersSyn other isn ends.other) }
+    ensures opens { (here there : Endpoint) (isn other : ℕ) (one two first second third : Moment) → isn < 2 ^ 32 → other < 2 ^ 32
+        → (let ends = crossed (crossed (crossed (record { one = opened_actively here there isn one; other = opened_actively there here other two }) first) second) third in
         HasOpened isn other ends.one × HasOpened other isn ends.other) }
 {}
 
 /// The three steps of an opening (RFC 9293 section 3.5, figure 6): what a SYN opens at a listener is to answer that by a SYN-ACK; a SYN-ACK that acknowledges our SYN opens the connection, and is to be
 /// acknowledged; and the acknowledgement of our SYN-ACK opens the listener's.
 pub fn openings_take_three_steps()
-    ensures answers { (local peer : Endpoint) (isn : ℕ) (syn : Segment) → isn < 2 ^ 32 → AnswersSyn isn syn.number (opened_passively local peer isn syn) }
+    ensures answers { (local peer : Endpoint) (isn : ℕ) (syn : Segment) (now : Moment) → isn < 2 ^ 32 → AnswersSyn isn syn.number (opened_passively local peer isn syn now) }
     ensures opens { (v : View) (s : Segment) (now : Moment) → IsSound v → v.state ≡ State.SynSent → v.sending.nxt ≢ v.sending.una → s.flags.rst ≡ false → s.flags.syn ≡ true → s.flags.ack ≡ true
         → s.acknowledgement ≡ v.sending.nxt → OpenedBy s v (after_segment_at v s now) }
     ensures confirms { (v : View) (s : Segment) (now : Moment) → IsSound v → v.state ≡ State.SynReceived → v.sending.nxt ≢ v.sending.una → s.flags.rst ≡ false → s.flags.syn ≡ false → s.flags.fin ≡ false → s.flags.ack ≡ true

@@ -3,7 +3,7 @@
 ghost use Rattle.std.specs.Prelude.{◌≡◌, false, None, if◌then◌else◌};
 ghost use Rattle.clock.specs.Moments.{has_come};
 ghost use Rattle.retransmit.specs.Deadlines.{next_of};
-ghost use Rattle.tcp_state.specs.Timing.{has_unacknowledged, probes, awaits_more, running, override_timer, clocked, expires, gives_up, retransmission_expired, probe_expired, after_expiry, delayed_ack_expired, override_expired, after_timers, after_tick, tick_fate, deadline};
+ghost use Rattle.tcp_state.specs.Timing.{has_unacknowledged, probes, awaits_more, running, override_timer, awaits_first, unheard_since, clocked, expires, gives_up, retransmission_expired, probe_expired, after_expiry, delayed_ack_expired, override_expired, after_timers, after_tick, tick_fate, deadline};
 
 use crate::calls::Refusal;
 use crate::connection::{Connection, Fate};
@@ -52,6 +52,7 @@ impl Connection {
         let retransmits = self.sender.outstanding() > 0 && !is_probing;
         let awaits_second = self.delays_ack && !self.owes_ack;
         let timeout = u64::from(self.resend.timeout());
+        self.update_unheard(now);
         self.start_override(now);
         self.resend
             .update_probing(is_probing, self.timers.probe.is_some());
@@ -66,6 +67,28 @@ impl Connection {
             now,
             DELAYED_ACK_WAIT,
         );
+    }
+
+    /// Whether a segment that takes numbers is due while nothing is outstanding.
+    fn awaits_first(&self) -> bool
+        ensures { result ≡ awaits_first self.now }
+    {
+        self.sender.outstanding() == 0
+            && (self.state.is_opening()
+                || self.sends_new()
+                || self.sends_fin()
+                || (self.resend.owes_probe() && self.probes()))
+    }
+
+    /// Since when such a segment has been due: that moment stays as long as one is, and is this one where the wait begins.
+    fn update_unheard(&mut self, now: Moment)
+        ensures { self.new ≡ record self.old { unheard = unheard_since self.old now } }
+    {
+        if !self.awaits_first() {
+            self.unheard = None;
+        } else if self.unheard.is_none() {
+            self.unheard = Some(now);
+        }
     }
 
     /// New octets wait no longer than so long from now on. Once the timer runs, only their going out ends it.
