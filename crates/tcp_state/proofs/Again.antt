@@ -67,11 +67,11 @@ pub ends_sent : (v : View) (stretch : Stretch) → IsSound v → first_due v ≡
 ends_sent v stretch sound first = by_due (λ o. (t : Stretch) → o ≡ Some (Text t) → EndsSent v t) v (record {
   nothing = λ quiet t e. cc;
   rst = λ owes t e. cc;
-  syn = λ opening t e. cc;
+  syn = λ opening goes t e. cc;
   once_more = λ opened mark is goes t e. let same : again v mark ≡ t = cc in subst (EndsSent v) same (again_ends v mark sound);
   octets = λ opened sends t e. let same : new_octets v ≡ t = cc in subst (EndsSent v) same (λ before. absurd (omega (arith, before)));
   fin = λ opened sends t e. let same : fin_alone v ≡ t = cc in subst (EndsSent v) same (λ before. absurd (omega (arith, before)));
-  probe = λ opened goes t e. cc;
+  probe = λ opened owes goes t e. cc;
   ack = λ owes t e. cc;
 }) stretch first
 
@@ -106,11 +106,11 @@ pub keeps_within : (v : View) (stretch : Stretch) → first_due v ≡ Some (Text
 keeps_within v stretch first = by_due (λ o. (t : Stretch) → o ≡ Some (Text t) → Within v t) v (record {
   nothing = λ quiet t e. cc;
   rst = λ owes t e. cc;
-  syn = λ opening t e. cc;
+  syn = λ opening goes t e. cc;
   once_more = λ opened mark is goes t e. let same : again v mark ≡ t = cc in subst (Within v) same (again_within v mark goes);
   octets = λ opened sends t e. let same : new_octets v ≡ t = cc in subst (Within v) same (λ before. absurd (omega (arith, before)));
   fin = λ opened sends t e. let same : fin_alone v ≡ t = cc in subst (Within v) same (λ before. absurd (omega (arith, before)));
-  probe = λ opened goes t e. cc;
+  probe = λ opened owes goes t e. cc;
   ack = λ owes t e. cc;
 }) stretch first
 

@@ -1,33 +1,29 @@
 -- What is due first, case by case, and what its going out makes of the two halves.
-use Rattle.std.proofs.Common.{◌≡◌, ℕ, ◌==◌, ◌||◌, ◌&&◌, not, nat_lt, Bool, true, false, Option, Some, None, is_some, refl}
+use Rattle.std.proofs.Common.{◌≡◌, ℕ, ◌==◌, ◌||◌, ◌&&◌, nat_lt, true, false, Option, Some, None, is_some, refl}
 use Rattle.std.specs.Option.{option_or}
 use Rattle.clock.specs.declared.moment.Moment.{Moment}
 use Rattle.tcp_state.specs.declared.emission.Due.{Due}
 use Rattle.tcp_state.specs.declared.emission.Due.TheVariants.{Rst, Syn, Text, Probe, Ack}
 use Rattle.tcp_state.specs.declared.emission.Stretch.{Stretch}
 use Rattle.tcp_halves.specs.Stream.{outstanding, after_sent}
-use Rattle.tcp_halves.specs.Windows.{has_grown}
 use Rattle.tcp_state.specs.Resend.{resend_probed}
-use Rattle.tcp_state.specs.View.{View, is_opening, is_closed}
+use Rattle.tcp_state.specs.View.{View, is_opening}
 use Rattle.tcp_state.specs.Timing.{probes}
 use Rattle.tcp_state.specs.New.{sends_new, sends_fin}
+pub use Rattle.tcp_state.specs.Due.{is_ack_due}
 use Rattle.tcp_state.specs.Due.{probe_stretch, end_of, after_resent, after_first_sent, after_numbers, after_new_octets, brings_new_octets, after_syn_out, after_stretch, after_probe, ack_due, again, goes_again, again_from, new_octets, fin_alone, new_due, first_due}
 use Rattle.tcp_state.proofs.Clocked.{syn_out}
-use Rattle.tcp_halves.proofs.Choices.{either, and_right}
-
--- an acknowledgement is owed, or tells of a window that has grown
-abbrev pub is_ack_due : View → Bool
-is_ack_due v = v.owes_ack || (not (is_opening v.state) && not (is_closed v.state) && has_grown v.receiving)
+use Rattle.tcp_halves.proofs.Choices.{either, and_left, and_right}
 
 -- what may be due first
 pub record ByDue (P : Option Due → Type 0) (v : View) : Type 0 where
   pub nothing : is_ack_due v ≡ false → P None
   pub rst : v.owes_reset ≡ true → P (Some Rst)
-  pub syn : is_opening v.state ≡ true → P (Some Syn)
+  pub syn : is_opening v.state ≡ true → ((outstanding v.sending == 0) || is_some v.resend.mark) ≡ true → P (Some Syn)
   pub once_more : is_opening v.state ≡ false → (mark : ℕ) → v.resend.mark ≡ Some mark → goes_again v mark ≡ true → P (Some (Text (again v mark)))
   pub octets : is_opening v.state ≡ false → sends_new v ≡ true → P (Some (Text (new_octets v)))
   pub fin : is_opening v.state ≡ false → sends_fin v ≡ true → P (Some (Text (fin_alone v)))
-  pub probe : is_opening v.state ≡ false → probes v ≡ true → P (Some Probe)
+  pub probe : is_opening v.state ≡ false → v.resend.owes_probe ≡ true → probes v ≡ true → P (Some Probe)
   pub ack : is_ack_due v ≡ true → P (Some Ack)
 
 by_ack_due : (P : Option Due → Type 0) (v : View) → ByDue P v → P (ack_due v)
@@ -37,7 +33,7 @@ by_new_due : (P : Option Due → Type 0) (v : View) → ByDue P v → is_opening
 by_new_due P v cases opened =
     either (Option Due) P (sends_new v) (Some (Text (new_octets v))) _ (cases.octets opened)
     (λ no_octets. either (Option Due) P (sends_fin v) (Some (Text (fin_alone v))) _ (cases.fin opened)
-    (λ no_fin. either (Option Due) P (v.resend.owes_probe && probes v) (Some Probe) (ack_due v) (λ owes. cases.probe opened (and_right v.resend.owes_probe (probes v) owes)) (λ none. by_ack_due P v cases)))
+    (λ no_fin. either (Option Due) P (v.resend.owes_probe && probes v) (Some Probe) (ack_due v) (λ owes. cases.probe opened (and_left v.resend.owes_probe (probes v) owes) (and_right v.resend.owes_probe (probes v) owes)) (λ none. by_ack_due P v cases)))
 
 by_mark : (P : Option Due → Type 0) (v : View) → ByDue P v → is_opening v.state ≡ false → (mark : Option ℕ) → v.resend.mark ≡ mark → P (option_or (again_from v mark) (new_due v))
 by_mark P v cases opened None is = by_new_due P v cases opened
@@ -48,7 +44,7 @@ pub by_due : (P : Option Due → Type 0) (v : View) → ByDue P v → P (first_d
 by_due P v cases =
     either (Option Due) P v.owes_reset (Some Rst) _ cases.rst
     (λ no_reset. either (Option Due) P (is_opening v.state) _ _
-    (λ opening. either (Option Due) P ((outstanding v.sending == 0) || is_some v.resend.mark) (Some Syn) (ack_due v) (λ goes. cases.syn opening) (λ waits. by_ack_due P v cases))
+    (λ opening. either (Option Due) P ((outstanding v.sending == 0) || is_some v.resend.mark) (Some Syn) (ack_due v) (cases.syn opening) (λ waits. by_ack_due P v cases))
     (λ opened. by_mark P v cases opened v.resend.mark refl))
 
 -- The sending half: SND.NXT reaches the end of what went out.

@@ -27,7 +27,7 @@ fin_outstanding true waits held o e most past = cc
 no_more_than : (opening waits : Bool) (held o : ℕ) → opening ≡ false → o ≤ held + (if opening || waits then 1 else 0) → o ≤ held + 1
 no_more_than opening waits held o e most = elim (leb_tells o held) [ inl t ↦ omega (arith, t.1) | inr t ↦ omega (arith, (fin_outstanding opening waits held o e most t.1).1) ]
 
-held_again : (v : View) (mark : ℕ) → IsSound v → is_opening v.state ≡ false → mark < outstanding v.sending → IsHeld v (again v mark)
+pub held_again : (v : View) (mark : ℕ) → IsSound v → is_opening v.state ≡ false → mark < outstanding v.sending → IsHeld v (again v mark)
 held_again v mark sound opened within =
     let held = length v.sending.held in
     let o = outstanding v.sending in
@@ -52,7 +52,7 @@ held_again v mark sound opened within =
       );
     }
 
-held_new : (v : View) → IsSound v → is_opening v.state ≡ false → sends_new v ≡ true → IsHeld v (new_octets v)
+pub held_new : (v : View) → IsSound v → is_opening v.state ≡ false → sends_new v ≡ true → IsHeld v (new_octets v)
 held_new v sound opened sends =
     let some : 0 < sendable v.sending v.congestion.cwnd = ltb-true 0 (sendable v.sending v.congestion.cwnd) (and_left (nat_lt 0 (sendable v.sending v.congestion.cwnd)) (is_worth_sending v.sending v.congestion.cwnd v.resend.overridden) sends) in
     record {
@@ -64,7 +64,7 @@ held_new v sound opened sends =
       fin = λ ends. cc;
     }
 
-held_fin : (v : View) → is_opening v.state ≡ false → sends_fin v ≡ true → IsHeld v (fin_alone v)
+pub held_fin : (v : View) → is_opening v.state ≡ false → sends_fin v ≡ true → IsHeld v (fin_alone v)
 held_fin v opened sends =
     let waits = awaits_fin_ack v.state in
     let all = outstanding v.sending == length v.sending.held in
@@ -118,10 +118,10 @@ pub due-may : (v : View) (due : Due) → IsSound v → first_due v ≡ Some due 
 due-may v due sound first = by_due (λ o. (d : Due) → o ≡ Some d → MayGoOut v d) v (record {
   nothing = λ quiet d e. cc;
   rst = λ owes d e. let same : Rst ≡ d = cc in subst (MayGoOut v) same owes;
-  syn = λ opening d e. let same : Syn ≡ d = cc in subst (MayGoOut v) same opening;
+  syn = λ opening goes d e. let same : Syn ≡ d = cc in subst (MayGoOut v) same opening;
   once_more = λ opened mark is goes d e. let same : Text (again v mark) ≡ d = cc in subst (MayGoOut v) same (held_again v mark sound opened (sound.mark mark is));
   octets = λ opened sends d e. let same : Text (new_octets v) ≡ d = cc in subst (MayGoOut v) same (held_new v sound opened sends);
   fin = λ opened sends d e. let same : Text (fin_alone v) ≡ d = cc in subst (MayGoOut v) same (held_fin v opened sends);
-  probe = λ opened goes d e. let same : Probe ≡ d = cc in subst (MayGoOut v) same (held_probe v opened goes);
+  probe = λ opened owes goes d e. let same : Probe ≡ d = cc in subst (MayGoOut v) same (held_probe v opened goes);
   ack = λ owes d e. let same : Ack ≡ d = cc in subst (MayGoOut v) same (ack_may v sound owes);
 }) due first

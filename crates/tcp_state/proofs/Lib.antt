@@ -56,6 +56,7 @@ pub mod StillStreams
 pub mod Measuring
 pub mod LostSyns
 pub mod Hopless
+pub mod RunsDry
 pub mod Freed
 pub mod Standing
 pub mod DrawTests

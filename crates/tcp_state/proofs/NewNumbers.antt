@@ -19,7 +19,7 @@ pub keeps_window : (v : View) (stretch : Stretch) → IsSound v → first_due v 
 keeps_window v stretch sound first = by_due (λ o. (t : Stretch) → o ≡ Some (Text t) → KeepsWindow v t) v (record {
   nothing = λ quiet t e. cc;
   rst = λ owes t e. cc;
-  syn = λ opening t e. cc;
+  syn = λ opening goes t e. cc;
   once_more = λ opened mark is goes t e. let same : again v mark ≡ t = cc in subst (KeepsWindow v) same (λ past. let within = sound.mark mark is in absurd (omega (arith, past, within)));
   octets = λ opened sends t e.
       let same : new_octets v ≡ t = cc in
@@ -29,7 +29,7 @@ keeps_window v stretch sound first = by_due (λ o. (t : Stretch) → o ≡ Some 
       let same : fin_alone v ≡ t = cc in
       let room = ltb-true (outstanding v.sending) v.sending.window (and_right (awaits_fin_ack v.state && (outstanding v.sending == length v.sending.held)) _ sends) in
       subst (KeepsWindow v) same (λ past. (refl, omega (arith, room)));
-  probe = λ opened goes t e. cc;
+  probe = λ opened owes goes t e. cc;
   ack = λ owes t e. cc;
 }) stretch first
 
@@ -41,13 +41,13 @@ pub keeps_cwnd : (v : View) (stretch : Stretch) → IsSound v → first_due v �
 keeps_cwnd v stretch sound first = by_due (λ o. (t : Stretch) → o ≡ Some (Text t) → KeepsCwnd v t) v (record {
   nothing = λ quiet t e. cc;
   rst = λ owes t e. cc;
-  syn = λ opening t e. cc;
+  syn = λ opening goes t e. cc;
   once_more = λ opened mark is goes t e. let same : again v mark ≡ t = cc in subst (KeepsCwnd v) same (λ past some. let within = sound.mark mark is in absurd (omega (arith, past, within)));
   octets = λ opened sends t e.
       let same : new_octets v ≡ t = cc in
       let some = ltb-true 0 (sendable v.sending v.congestion.cwnd) (and_left (nat_lt 0 (sendable v.sending v.congestion.cwnd)) (is_worth_sending v.sending v.congestion.cwnd v.resend.overridden) sends) in
       subst (KeepsCwnd v) same (λ past more. omega (arith, some));
   fin = λ opened sends t e. let same : fin_alone v ≡ t = cc in subst (KeepsCwnd v) same (λ past more. absurd (omega (arith, more)));
-  probe = λ opened goes t e. cc;
+  probe = λ opened owes goes t e. cc;
   ack = λ owes t e. cc;
 }) stretch first

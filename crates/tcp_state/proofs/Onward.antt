@@ -275,7 +275,7 @@ by_emission v now sound =
     by_due (λ o. NeverBack v (after_first v o now)) v (record {
       nothing = λ quiet. still v v refl refl refl;
       rst = λ owes. still v _ refl refl refl;
-      syn = λ opening. let out = after_going_out v Syn now in alike v out (clocked false out now) refl refl (by_syn v now sound);
+      syn = λ opening goes. let out = after_going_out v Syn now in alike v out (clocked false out now) refl refl (by_syn v now sound);
       once_more = λ opened mark is goes.
           let within : mark < outstanding v.sending = sound.mark mark is in
           let stretch = again v mark in
@@ -284,7 +284,7 @@ by_emission v now sound =
           text stretch (omega (arith, end));
       octets = λ opened sends. text (new_octets v) (omega (arith, few, sound.segment));
       fin = λ opened sends. text (fin_alone v) (omega (arith, few));
-      probe = λ opened probes. let out = after_ack_paid (after_probe v) in alike v out (clocked false out now) refl refl (by_probe v sound);
+      probe = λ opened owes probes. let out = after_ack_paid (after_probe v) in alike v out (clocked false out now) refl refl (by_probe v sound);
       ack = λ owes. let out = after_ack_paid v in alike v out (clocked false out now) refl refl (pays v v sound refl (still v v refl refl refl));
     })
 

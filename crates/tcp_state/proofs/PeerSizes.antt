@@ -159,11 +159,11 @@ keeps_to_size v due sound first =
     by_due (λ o. (d : Due) → o ≡ Some d → length (octets_of v d) ≤ most) v (record {
       nothing = λ quiet d e. cc;
       rst = λ owes d e. let same : Rst ≡ d = cc in subst (λ x. length (octets_of v x) ≤ most) same (omega arith);
-      syn = λ opening d e. let same : Syn ≡ d = cc in subst (λ x. length (octets_of v x) ≤ most) same (omega arith);
+      syn = λ opening goes d e. let same : Syn ≡ d = cc in subst (λ x. length (octets_of v x) ≤ most) same (omega arith);
       once_more = λ opened mark is goes d e. let same : Text (again v mark) ≡ d = cc in subst (λ x. length (octets_of v x) ≤ most) same (short v (again v mark) most (omega arith));
       octets = λ opened sends d e. let same : Text (new_octets v) ≡ d = cc in subst (λ x. length (octets_of v x) ≤ most) same (short v (new_octets v) most (omega arith));
       fin = λ opened sends d e. let same : Text (fin_alone v) ≡ d = cc in subst (λ x. length (octets_of v x) ≤ most) same (short v (fin_alone v) most (omega arith));
-      probe = λ opened goes d e. let same : Probe ≡ d = cc in let one = probe_short v in subst (λ x. length (octets_of v x) ≤ most) same (short v (probe_stretch v) most (omega (arith, one, sound.segment_least)));
+      probe = λ opened owes goes d e. let same : Probe ≡ d = cc in let one = probe_short v in subst (λ x. length (octets_of v x) ≤ most) same (short v (probe_stretch v) most (omega (arith, one, sound.segment_least)));
       ack = λ owes d e. let same : Ack ≡ d = cc in subst (λ x. length (octets_of v x) ≤ most) same (omega arith);
     }) due first
 

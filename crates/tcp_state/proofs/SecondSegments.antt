@@ -153,10 +153,10 @@ owed_goes v sound owed =
     by_due (λ o. (due : Due) × (o ≡ Some due) × ((let f = flags_of v due in f.ack) ≡ true)) v (record {
       nothing = λ quiet. clash (is_ack_due v) (or_left v.owes_ack _ owed) quiet;
       rst = λ owes. clash (is_closed v.state) (owed_where_closed v.owes_reset (is_closed v.state) v.released sound.reset owes) lives.1;
-      syn = λ opening. (Syn, refl, received v.state opening lives.0);
+      syn = λ opening goes. (Syn, refl, received v.state opening lives.0);
       once_more = λ opens_not mark is goes. (Text (again v mark), refl, refl);
       octets = λ opens_not sends. (Text (new_octets v), refl, refl);
       fin = λ opens_not sends. (Text (fin_alone v), refl, refl);
-      probe = λ opens_not goes. (Probe, refl, refl);
+      probe = λ opens_not owes goes. (Probe, refl, refl);
       ack = λ owes. (Ack, refl, refl);
     })

@@ -44,10 +44,10 @@ pub small_waits : (v : View) (stretch : Stretch) → IsSound v → first_due v �
 small_waits v stretch sound first = by_due (λ o. (t : Stretch) → o ≡ Some (Text t) → Waits v t) v (record {
   nothing = λ quiet t e. cc;
   rst = λ owes t e. cc;
-  syn = λ opening t e. cc;
+  syn = λ opening goes t e. cc;
   once_more = λ opened mark is goes t e. let same : again v mark ≡ t = cc in subst (Waits v) same (λ past. let within = sound.mark mark is in absurd (omega (arith, past, within)));
   octets = λ opened sends t e. let same : new_octets v ≡ t = cc in subst (Waits v) same (new_octets_wait v sends);
   fin = λ opened sends t e. let same : fin_alone v ≡ t = cc in subst (Waits v) same (λ past some. absurd (omega (arith, some)));
-  probe = λ opened goes t e. cc;
+  probe = λ opened owes goes t e. cc;
   ack = λ owes t e. cc;
 }) stretch first

@@ -125,11 +125,11 @@ told_next v now sound opened much =
     let all : P (first_due v) = by_due P v (record {
       nothing = λ quiet. clash (is_ack_due v) due quiet;
       rst = λ owes. clash (is_closed v.state) (owed_where_closed v.owes_reset (is_closed v.state) v.released sound.reset owes) lives.1;
-      syn = λ opening. clash (is_opening v.state) opening lives.0;
+      syn = λ opening goes. clash (is_opening v.state) opening lives.0;
       once_more = λ past mark is goes. text (again v mark);
       octets = λ past sends. text (new_octets v);
       fin = λ past sends. text (fin_alone v);
-      probe = λ past goes. told v (after_probe v) (probe_receives v);
+      probe = λ past owes goes. told v (after_probe v) (probe_receives v);
       ack = λ owes. refl;
     }) in
     ap (λ (t : Receiving). t.edge) all ∙ ap (λ b. let t = if b then record r { edge = (r.rnext + receive_room r) % 2 ^ 32 } else r in t.edge) has

@@ -178,8 +178,11 @@ MayGoOut v Ack = (is_syn_sent v.state || is_closed v.state) ≡ false
 -- Which of them goes out first.
 
 -- an acknowledgement is owed, or the window to advertise has grown by enough to be told
+abbrev pub is_ack_due : View → Bool
+is_ack_due v = v.owes_ack || (not (is_opening v.state) && not (is_closed v.state) && has_grown v.receiving)
+
 abbrev pub ack_due : View → Option Due
-ack_due v = if v.owes_ack || (not (is_opening v.state) && not (is_closed v.state) && has_grown v.receiving) then Some Ack else None
+ack_due v = if is_ack_due v then Some Ack else None
 
 -- What is outstanding from a mark on, once more: one segment's octets, with the FIN where it follows them and has gone out.
 abbrev pub again : View → ℕ → Stretch

@@ -13,6 +13,7 @@ pub mod Names
 pub mod Calls
 pub mod Arrival
 pub mod Due
+pub mod Most
 pub mod Unreachable
 pub mod Edges
 pub mod Positions

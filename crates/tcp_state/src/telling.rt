@@ -11,6 +11,7 @@ ghost use Rattle.tcp_state.specs.declared.emission.Due.{Due};
 ghost use Rattle.tcp_state.specs.declared.emission.Stretch.{Stretch};
 ghost use Rattle.tcp_halves.specs.Stream.{outstanding};
 ghost use Rattle.tcp_state.specs.View.{View, IsSound, is_opening, awaits_fin_ack};
+ghost use Rattle.tcp_state.specs.Most.{most_due};
 ghost use Rattle.tcp_state.specs.Due.{MayGoOut, first_due, segment_octets, after_emitted};
 ghost use Rattle.tcp_state.specs.Arrival.{is_acceptable_to, fate};
 ghost use Rattle.tcp_state.specs.Edges.{Event, after_event, state_after};
@@ -81,4 +82,9 @@ pub fn what_was_lost_goes_out_again()
     ensures opening { (v : View) → IsSound v → is_opening v.state ≡ true → (v.sending.nxt ≡ v.sending.una) ⊎ (is_some v.resend.mark ≡ true) → first_due v ≡ Some Due.Syn }
     ensures later { (v : View) (mark : ℕ) → IsSound v → is_opening v.state ≡ false → v.resend.mark ≡ Some mark → (mark ≡ 0) ⊎ ((mark < v.sending.window) × (mark < v.congestion.cwnd))
         → (stretch : Stretch) × (first_due v ≡ Some (Due.Text stretch)) × (stretch.offset ≡ mark) }
+{}
+
+/// What is due of a connection goes out in finitely many segments: each that goes out leaves fewer that may follow it while nothing else happens to the connection.
+pub fn what_goes_out_runs_dry()
+    ensures { (v : View) (due : Due) (now : Moment) → IsSound v → first_due v ≡ Some due → most_due (after_emitted v due now) < most_due v }
 {}
